@@ -1,0 +1,57 @@
+-- A group whose bytes are those of these words and of a zero word.
+use Rattle.std.proofs.Common.{◌≡◌, ℕ, ◌+◌, ◌-◌, ◌*◌, ◌≤◌, List, [], ◌∷◌, ◌++◌, length, take, vec_capacity, refl, sym, ◌∙◌, ap, arith, length-append, append-nil}
+use Rattle.std.proofs.lemmas.List.{take_at}
+use Rattle.std.specs.Int.{w64, to_le_bytes}
+use Rattle.lc_record.specs.Words.{words_of, bytes_of, AreWords}
+use Rattle.lc_record.specs.GroupView.{GroupView}
+use Rattle.lc_record.specs.Group.{all_but_last, group_words, group_view, IsGroupBytes}
+use Rattle.lc_record.specs.declared.group.Group.TheInside.{Inside}
+use Rattle.lc_record.proofs.WordLemmas.{words_of-nil, words_of-bytes_of, bytes_of-append, length-bytes_of, AreWords-append}
+
+all_but_last-push : (xs : List ℕ) (y : ℕ) → all_but_last (xs ++ y ∷ []) ≡ xs
+all_but_last-push [] y = refl
+all_but_last-push (x ∷ []) y = refl
+all_but_last-push (x ∷ z ∷ zs) y = ap (λ (l : List ℕ). x ∷ l) (all_but_last-push (z ∷ zs) y)
+
+-- the words of a group's bytes
+group_words-bytes : (ws : List ℕ) → AreWords ws → all_but_last (words_of (bytes_of (ws ++ 0 ∷ []))) ≡ ws
+group_words-bytes ws fit =
+    let all : List ℕ = ws ++ 0 ∷ [] in
+    let zero_fits : AreWords (0 ∷ []) = (omega arith, tt) in
+    let read : words_of (bytes_of all ++ []) ≡ all ++ words_of [] = words_of-bytes_of all [] (AreWords-append ws (0 ∷ []) fit zero_fits) in
+    let plain : bytes_of all ++ [] ≡ bytes_of all = append-nil (bytes_of all) in
+    let end : all ++ words_of [] ≡ all = ap (λ (l : List ℕ). all ++ l) words_of-nil ∙ append-nil all in
+    ap all_but_last (ap words_of (sym plain) ∙ read ∙ end) ∙ all_but_last-push ws 0
+
+module _ (g : Inside) (ws : List ℕ) (text : g.bytes.items ≡ bytes_of (ws ++ 0 ∷ [])) (fit : AreWords ws) where
+  pub words_are : group_words g ≡ ws
+  words_are = rw text (group_words-bytes ws fit)
+
+  pub view_is : group_view g ≡ record { words = ws; room = g.room }
+  view_is = ap (λ (l : List ℕ). record { words = l; room = g.room }) words_are
+
+  pub is_group : length ws ≤ g.room → 8 * (g.room + 1) ≤ vec_capacity g.bytes → IsGroupBytes g
+  is_group few room = record {
+    text = text ∙ ap (λ (l : List ℕ). bytes_of (l ++ 0 ∷ [])) (sym words_are);
+    words = rw words_are fit;
+    few = rw words_are few;
+    room = room;
+  }
+
+-- how many bytes a group has
+pub length-group : (ws : List ℕ) → length (bytes_of (ws ++ 0 ∷ [])) ≡ 8 * length ws + 8
+length-group ws = omega (arith, length-bytes_of (ws ++ 0 ∷ []), length-append ws (0 ∷ []))
+
+-- without its zero word
+pub front_bytes : (bytes ws : List ℕ) (end : ℕ) → bytes ≡ bytes_of (ws ++ 0 ∷ []) → end ≡ length bytes - 8 → take end bytes ≡ bytes_of ws
+front_bytes bytes ws end text at =
+    let long : length bytes ≡ 8 * length ws + 8 = ap length text ∙ length-group ws in
+    let end_is : length (bytes_of ws) ≡ end = omega (arith, at, long, length-bytes_of ws) in
+    ap (take end) (text ∙ bytes_of-append ws (0 ∷ [])) ∙ take_at (bytes_of ws) (bytes_of (0 ∷ [])) end end_is
+
+-- with one more word
+pub pushed_bytes : (bytes ws : List ℕ) (end word : ℕ) → bytes ≡ bytes_of (ws ++ 0 ∷ []) → end ≡ length bytes - 8 →
+    (take end bytes ++ to_le_bytes w64 word) ++ to_le_bytes w64 0 ≡ bytes_of ((ws ++ word ∷ []) ++ 0 ∷ [])
+pushed_bytes bytes ws end word text at =
+    ap (λ (l : List ℕ). (l ++ to_le_bytes w64 word) ++ to_le_bytes w64 0) (front_bytes bytes ws end text at)
+    ∙ sym (bytes_of-append (ws ++ word ∷ []) (0 ∷ []) ∙ ap (λ (l : List ℕ). l ++ bytes_of (0 ∷ [])) (bytes_of-append ws (word ∷ [])))

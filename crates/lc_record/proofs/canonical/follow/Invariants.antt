@@ -1,0 +1,6 @@
+use Rattle.std.proofs.Common.{◌≡◌, drop}
+use Rattle.lc_record.specs.Reading.{follow, place, start}
+use Rattle.lc_record.proofs.canonical.follow.Given as goal
+
+abbrev pub invariant-loop-range : goal.invariant-loop-range
+invariant-loop-range l = follow (place l.walk.segment l.walk.end l.walk.locks.now) (drop l.range-index l.ranges) ≡ follow (start l.locks) l.ranges

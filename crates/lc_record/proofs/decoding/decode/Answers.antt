@@ -1,0 +1,15 @@
+use Rattle.std.proofs.Common.{sym, ◌∙◌, arith}
+use Rattle.lc_record.proofs.WordLemmas.{AreWords-from}
+use Rattle.lc_record.proofs.RecordLemmas.{none_begins, both_read, not_none}
+use Rattle.lc_record.proofs.decoding.decode.Goals as goal
+
+pub returns-in_default-clause-none : goal.returns-in_default-clause-none
+returns-in_default-clause-none c = none_begins c.args.words.now c.in_default.ensures
+
+pub returns-in_default-2-clause-none : goal.returns-in_default-2-clause-none
+returns-in_default-2-clause-none c =
+    absurd (not_none c.args.words.now c.in-Some.len (AreWords-from c.args.words.now (λ i. omega (arith, c.type_inv.words i))) c.in-Some.ensures (sym c.in_default-2.is ∙ c.in_ok-record.ensures))
+
+pub returns-clause-found : goal.returns-clause-found
+returns-clause-found c =
+    both_read c.args.words.now _ c.in-Some.len (AreWords-from c.args.words.now (λ i. omega (arith, c.type_inv.words i))) c.in-Some.ensures (sym c.in-Some-2.is ∙ c.in_ok-record.ensures)

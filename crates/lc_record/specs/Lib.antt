@@ -1,0 +1,10 @@
+pub mod Words
+pub mod Geometry
+pub mod Record
+pub mod GroupView
+pub mod Group
+pub mod Codec
+pub mod Fault
+pub mod Content
+pub mod Transaction
+pub mod Reading

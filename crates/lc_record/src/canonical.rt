@@ -1,0 +1,93 @@
+//! Which records have a spelling.
+ghost use Rattle.std.specs.Prelude.{◌≡◌, ◌+◌, ◌≤◌, ◌↔◌, IsTrue, length};
+ghost use Rattle.std.specs.List.{AllByRecursion};
+ghost use Rattle.lc_record.specs.Words.{AreBytes};
+ghost use Rattle.lc_record.specs.Record.{IsCanonical, IsRange};
+ghost use Rattle.lc_record.specs.Reading.{Passes, ascend, follow, is_lock, start};
+
+use crate::limits::{MAX_LOCKS, MAX_NODE, MAX_OFFSET, MAX_RANGES, MAX_SEGMENT, MAX_SEQ};
+use crate::walk::{start, step};
+use crate::{Lock, RangeData, Record};
+
+fn is_lock(lock: &Lock) -> bool
+    ensures { result ≡ is_lock lock.now }
+{
+    lock.segment >= 1 && lock.segment <= MAX_SEGMENT && lock.seq >= 1 && lock.seq <= MAX_SEQ
+}
+
+/// Whether these are locks that a record may have, ascending by segment.
+pub fn ascend(locks: &[Lock]) -> bool
+    ensures { result ≡ ascend 0 locks.now }
+{
+    let mut before = 0;
+    for lock in locks {
+        if !is_lock(lock) || lock.segment <= before {
+            return false;
+        }
+        before = lock.segment;
+    }
+    true
+}
+
+fn is_range(range: &RangeData) -> bool
+    ensures { IsTrue result ↔ IsRange range.now }
+{
+    lie_within(range.offset, range.bytes.as_slice())
+}
+
+fn lie_within(offset: u32, bytes: &[u8]) -> bool
+    ensures { IsTrue result ↔ ((1 ≤ length bytes.now) × (offset + length bytes.now ≤ 16384) × AreBytes bytes.now) }
+{
+    let end = offset as usize + bytes.len();
+    !bytes.is_empty() && end <= MAX_OFFSET
+}
+
+fn are_ranges(ranges: &[RangeData]) -> bool
+    ensures { IsTrue result ↔ AllByRecursion IsRange ranges.now }
+{
+    for range in ranges {
+        if !is_range(range) {
+            return false;
+        }
+    }
+    true
+}
+
+/// Whether the ranges ascend, and are of the segments of these locks, which ascend.
+fn follow(locks: &[Lock], ranges: &[RangeData]) -> bool
+    ensures { result ≡ follow (start locks.now) ranges.now }
+{
+    let mut walk = start(locks);
+    for range in ranges {
+        let bytes = range.bytes.as_slice();
+        let Some(after) = step(walk, range.segment, range.offset, bytes.len()) else {
+            return false;
+        };
+        walk = after;
+    }
+    walk.locks.is_empty()
+}
+
+fn passes(node: u16, locks: &[Lock], ranges: &[RangeData]) -> bool
+    ensures { IsTrue result ↔ Passes node locks.now ranges.now }
+{
+    node <= MAX_NODE
+        && !locks.is_empty()
+        && locks.len() <= MAX_LOCKS
+        && !ranges.is_empty()
+        && ranges.len() <= MAX_RANGES
+        && ascend(locks)
+        && are_ranges(ranges)
+        && follow(locks, ranges)
+}
+
+/// Whether the record has a spelling.
+pub fn is_canonical(record: &Record) -> bool
+    ensures { IsTrue result ↔ IsCanonical «record».now }
+{
+    passes(
+        record.node,
+        record.locks.as_slice(),
+        record.ranges.as_slice(),
+    )
+}

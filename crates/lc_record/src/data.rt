@@ -1,0 +1,69 @@
+//! The bytes of a range as whole words, the last of them filled up with zeros.
+ghost use Rattle.std.specs.Prelude.{◌≡◌, ◌==◌, ◌+◌, ◌-◌, ◌/◌, ◌≤◌, ◌++◌, length, replicate, take, OnOk, IfOk};
+ghost use Rattle.std.specs.List.{list_all};
+ghost use Rattle.std.specs.Int.{w64, from_le_bytes};
+ghost use Rattle.lc_record.specs.Words.{bytes_of};
+ghost use Rattle.lc_record.specs.Record.{data_words};
+ghost use Rattle.lc_record.specs.Reading.{data_len, is_padded};
+
+use crate::limits::WORD;
+use std::alloc::{AllocError, Global};
+
+/// How many words so many bytes take.
+pub fn data_len(len: usize) -> usize
+    ensures { result ≡ data_len len }
+{
+    len.div_ceil(WORD)
+}
+
+fn word_of(bytes: &[u8]) -> u64
+    requires { length bytes.now ≤ 8 }
+    ensures { result ≡ from_le_bytes w64 (bytes.now ++ replicate (8 - length bytes.now) 0) }
+{
+    let mut word = [0; WORD];
+    word[..bytes.len()].copy_from_slice(bytes);
+    u64::from_le_bytes(word)
+}
+
+/// Adds the words of these bytes.
+pub fn push_data(words: &mut Vec<u64>, bytes: &[u8]) -> Result<(), AllocError>
+    ensures { OnOk result (words.new.items ≡ words.old.items ++ data_words bytes.now) }
+{
+    let mut rest = bytes;
+    while !rest.is_empty() {
+        let (front, behind) = rest.split_at(rest.len().min(WORD));
+        words.push(word_of(front))?;
+        rest = behind;
+    }
+    Ok(())
+}
+
+/// So many of the bytes of these words, the first.
+pub fn read_data(alloc: Global, len: usize, words: &[u64]) -> Result<Vec<u8>, AllocError>
+    ensures { IfOk result (λ v. v.items ≡ take len (bytes_of words.now)) }
+{
+    let mut bytes = Vec::with_capacity(alloc, len)?;
+    for word in words {
+        let missing = len - bytes.len();
+        bytes.extend_from_slice(&word.to_le_bytes()[..missing.min(WORD)])?;
+    }
+    Ok(bytes)
+}
+
+/// Whether nothing but zeros stands behind so many of the bytes of these words.
+pub fn is_padded(len: usize, words: &[u64]) -> bool
+    requires { length words.now ≡ data_len len }
+    ensures { result ≡ is_padded len words.now }
+{
+    let [front @ .., last] = words else {
+        return true;
+    };
+    let used = len - WORD * front.len();
+    are_zero(&last.to_le_bytes()[used..])
+}
+
+fn are_zero(bytes: &[u8]) -> bool
+    ensures { result ≡ list_all (λ b. b == 0) bytes.now }
+{
+    bytes.iter().all(|byte| *byte == 0)
+}

@@ -1,0 +1,80 @@
+//! Reading a record from words.
+ghost use Rattle.std.specs.Prelude.{IfOk, IfSome, IfNone, Some, ◌≡◌, List, ℕ};
+ghost use Rattle.lc_record.specs.Codec.{BeginsWith, BeginsNoRecord};
+ghost use Rattle.lc_record.specs.Reading.{Gives, items_at, range_of, record_at};
+ghost use Rattle.lc_record.specs.declared.record.Record.{Record as Spelled};
+
+use crate::data::read_data;
+use crate::parts::{RangeWords, front_of, len_of, range_of};
+use crate::{Items, RangeData, Record};
+use std::alloc::{AllocError, Global};
+
+/// The record at the front of these words, and how many it takes; None exactly where they begin with no record.
+pub fn decode(alloc: Global, words: &[u64]) -> Result<Option<(Record, usize)>, AllocError>
+    ensures found { IfOk result (λ found. IfSome found (λ x. BeginsWith words.now x.0 x.1)) }
+    ensures none { IfOk result (λ found. IfNone found (BeginsNoRecord words.now)) }
+{
+    let Some(len) = len_of(words) else {
+        return Ok(None);
+    };
+    let Some(record) = read_record(alloc, words)? else {
+        return Ok(None);
+    };
+    Ok(Some((record, len)))
+}
+
+/// How many words the record at the front takes, as `decode` finds it, without memory.
+pub fn check(words: &[u64]) -> Option<usize>
+    ensures found { IfSome result (λ len. (r : Spelled) × BeginsWith words.now r len) }
+    ensures none { IfNone result (BeginsNoRecord words.now) }
+{
+    len_of(words)
+}
+
+#[tactic(auto, unfolding(crate::specs::Reading::record_at))]
+fn read_record(alloc: Global, words: &[u64]) -> Result<Option<Record>, AllocError>
+    ensures { IfOk result (λ found. found ≡ record_at words.now) }
+{
+    let Some(front) = front_of(words) else {
+        return Ok(None);
+    };
+    let (head, locks, rest) = front;
+    let Some(ranges) = read_ranges(alloc, head.ranges, rest)? else {
+        return Ok(None);
+    };
+    let locks = Vec::from_slice(alloc, &locks[..head.locks as usize])?;
+    Ok(Some(Record {
+        node: head.node,
+        locks: Items::new(locks),
+        ranges: Items::new(ranges),
+    }))
+}
+
+fn read_ranges(
+    alloc: Global,
+    count: u16,
+    words: &[u64],
+) -> Result<Option<Vec<RangeData>>, AllocError>
+    ensures { IfOk result (λ found. Gives (λ v. v.items) found (items_at count words.now)) }
+{
+    let mut ranges = Vec::with_capacity(alloc, count as usize)?;
+    let mut rest = words;
+    for _ in 0..count {
+        let Some((range, behind)) = range_of(rest) else {
+            return Ok(None);
+        };
+        ranges.push(read_range(alloc, range)?)?;
+        rest = behind;
+    }
+    Ok(Some(ranges))
+}
+
+fn read_range(alloc: Global, range: RangeWords<'_>) -> Result<RangeData, AllocError>
+    ensures { IfOk result (λ r. r ≡ range_of range.entry.segment range.entry.offset range.entry.len range.entry.data.now) }
+{
+    Ok(RangeData {
+        segment: range.segment,
+        offset: range.offset,
+        bytes: Items::new(read_data(alloc, range.len, range.data)?),
+    })
+}

@@ -1,0 +1,194 @@
+//! Where the parts of a record stand in its words.
+ghost use Rattle.std.specs.Prelude.{◌≡◌, ◌*◌, ◌/◌, ◌%◌, ◌^◌, ◌≤◌, IfSome, length, take};
+ghost use Rattle.lc_record.specs.Reading.{Gives, front, front_at, has_room, head_at, is_closed, is_first, is_second, len_at, lock_at, locks_at, range_at, range_of, ranges_at, start, walked};
+
+use crate::Lock;
+use crate::canonical::ascend;
+use crate::data::{data_len, is_padded};
+use crate::fields::{
+    gate, length, lock_count, node, range_count, range_offset, range_segment, version,
+};
+use crate::limits::{
+    GATE_OPEN, MAX_LOCKS, MAX_NODE, MAX_OFFSET, MAX_RANGES, MAX_WORDS, SECOND_END, VERSION,
+};
+use crate::walk::{start, step};
+
+/// What the first two words say.
+#[derive(Clone, Copy)]
+pub struct Head {
+    pub node: u16,
+    pub locks: u16,
+    pub ranges: u16,
+    pub len: u32,
+}
+
+/// A range, with its bytes as words.
+#[derive(Clone, Copy)]
+pub struct RangeWords<'a> {
+    pub segment: u32,
+    pub offset: u32,
+    pub len: usize,
+    pub data: &'a [u64],
+}
+
+fn is_first(first: u64) -> bool
+    ensures { result ≡ is_first first }
+{
+    gate(first) == GATE_OPEN
+        && version(first) == VERSION
+        && range_count(first) >= 1
+        && range_count(first) as usize <= MAX_RANGES
+        && length(first) as usize <= MAX_WORDS
+}
+
+fn is_second(second: u64) -> bool
+    ensures { result ≡ is_second second }
+{
+    second < SECOND_END
+        && node(second) <= MAX_NODE
+        && lock_count(second) >= 1
+        && lock_count(second) as usize <= MAX_LOCKS
+}
+
+#[tactic(auto, unfolding(crate::specs::Reading::head_at))]
+fn head_of(words: &[u64]) -> Option<(Head, &[u64])>
+    ensures read { Gives (λ x. (x.0, x.1.now)) result (head_at words.now) }
+    ensures few { IfSome result (λ x. x.0.locks ≤ 16) }
+{
+    let [first, second, rest @ ..] = words else {
+        return None;
+    };
+    if !is_first(*first) || !is_second(*second) {
+        return None;
+    }
+    let head = Head {
+        node: node(*second),
+        locks: lock_count(*second),
+        ranges: range_count(*first),
+        len: length(*first),
+    };
+    Some((head, rest))
+}
+
+#[tactic(auto, unfolding(crate::specs::Reading::lock_at))]
+fn lock_of(words: &[u64]) -> Option<(Lock, &[u64])>
+    ensures { Gives (λ x. (x.0, x.1.now)) result (lock_at words.now) }
+{
+    let [segment, seq, rest @ ..] = words else {
+        return None;
+    };
+    if *segment > u64::from(u32::MAX) {
+        return None;
+    }
+    let lock = Lock {
+        segment: *segment as u32,
+        seq: *seq,
+    };
+    Some((lock, rest))
+}
+
+fn locks_of(count: u16, words: &[u64]) -> Option<([Lock; MAX_LOCKS], &[u64])>
+    requires { count ≤ 16 }
+    ensures { Gives (λ x. (take count x.0, x.1.now)) result (locks_at count words.now) }
+{
+    let mut locks = [Lock { segment: 0, seq: 0 }; MAX_LOCKS];
+    let mut rest = words;
+    for place in 0..count as usize {
+        let (lock, behind) = lock_of(rest)?;
+        locks[place] = lock;
+        rest = behind;
+    }
+    Some((locks, rest))
+}
+
+/// What stands before the ranges, and the words behind it.
+#[tactic(auto, unfolding(crate::specs::Reading::front_at))]
+pub fn front_of(words: &[u64]) -> Option<(Head, [Lock; MAX_LOCKS], &[u64])>
+    ensures read { Gives (λ x. front x.0 (take x.0.locks x.1) x.2.now) result (front_at words.now) }
+    ensures few { IfSome result (λ x. x.0.locks ≤ 16) }
+{
+    let (head, rest) = head_of(words)?;
+    let (locks, rest) = locks_of(head.locks, rest)?;
+    if !ascend(&locks[..head.locks as usize]) {
+        return None;
+    }
+    Some((head, locks, rest))
+}
+
+fn has_room(offset: u32, len: u64, rest: &[u64]) -> bool
+    ensures { result ≡ has_room offset len rest.now }
+{
+    let most = MAX_OFFSET as u64;
+    len >= 1
+        && len <= most
+        && u64::from(offset) + len <= most
+        && data_len(len as usize) <= rest.len()
+}
+
+/// The range at the front, and the words behind it.
+#[tactic(auto, unfolding(crate::specs::Reading::range_at))]
+pub fn range_of(words: &[u64]) -> Option<(RangeWords<'_>, &[u64])>
+    ensures read { Gives (λ x. (range_of x.0.segment x.0.offset x.0.len x.0.data.now, x.1.now)) result (range_at words.now) }
+    ensures short { IfSome result (λ x. x.0.len ≤ 16384) }
+    ensures whole { IfSome result (λ x. x.0.len ≤ 8 * length x.0.data.now) }
+{
+    let [place, len, rest @ ..] = words else {
+        return None;
+    };
+    let segment = range_segment(*place);
+    let offset = range_offset(*place);
+    if !has_room(offset, *len, rest) {
+        return None;
+    }
+    let len = *len as usize;
+    let (data, behind) = rest.split_at(data_len(len));
+    if !is_padded(len, data) {
+        return None;
+    }
+    let range = RangeWords {
+        segment,
+        offset,
+        len,
+        data,
+    };
+    Some((range, behind))
+}
+
+/// The words behind so many ranges, which follow on these locks.
+fn behind_ranges<'a>(locks: &[Lock], count: u16, words: &'a [u64]) -> Option<&'a [u64]>
+    ensures { Gives (λ rest. rest.now) result (walked (start locks.now) (ranges_at count words.now)) }
+{
+    let mut walk = start(locks);
+    let mut rest = words;
+    for _ in 0..count {
+        let (range, behind) = range_of(rest)?;
+        walk = step(walk, range.segment, range.offset, range.len)?;
+        rest = behind;
+    }
+    if !walk.locks.is_empty() {
+        return None;
+    }
+    Some(rest)
+}
+
+fn is_closed(len: u32, words: &[u64], rest: &[u64]) -> bool
+    ensures { result ≡ is_closed len words.now rest.now }
+{
+    let [last, behind @ ..] = rest else {
+        return false;
+    };
+    *last == u64::from(len) && words.len() == behind.len() + len as usize
+}
+
+/// How many words the record at the front takes, or None exactly where there is none.
+#[tactic(auto, unfolding(crate::specs::Reading::len_at))]
+pub fn len_of(words: &[u64]) -> Option<usize>
+    ensures { Gives (λ len. len) result (len_at words.now) }
+{
+    let (head, locks, rest) = front_of(words)?;
+    let behind = behind_ranges(&locks[..head.locks as usize], head.ranges, rest)?;
+    if !is_closed(head.len, words, behind) {
+        return None;
+    }
+    Some(head.len as usize)
+}

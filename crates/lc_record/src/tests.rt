@@ -1,0 +1,226 @@
+use super::*;
+use std::alloc::{AllocError, Global};
+use std::process::Abort;
+use std::test::*;
+
+// The record of node 0 under lock 1:1, with the bytes "hello" at 3 in segment 1.
+fn hello_words() -> [u64; 8] {
+    [
+        u64::from_le_bytes([0xa5, 0x01, 0x01, 0x00, 0x08, 0x00, 0x00, 0x00]),
+        u64::from_le_bytes([0x00, 0x00, 0x01, 0x00, 0x00, 0x00, 0x00, 0x00]),
+        u64::from_le_bytes([0x01, 0x00, 0x00, 0x00, 0x00, 0x00, 0x00, 0x00]),
+        u64::from_le_bytes([0x01, 0x00, 0x00, 0x00, 0x00, 0x00, 0x00, 0x00]),
+        u64::from_le_bytes([0x01, 0x00, 0x00, 0x00, 0x03, 0x00, 0x00, 0x00]),
+        u64::from_le_bytes([0x05, 0x00, 0x00, 0x00, 0x00, 0x00, 0x00, 0x00]),
+        u64::from_le_bytes([0x68, 0x65, 0x6c, 0x6c, 0x6f, 0x00, 0x00, 0x00]),
+        u64::from_le_bytes([0x08, 0x00, 0x00, 0x00, 0x00, 0x00, 0x00, 0x00]),
+    ]
+}
+
+// The record of node 7 under locks 1:2 and 3:1, with "abcdefgh" at 0 and "i" at 9 in segment 1,
+// and "jklmnopqr" at 100 in segment 3.
+fn letters_words() -> [u64; 17] {
+    [
+        u64::from_le_bytes([0xa5, 0x01, 0x03, 0x00, 0x11, 0x00, 0x00, 0x00]),
+        u64::from_le_bytes([0x07, 0x00, 0x02, 0x00, 0x00, 0x00, 0x00, 0x00]),
+        1,
+        2,
+        3,
+        1,
+        u64::from_le_bytes([0x01, 0x00, 0x00, 0x00, 0x00, 0x00, 0x00, 0x00]),
+        8,
+        u64::from_le_bytes([0x61, 0x62, 0x63, 0x64, 0x65, 0x66, 0x67, 0x68]),
+        u64::from_le_bytes([0x01, 0x00, 0x00, 0x00, 0x09, 0x00, 0x00, 0x00]),
+        1,
+        0x69,
+        u64::from_le_bytes([0x03, 0x00, 0x00, 0x00, 0x64, 0x00, 0x00, 0x00]),
+        9,
+        u64::from_le_bytes([0x6a, 0x6b, 0x6c, 0x6d, 0x6e, 0x6f, 0x70, 0x71]),
+        0x72,
+        17,
+    ]
+}
+
+fn record_of(
+    alloc: Global,
+    node: u16,
+    locks: &[(u32, u64)],
+    ranges: &[(u32, u32, &[u8])],
+) -> Result<Record, AllocError> {
+    let mut its_locks = Vec::new(alloc);
+    for (segment, seq) in locks {
+        its_locks.push(Lock {
+            segment: *segment,
+            seq: *seq,
+        })?;
+    }
+    let mut its_ranges = Vec::new(alloc);
+    for (segment, offset, bytes) in ranges {
+        its_ranges.push(RangeData {
+            segment: *segment,
+            offset: *offset,
+            bytes: Items::new(Vec::from_slice(alloc, bytes)?),
+        })?;
+    }
+    Ok(Record {
+        node,
+        locks: Items::new(its_locks),
+        ranges: Items::new(its_ranges),
+    })
+}
+
+fn are_same(rt: &impl Abort, one: &Record, other: &Record) {
+    assert_eq!(rt; one.node, other.node);
+    assert_eq!(rt; one.locks.as_slice(), other.locks.as_slice());
+    assert_eq!(rt; one.ranges.as_slice().len(), other.ranges.as_slice().len());
+    for (a, b) in one.ranges.as_slice().iter().zip(other.ranges.as_slice()) {
+        assert_eq!(rt; a.segment, b.segment);
+        assert_eq!(rt; a.offset, b.offset);
+        assert_eq!(rt; a.bytes.as_slice(), b.bytes.as_slice());
+    }
+}
+
+// The record is written as these words, and read from them, whatever follows them.
+fn is_spelled(rt: &impl Abort, alloc: Global, record: &Record, words: &[u64]) -> Result<(), Fail> {
+    assert_eq!(rt; encoded_words(record), words.len());
+    let mut written = encode(alloc, record)
+        .ok()
+        .ok_or("the record has a spelling")?;
+    assert_eq!(rt; written.as_slice(), words);
+    for more in [0, 0xa5, u64::MAX] {
+        assert_eq!(rt; check(&written), Some(words.len()));
+        let (read, len) = decode(alloc, &written)?.ok_or("the words begin with a record")?;
+        assert_eq!(rt; len, words.len());
+        are_same(rt, &read, record);
+        written.push(more)?;
+    }
+    Ok(())
+}
+
+fn is_no_record(rt: &impl Abort, alloc: Global, words: &[u64]) -> Result<(), Fail> {
+    assert_eq!(rt; check(words), None);
+    assert!(rt; decode(alloc, words)?.is_none());
+    Ok(())
+}
+
+#[test]
+fn records_are_written_and_read(rt: HostRuntime) -> Result<(), Fail> {
+    let alloc = rt.alloc();
+    let hello = record_of(alloc, 0, &[(1, 1)], &[(1, 3, b"hello")])?;
+    is_spelled(&rt, alloc, &hello, &hello_words())?;
+    let letters = record_of(
+        alloc,
+        7,
+        &[(1, 2), (3, 1)],
+        &[(1, 0, b"abcdefgh"), (1, 9, b"i"), (3, 100, b"jklmnopqr")],
+    )?;
+    is_spelled(&rt, alloc, &letters, &letters_words())
+}
+
+#[test]
+fn other_words_are_no_record(rt: HostRuntime) -> Result<(), Fail> {
+    let alloc = rt.alloc();
+    for (place, changed) in [
+        (0, [0x00, 0x01, 0x01, 0x00, 0x08, 0x00, 0x00, 0x00]),
+        (0, [0x7f, 0x01, 0x01, 0x00, 0x08, 0x00, 0x00, 0x00]),
+        (0, [0xa5, 0x02, 0x01, 0x00, 0x08, 0x00, 0x00, 0x00]),
+        (0, [0xa5, 0x01, 0x01, 0x00, 0x09, 0x00, 0x00, 0x00]),
+        (6, [0x68, 0x65, 0x6c, 0x6c, 0x6f, 0x01, 0x00, 0x00]),
+        (7, [0x07, 0x00, 0x00, 0x00, 0x00, 0x00, 0x00, 0x00]),
+    ] {
+        let mut words = hello_words();
+        let word = words.get_mut(place).ok_or("the place is among the words")?;
+        *word = u64::from_le_bytes(changed);
+        is_no_record(&rt, alloc, &words)?;
+    }
+    for (place, changed) in [
+        // No node 8, and the locks not ascending.
+        (1, [0x08, 0x00, 0x02, 0x00, 0x00, 0x00, 0x00, 0x00]),
+        (4, [0x01, 0x00, 0x00, 0x00, 0x00, 0x00, 0x00, 0x00]),
+        // A range that touches the one before it, and one before it.
+        (9, [0x01, 0x00, 0x00, 0x00, 0x08, 0x00, 0x00, 0x00]),
+        (6, [0x01, 0x00, 0x00, 0x00, 0x20, 0x00, 0x00, 0x00]),
+        // A range of a segment with no lock, and a lock of a segment with no range.
+        (12, [0x02, 0x00, 0x00, 0x00, 0x64, 0x00, 0x00, 0x00]),
+        (12, [0x01, 0x00, 0x00, 0x00, 0x64, 0x00, 0x00, 0x00]),
+        // A range that leaves its segment.
+        (12, [0x03, 0x00, 0x00, 0x00, 0xf8, 0x3f, 0x00, 0x00]),
+    ] {
+        let mut words = letters_words();
+        let word = words.get_mut(place).ok_or("the place is among the words")?;
+        *word = u64::from_le_bytes(changed);
+        is_no_record(&rt, alloc, &words)?;
+    }
+    for len in 0..17 {
+        is_no_record(&rt, alloc, &letters_words()[..len])?;
+    }
+    Ok(())
+}
+
+#[test]
+fn other_records_have_no_spelling(rt: HostRuntime) -> Result<(), Fail> {
+    let alloc = rt.alloc();
+    let none = [
+        record_of(alloc, 0, &[(1, 1), (2, 1)], &[(1, 3, b"hello")])?,
+        record_of(alloc, 0, &[(1, 1)], &[(1, 3, b"hello"), (2, 0, b"you")])?,
+        record_of(alloc, 0, &[(1, 1)], &[(1, 3, b"hello"), (1, 8, b"you")])?,
+        record_of(alloc, 0, &[(1, 1)], &[(1, 3, b"")])?,
+        record_of(alloc, 8, &[(1, 1)], &[(1, 3, b"hello")])?,
+    ];
+    for record in &none {
+        let fault = encode(alloc, record).err().ok_or("there is a fault")?;
+        assert_eq!(rt; fault, RecordFault::NotCanonical);
+        assert_eq!(rt; fault.code(), 1);
+    }
+    Ok(())
+}
+
+#[test]
+fn the_longest_record_has_4096_words(rt: HostRuntime) -> Result<(), Fail> {
+    let alloc = rt.alloc();
+    let locks = [(1, 1), (2, 1)];
+    let zeros = vec![in alloc; 0u8; 16384]?;
+    let longest = record_of(alloc, 0, &locks, &[(1, 0, &zeros), (2, 0, &zeros[..16296])])?;
+    let words = encode(alloc, &longest)
+        .ok()
+        .ok_or("the record has a spelling")?;
+    assert_eq!(rt; words.len(), 4096);
+    assert_eq!(rt; check(&words), Some(4096));
+    let longer = record_of(alloc, 0, &locks, &[(1, 0, &zeros), (2, 0, &zeros[..16297])])?;
+    let fault = encode(alloc, &longer).err().ok_or("there is a fault")?;
+    assert_eq!(rt; fault, RecordFault::TooLong { words: 4097 });
+    assert_eq!(rt; fault.code(), 2);
+    Ok(())
+}
+
+#[test]
+fn the_first_two_words_have_fields(rt: HostRuntime) {
+    let [first, second, ..] = letters_words();
+    assert_eq!(rt; gate(first), 0xa5);
+    assert_eq!(rt; version(first), 1);
+    assert_eq!(rt; range_count(first), 3);
+    assert_eq!(rt; length(first), 17);
+    assert_eq!(rt; node(second), 7);
+    assert_eq!(rt; lock_count(second), 2);
+}
+
+#[test]
+fn a_geometry_has_areas(rt: HostRuntime) -> Result<(), Fail> {
+    let geometry = Geometry::new(2, 4, 2, 3, 64).ok_or("these are numbers of a store")?;
+    assert_eq!(rt; geometry.log_len(), 520);
+    assert_eq!(rt; geometry.segment_len(), 768);
+    assert_eq!(rt; Geometry::new(9, 4, 2, 3, 64), None);
+    Ok(())
+}
+
+#[test]
+fn faults_say_what_they_are(rt: HostRuntime) -> Result<(), Fail> {
+    let fault = RecordFault::TooLong { words: 5000 };
+    assert_eq!(rt; fault.code(), 2);
+    let text = format!(in rt.alloc(); "{fault}")?;
+    assert_eq!(rt;
+        text.as_str(),
+        "the record has 5000 words, which is too long"
+    );
+    Ok(())
+}

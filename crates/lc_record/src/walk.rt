@@ -1,0 +1,63 @@
+//! Ranges in order, against the locks of their segments.
+ghost use Rattle.std.specs.Prelude.{◌≡◌, ◌<◌, ◌^◌};
+ghost use Rattle.lc_record.specs.Reading.{Gives, next_lock, place, start, step};
+
+use crate::Lock;
+use crate::limits::MAX_OFFSET;
+
+/// How far the ranges have come: where the last one ended, and the locks of which none came yet.
+#[derive(Clone, Copy)]
+pub struct Walk<'a> {
+    pub segment: u32,
+    pub end: usize,
+    pub locks: &'a [Lock],
+}
+
+/// Before the first range. Nothing stands in segment 0 behind this end.
+pub fn start(locks: &[Lock]) -> Walk<'_>
+    ensures { place result.segment result.end result.locks.now ≡ start locks.now }
+{
+    Walk {
+        segment: 0,
+        end: MAX_OFFSET,
+        locks,
+    }
+}
+
+fn next_lock(segment: u32, locks: &[Lock]) -> Option<&[Lock]>
+    ensures { Gives (λ rest. rest.now) result (next_lock segment locks.now) }
+{
+    let [lock, rest @ ..] = locks else {
+        return None;
+    };
+    if lock.segment != segment {
+        return None;
+    }
+    Some(rest)
+}
+
+/// One range more, or None where it does not follow: it is of the same segment with a gap between, or of the segment of the next lock.
+pub fn step(before: Walk<'_>, segment: u32, offset: u32, len: usize) -> Option<Walk<'_>>
+    requires { len < 2 ^ 63 }
+    ensures { Gives (λ w. place w.segment w.end w.locks.now) result
+        (step (place before.entry.segment before.entry.end before.entry.locks.now) segment offset len) }
+{
+    let offset = offset as usize;
+    let end = offset + len;
+    if segment == before.segment {
+        if offset <= before.end {
+            return None;
+        }
+        return Some(Walk {
+            segment,
+            end,
+            locks: before.locks,
+        });
+    }
+    let locks = next_lock(segment, before.locks)?;
+    Some(Walk {
+        segment,
+        end,
+        locks,
+    })
+}

@@ -1,0 +1,14 @@
+mod Items
+mod Numbers
+mod Pages
+mod Words
+mod Writes
+mod Stretch
+mod OneNodeLemmas
+mod EndLemmas
+mod FlushLemmas
+mod ShowLemmas
+mod LineLemmas
+mod ScriptLemmas
+mod OptionNumbers
+mod Asking

@@ -1,0 +1,15 @@
+use Rattle.std.proofs.Common.{◌+◌, ◌≤◌, length}
+use Rattle.lc_core.specs.State.{Setting, State}
+use Rattle.lc_tool.specs.Fits.{Fits}
+use Rattle.lc_tool.proofs.ScriptLemmas.{SoFar}
+use Rattle.lc_tool.proofs.scripts.run_lines.Given as goal
+
+abbrev pub invariant-loop-rest : goal.invariant-loop-rest
+invariant-loop-rest g l = record {
+  count : l.number + length l.rest ≤ length l.fn.script + 1;
+  runs : (m : Setting) (first : State) → Fits m l.fn.solo first →
+      (s : State) × Fits m l.solo s × SoFar m first s l.fn.script l.rest l.number l.refused (g.W.Write.contents l.fn.writer) (g.W.Write.contents l.writer);
+}
+
+abbrev pub decreases-loop-rest : goal.decreases-loop-rest
+decreases-loop-rest g l = length l.rest

@@ -1,0 +1,104 @@
+-- When a store of one node, one thread and one segment fits a state of the plain machine.
+use Rattle.std.specs.Prelude.{◌≡◌, ℕ, Bool, true, false, List, [], ◌∷◌, ◌++◌, length, replicate, Option, Some, None, IsTrue, if◌then◌else◌}
+use Rattle.std.specs.List.{AllByRecursion}
+use Rattle.lc_disk.specs.MemArea.{memory_now}
+use Rattle.lc_record.specs.Content.{Content, put}
+use Rattle.lc_record.specs.Transaction.{Transaction, writes_on}
+use Rattle.lc_record.specs.declared.geometry.Geometry.{Geometry}
+use Rattle.lc_record.specs.declared.record.Record.{Record}
+use Rattle.lc_log.specs.LogText.{IsWhole, joined}
+use Rattle.lc_log.specs.NodeLog.{IsAtRest}
+use Rattle.lc_core.specs.History.{Entry, History, transactions, value}
+use Rattle.lc_core.specs.State.{Setting, State, Place, At, Flush, Phase, Up, is_by}
+use Rattle.lc_core.specs.Settled.{no_numbers, numbers_after, history_records}
+use Rattle.lc_tool.specs.Session.{zeros_of, Answers, Finishes, Ends, Does}
+use Rattle.lc_tool.specs.declared.command.Command.{Command}
+use Rattle.lc_tool.specs.declared.command.Command.TheVariants.{Step as Asks}
+use Rattle.std.specs.Io.KnownBytes.{Appends}
+use Rattle.lc_core.specs.declared.event.Event.{Event}
+use Rattle.lc_core.specs.declared.event.Event.TheVariants.{Begin, SetRange, Write, Read, Reserve, FlushStep}
+use Rattle.lc_core.specs.declared.reply.Reply.{Reply}
+use Rattle.lc_tool.specs.declared.solo.Running.{Running}
+use Rattle.lc_tool.specs.declared.solo.Solo.{Solo}
+
+-- The open transaction: its one range, and its writes, which stand in the image over the base. Each relation takes
+-- the parts that it speaks of, so that it is the same fact where other parts change.
+pub record IsOpen (image base : List ℕ) (one : Running) (t : Transaction) : Type 0 where
+  pub by : IsTrue (is_by 0 0 t)
+  pub locked : t.locked ≡ (if one.has_lock then 1 ∷ [] else [])
+  pub marks : t.marks ≡ put one.offset (replicate one.len true) (replicate (length image) false) ∷ []
+  pub writes : writes_on t.writes (base ∷ []) ≡ image ∷ []
+  pub untouched : one.len ≡ 0 → image ≡ base
+
+-- the image is the value of the history, with the writes of the open transaction on top
+abbrev pub FitsBytes : List ℕ → Option Running → Content → List Transaction → Type 0
+FitsBytes image None content running = (content ≡ image ∷ []) × (running ≡ [])
+FitsBytes image (Some one) content running =
+    (base : List ℕ) × (t : Transaction) × (content ≡ base ∷ []) × (running ≡ t ∷ []) × IsOpen image base one t
+
+-- reserved by the one thread, and closed
+abbrev pub IsOwn : Entry → Type 0
+IsOwn e = IsTrue (is_by 0 0 e.transaction) × (e.closed ≡ true)
+
+-- the log has the flushed records, and the others are staged
+pub record FitsRecords (now : List ℕ) (end : ℕ) (staged : List ℕ) (records acked : ℕ) (all : List Record) (history : History) : Type 0 where
+  pub stable : List Record
+  pub pending : List Record
+  pub own : AllByRecursion IsOwn history
+  pub parts : all ≡ stable ++ pending
+  pub at_rest : IsAtRest now end stable
+  pub staged_text : staged ≡ joined pending
+  pub whole : AllByRecursion IsWhole pending
+  pub flushed : length stable ≡ acked
+  pub closed : length history ≡ records
+  pub numbers : numbers_after no_numbers (transactions history) 1 ≡ records
+
+-- what no line changes
+pub record FitsStill (m : Setting) (geometry : Geometry) (phase : Phase) (halted : ℕ → Bool) (place : ℕ → Place) (earlier : List Transaction) (flush : ℕ → Flush) : Type 0 where
+  pub same_geometry : m.geometry ≡ geometry
+  pub start : m.start ≡ zeros_of m.geometry
+  pub up : phase ≡ Up
+  pub not_halted : halted 0 ≡ false
+  pub here : place 1 ≡ At 0
+  pub first : earlier ≡ []
+  pub no_flush : (flush 0).steps ≡ 0
+
+pub record Fits (m : Setting) (w : Solo) (s : State) : Type 0 where
+  pub still : FitsStill m w.geometry s.phase s.halted s.place s.earlier s.flush
+  pub bytes : FitsBytes w.image.items w.running (value m.start s.earlier s.history) s.running
+  pub records : FitsRecords (memory_now w.log.area) w.log.end w.staged.words w.records w.acked (history_records m s) s.history
+  pub acked : s.ack 0 ≡ w.acked
+
+-- from a store to a store, with this reply to the event
+abbrev pub Follows : Solo → Event → Reply → Solo → Type 0
+Follows old event reply new =
+    (m : Setting) (before : State) → Fits m old before → (after : State) × Answers m before event reply after × Fits m new after
+
+-- the same for a reservation that is closed where it was made
+abbrev pub FollowsEnd : Solo → ℕ → ℕ → Reply → Solo → Type 0
+FollowsEnd old node thread reply new =
+    (m : Setting) (before : State) → Fits m old before →
+    (mid : State) × (after : State) × Answers m before (Reserve node thread) reply mid × Ends m mid node thread reply after × Fits m new after
+
+-- the same for a whole flush
+abbrev pub FollowsFlush : Solo → ℕ → Reply → Solo → Type 0
+FollowsFlush old node reply new =
+    (m : Setting) (before : State) → Fits m old before → (after : State) × Finishes m before (FlushStep node) reply after × Fits m new after
+
+-- the event is one that a line of a script stands for
+abbrev pub is_of_script : Event → Bool
+is_of_script (Begin node thread segments) = true
+is_of_script (SetRange node thread segment offset len) = true
+is_of_script (Write node thread segment offset bytes) = true
+is_of_script (Read node thread segment offset len) = true
+is_of_script _ = false
+
+abbrev pub IsOfScript : Command → Type 0
+IsOfScript (Asks event) = IsTrue (is_of_script event)
+IsOfScript _ = Unit {0}
+
+-- the same for a whole command, with what a writer held and holds
+abbrev pub Performs : Solo → Command → Option (List ℕ) → Option (List ℕ) → Bool → Solo → Type 0
+Performs old command held holds refused new =
+    (m : Setting) (before : State) → Fits m old before →
+    (shown : List ℕ) × (after : State) × Does m before command shown refused after × Appends held holds shown × Fits m new after

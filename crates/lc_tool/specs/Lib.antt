@@ -1,0 +1,10 @@
+pub mod Text
+pub mod Line
+pub mod Fault
+pub mod Inspector
+pub mod Session
+pub mod Areas
+pub mod OneNode
+pub mod Fits
+pub mod Outcome
+pub mod CommandLine

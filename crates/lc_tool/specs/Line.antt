@@ -1,0 +1,196 @@
+-- What each line of a script says.
+use Rattle.std.specs.Prelude.{◌≡◌, ℕ, ◌+◌, ◌-◌, ◌*◌, ◌^◌, ◌==◌, nat_lt, nat_le, ◌&&◌, ◌||◌, Bool, true, false, if◌then◌else◌, List, [], ◌∷◌, length, codes, bytes_eq, filter, Option, Some, None, option_and_then, option_map}
+use Rattle.std.specs.List.{slice_split, list_all}
+use Rattle.lc_core.specs.declared.event.Event.TheVariants.{Begin, SetRange, Write, Read}
+use Rattle.lc_tool.specs.declared.command.Command.{Command}
+use Rattle.lc_tool.specs.declared.command.Command.TheVariants.{Step, End, Flush, Log, Inspect, Show}
+use Rattle.lc_tool.specs.declared.command.Line.{Line}
+use Rattle.lc_tool.specs.declared.command.Line.TheVariants.{Skipped, Command as Asks, NotUnderstood}
+
+-- Words
+
+abbrev pub is_space : ℕ → Bool
+is_space byte = byte == 32
+
+abbrev pub is_some_text : List ℕ → Bool
+is_some_text [] = false
+is_some_text (byte ∷ bytes) = true
+
+-- the longest pieces with no space in them
+unfoldable pub words : List ℕ → List (List ℕ)
+words line = filter is_some_text (slice_split is_space line)
+
+-- What one word says
+
+abbrev pub is_digit : ℕ → Bool
+is_digit byte = nat_le 48 byte && nat_le byte 57
+
+-- the number that goes on with these decimal digits
+abbrev pub value_after : ℕ → List ℕ → ℕ
+value_after n [] = n
+value_after n (digit ∷ digits) = value_after (10 * n + (digit - 48)) digits
+
+-- the number below a limit that the digits of n and these digits write
+unfoldable pub number_after : ℕ → ℕ → List ℕ → Option ℕ
+number_after limit n digits = if list_all is_digit digits && nat_lt (value_after n digits) limit then Some (value_after n digits) else None
+
+-- a number below a limit, in 1 to 20 decimal digits
+unfoldable pub number_of : ℕ → List ℕ → Option ℕ
+number_of limit word = if nat_le 1 (length word) && nat_le (length word) 20 then number_after limit 0 word else None
+
+infixl 10 ◌>>=◌
+abbrev pub ◌>>=◌ : {A B : Type 0} → Option A → (A → Option B) → Option B
+o >>= f = option_and_then f o
+
+-- a hexadecimal digit in either case
+unfoldable pub digit_of : ℕ → Option ℕ
+digit_of byte =
+    if nat_le 48 byte && nat_le byte 57 then Some (byte - 48)
+    else if nat_le 97 byte && nat_le byte 102 then Some (byte - 87)
+    else if nat_le 65 byte && nat_le byte 70 then Some (byte - 55)
+    else None
+
+-- the byte of two of them
+unfoldable pub pair_of : ℕ → ℕ → Option ℕ
+pair_of high low = do
+  h ← digit_of high
+  l ← digit_of low
+  Some (16 * h + l)
+
+-- a byte for each two of them
+unfoldable pub bytes_of : List ℕ → Option (List ℕ)
+bytes_of [] = Some []
+bytes_of (digit ∷ []) = None
+bytes_of (high ∷ low ∷ digits) = do
+  byte ← pair_of high low
+  bytes ← bytes_of digits
+  Some (byte ∷ bytes)
+
+-- What the words of a command say
+
+-- what the first word says, and the words after it
+abbrev pub first : {A : Type 0} → (List ℕ → Option A) → List (List ℕ) → Option (A × List (List ℕ))
+first read [] = None
+first read (word ∷ later) = option_map (λ x. (x, later)) (read word)
+
+-- a node or a thread
+abbrev pub u16_of : List (List ℕ) → Option (ℕ × List (List ℕ))
+u16_of = first (number_of (2 ^ 16))
+
+-- a segment, a page, an offset or a length
+abbrev pub u32_of : List (List ℕ) → Option (ℕ × List (List ℕ))
+u32_of = first (number_of (2 ^ 32))
+
+-- a number of each word
+unfoldable pub all_numbers : List (List ℕ) → Option (List ℕ)
+all_numbers [] = Some []
+all_numbers (word ∷ later) = do
+  n ← number_of (2 ^ 32) word
+  ns ← all_numbers later
+  Some (n ∷ ns)
+
+-- no word follows
+abbrev pub no_more : List (List ℕ) → Option (Unit {0})
+no_more [] = Some tt
+no_more (word ∷ later) = None
+
+-- a node and its thread
+unfoldable pub thread_of : List (List ℕ) → Option ((ℕ × ℕ) × List (List ℕ))
+thread_of fields = do
+  node ← u16_of fields
+  thread ← u16_of node.1
+  Some ((node.0, thread.0), thread.1)
+
+-- a node, its thread, a segment and an offset in it
+unfoldable pub spot_of : List (List ℕ) → Option ((ℕ × ℕ × ℕ × ℕ) × List (List ℕ))
+spot_of fields = do
+  who ← thread_of fields
+  segment ← u32_of who.1
+  offset ← u32_of segment.1
+  Some ((who.0.0, who.0.1, segment.0, offset.0), offset.1)
+
+unfoldable pub begin_of : List (List ℕ) → Option Command
+begin_of fields = do
+  who ← thread_of fields
+  segments ← all_numbers who.1
+  Some (Step (Begin who.0.0 who.0.1 segments))
+
+unfoldable pub range_of : List (List ℕ) → Option Command
+range_of fields = do
+  spot ← spot_of fields
+  len ← u32_of spot.1
+  end ← no_more len.1
+  Some (Step (SetRange spot.0.0 spot.0.1 spot.0.2 spot.0.3 len.0))
+
+unfoldable pub write_of : List (List ℕ) → Option Command
+write_of fields = do
+  spot ← spot_of fields
+  bytes ← first bytes_of spot.1
+  end ← no_more bytes.1
+  Some (Step (Write spot.0.0 spot.0.1 spot.0.2 spot.0.3 bytes.0))
+
+unfoldable pub read_of : List (List ℕ) → Option Command
+read_of fields = do
+  spot ← spot_of fields
+  len ← u32_of spot.1
+  end ← no_more len.1
+  Some (Step (Read spot.0.0 spot.0.1 spot.0.2 spot.0.3 len.0))
+
+unfoldable pub end_of : List (List ℕ) → Option Command
+end_of fields = do
+  who ← thread_of fields
+  end ← no_more who.1
+  Some (End who.0.0 who.0.1)
+
+unfoldable pub show_of : List (List ℕ) → Option Command
+show_of fields = do
+  node ← u16_of fields
+  segment ← u32_of node.1
+  page ← u32_of segment.1
+  end ← no_more page.1
+  Some (Show node.0 segment.0 page.0)
+
+-- a node alone
+unfoldable pub node_of : List (List ℕ) → Option ℕ
+node_of fields = do
+  node ← u16_of fields
+  end ← no_more node.1
+  Some node.0
+
+-- by the first word
+unfoldable pub command_of : List (List ℕ) → Option Command
+command_of [] = None
+command_of (keyword ∷ fields) =
+    if bytes_eq keyword (codes "begin") then begin_of fields
+    else if bytes_eq keyword (codes "range") then range_of fields
+    else if bytes_eq keyword (codes "write") then write_of fields
+    else if bytes_eq keyword (codes "read") then read_of fields
+    else if bytes_eq keyword (codes "end") then end_of fields
+    else if bytes_eq keyword (codes "flush") then option_map Flush (node_of fields)
+    else if bytes_eq keyword (codes "log") then option_map Log (node_of fields)
+    else if bytes_eq keyword (codes "inspect") then option_map Inspect (node_of fields)
+    else if bytes_eq keyword (codes "show") then show_of fields
+    else None
+
+-- it has fields of any number, which take memory
+abbrev pub is_open_ended : List (List ℕ) → Bool
+is_open_ended [] = false
+is_open_ended (keyword ∷ fields) = bytes_eq keyword (codes "begin") || bytes_eq keyword (codes "write")
+
+-- Lines
+
+abbrev pub asked : Option Command → Line
+asked None = NotUnderstood
+asked (Some command) = Asks command
+
+-- the bytes of a line, without what ends it: nothing and what begins with a number sign are skipped
+unfoldable pub line_of : List ℕ → Line
+line_of [] = Skipped
+line_of (byte ∷ bytes) = if byte == 35 then Skipped else asked (command_of (words (byte ∷ bytes)))
+
+-- What reading gives
+
+-- what was read, and the bytes that are left
+abbrev pub Takes : {A : Type 0} → Option (A × List (List ℕ)) → Option A → List ℕ → Type 0
+Takes read None rest = read ≡ None
+Takes read (Some x) rest = read ≡ Some (x, words rest)

@@ -1,0 +1,132 @@
+-- What is printed, as bytes. Each text ends with a line feed.
+use Rattle.std.specs.Prelude.{ℕ, zero, suc, ◌/◌, ◌%◌, ◌-◌, ◌^◌, min, false, List, [], ◌∷◌, ◌++◌, take, drop, length, flat_map, codes, decimal, Some, None}
+use Rattle.std.specs.List.{join_by}
+use Rattle.std.specs.Fmt.{digit_glyph}
+use Rattle.std.specs.Int.{w64, to_le_bytes}
+use Rattle.lc_record.specs.Record.{record_len}
+use Rattle.lc_record.specs.declared.record.Record.{Record}
+use Rattle.lc_record.specs.declared.record.Lock.{Lock}
+use Rattle.lc_record.specs.declared.record.RangeData.{RangeData}
+use Rattle.lc_core.specs.declared.refusal.Refusal.{Refusal}
+use Rattle.lc_core.specs.declared.refusal.Refusal.TheVariants.{Down, Unknown, Halted, OutOfTurn, Busy, NotHere, NotLocked, EmptyRange, OutOfSegment, NoRange, TooManyRanges, SequenceSpent, TooLong, Sealed, Full, Held, Writing, Unflushed, Behind, Uncommitted, NotNewer, Unclean, RoundsSpent, DeviceFault, BadGeometry, Twice, Gap}
+use Rattle.lc_core.specs.declared.reply.Reply.{Reply}
+use Rattle.lc_core.specs.declared.reply.Reply.TheVariants.{Ok as Accepted, Bytes, Reserved, Ended, Stepped, Acked, Nothing, Applied, HeldBack, Ignored, Trimmed, Recovered, Refused}
+
+-- a number behind a space
+abbrev pub number_text : ℕ → List ℕ
+number_text n = codes " " ++ decimal n
+
+-- a line of words and numbers
+unfoldable pub line : List ℕ → List ℕ → List ℕ
+line words numbers = words ++ flat_map number_text numbers ++ codes "\n"
+
+-- two lower case hexadecimal digits for each byte
+abbrev pub byte_text : ℕ → List ℕ
+byte_text byte = digit_glyph false (byte / 16) ∷ digit_glyph false (byte % 16) ∷ []
+
+unfoldable pub hex_text : List ℕ → List ℕ
+hex_text = flat_map byte_text
+
+-- Replies
+
+abbrev pub refusal_text : Refusal → List ℕ
+refusal_text Down = line (codes "refused Down") []
+refusal_text Unknown = line (codes "refused Unknown") []
+refusal_text Halted = line (codes "refused Halted") []
+refusal_text OutOfTurn = line (codes "refused OutOfTurn") []
+refusal_text (Busy segment) = line (codes "refused Busy") (segment ∷ [])
+refusal_text (NotHere segment) = line (codes "refused NotHere") (segment ∷ [])
+refusal_text NotLocked = line (codes "refused NotLocked") []
+refusal_text EmptyRange = line (codes "refused EmptyRange") []
+refusal_text (OutOfSegment None) = line (codes "refused OutOfSegment") []
+refusal_text (OutOfSegment (Some area)) = line (codes "refused OutOfSegment") (area ∷ [])
+refusal_text NoRange = line (codes "refused NoRange") []
+refusal_text TooManyRanges = line (codes "refused TooManyRanges") []
+refusal_text (SequenceSpent segment) = line (codes "refused SequenceSpent") (segment ∷ [])
+refusal_text (TooLong words) = line (codes "refused TooLong") (words ∷ [])
+refusal_text Sealed = line (codes "refused Sealed") []
+refusal_text (Full tail need) = line (codes "refused Full") (tail ∷ need ∷ [])
+refusal_text Held = line (codes "refused Held") []
+refusal_text Writing = line (codes "refused Writing") []
+refusal_text Unflushed = line (codes "refused Unflushed") []
+refusal_text (Behind applied seq) = line (codes "refused Behind") (applied ∷ seq ∷ [])
+refusal_text Uncommitted = line (codes "refused Uncommitted") []
+refusal_text NotNewer = line (codes "refused NotNewer") []
+refusal_text (Unclean segment seq) = line (codes "refused Unclean") (segment ∷ seq ∷ [])
+refusal_text RoundsSpent = line (codes "refused RoundsSpent") []
+refusal_text DeviceFault = line (codes "device fault") []
+refusal_text (BadGeometry area) = line (codes "refused BadGeometry") (area ∷ [])
+refusal_text (Twice segment seq) = line (codes "refused Twice") (segment ∷ seq ∷ [])
+refusal_text (Gap segment seq) = line (codes "refused Gap") (segment ∷ seq ∷ [])
+
+-- `bytes`, and where there are some a space and their digits
+abbrev pub bytes_text : List ℕ → List ℕ
+bytes_text [] = line (codes "bytes") []
+bytes_text (byte ∷ bytes) = codes "bytes " ++ hex_text (byte ∷ bytes) ++ codes "\n"
+
+abbrev pub reply_text : Reply → List ℕ
+reply_text Accepted = line (codes "ok") []
+reply_text (Bytes bytes) = bytes_text bytes
+reply_text (Reserved place words) = line (codes "reserved") (place ∷ words ∷ [])
+reply_text Ended = line (codes "ended") []
+reply_text (Stepped step) = line (codes "step") (step ∷ [])
+reply_text (Acked count) = line (codes "acked") (count ∷ [])
+reply_text Nothing = line (codes "nothing") []
+reply_text (Applied seq) = line (codes "applied") (seq ∷ [])
+reply_text HeldBack = line (codes "held back") []
+reply_text Ignored = line (codes "ignored") []
+reply_text (Trimmed count) = line (codes "trimmed") (count ∷ [])
+reply_text Recovered = line (codes "recovered") []
+reply_text (Refused refusal) = refusal_text refusal
+
+-- Other answers of one line
+
+abbrev pub closed_text : ℕ → ℕ → List ℕ
+closed_text place words = line (codes "closed") (place ∷ words ∷ [])
+
+abbrev pub not_understood_text : ℕ → List ℕ
+not_understood_text line = codes "line " ++ decimal line ++ codes ": not understood\n"
+
+abbrev pub too_long_text : List ℕ
+too_long_text = codes "script too long\n"
+
+abbrev pub no_memory_text : List ℕ
+no_memory_text = codes "refused NoMemory\n"
+
+-- Logs and pages
+
+-- the bytes of a word, the lowest first
+abbrev pub word_text : ℕ → List ℕ
+word_text word = hex_text (to_le_bytes w64 word) ++ codes "\n"
+
+abbrev pub words_text : List ℕ → List ℕ
+words_text = flat_map word_text
+
+-- up to this many lines of 16 bytes each; the last may be shorter
+abbrev pub lines_text : ℕ → List ℕ → List ℕ
+lines_text zero bytes = []
+lines_text (suc more) [] = []
+lines_text (suc more) (byte ∷ bytes) = hex_text (take 16 (byte ∷ bytes)) ++ codes "\n" ++ lines_text more (drop 16 (byte ∷ bytes))
+
+-- in lines of 16 bytes each; the last may be shorter
+abbrev pub page_text : List ℕ → List ℕ
+page_text bytes = lines_text (length bytes) bytes
+
+-- Records
+
+abbrev pub lock_text : Lock → List ℕ
+lock_text lock = decimal lock.segment ++ codes ":" ++ decimal lock.seq
+
+abbrev pub range_text : RangeData → List ℕ
+range_text range = decimal range.segment ++ codes ":" ++ decimal range.offset ++ codes "+" ++ decimal (length range.bytes)
+
+-- its place, its words as far as 64 bits can say, its node, its locks and its ranges
+unfoldable pub record_text : ℕ → Record → List ℕ
+record_text place r =
+    decimal place ++ codes " " ++ decimal (min (record_len r) (2 ^ 64 - 1))
+    ++ codes " node " ++ decimal r.node
+    ++ codes " locks " ++ join_by lock_text (codes ",") r.locks
+    ++ codes " ranges " ++ join_by range_text (codes ",") r.ranges ++ codes "\n"
+
+abbrev pub records_text : List (ℕ × Record) → List ℕ
+records_text = flat_map (λ e. record_text e.0 e.1)

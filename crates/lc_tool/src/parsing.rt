@@ -1,0 +1,189 @@
+//! Lines of a script.
+ghost use Rattle.std.specs.Prelude.{◌≡◌, option_map, IfOk, OnErr, IsTrue};
+ghost use Rattle.lc_tool.specs.Line.{words, Takes, thread_of, spot_of, begin_of, range_of, write_of, read_of, end_of, show_of, node_of, command_of, is_open_ended, line_of};
+
+use crate::command::{Command, Line};
+use crate::fields::Fields;
+use lc_core::Event;
+use lc_record::Items;
+use std::alloc::{AllocError, Global};
+
+/// A node and its thread.
+#[tactic(auto, unfolding(crate::specs::Line::thread_of))]
+fn thread(fields: &mut Fields) -> Option<(u16, u16)>
+    ensures { Takes (thread_of (words fields.old.rest.now)) result fields.new.rest.now }
+{
+    let node = fields.u16()?;
+    let thread = fields.u16()?;
+    Some((node, thread))
+}
+
+/// A node, its thread, a segment and an offset in it.
+#[tactic(auto, unfolding(crate::specs::Line::spot_of))]
+fn spot(fields: &mut Fields) -> Option<(u16, u16, u32, u32)>
+    ensures { Takes (spot_of (words fields.old.rest.now)) result fields.new.rest.now }
+{
+    let (node, thread) = thread(fields)?;
+    let segment = fields.u32()?;
+    let offset = fields.u32()?;
+    Some((node, thread, segment, offset))
+}
+
+#[tactic(auto, unfolding(crate::specs::Line::begin_of))]
+fn begin(alloc: Global, mut fields: Fields) -> Result<Option<Command>, AllocError>
+    ensures { IfOk result (λ command. command ≡ begin_of (words fields.entry.rest.now)) }
+{
+    let Some((node, thread)) = thread(&mut fields) else {
+        return Ok(None);
+    };
+    let Some(segments) = fields.all_u32(alloc)? else {
+        return Ok(None);
+    };
+    Ok(Some(Command::Step(Event::Begin {
+        node,
+        thread,
+        segments: Items::new(segments),
+    })))
+}
+
+#[tactic(auto, unfolding(crate::specs::Line::range_of))]
+fn range(mut fields: Fields) -> Option<Command>
+    ensures { result ≡ range_of (words fields.entry.rest.now) }
+{
+    let (node, thread, segment, offset) = spot(&mut fields)?;
+    let len = fields.u32()?;
+    fields.end()?;
+    Some(Command::Step(Event::SetRange {
+        node,
+        thread,
+        segment,
+        offset,
+        len,
+    }))
+}
+
+#[tactic(auto, unfolding(crate::specs::Line::write_of))]
+fn write(alloc: Global, mut fields: Fields) -> Result<Option<Command>, AllocError>
+    ensures { IfOk result (λ command. command ≡ write_of (words fields.entry.rest.now)) }
+{
+    let Some((node, thread, segment, offset)) = spot(&mut fields) else {
+        return Ok(None);
+    };
+    let Some(bytes) = fields.bytes(alloc)? else {
+        return Ok(None);
+    };
+    let Some(()) = fields.end() else {
+        return Ok(None);
+    };
+    Ok(Some(Command::Step(Event::Write {
+        node,
+        thread,
+        segment,
+        offset,
+        bytes: Items::new(bytes),
+    })))
+}
+
+#[tactic(auto, unfolding(crate::specs::Line::read_of))]
+fn read(mut fields: Fields) -> Option<Command>
+    ensures { result ≡ read_of (words fields.entry.rest.now) }
+{
+    let (node, thread, segment, offset) = spot(&mut fields)?;
+    let len = fields.u32()?;
+    fields.end()?;
+    Some(Command::Step(Event::Read {
+        node,
+        thread,
+        segment,
+        offset,
+        len,
+    }))
+}
+
+#[tactic(auto, unfolding(crate::specs::Line::end_of))]
+fn end(mut fields: Fields) -> Option<Command>
+    ensures { result ≡ end_of (words fields.entry.rest.now) }
+{
+    let (node, thread) = thread(&mut fields)?;
+    fields.end()?;
+    Some(Command::End { node, thread })
+}
+
+#[tactic(auto, unfolding(crate::specs::Line::show_of))]
+fn show(mut fields: Fields) -> Option<Command>
+    ensures { result ≡ show_of (words fields.entry.rest.now) }
+{
+    let node = fields.u16()?;
+    let segment = fields.u32()?;
+    let page = fields.u32()?;
+    fields.end()?;
+    Some(Command::Show {
+        node,
+        segment,
+        page,
+    })
+}
+
+/// A node alone.
+#[tactic(auto, unfolding(crate::specs::Line::node_of))]
+fn node(mut fields: Fields) -> Option<u16>
+    ensures { result ≡ node_of (words fields.entry.rest.now) }
+{
+    let node = fields.u16()?;
+    fields.end()?;
+    Some(node)
+}
+
+/// What the words of a line ask for.
+#[tactic(auto, unfolding(crate::specs::Line::command_of))]
+fn command(alloc: Global, mut fields: Fields) -> Result<Option<Command>, AllocError>
+    ensures value { IfOk result (λ command. command ≡ command_of (words fields.entry.rest.now)) }
+    ensures memory { OnErr result (IsTrue (is_open_ended (words fields.entry.rest.now))) }
+{
+    let Some(keyword) = fields.word() else {
+        return Ok(None);
+    };
+    if keyword == b"begin".as_slice() {
+        return begin(alloc, fields);
+    }
+    if keyword == b"range".as_slice() {
+        return Ok(range(fields));
+    }
+    if keyword == b"write".as_slice() {
+        return write(alloc, fields);
+    }
+    if keyword == b"read".as_slice() {
+        return Ok(read(fields));
+    }
+    if keyword == b"end".as_slice() {
+        return Ok(end(fields));
+    }
+    if keyword == b"flush".as_slice() {
+        return Ok(node(fields).map(|node| Command::Flush { node }));
+    }
+    if keyword == b"log".as_slice() {
+        return Ok(node(fields).map(|node| Command::Log { node }));
+    }
+    if keyword == b"inspect".as_slice() {
+        return Ok(node(fields).map(|node| Command::Inspect { node }));
+    }
+    if keyword == b"show".as_slice() {
+        return Ok(show(fields));
+    }
+    Ok(None)
+}
+
+/// What a line asks for, without what ends it. Only `begin` and `write` take memory.
+#[tactic(auto, unfolding(crate::specs::Line::line_of))]
+pub fn parse(alloc: Global, line: &[u8]) -> Result<Line, AllocError>
+    ensures value { IfOk result (λ read. read ≡ line_of line.now) }
+    ensures memory { OnErr result (IsTrue (is_open_ended (words line.now))) }
+{
+    if let [] | [b'#', ..] = line {
+        return Ok(Line::Skipped);
+    }
+    match command(alloc, Fields::new(line))? {
+        None => Ok(Line::NotUnderstood),
+        Some(command) => Ok(Line::Command(command)),
+    }
+}

@@ -1,0 +1,133 @@
+use super::{LONGEST, run_script};
+use crate::areas::zero_areas;
+use crate::inspector::inspect;
+use lc_record::Geometry;
+use std::process::Abort;
+use std::test::*;
+
+// What a script prints on a new store of so many pages and log words, and its status.
+fn check_run(
+    rt: &(impl Abort + AllocGlobal),
+    pages: u32,
+    words: u32,
+    script: &[u8],
+    want: &str,
+    want_status: u8,
+) -> Result<(), Fail> {
+    let alloc = rt.alloc();
+    let Some(geometry) = Geometry::new(1, 1, 1, pages, words) else {
+        panic!(rt; "no such store");
+    };
+    let areas = zero_areas(alloc, &geometry)?;
+    let mut reader = script;
+    let mut text = Vec::new(alloc);
+    let status = run_script(alloc, geometry, areas, &mut reader, &mut text)?;
+    assert_eq!(rt; text.as_slice(), want.as_bytes(), "{want}");
+    assert_eq!(rt; status, want_status);
+    Ok(())
+}
+
+const ZERO_LINE: &str = "00000000000000000000000000000000\n";
+
+#[test]
+fn one_commit(rt: HostRuntime) -> Result<(), Fail> {
+    let script =
+        b"begin 0 0 1\nrange 0 0 1 3 5\nwrite 0 0 1 3 68656c6c6f\nend 0 0\nflush 0\nlog 0\ninspect 0\nshow 0 1 0\n";
+    let mut want =
+        "ok\nok\nok\nclosed 0 8\nacked 1\na501010008000000\n0000010000000000\n0100000000000000\n0100000000000000\n0100000003000000\n0500000000000000\n68656c6c6f000000\n0800000000000000\n0 8 node 0 locks 1:1 ranges 1:3+5\n00000068656c6c6f0000000000000000\n".to_string(
+            rt.alloc(),
+        )?;
+    for _ in 0..15 {
+        want.push_str(ZERO_LINE)?;
+    }
+    check_run(&rt, 1, 64, script, want.as_str(), 0)
+}
+
+#[test]
+fn an_empty_script(rt: HostRuntime) -> Result<(), Fail> {
+    check_run(&rt, 1, 64, b"", "", 0)
+}
+
+#[test]
+fn a_page_of_a_new_store(rt: HostRuntime) -> Result<(), Fail> {
+    let mut want = String::new(rt.alloc());
+    for _ in 0..16 {
+        want.push_str(ZERO_LINE)?;
+    }
+    check_run(&rt, 1, 64, b"show 0 1 0", want.as_str(), 0)
+}
+
+#[test]
+fn a_line_that_is_not_understood(rt: HostRuntime) -> Result<(), Fail> {
+    check_run(
+        &rt,
+        1,
+        64,
+        b"jump 1\nflush 0\n",
+        "line 1: not understood\n",
+        2,
+    )?;
+    check_run(
+        &rt,
+        1,
+        64,
+        b"# first\r\nbegin 0 0 2\n\n\xff\xfe\n",
+        "refused Unknown\nline 4: not understood\n",
+        2,
+    )
+}
+
+#[test]
+fn refusals_of_one_transaction(rt: HostRuntime) -> Result<(), Fail> {
+    let script =
+        b"end 0 0\nbegin 0 0\nbegin 0 0 1\nrange 0 0 1 0 1\nend 0 0\nflush 0\nbegin 0 0 1\nrange 0 0 1 0 0\nrange 0 0 1 255 2\nwrite 0 0 1 0 00\n";
+    let want =
+        "refused OutOfTurn\nok\nrefused OutOfTurn\nrefused NotLocked\nended\nnothing\nok\nrefused EmptyRange\nrefused OutOfSegment\nrefused NoRange\n";
+    check_run(&rt, 1, 64, script, want, 1)?;
+    let script =
+        b"begin 0 0 1\nrange 0 0 1 2 2\nrange 0 0 1 4 2\nwrite 0 0 1 1 aabb\nwrite 0 0 1 2 AAbb\nread 0 0 1 1 4\nread 0 0 1 255 2\nread 0 1 1 0 1\nend 0 0\nflush 0\nflush 0\nflush 1\n";
+    let want =
+        "ok\nok\nrefused TooManyRanges\nrefused NoRange\nok\nbytes 00aabb00\nrefused OutOfSegment\nrefused Unknown\nclosed 0 8\nacked 1\nnothing\nrefused Unknown\n";
+    check_run(&rt, 1, 64, script, want, 1)
+}
+
+#[test]
+fn a_full_log(rt: HostRuntime) -> Result<(), Fail> {
+    let mut script = String::new(rt.alloc());
+    let mut want = String::new(rt.alloc());
+    for place in ["0", "8", "16", "24", "32", "40", "48", "56"] {
+        script.push_str("begin 0 0 1\nrange 0 0 1 0 8\nend 0 0\n")?;
+        want.push_str("ok\nok\nclosed ")?;
+        want.push_str(place)?;
+        want.push_str(" 8\n")?;
+    }
+    script.push_str("begin 0 0 1\nrange 0 0 1 0 1\nend 0 0\nflush 0\nend 0 0\n")?;
+    want.push_str("ok\nok\nrefused Full 64 8\nacked 8\nrefused Full 64 8\n")?;
+    check_run(&rt, 1, 64, script.as_str().as_bytes(), want.as_str(), 1)
+}
+
+#[test]
+fn the_longest_script(rt: HostRuntime) -> Result<(), Fail> {
+    let mut script = vec![in rt.alloc(); b'#'; LONGEST]?;
+    check_run(&rt, 1, 64, script.as_slice(), "", 0)?;
+    script.push(b'\n')?;
+    check_run(&rt, 1, 64, script.as_slice(), "script too long\n", 2)
+}
+
+#[test]
+fn records_of_bytes(rt: HostRuntime) -> Result<(), Fail> {
+    let log = [
+        0xa5, 1, 1, 0, 8, 0, 0, 0, 0, 0, 1, 0, 0, 0, 0, 0, 1, 0, 0, 0, 0, 0, 0, 0, 1, 0, 0, 0, 0,
+        0, 0, 0, 1, 0, 0, 0, 3, 0, 0, 0, 5, 0, 0, 0, 0, 0, 0, 0, 0x68, 0x65, 0x6c, 0x6c, 0x6f, 0,
+        0, 0, 8, 0, 0, 0, 0, 0, 0, 0,
+    ];
+    let mut text = Vec::new(rt.alloc());
+    inspect(rt.alloc(), &log, &mut text)?;
+    inspect(rt.alloc(), &log[..63], &mut text)?;
+    inspect(rt.alloc(), &log[8..], &mut text)?;
+    assert_eq!(rt;
+        text.as_slice(),
+        b"0 8 node 0 locks 1:1 ranges 1:3+5\n".as_slice()
+    );
+    Ok(())
+}
