@@ -1,1 +1,3 @@
 pub mod Overlaid
+pub mod Images
+pub mod StopLemmas

@@ -6,6 +6,10 @@ use Rattle.lc_disk.specs.declared.mem_area.MemArea.{MemArea}
 abbrev pub memory_now : MemArea → List ℕ
 memory_now m = m.bytes.items
 
+-- what stood there after the last sync
+abbrev pub memory_stable : MemArea → List ℕ
+memory_stable m = m.stable.items
+
 -- which positions are dirty
 abbrev pub memory_dirty : MemArea → ℕ → Bool
 memory_dirty m k = slice_index_or m.dirty.items k false

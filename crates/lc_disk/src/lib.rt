@@ -2,12 +2,21 @@
 #![tactic(auto)]
 
 mod area;
+mod choice;
 mod device_fault;
+mod failures;
+mod fuse;
 mod mem_area;
+mod stoppable;
+mod when;
 
 pub use area::Area;
+pub use choice::Choice;
 pub use device_fault::DeviceFault;
+pub use fuse::Fuse;
 pub use mem_area::MemArea;
+pub use stoppable::Stoppable;
+pub use when::When;
 
 #[cfg(test)]
 mod tests;

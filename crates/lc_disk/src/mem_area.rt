@@ -1,29 +1,48 @@
 //! An area in memory, which never fails.
-ghost use Rattle.std.specs.Prelude.{◌≡◌, ◌+◌, ◌≤◌, ℕ, true, false, length, replicate, slice_index_or, IfOk};
-ghost use Rattle.lc_disk.specs.Area.{IsSameOutside, BecomeDirty, overlaid};
+ghost use Rattle.std.specs.Prelude.{◌≡◌, ◌+◌, ◌≤◌, ◌<◌, ℕ, true, false, length, replicate, slice_index_or, take, drop, Ok, IfOk};
+ghost use Rattle.lc_disk.specs.Area.{IsImage, IsSameOutside, BecomeDirty, overlaid};
+ghost use Rattle.lc_disk.specs.Stop.{left_by_stop};
 
-use crate::{Area, DeviceFault};
+use crate::{Area, Choice, DeviceFault, Stoppable};
 use std::alloc::{AllocError, Global};
 
-/// Bytes in memory, always honest: what a read gives, and which positions were written since the last sync.
+/// Bytes in memory, always honest: what a read gives, what stood there after the last sync, and which positions were
+/// written since.
 #[derive(Debug, Drop)]
 pub struct MemArea {
     bytes: Vec<u8>,
+    stable: Vec<u8>,
     dirty: Vec<bool>,
-    ghost same_length: { length dirty.items ≡ length bytes.items },
+    ghost same_stable: { length stable.items ≡ length bytes.items },
+    ghost same_dirty: { length dirty.items ≡ length bytes.items },
 }
 
 impl MemArea {
-    ghost use Rattle.lc_disk.specs.MemArea.{memory_now, memory_dirty};
+    ghost use Rattle.lc_disk.specs.MemArea.{memory_now, memory_stable, memory_dirty};
 
     /// Zeros, all of them stable.
     pub fn new(alloc: Global, len: usize) -> Result<Self, AllocError>
         ensures bytes { IfOk result (λ m. memory_now m ≡ replicate len 0) }
+        ensures stable { IfOk result (λ m. memory_stable m ≡ replicate len 0) }
         ensures clean { IfOk result (λ m. (k : ℕ) → memory_dirty m k ≡ false) }
     {
         Ok(MemArea {
             bytes: vec![in alloc; 0; len]?,
+            stable: vec![in alloc; 0; len]?,
             dirty: vec![in alloc; false; len]?,
+        })
+    }
+
+    /// These bytes, all of them stable.
+    pub fn from_bytes(alloc: Global, bytes: &[u8]) -> Result<Self, AllocError>
+        ensures bytes { IfOk result (λ m. memory_now m ≡ bytes.now) }
+        ensures stable { IfOk result (λ m. memory_stable m ≡ bytes.now) }
+        ensures clean { IfOk result (λ m. (k : ℕ) → memory_dirty m k ≡ false) }
+    {
+        Ok(MemArea {
+            bytes: bytes.to_vec(alloc)?,
+            stable: bytes.to_vec(alloc)?,
+            dirty: vec![in alloc; false; bytes.len()]?,
         })
     }
 
@@ -33,9 +52,31 @@ impl MemArea {
     {
         self.bytes.as_slice()
     }
+
+    /// Makes `len` positions from one on dirty, and changes no byte.
+    pub fn spoil(&mut self, at: usize, len: usize)
+        requires { at + len ≤ length (memory_now self.old) }
+        ensures same { memory_now self.new ≡ memory_now self.old }
+        ensures same_stable { memory_stable self.new ≡ memory_stable self.old }
+        ensures dirtied { BecomeDirty at len (memory_dirty self.old) (memory_dirty self.new) }
+    {
+        mark(&mut self.dirty, at, len);
+    }
+
+    // Makes each byte stable as it reads.
+    fn make_stable(&mut self)
+        ensures same { memory_now self.new ≡ memory_now self.old }
+        ensures stable { memory_stable self.new ≡ memory_now self.old }
+        ensures clean { (k : ℕ) → memory_dirty self.new k ≡ false }
+    {
+        self.stable.copy_from_slice(&self.bytes);
+        self.dirty.fill(false);
+    }
 }
 
 impl Area for MemArea {
+    ghost use Rattle.lc_disk.specs.MemArea.{memory_now, memory_stable, memory_dirty};
+
     ghost now = { λ m. m.bytes.items };
 
     ghost dirty = { λ m k. slice_index_or m.dirty.items k false };
@@ -48,24 +89,59 @@ impl Area for MemArea {
         self.bytes.len()
     }
 
-    fn read(&mut self, at: usize, buffer: &mut [u8]) -> Result<(), DeviceFault> {
+    fn read(&mut self, at: usize, buffer: &mut [u8]) -> Result<(), DeviceFault>
+        requires { at + length buffer.old ≤ length (memory_now self.old) }
+        ensures done { result ≡ Ok tt }
+        ensures bytes { buffer.new ≡ take (length buffer.old) (drop at (memory_now self.old)) }
+        ensures same { self.new ≡ self.old }
+    {
         buffer.copy_from_slice(&self.bytes[at..at + buffer.len()]);
         Ok(())
     }
 
-    fn write_at(&mut self, at: usize, bytes: &[u8]) -> Result<(), DeviceFault> {
+    fn write_at(&mut self, at: usize, bytes: &[u8]) -> Result<(), DeviceFault>
+        requires { at + length bytes.now ≤ length (memory_now self.old) }
+        ensures done { result ≡ Ok tt }
+        ensures written { memory_now self.new ≡ overlaid (memory_now self.old) at bytes.now }
+        ensures torn { IsSameOutside at (length bytes.now) (memory_now self.old) (memory_now self.new) }
+        ensures dirtied { BecomeDirty at (length bytes.now) (memory_dirty self.old) (memory_dirty self.new) }
+        ensures same_stable { memory_stable self.new ≡ memory_stable self.old }
+    {
         overlay(&mut self.bytes, at, bytes);
         mark(&mut self.dirty, at, bytes.len());
         Ok(())
     }
 
-    fn sync(&mut self) -> Result<(), DeviceFault> {
-        self.dirty.fill(false);
+    fn sync(&mut self) -> Result<(), DeviceFault>
+        ensures done { result ≡ Ok tt }
+        ensures same { memory_now self.new ≡ memory_now self.old }
+        ensures stable { memory_stable self.new ≡ memory_now self.old }
+        ensures clean { (k : ℕ) → memory_dirty self.new k ≡ false }
+    {
+        self.make_stable();
         Ok(())
     }
 
     fn faults(&self) -> u64 {
         0
+    }
+}
+
+impl Stoppable for MemArea {
+    ghost use Rattle.lc_disk.specs.MemArea.{memory_now, memory_stable, memory_dirty};
+
+    /// Takes one choice for each dirty position, in ascending order; the last choice holds for the rest, and with
+    /// none each byte is kept.
+    fn stop(&mut self, choices: &[Choice])
+        ensures len { length (memory_now self.new) ≡ length (memory_now self.old) }
+        ensures chosen { (k : ℕ) → slice_index_or (memory_now self.new) k 0
+            ≡ left_by_stop (memory_now self.old) (memory_stable self.old) (memory_dirty self.old) choices.now k }
+        ensures image { IsImage (memory_now self.old) (memory_dirty self.old) (memory_now self.new) }
+        ensures stable { memory_stable self.new ≡ memory_now self.new }
+        ensures clean { (k : ℕ) → memory_dirty self.new k ≡ false }
+    {
+        choose(&mut self.bytes, &self.stable, &self.dirty, choices);
+        self.make_stable();
     }
 }
 
@@ -85,5 +161,25 @@ fn mark(dirty: &mut [bool], at: usize, len: usize)
 {
     for position in at..at + len {
         dirty[position] = true;
+    }
+}
+
+// Takes one choice for each dirty position; the last choice holds for the rest.
+fn choose(bytes: &mut [u8], stable: &[u8], dirty: &[bool], choices: &[Choice])
+    requires stable { length stable.now ≡ length bytes.old }
+    requires dirty { length dirty.now ≡ length bytes.old }
+    ensures len { length bytes.new ≡ length bytes.old }
+    ensures chosen { (k : ℕ) → slice_index_or bytes.new k 0
+        ≡ left_by_stop bytes.old stable.now (λ i. slice_index_or dirty.now i false) choices.now k }
+    ensures fits { (k : ℕ) → slice_index_or bytes.new k 0 < 256 }
+{
+    let last = choices.len().saturating_sub(1);
+    let mut next = 0;
+    for position in 0..bytes.len() {
+        if dirty[position] {
+            let choice = choices.get(next).copied().unwrap_or(Choice::Keep);
+            bytes[position] = choice.left_of(bytes[position], stable[position]);
+            next = (next + 1).min(last);
+        }
     }
 }

@@ -1,2 +1,4 @@
 pub mod WalkLemmas
 pub mod LogLemmas
+pub mod StateLemmas
+pub mod ResetLemmas

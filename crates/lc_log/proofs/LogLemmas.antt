@@ -1,19 +1,17 @@
 -- The text of a log, and of a log at rest.
-use Rattle.std.proofs.Common.{◌≡◌, ◌≢◌, ℕ, ◌+◌, ◌*◌, ◌≤◌, ◌%◌, List, [], ◌∷◌, ◌++◌, length, drop, slice_index, refl, sym, ◌∙◌, ap, ap₂, arith, append_assoc, length-append}
+use Rattle.std.proofs.Common.{◌≡◌, ◌≢◌, ℕ, ◌≤◌, ◌%◌, Bool, false, subst, List, [], ◌∷◌, ◌++◌, length, slice_index, refl, sym, ◌∙◌, ap, ap₂, arith, append_assoc}
 use Rattle.std.proofs.lemmas.List.{append_cancel_left}
 use Rattle.std.specs.List.{AllByRecursion}
 use Rattle.std.specs.Int.{w64, from_le_bytes}
-use Rattle.lc_disk.specs.Area.{overlaid}
 use Rattle.lc_record.specs.Words.{words_of, bytes_of, AreWords}
 use Rattle.lc_record.specs.Record.{spelling, IsRecord}
 use Rattle.lc_record.specs.Codec.{BeginsNoRecord}
 use Rattle.lc_record.specs.declared.record.Record.{Record}
-use Rattle.lc_record.proofs.WordLemmas.{words_of-bytes_of, bytes_of-append, length-bytes_of, AreWords-append}
+use Rattle.lc_record.proofs.WordLemmas.{words_of-bytes_of, AreWords-append}
 use Rattle.lc_record.proofs.SpellingLemmas.{AreWords-spelling, closed_begins_none, nothing_begins_none}
 use Rattle.lc_record.proofs.RecordLemmas.{one_reading}
-use Rattle.lc_disk.proofs.Overlaid.{overlaid_behind}
 use Rattle.lc_log.specs.LogText.{IsWhole, IsLogText, joined}
-use Rattle.lc_log.specs.NodeLog.{IsGroup, IsAtRest}
+use Rattle.lc_log.specs.NodeLog.{IsAtRest}
 
 pub whole_record : (r : Record) → IsWhole r → IsRecord r (spelling r)
 whole_record r w = record { canonical = w.canonical; short = w.short; spelled = refl }
@@ -36,14 +34,18 @@ pub joined_words : (rs : List Record) → AllByRecursion IsWhole rs → AreWords
 joined_words [] ws = tt
 joined_words (r ∷ rs) ws = AreWords-append (spelling r) (joined rs) (AreWords-spelling r ws.0.canonical ws.0.short) (joined_words rs ws.1)
 
--- the words of a log at rest are the text of its stable records
-pub text_at_rest : (now : List ℕ) (end : ℕ) (stable : List Record) → IsAtRest now end stable → IsLogText (words_of now) stable
-text_at_rest now end stable rest = record {
-  rest = words_of (rest.gate ∷ rest.behind);
-  text = ap words_of rest.text ∙ words_of-bytes_of (joined stable) (rest.gate ∷ rest.behind) (joined_words stable rest.whole);
-  whole = rest.whole;
-  end = rest_begins_none rest.gate rest.behind rest.closed;
+-- the records, and then a closed gate
+pub closed_text : (stable : List Record) (gate : ℕ) (behind : List ℕ) → AllByRecursion IsWhole stable → gate % 256 ≢ 165 → IsLogText (words_of (bytes_of (joined stable) ++ gate ∷ behind)) stable
+closed_text stable gate behind whole closed = record {
+  rest = words_of (gate ∷ behind);
+  text = words_of-bytes_of (joined stable) (gate ∷ behind) (joined_words stable whole);
+  whole = whole;
+  end = rest_begins_none gate behind closed;
 }
+
+-- the words of a log at rest are the text of its stable records
+pub text_at_rest : (now : List ℕ) (dirty : ℕ → Bool) (end : ℕ) (stable : List Record) → IsAtRest now dirty end stable → IsLogText (words_of now) stable
+text_at_rest now dirty end stable rest = subst (λ (l : List ℕ). IsLogText (words_of l) stable) (sym rest.text) (closed_text stable rest.gate rest.behind rest.whole rest.closed)
 
 pub joined-append : (rs qs : List Record) → joined (rs ++ qs) ≡ joined rs ++ joined qs
 joined-append [] qs = refl
@@ -53,41 +55,18 @@ pub whole-append : (rs qs : List Record) → AllByRecursion IsWhole rs → AllBy
 whole-append [] qs a b = b
 whole-append (r ∷ rs) qs a b = (a.0, whole-append rs qs a.1 b)
 
-seven_zeros : List ℕ
-seven_zeros = 0 ∷ 0 ∷ 0 ∷ 0 ∷ 0 ∷ 0 ∷ 0 ∷ []
-
--- a group and a zero word, laid over what stands behind the stable records
-pub at_rest_more : (now now' : List ℕ) (end : ℕ) (stable records : List Record) (words : List ℕ) → IsAtRest now end stable → IsGroup words records →
-    now' ≡ overlaid now (8 * end) (bytes_of (words ++ 0 ∷ [])) → IsAtRest now' (end + length words) (stable ++ records)
-unfolding seven_zeros
-at_rest_more now now' end stable records words rest group e =
-    let bytes : List ℕ = bytes_of (words ++ 0 ∷ []) in
-    let behind : List ℕ = drop (length bytes) (rest.gate ∷ rest.behind) in
-    let long : length (bytes_of (joined stable)) ≡ 8 * end = length-bytes_of (joined stable) ∙ ap (λ (n : ℕ). 8 * n) rest.size in
-    let both : bytes_of (joined (stable ++ records)) ≡ bytes_of (joined stable) ++ bytes_of (joined records) =
-    ap bytes_of (joined-append stable records) ∙ bytes_of-append (joined stable) (joined records) in
-    let written : bytes ≡ bytes_of (joined records) ++ 0 ∷ seven_zeros =
-    bytes_of-append words (0 ∷ []) ∙ ap (λ (l : List ℕ). bytes_of l ++ 0 ∷ seven_zeros) group.text in
-    record {
-      gate = 0;
-      behind = seven_zeros ++ behind;
-      text =
-          e
-          ∙ ap (λ (l : List ℕ). overlaid l (8 * end) bytes) rest.text
-          ∙ overlaid_behind (bytes_of (joined stable)) (rest.gate ∷ rest.behind) bytes (8 * end) long
-          ∙ ap (λ (l : List ℕ). bytes_of (joined stable) ++ (l ++ behind)) written
-          ∙ ap (λ (l : List ℕ). bytes_of (joined stable) ++ l) (append_assoc (bytes_of (joined records)) (0 ∷ seven_zeros) behind)
-          ∙ sym (append_assoc (bytes_of (joined stable)) (bytes_of (joined records)) (0 ∷ (seven_zeros ++ behind)))
-          ∙ ap (λ (l : List ℕ). l ++ 0 ∷ (seven_zeros ++ behind)) (sym both);
-      closed = λ h. absurd (omega (arith, h));
-      whole = whole-append stable records rest.whole group.whole;
-      size = omega (arith, ap length (joined-append stable records), length-append (joined stable) (joined records), rest.size, ap length group.text);
-    }
-
 -- an area whose first byte is no open gate holds no record
-pub at_rest_none : (now : List ℕ) → 8 ≤ length now → slice_index now 0 % 256 ≢ 165 → IsAtRest now 0 []
-at_rest_none [] long closed = absurd (omega arith)
-at_rest_none (gate ∷ behind) long closed = record { gate = gate; behind = behind; text = refl; closed = closed; whole = tt; size = refl }
+pub at_rest_none : (now : List ℕ) (dirty : ℕ → Bool) → 8 ≤ length now → slice_index now 0 % 256 ≢ 165 → dirty 0 ≡ false → IsAtRest now dirty 0 []
+at_rest_none [] dirty long closed clean = absurd (omega arith)
+at_rest_none (gate ∷ behind) dirty long closed clean = record {
+  gate = gate;
+  behind = behind;
+  text = refl;
+  closed = closed;
+  whole = tt;
+  size = refl;
+  clean = λ k h. subst (λ (n : ℕ). dirty n ≡ false) (omega (arith, h)) clean;
+}
 
 -- no record is a prefix of another, so the rests are the same too
 same_first : (r q : Record) (x y : List ℕ) → IsWhole r → IsWhole q → spelling r ++ x ≡ spelling q ++ y → (r ≡ q) × (x ≡ y)

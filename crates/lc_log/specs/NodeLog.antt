@@ -1,10 +1,11 @@
--- What a log's area reads.
-use Rattle.std.specs.Prelude.{◌≡◌, ◌≢◌, ℕ, ◌%◌, ◌<◌, ◌≤◌, true, List, ◌∷◌, ◌++◌, length}
+-- What a log's area reads in each state of its calls, and what a stop may leave of it.
+use Rattle.std.specs.Prelude.{◌≡◌, ◌≢◌, ◌⊎◌, ℕ, ◌+◌, ◌*◌, ◌%◌, ◌<◌, Bool, true, false, List, [], ◌∷◌, ◌++◌, length, drop}
 use Rattle.std.specs.List.{AllByRecursion}
+use Rattle.lc_disk.specs.Area.{IsImage}
 use Rattle.lc_disk.specs.declared.area.Area.{Ghosts}
-use Rattle.lc_record.specs.Words.{bytes_of}
+use Rattle.lc_record.specs.Words.{words_of, bytes_of}
 use Rattle.lc_record.specs.declared.record.Record.{Record}
-use Rattle.lc_log.specs.LogText.{IsWhole, joined}
+use Rattle.lc_log.specs.LogText.{IsWhole, IsLogText, joined}
 
 -- these words are one record or more
 pub record IsGroup (words : List ℕ) (records : List Record) : Type 0 where
@@ -12,21 +13,86 @@ pub record IsGroup (words : List ℕ) (records : List Record) : Type 0 where
   pub whole : AllByRecursion IsWhole records
   pub some : 0 < length records
 
--- the stable records, and then a closed gate
-pub record IsAtRest (now : List ℕ) (end : ℕ) (stable : List Record) : Type 0 where
+-- the bytes of records behind their first gate
+abbrev pub behind_gate : List Record → List ℕ
+behind_gate records = drop 1 (bytes_of (joined records))
+
+-- the stable records, and then a closed gate, none of it dirty
+pub record IsAtRest (now : List ℕ) (dirty : ℕ → Bool) (end : ℕ) (stable : List Record) : Type 0 where
   pub gate : ℕ
   pub behind : List ℕ
   pub text : now ≡ bytes_of (joined stable) ++ gate ∷ behind
   pub closed : gate % 256 ≢ 165
   pub whole : AllByRecursion IsWhole stable
   pub size : length (joined stable) ≡ end
+  pub clean : (k : ℕ) → k < 8 * end + 1 → dirty k ≡ false
 
--- the same of an area that is honest; `a` is what contracts see of it
-abbrev pub IsIdle : {D : Type 0} → Ghosts D → D → ℕ → List Record → Type 0
-IsIdle a area end stable = a.honest area ≡ true → IsAtRest (a.now area) end stable
+-- the same, with a group of so many words behind the closed gate, and a closed gate behind the group
+pub record IsStaged (now : List ℕ) (dirty : ℕ → Bool) (end words : ℕ) (stable group : List Record) : Type 0 where
+  pub at_rest : IsAtRest now dirty end stable
+  pub next_gate : ℕ
+  pub after : List ℕ
+  pub behind : at_rest.behind ≡ behind_gate group ++ next_gate ∷ after
+  pub next_closed : next_gate % 256 ≢ 165
+  pub whole : AllByRecursion IsWhole group
+  pub some : 0 < length group
+  pub size : length (joined group) ≡ words
+
+-- the stable records, a gate of this byte with the group behind it, and a closed gate; of these the first gate alone may be dirty
+pub record IsOpening (gate : ℕ) (now : List ℕ) (dirty : ℕ → Bool) (end words : ℕ) (stable group : List Record) : Type 0 where
+  pub next_gate : ℕ
+  pub after : List ℕ
+  pub text : now ≡ bytes_of (joined stable) ++ gate ∷ (behind_gate group ++ next_gate ∷ after)
+  pub next_closed : next_gate % 256 ≢ 165
+  pub stable_whole : AllByRecursion IsWhole stable
+  pub whole : AllByRecursion IsWhole group
+  pub some : 0 < length group
+  pub stable_size : length (joined stable) ≡ end
+  pub size : length (joined group) ≡ words
+  pub clean : (k : ℕ) → k < 8 * (end + words) + 1 → k ≢ 8 * end → dirty k ≡ false
+
+-- there is no record, or the first gate is closed over all of them
+abbrev pub IsShut : List ℕ → (ℕ → Bool) → List Record → Type 0
+IsShut now dirty records = (IsAtRest now dirty 0 [] × (records ≡ [])) ⊎ ((gate : ℕ) × (gate % 256 ≢ 165) × IsOpening gate now dirty 0 (length (joined records)) [] records)
+
+-- no position is dirty
+abbrev pub IsClean : (ℕ → Bool) → Type 0
+IsClean dirty = (k : ℕ) → dirty k ≡ false
+
+-- the words of each image have this
+abbrev pub EachImage : List ℕ → (ℕ → Bool) → (List ℕ → Type 0) → Type 0
+EachImage now dirty P = (image : List ℕ) → IsImage now dirty image → P (words_of image)
+
+-- the words are the text of the stable records, or of these and the whole group
+abbrev pub IsWithOrWithout : List Record → List Record → List ℕ → Type 0
+IsWithOrWithout stable group words = IsLogText words stable ⊎ IsLogText words (stable ++ group)
+
+-- The same of an area that is honest; `a` is what contracts see of it.
+module _ {D : Type 0} (a : Ghosts D) (area : D) where
+  -- the words of whatever a stop leaves have this
+  abbrev pub LeavesOnly : (List ℕ → Type 0) → Type 0
+  LeavesOnly P = a.honest area ≡ true → EachImage (a.now area) (a.dirty area) P
+
+  abbrev pub IsIdle : ℕ → List Record → Type 0
+  IsIdle end stable = a.honest area ≡ true → IsAtRest (a.now area) (a.dirty area) end stable
+
+  abbrev pub IsWritten : ℕ → ℕ → List Record → List Record → Type 0
+  IsWritten end words stable group = a.honest area ≡ true → IsStaged (a.now area) (a.dirty area) end words stable group
+
+  abbrev pub IsSynced : ℕ → ℕ → List Record → List Record → Type 0
+  IsSynced end words stable group = a.honest area ≡ true → IsStaged (a.now area) (a.dirty area) end words stable group × IsClean (a.dirty area)
+
+  abbrev pub IsOpened : ℕ → ℕ → List Record → List Record → Type 0
+  IsOpened end words stable group = a.honest area ≡ true → IsOpening 165 (a.now area) (a.dirty area) end words stable group
+
+  abbrev pub IsClosing : List Record → Type 0
+  IsClosing records = a.honest area ≡ true → IsShut (a.now area) (a.dirty area) records
+
+  -- nothing that is read or dirty has changed since this area
+  abbrev pub IsUntouched : D → Type 0
+  IsUntouched old = a.honest area ≡ true → (a.now area ≡ a.now old) × ((k : ℕ) → a.dirty area k ≡ a.dirty old k)
 
 -- the same device, later
 pub record Continues {D : Type 0} (a : Ghosts D) (old new : D) : Type 0 where
   pub honest : a.honest new ≡ a.honest old
   pub same_length : length (a.now new) ≡ length (a.now old)
-  pub counted : a.failures old ≤ a.failures new

@@ -1,15 +1,28 @@
-//! One node's log: after a flush it reads as the stable records and the whole group behind them.
+//! One node's log: whatever a stop leaves of it reads as the stable records, or as these and the whole group.
 #![tactic(auto)]
 
+mod closing;
+mod failed;
 mod found;
+mod idle;
 mod laws;
-mod node_log;
+mod opened;
+mod synced;
 mod walking;
+mod written;
 
+pub use closing::Closing;
+pub use failed::Failed;
 pub use found::Walk;
-pub use laws::{begins_at_rest, one_text};
-pub use node_log::{Failed, NodeLog};
+pub use idle::Idle;
+pub use laws::{begins_at_rest, images_at_gate, images_at_rest, one_text};
+pub use opened::Opened;
+pub use synced::Synced;
 pub use walking::{walk, words_in};
+pub use written::Written;
+
+/// A node's log. It is made, and waits, at rest; the calls of a flush and of a reset lead through a type each.
+pub type NodeLog<D> = Idle<D>;
 
 #[cfg(test)]
 mod tests;

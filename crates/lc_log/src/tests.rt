@@ -1,5 +1,9 @@
+ghost use Rattle.std.specs.Prelude.{◌≡◌, ◌+◌, ◌≤◌, length, IfOk};
+ghost use Rattle.lc_disk.specs.When.{IsCountable};
+
 use super::*;
-use lc_record::encode;
+use lc_disk::{Area, Choice, Fuse, MemArea, Stoppable, When};
+use lc_record::{Group, encode};
 use std::alloc::Global;
 use std::process::Abort;
 use std::test::*;
@@ -76,4 +80,215 @@ fn the_last_word_must_be_there(rt: HostRuntime) -> Result<(), Fail> {
     finds(&rt, rt.alloc(), &HELLO[..64], 1)?;
     finds(&rt, rt.alloc(), &HELLO[..63], 0)?;
     finds(&rt, rt.alloc(), &HELLO[..56], 0)
+}
+
+// The bytes of a log of 64 words, which has a word more.
+const LOG_LEN: usize = 520;
+
+// Adds the words of the record.
+fn push_hello(group: &mut Group)
+    requires { length group.old.words + 8 ≤ group.old.room }
+    ensures len { length group.new.words ≡ length group.old.words + 8 }
+    ensures room { group.new.room ≡ group.old.room }
+{
+    group.push(0x0000_0008_0001_01a5);
+    group.push(0x1_0000);
+    group.push(1);
+    group.push(1);
+    group.push(0x3_0000_0001);
+    group.push(5);
+    group.push(0x6f_6c6c_6568);
+    group.push(8);
+}
+
+// A group of the one record.
+fn hello(alloc: Global) -> Result<Group, Fail>
+    ensures { IfOk result (λ group. length group.words ≡ 8) }
+{
+    let mut group = Group::new(alloc, 8)?;
+    push_hello(&mut group);
+    Ok(group)
+}
+
+// The positions from 1 to this one have become another byte, and no others.
+fn are_dirty(rt: &impl Abort, area: MemArea, last: usize) {
+    let mut area = area;
+    area.stop(&[Choice::Byte(0x5a)]);
+    for (position, byte) in area.bytes().iter().enumerate() {
+        assert_eq!(rt; *byte == 0x5a, 1 <= position && position <= last);
+    }
+}
+
+// A written group of the one record.
+fn written(alloc: Global) -> Result<Written<MemArea>, Fail> {
+    let group = hello(alloc)?;
+    let log = NodeLog::new(MemArea::new(alloc, LOG_LEN)?);
+    Ok(log.write_group(&group).ok().ok_or("the group is written")?)
+}
+
+#[test]
+fn a_written_group_is_dirty_and_no_record(rt: HostRuntime) -> Result<(), Fail> {
+    let alloc = rt.alloc();
+    are_dirty(&rt, written(alloc)?.area, 71);
+    let mut area = written(alloc)?.area;
+    area.stop(&[Choice::Byte(0xa5)]);
+    finds(&rt, alloc, area.bytes(), 0)?;
+    let mut area = written(alloc)?.area;
+    area.stop(&[Choice::Keep]);
+    finds(&rt, alloc, area.bytes(), 0)
+}
+
+#[test]
+fn two_records_are_one_write(rt: HostRuntime) -> Result<(), Fail> {
+    let alloc = rt.alloc();
+    let mut group = Group::new(alloc, 16)?;
+    push_hello(&mut group);
+    push_hello(&mut group);
+    let log = NodeLog::new(MemArea::new(alloc, LOG_LEN)?);
+    let Ok(written) = log.write_group(&group) else {
+        return Err(Fail::from("the group is written"));
+    };
+    are_dirty(&rt, written.area, 135);
+    Ok(())
+}
+
+// What a stop with this byte leaves of a log whose gate was opened.
+fn torn(alloc: Global, byte: u8) -> Result<MemArea, Fail> {
+    let synced = written(alloc)?
+        .sync_group()
+        .ok()
+        .ok_or("the group is synced")?;
+    let opened = synced.open_gate().ok().ok_or("the gate is opened")?;
+    let mut area = opened.area;
+    area.stop(&[Choice::Byte(byte)]);
+    Ok(area)
+}
+
+#[test]
+fn a_torn_gate_opens_the_group_or_not(rt: HostRuntime) -> Result<(), Fail> {
+    let alloc = rt.alloc();
+    for (byte, count) in [(0xa5, 1), (0x00, 0), (0x7f, 0)] {
+        let area = torn(alloc, byte)?;
+        finds(&rt, alloc, area.bytes(), count)?;
+        // The gate alone was dirty.
+        let mut wanted = HELLO;
+        wanted[0] = byte;
+        assert!(rt; area.bytes().starts_with(&wanted));
+    }
+    Ok(())
+}
+
+// A flush of the one record on a new log, of whose device these calls fail.
+fn flushed(alloc: Global, when: When) -> Result<Result<NodeLog<Fuse>, Failed<Fuse>>, Fail>
+    requires { IsCountable when }
+{
+    let group = hello(alloc)?;
+    let area = MemArea::new(alloc, LOG_LEN)?;
+    Ok(NodeLog::new(Fuse::new(area, when)).flush(&group))
+}
+
+// After a stop with this choice the area has so many records.
+fn leaves(
+    rt: &impl Abort,
+    alloc: Global,
+    area: Fuse,
+    choice: Choice,
+    count: usize,
+) -> Result<(), Fail> {
+    let mut area = area;
+    area.stop(&[choice]);
+    finds(rt, alloc, area.into_area().bytes(), count)
+}
+
+#[test]
+fn a_flush_is_four_calls(rt: HostRuntime) -> Result<(), Fail> {
+    let alloc = rt.alloc();
+    // The call that fails, and the records that each stop leaves.
+    for (call, kept, stable, open) in [(1, 0, 0, 0), (2, 0, 0, 0), (3, 0, 0, 1), (4, 1, 0, 1)] {
+        for (choice, count) in [
+            (Choice::Keep, kept),
+            (Choice::Stable, stable),
+            (Choice::Byte(0xa5), open),
+            (Choice::Byte(0), 0),
+        ] {
+            let Err(failed) = flushed(alloc, When::At(call))? else {
+                return Err(Fail::from("the call fails"));
+            };
+            assert_eq!(rt; failed.area.faults(), 1);
+            leaves(&rt, alloc, failed.area, choice, count)?;
+        }
+    }
+    let Ok(log) = flushed(alloc, When::At(5))? else {
+        return Err(Fail::from("there is no fifth call"));
+    };
+    assert_eq!(rt; log.end, 8);
+    assert_eq!(rt; log.area.faults(), 0);
+    leaves(&rt, alloc, log.area, Choice::Byte(0), 1)
+}
+
+#[test]
+fn a_reset_is_two_calls(rt: HostRuntime) -> Result<(), Fail> {
+    let alloc = rt.alloc();
+    // Behind the four calls of the flush.
+    for (choice, count) in [
+        (Choice::Keep, 1),
+        (Choice::Byte(0xa5), 1),
+        (Choice::Byte(0), 0),
+    ] {
+        let Ok(log) = flushed(alloc, When::At(5))? else {
+            return Err(Fail::from("the flush succeeds"));
+        };
+        let Err(failed) = log.reset_write() else {
+            return Err(Fail::from("the fifth call fails"));
+        };
+        assert_eq!(rt; failed.area.faults(), 1);
+        leaves(&rt, alloc, failed.area, choice, count)?;
+    }
+    for (choice, count) in [
+        (Choice::Keep, 0),
+        (Choice::Stable, 1),
+        (Choice::Byte(0xa5), 1),
+    ] {
+        let Ok(log) = flushed(alloc, When::At(6))? else {
+            return Err(Fail::from("the flush succeeds"));
+        };
+        let Ok(closing) = log.reset_write() else {
+            return Err(Fail::from("the fifth call succeeds"));
+        };
+        let Err(failed) = closing.reset_sync() else {
+            return Err(Fail::from("the sixth call fails"));
+        };
+        assert_eq!(rt; failed.area.faults(), 1);
+        leaves(&rt, alloc, failed.area, choice, count)?;
+    }
+    let Ok(log) = flushed(alloc, When::At(7))? else {
+        return Err(Fail::from("the flush succeeds"));
+    };
+    let Ok(closing) = log.reset_write() else {
+        return Err(Fail::from("the fifth call succeeds"));
+    };
+    let Ok(log) = closing.reset_sync() else {
+        return Err(Fail::from("the sixth call succeeds"));
+    };
+    assert_eq!(rt; log.end, 0);
+    leaves(&rt, alloc, log.area, Choice::Byte(0xa5), 0)
+}
+
+#[test]
+fn a_reset_of_no_record_makes_its_calls(rt: HostRuntime) -> Result<(), Fail> {
+    let alloc = rt.alloc();
+    let fuse = Fuse::new(MemArea::new(alloc, LOG_LEN)?, When::At(1));
+    let Err(failed) = NodeLog::new(fuse).reset_write() else {
+        return Err(Fail::from("the first call fails"));
+    };
+    are_dirty(&rt, failed.area.into_area(), 0);
+    let fuse = Fuse::new(MemArea::new(alloc, LOG_LEN)?, When::At(2));
+    let Ok(closing) = NodeLog::new(fuse).reset_write() else {
+        return Err(Fail::from("the first call succeeds"));
+    };
+    let Err(failed) = closing.reset_sync() else {
+        return Err(Fail::from("the second call fails"));
+    };
+    are_dirty(&rt, failed.area.into_area(), 0);
+    Ok(())
 }

@@ -16,7 +16,7 @@ use Rattle.lc_record.proofs.SpellingLemmas.{length-spelling}
 use Rattle.lc_log.specs.LogText.{joined}
 use Rattle.lc_log.proofs.LogLemmas.{joined-append}
 use Rattle.lc_log.proofs.WalkLemmas.{joined-push, whole-push}
-use Rattle.lc_disk.specs.MemArea.{memory_now}
+use Rattle.lc_disk.specs.MemArea.{memory_now, memory_dirty}
 use Rattle.lc_core.specs.History.{Entry, History, transactions, value}
 use Rattle.lc_core.specs.State.{Setting, State, is_by, is_unclosed, running_of, without}
 use Rattle.lc_core.specs.Ranges.{is_empty}
@@ -278,7 +278,7 @@ module _ (m : Setting) (w : Solo) (s : State) (h : Fits m w s) where
         (content, none)
 
     pub records_after : (words : List ℕ) → IsRecord (the_record (w.records + 1) one w.image.items) words →
-        FitsRecords (memory_now w.log.area) w.log.end (w.staged.words ++ words) (w.records + 1) w.acked (history_records m (closed_after s (running_one m w s h one is).1)) (closed_after s (running_one m w s h one is).1).history
+        FitsRecords (memory_now w.log.area) (memory_dirty w.log.area) w.log.end (w.staged.words ++ words) (w.records + 1) w.acked (history_records m (closed_after s (running_one m w s h one is).1)) (closed_after s (running_one m w s h one is).1).history
     records_after words record_is =
         let at = running_one m w s h one is in
         let t : Transaction = at.1 in

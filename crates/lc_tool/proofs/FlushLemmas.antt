@@ -1,5 +1,5 @@
 -- A whole flush: four steps, or none where nothing is staged.
-use Rattle.std.proofs.Common.{◌≡◌, ℕ, ◌+◌, ◌<◌, true, false, ◌==◌, nat_lt, List, [], ◌∷◌, ◌++◌, length, map, drop, refl, sym, ◌∙◌, ap, subst, arith, eq-eqb, ne_eqb, length-append, append-nil, inl}
+use Rattle.std.proofs.Common.{◌≡◌, Bool, ℕ, ◌+◌, ◌<◌, true, false, ◌==◌, nat_lt, List, [], ◌∷◌, ◌++◌, length, map, drop, refl, sym, ◌∙◌, ap, subst, arith, eq-eqb, ne_eqb, length-append, append-nil, inl}
 use Rattle.std.proofs.lemmas.List.{length-map}
 use Rattle.std.specs.List.{AllByRecursion}
 use Rattle.lc_record.specs.Transaction.{Transaction}
@@ -92,8 +92,8 @@ module _ (m : Setting) (w : Solo) (s : State) (h : Fits m w s) where
       } in
       subst (λ (n : ℕ). Finishes m s (FlushStep 0) (Acked n) flushed) front_is all
 
-  pub records_flushed : (now : List ℕ) (end : ℕ) → IsAtRest now end (h.records.stable ++ h.records.pending) → FitsRecords now end [] w.records w.records (history_records m flushed) flushed.history
-  records_flushed now end rest = record {
+  pub records_flushed : (now : List ℕ) (dirty : ℕ → Bool) (end : ℕ) → IsAtRest now dirty end (h.records.stable ++ h.records.pending) → FitsRecords now dirty end [] w.records w.records (history_records m flushed) flushed.history
+  records_flushed now dirty end rest = record {
     stable = h.records.stable ++ h.records.pending;
     pending = [];
     own = h.records.own;

@@ -3,7 +3,7 @@ use Rattle.std.proofs.Common.{◌≡◌, ℕ, ◌*◌, ◌<◌, Bool, true, fals
 use Rattle.std.proofs.lemmas.List.{take_at}
 use Rattle.std.specs.List.{flat_map}
 use Rattle.std.specs.Io.KnownBytes.{Appends}
-use Rattle.lc_disk.specs.MemArea.{memory_now}
+use Rattle.lc_disk.specs.MemArea.{memory_now, memory_dirty}
 use Rattle.lc_record.specs.Content.{segment_of}
 use Rattle.lc_record.specs.Words.{words_of, bytes_of}
 use Rattle.lc_record.specs.Record.{spelling}
@@ -54,7 +54,7 @@ module _ (m : Setting) (w : Solo) (s : State) (h : Fits m w s) where
   pub inspected : (held holds : Option (List ℕ)) → Inspects (words_of (memory_now w.log.area)) held holds → Appends held holds (records_text (placed 0 (stable_records m 0 s)))
   inspected held holds is =
       let same : is.0 ≡ stable_records m 0 s =
-      one_text-by (words_of (memory_now w.log.area)) is.0 h.records.stable is.1 (text_at_rest (memory_now w.log.area) w.log.end h.records.stable h.records.at_rest) ∙ sym stable_is in
+      one_text-by (words_of (memory_now w.log.area)) is.0 h.records.stable is.1 (text_at_rest (memory_now w.log.area) (memory_dirty w.log.area) w.log.end h.records.stable h.records.at_rest) ∙ sym stable_is in
       subst (λ (rs : List Record). Appends held holds (records_text (placed 0 rs))) same is.2
 
   pub image_is : segment_of 1 (image_of m 0 s) ≡ w.image.items

@@ -1,7 +1,7 @@
 -- When a store of one node, one thread and one segment fits a state of the plain machine.
 use Rattle.std.specs.Prelude.{◌≡◌, ℕ, Bool, true, false, List, [], ◌∷◌, ◌++◌, length, replicate, Option, Some, None, IsTrue, if◌then◌else◌}
 use Rattle.std.specs.List.{AllByRecursion}
-use Rattle.lc_disk.specs.MemArea.{memory_now}
+use Rattle.lc_disk.specs.MemArea.{memory_now, memory_dirty}
 use Rattle.lc_record.specs.Content.{Content, put}
 use Rattle.lc_record.specs.Transaction.{Transaction, writes_on}
 use Rattle.lc_record.specs.declared.geometry.Geometry.{Geometry}
@@ -41,12 +41,12 @@ abbrev pub IsOwn : Entry → Type 0
 IsOwn e = IsTrue (is_by 0 0 e.transaction) × (e.closed ≡ true)
 
 -- the log has the flushed records, and the others are staged
-pub record FitsRecords (now : List ℕ) (end : ℕ) (staged : List ℕ) (records acked : ℕ) (all : List Record) (history : History) : Type 0 where
+pub record FitsRecords (now : List ℕ) (dirty : ℕ → Bool) (end : ℕ) (staged : List ℕ) (records acked : ℕ) (all : List Record) (history : History) : Type 0 where
   pub stable : List Record
   pub pending : List Record
   pub own : AllByRecursion IsOwn history
   pub parts : all ≡ stable ++ pending
-  pub at_rest : IsAtRest now end stable
+  pub at_rest : IsAtRest now dirty end stable
   pub staged_text : staged ≡ joined pending
   pub whole : AllByRecursion IsWhole pending
   pub flushed : length stable ≡ acked
@@ -66,7 +66,7 @@ pub record FitsStill (m : Setting) (geometry : Geometry) (phase : Phase) (halted
 pub record Fits (m : Setting) (w : Solo) (s : State) : Type 0 where
   pub still : FitsStill m w.geometry s.phase s.halted s.place s.earlier s.flush
   pub bytes : FitsBytes w.image.items w.running (value m.start s.earlier s.history) s.running
-  pub records : FitsRecords (memory_now w.log.area) w.log.end w.staged.words w.records w.acked (history_records m s) s.history
+  pub records : FitsRecords (memory_now w.log.area) (memory_dirty w.log.area) w.log.end w.staged.words w.records w.acked (history_records m s) s.history
   pub acked : s.ack 0 ≡ w.acked
 
 -- from a store to a store, with this reply to the event

@@ -4,7 +4,7 @@ use Rattle.lc_core.specs.Machine.{Step, dropped, appended}
 use Rattle.lc_core.specs.Settled.{history_records}
 use Rattle.lc_core.specs.declared.event.Event.TheVariants.{Reserve, Close}
 use Rattle.lc_core.specs.declared.reply.Reply.TheVariants.{Ok as Accepted, Reserved}
-use Rattle.lc_disk.specs.MemArea.{memory_now}
+use Rattle.lc_disk.specs.MemArea.{memory_now, memory_dirty}
 use Rattle.lc_record.specs.Record.{IsRecord}
 use Rattle.lc_record.specs.GroupView.{GroupView}
 use Rattle.lc_record.specs.declared.record.Record.{Record}
@@ -103,7 +103,7 @@ returns c = record {
         record {
           still = h.still;
           bytes = bytes_after m w s h one c.in-Some.is some;
-          records = subst (λ (l : List ℕ). FitsRecords (memory_now w.log.area) w.log.end l (w.records + 1) w.acked (history_records m after) after.history) (sym words) records;
+          records = subst (λ (l : List ℕ). FitsRecords (memory_now w.log.area) (memory_dirty w.log.area) w.log.end l (w.records + 1) w.acked (history_records m after) after.history) (sym words) records;
           acked = h.acked;
         },
       );

@@ -1,5 +1,5 @@
 use Rattle.std.proofs.Common.{◌≡◌, ℕ, ◌<◌, true, false, List, [], length, refl, sym, ap, subst}
-use Rattle.lc_disk.specs.MemArea.{memory_now}
+use Rattle.lc_disk.specs.MemArea.{memory_now, memory_dirty}
 use Rattle.lc_record.specs.GroupView.{GroupView}
 use Rattle.lc_core.specs.State.{State}
 use Rattle.lc_core.specs.Settled.{history_records}
@@ -18,14 +18,14 @@ returns c = λ m s h.
     let after : State = flushed m w s h in
     let rest = c.in-Ok.ensures.flushed h.records.stable h.records.pending (λ honest. h.records.at_rest) (record { text = h.records.staged_text; whole = h.records.whole; some = some }) refl in
     let none : c.clear.new.self.words ≡ [] = ap (λ (g : GroupView). g.words) c.clear.ensures in
-    let records = records_flushed m w s h (memory_now c.in-Ok.log.area) c.in-Ok.log.end rest in
+    let records = records_flushed m w s h (memory_now c.in-Ok.log.area) (memory_dirty c.in-Ok.log.area) c.in-Ok.log.end rest in
     rw c.if-node-ne0.false (
       after,
       acked_row m w s h some,
       record {
         still = record { same_geometry = h.still.same_geometry; start = h.still.start; up = h.still.up; not_halted = h.still.not_halted; here = h.still.here; first = h.still.first; no_flush = refl };
         bytes = h.bytes;
-        records = subst (λ (l : List ℕ). FitsRecords (memory_now c.in-Ok.log.area) c.in-Ok.log.end l w.records w.records (history_records m after) after.history) (sym none) records;
+        records = subst (λ (l : List ℕ). FitsRecords (memory_now c.in-Ok.log.area) (memory_dirty c.in-Ok.log.area) c.in-Ok.log.end l w.records w.records (history_records m after) after.history) (sym none) records;
         acked = acked_is m w s h;
       },
     )

@@ -1,5 +1,0 @@
-use Rattle.lc_log.proofs.LogLemmas.{at_rest_none}
-use Rattle.lc_log.proofs.node_log.NodeLog.new.Goals as goal
-
-pub returns-clause-idle : goal.returns-clause-idle
-returns-clause-idle g c = λ honest. at_rest_none (g.D.Area.now c.args.area) c.requires.room (c.requires.closed honest)
