@@ -8,7 +8,8 @@ use Rattle.lc_record.specs.declared.record.Lock.{Lock}
 use Rattle.lc_core.specs.History.{transactions, value}
 use Rattle.lc_core.specs.State.{Setting, State, running_of}
 use Rattle.lc_core.specs.Ranges.{is_empty}
-use Rattle.lc_core.specs.Records.{record_of, counted, records_from}
+use Rattle.lc_core.specs.Records.{record_of, records_from}
+use Rattle.lc_core.specs.Merging.{counted_all}
 use Rattle.lc_core.specs.Refusals.{refuse_if}
 use Rattle.lc_core.specs.declared.event.Event.{Event}
 use Rattle.lc_core.specs.declared.event.Event.TheVariants.{Reserve, FlushStep}
@@ -20,11 +21,6 @@ use Rattle.lc_core.specs.declared.reply.Reply.TheVariants.{Reserved, Refused}
 -- no segment has used a number
 abbrev pub no_numbers : ℕ → ℕ
 no_numbers segment = 0
-
--- the segments' numbers behind these transactions
-abbrev pub numbers_after : (ℕ → ℕ) → List Transaction → ℕ → ℕ
-numbers_after numbers [] = numbers
-numbers_after numbers (t ∷ ts) = numbers_after (counted numbers t) ts
 
 -- the records of the history
 abbrev pub history_records : Setting → State → List Record
@@ -44,7 +40,7 @@ log_end m node s = sum_by record_len (node_records m node s)
 
 -- the record of a transaction that is reserved now
 abbrev pub next_record : Setting → State → Transaction → Record
-next_record m s t = record_of (numbers_after no_numbers (s.earlier ++ transactions s.history)) (value m.start s.earlier s.history) t
+next_record m s t = record_of (counted_all no_numbers (s.earlier ++ transactions s.history)) (value m.start s.earlier s.history) t
 
 -- at the least segment whose numbers are spent
 abbrev pub first_spent : List Lock → Option Refusal → Option Refusal

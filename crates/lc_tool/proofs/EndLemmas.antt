@@ -21,7 +21,8 @@ use Rattle.lc_core.specs.History.{Entry, History, transactions, value}
 use Rattle.lc_core.specs.State.{Setting, State, is_by, is_unclosed, running_of, without}
 use Rattle.lc_core.specs.Ranges.{is_empty}
 use Rattle.lc_core.specs.Records.{is_set, record_of, counted, records_from, locks_of, ranges_of}
-use Rattle.lc_core.specs.Settled.{no_numbers, numbers_after, history_records, node_records, log_end, next_record, first_spent, record_refusal, refusal_or, reserve_reply, Settled}
+use Rattle.lc_core.specs.Merging.{counted_all}
+use Rattle.lc_core.specs.Settled.{no_numbers, history_records, node_records, log_end, next_record, first_spent, record_refusal, refusal_or, reserve_reply, Settled}
 use Rattle.lc_core.specs.Refusals.{refuse_if, is_seat, is_up}
 use Rattle.lc_record.specs.declared.geometry.Geometry.{Geometry}
 use Rattle.lc_core.specs.declared.refusal.Refusal.{Refusal}
@@ -49,14 +50,14 @@ length-records_from numbers content [] = refl
 length-records_from numbers content (t ∷ ts) = ap suc (length-records_from (counted numbers t) (effect t content) ts)
 
 records_from-push : (numbers : ℕ → ℕ) (content : Content) (ts : List Transaction) (t : Transaction) →
-    records_from numbers content (ts ++ t ∷ []) ≡ records_from numbers content ts ++ record_of (numbers_after numbers ts) (effects ts content) t ∷ []
+    records_from numbers content (ts ++ t ∷ []) ≡ records_from numbers content ts ++ record_of (counted_all numbers ts) (effects ts content) t ∷ []
 records_from-push numbers content [] t = refl
 records_from-push numbers content (u ∷ us) t = ap (λ (l : List Record). record_of numbers content u ∷ l) (records_from-push (counted numbers u) (effect u content) us t)
 
-numbers_after-push : (numbers : ℕ → ℕ) (ts : List Transaction) (t : Transaction) (segment : ℕ) →
-    numbers_after numbers (ts ++ t ∷ []) segment ≡ counted (numbers_after numbers ts) t segment
-numbers_after-push numbers [] t segment = refl
-numbers_after-push numbers (u ∷ us) t segment = numbers_after-push (counted numbers u) us t segment
+counted_all-push : (numbers : ℕ → ℕ) (ts : List Transaction) (t : Transaction) (segment : ℕ) →
+    counted_all numbers (ts ++ t ∷ []) segment ≡ counted (counted_all numbers ts) t segment
+counted_all-push numbers [] t segment = refl
+counted_all-push numbers (u ∷ us) t segment = counted_all-push (counted numbers u) us t segment
 
 effects-push : (ts : List Transaction) (t : Transaction) (content : Content) → effects (ts ++ t ∷ []) content ≡ effect t (effects ts content)
 effects-push [] t content = refl
@@ -175,10 +176,10 @@ module _ (m : Setting) (w : Solo) (s : State) (h : Fits m w s) where
     pub next_is : next_record m s (running_one m w s h one is).1 ≡ the_record (w.records + 1) one w.image.items
     next_is =
         let at = running_one m w s h one is in
-        let numbers : numbers_after no_numbers (s.earlier ++ transactions s.history) 1 ≡ w.records =
-        ap (λ (ts : List Transaction). numbers_after no_numbers (ts ++ transactions s.history) 1) h.still.first ∙ h.records.numbers in
+        let numbers : counted_all no_numbers (s.earlier ++ transactions s.history) 1 ≡ w.records =
+        ap (λ (ts : List Transaction). counted_all no_numbers (ts ++ transactions s.history) 1) h.still.first ∙ h.records.numbers in
         let new : effect at.1 (value m.start s.earlier s.history) ≡ w.image.items ∷ [] = ap (effect at.1) at.2 ∙ at.4.writes in
-        one_record (numbers_after no_numbers (s.earlier ++ transactions s.history)) (value m.start s.earlier s.history) at.1 one w.image.items w.records
+        one_record (counted_all no_numbers (s.earlier ++ transactions s.history)) (value m.start s.earlier s.history) at.1 one w.image.items w.records
         at.4.by at.4.marks new some (w.inside one is) numbers
 
     small_image : length w.image.items ≤ 16384
@@ -248,7 +249,7 @@ module _ (m : Setting) (w : Solo) (s : State) (h : Fits m w s) where
 
     -- The close behind it
 
-    counted_one : (t : Transaction) → t.marks ≡ stretch one.offset one.len (length w.image.items) ∷ [] → counted (numbers_after no_numbers (transactions s.history)) t 1 ≡ w.records + 1
+    counted_one : (t : Transaction) → t.marks ≡ stretch one.offset one.len (length w.image.items) ∷ [] → counted (counted_all no_numbers (transactions s.history)) t 1 ≡ w.records + 1
     counted_one t marks = rw (marks, one_stretch one.offset one.len (length w.image.items) some (w.inside one is), h.records.numbers) refl
 
     history_after : closed_by 0 0 (s.history ++ record { transaction = (running_one m w s h one is).1; closed = false } ∷ [])
@@ -291,8 +292,8 @@ module _ (m : Setting) (w : Solo) (s : State) (h : Fits m w s) where
         let none : s.earlier ≡ [] = h.still.first in
         let old : history_records m s ≡ records_from no_numbers m.start (transactions s.history) =
         ap (λ (ts : List Transaction). drop (length ts) (records_from no_numbers m.start (ts ++ transactions s.history))) none in
-        let same_next : record_of (numbers_after no_numbers (transactions s.history)) (effects (transactions s.history) m.start) t ≡ r =
-        sym (ap (λ (ts : List Transaction). record_of (numbers_after no_numbers (ts ++ transactions s.history)) (effects (ts ++ transactions s.history) m.start) t) none) ∙ next_is in
+        let same_next : record_of (counted_all no_numbers (transactions s.history)) (effects (transactions s.history) m.start) t ≡ r =
+        sym (ap (λ (ts : List Transaction). record_of (counted_all no_numbers (ts ++ transactions s.history)) (effects (ts ++ transactions s.history) m.start) t) none) ∙ next_is in
         let all : history_records m after ≡ (h.records.stable ++ h.records.pending) ++ r ∷ [] =
         ap (λ (ts : List Transaction). drop (length ts) (records_from no_numbers m.start (ts ++ transactions after.history))) none
         ∙ ap (records_from no_numbers m.start) txs
@@ -308,7 +309,7 @@ module _ (m : Setting) (w : Solo) (s : State) (h : Fits m w s) where
           whole = whole-push h.records.pending r h.records.whole (record { canonical = record_is.canonical; short = record_is.short });
           flushed = h.records.flushed;
           closed = ap length history_after ∙ length-append s.history (entry ∷ []) ∙ ap (λ (n : ℕ). n + 1) h.records.closed;
-          numbers = ap (λ (ts : List Transaction). numbers_after no_numbers ts 1) txs ∙ numbers_after-push no_numbers (transactions s.history) t 1 ∙ counted_one t at.4.marks;
+          numbers = ap (λ (ts : List Transaction). counted_all no_numbers ts 1) txs ∙ counted_all-push no_numbers (transactions s.history) t 1 ∙ counted_one t at.4.marks;
         }
 
   -- nothing was set: it is over

@@ -10,7 +10,8 @@ use Rattle.lc_log.specs.LogText.{IsWhole, joined}
 use Rattle.lc_log.specs.NodeLog.{IsAtRest}
 use Rattle.lc_core.specs.History.{Entry, History, transactions, value}
 use Rattle.lc_core.specs.State.{Setting, State, Place, At, Flush, Phase, Up, is_by}
-use Rattle.lc_core.specs.Settled.{no_numbers, numbers_after, history_records}
+use Rattle.lc_core.specs.Merging.{counted_all}
+use Rattle.lc_core.specs.Settled.{no_numbers, history_records}
 use Rattle.lc_tool.specs.Session.{zeros_of, Answers, Finishes, Ends, Does}
 use Rattle.lc_tool.specs.declared.command.Command.{Command}
 use Rattle.lc_tool.specs.declared.command.Command.TheVariants.{Step as Asks}
@@ -51,7 +52,7 @@ pub record FitsRecords (now : List ℕ) (dirty : ℕ → Bool) (end : ℕ) (stag
   pub whole : AllByRecursion IsWhole pending
   pub flushed : length stable ≡ acked
   pub closed : length history ≡ records
-  pub numbers : numbers_after no_numbers (transactions history) 1 ≡ records
+  pub numbers : counted_all no_numbers (transactions history) 1 ≡ records
 
 -- what no line changes
 pub record FitsStill (m : Setting) (geometry : Geometry) (phase : Phase) (halted : ℕ → Bool) (place : ℕ → Place) (earlier : List Transaction) (flush : ℕ → Flush) : Type 0 where
