@@ -1,0 +1,40 @@
+-- Old bytes, as copies in the order in which they were made.
+use Rattle.std.specs.Prelude.{◌≡◌, ℕ, ◌+◌, ◌-◌, ◌<◌, ◌≤◌, ◌==◌, nat_le, if◌then◌else◌, ◌&&◌, List, [], ◌∷◌, length, Option, Some, None, IsSome, slice_get}
+use Rattle.lc_range.specs.RangeSet.{Has}
+use Rattle.lc_range.specs.declared.range.Range.{Range}
+
+-- a copy of bytes that stood in a segment from offset on
+pub record OldBytes : Type 0 where
+  pub segment : ℕ
+  pub offset : ℕ
+  pub bytes : List ℕ
+
+-- the byte that a copy has of a position
+abbrev pub byte_at : OldBytes → ℕ → ℕ → Option ℕ
+byte_at copy segment k =
+    if (copy.segment == segment) && nat_le copy.offset k then slice_get copy.bytes (k - copy.offset) else None
+
+abbrev pub first_of : Option ℕ → Option ℕ → Option ℕ
+first_of None later = later
+first_of (Some byte) later = Some byte
+
+-- the byte kept of a position: that of the first copy that has it
+abbrev pub kept : List OldBytes → ℕ → ℕ → Option ℕ
+kept [] segment k = None
+kept (copy ∷ copies) segment k = first_of (byte_at copy segment k) (kept copies segment k)
+
+-- how many bytes are kept
+abbrev pub bytes_kept : List OldBytes → ℕ
+bytes_kept [] = 0
+bytes_kept (copy ∷ copies) = length copy.bytes + bytes_kept copies
+
+-- all that is kept of a segment lies below a position
+abbrev pub LiesBelow : List OldBytes → ℕ → ℕ → Type 0
+LiesBelow copies segment bound = (k : ℕ) → IsSome (kept copies segment k) → k < bound
+
+-- of each position: what was kept; else the image's byte, in len positions of a segment from offset on that are not in
+-- the set; else nothing
+pub record KeepsOld (old : List OldBytes) (set : List Range) (segment offset len : ℕ) (image : ℕ → ℕ) (new : List OldBytes) : Type 0 where
+  pub first : (s k byte : ℕ) → kept old s k ≡ Some byte → kept new s k ≡ Some byte
+  pub fresh : (k : ℕ) → kept old segment k ≡ None → offset ≤ k → k < offset + len → (Has set segment k → ⊥) → kept new segment k ≡ Some (image k)
+  pub others : (s k : ℕ) → kept old s k ≡ None → (s ≡ segment → offset ≤ k → k < offset + len → Has set s k) → kept new s k ≡ None
