@@ -4,7 +4,7 @@ ghost use Rattle.lc_disk.specs.Area.{IsImage};
 
 use crate::{Area, Choice};
 
-/// An area that can be stopped and started again, to try what a stop may leave.
+/// An area that can be stopped and started again, to try what a stop may leave. This project's own.
 pub trait Stoppable: Area {
     /// Stops the device, and starts it again: while it is honest it reads as one image of what it was, chosen by
     /// these choices, and nothing is dirty. No failure is counted.

@@ -4,7 +4,7 @@ ghost use Rattle.std.specs.Prelude.{◌≡◌, ℕ, ◌+◌, ◌<◌, ◌≤◌,
 use crate::{Failed, Idle};
 use lc_disk::Area;
 
-/// A log with a closed first gate, which may be torn.
+/// A log with a closed first gate, which may be torn. This project's own.
 #[derive(Drop)]
 pub struct Closing<D: Area> {
     /// The log's area.

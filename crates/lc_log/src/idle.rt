@@ -9,7 +9,8 @@ pub(crate) const WORD_BYTES: usize = 8;
 
 const CLOSED_GATE: u8 = 0;
 
-/// A log with stable records and nothing under way.
+/// A log with stable records and nothing under way. That a log has the new values alone is RVM's (Satyanarayanan et
+/// al., TOCS 1994); its states and its gates are this project's own.
 #[derive(Drop)]
 pub struct Idle<D: Area> {
     /// The log's area.

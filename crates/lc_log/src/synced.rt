@@ -7,7 +7,7 @@ use lc_disk::Area;
 
 const OPEN_GATE: u8 = 0xa5;
 
-/// A log with a stable group behind the closed gate.
+/// A log with a stable group behind the closed gate. This project's own.
 #[derive(Drop)]
 pub struct Synced<D: Area> {
     /// The log's area.

@@ -4,7 +4,7 @@ ghost use Rattle.std.specs.Prelude.{◌≡◌, ℕ, ◌+◌, ◌*◌, ◌<◌, �
 use crate::{Failed, Synced};
 use lc_disk::Area;
 
-/// A log with a group behind the closed gate, which may be torn.
+/// A log with a group behind the closed gate, which may be torn. This project's own.
 #[derive(Drop)]
 pub struct Written<D: Area> {
     /// The log's area.
