@@ -1,0 +1,5 @@
+pub mod Slot
+pub mod Page
+pub mod Fault
+pub mod PageVector
+pub mod PageWrite
