@@ -1,0 +1,86 @@
+//! The calls of a committer.
+ghost use Rattle.std.specs.Prelude.{◌≡◌, ℕ, ◌+◌, ◌<◌, ◌≤◌, ◌↔◌, false, length, slice_set, IfOk, IfErr, Err};
+ghost use Rattle.lc_stage.specs.Staging.{saw, reserved, filled, shut_with, newest, offset_of, IsOneRecord, Holds};
+ghost use Rattle.lc_stage.specs.Seats.{commit_view, IsSeatOf, IsRefused, IsIdle};
+ghost use Rattle.lc_stage.specs.declared.fault.StageFault.TheVariants.{Full};
+
+use crate::plays::{Exchange, Look, Put, Shut};
+use crate::seats::CommitSeat;
+use crate::{Stage, StageFault};
+
+// The words in front of the places: the tail and the durable end.
+const TAIL: usize = 0;
+
+const PLACES: usize = 2;
+
+// A tail's offset lies below this.
+const OFFSETS: u64 = 32768;
+
+impl Stage {
+    /// The tail, in one load: the place behind the last reservation.
+    pub fn tail(&self, seat: &mut CommitSeat) -> u64
+        requires { IsSeatOf self.now seat.old }
+        ensures same { IsSeatOf self.now seat.new }
+        ensures seen { commit_view seat.new ≡ saw result (commit_view seat.old) }
+    {
+        self.table.shared.load::<Look>(&mut seat.seat, TAIL)
+    }
+
+    /// Reserves n words, at least one, from the tail `at` on, which this seat saw last, and answers their place.
+    /// No other reservation has one of these words. Nothing is reserved where they do not fit, or where the
+    /// tail is another one by now. One compare-and-exchange.
+    pub fn reserve(&self, seat: &mut CommitSeat, at: u64, n: u32) -> Result<u32, StageFault>
+        requires own { IsSeatOf self.now seat.old }
+        requires last { at ≡ (commit_view seat.old).seen }
+        requires idle { IsIdle (commit_view seat.old) }
+        requires some { 0 < n }
+        ensures same { IsSeatOf self.now seat.new }
+        ensures ok { IfOk result (λ place. (place ≡ offset_of at) × (commit_view seat.new ≡ reserved at n (commit_view seat.old)) × Holds (commit_view seat.new)) }
+        ensures full { (result ≡ Err (Full (offset_of at) n)) ↔ (self.now.room < offset_of at + n) }
+        ensures refused { IfErr result (IsRefused at (commit_view seat.old) (commit_view seat.new)) }
+    {
+        let place = (at % OFFSETS) as u32;
+        if n > self.room - place {
+            return Err(StageFault::Full {
+                tail: place,
+                need: n,
+            });
+        }
+        let found = self
+            .table
+            .shared
+            .compare_exchange::<Exchange>(&mut seat.seat, TAIL, at, at + n as u64);
+        if found != at {
+            return Err(StageFault::Moved { seen: found });
+        }
+        seat.place = place;
+        Ok(place)
+    }
+
+    /// Fills the word i of the open reservation, behind its header. One store.
+    pub fn fill(&self, seat: &mut CommitSeat, i: u32, word: u64)
+        requires own { IsSeatOf self.now seat.old }
+        requires is_open { (newest (commit_view seat.old).mine).closed ≡ false }
+        requires behind { (0 < i) × (i < length (newest (commit_view seat.old).mine).words) }
+        ensures same { IsSeatOf self.now seat.new }
+        ensures filled { commit_view seat.new ≡ filled i word (commit_view seat.old) }
+    {
+        self.table
+            .shared
+            .store::<Put>(&mut seat.seat, (seat.place + i) as usize + PLACES, word);
+    }
+
+    /// Stores the header, which closes the open reservation. Behind this header its words are one record. One store.
+    pub fn close(&self, seat: &mut CommitSeat, header: u64)
+        requires own { IsSeatOf self.now seat.old }
+        requires is_open { (newest (commit_view seat.old).mine).closed ≡ false }
+        requires whole { IsOneRecord (slice_set (newest (commit_view seat.old).mine).words 0 header) }
+        ensures same { IsSeatOf self.now seat.new }
+        ensures closed { commit_view seat.new ≡ shut_with header (commit_view seat.old) }
+        ensures idle { IsIdle (commit_view seat.new) }
+    {
+        self.table
+            .shared
+            .store::<Shut>(&mut seat.seat, seat.place as usize + PLACES, header);
+    }
+}

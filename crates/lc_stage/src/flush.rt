@@ -1,0 +1,103 @@
+//! The calls of the flusher.
+ghost use Rattle.std.specs.Prelude.{◌≡◌, ◌≢◌, List, ℕ, ◌+◌, ◌<◌, ◌≤◌, ◌++◌, length, slice_index, take as list_take};
+ghost use Rattle.lc_stage.specs.Staging.{loaded, taking, IsOneRecord, RaisesDurable};
+ghost use Rattle.lc_stage.specs.Seats.{flush_view, IsFlusherOf, AreRecords, OnlyLoads, OnlyTakes, EndsAt, publishing};
+
+use crate::Stage;
+use crate::plays::{Copied, Header, Publish};
+use crate::seats::FlushSeat;
+use lc_record::{Group, length};
+
+// The words in front of the places: the tail and the durable end.
+const DURABLE: usize = 1;
+
+const PLACES: usize = 2;
+
+impl Stage {
+    /// Empties the group, which has room for all words of the log, and puts into it the closed records behind
+    /// what was taken, whole and in place order, up to the first that is not closed. Answers their words.
+    /// One load and one copy a word.
+    pub fn take(&self, flusher: &mut FlushSeat, group: &mut Group) -> u32
+        requires own { IsFlusherOf self.now flusher.old }
+        requires room { self.now.room ≤ group.old.room }
+        ensures same { IsFlusherOf self.now flusher.new × (group.new.room ≡ group.old.room) }
+        ensures takes { OnlyTakes (flush_view flusher.old) (flush_view flusher.new) }
+        ensures words { (flush_view flusher.new).taken ≡ (flush_view flusher.old).taken ++ group.new.words }
+        ensures len { result ≡ length group.new.words }
+        ensures records { AreRecords group.new.words }
+        ensures ends { EndsAt self.now.room (flush_view flusher.old) (flush_view flusher.new) }
+    {
+        group.clear();
+        let first = flusher.end;
+        'records: while flusher.end < self.room {
+            let start = flusher.end;
+            let found = self.header(flusher);
+            if found == 0 {
+                break;
+            }
+            group.push(found);
+            let end = flusher.end;
+            self.copy_range(flusher, start + 1, end, group);
+        }
+        flusher.end - first
+    }
+
+    /// Stores the end of what was taken as the durable end, which is never above it and so never falls.
+    pub fn publish(&self, flusher: &mut FlushSeat)
+        requires { IsFlusherOf self.now flusher.old }
+        ensures same { IsFlusherOf self.now flusher.new }
+        ensures published { flush_view flusher.new ≡ publishing (flush_view flusher.old) }
+        ensures durable { RaisesDurable (flush_view flusher.old) (flush_view flusher.new) }
+    {
+        let end = flusher.end as u64;
+        self.table
+            .shared
+            .store::<Publish>(&mut flusher.seat, DURABLE, end);
+    }
+
+    // Loads the place behind what was taken. A word there is the header of a closed record, which is taken.
+    fn header(&self, flusher: &mut FlushSeat) -> u64
+        requires own { IsFlusherOf self.now flusher.old }
+        requires room { length (flush_view flusher.old).taken < self.now.room }
+        ensures same { IsFlusherOf self.now flusher.new }
+        ensures none { result ≡ 0 → flush_view flusher.new ≡ loaded (length (flush_view flusher.old).taken) 0 (flush_view flusher.old) }
+        ensures record { result ≢ 0 → (ws : List ℕ) × (flush_view flusher.new ≡ taking ws (loaded (length (flush_view flusher.old).taken) result (flush_view flusher.old))) × IsOneRecord ws × (slice_index ws 0 ≡ result) }
+    {
+        let found = self
+            .table
+            .shared
+            .load::<Header>(&mut flusher.seat, flusher.end as usize + PLACES);
+        if found != 0 {
+            flusher.end += length(found);
+        }
+        found
+    }
+
+    // Loads a place that was taken.
+    fn copy(&self, flusher: &mut FlushSeat, place: u32) -> u64
+        requires own { IsFlusherOf self.now flusher.old }
+        requires taken { place < length (flush_view flusher.old).taken }
+        ensures same { IsFlusherOf self.now flusher.new }
+        ensures load { flush_view flusher.new ≡ loaded place result (flush_view flusher.old) }
+        ensures word { result ≡ slice_index (flush_view flusher.old).taken place }
+    {
+        self.table
+            .shared
+            .load::<Copied>(&mut flusher.seat, place as usize + PLACES)
+    }
+
+    // Adds to the group the words of the places from start to end, which were taken.
+    fn copy_range(&self, flusher: &mut FlushSeat, start: u32, end: u32, group: &mut Group)
+        requires own { IsFlusherOf self.now flusher.old }
+        requires taken { (start ≤ end) × (end ≤ length (flush_view flusher.old).taken) }
+        requires room { length group.old.words + end ≤ group.old.room + start }
+        ensures same { IsFlusherOf self.now flusher.new × (group.new.room ≡ group.old.room) }
+        ensures loads { OnlyLoads (flush_view flusher.old) (flush_view flusher.new) }
+        ensures words { (front : List ℕ) → front ++ group.old.words ≡ list_take start (flush_view flusher.old).taken → front ++ group.new.words ≡ list_take end (flush_view flusher.old).taken }
+    {
+        for place in start..end {
+            let word = self.copy(flusher, place);
+            group.push(word);
+        }
+    }
+}

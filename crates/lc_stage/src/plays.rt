@@ -1,0 +1,87 @@
+//! What each step on the table tells.
+ghost use Rattle.lc_stage.specs.Staging.{looked, exchanged, put, closed, headed, copied, published, agreed, newcomer, with_commit, no_commit, only_commit};
+ghost use Rattle.std.specs.Prelude.{◌++◌};
+
+use crate::view::View;
+use atomic_table::{Join, Play, Split};
+
+pub(crate) struct Look;
+
+impl Play<(), View> for Look {
+    ghost then = { looked };
+}
+
+pub(crate) struct Exchange;
+
+impl Play<(), View> for Exchange {
+    ghost then = { exchanged };
+}
+
+pub(crate) struct Put;
+
+impl Play<(), View> for Put {
+    ghost then = { put };
+}
+
+pub(crate) struct Shut;
+
+impl Play<(), View> for Shut {
+    ghost then = { closed };
+}
+
+pub(crate) struct Header;
+
+impl Play<(), View> for Header {
+    ghost then = { headed };
+}
+
+pub(crate) struct Copied;
+
+impl Play<(), View> for Copied {
+    ghost then = { copied };
+}
+
+pub(crate) struct Publish;
+
+impl Play<(), View> for Publish {
+    ghost then = { published };
+}
+
+pub(crate) struct Agreed;
+
+impl Play<(), View> for Agreed {
+    ghost then = { agreed };
+}
+
+// A new committer, who has nothing.
+pub(crate) struct Cut;
+
+impl Split<View> for Cut {
+    ghost left = { λ v. v };
+
+    ghost right = { λ v. newcomer v.room };
+}
+
+// One committer takes over what another has.
+pub(crate) struct Glue;
+
+impl Join<View> for Glue {
+    ghost both = { λ v w. record v { mine = v.mine ++ w.mine } };
+
+    ghost spent = { newcomer 0 };
+}
+
+// The flusher's seat and a committer's are one for a while.
+pub(crate) struct Meeting;
+
+impl Join<View> for Meeting {
+    ghost both = { with_commit };
+
+    ghost spent = { newcomer 0 };
+}
+
+impl Split<View> for Meeting {
+    ghost left = { no_commit };
+
+    ghost right = { only_commit };
+}

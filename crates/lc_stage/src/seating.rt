@@ -1,0 +1,90 @@
+//! The stage at the start, and its seats.
+ghost use Rattle.std.specs.Prelude.{◌≡◌, ℕ, ◌<◌, ◌++◌, IfOk};
+ghost use Rattle.lc_stage.specs.Staging.{flusher, newcomer, Agree};
+ghost use Rattle.lc_stage.specs.Seats.{commit_view, flush_view, IsSeatOf, IsFlusherOf, IsIdle};
+
+use crate::Stage;
+use crate::plays::{Agreed, Cut, Glue, Meeting};
+use crate::seats::{CommitSeat, FlushSeat};
+use atomic_table::Table;
+use std::alloc::{AllocError, Global};
+
+impl Stage {
+    /// A stage for a log of so many words, at least one and fewer than 32768, with the seat of its flusher and
+    /// that of a committer. It fails only where there is no memory.
+    pub fn new(alloc: Global, words: u32) -> Result<(Stage, FlushSeat, CommitSeat), AllocError>
+        requires { (0 < words) × (words < 32768) }
+        ensures room { IfOk result (λ s. s.0.room ≡ words) }
+        ensures seats { IfOk result (λ s. IsFlusherOf s.0 s.1 × IsSeatOf s.0 s.2) }
+        ensures views { IfOk result (λ s. (flush_view s.1 ≡ flusher words) × (commit_view s.2 ≡ newcomer words)) }
+    {
+        let zeros = vec![in alloc; 0; words as usize + 2]?;
+        let (table, mut seat) = Table::of_words(alloc, zeros.as_slice(), &(words as u64))?;
+        let other = table.shared.split_seat::<Cut>(&mut seat);
+        let stage = Stage { table, room: words };
+        Ok((
+            stage,
+            FlushSeat { seat, end: 0 },
+            CommitSeat {
+                seat: other,
+                place: 0,
+            },
+        ))
+    }
+
+    /// How many words the log has.
+    pub fn words(&self) -> u32
+        ensures { result ≡ self.now.room }
+    {
+        self.room
+    }
+
+    /// A further seat, with nothing reserved. The seat that is split has no open reservation.
+    pub fn split(&self, seat: &mut CommitSeat) -> CommitSeat
+        requires own { IsSeatOf self.now seat.old }
+        requires idle { IsIdle (commit_view seat.old) }
+        ensures same { IsSeatOf self.now seat.new × (commit_view seat.new ≡ commit_view seat.old) }
+        ensures new { IsSeatOf self.now result × (commit_view result ≡ newcomer self.now.room) }
+    {
+        let other = self.table.shared.split_seat::<Cut>(&mut seat.seat);
+        CommitSeat {
+            seat: other,
+            place: 0,
+        }
+    }
+
+    /// The seat takes over the reservations of another. Neither has an open one.
+    pub fn join(&self, seat: &mut CommitSeat, other: CommitSeat)
+        requires own { IsSeatOf self.now seat.old × IsSeatOf self.now other }
+        requires idle { IsIdle (commit_view seat.old) × IsIdle (commit_view other) }
+        ensures same { IsSeatOf self.now seat.new }
+        ensures both { commit_view seat.new ≡ record (commit_view seat.old) { mine = (commit_view seat.old).mine ++ (commit_view other).mine } }
+        ensures idle { IsIdle (commit_view seat.new) }
+    {
+        let CommitSeat {
+            seat: theirs,
+            place: _,
+        } = other;
+        self.table.shared.join_seat::<Glue>(&mut seat.seat, theirs);
+    }
+
+    /// Both views are as before, and agree: what was taken holds the words of the committer's records as it
+    /// filled them. The committer has no open reservation.
+    pub fn meet(&self, flusher: &mut FlushSeat, other: CommitSeat) -> CommitSeat
+        requires own { IsFlusherOf self.now flusher.old × IsSeatOf self.now other }
+        requires idle { IsIdle (commit_view other) }
+        ensures same { IsFlusherOf self.now flusher.new × IsSeatOf self.now result }
+        ensures views { (flush_view flusher.new ≡ flush_view flusher.old) × (commit_view result ≡ commit_view other) }
+        ensures agree { Agree (flush_view flusher.new) (commit_view result) }
+    {
+        let CommitSeat {
+            seat: theirs,
+            place,
+        } = other;
+        let shared = &self.table.shared;
+        shared.join_seat::<Meeting>(&mut flusher.seat, theirs);
+        shared.load::<Agreed>(&mut flusher.seat, 0);
+        let seat = shared.split_seat::<Meeting>(&mut flusher.seat);
+        CommitSeat { seat, place }
+    }
+}
