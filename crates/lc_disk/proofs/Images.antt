@@ -1,5 +1,5 @@
 -- Images of an area whose front is stable, and what a call leaves behind such a front.
-use Rattle.std.proofs.Common.{◌≡◌, ℕ, suc, ◌+◌, ◌<◌, Bool, false, List, [], ◌∷◌, ◌++◌, length, get_or, take, drop, sym, ◌∙◌, ap, arith, append_assoc, length-append, length-drop, take-append-drop, get_or-take, get_or-drop}
+use Rattle.std.proofs.Common.{◌≡◌, ℕ, suc, ◌+◌, ◌<◌, Bool, false, List, [], ◌∷◌, ◌++◌, length, get_or, take, drop, sym, ◌∙◌, ap, arith, length-append, length-drop, take-append-drop, get_or-take, get_or-drop}
 use Rattle.std.proofs.lemmas.List.{ext_get_or, get_or_append_left, get_or-append-add, take_at, drop_at, drop-drop, length-take-le, drop_more}
 use Rattle.lc_disk.specs.Area.{IsImage, IsSameOutside}
 

@@ -3,7 +3,6 @@ use Rattle.std.proofs.Common.{◌≡◌, ℕ, ◌+◌, ◌-◌, ◌*◌, ◌≤�
 use Rattle.std.proofs.lemmas.List.{take_at}
 use Rattle.std.specs.Int.{w64, to_le_bytes}
 use Rattle.lc_record.specs.Words.{words_of, bytes_of, AreWords}
-use Rattle.lc_record.specs.GroupView.{GroupView}
 use Rattle.lc_record.specs.Group.{all_but_last, group_words, group_view, IsGroupBytes}
 use Rattle.lc_record.specs.declared.group.Group.TheInside.{Inside}
 use Rattle.lc_record.proofs.WordLemmas.{words_of-nil, words_of-bytes_of, bytes_of-append, length-bytes_of, AreWords-append}
