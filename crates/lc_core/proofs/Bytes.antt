@@ -5,7 +5,7 @@ use Rattle.std.proofs.lemmas.List.Elements.{All-head, All-tail}
 use Rattle.lc_record.specs.Content.{Content, put, on_segment, segment_of}
 use Rattle.lc_record.specs.Transaction.{Written, Marks, all_set, writes_on}
 use Rattle.lc_record.specs.declared.record.RangeData.{RangeData}
-use Rattle.lc_core.specs.Records.{laid}
+use Rattle.lc_record.specs.Recorded.{laid}
 use Rattle.lc_core.specs.Merging.{byte_at, byte_from, byte_in, byte_of, or_else}
 use Rattle.lc_core.proofs.Marks.{segment_of-other, segment_of-same, length-put}
 

@@ -6,7 +6,7 @@ use Rattle.lc_record.specs.Content.{segment_of}
 use Rattle.lc_record.specs.Transaction.{Transaction}
 use Rattle.lc_core.specs.History.{Cut, front, reserved}
 use Rattle.lc_core.specs.State.{Place, At, Travelling, Phase, Up, DownAt, Setting, State, running_of, has_unclosed, is_held}
-use Rattle.lc_core.specs.Ranges.{is_empty, marked, written}
+use Rattle.lc_record.specs.Marks.{is_empty, marked, written}
 use Rattle.lc_core.specs.Refusals.{refuse_if, Unless, OfRunning, common_refusal, is_known, is_up, works_down, is_halted, is_at, begin_refusal, set_range_refusal, write_refusal, read_refusal, leave_refusal}
 use Rattle.lc_core.specs.Machine.{Step, Row, FlushRow, Moves, ReserveRow, LeaveRow, ArriveRow, RecoverRow, begun, changed, dropped, closed_by, flushed_to, halting, acknowledged, placed, seen}
 use Rattle.lc_core.specs.Choices.{AtLeastOne, ExactlyOne, Beside, leaves_no_choice}

@@ -12,7 +12,7 @@ use Rattle.lc_record.specs.Geometry.{segment_len}
 use Rattle.lc_record.specs.declared.geometry.Geometry.{Geometry}
 use Rattle.lc_core.specs.History.{Entry, Numbered, History, Cut, transactions, numbered, numbered_after, is_of, is_kept, kept, reserved, front}
 use Rattle.lc_core.specs.State.{Place, At, Travelling, Flush, Phase, Up, DownAt, Setting, State, update, fresh, first_state, is_by, running_of, has_unclosed, is_held, without, with_changed}
-use Rattle.lc_core.specs.Ranges.{ranges, is_empty, ascending, no_marks, marked, written}
+use Rattle.lc_record.specs.Marks.{ranges, is_empty, ascending, no_marks, marked, written}
 use Rattle.lc_core.specs.Refusals.{refuse_if, Unless, OfRunning, common_refusal, is_known, is_seat, is_segment, is_at, first_taken, begin_refusal, set_range_refusal, write_refusal, read_refusal, leave_refusal}
 use Rattle.lc_core.specs.Machine.{Step, Row, FlushRow, Moves, ReserveRow, LeaveRow, ArriveRow, RecoverRow, begun, changed, dropped, appended, closed_by, flushed_to, halting, acknowledged, placed, Run}
 use Rattle.lc_core.specs.Sound.{Sound, AreApart, IsProper, IsAcked, IsHere, IsHereOrAcked, IsOrdered, holders, unclosed}

@@ -6,7 +6,7 @@ use Rattle.lc_record.specs.Content.{put, on_segment, segment_of}
 use Rattle.lc_record.specs.Transaction.{Transaction, Written, IsWellFormed, is_member, locks, all_set}
 use Rattle.lc_record.specs.Geometry.{segment_len}
 use Rattle.lc_record.specs.declared.geometry.Geometry.{Geometry}
-use Rattle.lc_core.specs.Ranges.{stretches, ranges, counting, ascending, no_marks, marked, written}
+use Rattle.lc_record.specs.Marks.{stretches, ranges, counting, ascending, no_marks, marked, written}
 use Rattle.lc_core.specs.Sound.{IsProper}
 
 -- Parts of a list of segments

@@ -18,8 +18,8 @@ use Rattle.lc_record.specs.declared.record.Record.{Record}
 use Rattle.lc_record.specs.declared.record.Lock.{Lock}
 use Rattle.lc_record.specs.declared.record.RangeData.{RangeData}
 use Rattle.lc_core.specs.History.{Numbered, History, Cut, transactions, numbered, is_kept, kept, IsClosed}
-use Rattle.lc_core.specs.Ranges.{counting}
-use Rattle.lc_core.specs.Records.{ranges_from, ranges_of, is_set, locks_of, record_of, counted, records_from}
+use Rattle.lc_record.specs.Marks.{counting}
+use Rattle.lc_record.specs.Recorded.{ranges_from, ranges_of, is_set, locks_of, record_of, counted, records_from}
 use Rattle.lc_core.specs.Merging.{put_on, kept_records, byte_at, byte_of, or_else, number_in, numbers_in, sets, counted_all, has_byte, Rises, IsNewest, IsByNumber}
 use Rattle.lc_core.proofs.Law.{effects-append, Pulls, passing, passing-yes, passing-no, all, all-numbered_after, AllPairs-head, AllPairs-tail}
 use Rattle.lc_core.proofs.Marks.{segment_of-other, segment_of-same}

@@ -7,7 +7,7 @@ use Rattle.lc_record.specs.declared.geometry.Geometry.{Geometry}
 use Rattle.lc_core.specs.History.{front, reserved}
 use Rattle.lc_core.specs.State.{At, Travelling, Up, DownAt, Setting, State, fresh, running_of, has_unclosed, is_held}
 use Rattle.lc_core.specs.History.{Cut, kept}
-use Rattle.lc_core.specs.Ranges.{ranges, is_empty, ascending, marked, written}
+use Rattle.lc_record.specs.Marks.{ranges, is_empty, ascending, marked, written}
 use Rattle.lc_core.specs.Refusals.{refuse_if, common_refusal, is_known, is_seat, is_up, works_down, is_halted, is_at, first_taken, leave_refusal}
 use Rattle.lc_core.specs.Machine.{Step, Row, FlushRow, begun, changed, dropped, appended, closed_by, flushed_to, halting, acknowledged, placed, seen, may_refuse_reserve, may_deliver, may_trim}
 use Rattle.lc_core.specs.declared.event.Event.{Event}

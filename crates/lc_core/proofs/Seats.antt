@@ -8,7 +8,7 @@ use Rattle.lc_record.specs.Transaction.{Transaction, Written, writes_on, effect,
 use Rattle.lc_record.specs.declared.geometry.Geometry.{Geometry}
 use Rattle.lc_core.specs.History.{Entry, History, transactions, value, is_of, entries_of, reserved}
 use Rattle.lc_core.specs.State.{State, Phase, update, fresh, is_by, running_of, without, with_changed, is_unclosed, has_unclosed}
-use Rattle.lc_core.specs.Ranges.{ascending, no_marks, written}
+use Rattle.lc_record.specs.Marks.{ascending, no_marks, written}
 use Rattle.lc_core.specs.Machine.{begun, changed, dropped, appended, closed_by, seen}
 use Rattle.lc_core.proofs.Law.{effects-append}
 use Rattle.lc_core.proofs.Fronts.{entry, transactions-closed}

@@ -7,7 +7,7 @@ use Rattle.lc_record.specs.Geometry.{segment_len}
 use Rattle.lc_record.specs.declared.geometry.Geometry.{Geometry}
 use Rattle.lc_core.specs.History.{History, Cut}
 use Rattle.lc_core.specs.State.{At, Up, DownAt, State, Setting, fresh}
-use Rattle.lc_core.specs.Ranges.{no_marks, marked, written}
+use Rattle.lc_record.specs.Marks.{no_marks, marked, written}
 use Rattle.lc_core.specs.Machine.{Step, flushed_to}
 use Rattle.lc_core.specs.declared.event.Event.{Event}
 use Rattle.lc_core.specs.declared.reply.Reply.{Reply}

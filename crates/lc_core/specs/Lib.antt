@@ -1,11 +1,9 @@
 pub mod History
 pub mod State
-pub mod Ranges
 pub mod Refusals
 pub mod Machine
 pub mod Follows
 pub mod Numbers
-pub mod Records
 pub mod Stops
 pub mod Sound
 pub mod Choices

@@ -5,7 +5,7 @@ use Rattle.lc_record.specs.Transaction.{Transaction, writes_on}
 use Rattle.lc_record.specs.declared.geometry.Geometry.{Geometry}
 use Rattle.lc_core.specs.History.{History, kept, value, reserved, front}
 use Rattle.lc_core.specs.State.{Place, At, Travelling, Phase, Up, DownAt, State, Setting, update, fresh, running_of, without, with_changed, is_unclosed, has_unclosed}
-use Rattle.lc_core.specs.Ranges.{is_empty, ascending, no_marks, marked, written}
+use Rattle.lc_record.specs.Marks.{is_empty, ascending, no_marks, marked, written}
 use Rattle.lc_core.specs.Refusals.{refuse_if, Unless, OfRunning, common_refusal, begin_refusal, set_range_refusal, write_refusal, read_refusal, leave_refusal}
 use Rattle.lc_core.specs.declared.event.Event.{Event}
 use Rattle.lc_core.specs.declared.event.Event.TheVariants.{Begin, SetRange, Write, Read, Abort, Reserve, Close, FlushStep, Leave, Arrive, Deliver, Trim, RecoverStep}

@@ -6,7 +6,7 @@ use Rattle.lc_record.specs.declared.record.Record.{Record}
 use Rattle.lc_record.specs.declared.record.Lock.{Lock}
 use Rattle.lc_record.specs.declared.record.RangeData.{RangeData}
 use Rattle.lc_core.specs.History.{Numbered}
-use Rattle.lc_core.specs.Records.{is_set, record_of, counted, laid}
+use Rattle.lc_record.specs.Recorded.{is_set, record_of, counted, laid}
 
 -- Records one after another
 

@@ -6,7 +6,7 @@ use Rattle.lc_record.specs.Transaction.{Transaction, locks, all_set}
 use Rattle.lc_record.specs.Geometry.{segment_len}
 use Rattle.lc_record.specs.declared.geometry.Geometry.{Geometry}
 use Rattle.lc_core.specs.State.{Place, At, Travelling, Phase, Up, DownAt, State, running_of, has_unclosed, is_held}
-use Rattle.lc_core.specs.Ranges.{ranges, ascending, marked}
+use Rattle.lc_record.specs.Marks.{ranges, ascending, marked}
 use Rattle.lc_core.specs.declared.event.Event.{Event}
 use Rattle.lc_core.specs.declared.event.Event.TheVariants.{Begin, SetRange, Write, Read, Abort, Reserve, Close, FlushStep, Leave, Arrive, Deliver, Trim, RecoverStep}
 use Rattle.lc_core.specs.declared.refusal.Refusal.{Refusal}

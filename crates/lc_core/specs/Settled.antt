@@ -7,8 +7,8 @@ use Rattle.lc_record.specs.declared.record.Record.{Record}
 use Rattle.lc_record.specs.declared.record.Lock.{Lock}
 use Rattle.lc_core.specs.History.{transactions, value}
 use Rattle.lc_core.specs.State.{Setting, State, running_of}
-use Rattle.lc_core.specs.Ranges.{is_empty}
-use Rattle.lc_core.specs.Records.{record_of, records_from}
+use Rattle.lc_record.specs.Marks.{is_empty}
+use Rattle.lc_record.specs.Recorded.{record_of, records_from}
 use Rattle.lc_core.specs.Merging.{counted_all}
 use Rattle.lc_core.specs.Refusals.{refuse_if}
 use Rattle.lc_core.specs.declared.event.Event.{Event}

@@ -5,7 +5,7 @@ use Rattle.lc_record.specs.Geometry.{segment_len}
 use Rattle.lc_record.specs.declared.geometry.Geometry.{Geometry}
 use Rattle.lc_core.specs.History.{Numbered, History, transactions, numbered, front}
 use Rattle.lc_core.specs.State.{Place, At, State}
-use Rattle.lc_core.specs.Ranges.{ranges, is_empty}
+use Rattle.lc_record.specs.Marks.{ranges, is_empty}
 
 -- it is well formed and lies in the geometry
 pub record IsProper (g : Geometry) (t : Transaction) : Type 0 where

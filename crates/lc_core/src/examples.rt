@@ -4,7 +4,7 @@ ghost use Rattle.lc_core.specs.History.{kept, rest, IsClosed};
 ghost use Rattle.lc_core.specs.State.{State, At, Travelling, Up, fresh, first_state};
 ghost use Rattle.lc_core.specs.Machine.{Run, begun, changed, dropped, appended};
 ghost use Rattle.lc_core.specs.Machine.{flushed_to, halting, acknowledged, placed};
-ghost use Rattle.lc_core.specs.Ranges.{ranges, marked};
+ghost use Rattle.lc_record.specs.Marks.{ranges, marked};
 ghost use Rattle.lc_core.specs.Stops.{MayCutAt};
 ghost use Rattle.lc_core.specs.Examples.{small, store, first, second, third, three};
 ghost use Rattle.lc_core.specs.Examples.{all_at, many, setting_many, unflushed, flushing, half_closed, busy, reader};

@@ -8,3 +8,6 @@ pub mod Fault
 pub mod Content
 pub mod Transaction
 pub mod Reading
+pub mod Part
+pub mod Marks
+pub mod Recorded

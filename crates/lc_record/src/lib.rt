@@ -12,6 +12,7 @@ mod group;
 mod items;
 mod laws;
 mod limits;
+mod part;
 mod parts;
 mod record;
 mod walk;
@@ -24,6 +25,7 @@ pub use geometry::{Geometry, PAGE};
 pub use group::Group;
 pub use items::Items;
 pub use laws::one_reading;
+pub use part::Part;
 pub use record::{Lock, RangeData, Record};
 
 #[cfg(test)]

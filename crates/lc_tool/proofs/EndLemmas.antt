@@ -19,8 +19,8 @@ use Rattle.lc_log.proofs.WalkLemmas.{joined-push, whole-push}
 use Rattle.lc_disk.specs.MemArea.{memory_now, memory_dirty}
 use Rattle.lc_core.specs.History.{Entry, History, transactions, value}
 use Rattle.lc_core.specs.State.{Setting, State, is_by, is_unclosed, running_of, without}
-use Rattle.lc_core.specs.Ranges.{is_empty}
-use Rattle.lc_core.specs.Records.{is_set, record_of, counted, records_from, locks_of, ranges_of}
+use Rattle.lc_record.specs.Marks.{is_empty}
+use Rattle.lc_record.specs.Recorded.{is_set, record_of, counted, records_from, locks_of, ranges_of}
 use Rattle.lc_core.specs.Merging.{counted_all}
 use Rattle.lc_core.specs.Settled.{no_numbers, history_records, node_records, log_end, next_record, first_spent, record_refusal, refusal_or, reserve_reply, Settled}
 use Rattle.lc_core.specs.Refusals.{refuse_if, is_seat, is_up}

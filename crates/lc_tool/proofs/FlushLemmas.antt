@@ -8,7 +8,7 @@ use Rattle.lc_log.specs.LogText.{joined}
 use Rattle.lc_log.specs.NodeLog.{IsAtRest}
 use Rattle.lc_core.specs.History.{Entry, History, transactions, entries_of, front, leading}
 use Rattle.lc_core.specs.State.{Setting, State}
-use Rattle.lc_core.specs.Records.{records_from}
+use Rattle.lc_record.specs.Recorded.{records_from}
 use Rattle.lc_core.specs.Refusals.{is_up, is_node}
 use Rattle.lc_core.specs.Settled.{no_numbers, history_records}
 use Rattle.lc_core.specs.Machine.{Step, flushed_to, acknowledged}

@@ -11,7 +11,7 @@ use Rattle.lc_record.specs.Geometry.{segment_len}
 use Rattle.lc_record.specs.declared.geometry.Geometry.{Geometry}
 use Rattle.lc_core.specs.History.{History, value}
 use Rattle.lc_core.specs.State.{Setting, State, running_of, is_by, has_unclosed, is_unclosed, with_changed}
-use Rattle.lc_core.specs.Ranges.{ascending, no_marks, marked, written, ranges, is_empty}
+use Rattle.lc_record.specs.Marks.{ascending, no_marks, marked, written, ranges, is_empty}
 use Rattle.lc_core.specs.Refusals.{is_known, is_seat, is_segment, is_up, is_halted, common_refusal, first_taken}
 use Rattle.lc_core.specs.Machine.{Step, begun, changed}
 use Rattle.lc_core.specs.declared.event.Event.{Event}

@@ -3,8 +3,8 @@ use Rattle.std.proofs.Common.{◌≡◌, ℕ, zero, suc, ◌+◌, ◌<◌, ◌�
 use Rattle.lc_record.specs.Content.{put}
 use Rattle.lc_record.specs.Transaction.{all_set}
 use Rattle.lc_record.specs.declared.record.RangeData.{RangeData}
-use Rattle.lc_core.specs.Ranges.{stretches}
-use Rattle.lc_core.specs.Records.{with_byte, ranges_from}
+use Rattle.lc_record.specs.Marks.{stretches}
+use Rattle.lc_record.specs.Recorded.{with_byte, ranges_from}
 
 pub put-nil : {A : Type 0} (place : ℕ) (xs : List A) → put place [] xs ≡ xs
 put-nil place [] = refl

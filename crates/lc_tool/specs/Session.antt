@@ -11,7 +11,7 @@ use Rattle.lc_record.specs.declared.geometry.Geometry.{Geometry}
 use Rattle.lc_log.specs.LogText.{placed}
 use Rattle.lc_core.specs.History.{is_of, value}
 use Rattle.lc_core.specs.State.{Up, State, Setting, fresh, running_of}
-use Rattle.lc_core.specs.Ranges.{is_empty}
+use Rattle.lc_record.specs.Marks.{is_empty}
 use Rattle.lc_core.specs.Refusals.{is_node, is_segment}
 use Rattle.lc_core.specs.Machine.{Step, Run}
 use Rattle.lc_core.specs.Settled.{Settled, stable_records}

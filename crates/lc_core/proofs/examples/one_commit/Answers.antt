@@ -1,7 +1,7 @@
 use Rattle.std.proofs.Common.{[], ◌∷◌, refl, inl, inr}
 use Rattle.lc_record.specs.Transaction.{Transaction}
 use Rattle.lc_core.specs.State.{State, Up, fresh}
-use Rattle.lc_core.specs.Ranges.{marked, written}
+use Rattle.lc_record.specs.Marks.{marked, written}
 use Rattle.lc_core.specs.Machine.{begun, changed, appended, closed_by, flushed_to, acknowledged}
 use Rattle.lc_core.specs.Examples.{small, opened, third}
 use Rattle.lc_core.proofs.examples.one_commit.Goals as goal

@@ -1,5 +1,5 @@
 use Rattle.std.proofs.Common.{◌≡◌, ◌≤◌, ◌+◌, ◌==◌, false, length, ne_eqb, arith}
-use Rattle.lc_core.specs.Ranges.{marked}
+use Rattle.lc_record.specs.Marks.{marked}
 use Rattle.lc_core.specs.Machine.{changed}
 use Rattle.lc_tool.proofs.OneNodeLemmas.{is_lock, set_range_row, second_range}
 use Rattle.lc_tool.proofs.solo.Solo.set_range.Goals as goal

@@ -7,7 +7,7 @@ use Rattle.lc_core.specs.declared.reply.Reply.TheVariants.{Ok as Accepted}
 use Rattle.lc_tool.specs.Session.{Answers}
 use Rattle.lc_tool.specs.Fits.{FitsBytes}
 use Rattle.lc_tool.specs.declared.solo.Running.{Running}
-use Rattle.lc_core.specs.Ranges.{written}
+use Rattle.lc_record.specs.Marks.{written}
 use Rattle.lc_core.specs.Machine.{changed}
 use Rattle.lc_tool.proofs.OneNodeLemmas.{is_lock, write_row, write_outside_row}
 use Rattle.lc_tool.proofs.solo.Solo.write.Goals as goal

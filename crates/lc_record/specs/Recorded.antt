@@ -5,7 +5,7 @@ use Rattle.lc_record.specs.Transaction.{Transaction, Marks, effect}
 use Rattle.lc_record.specs.declared.record.Record.{Record}
 use Rattle.lc_record.specs.declared.record.Lock.{Lock}
 use Rattle.lc_record.specs.declared.record.RangeData.{RangeData}
-use Rattle.lc_core.specs.Ranges.{stretches}
+use Rattle.lc_record.specs.Marks.{stretches}
 
 -- the ranges behind it, with the byte at this offset before them: it joins the first where it touches it
 abbrev pub with_byte : ℕ → ℕ → ℕ → List RangeData → List RangeData
