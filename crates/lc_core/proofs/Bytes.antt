@@ -7,7 +7,7 @@ use Rattle.lc_record.specs.Transaction.{Written, Marks, all_set, writes_on}
 use Rattle.lc_record.specs.declared.record.RangeData.{RangeData}
 use Rattle.lc_record.specs.Recorded.{laid}
 use Rattle.lc_core.specs.Merging.{byte_at, byte_from, byte_in, byte_of, or_else}
-use Rattle.lc_core.proofs.Marks.{segment_of-other, segment_of-same, length-put}
+use Rattle.lc_record.proofs.SegmentLemmas.{segment_of-other, segment_of-same, length-put}
 
 -- a byte is put on where there is one
 abbrev pub over_byte : Option ℕ → Option ℕ → Option ℕ

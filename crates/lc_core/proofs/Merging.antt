@@ -22,7 +22,7 @@ use Rattle.lc_record.specs.Marks.{counting}
 use Rattle.lc_record.specs.Recorded.{ranges_from, ranges_of, is_set, locks_of, record_of, counted, records_from}
 use Rattle.lc_core.specs.Merging.{put_on, kept_records, byte_at, byte_of, or_else, number_in, numbers_in, sets, counted_all, has_byte, Rises, IsNewest, IsByNumber}
 use Rattle.lc_core.proofs.Law.{effects-append, Pulls, passing, passing-yes, passing-no, all, all-numbered_after, AllPairs-head, AllPairs-tail}
-use Rattle.lc_core.proofs.Marks.{segment_of-other, segment_of-same}
+use Rattle.lc_record.proofs.SegmentLemmas.{segment_of-other, segment_of-same}
 use Rattle.lc_core.proofs.Keeps.{All-kept}
 use Rattle.lc_core.proofs.Bytes.{length-writes_on, same-items, byte-unset}
 use Rattle.lc_core.proofs.RecordBytes.{marked_byte, marked_byte-set, marked_byte-unset, byte-ranges_of, part_from, part_from-below, part_from-segment, record-byte, record-laid, record-number, place-set, sets-locks}

@@ -6,3 +6,4 @@ pub mod OrderLemmas
 pub mod LoopLemmas
 pub mod RecordLemmas
 pub mod GroupLemmas
+pub mod SegmentLemmas
