@@ -7,7 +7,7 @@ use Rattle.lc_record.specs.Transaction.{Written, Marks, all_set, writes_on}
 use Rattle.lc_record.specs.declared.record.RangeData.{RangeData}
 use Rattle.lc_record.specs.Recorded.{laid}
 use Rattle.lc_core.specs.Merging.{byte_at, byte_from, byte_in, byte_of, or_else}
-use Rattle.lc_record.proofs.SegmentLemmas.{segment_of-other, segment_of-same, length-put}
+use Rattle.lc_record.proofs.SegmentLemmas.{segment_of-other, segment_of-same, length-on_segment}
 
 -- a byte is put on where there is one
 abbrev pub over_byte : Option ℕ → Option ℕ → Option ℕ
@@ -93,38 +93,10 @@ same-bytes (x ∷ xs) (y ∷ ys) long same =
 
 -- Lengths
 
-pub length-on_segment : {A : Type 0} (segment : ℕ) (change : A → A) (xs : List A) → length (on_segment segment change xs) ≡ length xs
-length-on_segment segment change [] = refl
-length-on_segment zero change (x ∷ xs) = refl
-length-on_segment (suc zero) change (x ∷ xs) = refl
-length-on_segment (suc (suc i)) change (x ∷ xs) = ap suc (length-on_segment (suc i) change xs)
-
 pub length-laid : (ranges : List RangeData) (content : Content) → length (laid ranges content) ≡ length content
 length-laid [] content = refl
 length-laid (range ∷ ranges) content =
     length-laid ranges (on_segment range.segment (put range.offset range.bytes) content) ∙ length-on_segment range.segment (put range.offset range.bytes) content
-
-pub length-writes_on : (ws : List Written) (content : Content) → length (writes_on ws content) ≡ length content
-length-writes_on [] content = refl
-length-writes_on (w ∷ ws) content =
-    length-writes_on ws (on_segment w.segment (put w.offset w.bytes) content) ∙ length-on_segment w.segment (put w.offset w.bytes) content
-
-length-change : (segment other offset : ℕ) (items : List ℕ) (content : Content) → length (segment_of segment (on_segment other (put offset items) content)) ≡ length (segment_of segment content)
-length-change segment other offset items content =
-    elim (other == segment) as (λ b. (other == segment) ≡ b → length (segment_of segment (on_segment other (put offset items) content)) ≡ length (segment_of segment content)) [
-      | true ↦ λ e.
-          let same : segment ≡ other = sym (eqb-true other segment e) in
-          subst (λ (s : ℕ). length (segment_of s (on_segment other (put offset items) content)) ≡ length (segment_of s content)) (sym same)
-          (ap length (segment_of-same other (put offset items) content refl) ∙ length-put offset items (segment_of other content))
-      | false ↦ λ e.
-          let differ : segment ≢ other = λ same. true≢false (sym (eq-eqb other segment (sym same)) ∙ e) in
-          ap length (segment_of-other segment other (put offset items) content differ)
-    ] refl
-
-pub length-written_segment : (segment : ℕ) (ws : List Written) (content : Content) → length (segment_of segment (writes_on ws content)) ≡ length (segment_of segment content)
-length-written_segment segment [] content = refl
-length-written_segment segment (w ∷ ws) content =
-    length-written_segment segment ws (on_segment w.segment (put w.offset w.bytes) content) ∙ length-change segment w.segment w.offset w.bytes content
 
 -- two lists of one length have an item at a place both, or neither has one
 pub same-presence : (xs ys : List ℕ) (place : ℕ) → length xs ≡ length ys → ((slice_get xs place ≡ None) × (slice_get ys place ≡ None)) ⊎ ((x : ℕ) × (y : ℕ) × (slice_get xs place ≡ Some x) × (slice_get ys place ≡ Some y))

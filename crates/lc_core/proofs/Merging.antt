@@ -24,7 +24,8 @@ use Rattle.lc_core.specs.Merging.{put_on, kept_records, byte_at, byte_of, or_els
 use Rattle.lc_core.proofs.Law.{effects-append, Pulls, passing, passing-yes, passing-no, all, all-numbered_after, AllPairs-head, AllPairs-tail}
 use Rattle.lc_record.proofs.SegmentLemmas.{segment_of-other, segment_of-same}
 use Rattle.lc_core.proofs.Keeps.{All-kept}
-use Rattle.lc_core.proofs.Bytes.{length-writes_on, same-items, byte-unset}
+use Rattle.lc_record.proofs.SegmentLemmas.{length-writes_on}
+use Rattle.lc_core.proofs.Bytes.{same-items, byte-unset}
 use Rattle.lc_core.proofs.RecordBytes.{marked_byte, marked_byte-set, marked_byte-unset, byte-ranges_of, part_from, part_from-below, part_from-segment, record-byte, record-laid, record-number, place-set, sets-locks}
 
 get_or-default : {X : Type 0} (xs : List X) (k : ℕ) (d e : X) → k < length xs → get_or xs k d ≡ get_or xs k e

@@ -8,7 +8,8 @@ use Rattle.lc_record.specs.declared.record.RangeData.{RangeData}
 use Rattle.lc_record.specs.Marks.{stretches}
 use Rattle.lc_record.specs.Recorded.{with_byte, ranges_from, ranges_of, is_set, locks_of, laid}
 use Rattle.lc_core.specs.Merging.{byte_at, byte_from, byte_in, byte_of, or_else, number_in, sets}
-use Rattle.lc_core.proofs.Bytes.{over_byte, or_else-none, or_else-assoc, byte-laid, byte-unset, same-bytes, same-presence, length-laid, length-writes_on, length-written_segment, segment_of-zero}
+use Rattle.lc_record.proofs.SegmentLemmas.{length-writes_on, length-written_segment}
+use Rattle.lc_core.proofs.Bytes.{over_byte, or_else-none, or_else-assoc, byte-laid, byte-unset, same-bytes, same-presence, length-laid, segment_of-zero}
 
 -- The stretches of one segment
 

@@ -1,8 +1,8 @@
 -- Parts of a list of segments, marks, and what keeps a transaction well formed.
 use Rattle.std.proofs.Common.{◌≡◌, ◌≢◌, ℕ, zero, suc, Bool, true, false, ◌==◌, List, [], ◌∷◌, map, length, replicate, IsTrue, refl, sym, ◌∙◌, ap, subst, true≢false, eqb-true, eq-eqb}
 use Rattle.std.proofs.lemmas.List.Elements.{All-push}
-use Rattle.lc_record.specs.Content.{put, on_segment, segment_of}
-use Rattle.lc_record.specs.Transaction.{Transaction, Written, IsWellFormed, locks, all_set}
+use Rattle.lc_record.specs.Content.{Content, put, on_segment, segment_of}
+use Rattle.lc_record.specs.Transaction.{Transaction, Written, IsWellFormed, locks, all_set, writes_on}
 use Rattle.lc_record.specs.Marks.{marked, written}
 
 -- Parts of a list of segments
@@ -37,6 +37,36 @@ shape-on_segment s f [] same = refl
 shape-on_segment zero f (x ∷ xs) same = refl
 shape-on_segment (suc zero) f (x ∷ xs) same = ap (λ n. n ∷ map length xs) (same x)
 shape-on_segment (suc (suc i)) f (x ∷ xs) same = ap (λ ns. length x ∷ ns) (shape-on_segment (suc i) f xs same)
+
+-- Lengths
+
+pub length-on_segment : {A : Type 0} (segment : ℕ) (change : A → A) (xs : List A) → length (on_segment segment change xs) ≡ length xs
+length-on_segment segment change [] = refl
+length-on_segment zero change (x ∷ xs) = refl
+length-on_segment (suc zero) change (x ∷ xs) = refl
+length-on_segment (suc (suc i)) change (x ∷ xs) = ap suc (length-on_segment (suc i) change xs)
+
+pub length-writes_on : (ws : List Written) (content : Content) → length (writes_on ws content) ≡ length content
+length-writes_on [] content = refl
+length-writes_on (w ∷ ws) content =
+    length-writes_on ws (on_segment w.segment (put w.offset w.bytes) content) ∙ length-on_segment w.segment (put w.offset w.bytes) content
+
+length-change : (segment other offset : ℕ) (items : List ℕ) (content : Content) → length (segment_of segment (on_segment other (put offset items) content)) ≡ length (segment_of segment content)
+length-change segment other offset items content =
+    elim (other == segment) as (λ b. (other == segment) ≡ b → length (segment_of segment (on_segment other (put offset items) content)) ≡ length (segment_of segment content)) [
+      | true ↦ λ e.
+          let same : segment ≡ other = sym (eqb-true other segment e) in
+          subst (λ (s : ℕ). length (segment_of s (on_segment other (put offset items) content)) ≡ length (segment_of s content)) (sym same)
+          (ap length (segment_of-same other (put offset items) content refl) ∙ length-put offset items (segment_of other content))
+      | false ↦ λ e.
+          let differ : segment ≢ other = λ same. true≢false (sym (eq-eqb other segment (sym same)) ∙ e) in
+          ap length (segment_of-other segment other (put offset items) content differ)
+    ] refl
+
+pub length-written_segment : (segment : ℕ) (ws : List Written) (content : Content) → length (segment_of segment (writes_on ws content)) ≡ length (segment_of segment content)
+length-written_segment segment [] content = refl
+length-written_segment segment (w ∷ ws) content =
+    length-written_segment segment ws (on_segment w.segment (put w.offset w.bytes) content) ∙ length-change segment w.segment w.offset w.bytes content
 
 -- Marks
 
