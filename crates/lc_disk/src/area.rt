@@ -1,16 +1,16 @@
 //! An area of fixed length: what a read gives, and what a stop may leave of it.
-ghost use Rattle.std.specs.Prelude.{◌≡◌, ◌+◌, ◌-◌, ◌≤◌, ◌^◌, ℕ, Bool, true, false, List, length, take, drop, min, OnOk, OnErr, is_ok, if◌then◌else◌};
+ghost use Rattle.std.specs.Prelude.{◌≡◌, ◌+◌, ◌-◌, ◌<◌, ◌≤◌, ◌^◌, ℕ, Bool, true, false, List, length, take, drop, min, slice_index_or, OnOk, OnErr, is_ok, if◌then◌else◌};
 ghost use Rattle.lc_disk.specs.Area.{IsSameOutside, BecomeDirty, overlaid};
 
 use crate::DeviceFault;
 
 /// A byte string of fixed length on a device.
 ///
-/// While the device is `honest` it keeps to this model: a read gives the bytes that were written; a position that
-/// was written since the last successful sync is `dirty`, and may hold any byte after a stop; the others stay. A
-/// failed write makes its whole range dirty, and a failed sync makes no position stable. A write that is stopped
-/// midway leaves what a stop after it may leave, a sync what a stop before it may. Nothing is said of a device that
-/// is not honest but that each call returns, keeps the length and counts its failures.
+/// While the device is `honest` it keeps to this model: what it holds are bytes, and a read gives those that were
+/// written; a position that was written since the last successful sync is `dirty`, and may hold any byte after a
+/// stop; the others stay. A failed write makes its whole range dirty, and a failed sync makes no position stable. A
+/// write that is stopped midway leaves what a stop after it may leave, a sync what a stop before it may. Nothing is
+/// said of a device that is not honest but that each call returns, keeps the length and counts its failures.
 pub trait Area {
     /// The bytes that a read gives.
     ghost now: { Self → List ℕ };
@@ -26,7 +26,8 @@ pub trait Area {
 
     /// The length in bytes.
     fn len(&self) -> usize
-        ensures { result ≡ length (now self.now) };
+        ensures len { result ≡ length (now self.now) }
+        ensures fits { honest self.now ≡ true → (k : ℕ) → slice_index_or (now self.now) k 0 < 256 };
 
     /// Fills a buffer with the bytes from a position on.
     fn read(&mut self, at: usize, buffer: &mut [u8]) -> Result<(), DeviceFault>
@@ -43,6 +44,7 @@ pub trait Area {
         requires { at + length bytes.now ≤ length (now self.old) }
         ensures honest { honest self.new ≡ honest self.old }
         ensures len { length (now self.new) ≡ length (now self.old) }
+        ensures fits { honest self.old ≡ true → (k : ℕ) → slice_index_or (now self.old) k 0 < 256 }
         ensures written { OnOk result (honest self.old ≡ true → now self.new ≡ overlaid (now self.old) at bytes.now) }
         ensures torn { honest self.old ≡ true → IsSameOutside at (length bytes.now) (now self.old) (now self.new) }
         ensures dirtied { honest self.old ≡ true → BecomeDirty at (length bytes.now) (dirty self.old) (dirty self.new) }

@@ -13,6 +13,7 @@ pub struct MemArea {
     bytes: Vec<u8>,
     stable: Vec<u8>,
     dirty: Vec<bool>,
+    ghost fits: { (k : ℕ) → slice_index_or bytes.items k 0 < 256 },
     ghost same_stable: { length stable.items ≡ length bytes.items },
     ghost same_dirty: { length dirty.items ≡ length bytes.items },
 }
@@ -102,6 +103,7 @@ impl Area for MemArea {
     fn write_at(&mut self, at: usize, bytes: &[u8]) -> Result<(), DeviceFault>
         requires { at + length bytes.now ≤ length (memory_now self.old) }
         ensures done { result ≡ Ok tt }
+        ensures fits { (k : ℕ) → slice_index_or (memory_now self.old) k 0 < 256 }
         ensures written { memory_now self.new ≡ overlaid (memory_now self.old) at bytes.now }
         ensures torn { IsSameOutside at (length bytes.now) (memory_now self.old) (memory_now self.new) }
         ensures dirtied { BecomeDirty at (length bytes.now) (memory_dirty self.old) (memory_dirty self.new) }
@@ -148,6 +150,7 @@ impl Stoppable for MemArea {
 // Lays bytes over those from a position on.
 fn overlay(area: &mut [u8], at: usize, bytes: &[u8])
     requires { at + length bytes.now ≤ length area.old }
+    ensures fits { (k : ℕ) → slice_index_or area.new k 0 < 256 }
     ensures written { area.new ≡ overlaid area.old at bytes.now }
     ensures torn { IsSameOutside at (length bytes.now) area.old area.new }
 {

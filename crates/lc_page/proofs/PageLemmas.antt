@@ -1,9 +1,8 @@
 -- Which of two slots is the page.
-use Rattle.std.proofs.Common.{◌≡◌, ◌≢◌, ℕ, zero, suc, ◌-◌, ◌<◌, ◌≤◌, ◌^◌, Bool, true, false, cond, leb, ltb, Option, Some, None, List, [], ◌∷◌, ◌++◌, length, get_or, set, take, replicate, refl, sym, ◌∙◌, ap, subst, inl, inr, arith}
-use Rattle.std.specs.Int.{w64, to_le_bytes}
-use Rattle.std.proofs.lemmas.Bool.{cases_lt, ne_eqb, le-leb, le-ltb, lt-ltb}
+use Rattle.std.proofs.Common.{◌≡◌, ◌≢◌, ℕ, ◌<◌, ◌≤◌, ◌^◌, Bool, true, false, cond, leb, ltb, Option, Some, None, List, [], ◌∷◌, length, get_or, set, take, refl, sym, ◌∙◌, ap, arith}
+use Rattle.std.proofs.lemmas.Bool.{ne_eqb, le-leb, le-ltb, lt-ltb}
 use Rattle.std.proofs.lemmas.Nat.{from_le_bytes-to_le_bytes_8}
-use Rattle.std.proofs.lemmas.List.{take_all, get_or_append_left, get_or-append_right}
+use Rattle.std.proofs.lemmas.List.{take_all}
 use Rattle.lc_page.specs.declared.slot.Slot.{Slot}
 use Rattle.lc_page.specs.declared.slot.Slot.TheVariants.{First, Second}
 use Rattle.lc_page.specs.declared.page_text.PageText.{PageText}
@@ -168,31 +167,3 @@ pub written_page : (seq : ℕ) (bytes : List ℕ) → seq ≤ 2 ^ 60 → length 
 written_page seq bytes small long =
     let of : ℕ → List ℕ → Page = λ n l. record { sequence = n; content = l } in
     ap (λ (n : ℕ). of n (take 256 bytes)) (from_le_bytes-to_le_bytes_8 seq (omega arith)) ∙ ap (λ (l : List ℕ). of seq l) (take_all 256 bytes (omega (arith, long)))
-
--- its bytes are bytes
-front_fits : (seq k : ℕ) → get_or (165 ∷ (replicate 7 0 ++ to_le_bytes w64 seq)) k 0 < 256
-front_fits seq zero = omega arith
-front_fits seq (suc zero) = omega arith
-front_fits seq (suc (suc zero)) = omega arith
-front_fits seq (suc (suc (suc zero))) = omega arith
-front_fits seq (suc (suc (suc (suc zero)))) = omega arith
-front_fits seq (suc (suc (suc (suc (suc zero))))) = omega arith
-front_fits seq (suc (suc (suc (suc (suc (suc zero)))))) = omega arith
-front_fits seq (suc (suc (suc (suc (suc (suc (suc zero))))))) = omega arith
-front_fits seq (suc (suc (suc (suc (suc (suc (suc (suc zero)))))))) = omega arith
-front_fits seq (suc (suc (suc (suc (suc (suc (suc (suc (suc zero))))))))) = omega arith
-front_fits seq (suc (suc (suc (suc (suc (suc (suc (suc (suc (suc zero)))))))))) = omega arith
-front_fits seq (suc (suc (suc (suc (suc (suc (suc (suc (suc (suc (suc zero))))))))))) = omega arith
-front_fits seq (suc (suc (suc (suc (suc (suc (suc (suc (suc (suc (suc (suc zero)))))))))))) = omega arith
-front_fits seq (suc (suc (suc (suc (suc (suc (suc (suc (suc (suc (suc (suc (suc zero))))))))))))) = omega arith
-front_fits seq (suc (suc (suc (suc (suc (suc (suc (suc (suc (suc (suc (suc (suc (suc zero)))))))))))))) = omega arith
-front_fits seq (suc (suc (suc (suc (suc (suc (suc (suc (suc (suc (suc (suc (suc (suc (suc zero))))))))))))))) = omega arith
-front_fits seq (suc (suc (suc (suc (suc (suc (suc (suc (suc (suc (suc (suc (suc (suc (suc (suc k)))))))))))))))) = omega arith
-
-pub written_fits : (seq : ℕ) (bytes : List ℕ) → ((k : ℕ) → get_or bytes k 0 < 256) → (k : ℕ) → get_or (165 ∷ behind_gate seq bytes) k 0 < 256
-written_fits seq bytes fits k =
-    let front = 165 ∷ (replicate 7 0 ++ to_le_bytes w64 seq) in
-    elim (cases_lt k 16) [
-      | inl h ↦ subst (λ (n : ℕ). n < 256) (sym (get_or_append_left front bytes 0 k h)) (front_fits seq k)
-      | inr h ↦ subst (λ (n : ℕ). n < 256) (sym (get_or-append_right front bytes 16 k 0 refl h)) (fits (k - 16))
-    ]

@@ -30,14 +30,18 @@ pub slot_same_length : (now later : List ℕ) (page : ℕ) (slot : Slot) → len
 slot_same_length now later page slot e =
     omega (arith, length-take 272 (drop (slot_at page slot) now), length-drop (slot_at page slot) now, length-take 272 (drop (slot_at page slot) later), length-drop (slot_at page slot) later)
 
+-- the slots of an area of bytes are of bytes
+pub slot_fits : (now : List ℕ) (page : ℕ) (slot : Slot) → ((k : ℕ) → get_or now k 0 < 256) → (k : ℕ) → get_or (slot_bytes now page slot) k 0 < 256
+slot_fits now page slot fits k = elim (cases_lt k 272) [
+  | inl h ↦ subst (λ (n : ℕ). n < 256) (sym (slot_get now page slot k h)) (fits (slot_at page slot + k))
+  | inr h ↦ subst (λ (n : ℕ). n < 256) (sym (slot_past now page slot k h)) (omega arith)
+]
+
 -- an image of an area has images of its slots
 pub slot_image : (now : List ℕ) (dirty : ℕ → Bool) (image : List ℕ) (page : ℕ) (slot : Slot) → IsImage now dirty image → IsSlotImage now dirty page slot (slot_bytes image page slot)
 slot_image now dirty image page slot is = record {
   same_length = slot_same_length now image page slot is.same_length;
-  bytes = λ k. elim (cases_lt k 272) [
-    | inl h ↦ subst (λ (n : ℕ). n < 256) (sym (slot_get image page slot k h)) (is.bytes (slot_at page slot + k))
-    | inr h ↦ subst (λ (n : ℕ). n < 256) (sym (slot_past image page slot k h)) (omega arith)
-  ];
+  bytes = slot_fits image page slot is.bytes;
   stable = λ k e. elim (cases_lt k 272) [
     | inl h ↦ slot_get image page slot k h ∙ is.stable (slot_at page slot + k) e ∙ sym (slot_get now page slot k h)
     | inr h ↦ slot_past image page slot k h ∙ sym (slot_past now page slot k h)

@@ -11,29 +11,20 @@ use Rattle.lc_page.specs.Slot.{number_of, other, next_slot}
 use Rattle.lc_page.specs.Page.{Page, slot_at, slot_bytes, has_gate, sequence_of, is_open, page_of_slot, present_slot, page_at, page_of, text_of, page_in, text_in}
 use Rattle.lc_page.specs.PageVector.{gate_of, settled_text}
 use Rattle.lc_page.specs.PageWrite.{behind_gate, drafted, alone, IsSlotImage, EachImage, IsSettled, IsNext, IsBegun, IsBeside, IsClosing, IsClosed, IsFilling, IsFilled, IsTorn, IsOpening, IsEither, SameInside, SameOutside}
-use Rattle.lc_page.proofs.SlotLemmas.{number_small, slot_get, slot_short, slot_length, slot_same_length, slot_image, slot_itself, laid, laid_bytes, laid_image, SameSlot, same_slot, kept_bytes, kept_image, overlaid_get, unwritten, other_kept, outside_kept, nothing_written, all_kept, clean_image, clean_gate, gate_and_behind, behind_image}
-use Rattle.lc_page.proofs.PageLemmas.{shut, only_other, not_present, newer_wins, next_is_free, made_text, gates_get, two, two_here, two_there, each_slot, same_page, same_text, gate_is, two_gates, written_gates, written_open, written_page, written_fits}
+use Rattle.lc_page.proofs.SlotLemmas.{number_small, slot_get, slot_short, slot_length, slot_same_length, slot_fits, slot_image, slot_itself, laid, laid_bytes, laid_image, SameSlot, same_slot, kept_bytes, kept_image, overlaid_get, unwritten, other_kept, outside_kept, nothing_written, all_kept, clean_image, clean_gate, gate_and_behind, behind_image}
+use Rattle.lc_page.proofs.PageLemmas.{shut, only_other, not_present, newer_wins, next_is_free, made_text, gates_get, two, two_here, two_there, each_slot, same_page, same_text, gate_is, two_gates, written_gates, written_open, written_page}
 
 -- each image of an area has this page, where each of the two slots has
 pub area_images : (now : List ℕ) (dirty : ℕ → Bool) (page : ℕ) (P : Page → Type 0) → EachImage now dirty page (λ slots. P (page_of slots)) → (image : List ℕ) → IsImage now dirty image → P (page_in image page)
 area_images now dirty page P each image is = each (slot_bytes image page) (λ slot. slot_image now dirty image page slot is)
 
 -- a page with nothing dirty is settled
-pub clean_settled : (now : List ℕ) (dirty : ℕ → Bool) (page : ℕ) → ((slot : Slot) (k : ℕ) → get_or (slot_bytes now page slot) k 0 < 256)
-    → ((slot : Slot) (k : ℕ) → k < 272 → dirty (slot_at page slot + k) ≡ false) → IsSettled now dirty page (text_in now page)
-clean_settled now dirty page fits clean = record {
-  fits = fits;
+pub clean_settled : (now : List ℕ) (dirty : ℕ → Bool) (page : ℕ) → ((slot : Slot) (k : ℕ) → k < 272 → dirty (slot_at page slot + k) ≡ false)
+    → IsSettled now dirty page (text_in now page)
+clean_settled now dirty page clean = record {
   text_is = λ slots are. same_text slots (slot_bytes now page) (λ slot. clean_image now dirty page slot (slots slot) (clean slot) (are slot));
   page_is = λ slots are. same_page slots (slot_bytes now page) (λ slot. clean_image now dirty page slot (slots slot) (clean slot) (are slot));
 }
-
--- the same, of bytes of the area
-pub clean_area : (now : List ℕ) (dirty : ℕ → Bool) (page : ℕ) → ((slot : Slot) (k : ℕ) → k < 272 → get_or now (slot_at page slot + k) 0 < 256)
-    → ((slot : Slot) (k : ℕ) → k < 272 → dirty (slot_at page slot + k) ≡ false) → IsSettled now dirty page (text_in now page)
-clean_area now dirty page fits = clean_settled now dirty page (λ slot k. elim (cases_lt k 272) [
-  | inl h ↦ subst (λ (n : ℕ). n < 256) (sym (slot_get now page slot k h)) (fits slot k h)
-  | inr h ↦ subst (λ (n : ℕ). n < 256) (sym (get_or_past (slot_bytes now page slot) k 0 (omega (arith, slot_short now page slot)))) (omega arith)
-])
 
 -- a page of which each image of the area says this is settled
 pub images_settled : (now : List ℕ) (dirty : ℕ → Bool) (page : ℕ) (text : PageText) → (2 * page + 2) * 272 ≤ length now → ((k : ℕ) → get_or now k 0 < 256)
@@ -46,17 +37,13 @@ images_settled now dirty page text room fits each =
     let whole = each (laid now page slots) (laid_image now dirty page slots room fits are) in
     (same_text slots (slot_bytes (laid now page slots) page) bytes ∙ whole.0, same_page slots (slot_bytes (laid now page slots) page) bytes ∙ whole.1) in
     record {
-      fits = λ slot k. elim (cases_lt k 272) [
-        | inl h ↦ subst (λ (n : ℕ). n < 256) (sym (slot_get now page slot k h)) (fits (slot_at page slot + k))
-        | inr h ↦ subst (λ (n : ℕ). n < 256) (sym (get_or_past (slot_bytes now page slot) k 0 (omega (arith, slot_short now page slot)))) (omega arith)
-      ];
       text_is = λ slots are. (one slots are).0;
       page_is = λ slots are. (one slots are).1;
     }
 
 -- a settled page reads so, and in each image
-pub settled_reads : (now : List ℕ) (dirty : ℕ → Bool) (page : ℕ) (text : PageText) → IsSettled now dirty page text → text_in now page ≡ text
-settled_reads now dirty page text is = is.text_is (slot_bytes now page) (λ slot. slot_itself now dirty page slot (is.fits slot))
+pub settled_reads : (now : List ℕ) (dirty : ℕ → Bool) (page : ℕ) (text : PageText) → ((k : ℕ) → get_or now k 0 < 256) → IsSettled now dirty page text → text_in now page ≡ text
+settled_reads now dirty page text fits is = is.text_is (slot_bytes now page) (λ slot. slot_itself now dirty page slot (slot_fits now page slot fits))
 
 pub settled_images : (now : List ℕ) (dirty : ℕ → Bool) (page : ℕ) (text : PageText) → IsSettled now dirty page text
     → (image : List ℕ) → IsImage now dirty image → (text_in image page ≡ text) × (page_in image page ≡ page_in now page)
@@ -74,7 +61,6 @@ module _ (now later : List ℕ) (dirty soiled : ℕ → Bool) where
       let before : (slots : Slot → List ℕ) → ((slot : Slot) → IsSlotImage later soiled page slot (slots slot)) → (slot : Slot) → IsSlotImage now dirty page slot (slots slot) =
       λ slots are slot. kept_image page slot now later dirty soiled (same_slot page slot now later dirty soiled s) (slots slot) (are slot) in
       record {
-        fits = λ slot k. subst (λ (l : List ℕ). get_or l k 0 < 256) (sym (bytes slot)) (is.fits slot k);
         text_is = λ slots are. is.text_is slots (before slots are);
         page_is = λ slots are. is.page_is slots (before slots are) ∙ sym same;
       }
@@ -167,22 +153,22 @@ module _ (now : List ℕ) (dirty : ℕ → Bool) (draft : Draft) (text : PageTex
 
 -- the first call
 
-module _ (now : List ℕ) (dirty : ℕ → Bool) (draft : Draft) (text : PageText) (is : IsSettled now dirty draft.page text) (next : IsNext draft text) where
+module _ (now : List ℕ) (dirty : ℕ → Bool) (draft : Draft) (text : PageText) (fits : (k : ℕ) → get_or now k 0 < 256) (is : IsSettled now dirty draft.page text) (next : IsNext draft text) where
   free_slot : (slots : Slot → List ℕ) → text_of slots ≡ text → present_slot slots ≢ Some draft.slot
   free_slot slots e at = next_is_free text.slot (sym (ap (λ (t : PageText). t.slot) e) ∙ at ∙ ap (λ (s : Slot). Some s) next.slot)
 
   itself : (slot : Slot) → IsSlotImage now dirty draft.page slot (slot_bytes now draft.page slot)
-  itself slot = slot_itself now dirty draft.page slot (is.fits slot)
+  itself slot = slot_itself now dirty draft.page slot (slot_fits now draft.page slot fits)
 
-  pub reads_text : text_in now draft.page ≡ text
-  reads_text = is.text_is (slot_bytes now draft.page) itself
+  reads_text : text_in now draft.page ≡ text
+  reads_text = settled_reads now dirty draft.page text fits is
 
   pub settled_beside : IsBeside now dirty draft text (page_in now draft.page)
   settled_beside = record {
     next = next;
     sequence = ap (λ (t : PageText). t.seq) reads_text;
     two_gates = two_gates (slot_bytes now draft.page) text reads_text;
-    fits = is.fits (other draft.slot);
+    fits = slot_fits now draft.page (other draft.slot) fits;
     gate = gate_is (slot_bytes now draft.page) text reads_text (other draft.slot);
     other_is = λ image of.
         let slots : Slot → List ℕ = two draft.slot (slot_bytes now draft.page draft.slot) image in
@@ -311,13 +297,7 @@ module _ (now later : List ℕ) (dirty soiled : ℕ → Bool) (draft : Draft) (t
           ∙ ap of (gates ∙ ap (λ (s : Slot). set text.gates (number_of s) true) beside.next.slot)
 
       pub opened_settled : IsSettled later soiled draft.page (settled_text text draft.seq)
-      opened_settled =
-          let here : (k : ℕ) → get_or (slot_bytes later draft.page draft.slot) k 0 < 256 =
-          λ k. subst (λ (l : List ℕ). get_or l k 0 < 256) (sym here_is) (written_fits draft.seq draft.bytes after.torn.beside.next.fits k) in
-          subst (λ (t : PageText). IsSettled later soiled draft.page t) opened_text
-          (clean_settled later soiled draft.page
-          (each_slot (λ slot. (k : ℕ) → get_or (slot_bytes later draft.page slot) k 0 < 256) draft.slot here after.torn.beside.fits)
-          (λ slot k _. clean (slot_at draft.page slot + k)))
+      opened_settled = subst (λ (t : PageText). IsSettled later soiled draft.page t) opened_text (clean_settled later soiled draft.page (λ slot k _. clean (slot_at draft.page slot + k)))
 
 -- the page after the sixth call, in each image
 pub opened_images : (now : List ℕ) (dirty : ℕ → Bool) (draft : Draft) (text : PageText) → IsSettled now dirty draft.page text → page_in now draft.page ≡ drafted draft
@@ -340,15 +320,15 @@ module _ (now later : List ℕ) (dirty soiled : ℕ → Bool) (draft : Draft) (a
     gate_soils : bytes ≡ 0 ∷ [] → BecomeDirty (slot_at draft.page draft.slot) 1 dirty soiled
     gate_soils one = subst (λ (k : ℕ). BecomeDirty k 1 dirty soiled) place (subst (λ (n : ℕ). BecomeDirty at n dirty soiled) (ap length one) soils)
 
-    module _ (text : PageText) (is : IsSettled now dirty draft.page text) (begun : IsBegun draft gate text) where
+    module _ (text : PageText) (fits : (k : ℕ) → get_or now k 0 < 256) (is : IsSettled now dirty draft.page text) (begun : IsBegun draft gate text) where
       none_closing : gate ≡ false → bytes ≡ [] → IsClosing later soiled draft text (page_in now draft.page)
       none_closing closed none = kept_closing now later dirty soiled draft text (page_in now draft.page) (none_written none)
-          (closing_closed now dirty draft text is begun.next (sym begun.gate ∙ closed))
+          (closing_closed now dirty draft text fits is begun.next (sym begun.gate ∙ closed))
 
       pub first_images : EachImage later soiled draft.page (λ slots. page_of slots ≡ page_in now draft.page)
       first_images = elim choice [
         | inl none ↦ (none_closing none.0 none.1).page_is
-        | inr one ↦ closing_images now dirty draft text is begun.next later soiled (gate_same one.1) (gate_soils one.1) (sym begun.gate ∙ one.0)
+        | inr one ↦ closing_images now dirty draft text fits is begun.next later soiled (gate_same one.1) (gate_soils one.1) (sym begun.gate ∙ one.0)
       ]
 
       pub first_closing : (2 * draft.page + 2) * 272 ≤ length now → later ≡ overlaid now at bytes → IsClosing later soiled draft text (page_in now draft.page)
@@ -357,7 +337,7 @@ module _ (now later : List ℕ) (dirty soiled : ℕ → Bool) (draft : Draft) (a
         | inr one ↦
             let laid : get_or (slot_bytes later draft.page draft.slot) 0 0 ≡ 0 =
             gate_laid now later draft.page draft.slot 0 room (subst (λ (l : List ℕ). later ≡ overlaid now (slot_at draft.page draft.slot) l) one.1 (subst (λ (k : ℕ). later ≡ overlaid now k bytes) place lies)) in
-            closing_open now dirty draft text is begun.next later soiled (gate_same one.1) (gate_soils one.1) (sym begun.gate ∙ one.0) (λ e. absurd (omega (arith, laid, e)))
+            closing_open now dirty draft text fits is begun.next later soiled (gate_same one.1) (gate_soils one.1) (sym begun.gate ∙ one.0) (λ e. absurd (omega (arith, laid, e)))
       ]
 
     short : length bytes ≤ 1

@@ -29,7 +29,6 @@ EachImage now dirty page P = (slots : Slot → List ℕ) → ((slot : Slot) → 
 
 -- in every image the disk says this of the page, and the page is the same as the area reads
 pub record IsSettled (now : List ℕ) (dirty : ℕ → Bool) (page : ℕ) (text : PageText) : Type 0 where
-  pub fits : (slot : Slot) (k : ℕ) → slice_index_or (slot_bytes now page slot) k 0 < 256
   pub text_is : EachImage now dirty page (λ slots. text_of slots ≡ text)
   pub page_is : EachImage now dirty page (λ slots. page_of slots ≡ page_in now page)
 

@@ -19,16 +19,15 @@ pub fn sync_keeps()
         → ((k : ℕ) → dirty k ≡ false → soiled k ≡ false) → SameInside page now dirty later soiled }
 {}
 
-/// A page none of whose positions is dirty, and whose bytes are bytes, is settled as it reads.
+/// A page none of whose positions is dirty is settled as it reads.
 pub fn settled_when_clean()
     ensures { (now : List ℕ) (dirty : ℕ → Bool) (page : ℕ)
-        → ((slot : Slot) (k : ℕ) → k < 272 → slice_index_or now (slot_at page slot + k) 0 < 256)
         → ((slot : Slot) (k : ℕ) → k < 272 → dirty (slot_at page slot + k) ≡ false)
         → IsSettled now dirty page (text_in now page) }
 {}
 
-/// A page is settled where the area has both its slots, its bytes are bytes, and each image says this of the page and
-/// has the same page as the area reads.
+/// A page is settled where the area has both its slots, and each image says this of the page and has the same page as
+/// the area reads. That its bytes are below 256, without which it may have no image, a caller has from `Area::len`.
 pub fn settled_from_images()
     ensures { (now : List ℕ) (dirty : ℕ → Bool) (page : ℕ) (text : PageText) → (2 * page + 2) * 272 ≤ length now
         → ((k : ℕ) → slice_index_or now k 0 < 256)
@@ -36,10 +35,10 @@ pub fn settled_from_images()
         → IsSettled now dirty page text }
 {}
 
-/// Of a settled page the area reads what is said of it.
+/// Of a settled page the area reads what is said of it, where its bytes are below 256, as `Area::len` says.
 pub fn settled_reads()
-    ensures { (now : List ℕ) (dirty : ℕ → Bool) (page : ℕ) (text : PageText) → IsSettled now dirty page text
-        → text_in now page ≡ text }
+    ensures { (now : List ℕ) (dirty : ℕ → Bool) (page : ℕ) (text : PageText)
+        → ((k : ℕ) → slice_index_or now k 0 < 256) → IsSettled now dirty page text → text_in now page ≡ text }
 {}
 
 /// And so in each image, with the same page.

@@ -147,7 +147,8 @@ impl PageWrite<Closing> {
         ensures fault { IfErr result (λ f. f ≡ PageFault.DeviceFault) }
     {
         let PageWrite { draft, state: _ } = self;
-        match area.sync() {
+        let closed = area.sync();
+        match closed {
             Ok(()) => Ok(PageWrite {
                 draft,
                 state: Closed,
@@ -200,7 +201,8 @@ impl PageWrite<Filling> {
         ensures fault { IfErr result (λ f. f ≡ PageFault.DeviceFault) }
     {
         let PageWrite { draft, state: _ } = self;
-        match area.sync() {
+        let filled = area.sync();
+        match filled {
             Ok(()) => Ok(PageWrite {
                 draft,
                 state: Filled,

@@ -11,7 +11,7 @@ returns-in-Ok-clause-closing g c text begun settled honest =
     let h = c.in-Ok.ensures in
     let choice : ((c.args.self.state.gate ≡ false) × (c.if-state.gate.now ≡ [])) ⊎ ((c.args.self.state.gate ≡ true) × (c.if-state.gate.now ≡ 0 ∷ [])) =
     elim c.if-state.branch [ then-state w ↦ inr (search rules, search rules) | else-state w ↦ inl (search rules, search rules) ] in
-    first_closing _ _ _ _ c.args.self.draft c.place.result c.place.ensures c.args.self.state.gate _ choice (h.torn was) (h.dirtied was) text (settled was) begun c.requires (h.written was)
+    first_closing _ _ _ _ c.args.self.draft c.place.result c.place.ensures c.args.self.state.gate _ choice (h.torn was) (h.dirtied was) text (h.fits was) (settled was) begun c.requires (h.written was)
 
 pub returns-in-Ok-clause-images : goal.returns-in-Ok-clause-images
 returns-in-Ok-clause-images g c text begun settled honest =
@@ -20,7 +20,7 @@ returns-in-Ok-clause-images g c text begun settled honest =
     let choice : ((c.args.self.state.gate ≡ false) × (c.if-state.gate.now ≡ [])) ⊎ ((c.args.self.state.gate ≡ true) × (c.if-state.gate.now ≡ 0 ∷ [])) =
     elim c.if-state.branch [ then-state w ↦ inr (search rules, search rules) | else-state w ↦ inl (search rules, search rules) ] in
     area_images _ _ c.args.self.draft.page (λ (page : Page). page ≡ page_in (g.D.Area.now c.args.area.now) c.args.self.draft.page)
-    (first_images _ _ _ _ c.args.self.draft c.place.result c.place.ensures c.args.self.state.gate _ choice (h.torn was) (h.dirtied was) text (settled was) begun)
+    (first_images _ _ _ _ c.args.self.draft c.place.result c.place.ensures c.args.self.state.gate _ choice (h.torn was) (h.dirtied was) text (h.fits was) (settled was) begun)
 
 pub returns-in-Err-clause-images : goal.returns-in-Err-clause-images
 returns-in-Err-clause-images g c text begun settled honest =
@@ -29,7 +29,7 @@ returns-in-Err-clause-images g c text begun settled honest =
     let choice : ((c.args.self.state.gate ≡ false) × (c.if-state.gate.now ≡ [])) ⊎ ((c.args.self.state.gate ≡ true) × (c.if-state.gate.now ≡ 0 ∷ [])) =
     elim c.if-state.branch [ then-state w ↦ inr (search rules, search rules) | else-state w ↦ inl (search rules, search rules) ] in
     area_images _ _ c.args.self.draft.page (λ (page : Page). page ≡ page_in (g.D.Area.now c.args.area.now) c.args.self.draft.page)
-    (first_images _ _ _ _ c.args.self.draft c.place.result c.place.ensures c.args.self.state.gate _ choice (h.torn was) (h.dirtied was) text (settled was) begun)
+    (first_images _ _ _ _ c.args.self.draft c.place.result c.place.ensures c.args.self.state.gate _ choice (h.torn was) (h.dirtied was) text (h.fits was) (settled was) begun)
 
 pub returns-in-Ok-clause-others : goal.returns-in-Ok-clause-others
 returns-in-Ok-clause-others g c =
