@@ -1,0 +1,4 @@
+pub mod TokenLemmas
+pub mod BacklogLemmas
+pub mod KeptLemmas
+pub mod CallLemmas

@@ -1,0 +1,115 @@
+-- The parts of records of one segment that wait at a node, and what one more receipt does.
+use Rattle.std.specs.Prelude.{◌≡◌, ◌==◌, ℕ, zero, suc, ◌+◌, ◌<◌, nat_lt, nat_le, Bool, true, false, ◌||◌, if◌then◌else◌, Option, Some, None, is_some, List, [], ◌∷◌, ◌++◌, length, filter}
+use Rattle.lc_record.specs.declared.part.Part.{Part}
+use Rattle.lc_token.specs.declared.received.Received.{Received}
+use Rattle.lc_token.specs.declared.received.Received.TheVariants.{Applied, HeldBack, Ignored}
+
+-- what contracts see of a `HoldBack`: the number up to which all are applied, the applied parts that are to be handed
+-- out, in the order of their numbers, and those behind a hole, ascending by number
+pub record Backlog : Type 0 where
+  pub segment : ℕ
+  pub applied : ℕ
+  pub due : List Part
+  pub kept : List Part
+
+-- one that has received nothing
+abbrev pub fresh : ℕ → ℕ → Backlog
+fresh segment applied = record { segment = segment; applied = applied; due = []; kept = [] }
+
+-- these ascend by number, and are above this one
+abbrev pub Ascends : ℕ → List Part → Type 0
+Ascends low [] = Unit {0}
+Ascends low (part ∷ parts) = (low < part.seq) × Ascends part.seq parts
+
+-- the first part with this number
+abbrev pub numbered : ℕ → List Part → Option Part
+numbered number [] = None
+numbered number (part ∷ parts) = if part.seq == number then Some part else numbered number parts
+
+-- these are the parts with the numbers behind this one, up to the first number that no part has
+abbrev pub AreDue : ℕ → List Part → List Part → Type 0
+AreDue applied parts [] = numbered (applied + 1) parts ≡ None
+AreDue applied parts (part ∷ due) = (numbered (applied + 1) parts ≡ Some part) × AreDue (applied + 1) parts due
+
+-- a part, if there is one, and those behind it
+abbrev pub led_by : Option Part → List Part → List Part
+led_by None parts = []
+led_by (Some part) parts = part ∷ parts
+
+-- the parts with the numbers behind this one without a hole, of so many numbers at most
+abbrev pub due_of : ℕ → ℕ → List Part → List Part
+due_of zero applied parts = []
+due_of (suc most) applied parts = led_by (numbered (applied + 1) parts) (due_of most (applied + 1) parts)
+
+-- what parts make due behind a number: that with the next number, if there is one, then that with the number behind it,
+-- and so on. There are no more than parts.
+unfoldable pub due_behind : ℕ → List Part → List Part
+due_behind applied parts = due_of (length parts) applied parts
+
+-- the parts above a number
+abbrev pub above : ℕ → List Part → List Part
+above number parts = filter (λ part. nat_lt number part.seq) parts
+
+-- with one more, in its place by number
+abbrev pub put : Part → List Part → List Part
+put part [] = part ∷ []
+put part (other ∷ others) = if nat_lt part.seq other.seq then part ∷ other ∷ others else other ∷ put part others
+
+-- each part stands at its number
+abbrev pub StandAtNumbers : List (ℕ × Part) → Type 0
+StandAtNumbers [] = Unit {0}
+StandAtNumbers (entry ∷ entries) = (entry.0 ≡ entry.1.seq) × StandAtNumbers entries
+
+-- the first has the number behind this one
+abbrev pub is_next : ℕ → List Part → Bool
+is_next applied [] = false
+is_next applied (part ∷ parts) = part.seq == applied + 1
+
+-- the first leaves, where it has the number behind this one
+abbrev pub TakesNext : ℕ → List Part → Option Part → List Part → Type 0
+TakesNext applied old None new = (is_next applied old ≡ false) × (new ≡ old)
+TakesNext applied old (Some part) new = (old ≡ part ∷ new) × (part.seq ≡ applied + 1)
+
+-- those in front whose numbers follow on this one without a hole
+abbrev pub run_of : ℕ → List Part → List Part
+run_of applied [] = []
+run_of applied (part ∷ parts) = if part.seq == applied + 1 then part ∷ run_of (applied + 1) parts else []
+
+-- and those behind them
+abbrev pub rest_of : ℕ → List Part → List Part
+rest_of applied [] = []
+rest_of applied (part ∷ parts) = if part.seq == applied + 1 then rest_of (applied + 1) parts else part ∷ parts
+
+-- the number was applied, or is kept
+abbrev pub is_known : Backlog → ℕ → Bool
+is_known backlog number = nat_le number backlog.applied || is_some (numbered number backlog.kept)
+
+-- these are due too, and all up to their last number are applied
+abbrev pub advanced : Backlog → List Part → Backlog
+advanced old run = record old {
+  applied = old.applied + length run;
+  due = old.due ++ run;
+  kept = above (old.applied + length run) old.kept;
+}
+
+-- one more part is kept
+abbrev pub keeping : Backlog → Part → Backlog
+keeping old part = record old { kept = put part old.kept }
+
+-- all up to this number are applied, the last of them a record of the node's own
+abbrev pub counted : Backlog → ℕ → Backlog
+counted old number = record old { applied = number; kept = above number old.kept }
+
+-- what a receipt of a part answers, and what it leaves
+abbrev pub Receives : Part → Backlog → Received → Backlog → Type 0
+Receives part old (Applied number) new =
+    (is_known old part.seq ≡ false) × (part.seq ≡ old.applied + 1) × (number ≡ new.applied)
+    × (new ≡ advanced old (due_behind old.applied (part ∷ old.kept)))
+Receives part old HeldBack new =
+    (is_known old part.seq ≡ false) × (old.applied + 1 < part.seq) × (new ≡ keeping old part)
+Receives part old Ignored new = (is_known old part.seq ≡ true) × (new ≡ old)
+
+-- what is handed out, and what that leaves
+abbrev pub HandsOut : Backlog → Option Part → Backlog → Type 0
+HandsOut old None new = (old.due ≡ []) × (new ≡ old)
+HandsOut old (Some part) new = old ≡ record new { due = part ∷ new.due }

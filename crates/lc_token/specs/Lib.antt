@@ -1,0 +1,6 @@
+pub mod Fault
+pub mod Backlog
+pub mod HoldBack
+pub mod Token
+pub mod TokenPlace
+pub mod Calls

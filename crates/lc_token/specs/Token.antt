@@ -1,0 +1,32 @@
+-- How far the pages of a segment on the disk have come.
+use Rattle.std.specs.Prelude.{◌≡◌, ◌⊎◌, ℕ, ◌<◌, ◌≤◌, ◌^◌, true, min, Option, Some, None, List, length}
+use Rattle.lc_page.specs.declared.entry.Entry.{Entry}
+use Rattle.lc_page.specs.PageVector.{entry_at, is_dirty}
+
+-- the page is one of these, and dirty; a page's number has 32 bits
+abbrev pub IsDirtyPage : List Entry → ℕ → Type 0
+IsDirtyPage pages page = (page < length pages) × (page < 2 ^ 32) × (is_dirty (entry_at pages page) ≡ true)
+
+-- no page is dirty
+abbrev pub AreClean : List Entry → Type 0
+AreClean pages = (page : ℕ) → ¬ IsDirtyPage pages page
+
+-- some dirty page has this number on the disk, and no dirty page a lower one
+abbrev pub IsLeastStable : List Entry → ℕ → Type 0
+IsLeastStable pages number =
+    ((page : ℕ) × IsDirtyPage pages page × ((entry_at pages page).stable ≡ number))
+    × ((page : ℕ) → IsDirtyPage pages page → number ≤ (entry_at pages page).stable)
+
+-- the least number that a dirty page has on the disk, if a page is dirty
+abbrev pub IsOldestDirty : List Entry → Option ℕ → Type 0
+IsOldestDirty pages None = AreClean pages
+IsOldestDirty pages (Some number) = IsLeastStable pages number
+
+-- the number that the pages on the disk have reached: the token's, or the least that a dirty page has
+abbrev pub IsReached : ℕ → List Entry → ℕ → Type 0
+IsReached seq pages reached = (AreClean pages × (reached ≡ seq)) ⊎ IsLeastStable pages reached
+
+-- the least of a number, and of those before it
+abbrev pub least_with : Option ℕ → ℕ → ℕ
+least_with None number = number
+least_with (Some least) number = min least number

@@ -1,0 +1,20 @@
+//! Tokens of segments: each part of a record is applied in the order of its numbers, once.
+#![tactic(auto)]
+
+mod fault;
+mod hold_back;
+mod kept;
+mod laws;
+mod received;
+mod token;
+mod token_place;
+
+pub use fault::TokenFault;
+pub use hold_back::HoldBack;
+pub use laws::{any_order, next_numbers, same_records};
+pub use received::Received;
+pub use token::Token;
+pub use token_place::TokenPlace;
+
+#[cfg(test)]
+mod tests;

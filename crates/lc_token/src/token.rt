@@ -1,0 +1,58 @@
+//! What says which node may change a segment.
+ghost use Rattle.std.specs.Prelude.{◌≡◌, ◌<◌, ℕ, length, max, slice_set};
+ghost use Rattle.lc_page.specs.PageVector.{entry_at, settled};
+ghost use Rattle.lc_token.specs.Token.{IsOldestDirty, IsReached, least_with};
+
+use lc_page::PageVector;
+
+/// What says which node may change a segment (log-based coherency: Feeley et al., OSDI 1994). There is one of a segment:
+/// it is placed or sent, and a dropped one is lost until the next recovery.
+#[derive(Debug, Drop)]
+pub struct Token {
+    /// The segment, from 1.
+    pub segment: u32,
+    /// The number of the last record of the segment.
+    pub seq: u64,
+    /// The number up to which the records of the segment are on its pages on the disk.
+    pub clean: u64,
+    /// What is kept of its pages.
+    pub pages: PageVector,
+}
+
+impl Token {
+    /// Notes that a page was written under a number: `clean` rises to the least number that a dirty page has on the
+    /// disk, and where no page is dirty to the token's own. It takes no memory. This project's own.
+    pub fn written(&mut self, page: u32, number: u64)
+        requires { page < length self.old.pages }
+        ensures pages { self.new.pages ≡ slice_set self.old.pages page (settled (entry_at self.old.pages page) number) }
+        ensures clean { (reached : ℕ) × IsReached self.old.seq self.new.pages reached × (self.new.clean ≡ max self.old.clean reached) }
+        ensures segment { self.new.segment ≡ self.old.segment }
+        ensures seq { self.new.seq ≡ self.old.seq }
+    {
+        self.pages.settle(page, number);
+        let reached = oldest_dirty(&self.pages).unwrap_or(self.seq);
+        self.clean = self.clean.max(reached);
+    }
+}
+
+// The least number that a dirty page has on the disk, if a page is dirty.
+fn oldest_dirty(pages: &PageVector) -> Option<u64>
+    ensures { IsOldestDirty pages.now result }
+{
+    let mut oldest: Option<u64> = None;
+    for place in 0..pages.len() {
+        let Ok(page) = u32::try_from(place) else {
+            break;
+        };
+        if pages.dirty(page) {
+            oldest = Some(least_with(oldest, pages.stable(page)));
+        }
+    }
+    oldest
+}
+
+fn least_with(least: Option<u64>, number: u64) -> u64
+    ensures { result ≡ least_with least number }
+{
+    least.map_or(number, |least| least.min(number))
+}

@@ -1,0 +1,119 @@
+//! The place of a segment's token at a node.
+ghost use Rattle.std.specs.Prelude.{◌≡◌, ◌<◌, ◌≤◌, ◌↔◌, true, false, [], IfOk, IsOk, IsSome, IsTrue, OnOk, OnErr};
+ghost use Rattle.std.specs.Option.{ForSome, option_copied, option_copied_mut};
+ghost use Rattle.std.specs.Borrow.{sem};
+ghost use Rattle.lc_token.specs.TokenPlace.{LendsToken};
+
+use crate::{HoldBack, Token, TokenFault};
+
+/// The place of one segment's token at a node: the token stands there, or it is empty.
+#[derive(Debug, Drop)]
+pub struct TokenPlace {
+    segment: u32,
+    token: Option<Token>,
+}
+
+impl TokenPlace {
+    /// The place of a segment, with its token or without.
+    pub fn new(segment: u32, token: Option<Token>) -> TokenPlace
+        requires { ForSome token (λ t. t.segment ≡ segment) }
+        ensures segment { result.segment ≡ segment }
+        ensures token { result.token ≡ token }
+    {
+        TokenPlace { segment, token }
+    }
+
+    /// The segment, from 1.
+    pub fn segment(&self) -> u32
+        ensures { result ≡ self.now.segment }
+    {
+        self.segment
+    }
+
+    /// The token that stands here.
+    pub fn token(&self) -> Option<&Token>
+        ensures { option_copied result ≡ self.now.token }
+    {
+        self.token.as_ref()
+    }
+
+    /// The token that stands here, to be changed.
+    pub fn token_mut(&mut self) -> Option<&mut Token>
+        ensures* writes_back { sem 𝓛 (LendsToken self.entry result) }
+        ensures token { option_copied_mut result ≡ self.old.token }
+    {
+        self.token.as_mut()
+    }
+
+    /// Whether no token stands here.
+    pub fn is_empty(&self) -> bool
+        ensures { IsTrue result ↔ (self.now.token ≡ None) }
+    {
+        self.token.is_none()
+    }
+
+    /// Takes the token away, to be sent, which leaves the place empty.
+    ///
+    /// # Errors
+    ///
+    /// In this order: `NotHere` where no token stands here; `Held` where a transaction holds the segment; `Writing` where
+    /// a page of the segment is being written; `Unflushed` where of the records that the node reserved not all are
+    /// stable. Nothing has changed then.
+    pub fn leave(
+        &mut self,
+        held: bool,
+        writing: bool,
+        reserved: u64,
+        stable: u64,
+    ) -> Result<Token, TokenFault>
+        ensures not_here { (result ≡ Err (TokenFault.NotHere self.old.segment)) ↔ (self.old.token ≡ None) }
+        ensures held { (result ≡ Err TokenFault.Held) ↔ (IsSome self.old.token × (held ≡ true)) }
+        ensures writing { (result ≡ Err TokenFault.Writing) ↔ (IsSome self.old.token × (held ≡ false) × (writing ≡ true)) }
+        ensures unflushed { (result ≡ Err TokenFault.Unflushed)
+            ↔ (IsSome self.old.token × (held ≡ false) × (writing ≡ false) × (stable < reserved)) }
+        ensures done { IsOk result
+            ↔ (IsSome self.old.token × (held ≡ false) × (writing ≡ false) × (reserved ≤ stable)) }
+        ensures token { IfOk result (λ token. self.old.token ≡ Some token) }
+        ensures empty { OnOk result (self.new ≡ record self.old { token = None }) }
+        ensures err { OnErr result (self.new ≡ self.old) }
+    {
+        if self.token.is_none() {
+            return Err(TokenFault::NotHere {
+                segment: self.segment,
+            });
+        }
+        if held {
+            return Err(TokenFault::Held);
+        }
+        if writing {
+            return Err(TokenFault::Writing);
+        }
+        if stable < reserved {
+            return Err(TokenFault::Unflushed);
+        }
+        Ok(self.token.take().unwrap())
+    }
+
+    /// Places a token that was sent here. The place is empty, and no part waits to be handed out: `is_empty` and
+    /// `HoldBack::has_due` tell. Refused where the node has not applied all that the token has seen; the token is then
+    /// handed back.
+    pub fn arrive(&mut self, token: Token, hold_back: &HoldBack) -> Result<(), (Token, TokenFault)>
+        requires empty { self.old.token ≡ None }
+        requires none_due { hold_back.now.due ≡ [] }
+        requires same_token { token.segment ≡ self.old.segment }
+        requires same_hold_back { hold_back.now.segment ≡ self.old.segment }
+        ensures behind { (result ≡ Err (token, TokenFault.Behind hold_back.now.applied token.seq))
+            ↔ (hold_back.now.applied < token.seq) }
+        ensures done { (result ≡ Ok tt) ↔ (token.seq ≤ hold_back.now.applied) }
+        ensures placed { OnOk result (self.new ≡ record self.old { token = Some token }) }
+        ensures err { OnErr result (self.new ≡ self.old) }
+    {
+        let applied = hold_back.applied();
+        if applied < token.seq {
+            let seq = token.seq;
+            return Err((token, TokenFault::Behind { applied, seq }));
+        }
+        self.token = Some(token);
+        Ok(())
+    }
+}
