@@ -6,3 +6,4 @@ pub mod CopyLemmas
 pub mod PartsLemmas
 pub mod KeepLemmas
 pub mod StepLemmas
+pub mod RoomLemmas

@@ -10,15 +10,15 @@ use Rattle.lc_range.proofs.SetLemmas.{past}
 
 -- Lists joined end to end
 
-has_left : (xs ys : List Range) (s k : ℕ) → Has xs s k → Has (xs ++ ys) s k
+pub has_left : (xs ys : List Range) (s k : ℕ) → Has xs s k → Has (xs ++ ys) s k
 has_left [] ys s k has = absurd has
 has_left (x ∷ xs) ys s k has = elim has [ inl here ↦ inl here | inr later ↦ inr (has_left xs ys s k later) ]
 
-has_right : (xs ys : List Range) (s k : ℕ) → Has ys s k → Has (xs ++ ys) s k
+pub has_right : (xs ys : List Range) (s k : ℕ) → Has ys s k → Has (xs ++ ys) s k
 has_right [] ys s k has = has
 has_right (x ∷ xs) ys s k has = inr (has_right xs ys s k has)
 
-has_either : (xs ys : List Range) (s k : ℕ) → Has (xs ++ ys) s k → Has xs s k ⊎ Has ys s k
+pub has_either : (xs ys : List Range) (s k : ℕ) → Has (xs ++ ys) s k → Has xs s k ⊎ Has ys s k
 has_either [] ys s k has = inr has
 has_either (x ∷ xs) ys s k has = elim has [
   | inl here ↦ inl (inl here)

@@ -1,8 +1,8 @@
 //! The positions that a transaction has set.
-ghost use Rattle.std.specs.Prelude.{◌≡◌, ◌+◌, ◌-◌, ◌^◌, ◌<◌, ◌≤◌, ◌↔◌, ℕ, [], length, Err, IsTrue, OnOk, OnErr};
+ghost use Rattle.std.specs.Prelude.{◌≡◌, ◌+◌, ◌-◌, ◌^◌, ◌<◌, ◌≤◌, ◌↔◌, ℕ, [], false, length, Err, IsTrue, OnOk, OnErr};
 ghost use Rattle.lc_range.specs.RangeSet.{Has, IsCanonical, EndWithin, AddsPositions, NeedsRunsAbove};
 
-use crate::runs::{replace, some_holds, touched};
+use crate::runs::{is_touched, replace, some_holds, touched};
 use crate::{Range, RangeFault};
 use smallvec::SmallVec;
 use std::alloc::Global;
@@ -94,16 +94,34 @@ impl RangeSet {
         Ok(())
     }
 
-    /// Whether each of `len` positions of a segment, from `offset` on, is in the set.
-    pub fn covers(&self, segment: u32, offset: u32, len: u32) -> bool
-        ensures { IsTrue result ↔ ((k : ℕ) → offset ≤ k → k < offset + len → Has self.now segment k) }
+    /// Whether at most 64 runs stand with `len` positions more of a segment, from `offset` on. It takes no memory.
+    pub fn has_room(&self, segment: u32, offset: u32, len: u32) -> bool
+        requires { 0 < len }
+        ensures room { IsTrue result ↔ ¬ NeedsRunsAbove 64 self.now segment offset len }
+        ensures full { result ≡ false → NeedsRunsAbove 64 self.now segment offset len }
     {
         let range = Range {
             segment,
             offset,
             len,
         };
-        len == 0 || some_holds(self.runs.as_slice(), &range)
+        self.runs.len() < MAX_RUNS || is_touched(self.runs.as_slice(), &range)
+    }
+
+    /// Whether each of `len` positions of a segment, from `offset` on, is in the set.
+    pub fn covers(&self, segment: u32, offset: u32, len: usize) -> bool
+        ensures { IsTrue result ↔ ((k : ℕ) → offset ≤ k → k < offset + len → Has self.now segment k) }
+    {
+        let runs = self.runs.as_slice();
+        let Ok(len) = u32::try_from(len) else {
+            return false;
+        };
+        let range = Range {
+            segment,
+            offset,
+            len,
+        };
+        len == 0 || some_holds(runs, &range)
     }
 
     /// The runs, ascending by segment and offset, disjoint, and none next to another of its segment.

@@ -1,5 +1,5 @@
 //! A set's runs, walked and changed in place.
-ghost use Rattle.std.specs.Prelude.{◌≡◌, ◌+◌, ◌-◌, ◌^◌, ◌<◌, ◌≤◌, ◌∷◌, ◌++◌, length, take, drop};
+ghost use Rattle.std.specs.Prelude.{◌≡◌, ◌+◌, ◌-◌, ◌^◌, ◌<◌, ◌≤◌, ◌∷◌, ◌++◌, IsTrue, false, length, take, drop};
 ghost use Rattle.smallvec.specs.SmallVec.{small_vec_len};
 ghost use Rattle.lc_range.specs.RangeSet.{EndWithin};
 ghost use Rattle.lc_range.specs.Walk.{absorbed, merged, some_holds};
@@ -19,6 +19,15 @@ fn count_before(runs: &[Range], range: &Range) -> usize
         }
     }
     runs.len()
+}
+
+/// Whether a range overlaps or touches a run, so that no run more stands with it.
+pub fn is_touched(runs: &[Range], range: &Range) -> bool
+    ensures touched { IsTrue result → length (merged range.now runs.now) ≤ length runs.now }
+    ensures apart { result ≡ false → length (merged range.now runs.now) ≡ length runs.now + 1 }
+{
+    let place = count_before(runs, range);
+    place < runs.len() && !range.is_before(&runs[place])
 }
 
 /// Which runs a range takes the place of, and joined to which run.

@@ -1,10 +1,10 @@
 //! The old bytes of a transaction, which an abort puts back.
-ghost use Rattle.std.specs.Prelude.{◌≡◌, ◌+◌, ◌≤◌, ℕ, [], length, slice_index, unwrap_or, OnOk, OnErr};
+ghost use Rattle.std.specs.Prelude.{◌≡◌, ◌+◌, ◌≤◌, ℕ, [], length, take, slice_index, unwrap_or, OnOk, OnErr};
 ghost use Rattle.lc_range.specs.RangeSet.{CountsOutside};
 ghost use Rattle.lc_range.specs.Undo.{KeepsOld, LiesBelow, bytes_kept, kept};
 
 use crate::copies::{keep, put_back};
-use crate::outside::outside;
+use crate::outside::{outside, total_len};
 use crate::{Range, RangeSet};
 use std::alloc::{AllocError, Global};
 use std::marker::Model;
@@ -63,6 +63,9 @@ impl Undo {
         ensures kept { OnOk result
             (KeepsOld self.old set.now segment offset len (slice_index image.now) self.new) }
 
+        // The copies that were there stand in front.
+        ensures front { OnOk result (take (length self.old) self.new ≡ self.old) }
+
         // Only those bytes are copied.
         ensures count { OnOk result ((n : ℕ) × CountsOutside set.now segment offset len n
             × (bytes_kept self.new ≡ bytes_kept self.old + n)) }
@@ -75,6 +78,22 @@ impl Undo {
     {
         let parts = outside(alloc, set.ranges(), segment, offset, len)?;
         keep(&mut self.ranges, &mut self.bytes, parts.as_slice(), image)
+    }
+
+    /// How many copies there are.
+    pub fn len(&self) -> usize
+        ensures { result ≡ length self.now }
+    {
+        self.ranges.len()
+    }
+
+    /// Keeps the first `len` copies alone, or all where there are fewer. It takes no memory.
+    pub fn truncate(&mut self, len: usize)
+        ensures { self.new ≡ take len self.old }
+    {
+        self.ranges.truncate(len);
+        let bytes = total_len(self.ranges.as_slice());
+        self.bytes.truncate(bytes);
     }
 
     /// Puts the bytes that are kept of a segment back into its image. It takes no memory.

@@ -1,43 +1,49 @@
 -- How the one transaction ends, and what its record is.
-use Rattle.std.proofs.Common.{◌≡◌, ◌⊎◌, ℕ, suc, ◌+◌, ◌/◌, ◌<◌, ◌≤◌, ◌^◌, Bool, true, false, not, ◌&&◌, ◌==◌, nat_lt, List, [], ◌∷◌, ◌++◌, length, filter, take, drop, Option, Some, None, IsTrue, refl, sym, ◌∙◌, ap, ap₂, subst, arith, eqb-true, eq-eqb, lt-ltb, le-ltb, append_assoc, append-nil, length-append, length-drop, zero-add, inl, inr}
-use Rattle.std.proofs.lemmas.List.{length-take-le, map-append}
+use Rattle.std.proofs.Common.{◌≡◌, ◌⊎◌, ℕ, suc, ◌+◌, ◌<◌, ◌≤◌, ◌^◌, Bool, true, false, not, ◌&&◌, ◌==◌, nat_lt, List, [], ◌∷◌, ◌++◌, length, map, filter, drop, Option, Some, None, IsTrue, refl, sym, ◌∙◌, ap, ap₂, subst, arith, eqb-true, lt-ltb, le-ltb, append_assoc, length-append, inl, inr}
+use Rattle.std.proofs.lemmas.List.{map-append}
 use Rattle.std.proofs.Math.Bool.{and-false}
 use Rattle.std.proofs.lemmas.List.Sums.{sum_by-cons}
-use Rattle.std.specs.Int.{div_ceil}
 use Rattle.std.specs.Prelude.{sum_by, if◌then◌else◌}
 use Rattle.std.specs.List.{AllByRecursion, list_any}
-use Rattle.lc_record.specs.Content.{Content}
-use Rattle.lc_record.specs.Record.{record_len, spelling, IsRecord}
-use Rattle.lc_record.specs.Transaction.{Transaction, effect, effects}
+use Rattle.lc_record.specs.Content.{Content, segment_of}
+use Rattle.lc_record.specs.Record.{record_len, spelling, IsLock, IsRecord}
+use Rattle.lc_record.specs.Transaction.{Transaction, Marks, effect, effects}
 use Rattle.lc_record.specs.declared.record.Record.{Record}
 use Rattle.lc_record.specs.declared.record.Lock.{Lock}
-use Rattle.lc_record.specs.declared.record.RangeData.{RangeData}
 use Rattle.lc_record.proofs.SpellingLemmas.{length-spelling}
 use Rattle.lc_log.specs.LogText.{joined}
 use Rattle.lc_log.proofs.LogLemmas.{joined-append}
 use Rattle.lc_log.proofs.WalkLemmas.{joined-push, whole-push}
 use Rattle.lc_disk.specs.MemArea.{memory_now, memory_dirty}
 use Rattle.lc_core.specs.History.{Entry, History, transactions, value}
-use Rattle.lc_core.specs.State.{Setting, State, is_by, is_unclosed, running_of, without}
-use Rattle.lc_record.specs.Marks.{is_empty}
-use Rattle.lc_record.specs.Recorded.{is_set, record_of, counted, records_from, locks_of, ranges_of}
+use Rattle.lc_core.specs.State.{Setting, State, is_by, is_unclosed, without}
+use Rattle.lc_record.specs.Marks.{is_empty, stretches}
+use Rattle.lc_record.specs.Recorded.{is_set, record_of, counted, records_from}
 use Rattle.lc_core.specs.Merging.{counted_all}
 use Rattle.lc_core.specs.Settled.{no_numbers, history_records, node_records, log_end, next_record, first_spent, record_refusal, refusal_or, reserve_reply, Settled}
 use Rattle.lc_core.specs.Refusals.{refuse_if, is_seat, is_up}
 use Rattle.lc_record.specs.declared.geometry.Geometry.{Geometry}
 use Rattle.lc_core.specs.declared.refusal.Refusal.{Refusal}
-use Rattle.lc_core.specs.Machine.{Step, appended, dropped, closed_by}
+use Rattle.lc_core.specs.Machine.{Step, appended, dropped, closed_by, may_refuse_reserve}
 use Rattle.lc_core.specs.declared.event.Event.TheVariants.{Reserve, Close}
-use Rattle.lc_core.specs.declared.refusal.Refusal.TheVariants.{Unknown, OutOfTurn, TooLong, Full}
+use Rattle.lc_core.specs.declared.refusal.Refusal.TheVariants.{Unknown, OutOfTurn, SequenceSpent, TooLong, Full}
 use Rattle.lc_core.specs.declared.reply.Reply.{Reply}
 use Rattle.lc_core.specs.declared.reply.Reply.TheVariants.{Ok as Accepted, Reserved, Ended, Refused}
 use Rattle.lc_core.proofs.Rows.{step-row, step-refused, common-unknown, common-none, reserve-done, reserve-ended, reserve-refused, reserve-no_turn, close-done, and-both}
 use Rattle.lc_tool.specs.Session.{Answers}
 use Rattle.lc_tool.specs.Fits.{Fits, FitsBytes, FitsRecords, IsOwn}
 use Rattle.lc_tool.specs.declared.solo.Solo.{Solo}
-use Rattle.lc_tool.specs.declared.solo.Running.{Running}
-use Rattle.lc_tool.proofs.Stretch.{stretch, one_stretch, ranges_from-stretch}
-use Rattle.lc_tool.proofs.OneNodeLemmas.{is_one, running_one, running_is, no_refusal, some_marks, empty_marks, none_running, other_running}
+use Rattle.lc_range.specs.RangeSet.{Has, IsCanonical}
+use Rattle.lc_range.specs.declared.range.Range.{Range}
+use Rattle.lc_tx.specs.Tx.{RunsOn}
+use Rattle.lc_tx.specs.Prepared.{IsFirstSpent, AreUnspent, final_record}
+use Rattle.lc_tx.specs.StandsFor.{StandsFor, AreNumbers}
+use Rattle.lc_tx.specs.declared.tx.Tx.{Tx}
+use Rattle.lc_tx.proofs.StandsLemmas.{record_stands, empty_set}
+use Rattle.lc_tool.specs.OneSegment.{the_images}
+use Rattle.lc_tool.specs.declared.one_segment.OneSegment.{OneSegment}
+use Rattle.lc_tool.proofs.OneNodeLemmas.{only_one, known_seat, no_refusal, none_running, other_running, locked_first, without-own}
+use Rattle.lc_tool.proofs.StepLemmas.{the_one, fits_open, only, running, whole, nothing_written}
 
 -- Records, one after another
 
@@ -78,12 +84,6 @@ own-push : (history : History) (e : Entry) → AllByRecursion IsOwn history → 
 own-push [] e own is = (is, tt)
 own-push (d ∷ history) e own is = (own.0, own-push history e own.1 is)
 
-without-own : (t : Transaction) (ts : List Transaction) → ts ≡ t ∷ [] → without t.node t.thread ts ≡ []
-without-own t ts only = rw (only, eq-eqb t.node t.node refl, eq-eqb t.thread t.thread refl) refl
-
-pub div_ceil_eight : (n : ℕ) → div_ceil n 8 ≡ (n + 7) / 8
-div_ceil_eight n = omega arith
-
 nonzero : (n : ℕ) → (n ≡ 0 → ⊥) → 1 ≤ n
 nonzero n p = omega (arith, p)
 
@@ -103,41 +103,22 @@ unclosed_last : (history : History) (t : Transaction) → AllByRecursion IsOwn h
 unclosed_last [] t own by = rw by refl
 unclosed_last (d ∷ history) t own by = rw (own.0.1) (unclosed_last history t own.1 by)
 
--- The record of one range
+-- What refuses a record
 
-abbrev pub the_record : ℕ → Running → List ℕ → Record
-the_record seq one image = record {
-  node = 0;
-  locks = record { segment = 1; seq = seq } ∷ [];
-  ranges = record { segment = 1; offset = one.offset; bytes = take one.len (drop one.offset image) } ∷ [];
-}
+spent : (locks : List Lock) (segment : ℕ) (next : Option Refusal) → IsFirstSpent locks segment → first_spent locks next ≡ Some (SequenceSpent segment)
+spent [] segment next is = absurd is
+spent (lock ∷ locks) segment next is = elim is [
+  | inl here ↦ rw (lt-ltb (2 ^ 60) lock.seq here.0) (ap (λ n. Some (SequenceSpent n)) (sym here.1))
+  | inr later ↦ rw (le-ltb (2 ^ 60) lock.seq later.0) (spent locks segment next later.1)
+]
 
-one_record : (numbers : ℕ → ℕ) (content : Content) (t : Transaction) (one : Running) (image : List ℕ) (seq : ℕ) →
-    IsTrue (is_by 0 0 t) → t.marks ≡ stretch one.offset one.len (length image) ∷ [] → effect t content ≡ image ∷ [] → 0 < one.len → one.offset + one.len ≤ length image → numbers 1 ≡ seq →
-    record_of numbers content t ≡ the_record (seq + 1) one image
-one_record numbers content t one image seq by marks new some fits last =
-    let node : t.node ≡ 0 = eqb-true t.node 0 (and-both (t.node == 0) (t.thread == 0) by).0 in
-    let set : is_set (stretch one.offset one.len (length image)) ≡ true = rw (one_stretch one.offset one.len (length image) some fits) refl in
-    let ranges : ranges_of 1 t.marks (effect t content) ≡ record { segment = 1; offset = one.offset; bytes = take one.len (drop one.offset image) } ∷ [] =
-    ap₂ (ranges_of 1) marks new ∙ append-nil _ ∙ ranges_from-stretch 1 0 one.offset one.len (length image) image some fits refl
-    ∙ ap (λ (offset : ℕ). record { segment = 1; offset = offset; bytes = take one.len (drop one.offset image) } ∷ []) (zero-add one.offset) in
-    let locks : locks_of numbers 1 t.marks ≡ record { segment = 1; seq = seq + 1 } ∷ [] =
-    ap (locks_of numbers 1) marks ∙ rw (set, last) refl in
-    ap₂ (λ (n : ℕ) (both : List Lock × List RangeData). record { node = n; locks = both.0; ranges = both.1 }) node
-    (ap₂ (λ (a : List Lock) (b : List RangeData). (a, b)) locks ranges)
+unspent : (locks : List Lock) (next : Option Refusal) → AreUnspent locks → first_spent locks next ≡ next
+unspent [] next are = refl
+unspent (lock ∷ locks) next are = rw (le-ltb (2 ^ 60) lock.seq are.0) (unspent locks next are.1)
 
-pub len_record : (seq : ℕ) (one : Running) (image : List ℕ) → one.offset + one.len ≤ length image → record_len (the_record seq one image) ≡ 7 + (one.len + 7) / 8
-len_record seq one image fits =
-    let bytes : length (take one.len (drop one.offset image)) ≡ one.len = length-take-le one.len (drop one.offset image) (omega (arith, length-drop one.offset image, fits)) in
-    rw bytes (omega arith)
-
-pub length-words : (seq : ℕ) (one : Running) (image words : List ℕ) → one.offset + one.len ≤ length image → IsRecord (the_record seq one image) words → length words ≡ 7 + (one.len + 7) / 8
-length-words seq one image words fits is = ap length is.spelled ∙ length-spelling (the_record seq one image) ∙ len_record seq one image fits
-
--- what refuses it: where the log has no room
-
-behind_spent : (lock : Lock) (locks : List Lock) (next : Option Refusal) → locks ≡ lock ∷ [] → lock.seq ≤ 2 ^ 60 → first_spent locks next ≡ next
-behind_spent lock locks next only fits = ap (λ (l : List Lock). first_spent l next) only ∙ rw (le-ltb (2 ^ 60) lock.seq fits) refl
+pub few_numbers : (locks : List Lock) → AllByRecursion IsLock locks → AreUnspent locks
+few_numbers [] all = tt
+few_numbers (lock ∷ locks) all = (all.0.3, few_numbers locks all.1)
 
 full_len : (words end len : ℕ) → len ≤ 4096 → words < end + len →
     refuse_if (nat_lt 4096 len) (TooLong len) (refuse_if (nat_lt words (end + len)) (Full end len) None) ≡ Some (Full end len)
@@ -147,13 +128,18 @@ room_len : (words end len : ℕ) → len ≤ 4096 → end + len ≤ words →
     refuse_if (nat_lt 4096 len) (TooLong len) (refuse_if (nat_lt words (end + len)) (Full end len) None) ≡ None
 room_len words end len short fits = rw (le-ltb 4096 len short, le-ltb words (end + len) fits) refl
 
-full_record : (words end : ℕ) (r : Record) (lock : Lock) → r.locks ≡ lock ∷ [] → lock.seq ≤ 2 ^ 60 → record_len r ≤ 4096 → words < end + record_len r →
-    record_refusal words end r ≡ Some (Full end (record_len r))
-full_record words end r lock only fits short past = behind_spent lock r.locks _ only fits ∙ full_len words end (record_len r) short past
+long_len : (words end len : ℕ) → 4096 < len →
+    refuse_if (nat_lt 4096 len) (TooLong len) (refuse_if (nat_lt words (end + len)) (Full end len) None) ≡ Some (TooLong len)
+long_len words end len long = rw (lt-ltb 4096 len long) refl
 
-room_record : (words end : ℕ) (r : Record) (lock : Lock) → r.locks ≡ lock ∷ [] → lock.seq ≤ 2 ^ 60 → record_len r ≤ 4096 → end + record_len r ≤ words →
-    record_refusal words end r ≡ None
-room_record words end r lock only fits short room = behind_spent lock r.locks _ only fits ∙ room_len words end (record_len r) short room
+-- marks of one segment
+one_marks : (marks : Marks) → length marks ≡ 1 → marks ≡ segment_of 1 marks ∷ []
+one_marks [] one = absurd (omega (arith, one))
+one_marks (x ∷ []) one = refl
+one_marks (x ∷ (y ∷ ys)) one = absurd (omega (arith, one))
+
+some_set : (marks : List Bool) → is_empty (marks ∷ []) ≡ false → is_set marks ≡ true
+some_set marks some = (let same : stretches false marks + 0 ≡ stretches false marks = omega arith in ap not (sym (ap (λ n. n == 0) same) ∙ some))
 
 module _ (m : Setting) (w : Solo) (s : State) (h : Fits m w s) where
   -- all records are of the one node, and of the history
@@ -169,184 +155,204 @@ module _ (m : Setting) (w : Solo) (s : State) (h : Fits m w s) where
       ∙ length-append (joined h.records.stable) (joined h.records.pending)
       ∙ ap₂ (λ (a b : ℕ). a + b) h.records.at_rest.size (ap length (sym h.records.staged_text))
 
-  known_seat : is_seat m.geometry 0 0 ≡ true
-  known_seat = let one = is_one m w s h in ap₂ (λ (a b : ℕ). nat_lt 0 a && nat_lt 0 b) one.nodes one.threads
+  module _ (tx : Tx) (is : w.running ≡ Some tx) where
+    abbrev t : Transaction
+    t = the_one m w s h tx is
 
-  module _ (one : Running) (is : w.running ≡ Some one) (some : 0 < one.len) where
-    pub next_is : next_record m s (running_one m w s h one is).1 ≡ the_record (w.records + 1) one w.image.items
-    next_is =
-        let at = running_one m w s h one is in
-        let numbers : counted_all no_numbers (s.earlier ++ transactions s.history) 1 ≡ w.records =
-        ap (λ (ts : List Transaction). counted_all no_numbers (ts ++ transactions s.history) 1) h.still.first ∙ h.records.numbers in
-        let new : effect at.1 (value m.start s.earlier s.history) ≡ w.image.items ∷ [] = ap (effect at.1) at.2 ∙ at.4.writes in
-        one_record (counted_all no_numbers (s.earlier ++ transactions s.history)) (value m.start s.earlier s.history) at.1 one w.image.items w.records
-        at.4.by at.4.marks new some (w.inside one is) numbers
+    abbrev content : Content
+    content = value m.start s.earlier s.history
 
-    small_image : length w.image.items ≤ 16384
-    small_image = omega (arith, w.image_len, w.geometry.few_pages)
+    abbrev prepared : Record
+    prepared = final_record the_images w.segment tx 0
 
-    few_records : w.records + 1 ≤ 2 ^ 60
-    few_records = omega (arith, w.few, w.fits, w.geometry.few_words)
+    abbrev place : ℕ
+    place = w.log.end + length w.staged.words
 
-    short_record : record_len (the_record (w.records + 1) one w.image.items) ≤ 4096
-    short_record = omega (arith, len_record (w.records + 1) one w.image.items (w.inside one is), w.inside one is, small_image)
+    stands : StandsFor the_images w.segment tx content t
+    stands = (fits_open m w s h tx is).stands
 
-    the_end : ℕ
-    the_end = w.log.end + length w.staged.words
+    own : IsTrue (is_by 0 0 t)
+    own = (fits_open m w s h tx is).own
 
-    -- the reply by what refuses the record
-    reply_by : (refusal : Option Refusal) (need : ℕ) → need ≡ 7 + (one.len + 7) / 8 →
-        record_refusal w.geometry.words (w.log.end + length w.staged.words) (the_record (w.records + 1) one w.image.items) ≡ refusal →
-        reserve_reply m s (running_one m w s h one is).1 ≡ refusal_or refusal (Reserved (w.log.end + length w.staged.words) need)
-    reply_by refusal need need_is by =
-        let at = running_one m w s h one is in
-        let node : at.1.node ≡ 0 = eqb-true at.1.node 0 (and-both (at.1.node == 0) (at.1.thread == 0) at.4.by).0 in
-        let end : log_end m at.1.node s ≡ w.log.end + length w.staged.words = ap (λ (n : ℕ). log_end m n s) node ∙ log_end_is in
-        let words : m.geometry.words ≡ w.geometry.words = ap (λ (g : Geometry). g.words) h.still.same_geometry in
-        let r : Record = the_record (w.records + 1) one w.image.items in
-        let len : record_len r ≡ need = len_record (w.records + 1) one w.image.items (w.inside one is) ∙ sym need_is in
-        ap (λ (n : ℕ). refusal_or (record_refusal n (log_end m at.1.node s) (next_record m s at.1)) (Reserved (log_end m at.1.node s) (record_len (next_record m s at.1)))) words
-        ∙ ap₂ (λ (e : ℕ) (q : Record). refusal_or (record_refusal w.geometry.words e q) (Reserved e (record_len q))) end next_is
-        ∙ ap₂ (λ (o : Option Refusal) (k : ℕ). refusal_or o (Reserved (w.log.end + length w.staged.words) k)) by len
+    node_is : t.node ≡ 0
+    node_is = eqb-true t.node 0 (and-both (t.node == 0) (t.thread == 0) own).0
 
-    settled_by : (reply : Reply) → reply ≡ reserve_reply m s (running_one m w s h one is).1 → Settled m s (Reserve 0 0) reply
-    settled_by reply e =
-        let at = running_one m w s h one is in
-        let set : is_empty at.1.marks ≡ false = some_marks at.1.marks one.offset one.len (length w.image.items) at.4.marks some (w.inside one is) in
-        rw (running_is m w s h at.1 at.3 at.4.by, set) e
+    thread_is : t.thread ≡ 0
+    thread_is = eqb-true t.thread 0 (and-both (t.node == 0) (t.thread == 0) own).1
 
-    -- the log has no room
-    pub full_row : (need : ℕ) → need ≡ 7 + (one.len + 7) / 8 → w.geometry.words < w.log.end + length w.staged.words + need →
-        Answers m s (Reserve 0 0) (Refused (Full (w.log.end + length w.staged.words) need)) s
-    full_row need need_is past =
-        let at = running_one m w s h one is in
-        let place : ℕ = w.log.end + length w.staged.words in
-        let r : Record = the_record (w.records + 1) one w.image.items in
-        let len : record_len r ≡ need = len_record (w.records + 1) one w.image.items (w.inside one is) ∙ sym need_is in
-        let set : is_empty at.1.marks ≡ false = some_marks at.1.marks one.offset one.len (length w.image.items) at.4.marks some (w.inside one is) in
-        let full : record_refusal w.geometry.words place r ≡ Some (Full place need) =
-        full_record w.geometry.words place r (record { segment = 1; seq = w.records + 1 }) refl few_records short_record (omega (arith, past, len)) ∙ ap (λ (k : ℕ). Some (Full place k)) len in (
-          step-row m s (Reserve 0 0) (Refused (Full place need)) s (no_refusal m w s h (Reserve 0 0) known_seat h.still.not_halted)
-              (reserve-refused m s 0 0 at.1 (Full place need) (running_is m w s h at.1 at.3 at.4.by) set refl),
-          settled_by (Refused (Full place need)) (sym (reply_by (Some (Full place need)) need need_is full)),
+    -- the record that the words spell
+    pub next_is : RunsOn the_images w.segment tx → IsCanonical tx.set → next_record m s t ≡ prepared
+    next_is runs canonical =
+        let numbers : ℕ → ℕ = counted_all no_numbers (s.earlier ++ transactions s.history) in
+        let last : numbers 1 ≡ w.segment.records = ap (λ (ts : List Transaction). counted_all no_numbers (ts ++ transactions s.history) 1) h.still.first ∙ h.records.numbers in
+        let are : AreNumbers the_images w.segment tx numbers = λ n lock.
+        subst (λ (i : ℕ). the_images.number_of w.segment i ≡ Some (numbers i)) (sym (locked_first w.segment tx n runs lock)) (ap (λ k. Some k) (sym last)) in
+        sym (record_stands the_images w.segment tx numbers content t canonical stands are) ∙ ap (final_record the_images w.segment tx) node_is
+
+    pub set_some : IsCanonical tx.set → (tx.set ≡ [] → ⊥) → is_empty t.marks ≡ false
+    set_some canonical some = elim (is_empty t.marks) as (λ b. is_empty t.marks ≡ b → b ≡ false) [
+      | true ↦ λ e. absurd (some ((empty_set the_images w.segment tx content t canonical stands).1 e))
+      | false ↦ λ e. refl
+    ] refl
+
+    module _ (runs : RunsOn the_images w.segment tx) (canonical : IsCanonical tx.set) where
+      -- the reply by what refuses the record
+      reply_by : (refusal : Option Refusal) → record_refusal w.geometry.words place prepared ≡ refusal →
+          reserve_reply m s t ≡ refusal_or refusal (Reserved place (record_len prepared))
+      reply_by refusal by =
+          let end : log_end m t.node s ≡ place = ap (λ (n : ℕ). log_end m n s) node_is ∙ log_end_is in
+          let words : m.geometry.words ≡ w.geometry.words = ap (λ (g : Geometry). g.words) h.still.same_geometry in
+          ap (λ (n : ℕ). refusal_or (record_refusal n (log_end m t.node s) (next_record m s t)) (Reserved (log_end m t.node s) (record_len (next_record m s t)))) words
+          ∙ ap₂ (λ (e : ℕ) (q : Record). refusal_or (record_refusal w.geometry.words e q) (Reserved e (record_len q))) end (next_is runs canonical)
+          ∙ ap (λ (o : Option Refusal). refusal_or o (Reserved place (record_len prepared))) by
+
+      module _ (some : tx.set ≡ [] → ⊥) where
+        settled_by : (reply : Reply) → reply ≡ reserve_reply m s t → Settled m s (Reserve 0 0) reply
+        settled_by reply e = rw (running m w s h tx is, set_some canonical some) e
+
+        refused_by : (refusal : Refusal) → may_refuse_reserve refusal ≡ true → record_refusal w.geometry.words place prepared ≡ Some refusal → Answers m s (Reserve 0 0) (Refused refusal) s
+        refused_by refusal may by = (
+          step-row m s (Reserve 0 0) (Refused refusal) s (no_refusal m w s h (Reserve 0 0) (known_seat m w s h) h.still.not_halted)
+              (reserve-refused m s 0 0 t refusal (running m w s h tx is) (set_some canonical some) may),
+          settled_by (Refused refusal) (sym (reply_by (Some refusal) by)),
         )
 
-    -- the log has room
-    pub reserve_row : (need : ℕ) → need ≡ 7 + (one.len + 7) / 8 → w.log.end + length w.staged.words + need ≤ w.geometry.words →
-        Answers m s (Reserve 0 0) (Reserved (w.log.end + length w.staged.words) need) (appended s (running_one m w s h one is).1)
-    reserve_row need need_is fits =
-        let at = running_one m w s h one is in
-        let place : ℕ = w.log.end + length w.staged.words in
-        let r : Record = the_record (w.records + 1) one w.image.items in
-        let len : record_len r ≡ need = len_record (w.records + 1) one w.image.items (w.inside one is) ∙ sym need_is in
-        let set : is_empty at.1.marks ≡ false = some_marks at.1.marks one.offset one.len (length w.image.items) at.4.marks some (w.inside one is) in
-        let room : record_refusal w.geometry.words place r ≡ None =
-        room_record w.geometry.words place r (record { segment = 1; seq = w.records + 1 }) refl few_records short_record (omega (arith, fits, len)) in (
-          step-row m s (Reserve 0 0) (Reserved place need) (appended s at.1) (no_refusal m w s h (Reserve 0 0) known_seat h.still.not_halted)
-              (reserve-done m s 0 0 at.1 place need (running_is m w s h at.1 at.3 at.4.by) set),
-          settled_by (Reserved place need) (sym (reply_by None need need_is room)),
-        )
+        pub spent_row : (n : ℕ) → IsFirstSpent prepared.locks n → Answers m s (Reserve 0 0) (Refused (SequenceSpent n)) s
+        spent_row n first = refused_by (SequenceSpent n) refl (spent prepared.locks n _ first)
 
-    -- The close behind it
+        pub too_long_row : (n : ℕ) → AreUnspent prepared.locks → 4096 < record_len prepared → n ≡ record_len prepared → Answers m s (Reserve 0 0) (Refused (TooLong n)) s
+        too_long_row n fresh long same =
+            subst (λ (k : ℕ). Answers m s (Reserve 0 0) (Refused (TooLong k)) s) (sym same)
+            (refused_by (TooLong (record_len prepared)) refl (unspent prepared.locks _ fresh ∙ long_len w.geometry.words place (record_len prepared) long))
 
-    counted_one : (t : Transaction) → t.marks ≡ stretch one.offset one.len (length w.image.items) ∷ [] → counted (counted_all no_numbers (transactions s.history)) t 1 ≡ w.records + 1
-    counted_one t marks = rw (marks, one_stretch one.offset one.len (length w.image.items) some (w.inside one is), h.records.numbers) refl
+        module _ (words : List ℕ) (spelled : IsRecord prepared words) where
+          fresh : AreUnspent prepared.locks
+          fresh = few_numbers prepared.locks spelled.canonical.each_lock
 
-    history_after : closed_by 0 0 (s.history ++ record { transaction = (running_one m w s h one is).1; closed = false } ∷ [])
-        ≡ s.history ++ record { transaction = (running_one m w s h one is).1; closed = true } ∷ []
-    history_after = let at = running_one m w s h one is in close_last s.history at.1 h.records.own at.4.by
+          len_is : length words ≡ record_len prepared
+          len_is = ap length spelled.spelled ∙ length-spelling prepared
 
-    pub close_row : Step m (appended s (running_one m w s h one is).1) (Close 0 0) Accepted (closed_after s (running_one m w s h one is).1)
-    close_row =
-        let at = running_one m w s h one is in
-        let mid : State = appended s at.1 in
-        step-row m mid (Close 0 0) Accepted (closed_after s at.1)
-        (common-none m.geometry mid (Close 0 0) (ap is_up h.still.up) known_seat h.still.not_halted)
-        (close-done m mid 0 0 (unclosed_last s.history at.1 h.records.own at.4.by))
+          -- the log has no room
+          pub full_row : w.geometry.words < place + length words → Answers m s (Reserve 0 0) (Refused (Full place (length words))) s
+          full_row past =
+              subst (λ (k : ℕ). Answers m s (Reserve 0 0) (Refused (Full place k)) s) (sym len_is)
+              (refused_by (Full place (record_len prepared)) refl (unspent prepared.locks _ fresh ∙ full_len w.geometry.words place (record_len prepared) spelled.short (subst (λ (k : ℕ). w.geometry.words < place + k) len_is past)))
 
-    pub bytes_after : FitsBytes w.image.items None (value m.start s.earlier (closed_after s (running_one m w s h one is).1).history) (closed_after s (running_one m w s h one is).1).running
-    bytes_after =
-        let at = running_one m w s h one is in
-        let new : History = s.history ++ record { transaction = at.1; closed = true } ∷ [] in
-        let last : transactions new ≡ transactions s.history ++ at.1 ∷ [] = map-append (λ (e : Entry). e.transaction) s.history (record { transaction = at.1; closed = true } ∷ []) in
-        let content : value m.start s.earlier (closed_after s at.1).history ≡ w.image.items ∷ [] =
-        ap (value m.start s.earlier) history_after
-        ∙ ap (λ (ts : List Transaction). effects (s.earlier ++ ts) m.start) last
-        ∙ ap (λ (ts : List Transaction). effects ts m.start) (sym (append_assoc s.earlier (transactions s.history) (at.1 ∷ [])))
-        ∙ effects-push (s.earlier ++ transactions s.history) at.1 m.start
-        ∙ ap (effect at.1) at.2 ∙ at.4.writes in
-        let none : (closed_after s at.1).running ≡ [] = without-own at.1 s.running at.3 in
-        (content, none)
+          -- the log has room
+          pub reserve_row : place + length words ≤ w.geometry.words → Answers m s (Reserve 0 0) (Reserved place (length words)) (appended s t)
+          reserve_row fits =
+              let room : record_refusal w.geometry.words place prepared ≡ None =
+              unspent prepared.locks _ fresh ∙ room_len w.geometry.words place (record_len prepared) spelled.short (subst (λ (k : ℕ). place + k ≤ w.geometry.words) len_is fits) in (
+                step-row m s (Reserve 0 0) (Reserved place (length words)) (appended s t) (no_refusal m w s h (Reserve 0 0) (known_seat m w s h) h.still.not_halted)
+                    (reserve-done m s 0 0 t place (length words) (running m w s h tx is) (set_some canonical some)),
+                settled_by (Reserved place (length words)) (ap (Reserved place) len_is ∙ sym (reply_by None room)),
+              )
 
-    pub records_after : (words : List ℕ) → IsRecord (the_record (w.records + 1) one w.image.items) words →
-        FitsRecords (memory_now w.log.area) (memory_dirty w.log.area) w.log.end (w.staged.words ++ words) (w.records + 1) w.acked (history_records m (closed_after s (running_one m w s h one is).1)) (closed_after s (running_one m w s h one is).1).history
-    records_after words record_is =
-        let at = running_one m w s h one is in
-        let t : Transaction = at.1 in
-        let r : Record = the_record (w.records + 1) one w.image.items in
-        let after : State = closed_after s t in
-        let entry : Entry = record { transaction = t; closed = true } in
-        let new : History = s.history ++ entry ∷ [] in
-        let last : transactions new ≡ transactions s.history ++ t ∷ [] = map-append (λ (e : Entry). e.transaction) s.history (entry ∷ []) in
-        let txs : transactions after.history ≡ transactions s.history ++ t ∷ [] = ap transactions history_after ∙ last in
-        let none : s.earlier ≡ [] = h.still.first in
-        let old : history_records m s ≡ records_from no_numbers m.start (transactions s.history) =
-        ap (λ (ts : List Transaction). drop (length ts) (records_from no_numbers m.start (ts ++ transactions s.history))) none in
-        let same_next : record_of (counted_all no_numbers (transactions s.history)) (effects (transactions s.history) m.start) t ≡ r =
-        sym (ap (λ (ts : List Transaction). record_of (counted_all no_numbers (ts ++ transactions s.history)) (effects (ts ++ transactions s.history) m.start) t) none) ∙ next_is in
-        let all : history_records m after ≡ (h.records.stable ++ h.records.pending) ++ r ∷ [] =
-        ap (λ (ts : List Transaction). drop (length ts) (records_from no_numbers m.start (ts ++ transactions after.history))) none
-        ∙ ap (records_from no_numbers m.start) txs
-        ∙ records_from-push no_numbers m.start (transactions s.history) t
-        ∙ ap₂ (λ (l : List Record) (q : Record). l ++ q ∷ []) (sym old ∙ h.records.parts) same_next in
-        record {
-          stable = h.records.stable;
-          pending = h.records.pending ++ r ∷ [];
-          own = subst (λ (l : History). AllByRecursion IsOwn l) (sym history_after) (own-push s.history entry h.records.own (at.4.by, refl));
-          parts = all ∙ append_assoc h.records.stable h.records.pending (r ∷ []);
-          at_rest = h.records.at_rest;
-          staged_text = ap₂ (λ (a b : List ℕ). a ++ b) h.records.staged_text record_is.spelled ∙ sym (joined-push h.records.pending r);
-          whole = whole-push h.records.pending r h.records.whole (record { canonical = record_is.canonical; short = record_is.short });
-          flushed = h.records.flushed;
-          closed = ap length history_after ∙ length-append s.history (entry ∷ []) ∙ ap (λ (n : ℕ). n + 1) h.records.closed;
-          numbers = ap (λ (ts : List Transaction). counted_all no_numbers ts 1) txs ∙ counted_all-push no_numbers (transactions s.history) t 1 ∙ counted_one t at.4.marks;
-        }
+          -- The close behind it
 
-  -- nothing was set: it is over
-  pub ended_row : (one : Running) → w.running ≡ Some one → one.len ≡ 0 →
-      (t : Transaction) × Answers m s (Reserve 0 0) Ended (dropped s t.node t.thread)
-      × FitsBytes w.image.items None (value m.start s.earlier s.history) (dropped s t.node t.thread).running
-  ended_row one is none =
-      let at = running_one m w s h one is in
-      let nothing : is_empty at.1.marks ≡ true = empty_marks at.1.marks one.offset one.len (length w.image.items) at.4.marks none in
-      let running = running_is m w s h at.1 at.3 at.4.by in
-      let step : Step m s (Reserve 0 0) Ended (dropped s at.1.node at.1.thread) =
-      step-row m s (Reserve 0 0) Ended (dropped s at.1.node at.1.thread) (no_refusal m w s h (Reserve 0 0) known_seat h.still.not_halted)
-      (reserve-ended m s 0 0 at.1 running nothing) in
-      let settled : Settled m s (Reserve 0 0) Ended = rw (running, nothing) tt in
-      (at.1, (step, settled), (at.2 ∙ ap (λ (l : List ℕ). l ∷ []) (sym (at.4.untouched none)), without-own at.1 s.running at.3))
+          history_after : closed_by 0 0 (s.history ++ record { transaction = t; closed = false } ∷ []) ≡ s.history ++ record { transaction = t; closed = true } ∷ []
+          history_after = close_last s.history t h.records.own own
+
+          pub close_row : Step m (appended s t) (Close 0 0) Accepted (closed_after s t)
+          close_row =
+              let mid : State = appended s t in
+              step-row m mid (Close 0 0) Accepted (closed_after s t)
+              (common-none m.geometry mid (Close 0 0) (ap is_up h.still.up) (known_seat m w s h) h.still.not_halted)
+              (close-done m mid 0 0 (unclosed_last s.history t h.records.own own))
+
+          no_more : without t.node t.thread s.running ≡ []
+          no_more = rw (node_is, thread_is) (without-own t s.running (only m w s h tx is) own)
+
+          pub bytes_after : (new : OneSegment) → new.image.bytes.items ≡ w.segment.image.bytes.items → new.image.holder ≡ None
+              → FitsBytes new None (value m.start s.earlier (closed_after s t).history) (closed_after s t).running
+          bytes_after new same free =
+              let entries : History = s.history ++ record { transaction = t; closed = true } ∷ [] in
+              let last : transactions entries ≡ transactions s.history ++ t ∷ [] = map-append (λ (e : Entry). e.transaction) s.history (record { transaction = t; closed = true } ∷ []) in
+              let bytes : value m.start s.earlier (closed_after s t).history ≡ new.image.bytes.items ∷ [] =
+              ap (value m.start s.earlier) history_after
+              ∙ ap (λ (ts : List Transaction). effects (s.earlier ++ ts) m.start) last
+              ∙ ap (λ (ts : List Transaction). effects ts m.start) (sym (append_assoc s.earlier (transactions s.history) (t ∷ [])))
+              ∙ effects-push (s.earlier ++ transactions s.history) t m.start
+              ∙ (fits_open m w s h tx is).image ∙ ap (λ (l : List ℕ). l ∷ []) (sym same) in
+              (bytes, free, no_more)
+
+          counted_one : counted (counted_all no_numbers (transactions s.history)) t 1 ≡ w.segment.records + 1
+          counted_one =
+              let long : length t.marks ≡ 1 = sym (length-map t.marks) ∙ ap length stands.shape ∙ length-map content ∙ ap length (whole m w s h tx is) in
+              let one : t.marks ≡ segment_of 1 t.marks ∷ [] = one_marks t.marks long in
+              let set : is_set (segment_of 1 t.marks) ≡ true = some_set (segment_of 1 t.marks) (sym (ap is_empty one) ∙ set_some canonical some) in
+              rw (set, h.records.numbers) refl
+            where
+              length-map : {A : Type 0} (xs : List (List A)) → length (map length xs) ≡ length xs
+              length-map [] = refl
+              length-map (x ∷ xs) = ap suc (length-map xs)
+
+          pub records_after : FitsRecords (memory_now w.log.area) (memory_dirty w.log.area) w.log.end (w.staged.words ++ words) (w.segment.records + 1) w.acked (history_records m (closed_after s t)) (closed_after s t).history
+          records_after =
+              let after : State = closed_after s t in
+              let entry : Entry = record { transaction = t; closed = true } in
+              let entries : History = s.history ++ entry ∷ [] in
+              let last : transactions entries ≡ transactions s.history ++ t ∷ [] = map-append (λ (e : Entry). e.transaction) s.history (entry ∷ []) in
+              let txs : transactions after.history ≡ transactions s.history ++ t ∷ [] = ap transactions history_after ∙ last in
+              let none : s.earlier ≡ [] = h.still.first in
+              let old : history_records m s ≡ records_from no_numbers m.start (transactions s.history) =
+              ap (λ (ts : List Transaction). drop (length ts) (records_from no_numbers m.start (ts ++ transactions s.history))) none in
+              let same_next : record_of (counted_all no_numbers (transactions s.history)) (effects (transactions s.history) m.start) t ≡ prepared =
+              sym (ap (λ (ts : List Transaction). record_of (counted_all no_numbers (ts ++ transactions s.history)) (effects (ts ++ transactions s.history) m.start) t) none) ∙ next_is runs canonical in
+              let all : history_records m after ≡ (h.records.stable ++ h.records.pending) ++ prepared ∷ [] =
+              ap (λ (ts : List Transaction). drop (length ts) (records_from no_numbers m.start (ts ++ transactions after.history))) none
+              ∙ ap (records_from no_numbers m.start) txs
+              ∙ records_from-push no_numbers m.start (transactions s.history) t
+              ∙ ap₂ (λ (l : List Record) (q : Record). l ++ q ∷ []) (sym old ∙ h.records.parts) same_next in
+              record {
+                stable = h.records.stable;
+                pending = h.records.pending ++ prepared ∷ [];
+                own = subst (λ (l : History). AllByRecursion IsOwn l) (sym history_after) (own-push s.history entry h.records.own (own, refl));
+                parts = all ∙ append_assoc h.records.stable h.records.pending (prepared ∷ []);
+                at_rest = h.records.at_rest;
+                staged_text = ap₂ (λ (a b : List ℕ). a ++ b) h.records.staged_text spelled.spelled ∙ sym (joined-push h.records.pending prepared);
+                whole = whole-push h.records.pending prepared h.records.whole (record { canonical = spelled.canonical; short = spelled.short });
+                flushed = h.records.flushed;
+                closed = ap length history_after ∙ length-append s.history (entry ∷ []) ∙ ap (λ (n : ℕ). n + 1) h.records.closed;
+                numbers = ap (λ (ts : List Transaction). counted_all no_numbers ts 1) txs ∙ counted_all-push no_numbers (transactions s.history) t 1 ∙ counted_one;
+              }
+
+      -- nothing was set: it is over
+      pub ended_row : tx.set ≡ [] → Answers m s (Reserve 0 0) Ended (dropped s t.node t.thread)
+      ended_row none =
+          let nothing : is_empty t.marks ≡ true = (empty_set the_images w.segment tx content t canonical stands).0 none in (
+            step-row m s (Reserve 0 0) Ended (dropped s t.node t.thread) (no_refusal m w s h (Reserve 0 0) (known_seat m w s h) h.still.not_halted)
+                (reserve-ended m s 0 0 t (running m w s h tx is) nothing),
+            rw (running m w s h tx is, nothing) tt,
+          )
+
+      pub ended_bytes : (new : OneSegment) → tx.set ≡ [] → new.image.bytes.items ≡ w.segment.image.bytes.items → new.image.holder ≡ None
+          → FitsBytes new None (value m.start s.earlier s.history) (dropped s t.node t.thread).running
+      ended_bytes new none same free =
+          let unchanged : effect t content ≡ content = nothing_written t content (λ n k set. subst (λ (runs : List Range). Has runs n k) none ((stands.set_is n k).1 set)) w.segment tx stands in (
+            sym unchanged ∙ (fits_open m w s h tx is).image ∙ ap (λ (l : List ℕ). l ∷ []) (sym same),
+            free,
+            rw (node_is, thread_is) (without-own t s.running (only m w s h tx is) own),
+          )
 
   -- outside of the geometry, and with none open
   unknown_seat : (node thread : ℕ) → (node ≡ 0 → ⊥) ⊎ ((node ≡ 0) × (thread ≡ 0 → ⊥)) → is_seat m.geometry node thread ≡ false
   unknown_seat node thread out =
-      let one = is_one m w s h in
+      let one = only_one m w s h in
       elim out [
         | inl p ↦ let far : nat_lt node m.geometry.nodes ≡ false = le-ltb node m.geometry.nodes (omega (arith, one.nodes, nonzero node p)) in rw far refl
         | inr p ↦ let far : nat_lt thread m.geometry.threads ≡ false = le-ltb thread m.geometry.threads (omega (arith, one.threads, nonzero thread p.1)) in rw far (and-false (nat_lt node m.geometry.nodes))
       ]
 
-  none_of : w.running ≡ None → running_of 0 0 s ≡ None
-  none_of none = rw (none_running m w s h none) refl
-
   pub unknown_row : (node thread : ℕ) → (node ≡ 0 → ⊥) ⊎ ((node ≡ 0) × (thread ≡ 0 → ⊥)) → Answers m s (Reserve node thread) (Refused Unknown) s
   unknown_row node thread out =
       let seat : is_seat m.geometry node thread ≡ false = unknown_seat node thread out in (
         step-refused m s (Reserve node thread) Unknown (common-unknown m.geometry s (Reserve node thread) (ap is_up h.still.up) seat),
-        rw (other_running w.image.items w.running (value m.start s.earlier s.history) s.running node thread h.bytes (elim out [ inl p ↦ inl p | inr p ↦ inr p.1 ])) tt,
+        rw (other_running w.segment w.running (value m.start s.earlier s.history) s.running node thread h.bytes (elim out [ inl p ↦ inl p | inr p ↦ inr p.1 ])) tt,
       )
 
   pub no_turn_row : w.running ≡ None → Answers m s (Reserve 0 0) (Refused OutOfTurn) s
   no_turn_row none = (
-    step-row m s (Reserve 0 0) (Refused OutOfTurn) s (no_refusal m w s h (Reserve 0 0) known_seat h.still.not_halted) (reserve-no_turn m s 0 0 (none_of none)),
-    rw (none_of none) tt,
+    step-row m s (Reserve 0 0) (Refused OutOfTurn) s (no_refusal m w s h (Reserve 0 0) (known_seat m w s h) h.still.not_halted) (reserve-no_turn m s 0 0 (none_running m w s h none)),
+    rw (none_running m w s h none) tt,
   )

@@ -18,7 +18,7 @@ use Rattle.lc_core.proofs.Rows.{step-row, common-none, and-both}
 use Rattle.lc_tool.specs.Session.{Finishes}
 use Rattle.lc_tool.specs.Fits.{Fits, FitsRecords, IsOwn}
 use Rattle.lc_tool.specs.declared.solo.Solo.{Solo}
-use Rattle.lc_tool.proofs.OneNodeLemmas.{is_one}
+use Rattle.lc_tool.proofs.OneNodeLemmas.{only_one}
 use Rattle.lc_tool.proofs.EndLemmas.{length-records_from}
 
 all_own : (history : History) → AllByRecursion IsOwn history → entries_of 0 history ≡ history
@@ -42,18 +42,18 @@ some_pending [] staged text some = absurd (some text)
 some_pending (r ∷ pending) staged text some = omega arith
 
 module _ (m : Setting) (w : Solo) (s : State) (h : Fits m w s) where
-  pub count_all : length h.records.stable + length h.records.pending ≡ w.records
+  pub count_all : length h.records.stable + length h.records.pending ≡ w.segment.records
   count_all =
       let all : history_records m s ≡ records_from no_numbers m.start (transactions s.history) =
       ap (λ (ts : List Transaction). drop (length ts) (records_from no_numbers m.start (ts ++ transactions s.history))) h.still.first in
       sym (length-append h.records.stable h.records.pending) ∙ ap length (sym h.records.parts ∙ all)
       ∙ length-records_from no_numbers m.start (transactions s.history) ∙ length-map s.history (λ (e : Entry). e.transaction) ∙ h.records.closed
 
-  front_is : front 0 s.history ≡ w.records
+  front_is : front 0 s.history ≡ w.segment.records
   front_is = front_all s.history h.records.own ∙ h.records.closed
 
   node_known : is_node m.geometry 0 ≡ true
-  node_known = let one = is_one m w s h in ap (λ (n : ℕ). nat_lt 0 n) one.nodes
+  node_known = let one = only_one m w s h in ap (λ (n : ℕ). nat_lt 0 n) one.nodes
 
   pub nothing_row : w.staged.words ≡ [] → Finishes m s (FlushStep 0) Nothing s
   nothing_row none =
@@ -67,7 +67,7 @@ module _ (m : Setting) (w : Solo) (s : State) (h : Fits m w s) where
   abbrev pub flushed : State
   flushed = acknowledged (flushed_to (flushed_to (flushed_to s 0 1 (front 0 s.history)) 0 2 (front 0 s.history)) 0 3 (front 0 s.history)) 0 (front 0 s.history)
 
-  pub acked_row : 0 < length h.records.pending → Finishes m s (FlushStep 0) (Acked w.records) flushed
+  pub acked_row : 0 < length h.records.pending → Finishes m s (FlushStep 0) (Acked w.segment.records) flushed
   acked_row some =
       let count : ℕ = front 0 s.history in
       let first : State = flushed_to s 0 1 count in
@@ -92,7 +92,7 @@ module _ (m : Setting) (w : Solo) (s : State) (h : Fits m w s) where
       } in
       subst (λ (n : ℕ). Finishes m s (FlushStep 0) (Acked n) flushed) front_is all
 
-  pub records_flushed : (now : List ℕ) (dirty : ℕ → Bool) (end : ℕ) → IsAtRest now dirty end (h.records.stable ++ h.records.pending) → FitsRecords now dirty end [] w.records w.records (history_records m flushed) flushed.history
+  pub records_flushed : (now : List ℕ) (dirty : ℕ → Bool) (end : ℕ) → IsAtRest now dirty end (h.records.stable ++ h.records.pending) → FitsRecords now dirty end [] w.segment.records w.segment.records (history_records m flushed) flushed.history
   records_flushed now dirty end rest = record {
     stable = h.records.stable ++ h.records.pending;
     pending = [];
@@ -106,5 +106,5 @@ module _ (m : Setting) (w : Solo) (s : State) (h : Fits m w s) where
     numbers = h.records.numbers;
   }
 
-  pub acked_is : flushed.ack 0 ≡ w.records
+  pub acked_is : flushed.ack 0 ≡ w.segment.records
   acked_is = front_is

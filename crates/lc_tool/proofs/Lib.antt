@@ -3,7 +3,6 @@ mod Numbers
 mod Pages
 mod Words
 mod Writes
-mod Stretch
 mod OneNodeLemmas
 mod EndLemmas
 mod FlushLemmas
@@ -12,3 +11,5 @@ mod LineLemmas
 mod ScriptLemmas
 mod OptionNumbers
 mod Asking
+mod StepLemmas
+mod CloseLemmas

@@ -4,7 +4,7 @@ use Rattle.std.proofs.lemmas.List.{length-take, take_all}
 use Rattle.std.specs.Prelude.{if◌then◌else◌, bytes_eq, codes, option_map}
 use Rattle.std.specs.Io.KnownBytes.{Appends, Keeps}
 use Rattle.lc_core.specs.State.{Setting, State}
-use Rattle.lc_tool.specs.Line.{◌>>=◌, first, u16_of, u32_of, all_numbers, no_more, bytes_of, thread_of, spot_of, node_of, begin_of, range_of, write_of, read_of, end_of, show_of, command_of, words, asked, line_of}
+use Rattle.lc_tool.specs.Line.{◌>>=◌, first, u16_of, u32_of, all_numbers, no_more, bytes_of, thread_of, spot_of, node_of, begin_of, range_of, write_of, read_of, abort_of, end_of, show_of, command_of, words, asked, line_of}
 use Rattle.lc_tool.specs.Session.{Runs, Prints, script_lines}
 use Rattle.lc_tool.specs.Outcome.{Passes, Breaks}
 use Rattle.lc_tool.specs.Fits.{IsOfScript}
@@ -41,6 +41,10 @@ read_fine : (fields : List (List ℕ)) → IfSome (read_of fields) IsOfScript
 unfolding read_of
 read_fine fields = bind_fine (spot_of fields) _ (λ spot. bind_fine (u32_of spot.1) _ (λ len. bind_fine (no_more len.1) _ (λ end. refl)))
 
+abort_fine : (fields : List (List ℕ)) → IfSome (abort_of fields) IsOfScript
+unfolding abort_of
+abort_fine fields = bind_fine (thread_of fields) _ (λ who. bind_fine (no_more who.1) _ (λ end. refl))
+
 end_fine : (fields : List (List ℕ)) → IfSome (end_of fields) IsOfScript
 unfolding end_of
 end_fine fields = bind_fine (thread_of fields) _ (λ who. bind_fine (no_more who.1) _ (λ end. tt))
@@ -57,11 +61,12 @@ command_fine (keyword ∷ fields) =
     (if_fine (bytes_eq keyword (codes "range")) _ _ (range_fine fields)
     (if_fine (bytes_eq keyword (codes "write")) _ _ (write_fine fields)
     (if_fine (bytes_eq keyword (codes "read")) _ _ (read_fine fields)
+    (if_fine (bytes_eq keyword (codes "abort")) _ _ (abort_fine fields)
     (if_fine (bytes_eq keyword (codes "end")) _ _ (end_fine fields)
     (if_fine (bytes_eq keyword (codes "flush")) _ _ (map_fine Flush (node_of fields) (λ n. tt))
     (if_fine (bytes_eq keyword (codes "log")) _ _ (map_fine Log (node_of fields) (λ n. tt))
     (if_fine (bytes_eq keyword (codes "inspect")) _ _ (map_fine Inspect (node_of fields) (λ n. tt))
-    (if_fine (bytes_eq keyword (codes "show")) _ _ (show_fine fields) tt))))))))
+    (if_fine (bytes_eq keyword (codes "show")) _ _ (show_fine fields) tt)))))))))
 
 asked_fine : (o : Option Command) (command : Command) → IfSome o IsOfScript → asked o ≡ Commanded command → IsOfScript command
 asked_fine None command fine e = absurd cc

@@ -23,17 +23,18 @@ use Rattle.lc_tool.specs.Inspector.{Inspects}
 use Rattle.lc_tool.specs.Session.{image_of, Shows}
 use Rattle.lc_tool.specs.Fits.{Fits, FitsBytes}
 use Rattle.lc_tool.specs.declared.solo.Solo.{Solo}
-use Rattle.lc_tool.specs.declared.solo.Running.{Running}
-use Rattle.lc_tool.proofs.OneNodeLemmas.{is_one, one_segment}
+use Rattle.lc_tx.specs.declared.tx.Tx.{Tx}
+use Rattle.lc_tool.specs.declared.one_segment.OneSegment.{OneSegment}
+use Rattle.lc_tool.proofs.OneNodeLemmas.{only_one, one_segment}
 use Rattle.lc_tool.proofs.EndLemmas.{the_records}
 
-the_image : (image : List ℕ) (o : Option Running) (content : List (List ℕ)) (running : List Transaction) → FitsBytes image o content running →
-    effects (filter (is_of 0) running) content ≡ image ∷ []
-the_image image None content running at = rw (at.1) at.0
-the_image image (Some one) content running at =
-    let by : is_of 0 at.1 ≡ true = (and-both (at.1.node == 0) (at.1.thread == 0) at.4.by).0 in
-    let only : filter (is_of 0) running ≡ at.1 ∷ [] = rw (at.3, by) refl in
-    ap₂ effects only at.2 ∙ at.4.writes
+the_image : (segment : OneSegment) (o : Option Tx) (content : List (List ℕ)) (running : List Transaction) → FitsBytes segment o content running →
+    effects (filter (is_of 0) running) content ≡ segment.image.bytes.items ∷ []
+the_image segment None content running at = rw (at.2) at.0
+the_image segment (Some tx) content running at =
+    let node : is_of 0 at.0 ≡ true = (and-both (at.0.node == 0) (at.0.thread == 0) at.2.own).0 in
+    let only : filter (is_of 0) running ≡ at.0 ∷ [] = rw (at.1, node) refl in
+    ap (λ (ts : List Transaction). effects ts content) only ∙ at.2.image
 
 pub shows : (known : Bool) (shown : List ℕ) → known ≡ true → Shows known shown shown false
 shows true shown e = (refl, refl)
@@ -57,14 +58,14 @@ module _ (m : Setting) (w : Solo) (s : State) (h : Fits m w s) where
       one_text-by (words_of (memory_now w.log.area)) is.0 h.records.stable is.1 (text_at_rest (memory_now w.log.area) (memory_dirty w.log.area) w.log.end h.records.stable h.records.at_rest) ∙ sym stable_is in
       subst (λ (rs : List Record). Appends held holds (records_text (placed 0 rs))) same is.2
 
-  pub image_is : segment_of 1 (image_of m 0 s) ≡ w.image.items
-  image_is = ap (segment_of 1) (the_image w.image.items w.running (value m.start s.earlier s.history) s.running h.bytes)
+  pub image_is : segment_of 1 (image_of m 0 s) ≡ w.segment.image.bytes.items
+  image_is = ap (segment_of 1) (the_image w.segment w.running (value m.start s.earlier s.history) s.running h.bytes)
 
   pub node_known : is_node m.geometry 0 ≡ true
-  node_known = let one = is_one m w s h in ap (λ (n : ℕ). nat_lt 0 n) one.nodes
+  node_known = let one = only_one m w s h in ap (λ (n : ℕ). nat_lt 0 n) one.nodes
 
   pub page_known : (page : ℕ) → page < w.geometry.pages → (is_node m.geometry 0 && is_segment m.geometry 1 && nat_lt page m.geometry.pages) ≡ true
   page_known page inside =
-      let one = is_one m w s h in
+      let one = only_one m w s h in
       let pages : m.geometry.pages ≡ w.geometry.pages = ap (λ (g : Geometry). g.pages) h.still.same_geometry in
       ap₂ (λ (a b : Bool). a && b) (ap₂ (λ (a b : Bool). a && b) node_known (one_segment m.geometry 1 one.segments)) (lt-ltb page m.geometry.pages (omega (arith, inside, pages)))

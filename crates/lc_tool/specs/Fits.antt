@@ -1,9 +1,9 @@
 -- When a store of one node, one thread and one segment fits a state of the plain machine.
-use Rattle.std.specs.Prelude.{◌≡◌, ℕ, Bool, true, false, List, [], ◌∷◌, ◌++◌, length, replicate, Option, Some, None, IsTrue, if◌then◌else◌}
+use Rattle.std.specs.Prelude.{◌≡◌, ℕ, Bool, true, false, List, [], ◌∷◌, ◌++◌, ◌+◌, length, nat_lt, Option, Some, None, IsTrue, MatchBool}
 use Rattle.std.specs.List.{AllByRecursion}
 use Rattle.lc_disk.specs.MemArea.{memory_now, memory_dirty}
-use Rattle.lc_record.specs.Content.{Content, put}
-use Rattle.lc_record.specs.Transaction.{Transaction, writes_on}
+use Rattle.lc_record.specs.Content.{Content}
+use Rattle.lc_record.specs.Transaction.{Transaction, is_member, effect}
 use Rattle.lc_record.specs.declared.geometry.Geometry.{Geometry}
 use Rattle.lc_record.specs.declared.record.Record.{Record}
 use Rattle.lc_log.specs.LogText.{IsWhole, joined}
@@ -17,25 +17,28 @@ use Rattle.lc_tool.specs.declared.command.Command.{Command}
 use Rattle.lc_tool.specs.declared.command.Command.TheVariants.{Step as Asks}
 use Rattle.std.specs.Io.KnownBytes.{Appends}
 use Rattle.lc_core.specs.declared.event.Event.{Event}
-use Rattle.lc_core.specs.declared.event.Event.TheVariants.{Begin, SetRange, Write, Read, Reserve, FlushStep}
+use Rattle.lc_core.specs.declared.event.Event.TheVariants.{Begin, SetRange, Write, Read, Abort, Reserve, FlushStep}
 use Rattle.lc_core.specs.declared.reply.Reply.{Reply}
-use Rattle.lc_tool.specs.declared.solo.Running.{Running}
+use Rattle.lc_core.specs.declared.reply.Reply.TheVariants.{Reserved, Refused}
+use Rattle.lc_core.specs.declared.refusal.Refusal.TheVariants.{Full}
+use Rattle.lc_tx.specs.StandsFor.{StandsFor}
+use Rattle.lc_tx.specs.declared.tx.Tx.{Tx}
+use Rattle.lc_tool.specs.declared.one_segment.OneSegment.{OneSegment}
+use Rattle.lc_tool.specs.OneSegment.{the_images}
 use Rattle.lc_tool.specs.declared.solo.Solo.{Solo}
 
--- The open transaction: its one range, and its writes, which stand in the image over the base. Each relation takes
--- the parts that it speaks of, so that it is the same fact where other parts change.
-pub record IsOpen (image base : List ℕ) (one : Running) (t : Transaction) : Type 0 where
-  pub by : IsTrue (is_by 0 0 t)
-  pub locked : t.locked ≡ (if one.has_lock then 1 ∷ [] else [])
-  pub marks : t.marks ≡ put one.offset (replicate one.len true) (replicate (length image) false) ∷ []
-  pub writes : writes_on t.writes (base ∷ []) ≡ image ∷ []
-  pub untouched : one.len ≡ 0 → image ≡ base
+-- The open transaction: what is kept of it stands for it, on the content, and the segment's bytes are those with its
+-- writes. Each relation takes the parts that it speaks of, so that it is the same fact where other parts change.
+pub record IsOpen (segment : OneSegment) (tx : Tx) (content : Content) (t : Transaction) : Type 0 where
+  pub own : IsTrue (is_by 0 0 t)
+  pub stands : StandsFor the_images segment tx content t
+  pub image : effect t content ≡ segment.image.bytes.items ∷ []
+  pub free : is_member 1 tx.locked.items ≡ false → segment.image.holder ≡ None
 
--- the image is the value of the history, with the writes of the open transaction on top
-abbrev pub FitsBytes : List ℕ → Option Running → Content → List Transaction → Type 0
-FitsBytes image None content running = (content ≡ image ∷ []) × (running ≡ [])
-FitsBytes image (Some one) content running =
-    (base : List ℕ) × (t : Transaction) × (content ≡ base ∷ []) × (running ≡ t ∷ []) × IsOpen image base one t
+-- the segment's bytes are the value of the history, with the writes of the open transaction on top
+abbrev pub FitsBytes : OneSegment → Option Tx → Content → List Transaction → Type 0
+FitsBytes segment None content running = (content ≡ segment.image.bytes.items ∷ []) × (segment.image.holder ≡ None) × (running ≡ [])
+FitsBytes segment (Some tx) content running = (t : Transaction) × (running ≡ t ∷ []) × IsOpen segment tx content t
 
 -- reserved by the one thread, and closed
 abbrev pub IsOwn : Entry → Type 0
@@ -66,8 +69,8 @@ pub record FitsStill (m : Setting) (geometry : Geometry) (phase : Phase) (halted
 
 pub record Fits (m : Setting) (w : Solo) (s : State) : Type 0 where
   pub still : FitsStill m w.geometry s.phase s.halted s.place s.earlier s.flush
-  pub bytes : FitsBytes w.image.items w.running (value m.start s.earlier s.history) s.running
-  pub records : FitsRecords (memory_now w.log.area) (memory_dirty w.log.area) w.log.end w.staged.words w.records w.acked (history_records m s) s.history
+  pub bytes : FitsBytes w.segment w.running (value m.start s.earlier s.history) s.running
+  pub records : FitsRecords (memory_now w.log.area) (memory_dirty w.log.area) w.log.end w.staged.words w.segment.records w.acked (history_records m s) s.history
   pub acked : s.ack 0 ≡ w.acked
 
 -- from a store to a store, with this reply to the event
@@ -92,6 +95,7 @@ is_of_script (Begin node thread segments) = true
 is_of_script (SetRange node thread segment offset len) = true
 is_of_script (Write node thread segment offset bytes) = true
 is_of_script (Read node thread segment offset len) = true
+is_of_script (Abort node thread) = true
 is_of_script _ = false
 
 abbrev pub IsOfScript : Command → Type 0
@@ -103,3 +107,32 @@ abbrev pub Performs : Solo → Command → Option (List ℕ) → Option (List �
 Performs old command held holds refused new =
     (m : Setting) (before : State) → Fits m old before →
     (shown : List ℕ) × (after : State) × Does m before command shown refused after × Appends held holds shown × Fits m new after
+
+-- The transaction is over, and its segment is free
+pub record IsReleased (old new : Solo) : Type 0 where
+  pub over : new.running ≡ None
+  pub same_geometry : new.geometry ≡ old.geometry
+  pub same_log : new.log ≡ old.log
+  pub same_staged : new.staged ≡ old.staged
+  pub same_acked : new.acked ≡ old.acked
+  pub same_records : new.segment.records ≡ old.segment.records
+  pub same_bytes : new.segment.image.bytes.items ≡ old.segment.image.bytes.items
+  pub free : (tx : Tx) → old.running ≡ Some tx → (is_member 1 tx.locked.items ≡ false → old.segment.image.holder ≡ None) → new.segment.image.holder ≡ None
+
+-- the words of the open transaction's record are staged
+pub record IsLogged (old : Solo) (words : List ℕ) (new : Solo) : Type 0 where
+  pub over : new.running ≡ None
+  pub same_geometry : new.geometry ≡ old.geometry
+  pub same_log : new.log ≡ old.log
+  pub staged : new.staged ≡ record old.staged { words = old.staged.words ++ words }
+  pub same_acked : new.acked ≡ old.acked
+  pub one_more : new.segment.records ≡ old.segment.records + 1
+  pub same_bytes : new.segment.image.bytes.items ≡ old.segment.image.bytes.items
+  pub free : (tx : Tx) → old.running ≡ Some tx → (is_member 1 tx.locked.items ≡ false → old.segment.image.holder ≡ None) → new.segment.image.holder ≡ None
+
+-- they are, where there is room; else nothing changes
+abbrev pub Logs : Solo → List ℕ → Reply → Solo → Type 0
+Logs old words reply new =
+    MatchBool (nat_lt old.geometry.words (old.log.end + length old.staged.words + length words))
+    ((reply ≡ Refused (Full (old.log.end + length old.staged.words) (length words))) × (new ≡ old))
+    ((reply ≡ Reserved (old.log.end + length old.staged.words) (length words)) × IsLogged old words new)

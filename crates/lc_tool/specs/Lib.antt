@@ -8,3 +8,5 @@ pub mod OneNode
 pub mod Fits
 pub mod Outcome
 pub mod CommandLine
+pub mod OneSegment
+pub mod Refused

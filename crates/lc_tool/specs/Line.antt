@@ -1,7 +1,7 @@
 -- What each line of a script says.
 use Rattle.std.specs.Prelude.{◌≡◌, ℕ, ◌+◌, ◌-◌, ◌*◌, ◌^◌, ◌==◌, nat_lt, nat_le, ◌&&◌, ◌||◌, Bool, true, false, if◌then◌else◌, List, [], ◌∷◌, length, codes, bytes_eq, filter, Option, Some, None, option_and_then, option_map}
 use Rattle.std.specs.List.{slice_split, list_all}
-use Rattle.lc_core.specs.declared.event.Event.TheVariants.{Begin, SetRange, Write, Read}
+use Rattle.lc_core.specs.declared.event.Event.TheVariants.{Begin, SetRange, Write, Read, Abort}
 use Rattle.lc_tool.specs.declared.command.Command.{Command}
 use Rattle.lc_tool.specs.declared.command.Command.TheVariants.{Step, End, Flush, Log, Inspect, Show}
 use Rattle.lc_tool.specs.declared.command.Line.{Line}
@@ -136,6 +136,12 @@ read_of fields = do
   end ← no_more len.1
   Some (Step (Read spot.0.0 spot.0.1 spot.0.2 spot.0.3 len.0))
 
+unfoldable pub abort_of : List (List ℕ) → Option Command
+abort_of fields = do
+  who ← thread_of fields
+  end ← no_more who.1
+  Some (Step (Abort who.0.0 who.0.1))
+
 unfoldable pub end_of : List (List ℕ) → Option Command
 end_of fields = do
   who ← thread_of fields
@@ -165,6 +171,7 @@ command_of (keyword ∷ fields) =
     else if bytes_eq keyword (codes "range") then range_of fields
     else if bytes_eq keyword (codes "write") then write_of fields
     else if bytes_eq keyword (codes "read") then read_of fields
+    else if bytes_eq keyword (codes "abort") then abort_of fields
     else if bytes_eq keyword (codes "end") then end_of fields
     else if bytes_eq keyword (codes "flush") then option_map Flush (node_of fields)
     else if bytes_eq keyword (codes "log") then option_map Log (node_of fields)

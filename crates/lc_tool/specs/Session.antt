@@ -1,23 +1,22 @@
 -- What the lines of a script do: each command is one or more steps of the plain machine, and what is printed is the
 -- text of its replies.
-use Rattle.std.specs.Prelude.{◌≡◌, ◌⊎◌, ℕ, ◌+◌, ◌*◌, Bool, true, false, not, ◌&&◌, ◌||◌, ◌==◌, nat_le, nat_lt, List, [], ◌∷◌, ◌++◌, length, take, drop, filter, replicate, Option, Some, None, MatchBool, if◌then◌else◌}
+use Rattle.std.specs.Prelude.{◌≡◌, ◌⊎◌, ℕ, ◌+◌, ◌*◌, Bool, true, false, ◌&&◌, ◌||◌, ◌==◌, nat_lt, List, [], ◌∷◌, ◌++◌, length, take, drop, filter, replicate, MatchBool, if◌then◌else◌}
 use Rattle.std.specs.List.{flat_map, AllByRecursion}
 use Rattle.std.specs.Str.Lines.{strip_carriage_return}
 use Rattle.lc_record.specs.Content.{Content, segment_of}
-use Rattle.lc_record.specs.Transaction.{Transaction, effects, locks}
+use Rattle.lc_record.specs.Transaction.{effects}
 use Rattle.lc_record.specs.Geometry.{segment_len}
 use Rattle.lc_record.specs.Record.{spelling}
 use Rattle.lc_record.specs.declared.geometry.Geometry.{Geometry}
 use Rattle.lc_log.specs.LogText.{placed}
 use Rattle.lc_core.specs.History.{is_of, value}
-use Rattle.lc_core.specs.State.{Up, State, Setting, fresh, running_of}
-use Rattle.lc_record.specs.Marks.{is_empty}
+use Rattle.lc_core.specs.State.{Up, State, Setting, fresh}
 use Rattle.lc_core.specs.Refusals.{is_node, is_segment}
 use Rattle.lc_core.specs.Machine.{Step, Run}
 use Rattle.lc_core.specs.Settled.{Settled, stable_records}
 use Rattle.lc_core.specs.declared.event.Event.{Event}
-use Rattle.lc_core.specs.declared.event.Event.TheVariants.{SetRange, Reserve, Close, FlushStep}
-use Rattle.lc_core.specs.declared.refusal.Refusal.TheVariants.{Unknown, TooManyRanges}
+use Rattle.lc_core.specs.declared.event.Event.TheVariants.{Reserve, Close, FlushStep}
+use Rattle.lc_core.specs.declared.refusal.Refusal.TheVariants.{Unknown}
 use Rattle.lc_core.specs.declared.reply.Reply.{Reply}
 use Rattle.lc_core.specs.declared.reply.Reply.TheVariants.{Ok as Accepted, Reserved, Stepped, Refused}
 use Rattle.lc_tool.specs.declared.command.Command.{Command}
@@ -33,23 +32,9 @@ abbrev pub is_refused : Reply → Bool
 is_refused (Refused refusal) = true
 is_refused _ = false
 
--- a range that nothing speaks against but that the transaction has one already
-abbrev pub is_second : Geometry → Option Transaction → ℕ → ℕ → ℕ → Bool
-is_second g None segment offset len = false
-is_second g (Some t) segment offset len =
-    not (is_empty t.marks) && locks t segment && not (len == 0) && nat_le (offset + len) (segment_len g)
-
-abbrev pub is_second_range : Geometry → State → Event → Bool
-is_second_range g s (SetRange node thread segment offset len) = is_second g (running_of node thread s) segment offset len
-is_second_range g s _ = false
-
--- A step of the machine, and where it leaves the reply open, the one that the records settle. Today a transaction
--- takes one range, and a second one is refused.
+-- a step of the machine, and where it leaves the reply open, the one that the records settle
 abbrev pub Answers : Setting → State → Event → Reply → State → Type 0
-Answers m old event reply new =
-    MatchBool (is_second_range m.geometry old event)
-    ((reply ≡ Refused TooManyRanges) × (new ≡ old))
-    (Step m old event reply new × Settled m old event reply)
+Answers m old event reply new = Step m old event reply new × Settled m old event reply
 
 -- One command
 

@@ -35,21 +35,21 @@ impl Solo {
                 node,
                 thread,
                 segments,
-            } => Ok(self.begin(*node, *thread, segments.as_slice())),
+            } => self.begin(alloc, *node, *thread, segments.as_slice()),
             Event::SetRange {
                 node,
                 thread,
                 segment,
                 offset,
                 len,
-            } => Ok(self.set_range(*node, *thread, *segment, *offset, *len)),
+            } => self.set_range(alloc, *node, *thread, *segment, *offset, *len),
             Event::Write {
                 node,
                 thread,
                 segment,
                 offset,
                 bytes,
-            } => Ok(self.write(*node, *thread, *segment, *offset, bytes.as_slice())),
+            } => self.write(*node, *thread, *segment, *offset, bytes.as_slice()),
             Event::Read {
                 node,
                 thread,
@@ -57,6 +57,7 @@ impl Solo {
                 offset,
                 len,
             } => self.read(alloc, *node, *thread, *segment, *offset, *len),
+            Event::Abort { node, thread } => Ok(self.abort(*node, *thread)),
             _ => unreachable!(),
         }
     }
@@ -166,7 +167,10 @@ impl Solo {
             return show(writer, &Reply::Refused(Refusal::Unknown));
         }
         let start = PAGE_BYTES * page as usize;
-        write_page(writer, &self.image[start..start + PAGE_BYTES])?;
+        write_page(
+            writer,
+            &self.segment.image.bytes()[start..start + PAGE_BYTES],
+        )?;
         Ok(false)
     }
 }

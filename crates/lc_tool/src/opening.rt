@@ -5,10 +5,12 @@ ghost use Rattle.lc_tool.specs.Areas.{AreZeros};
 ghost use Rattle.lc_tool.specs.OneNode.{IsOne};
 ghost use Rattle.lc_tool.specs.Session.{setting_of};
 
+use crate::one_segment::OneSegment;
 use crate::solo::Solo;
 use lc_disk::MemArea;
 use lc_log::NodeLog;
 use lc_record::{Geometry, Group};
+use lc_tx::Image;
 use std::alloc::{AllocError, Global};
 
 impl Solo {
@@ -32,9 +34,11 @@ impl Solo {
             geometry,
             log,
             staged,
-            image,
+            segment: OneSegment {
+                image: Image::new(image),
+                records: 0,
+            },
             running: None,
-            records: 0,
             acked: 0,
         })
     }

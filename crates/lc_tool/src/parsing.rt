@@ -1,6 +1,6 @@
 //! Lines of a script.
 ghost use Rattle.std.specs.Prelude.{◌≡◌, option_map, IfOk, OnErr, IsTrue};
-ghost use Rattle.lc_tool.specs.Line.{words, Takes, thread_of, spot_of, begin_of, range_of, write_of, read_of, end_of, show_of, node_of, command_of, is_open_ended, line_of};
+ghost use Rattle.lc_tool.specs.Line.{words, Takes, thread_of, spot_of, begin_of, range_of, write_of, read_of, abort_of, end_of, show_of, node_of, command_of, is_open_ended, line_of};
 
 use crate::command::{Command, Line};
 use crate::fields::Fields;
@@ -109,6 +109,15 @@ fn end(mut fields: Fields) -> Option<Command>
     Some(Command::End { node, thread })
 }
 
+#[tactic(auto, unfolding(crate::specs::Line::abort_of))]
+fn abort(mut fields: Fields) -> Option<Command>
+    ensures { result ≡ abort_of (words fields.entry.rest.now) }
+{
+    let (node, thread) = thread(&mut fields)?;
+    fields.end()?;
+    Some(Command::Step(Event::Abort { node, thread }))
+}
+
 #[tactic(auto, unfolding(crate::specs::Line::show_of))]
 fn show(mut fields: Fields) -> Option<Command>
     ensures { result ≡ show_of (words fields.entry.rest.now) }
@@ -154,6 +163,9 @@ fn command(alloc: Global, mut fields: Fields) -> Result<Option<Command>, AllocEr
     }
     if keyword == b"read".as_slice() {
         return Ok(read(fields));
+    }
+    if keyword == b"abort".as_slice() {
+        return Ok(abort(fields));
     }
     if keyword == b"end".as_slice() {
         return Ok(end(fields));

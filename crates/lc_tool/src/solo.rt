@@ -2,41 +2,32 @@
 ghost use Rattle.std.specs.Prelude.{◌≡◌, ◌+◌, ◌*◌, ◌≤◌, ◌<◌, ◌^◌, length};
 ghost use Rattle.std.specs.Option.{ForSome};
 ghost use Rattle.lc_disk.specs.MemArea.{memory_now};
+ghost use Rattle.lc_tx.specs.Tx.{RunsOn};
+ghost use Rattle.lc_tool.specs.OneSegment.{the_images};
 
+use crate::one_segment::OneSegment;
 use lc_disk::MemArea;
 use lc_log::NodeLog;
 use lc_record::{Geometry, Group};
+use lc_tx::Tx;
 
-/// What the open transaction locked and set.
-#[derive(Clone, Copy, Debug)]
-pub(crate) struct Running {
-    /// Whether it locked the segment.
-    pub(crate) has_lock: bool,
-    /// Where the range begins that it set.
-    pub(crate) offset: usize,
-    /// The bytes of that range, 0 where nothing was set.
-    pub(crate) len: usize,
-}
-
-/// The log, the records that are closed and not flushed, and the segment's bytes with those of the open transaction.
+/// The log, the records that are closed and not flushed, the segment, and the open transaction.
 #[derive(Drop)]
 pub(crate) struct Solo {
     pub(crate) geometry: Geometry,
     pub(crate) log: NodeLog<MemArea>,
     pub(crate) staged: Group,
-    pub(crate) image: Vec<u8>,
-    pub(crate) running: Option<Running>,
-    /// How many records were closed; each has the next number of the segment.
-    pub(crate) records: u64,
-    /// How many of them are flushed.
+    pub(crate) segment: OneSegment,
+    pub(crate) running: Option<Tx>,
+    /// How many of the closed records are flushed.
     pub(crate) acked: u64,
     ghost one_node: { geometry.nodes ≡ 1 },
     ghost one_thread: { geometry.threads ≡ 1 },
     ghost one_segment: { geometry.segments ≡ 1 },
-    ghost image_len: { length image.items ≡ geometry.pages * 256 },
+    ghost image_len: { length segment.image.bytes.items ≡ geometry.pages * 256 },
     ghost area_len: { length (memory_now log.area) ≡ 8 * (geometry.words + 1) },
     ghost room: { staged.room ≡ geometry.words },
     ghost fits: { log.end + length staged.words ≤ geometry.words },
-    ghost few: { records ≤ log.end + length staged.words },
-    ghost inside: { ForSome running (λ o. o.offset + o.len ≤ length image.items) },
+    ghost few: { segment.records ≤ log.end + length staged.words },
+    ghost runs: { ForSome running (λ tx. RunsOn the_images segment tx) },
 }

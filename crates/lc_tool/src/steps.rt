@@ -1,110 +1,50 @@
 //! The steps of the store.
-ghost use Rattle.std.specs.Prelude.{◌≡◌, ◌+◌, ◌*◌, ◌/◌, ◌<◌, ◌≤◌, ◌^◌, ◌++◌, [], ℕ, true, false, length, replicate, IsTrue, IfOk, ◌==◌, ◌⊎◌};
+ghost use Rattle.std.specs.Prelude.{◌≡◌, ◌==◌, IfOk, IsErr, Ok, MatchOption};
 ghost use Rattle.std.specs.List.{list_all};
-ghost use Rattle.lc_disk.specs.Area.{overlaid};
-ghost use Rattle.lc_core.specs.declared.event.Event.TheVariants.{Begin, SetRange, Write, Read};
+ghost use Rattle.lc_core.specs.declared.event.Event.TheVariants.{Begin, SetRange, Write, Read, Abort};
+ghost use Rattle.lc_core.specs.declared.reply.Reply.TheVariants.{Refused};
 ghost use Rattle.lc_record.specs.declared.geometry.Geometry.{Geometry};
 ghost use Rattle.lc_core.specs.Refusals.{is_known as is_known_in};
 ghost use Rattle.lc_tool.specs.OneNode.{IsOne};
+ghost use Rattle.lc_tool.specs.Refused.{refusal_of};
 
-use crate::solo::{Running, Solo};
+use crate::solo::Solo;
 use lc_core::{Refusal, Reply};
 use lc_record::Items;
+use lc_tx::{Tx, TxFault};
 use std::alloc::{AllocError, Global};
 
 impl Solo {
     ghost use Rattle.lc_tool.specs.Fits.{Follows};
 
     /// The one thread begins a transaction.
-    pub(crate) fn begin(&mut self, node: u16, thread: u16, segments: &[u32]) -> Reply
-        ensures { Follows self.old (Begin node thread segments.now) result self.new }
+    pub(crate) fn begin(
+        &mut self,
+        alloc: Global,
+        node: u16,
+        thread: u16,
+        segments: &[u32],
+    ) -> Result<Reply, AllocError>
+        ensures { IfOk result (λ reply. Follows self.old (Begin node thread segments.now) reply self.new) }
     {
         if !is_known(node, thread, segments) {
-            return Reply::Refused(Refusal::Unknown);
+            return Ok(Reply::Refused(Refusal::Unknown));
         }
         if self.running.is_some() {
-            return Reply::Refused(Refusal::OutOfTurn);
+            return Ok(Reply::Refused(Refusal::OutOfTurn));
         }
-        self.running = Some(Running {
-            has_lock: !segments.is_empty(),
-            offset: 0,
-            len: 0,
-        });
-        Reply::Ok
+        match Tx::begin(alloc, &mut self.segment, thread, segments) {
+            Ok(tx) => {
+                self.running = Some(tx);
+                Ok(Reply::Ok)
+            }
+            Err(fault) => refused(fault),
+        }
     }
 
-    /// It sets its one range.
+    /// It sets a range.
     pub(crate) fn set_range(
         &mut self,
-        node: u16,
-        thread: u16,
-        segment: u32,
-        offset: u32,
-        len: u32,
-    ) -> Reply
-        ensures { Follows self.old (SetRange node thread segment offset len) result self.new }
-    {
-        if node != 0 || thread != 0 || segment != 1 {
-            return Reply::Refused(Refusal::Unknown);
-        }
-        let Some(running) = self.running else {
-            return Reply::Refused(Refusal::OutOfTurn);
-        };
-        if !running.has_lock {
-            return Reply::Refused(Refusal::NotLocked);
-        }
-        if len == 0 {
-            return Reply::Refused(Refusal::EmptyRange);
-        }
-        let (offset, len) = (offset as usize, len as usize);
-        if offset + len > self.image.len() {
-            return Reply::Refused(Refusal::OutOfSegment { area: None });
-        }
-        if running.len > 0 {
-            return Reply::Refused(Refusal::TooManyRanges);
-        }
-        self.running = Some(Running {
-            has_lock: true,
-            offset,
-            len,
-        });
-        Reply::Ok
-    }
-
-    /// It writes inside that range.
-    pub(crate) fn write(
-        &mut self,
-        node: u16,
-        thread: u16,
-        segment: u32,
-        offset: u32,
-        bytes: &[u8],
-    ) -> Reply
-        ensures { Follows self.old (Write node thread segment offset bytes.now) result self.new }
-    {
-        if node != 0 || thread != 0 || segment != 1 {
-            return Reply::Refused(Refusal::Unknown);
-        }
-        let Some(running) = self.running else {
-            return Reply::Refused(Refusal::OutOfTurn);
-        };
-        if !running.has_lock {
-            return Reply::Refused(Refusal::NotLocked);
-        }
-        let offset = offset as usize;
-        if bytes.len() > self.image.len() || offset > self.image.len() - bytes.len() {
-            return Reply::Refused(Refusal::OutOfSegment { area: None });
-        }
-        if !covers(running, offset, bytes.len()) {
-            return Reply::Refused(Refusal::NoRange);
-        }
-        put_bytes(&mut self.image, offset, bytes);
-        Reply::Ok
-    }
-
-    /// It reads bytes of the segment.
-    pub(crate) fn read(
-        &self,
         alloc: Global,
         node: u16,
         thread: u16,
@@ -112,23 +52,79 @@ impl Solo {
         offset: u32,
         len: u32,
     ) -> Result<Reply, AllocError>
-        ensures { IfOk result (λ reply. Follows self.now (Read node thread segment offset len) reply self.now) }
+        ensures { IfOk result (λ reply. Follows self.old (SetRange node thread segment offset len) reply self.new) }
     {
         if node != 0 || thread != 0 || segment != 1 {
             return Ok(Reply::Refused(Refusal::Unknown));
         }
-        let Some(running) = self.running else {
+        let Some(tx) = &mut self.running else {
             return Ok(Reply::Refused(Refusal::OutOfTurn));
         };
-        if !running.has_lock {
-            return Ok(Reply::Refused(Refusal::NotLocked));
+        match tx.set_range(alloc, &mut self.segment, segment, offset, len) {
+            Ok(()) => Ok(Reply::Ok),
+            Err(fault) => refused(fault),
         }
-        let (offset, len) = (offset as usize, len as usize);
-        if offset + len > self.image.len() {
-            return Ok(Reply::Refused(Refusal::OutOfSegment { area: None }));
+    }
+
+    /// It writes what it set.
+    pub(crate) fn write(
+        &mut self,
+        node: u16,
+        thread: u16,
+        segment: u32,
+        offset: u32,
+        bytes: &[u8],
+    ) -> Result<Reply, AllocError>
+        ensures { IfOk result (λ reply. Follows self.old (Write node thread segment offset bytes.now) reply self.new) }
+    {
+        if node != 0 || thread != 0 || segment != 1 {
+            return Ok(Reply::Refused(Refusal::Unknown));
         }
-        let bytes = self.image[offset..offset + len].to_vec(alloc)?;
-        Ok(Reply::Bytes(Items::new(bytes)))
+        let Some(tx) = &self.running else {
+            return Ok(Reply::Refused(Refusal::OutOfTurn));
+        };
+        match tx.write(&mut self.segment, segment, offset, bytes) {
+            Ok(()) => Ok(Reply::Ok),
+            Err(fault) => refused(fault),
+        }
+    }
+
+    /// It reads bytes of the segment.
+    pub(crate) fn read(
+        &mut self,
+        alloc: Global,
+        node: u16,
+        thread: u16,
+        segment: u32,
+        offset: u32,
+        len: u32,
+    ) -> Result<Reply, AllocError>
+        ensures { IfOk result (λ reply. Follows self.old (Read node thread segment offset len) reply self.new) }
+    {
+        if node != 0 || thread != 0 || segment != 1 {
+            return Ok(Reply::Refused(Refusal::Unknown));
+        }
+        let Some(tx) = &self.running else {
+            return Ok(Reply::Refused(Refusal::OutOfTurn));
+        };
+        match tx.read(alloc, &mut self.segment, segment, offset, len) {
+            Ok(bytes) => Ok(Reply::Bytes(Items::new(bytes))),
+            Err(fault) => refused(fault),
+        }
+    }
+
+    /// It ends the transaction without a commit.
+    pub(crate) fn abort(&mut self, node: u16, thread: u16) -> Reply
+        ensures { Follows self.old (Abort node thread) result self.new }
+    {
+        if node != 0 || thread != 0 {
+            return Reply::Refused(Refusal::Unknown);
+        }
+        let Some(tx) = self.running.take() else {
+            return Reply::Refused(Refusal::OutOfTurn);
+        };
+        tx.abort(&mut self.segment);
+        Reply::Ok
     }
 }
 
@@ -146,26 +142,21 @@ fn are_first(segments: &[u32]) -> bool
     segments.iter().all(|segment| *segment == 1)
 }
 
-// Whether these positions lie in the range that was set.
-fn covers(running: Running, offset: usize, len: usize) -> bool
-    requires end { offset + len < 2 ^ 64 }
-    requires range_end { running.offset + running.len < 2 ^ 64 }
-    ensures yes { result ≡ true → 0 < len → (running.offset ≤ offset) × (offset + len ≤ running.offset + running.len) }
-    ensures no { result ≡ false → (0 < len) × ((offset < running.offset) ⊎ (running.offset + running.len < offset + len)) }
+/// The reply to what a transaction refused.
+pub(crate) fn refused(fault: TxFault) -> Result<Reply, AllocError>
+    ensures { MatchOption (refusal_of fault) (IsErr result) (λ refusal. result ≡ Ok (Refused refusal)) }
 {
-    if len == 0 {
-        return true;
-    }
-    if offset < running.offset {
-        return false;
-    }
-    offset + len <= running.offset + running.len
-}
-
-// Lays bytes over those from an offset on.
-fn put_bytes(image: &mut Vec<u8>, offset: usize, bytes: &[u8])
-    requires { offset + length bytes.now ≤ length image.old.items }
-    ensures { image.new.items ≡ overlaid image.old.items offset bytes.now }
-{
-    image[offset..offset + bytes.len()].copy_from_slice(bytes);
+    let refusal = match fault {
+        TxFault::Busy { segment } => Refusal::Busy { segment },
+        TxFault::NotHere { segment } => Refusal::NotHere { segment },
+        TxFault::NoRange => Refusal::NoRange,
+        TxFault::OutOfSegment => Refusal::OutOfSegment { area: None },
+        TxFault::NotLocked => Refusal::NotLocked,
+        TxFault::NoMemory => return Err(AllocError),
+        TxFault::TooLong { words } => Refusal::TooLong { words },
+        TxFault::SequenceSpent { segment } => Refusal::SequenceSpent { segment },
+        TxFault::EmptyRange => Refusal::EmptyRange,
+        TxFault::TooManyRanges => Refusal::TooManyRanges,
+    };
+    Ok(Reply::Refused(refusal))
 }

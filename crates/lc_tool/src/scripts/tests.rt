@@ -87,8 +87,81 @@ fn refusals_of_one_transaction(rt: HostRuntime) -> Result<(), Fail> {
     let script =
         b"begin 0 0 1\nrange 0 0 1 2 2\nrange 0 0 1 4 2\nwrite 0 0 1 1 aabb\nwrite 0 0 1 2 AAbb\nread 0 0 1 1 4\nread 0 0 1 255 2\nread 0 1 1 0 1\nend 0 0\nflush 0\nflush 0\nflush 1\n";
     let want =
-        "ok\nok\nrefused TooManyRanges\nrefused NoRange\nok\nbytes 00aabb00\nrefused OutOfSegment\nrefused Unknown\nclosed 0 8\nacked 1\nnothing\nrefused Unknown\n";
+        "ok\nok\nok\nrefused NoRange\nok\nbytes 00aabb00\nrefused OutOfSegment\nrefused Unknown\nclosed 0 8\nacked 1\nnothing\nrefused Unknown\n";
     check_run(&rt, 1, 64, script, want, 1)
+}
+
+#[test]
+fn ranges_merge(rt: HostRuntime) -> Result<(), Fail> {
+    let script =
+        b"begin 0 0 1\nrange 0 0 1 0 4\nrange 0 0 1 4 4\nrange 0 0 1 2 3\nrange 0 0 1 20 1\nend 0 0\nflush 0\ninspect 0\n";
+    let want =
+        "ok\nok\nok\nok\nok\nclosed 0 11\nacked 1\n0 11 node 0 locks 1:1 ranges 1:0+8,1:20+1\n";
+    check_run(&rt, 1, 64, script, want, 0)
+}
+
+#[test]
+fn ranges_and_their_bounds(rt: HostRuntime) -> Result<(), Fail> {
+    let script =
+        b"begin 0 0 1\nrange 0 0 1 10 4\nwrite 0 0 1 10 0102030405\nread 0 0 1 10 5\nrange 0 0 1 250 6\nrange 0 0 1 251 6\nrange 0 0 1 5 0\n";
+    let want =
+        "ok\nok\nrefused NoRange\nbytes 0000000000\nok\nrefused OutOfSegment\nrefused EmptyRange\n";
+    check_run(&rt, 1, 64, script, want, 1)
+}
+
+#[test]
+fn an_abort_gives_the_old_bytes_back(rt: HostRuntime) -> Result<(), Fail> {
+    let script =
+        b"begin 0 0 1\nrange 0 0 1 0 6\nwrite 0 0 1 0 616263646566\nend 0 0\nbegin 0 0 1\nrange 0 0 1 0 4\nwrite 0 0 1 0 01020304\nrange 0 0 1 2 4\nwrite 0 0 1 2 0a0b0c0d\nread 0 0 1 0 6\nabort 0 0\nbegin 0 0 1\nread 0 0 1 0 6\n";
+    let want =
+        "ok\nok\nok\nclosed 0 8\nok\nok\nok\nok\nok\nbytes 01020a0b0c0d\nok\nok\nbytes 616263646566\n";
+    check_run(&rt, 1, 64, script, want, 0)?;
+    check_run(
+        &rt,
+        1,
+        64,
+        b"abort 0 0\nabort 0 1\nbegin 0 0 1\nabort 0 0\nabort 0 0\n",
+        "refused OutOfTurn\nrefused Unknown\nok\nok\nrefused OutOfTurn\n",
+        1,
+    )
+}
+
+#[test]
+fn an_empty_transaction_uses_no_number(rt: HostRuntime) -> Result<(), Fail> {
+    let script =
+        b"begin 0 0 1\nend 0 0\nbegin 0 0 1\nrange 0 0 1 3 5\nwrite 0 0 1 3 68656c6c6f\nend 0 0\nflush 0\ninspect 0\n";
+    let want = "ok\nended\nok\nok\nok\nclosed 0 8\nacked 1\n0 8 node 0 locks 1:1 ranges 1:3+5\n";
+    check_run(&rt, 1, 64, script, want, 0)
+}
+
+#[test]
+fn one_record_fills_the_log(rt: HostRuntime) -> Result<(), Fail> {
+    let script =
+        b"begin 0 0 1\nrange 0 0 1 0 456\nend 0 0\nbegin 0 0 1\nrange 0 0 1 0 1\nend 0 0\nabort 0 0\n";
+    let want = "ok\nok\nclosed 0 64\nok\nok\nrefused Full 64 8\nok\n";
+    check_run(&rt, 2, 64, script, want, 1)?;
+    check_run(
+        &rt,
+        2,
+        64,
+        b"begin 0 0 1\nrange 0 0 1 0 457\nend 0 0\n",
+        "ok\nok\nrefused Full 0 65\n",
+        1,
+    )
+}
+
+#[test]
+fn sixty_four_ranges_are_taken(rt: HostRuntime) -> Result<(), Fail> {
+    let mut script = "begin 0 0 1\n".to_string(rt.alloc())?;
+    let mut want = "ok\n".to_string(rt.alloc())?;
+    for offset in (0..127).step_by(2) {
+        let line = format!(in rt.alloc(); "range 0 0 1 {offset} 1\n")?;
+        script.push_str(line.as_str())?;
+        want.push_str("ok\n")?;
+    }
+    script.push_str("range 0 0 1 200 1\nrange 0 0 1 1 1\nrange 0 0 1 200 1\nend 0 0\n")?;
+    want.push_str("refused TooManyRanges\nok\nok\nclosed 0 197\n")?;
+    check_run(&rt, 1, 4096, script.as_str().as_bytes(), want.as_str(), 1)
 }
 
 #[test]

@@ -1,4 +1,5 @@
-use Rattle.std.proofs.Common.{◌≡◌, ◌+◌, ◌≤◌, ℕ, List, ◌++◌, length, ap, refl, sym, subst, ◌∙◌, arith}
+use Rattle.std.proofs.Common.{◌≡◌, ◌+◌, ◌≤◌, ℕ, List, ◌++◌, length, take, ap, refl, sym, subst, ◌∙◌, arith}
+use Rattle.std.proofs.lemmas.List.{take_at}
 use Rattle.std.specs.Prelude.{slice_index, OnOk}
 use Rattle.lc_range.specs.RangeSet.{CountsOutside, total_len}
 use Rattle.lc_range.specs.Undo.{OldBytes, KeepsOld, LiesBelow, bytes_kept}
@@ -59,3 +60,6 @@ returns-clause-below c =
     let parts = the_parts c in
     shown c (λ l. (s bound : ℕ) → LiesBelow c.args.self.now s bound → (s ≡ c.args.segment → c.args.offset + c.args.len ≤ bound) → LiesBelow l s bound)
     (keeps_below c.args.self.now c.args.image.now c.as_slice.result.now c.args.set.now c.args.segment c.args.offset c.args.len parts.outside parts.ends)
+
+pub returns-clause-front : goal.returns-clause-front
+returns-clause-front c = shown c (λ l. take (length c.args.self.now) l ≡ c.args.self.now) (take_at c.args.self.now _ (length c.args.self.now) refl)

@@ -1,19 +1,74 @@
-use Rattle.std.proofs.Common.{◌≡◌, true, None, sym}
+use Rattle.std.proofs.Common.{◌≡◌, ℕ, ◌≤◌, ◌+◌, true, None, length, sym, ◌∙◌, ap, subst}
 use Rattle.std.specs.List.{list_all}
 use Rattle.lc_core.specs.Refusals.{is_known, is_seat, is_segment}
 use Rattle.lc_core.specs.Machine.{begun}
 use Rattle.lc_core.specs.declared.event.Event.TheVariants.{Begin}
 use Rattle.lc_core.proofs.Rows.{and-both}
-use Rattle.lc_tool.proofs.OneNodeLemmas.{is_one, is_none, seat_zero, begin_row}
+use Rattle.lc_tx.specs.Tx.{RunsOn}
+use Rattle.lc_tool.specs.OneSegment.{the_images}
+use Rattle.lc_tool.specs.declared.one_segment.OneSegment.{OneSegment}
+use Rattle.lc_tool.proofs.OneNodeLemmas.{only_one, is_none, seat_zero, same_segment, same_records, held_bytes}
+use Rattle.lc_tool.proofs.StepLemmas.{begin_row, begin_fault, by_refusal}
+use Rattle.lc_tool.proofs.CloseLemmas.{records_with}
 use Rattle.lc_tool.proofs.solo.Solo.begin.Goals as goal
 
-pub returns : goal.returns
-returns c = λ m s h.
+pub invariant_of-self : goal.invariant_of-self
+invariant_of-self c =
     let w = c.args.self.now in
-    let known : is_known m.geometry (Begin c.args.node c.args.thread c.args.segments.now) ≡ true = sym (c.if-not-is_known.ensures m.geometry (is_one m w s h)) in
+    let held = c.in-Ok.ensures.begins.held in
+    record {
+      one_node = w.one_node;
+      one_thread = w.one_thread;
+      one_segment = w.one_segment;
+      image_len = ap length (held_bytes _ _ w.segment c.begin.new.images held) ∙ w.image_len;
+      area_len = w.area_len;
+      room = w.room;
+      fits = w.fits;
+      few = subst (λ (n : ℕ). n ≤ w.log.end + length w.staged.words) (sym (same_records _ w.segment c.begin.new.images held.same)) w.few;
+      runs = λ x e. let same : c.in-Ok.tx ≡ x = cc in subst (RunsOn the_images c.begin.new.images) same c.in-Ok.ensures.runs;
+    }
+
+pub invariant_of-self-in-Err-1 : goal.invariant_of-self-in-Err-1
+invariant_of-self-in-Err-1 c =
+    let w = c.args.self.now in
+    let same : c.begin.new.images ≡ w.segment = same_segment w.segment c.begin.new.images c.in-Err.ensures.err in
+    record {
+      one_node = w.one_node;
+      one_thread = w.one_thread;
+      one_segment = w.one_segment;
+      image_len = ap (λ (seg : OneSegment). length seg.image.bytes.items) same ∙ w.image_len;
+      area_len = w.area_len;
+      room = w.room;
+      fits = w.fits;
+      few = subst (λ (seg : OneSegment). seg.records ≤ w.log.end + length w.staged.words) (sym same) w.few;
+      runs = λ x e. subst (λ (seg : OneSegment). RunsOn the_images seg x) (sym same) (w.runs x e);
+    }
+
+pub returns-in-Ok : goal.returns-in-Ok
+returns-in-Ok c = λ m s h.
+    let w = c.args.self.now in
+    let known : is_known m.geometry (Begin c.args.node c.args.thread c.args.segments.now) ≡ true = sym (c.if-not-is_known.ensures m.geometry (only_one m w s h)) in
     let none : w.running ≡ None = is_none w.running (sym c.if-is_some.ensures) in
     let seat = seat_zero m w s h c.args.node c.args.thread (and-both (is_seat m.geometry c.args.node c.args.thread) (list_all (is_segment m.geometry) c.args.segments.now) known).0 in
     let first : is_known m.geometry (Begin 0 0 c.args.segments.now) ≡ true = rw (seat.0, seat.1) at known in
-    let row = begin_row m w s h c.args.segments.now c.is_empty.result none first c.is_empty.ensures in
-    rw (seat.0, seat.1)
-    (begun m.geometry s 0 0 c.args.segments.now, (row.0, tt), record { still = h.still; bytes = row.1; records = h.records; acked = h.acked })
+    let begins = rw seat.1 at c.in-Ok.ensures.begins in
+    let row = begin_row m w s h c.args.segments.now c.in-Ok.tx c.begin.new.images none first begins in
+    rw (seat.0, seat.1) (
+      begun m.geometry s 0 0 c.args.segments.now,
+      (row.0, tt),
+      record {
+        still = h.still;
+        bytes = row.1;
+        records = records_with m w s h c.begin.new.images.records (same_records _ w.segment c.begin.new.images c.in-Ok.ensures.begins.held.same);
+        acked = h.acked;
+      },
+    )
+
+pub returns-in-Err : goal.returns-in-Err
+returns-in-Err c = by_refusal _ c.refused.result _ c.refused.ensures (λ refusal named m s h.
+    let w = c.args.self.now in
+    let known : is_known m.geometry (Begin c.args.node c.args.thread c.args.segments.now) ≡ true = sym (c.if-not-is_known.ensures m.geometry (only_one m w s h)) in
+    let none : w.running ≡ None = is_none w.running (sym c.if-is_some.ensures) in
+    let seat = seat_zero m w s h c.args.node c.args.thread (and-both (is_seat m.geometry c.args.node c.args.thread) (list_all (is_segment m.geometry) c.args.segments.now) known).0 in
+    let first : is_known m.geometry (Begin 0 0 c.args.segments.now) ≡ true = rw (seat.0, seat.1) at known in
+    absurd (begin_fault m w s h c.args.segments.now c.begin.result c.in-Err.fault refusal none first c.begin.ensures.not_here c.begin.ensures.busy c.in-Err.ensures.faults c.in-Err.is named))

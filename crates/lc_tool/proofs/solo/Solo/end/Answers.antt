@@ -1,17 +1,20 @@
-use Rattle.std.proofs.Common.{◌≡◌, ℕ, ◌+◌, ◌/◌, ◌<◌, List, ◌++◌, length, length-append, refl, sym, ◌∙◌, ap, subst, arith}
+use Rattle.std.proofs.Common.{◌≡◌, ℕ, ◌≤◌, ◌<◌, ◌+◌, List, [], Ok, Err, length, refl, sym, ◌∙◌, ap, subst, arith}
+use Rattle.std.specs.Prelude.{◌↔◌}
+use Rattle.lc_record.specs.Record.{IsRecord, record_len}
+use Rattle.lc_core.specs.Machine.{dropped}
 use Rattle.lc_core.specs.State.{State}
-use Rattle.lc_core.specs.Machine.{Step, dropped, appended}
-use Rattle.lc_core.specs.Settled.{history_records}
-use Rattle.lc_core.specs.declared.event.Event.TheVariants.{Reserve, Close}
-use Rattle.lc_core.specs.declared.reply.Reply.TheVariants.{Ok as Accepted, Reserved}
-use Rattle.lc_disk.specs.MemArea.{memory_now, memory_dirty}
-use Rattle.lc_record.specs.Record.{IsRecord}
-use Rattle.lc_record.specs.GroupView.{GroupView}
-use Rattle.lc_record.specs.declared.record.Record.{Record}
-use Rattle.lc_tool.specs.Session.{Answers}
-use Rattle.lc_tool.specs.Fits.{FitsRecords}
-use Rattle.lc_tool.proofs.OneNodeLemmas.{running_one}
-use Rattle.lc_tool.proofs.EndLemmas.{div_ceil_eight, the_record, closed_after, length-words, unknown_row, no_turn_row, ended_row, full_row, reserve_row, close_row, bytes_after, records_after}
+use Rattle.lc_tx.specs.Tx.{RunsOn}
+use Rattle.lc_tx.specs.Prepared.{IsFirstSpent, AreUnspent, final_record}
+use Rattle.lc_tx.specs.declared.tx_fault.TxFault.TheVariants.{SequenceSpent, TooLong}
+use Rattle.lc_tx.specs.declared.prepared.Prepared.{Prepared}
+use Rattle.lc_tx.specs.declared.prepared.Prepared.TheVariants.{Empty, Record}
+use Rattle.lc_tx.specs.declared.tx.Tx.{Tx}
+use Rattle.lc_tool.specs.OneSegment.{the_images}
+use Rattle.lc_tool.specs.declared.one_segment.OneSegment.{OneSegment}
+use Rattle.lc_tool.proofs.OneNodeLemmas.{same_segment, locked_first}
+use Rattle.lc_tool.proofs.StepLemmas.{the_one, by_refusal}
+use Rattle.lc_tool.proofs.EndLemmas.{unknown_row, no_turn_row, ended_row}
+use Rattle.lc_tool.proofs.CloseLemmas.{same_fits, ended_fits, logged, end_fault, words_between}
 use Rattle.lc_tool.proofs.solo.Solo.end.Goals as goal
 
 pub returns-then-node-ne0 : goal.returns-then-node-ne0
@@ -24,87 +27,90 @@ pub returns-in_default : goal.returns-in_default
 returns-in_default c = record {
   follows = λ m s h.
       let row = no_turn_row m c.args.self.now s h c.in_default.is in
-      rw (c.if-node-ne0.false, c.if-thread-ne0.false) (s, s, row, refl, h);
+      rw (c.if-node-ne0.false, c.if-thread-ne0.false) (s, s, row, refl, same_fits m c.args.self.now s h _ refl refl refl refl refl refl);
 }
 
-pub returns-then-running-eq0 : goal.returns-then-running-eq0
-returns-then-running-eq0 c = record {
-  follows = λ m s h.
-      let row = ended_row m c.args.self.now s h c.in-Some.running c.in-Some.is c.if-running-eq0.true in
-      let after : State = dropped s row.0.node row.0.thread in
-      rw (c.if-node-ne0.false, c.if-thread-ne0.false)
-      (after, after, row.1, refl, record { still = h.still; bytes = row.2; records = h.records; acked = h.acked });
-}
-
-pub returns-then-place-need : goal.returns-then-place-need
-returns-then-place-need c = record {
-  follows = λ m s h.
-      let w = c.args.self.now in
-      let one = c.in-Some.running in
-      let need : 7 + c.div_ceil-need.result ≡ 7 + (one.len + 7) / 8 = ap (λ (n : ℕ). 7 + n) (c.div_ceil-need.ensures ∙ div_ceil_eight one.len) in
-      let place : w.log.end + c.len.result ≡ w.log.end + length w.staged.words = ap (λ (n : ℕ). w.log.end + n) c.len.ensures in
-      let some : 0 < one.len = omega (arith, c.if-running-eq0.false) in
-      let row = full_row m w s h one c.in-Some.is some (7 + c.div_ceil-need.result) need (omega (arith, c.if-place-need.true, place)) in
-      rw (c.if-node-ne0.false, c.if-thread-ne0.false, place) (s, s, row, refl, h);
-}
-
-pub stage-requires : goal.stage-requires
-stage-requires c =
+pub prepare_end-requires-clause-small : goal.prepare_end-requires-clause-small
+prepare_end-requires-clause-small c =
     let w = c.args.self.now in
-    let one = c.in-Some.running in
-    let same : c.in_ok-record.record ≡ the_record (w.records + 1) one w.image.items = c.in_ok-record.ensures ∙ ap (the_record (w.records + 1) one) c.deref.ensures.value in
-    let is : IsRecord (the_record (w.records + 1) one w.image.items) c.in-Ok.words.items = subst (λ (r : Record). IsRecord r c.in-Ok.words.items) same c.in-Ok.ensures.spelled in
-    let long : length c.in-Ok.words.items ≡ 7 + (one.len + 7) / 8 = length-words (w.records + 1) one w.image.items c.in-Ok.words.items (w.inside one c.in-Some.is) is in
-    omega (arith, ap length c.deref-2.ensures.value, long, c.div_ceil-need.ensures, div_ceil_eight one.len, c.if-place-need.false, c.len.ensures, w.room)
+    let first : (n : ℕ) → _ → n ≡ 1 = λ n lock. locked_first w.segment c.in-Some.tx n (w.runs c.in-Some.tx c.in-Some.is) lock in
+    record {
+      some = λ n lock. omega (arith, first n lock);
+      few = λ n lock. omega (arith, first n lock);
+      short = λ n lock. omega (arith, w.image_len, w.geometry.few_pages);
+    }
 
 pub invariant_of-self-2 : goal.invariant_of-self-2
 invariant_of-self-2 c =
     let w = c.args.self.now in
-    let one = c.in-Some.running in
-    let same : c.in_ok-record.record ≡ the_record (w.records + 1) one w.image.items = c.in_ok-record.ensures ∙ ap (the_record (w.records + 1) one) c.deref.ensures.value in
-    let is : IsRecord (the_record (w.records + 1) one w.image.items) c.in-Ok.words.items = subst (λ (r : Record). IsRecord r c.in-Ok.words.items) same c.in-Ok.ensures.spelled in
-    let long : length c.in-Ok.words.items ≡ 7 + (one.len + 7) / 8 = length-words (w.records + 1) one w.image.items c.in-Ok.words.items (w.inside one c.in-Some.is) is in
-    let more : length c.stage.new.staged.words ≡ length w.staged.words + length c.deref-2.result.now = ap (λ (g : GroupView). length g.words) c.stage.ensures ∙ length-append w.staged.words c.deref-2.result.now in
-    let room : c.stage.new.staged.room ≡ w.staged.room = ap (λ (g : GroupView). g.room) c.stage.ensures in
+    let same : c.prepare_end.new.images ≡ w.segment = same_segment w.segment c.prepare_end.new.images c.prepare_end.ensures.images in
     record {
       one_node = w.one_node;
       one_thread = w.one_thread;
       one_segment = w.one_segment;
-      image_len = w.image_len;
+      image_len = ap (λ (seg : OneSegment). length seg.image.bytes.items) same ∙ w.image_len;
       area_len = w.area_len;
-      room = room ∙ w.room;
-      fits = omega (arith, more, ap length c.deref-2.ensures.value, long, c.div_ceil-need.ensures, div_ceil_eight one.len, c.if-place-need.false, c.len.ensures);
-      few = omega (arith, more, ap length c.deref-2.ensures.value, long, w.few);
-      inside = λ x e. absurd cc;
+      room = w.room;
+      fits = w.fits;
+      few = subst (λ (seg : OneSegment). seg.records ≤ w.log.end + length w.staged.words) (sym same) w.few;
+      runs = λ x e. subst (λ (seg : OneSegment). RunsOn the_images seg x) (sym same) (w.runs x e);
     }
 
-pub returns : goal.returns
-returns c = record {
+pub log_record-requires-clause-some : goal.log_record-requires-clause-some
+log_record-requires-clause-some c =
+    let spelled = c.prepare_end.ensures.record c.in-Ok-Record.words (c.in-Ok-Record.is ∙ ap (λ (p : Prepared). Ok p) c.in-Ok-Record.field-0-is) in
+    let both = words_between _ c.in-Ok-Record.words spelled in
+    omega (arith, both.0, ap length c.as_slice.ensures)
+
+pub log_record-requires-clause-small : goal.log_record-requires-clause-small
+log_record-requires-clause-small c =
+    let spelled = c.prepare_end.ensures.record c.in-Ok-Record.words (c.in-Ok-Record.is ∙ ap (λ (p : Prepared). Ok p) c.in-Ok-Record.field-0-is) in
+    let both = words_between _ c.in-Ok-Record.words spelled in
+    omega (arith, both.1, ap length c.as_slice.ensures)
+
+pub returns-in-Ok-Empty : goal.returns-in-Ok-Empty
+returns-in-Ok-Empty c = record {
   follows = λ m s h.
       let w = c.args.self.now in
-      let one = c.in-Some.running in
-      let same : c.in_ok-record.record ≡ the_record (w.records + 1) one w.image.items = c.in_ok-record.ensures ∙ ap (the_record (w.records + 1) one) c.deref.ensures.value in
-      let is : IsRecord (the_record (w.records + 1) one w.image.items) c.in-Ok.words.items = subst (λ (r : Record). IsRecord r c.in-Ok.words.items) same c.in-Ok.ensures.spelled in
-      let need : 7 + c.div_ceil-need.result ≡ 7 + (one.len + 7) / 8 = ap (λ (n : ℕ). 7 + n) (c.div_ceil-need.ensures ∙ div_ceil_eight one.len) in
-      let place : w.log.end + c.len.result ≡ w.log.end + length w.staged.words = ap (λ (n : ℕ). w.log.end + n) c.len.ensures in
-      let some : 0 < one.len = omega (arith, c.if-running-eq0.false) in
-      let reserve = reserve_row m w s h one c.in-Some.is some (7 + c.div_ceil-need.result) need (omega (arith, c.if-place-need.false, place)) in
-      let mid : State = appended s (running_one m w s h one c.in-Some.is).1 in
-      let after : State = closed_after s (running_one m w s h one c.in-Some.is).1 in
-      let answer : Answers m s (Reserve c.args.node c.args.thread) (Reserved (w.log.end + c.len.result) (7 + c.div_ceil-need.result)) mid =
-      rw (c.if-node-ne0.false, c.if-thread-ne0.false, place) reserve in
-      let close : Step m mid (Close c.args.node c.args.thread) Accepted after = rw (c.if-node-ne0.false, c.if-thread-ne0.false) (close_row m w s h one c.in-Some.is some) in
-      let words : c.stage.new.staged.words ≡ w.staged.words ++ c.in-Ok.words.items = ap (λ (g : GroupView). g.words) c.stage.ensures ∙ ap (λ (l : List ℕ). w.staged.words ++ l) c.deref-2.ensures.value in
-      let records = records_after m w s h one c.in-Some.is some c.in-Ok.words.items is in (
-        mid,
+      let tx : Tx = c.in-Some.tx in
+      let same : c.prepare_end.new.images ≡ w.segment = same_segment w.segment c.prepare_end.new.images c.prepare_end.ensures.images in
+      let none : tx.set ≡ [] = c.prepare_end.ensures.empty.0 (c.in-Ok-Empty.is ∙ ap (λ (p : Prepared). Ok p) c.in-Ok-Empty.field-0-is) in
+      let after : State = dropped s (the_one m w s h tx c.in-Some.is).node (the_one m w s h tx c.in-Some.is).thread in
+      rw (c.if-node-ne0.false, c.if-thread-ne0.false) (
         after,
-        answer,
-        close,
-        record {
-          still = h.still;
-          bytes = bytes_after m w s h one c.in-Some.is some;
-          records = subst (λ (l : List ℕ). FitsRecords (memory_now w.log.area) (memory_dirty w.log.area) w.log.end l (w.records + 1) w.acked (history_records m after) after.history) (sym words) records;
-          acked = h.acked;
-        },
+        after,
+        ended_row m w s h tx c.in-Some.is (w.runs tx c.in-Some.is) c.prepare_end.ensures.canonical none,
+        refl,
+        ended_fits m w s h tx c.in-Some.is c.prepare_end.ensures.canonical _ c.release.new.self c.release.ensures refl refl refl same refl refl none,
       );
+}
+
+pub returns-in-Ok-Record : goal.returns-in-Ok-Record
+returns-in-Ok-Record c = record {
+  follows = λ m s h.
+      let w = c.args.self.now in
+      let tx : Tx = c.in-Some.tx in
+      let same : c.prepare_end.new.images ≡ w.segment = same_segment w.segment c.prepare_end.new.images c.prepare_end.ensures.images in
+      let answer : c.prepare_end.result ≡ Ok (Record c.in-Ok-Record.words) = c.in-Ok-Record.is ∙ ap (λ (p : Prepared). Ok p) c.in-Ok-Record.field-0-is in
+      let spelled : IsRecord (final_record the_images w.segment tx 0) c.as_slice.result.now =
+      subst (λ (k : ℕ). IsRecord (final_record the_images w.segment tx k) c.as_slice.result.now) c.if-node-ne0.false
+      (subst (λ (l : List ℕ). IsRecord (final_record the_images w.segment tx c.args.node) l) (sym c.as_slice.ensures) (c.prepare_end.ensures.record c.in-Ok-Record.words answer)) in
+      let some : tx.set ≡ [] → ⊥ = λ none. (let both : Ok Empty ≡ Ok (Record c.in-Ok-Record.words) = sym (c.prepare_end.ensures.empty.1 none) ∙ answer in cc) in
+      rw (c.if-node-ne0.false, c.if-thread-ne0.false)
+      (logged m w s h tx c.in-Some.is c.prepare_end.ensures.canonical _ c.log_record.new.self c.as_slice.result.now c.log_record.result c.log_record.ensures refl refl refl same refl refl some spelled);
+}
+
+pub returns-in-Err : goal.returns-in-Err
+returns-in-Err c = record {
+  follows = by_refusal _ c.refused.result _ c.refused.ensures (λ refusal named m s h.
+      let w = c.args.self.now in
+      let tx : Tx = c.in-Some.tx in
+      let same : c.prepare_end.new.images ≡ w.segment = same_segment w.segment c.prepare_end.new.images c.prepare_end.ensures.images in
+      let spent : (n : ℕ) → (c.prepare_end.result ≡ Err (SequenceSpent n)) ↔ IsFirstSpent (final_record the_images w.segment tx 0).locks n =
+      subst (λ (k : ℕ). (n : ℕ) → (c.prepare_end.result ≡ Err (SequenceSpent n)) ↔ IsFirstSpent (final_record the_images w.segment tx k).locks n) c.if-node-ne0.false c.prepare_end.ensures.spent in
+      let long : (n : ℕ) → (c.prepare_end.result ≡ Err (TooLong n)) ↔ (AreUnspent (final_record the_images w.segment tx 0).locks × (4096 < record_len (final_record the_images w.segment tx 0)) × (n ≡ record_len (final_record the_images w.segment tx 0))) =
+      subst (λ (k : ℕ). (n : ℕ) → (c.prepare_end.result ≡ Err (TooLong n)) ↔ (AreUnspent (final_record the_images w.segment tx k).locks × (4096 < record_len (final_record the_images w.segment tx k)) × (n ≡ record_len (final_record the_images w.segment tx k)))) c.if-node-ne0.false c.prepare_end.ensures.too_long in
+      let row = end_fault m w s h tx c.in-Some.is c.prepare_end.ensures.canonical c.prepare_end.result c.in-Err.fault refusal c.prepare_end.ensures.empty spent long c.in-Err.ensures.faults c.in-Err.is named in
+      rw (c.if-node-ne0.false, c.if-thread-ne0.false)
+      (s, s, row, refl, same_fits m w s h _ refl refl refl same refl refl));
 }

@@ -25,7 +25,7 @@ returns c = λ m s h.
       record {
         still = record { same_geometry = h.still.same_geometry; start = h.still.start; up = h.still.up; not_halted = h.still.not_halted; here = h.still.here; first = h.still.first; no_flush = refl };
         bytes = h.bytes;
-        records = subst (λ (l : List ℕ). FitsRecords (memory_now c.in-Ok.log.area) (memory_dirty c.in-Ok.log.area) c.in-Ok.log.end l w.records w.records (history_records m after) after.history) (sym none) records;
+        records = subst (λ (l : List ℕ). FitsRecords (memory_now c.in-Ok.log.area) (memory_dirty c.in-Ok.log.area) c.in-Ok.log.end l w.segment.records w.segment.records (history_records m after) after.history) (sym none) records;
         acked = acked_is m w s h;
       },
     )

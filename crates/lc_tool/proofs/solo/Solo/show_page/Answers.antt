@@ -10,8 +10,8 @@ pub returns-clause-done : goal.returns-clause-done
 returns-clause-done g c = λ m s h.
     let w = c.args.self.now in
     let len : 256 * c.args.page + 256 - 256 * c.args.page ≡ 256 = omega arith in
-    let bytes : take (256 * c.args.page + 256 - 256 * c.args.page) (drop (256 * c.args.page) c.deref.result.now) ≡ page_of c.args.page (segment_of 1 (image_of m 0 s)) =
-    ap₂ (λ (n : ℕ) (l : List ℕ). take n (drop (256 * c.args.page) l)) len (c.deref.ensures.value ∙ sym (image_is m w s h)) in
+    let bytes : take (256 * c.args.page + 256 - 256 * c.args.page) (drop (256 * c.args.page) c.bytes.result.now) ≡ page_of c.args.page (segment_of 1 (image_of m 0 s)) =
+    ap₂ (λ (n : ℕ) (l : List ℕ). take n (drop (256 * c.args.page) l)) len (c.bytes.ensures ∙ sym (image_is m w s h)) in
     let text : List ℕ = page_text (page_of c.args.page (segment_of 1 (image_of m 0 s))) in
     rw (c.if-node-ne0.false, c.if-segment-ne1.false) (
       text,

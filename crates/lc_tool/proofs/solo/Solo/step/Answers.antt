@@ -7,16 +7,19 @@ use Rattle.lc_tool.proofs.solo.Solo.step.Goals as goal
 pub returns-in-Begin : goal.returns-in-Begin
 returns-in-Begin c =
     let event : Begin c.in-Begin.node c.in-Begin.thread c.as_slice.result.now ≡ c.args.event.now = ap (Begin c.in-Begin.node c.in-Begin.thread) c.as_slice.ensures ∙ sym c.in-Begin.is in
-    subst (λ (e : Event). Follows c.args.self.now e c.begin.result c.begin.new.self) event c.begin.ensures
+    subst (λ (e : Event). IfOk c.begin.result (λ reply. Follows c.args.self.now e reply c.begin.new.self)) event c.begin.ensures
 
 pub returns-in-SetRange : goal.returns-in-SetRange
-returns-in-SetRange c = subst (λ (e : Event). Follows c.args.self.now e c.set_range.result c.set_range.new.self) (sym c.in-SetRange.is) c.set_range.ensures
+returns-in-SetRange c = subst (λ (e : Event). IfOk c.set_range.result (λ reply. Follows c.args.self.now e reply c.set_range.new.self)) (sym c.in-SetRange.is) c.set_range.ensures
 
 pub returns-in-Write : goal.returns-in-Write
 returns-in-Write c =
     let event : Write c.in-Write.node c.in-Write.thread c.in-Write.segment c.in-Write.offset c.as_slice-in-Write.result.now ≡ c.args.event.now =
     ap (Write c.in-Write.node c.in-Write.thread c.in-Write.segment c.in-Write.offset) c.as_slice-in-Write.ensures ∙ sym c.in-Write.is in
-    subst (λ (e : Event). Follows c.args.self.now e c.write.result c.write.new.self) event c.write.ensures
+    subst (λ (e : Event). IfOk c.write.result (λ reply. Follows c.args.self.now e reply c.write.new.self)) event c.write.ensures
 
 pub returns-in-Read : goal.returns-in-Read
-returns-in-Read c = subst (λ (e : Event). IfOk c.read.result (λ reply. Follows c.args.self.now e reply c.args.self.now)) (sym c.in-Read.is) c.read.ensures
+returns-in-Read c = subst (λ (e : Event). IfOk c.read.result (λ reply. Follows c.args.self.now e reply c.read.new.self)) (sym c.in-Read.is) c.read.ensures
+
+pub returns-in-Abort : goal.returns-in-Abort
+returns-in-Abort c = subst (λ (e : Event). Follows c.args.self.now e c.abort.result c.abort.new.self) (sym c.in-Abort.is) c.abort.ensures

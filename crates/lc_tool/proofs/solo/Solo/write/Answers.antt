@@ -1,35 +1,43 @@
-use Rattle.std.proofs.Common.{◌≡◌, ◌≤◌, ◌+◌, Option, length, sym, subst, arith}
-use Rattle.lc_disk.specs.Area.{overlaid}
-use Rattle.lc_core.specs.History.{value}
-use Rattle.lc_core.specs.State.{State}
-use Rattle.lc_core.specs.declared.event.Event.TheVariants.{Write}
-use Rattle.lc_core.specs.declared.reply.Reply.TheVariants.{Ok as Accepted}
-use Rattle.lc_tool.specs.Session.{Answers}
-use Rattle.lc_tool.specs.Fits.{FitsBytes}
-use Rattle.lc_tool.specs.declared.solo.Running.{Running}
+use Rattle.std.proofs.Common.{◌≡◌, ℕ, Option, length, refl, sym, subst}
 use Rattle.lc_record.specs.Marks.{written}
+use Rattle.lc_core.specs.History.{value}
 use Rattle.lc_core.specs.Machine.{changed}
-use Rattle.lc_tool.proofs.OneNodeLemmas.{is_lock, write_row, write_outside_row}
+use Rattle.lc_tx.specs.Images.{IsWritten}
+use Rattle.lc_tx.specs.declared.tx.Tx.{Tx}
+use Rattle.lc_tool.specs.OneSegment.{the_images}
+use Rattle.lc_tool.specs.Fits.{FitsBytes}
+use Rattle.lc_tool.proofs.OneNodeLemmas.{same_segment, same_records}
+use Rattle.lc_tool.proofs.StepLemmas.{WriteAnswers, the_one, write_done, write_fault, by_refusal}
+use Rattle.lc_tool.proofs.CloseLemmas.{same_fits, records_with}
 use Rattle.lc_tool.proofs.solo.Solo.write.Goals as goal
 
-pub returns-then-not-covers : goal.returns-then-not-covers
-returns-then-not-covers c = λ m s h.
+pub returns-in-Ok : goal.returns-in-Ok
+returns-in-Ok c = λ m s h.
     let w = c.args.self.now in
-    let fits : c.args.offset + length c.args.bytes.now ≤ length w.image.items = omega (arith, c.if-offset-len.false, c.if-bytes-len.false, c.len.ensures, c.len-else-bytes-len.ensures) in
-    let past = c.covers.ensures.no c.if-not-covers.true in
-    rw (c.if-node-ne0.false, c.if-thread-ne0.false, c.if-segment-ne1.false)
-    (s, write_outside_row m w s h c.in-Some.running c.args.offset c.args.bytes.now c.in-Some.is (is_lock c.in-Some.running.has_lock c.if-not-running.false) fits past.0 past.1, h)
+    let tx : Tx = c.in-Some.tx in
+    let answers : WriteAnswers w.segment tx 1 c.args.offset (length c.args.bytes.now) c.write.result = subst (λ (n : ℕ). WriteAnswers w.segment tx n c.args.offset (length c.args.bytes.now) c.write.result) c.if-segment-ne1.false
+    (record { ok = c.write.ensures.ok; not_locked = c.write.ensures.not_locked; outside = c.write.ensures.outside; no_range = c.write.ensures.no_range }) in
+    let wrote : IsWritten the_images w.segment 1 c.args.offset c.args.bytes.now c.write.new.images =
+    subst (λ (n : ℕ). IsWritten the_images w.segment n c.args.offset c.args.bytes.now c.write.new.images) c.if-segment-ne1.false c.in-Ok.ensures.written in
+    let row = write_done m w s h tx c.in-Some.is c.args.offset c.args.bytes.now c.write.result c.write.new.images answers c.in-Ok.is (w.runs tx c.in-Some.is) wrote in
+    rw (c.if-node-ne0.false, c.if-thread-ne0.false, c.if-segment-ne1.false) (
+      changed s (written (the_one m w s h tx c.in-Some.is) 1 c.args.offset c.args.bytes.now),
+      (row.0, tt),
+      record {
+        still = h.still;
+        bytes = subst (λ (o : Option Tx). FitsBytes c.write.new.images o (value m.start s.earlier s.history) (changed s (written (the_one m w s h tx c.in-Some.is) 1 c.args.offset c.args.bytes.now)).running) (sym c.in-Some.is) row.1;
+        records = records_with m w s h c.write.new.images.records (same_records _ w.segment c.write.new.images wrote.same);
+        acked = h.acked;
+      },
+    )
 
-pub returns : goal.returns
-returns c = λ m s h.
+pub returns-in-Err : goal.returns-in-Err
+returns-in-Err c = by_refusal _ c.refused.result _ c.refused.ensures (λ refusal named m s h.
     let w = c.args.self.now in
-    let one : Running = c.in-Some.running in
-    let fits : c.args.offset + length c.args.bytes.now ≤ length w.image.items = omega (arith, c.if-offset-len.false, c.if-bytes-len.false, c.len.ensures, c.len-else-bytes-len.ensures) in
-    let image : c.put_bytes.new.image.items ≡ overlaid w.image.items c.args.offset c.args.bytes.now = c.put_bytes.ensures in
-    let row = write_row m w s h one c.args.offset c.args.bytes.now c.put_bytes.new.image.items c.in-Some.is (is_lock one.has_lock c.if-not-running.false) fits (c.covers.ensures.yes c.if-not-covers.false) image in
-    let after : State = changed s (written row.0 1 c.args.offset c.args.bytes.now) in
-    let bytes : FitsBytes c.put_bytes.new.image.items w.running (value m.start s.earlier s.history) after.running =
-    subst (λ (o : Option Running). FitsBytes c.put_bytes.new.image.items o (value m.start s.earlier s.history) after.running) (sym c.in-Some.is) row.2 in
-    let answer : Answers m s (Write c.args.node c.args.thread c.args.segment c.args.offset c.args.bytes.now) Accepted after =
-    rw (c.if-node-ne0.false, c.if-thread-ne0.false, c.if-segment-ne1.false) row.1 in
-    (after, answer, record { still = h.still; bytes = bytes; records = h.records; acked = h.acked })
+    let tx : Tx = c.in-Some.tx in
+    let same : c.write.new.images ≡ w.segment = same_segment w.segment c.write.new.images c.in-Err.ensures.err in
+    let answers : WriteAnswers w.segment tx 1 c.args.offset (length c.args.bytes.now) c.write.result = subst (λ (n : ℕ). WriteAnswers w.segment tx n c.args.offset (length c.args.bytes.now) c.write.result) c.if-segment-ne1.false
+    (record { ok = c.write.ensures.ok; not_locked = c.write.ensures.not_locked; outside = c.write.ensures.outside; no_range = c.write.ensures.no_range }) in
+    let step = write_fault m w s h tx c.in-Some.is c.args.offset c.args.bytes.now c.write.result c.in-Err.fault refusal answers c.in-Err.is named in
+    rw (c.if-node-ne0.false, c.if-thread-ne0.false, c.if-segment-ne1.false)
+    (s, (step, tt), same_fits m w s h _ refl refl refl same refl refl))

@@ -1,0 +1,47 @@
+use Rattle.std.proofs.Common.{◌≡◌, ℕ, ◌≤◌, ◌+◌, length, refl, sym, ◌∙◌, ap, subst}
+use Rattle.lc_tx.specs.Tx.{RunsOn}
+use Rattle.lc_tx.specs.declared.tx.Tx.{Tx}
+use Rattle.lc_tool.specs.OneSegment.{the_images}
+use Rattle.lc_tool.specs.declared.one_segment.OneSegment.{OneSegment}
+use Rattle.lc_tool.proofs.OneNodeLemmas.{same_segment}
+use Rattle.lc_tool.proofs.StepLemmas.{ReadAnswers, read_done, read_fault, by_refusal}
+use Rattle.lc_tool.proofs.CloseLemmas.{same_fits}
+use Rattle.lc_tool.proofs.solo.Solo.read.Goals as goal
+
+pub invariant_of-self-2 : goal.invariant_of-self-2
+invariant_of-self-2 c =
+    let w = c.args.self.now in
+    let same : c.read.new.images ≡ w.segment = same_segment w.segment c.read.new.images c.read.ensures.images in
+    record {
+      one_node = w.one_node;
+      one_thread = w.one_thread;
+      one_segment = w.one_segment;
+      image_len = ap (λ (seg : OneSegment). length seg.image.bytes.items) same ∙ w.image_len;
+      area_len = w.area_len;
+      room = w.room;
+      fits = w.fits;
+      few = subst (λ (seg : OneSegment). seg.records ≤ w.log.end + length w.staged.words) (sym same) w.few;
+      runs = λ x e. subst (λ (seg : OneSegment). RunsOn the_images seg x) (sym same) (w.runs x e);
+    }
+
+pub returns-in-Ok : goal.returns-in-Ok
+returns-in-Ok c = λ m s h.
+    let w = c.args.self.now in
+    let tx : Tx = c.in-Some.tx in
+    let same : c.read.new.images ≡ w.segment = same_segment w.segment c.read.new.images c.read.ensures.images in
+    let answers : ReadAnswers w.segment tx 1 c.args.offset c.args.len c.read.result = subst (λ (n : ℕ). ReadAnswers w.segment tx n c.args.offset c.args.len c.read.result) c.if-segment-ne1.false
+    (record { not_locked = c.read.ensures.not_locked; outside = c.read.ensures.outside }) in
+    let step = read_done m w s h tx c.in-Some.is c.args.offset c.args.len c.read.result c.in-Ok.bytes c.new.result answers c.in-Ok.is (c.new.ensures ∙ c.in-Ok.ensures.bytes) in
+    rw (c.if-node-ne0.false, c.if-thread-ne0.false, c.if-segment-ne1.false)
+    (s, (step, tt), same_fits m w s h _ refl refl refl same refl refl)
+
+pub returns-in-Err : goal.returns-in-Err
+returns-in-Err c = by_refusal _ c.refused.result _ c.refused.ensures (λ refusal named m s h.
+    let w = c.args.self.now in
+    let tx : Tx = c.in-Some.tx in
+    let same : c.read.new.images ≡ w.segment = same_segment w.segment c.read.new.images c.read.ensures.images in
+    let answers : ReadAnswers w.segment tx 1 c.args.offset c.args.len c.read.result = subst (λ (n : ℕ). ReadAnswers w.segment tx n c.args.offset c.args.len c.read.result) c.if-segment-ne1.false
+    (record { not_locked = c.read.ensures.not_locked; outside = c.read.ensures.outside }) in
+    let step = read_fault m w s h tx c.in-Some.is c.args.offset c.args.len c.read.result c.in-Err.fault refusal answers c.in-Err.ensures.faults c.in-Err.is named in
+    rw (c.if-node-ne0.false, c.if-thread-ne0.false, c.if-segment-ne1.false)
+    (s, (step, tt), same_fits m w s h _ refl refl refl same refl refl))

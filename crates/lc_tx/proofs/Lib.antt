@@ -1,0 +1,11 @@
+pub mod MemberLemmas
+pub mod PutLemmas
+pub mod ImagesLemmas
+pub mod SetLemmas
+pub mod RunLemmas
+pub mod RecordLemmas
+pub mod EndLemmas
+pub mod MarkLemmas
+pub mod DataLemmas
+pub mod StandsLemmas
+pub mod AscendLemmas

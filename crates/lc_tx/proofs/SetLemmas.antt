@@ -1,0 +1,74 @@
+-- Numbers as a set.
+use Rattle.std.proofs.Common.{◌≡◌, ℕ, ◌<◌, ◌≤◌, Bool, true, false, eqb, ltb, ◌||◌, List, [], ◌∷◌, ◌++◌, refl, sym, ap, subst, ◌∙◌, inl, inr, arith}
+use Rattle.std.proofs.lemmas.Bool.{cond_both, eqb-true, eqb-false, ltb-true, ltb-false, eq-eqb, or_cases, or_left, or_right}
+use Rattle.std.specs.List.{list_any}
+use Rattle.lc_record.specs.Record.{Chain}
+use Rattle.lc_record.specs.Transaction.{is_member}
+use Rattle.lc_tx.specs.Prepared.{with_number}
+use Rattle.lc_tx.specs.Tx.{IsSetOf}
+use Rattle.lc_tx.specs.Walk.{with_in_order}
+use Rattle.lc_tx.proofs.MemberLemmas.{member_left, member_last, member_push}
+
+abbrev Ascend : List ℕ → Type 0
+Ascend xs = Chain (λ a b. a < b) xs
+
+same_bool : (a b : Bool) → (a ≡ true → b ≡ true) → (b ≡ true → a ≡ true) → a ≡ b
+same_bool true b f g = sym (f refl)
+same_bool false true f g = g refl
+same_bool false false f g = refl
+
+-- a number before all of an ascending list
+before_number : (x n : ℕ) (xs : List ℕ) → x < n → Ascend (x ∷ xs) → Ascend (x ∷ with_in_order n xs)
+before_number x n [] less up = (less, tt)
+before_number x n (y ∷ xs) less up =
+    cond_both (ltb y n) (y ∷ with_in_order n xs) (with_number n (y ∷ xs)) (λ (l : List ℕ). Ascend (x ∷ l))
+    (λ e. (up.0, before_number y n xs (ltb-true y n e) up.1))
+    (λ e. cond_both (eqb n y) (y ∷ xs) (n ∷ y ∷ xs) (λ (l : List ℕ). Ascend (x ∷ l)) (λ same. up) (λ other. (less, (above n y (ltb-false y n e) (eqb-false n y other), up.1))))
+  where
+    above : (n y : ℕ) → n ≤ y → (n ≡ y → ⊥) → n < y
+    above n y most other = omega (arith, most, other)
+
+pub ascends : (n : ℕ) (xs : List ℕ) → Ascend xs → Ascend (with_in_order n xs)
+ascends n [] up = tt
+ascends n (y ∷ xs) up =
+    cond_both (ltb y n) (y ∷ with_in_order n xs) (with_number n (y ∷ xs)) (λ (l : List ℕ). Ascend l)
+    (λ e. before_number y n xs (ltb-true y n e) up)
+    (λ e. cond_both (eqb n y) (y ∷ xs) (n ∷ y ∷ xs) (λ (l : List ℕ). Ascend l) (λ same. up) (λ other. (above n y (ltb-false y n e) (eqb-false n y other), up)))
+  where
+    above : (n y : ℕ) → n ≤ y → (n ≡ y → ⊥) → n < y
+    above n y most other = omega (arith, most, other)
+
+-- its members are those of the list, and the number
+pub order_has : (k n : ℕ) (xs : List ℕ) → is_member k (with_in_order n xs) ≡ (eqb n k || is_member k xs)
+order_has k n [] = refl
+order_has k n (y ∷ xs) =
+    cond_both (ltb y n) (y ∷ with_in_order n xs) (with_number n (y ∷ xs)) (λ (l : List ℕ). is_member k l ≡ (eqb n k || is_member k (y ∷ xs)))
+    (λ e. ap (λ (b : Bool). eqb y k || b) (order_has k n xs) ∙ turned (eqb y k) (eqb n k) (is_member k xs))
+    (λ e. cond_both (eqb n y) (y ∷ xs) (n ∷ y ∷ xs) (λ (l : List ℕ). is_member k l ≡ (eqb n k || is_member k (y ∷ xs)))
+    (λ same. sym (twice (eqb n k) (eqb y k) (is_member k xs) (ap (λ (z : ℕ). eqb z k) (eqb-true n y same)))) (λ other. refl))
+  where
+    turned : (a b c : Bool) → (a || (b || c)) ≡ (b || (a || c))
+    turned true true c = refl
+    turned true false c = refl
+    turned false true c = refl
+    turned false false c = refl
+
+    twice : (a b c : Bool) → a ≡ b → (a || (b || c)) ≡ (b || c)
+    twice true b c e = ap (λ (z : Bool). z || c) e
+    twice false b c e = refl
+
+pub set_more : (xs set next : List ℕ) (n : ℕ) → IsSetOf xs set → next ≡ with_in_order n set → IsSetOf (xs ++ n ∷ []) next
+set_more xs set next n is e = subst (λ (l : List ℕ). IsSetOf (xs ++ n ∷ []) l) (sym e) (record {
+  ascends = ascends n set is.ascends;
+  same = λ k. order_has k n set ∙ ap (λ (b : Bool). eqb n k || b) (is.same k) ∙ same_bool (eqb n k || is_member k xs) (is_member k (xs ++ n ∷ []))
+      (λ h. elim (or_cases (eqb n k) (is_member k xs) h) [
+        | inl last ↦ subst (λ (z : ℕ). is_member z (xs ++ n ∷ []) ≡ true) (eqb-true n k last) (member_last n xs)
+        | inr early ↦ member_left k xs (n ∷ []) early
+      ])
+      (λ h. elim (member_push k n xs h) [ inl early ↦ or_right (eqb n k) _ early | inr last ↦ or_left (eqb n k) _ (eq-eqb n k last) ]);
+})
+
+-- what `contains` finds
+pub any_is : (n : ℕ) (xs : List ℕ) → list_any (λ y. eqb y n) xs ≡ is_member n xs
+any_is n [] = refl
+any_is n (x ∷ xs) = ap (λ (b : Bool). eqb x n || b) (any_is n xs)

@@ -1,0 +1,10 @@
+use Rattle.std.proofs.Common.{◌≡◌, map, take}
+use Rattle.lc_tx.specs.Images.{IsSame}
+use Rattle.lc_tx.specs.Prepared.{run_data}
+use Rattle.lc_tx.proofs.recording.ranges_of.Given as goal
+
+abbrev pub invariant-loop-run : goal.invariant-loop-run
+invariant-loop-run g l = record {
+  ranges : l.ranges.items ≡ map (run_data g.I.Images l.initial.images) (take l.run-index l.runs);
+  same : IsSame g.I.Images l.initial.images l.images;
+}

@@ -1,0 +1,244 @@
+//! The changes of a transaction.
+ghost use Rattle.std.specs.Prelude.{◌≡◌, ◌≢◌, ◌↔◌, ◌+◌, ◌<◌, ◌≤◌, ℕ, IsTrue, IsOk, length, take, drop, slice_index, IfOk, OnOk, OnErr, IfErr};
+ghost use Rattle.lc_range.specs.RangeSet.{AddsPositions, NeedsRunsAbove};
+ghost use Rattle.lc_range.specs.Undo.{KeepsOld, LiesBelow};
+ghost use Rattle.lc_tx.specs.Images.{IsSame, IsWritten, bytes_of};
+ghost use Rattle.lc_tx.specs.Fault.{is_of_set_range, is_of_read};
+ghost use Rattle.lc_tx.specs.Tx.{AreSet, Locked, RunsOn, SetsRange};
+
+use crate::image::lay;
+use crate::{Images, Tx, TxFault};
+use lc_range::RangeSet;
+use std::alloc::Global;
+
+// Whether so many bytes from an offset on lie among these.
+fn lies_within(bytes: &[u8], offset: u32, len: usize) -> bool
+    ensures { IsTrue result ↔ (offset + len ≤ length bytes.now) }
+{
+    len <= bytes.len() && offset as usize <= bytes.len() - len
+}
+
+// The bytes of a range of these.
+fn copy_of(alloc: Global, bytes: &[u8], offset: u32, len: u32) -> Result<Vec<u8>, TxFault>
+    ensures copied { IfOk result (λ v. v.items ≡ take len (drop offset bytes.now)) }
+    ensures outside { (result ≡ Err TxFault.OutOfSegment) ↔ (length bytes.now < offset + len) }
+    ensures locked { result ≢ Err TxFault.NotLocked }
+    ensures faults { IfErr result (λ fault. IsTrue (is_of_read fault)) }
+{
+    if !lies_within(bytes, offset, len as usize) {
+        return Err(TxFault::OutOfSegment);
+    }
+    let start = offset as usize;
+    Vec::from_slice(alloc, &bytes[start..start + len as usize]).map_err(|_| TxFault::NoMemory)
+}
+
+impl Tx {
+    /// The thread that runs it.
+    pub fn thread(&self) -> u16
+        ensures { result ≡ self.now.thread }
+    {
+        self.thread
+    }
+
+    /// The segments that it locked, ascending.
+    pub fn locked(&self) -> &[u32]
+        ensures { result.now ≡ self.now.locked.items }
+    {
+        self.locked.as_slice()
+    }
+
+    /// The positions that it set.
+    pub fn set(&self) -> &RangeSet
+        ensures { result.now ≡ self.now.set }
+    {
+        &self.set
+    }
+
+    // Whether it locked a segment.
+    fn has_locked(&self, segment: u32) -> bool
+        ensures { IsTrue result ↔ Locked self.now segment }
+    {
+        self.locked().contains(&segment)
+    }
+
+    // Whether each of so many positions of a segment, from an offset on, is set.
+    fn is_set(&self, segment: u32, offset: u32, len: usize) -> bool
+        ensures { IsTrue result ↔ AreSet self.now segment offset len }
+    {
+        self.set.covers(segment, offset, len)
+    }
+
+    // Sets a range of a segment that has these bytes.
+    fn set_bytes(
+        &mut self,
+        alloc: Global,
+        bytes: &[u8],
+        segment: u32,
+        offset: u32,
+        len: u32,
+    ) -> Result<(), TxFault>
+        requires { 0 < len }
+        ensures thread { self.new.thread ≡ self.old.thread }
+        ensures locked { self.new.locked ≡ self.old.locked }
+        ensures adds { OnOk result (AddsPositions self.old.set segment offset len self.new.set) }
+        ensures keeps { OnOk result (KeepsOld self.old.undo self.old.set segment offset len (slice_index bytes.now) self.new.undo) }
+        ensures below { OnOk result ((s bound : ℕ) → LiesBelow self.old.undo s bound
+            → (s ≡ segment → length bytes.now ≤ bound) → LiesBelow self.new.undo s bound) }
+        ensures inside { OnOk result (offset + len ≤ length bytes.now) }
+        ensures err { OnErr result (self.new ≡ self.old) }
+        ensures outside { (result ≡ Err TxFault.OutOfSegment) ↔ (length bytes.now < offset + len) }
+        ensures too_many { (result ≡ Err TxFault.TooManyRanges)
+            ↔ ((offset + len ≤ length bytes.now) × NeedsRunsAbove 64 self.old.set segment offset len) }
+        ensures not_locked { result ≢ Err TxFault.NotLocked }
+        ensures empty { result ≢ Err TxFault.EmptyRange }
+        ensures faults { IfErr result (λ fault. IsTrue (is_of_set_range fault)) }
+    {
+        if !lies_within(bytes, offset, len as usize) {
+            return Err(TxFault::OutOfSegment);
+        }
+        if !self.set.has_room(segment, offset, len) {
+            return Err(TxFault::TooManyRanges);
+        }
+        let copies = self.undo.len();
+        if self
+            .undo
+            .keep_old(alloc, &self.set, segment, offset, len, bytes)
+            .is_err()
+        {
+            return Err(TxFault::NoMemory);
+        }
+        if self.set.add(segment, u32::MAX, offset, len).is_err() {
+            self.undo.truncate(copies);
+            return Err(TxFault::NoMemory);
+        }
+        Ok(())
+    }
+
+    /// Sets `len` bytes of a segment from `offset` on: the transaction may write them, and an abort gives back the
+    /// bytes that they had. Ranges that overlap or touch become one. Idea: RVM's set-range (Satyanarayanan et al.,
+    /// TOCS 1994).
+    ///
+    /// # Errors
+    ///
+    /// `NotLocked`, `EmptyRange`, `OutOfSegment` and `TooManyRanges`, looked at in this order, and `NoMemory`. The
+    /// transaction is then as before.
+    pub fn set_range<I: Images>(
+        &mut self,
+        alloc: Global,
+        images: &mut I,
+        segment: u32,
+        offset: u32,
+        len: u32,
+    ) -> Result<(), TxFault>
+        requires runs { RunsOn I.Images images.old self.old }
+        ensures sets { OnOk result (SetsRange I.Images images.old self.old segment offset len self.new) }
+        ensures images { IsSame I.Images images.old images.new }
+        ensures runs { RunsOn I.Images images.new self.new }
+        ensures err { OnErr result (self.new ≡ self.old) }
+        ensures not_locked { (result ≡ Err TxFault.NotLocked) ↔ ¬ Locked self.old segment }
+        ensures empty { (result ≡ Err TxFault.EmptyRange) ↔ (Locked self.old segment × (len ≡ 0)) }
+        ensures outside { (result ≡ Err TxFault.OutOfSegment)
+            ↔ (Locked self.old segment × (0 < len) × (length (bytes_of I.Images images.old segment) < offset + len)) }
+        ensures too_many { (result ≡ Err TxFault.TooManyRanges)
+            ↔ (Locked self.old segment × (0 < len) × (offset + len ≤ length (bytes_of I.Images images.old segment))
+            × NeedsRunsAbove 64 self.old.set segment offset len) }
+        ensures faults { IfErr result (λ fault. IsTrue (is_of_set_range fault)) }
+    {
+        if !self.has_locked(segment) {
+            return Err(TxFault::NotLocked);
+        }
+        if len == 0 {
+            return Err(TxFault::EmptyRange);
+        }
+        let image = images.image(segment);
+        self.set_bytes(alloc, image.bytes(), segment, offset, len)
+    }
+
+    // Whether the bytes of a write lie in the segment's, and are set.
+    fn check_write(
+        &self,
+        image: &[u8],
+        segment: u32,
+        offset: u32,
+        len: usize,
+    ) -> Result<(), TxFault>
+        ensures ok { IsOk result ↔ ((offset + len ≤ length image.now) × AreSet self.now segment offset len) }
+        ensures outside { (result ≡ Err TxFault.OutOfSegment) ↔ (length image.now < offset + len) }
+        ensures no_range { (result ≡ Err TxFault.NoRange)
+            ↔ ((offset + len ≤ length image.now) × ¬ AreSet self.now segment offset len) }
+        ensures not_locked { result ≢ Err TxFault.NotLocked }
+        ensures no_memory { result ≢ Err TxFault.NoMemory }
+    {
+        if !lies_within(image, offset, len) {
+            return Err(TxFault::OutOfSegment);
+        }
+        if !self.is_set(segment, offset, len) {
+            return Err(TxFault::NoRange);
+        }
+        Ok(())
+    }
+
+    /// Writes bytes over those of a segment from `offset` on, each at a position that it set. It takes no memory.
+    ///
+    /// # Errors
+    ///
+    /// `NotLocked`, `OutOfSegment` and `NoRange`, looked at in this order. The images are then as before.
+    pub fn write<I: Images>(
+        &self,
+        images: &mut I,
+        segment: u32,
+        offset: u32,
+        bytes: &[u8],
+    ) -> Result<(), TxFault>
+        requires runs { RunsOn I.Images images.old self.now }
+        ensures written { OnOk result (IsWritten I.Images images.old segment offset bytes.now images.new) }
+        ensures runs { RunsOn I.Images images.new self.now }
+        ensures err { OnErr result (IsSame I.Images images.old images.new) }
+        ensures ok { IsOk result ↔ (Locked self.now segment
+            × (offset + length bytes.now ≤ length (bytes_of I.Images images.old segment))
+            × AreSet self.now segment offset (length bytes.now)) }
+        ensures not_locked { (result ≡ Err TxFault.NotLocked) ↔ ¬ Locked self.now segment }
+        ensures outside { (result ≡ Err TxFault.OutOfSegment) ↔ (Locked self.now segment
+            × (length (bytes_of I.Images images.old segment) < offset + length bytes.now)) }
+        ensures no_range { (result ≡ Err TxFault.NoRange) ↔ (Locked self.now segment
+            × (offset + length bytes.now ≤ length (bytes_of I.Images images.old segment))
+            × ¬ AreSet self.now segment offset (length bytes.now)) }
+    {
+        if !self.has_locked(segment) {
+            return Err(TxFault::NotLocked);
+        }
+        let image = images.image(segment);
+        self.check_write(image.bytes(), segment, offset, bytes.len())?;
+        lay(image.bytes.as_mut_slice(), offset, bytes);
+        Ok(())
+    }
+
+    /// The `len` bytes of a segment from `offset` on.
+    ///
+    /// # Errors
+    ///
+    /// `NotLocked` and `OutOfSegment`, looked at in this order, and `NoMemory`.
+    pub fn read<I: Images>(
+        &self,
+        alloc: Global,
+        images: &mut I,
+        segment: u32,
+        offset: u32,
+        len: u32,
+    ) -> Result<Vec<u8>, TxFault>
+        requires runs { RunsOn I.Images images.old self.now }
+        ensures bytes { IfOk result (λ v. v.items ≡ take len (drop offset (bytes_of I.Images images.old segment))) }
+        ensures images { IsSame I.Images images.old images.new }
+        ensures runs { RunsOn I.Images images.new self.now }
+        ensures not_locked { (result ≡ Err TxFault.NotLocked) ↔ ¬ Locked self.now segment }
+        ensures outside { (result ≡ Err TxFault.OutOfSegment) ↔ (Locked self.now segment
+            × (length (bytes_of I.Images images.old segment) < offset + len)) }
+        ensures faults { IfErr result (λ fault. IsTrue (is_of_read fault)) }
+    {
+        if !self.has_locked(segment) {
+            return Err(TxFault::NotLocked);
+        }
+        let image = images.image(segment);
+        copy_of(alloc, image.bytes(), offset, len)
+    }
+}

@@ -1,0 +1,65 @@
+//! A segment's bytes at a node.
+ghost use Rattle.std.specs.Prelude.{◌≡◌, None};
+ghost use Rattle.lc_record.specs.Content.{put};
+ghost use Rattle.lc_tx.specs.Image.{laid_over};
+
+use lc_record::Part;
+
+/// A segment's bytes as a node has them, with those of open transactions, and the thread whose transaction holds the
+/// segment's lock. This project's own.
+#[derive(Debug, Drop)]
+pub struct Image {
+    pub(crate) bytes: Vec<u8>,
+    pub(crate) holder: Option<u16>,
+}
+
+impl Image {
+    /// The image of these bytes, which no transaction holds.
+    pub fn new(bytes: Vec<u8>) -> Self
+        ensures bytes { result.bytes ≡ bytes }
+        ensures holder { result.holder ≡ None }
+    {
+        Image {
+            bytes,
+            holder: None,
+        }
+    }
+
+    /// The segment's bytes.
+    pub fn bytes(&self) -> &[u8]
+        ensures { result.now ≡ self.now.bytes.items }
+    {
+        self.bytes.as_slice()
+    }
+
+    /// The thread whose transaction holds the segment.
+    pub fn holder(&self) -> Option<u16>
+        ensures { result ≡ self.now.holder }
+    {
+        self.holder
+    }
+
+    /// Lays the bytes of a record's part over its own, the first range first. What reaches past them is left out. It
+    /// takes no memory. Idea: a peer applies the ranges that another node committed (Feeley et al., OSDI 1994).
+    pub fn put(&mut self, part: &Part)
+        ensures bytes { self.new.bytes.items ≡ laid_over part.now.ranges self.old.bytes.items }
+        ensures holder { self.new.holder ≡ self.old.holder }
+    {
+        for range in part.ranges.as_slice() {
+            lay(
+                self.bytes.as_mut_slice(),
+                range.offset,
+                range.bytes.as_slice(),
+            );
+        }
+    }
+}
+
+/// Lays bytes over those of an image from an offset on, as far as the image reaches.
+pub(crate) fn lay(image: &mut [u8], offset: u32, bytes: &[u8])
+    ensures { image.new ≡ put offset bytes.now image.old }
+{
+    let start = image.len().min(offset as usize);
+    let len = bytes.len().min(image.len() - start);
+    image[start..start + len].copy_from_slice(&bytes[..len]);
+}

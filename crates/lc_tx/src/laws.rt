@@ -1,0 +1,85 @@
+//! Laws of transactions: what is kept of one stands for a transaction of the model.
+ghost use Rattle.std.specs.Prelude.{◌≡◌, ◌↔◌, ◌+◌, ◌<◌, ◌≤◌, ℕ, List, [], true, length, IsTrue};
+ghost use Rattle.lc_record.specs.Content.{Content, segment_of};
+ghost use Rattle.lc_record.specs.Transaction.{Transaction, is_member, all_set};
+ghost use Rattle.lc_record.specs.Marks.{is_empty, ranges, ascending, marked, written};
+ghost use Rattle.lc_record.specs.Recorded.{record_of};
+ghost use Rattle.lc_record.specs.declared.geometry.Geometry.{Geometry};
+ghost use Rattle.lc_range.specs.RangeSet.{IsCanonical, NeedsRunsAbove};
+ghost use Rattle.lc_tx.specs.declared.tx.Tx.{Tx as Kept};
+ghost use Rattle.lc_tx.specs.Images.{bytes_of, IsSame, IsWritten, AreRestored, AreHeldBy};
+ghost use Rattle.lc_tx.specs.Tx.{IsSetOf, Locked, AreSet, RunsOn, Begins, SetsRange};
+ghost use Rattle.lc_tx.specs.Prepared.{final_record};
+ghost use Rattle.lc_tx.specs.StandsFor.{StandsFor, Show, AreNumbers, begun_on};
+
+use crate::Images;
+
+/// A transaction that has begun stands for one with nothing set, on the content that its images show.
+pub fn begun<I: Images>()
+    ensures { (old new : I) (thread node : ℕ) (segments : List ℕ) (tx : Kept) (content : Content)
+        → Begins I.Images thread segments old new tx → Show I.Images old segments content
+        → StandsFor I.Images new tx content (begun_on content node tx) }
+{}
+
+/// A set range marks the transaction.
+pub fn range_set<I: Images>()
+    ensures { (images later : I) (old new : Kept) (segment offset len : ℕ) (content : Content) (t : Transaction)
+        → StandsFor I.Images images old content t → Locked old segment → SetsRange I.Images images old segment offset len new
+        → IsSame I.Images images later → RunsOn I.Images images old → RunsOn I.Images later new
+        → StandsFor I.Images later new content (marked t segment offset len) }
+{}
+
+/// A write is one of the transaction's.
+pub fn bytes_written<I: Images>()
+    ensures { (old new : I) (tx : Kept) (segment offset : ℕ) (bytes : List ℕ) (content : Content) (t : Transaction)
+        → StandsFor I.Images old tx content t → RunsOn I.Images old tx → Locked tx segment → AreSet tx segment offset (length bytes)
+        → IsWritten I.Images old segment offset bytes new
+        → StandsFor I.Images new tx content (written t segment offset bytes) }
+{}
+
+/// What leaves the images as they are leaves what is stood for.
+pub fn same_images<I: Images>()
+    ensures { (old new : I) (tx : Kept) (content : Content) (t : Transaction)
+        → StandsFor I.Images old tx content t → RunsOn I.Images old tx → IsSame I.Images old new → StandsFor I.Images new tx content t }
+{}
+
+/// More than 64 runs would stand exactly where the transaction would have more than 64 ranges.
+pub fn runs_are_ranges<I: Images>()
+    ensures { (images : I) (tx : Kept) (segment offset len : ℕ) (content : Content) (t : Transaction)
+        → StandsFor I.Images images tx content t → Locked tx segment
+        → offset + len ≤ length (bytes_of I.Images images segment)
+        → NeedsRunsAbove 64 tx.set segment offset len ↔ (64 < ranges (marked t segment offset len).marks) }
+{}
+
+/// The transaction set nothing exactly where the set is empty.
+pub fn nothing_is_set<I: Images>()
+    ensures { (images : I) (tx : Kept) (content : Content) (t : Transaction) → IsCanonical tx.set
+        → StandsFor I.Images images tx content t → (tx.set ≡ []) ↔ (is_empty t.marks ≡ true) }
+{}
+
+/// Positions are set exactly where the transaction's are.
+pub fn set_positions<I: Images>()
+    ensures { (images : I) (tx : Kept) (segment offset len : ℕ) (content : Content) (t : Transaction)
+        → StandsFor I.Images images tx content t → AreSet tx segment offset len ↔ (all_set offset len (segment_of segment t.marks) ≡ true) }
+{}
+
+/// The record is the transaction's.
+pub fn one_record<I: Images>()
+    ensures { (images : I) (tx : Kept) (numbers : ℕ → ℕ) (content : Content) (t : Transaction) → IsCanonical tx.set
+        → StandsFor I.Images images tx content t → AreNumbers I.Images images tx numbers
+        → final_record I.Images images tx t.node ≡ record_of numbers content t }
+{}
+
+/// An abort brings the content back.
+pub fn content_is_back<I: Images>()
+    ensures { (old new : I) (tx : Kept) (content : Content) (t : Transaction) (segment : ℕ)
+        → StandsFor I.Images old tx content t → AreRestored I.Images tx.undo tx.locked.items old new → Locked tx segment
+        → bytes_of I.Images new segment ≡ segment_of segment content }
+{}
+
+/// The segments that a transaction locked, of a store of this geometry, are those that were asked for, ascending.
+pub fn one_ascending_list()
+    ensures { (g : Geometry) (segments set : List ℕ) → IsSetOf segments set
+        → ((segment : ℕ) → IsTrue (is_member segment segments) → (1 ≤ segment) × (segment ≤ g.segments))
+        → set ≡ ascending g segments }
+{}

@@ -1,0 +1,25 @@
+//! Transactions: the images and the record are the transaction's effect.
+#![tactic(auto)]
+
+mod beginning;
+mod changing;
+mod ending;
+mod image;
+mod images;
+mod laws;
+mod limits;
+mod locking;
+mod prepared;
+mod recording;
+mod tx;
+mod tx_fault;
+
+pub use image::Image;
+pub use images::Images;
+pub use laws::{
+    begun, bytes_written, content_is_back, nothing_is_set, one_ascending_list, one_record,
+    range_set, runs_are_ranges, same_images, set_positions,
+};
+pub use prepared::Prepared;
+pub use tx::Tx;
+pub use tx_fault::TxFault;
