@@ -5,6 +5,7 @@ pub mod SetLemmas
 pub mod RunLemmas
 pub mod RecordLemmas
 pub mod EndLemmas
+pub mod TwoLemmas
 pub mod MarkLemmas
 pub mod DataLemmas
 pub mod StandsLemmas

@@ -10,7 +10,7 @@ own_of_two first second image segment =
     elim (eqb segment 1) as (λ b. cond b (cond b image first) (cond b second image) ≡ image) [ true ↦ refl | false ↦ refl ]
 
 -- a segment that is here is 1 or 2
-two_of : (one two : Option ℕ) (segment : ℕ) → IsSome (cond (eqb segment 1) one (cond (eqb segment 2) two None)) → eqb segment 1 ≡ false → segment ≡ 2
+pub two_of : (one two : Option ℕ) (segment : ℕ) → IsSome (cond (eqb segment 1) one (cond (eqb segment 2) two None)) → eqb segment 1 ≡ false → segment ≡ 2
 two_of one two segment here not = elim (cases_Bool (eqb segment 2)) [
   | inl is ↦ eqb-true segment 2 is
   | inr not_so ↦

@@ -23,3 +23,6 @@ pub use laws::{
 pub use prepared::Prepared;
 pub use tx::Tx;
 pub use tx_fault::TxFault;
+
+#[cfg(test)]
+mod tests;

@@ -9,9 +9,14 @@ use Rattle.lc_range.proofs.range_set.RangeSet.covers.Goals as goal
 pub returns-in_default : goal.returns-in_default
 returns-in_default c =
     let last : ℕ = 2 ^ 32 - 1 in
-    let long : 2 ^ 32 ≤ c.args.len = omega (arith, c.in_default.ensures) in
-    (λ e. absurd (cc), λ all. absurd (omega (arith, has_below c.self.inside.runs.items last c.args.segment last c.self.invariant.ends
-    (subst (λ (l : List Range). Has l c.args.segment last) (sym c.self.view_is) (all last (omega (arith, c.ranges.offset)) (omega (arith, long)))))))
+    let long : 2 ^ 32 ≤ c.args.len = omega (arith, c.in_default.ensures) in (
+      λ e. absurd (cc),
+      λ all. absurd (omega (
+        arith,
+        has_below c.self.inside.runs.items last c.args.segment last c.self.invariant.ends
+            (subst (λ (l : List Range). Has l c.args.segment last) (sym c.self.view_is) (all last (omega (arith, c.ranges.offset)) (omega (arith, long)))),
+      )),
+    )
 
 pub returns-else-len-eq0 : goal.returns-else-len-eq0
 returns-else-len-eq0 c =

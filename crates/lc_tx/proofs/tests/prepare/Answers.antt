@@ -1,0 +1,12 @@
+use Rattle.std.proofs.Common.{length, ap, arith}
+use Rattle.lc_tx.proofs.TwoLemmas.{one_or_two, both_short}
+use Rattle.lc_tx.proofs.tests.prepare.Goals as goal
+
+pub prepare_end-requires-clause-small : goal.prepare_end-requires-clause-small
+prepare_end-requires-clause-small c =
+    let images = c.args.images.now in
+    record {
+      some = λ s e. (one_or_two images.first_number images.second_number s (c.requires.runs.here s e)).0;
+      few = λ s e. let is = (one_or_two images.first_number images.second_number s (c.requires.runs.here s e)).1 in omega (arith, is);
+      short = λ s e. both_short images.first images.second s 16384 (omega (arith, ap length c.bytes.ensures)) (omega (arith, ap length c.bytes-else-bytes-gt16384.ensures));
+    }
