@@ -1,6 +1,7 @@
 -- The record of a set's runs is that of the marks.
 use Rattle.std.proofs.Common.{◌≡◌, ◌≢◌, ℕ, zero, suc, ◌+◌, ◌≤◌, Bool, true, false, not, ◌==◌, List, [], ◌∷◌, ◌++◌, map, length, take, drop, refl, sym, ◌∙◌, ap, subst, arith, inl, eqb-true, eq-eqb, ne_eqb, add-one}
 use Rattle.std.specs.Prelude.{if◌then◌else◌}
+use Rattle.std.proofs.lemmas.List.{map-append}
 use Rattle.lc_record.specs.Content.{Content, segment_of}
 use Rattle.lc_record.specs.Transaction.{Marks, all_set}
 use Rattle.lc_record.specs.Recorded.{with_byte, ranges_from, ranges_of, locks_of}
@@ -67,10 +68,6 @@ data-same bytes segment offset whole (run ∷ runs) are same =
 
 -- All segments
 
-map-joined : {A B : Type 0} (f : A → B) (xs ys : List A) → map f (xs ++ ys) ≡ map f xs ++ map f ys
-map-joined f [] ys = refl
-map-joined f (x ∷ xs) ys = ap (λ l. f x ∷ l) (map-joined f xs ys)
-
 data-all : (bytes : ℕ → List ℕ) (first : ℕ) (marks : Marks) (content : Content) → map length marks ≡ map length content
     → ((i k : ℕ) → all_set k 1 (segment_of (suc i) marks) ≡ true → bytes (first + i) ≡ segment_of (suc i) content)
     → map (data_in bytes) (runs_of first marks) ≡ ranges_of first marks content
@@ -83,7 +80,7 @@ data-all bytes first (m ∷ ms) (b ∷ bs) shape same =
     let own : (k : ℕ) → Has (runs_from first 0 m) first k → bytes first ≡ b = λ k has. ap bytes (sym zero_more) ∙ same 0 k ((has_marks first first k m).0 has).1 in
     let later : (i k : ℕ) → all_set k 1 (segment_of (suc i) ms) ≡ true → bytes (first + 1 + i) ≡ segment_of (suc i) bs =
     λ i k set. ap bytes (next first i) ∙ same (suc i) k set in
-    map-joined (data_in bytes) (runs_from first 0 m) (runs_of (first + 1) ms)
+    map-append (data_in bytes) (runs_from first 0 m) (runs_of (first + 1) ms)
     ∙ ap (λ l. l ++ map (data_in bytes) (runs_of (first + 1) ms)) (data-same bytes first 0 b (runs_from first 0 m) (from_runs first 0 m) own ∙ data-from first 0 m b b refl long)
     ∙ ap (λ l. ranges_from first 0 m b ++ l) (data-all bytes (first + 1) ms bs behind later)
   where

@@ -1,5 +1,5 @@
 -- The runs of marks: a set with the same positions has these runs.
-use Rattle.std.proofs.Common.{◌≡◌, ◌≢◌, ◌⊎◌, ℕ, zero, suc, ◌+◌, ◌-◌, ◌<◌, ◌≤◌, Bool, true, false, ◌==◌, List, [], ◌∷◌, ◌++◌, length, refl, sym, ◌∙◌, ap, subst, arith, inl, inr, true≢false, eqb-true, eq-eqb, ne_eqb}
+use Rattle.std.proofs.Common.{◌≡◌, ◌≢◌, ◌⊎◌, ℕ, zero, suc, ◌+◌, ◌-◌, ◌<◌, ◌≤◌, Bool, true, false, ◌==◌, List, [], ◌∷◌, ◌++◌, length, refl, sym, ◌∙◌, ap, subst, arith, inl, inr, true≢false, eqb-true, eq-eqb, ne_eqb, length-append}
 use Rattle.std.specs.Prelude.{◌↔◌, if◌then◌else◌}
 use Rattle.lc_record.specs.Transaction.{Marks, all_set}
 use Rattle.lc_record.specs.Content.{segment_of}
@@ -365,14 +365,10 @@ has_positions segments s k = (to, from s)
     from zero set = absurd (true≢false (sym set ∙ ap (all_set k 1) (none_at segments) ∙ unmarked k))
     from (suc i) set = (has_all 1 (suc i) k segments).1 (i, omega arith, set)
 
-length-joined : {A : Type 0} (xs ys : List A) → length (xs ++ ys) ≡ length xs + length ys
-length-joined [] ys = (let same : length ys ≡ 0 + length ys = omega arith in same)
-length-joined (x ∷ xs) ys = (let behind : length (xs ++ ys) ≡ length xs + length ys = length-joined xs ys in omega (arith, behind))
-
 pub count_all : (first : ℕ) (segments : Marks) → length (runs_of first segments) ≡ ranges segments
 count_all first [] = refl
 count_all first (marks ∷ segments) =
-    length-joined (runs_from first 0 marks) (runs_of (first + 1) segments)
+    length-append (runs_from first 0 marks) (runs_of (first + 1) segments)
     ∙ ap (λ n. n + length (runs_of (first + 1) segments)) (count_runs first marks)
     ∙ ap (λ n. stretches false marks + n) (count_all (first + 1) segments)
 

@@ -142,18 +142,15 @@ shape-writes [] content = refl
 shape-writes (w ∷ ws) content =
     shape-writes ws (on_segment w.segment (put w.offset w.bytes) content) ∙ shape-on_segment w.segment (put w.offset w.bytes) content (length-put w.offset w.bytes)
 
+-- no position of an empty list is marked
+no_marks : (k : ℕ) → all_set k 1 [] ≡ false
+no_marks zero = refl
+no_marks (suc k) = refl
+
 -- nothing is marked in a transaction that has just begun
 none_marked : (s k : ℕ) (content : Content) → all_set k 1 (segment_of s (unmarked content)) ≡ false
 none_marked s k [] = no_marks k
-  where
-    no_marks : (k : ℕ) → all_set k 1 [] ≡ false
-    no_marks zero = refl
-    no_marks (suc k) = refl
 none_marked zero k (bytes ∷ content) = no_marks k
-  where
-    no_marks : (k : ℕ) → all_set k 1 [] ≡ false
-    no_marks zero = refl
-    no_marks (suc k) = refl
 none_marked (suc zero) k (bytes ∷ content) = unset k (length bytes)
   where
     unset : (k n : ℕ) → all_set k 1 (replicate n false) ≡ false
