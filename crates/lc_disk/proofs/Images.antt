@@ -1,7 +1,32 @@
--- Images of an area whose front is stable, and what a call leaves behind such a front.
-use Rattle.std.proofs.Common.{◌≡◌, ℕ, suc, ◌+◌, ◌<◌, Bool, false, List, [], ◌∷◌, ◌++◌, length, get_or, take, drop, sym, ◌∙◌, ap, arith, length-append, length-drop, take-append-drop, get_or-take, get_or-drop}
+-- Images of an area, also of one whose front is stable, and what a call leaves behind such a front.
+use Rattle.std.proofs.Common.{◌≡◌, ℕ, suc, ◌+◌, ◌<◌, Bool, false, List, [], ◌∷◌, ◌++◌, length, get_or, take, drop, refl, sym, ◌∙◌, ap, arith, length-append, length-drop, take-append-drop, get_or-take, get_or-drop}
 use Rattle.std.proofs.lemmas.List.{ext_get_or, get_or_append_left, get_or-append-add, take_at, drop_at, drop-drop, length-take-le, drop_more}
-use Rattle.lc_disk.specs.Area.{IsImage, IsSameOutside}
+use Rattle.lc_disk.specs.Area.{IsImage, IsSameOutside, IsClean}
+
+-- an image of an image is one
+pub image_again : (now : List ℕ) (dirty : ℕ → Bool) (image other : List ℕ) → IsImage now dirty image → IsImage image dirty other → IsImage now dirty other
+image_again now dirty image other is again = record {
+  same_length = again.same_length ∙ is.same_length;
+  bytes = again.bytes;
+  stable = λ k clean. again.stable k clean ∙ is.stable k clean;
+}
+
+-- what keeps the reads, and makes nothing dirty, leaves no new image
+pub image_kept : (now later : List ℕ) (dirty soiled : ℕ → Bool) → later ≡ now → ((k : ℕ) → dirty k ≡ false → soiled k ≡ false)
+    → (image : List ℕ) → IsImage later soiled image → IsImage now dirty image
+image_kept now later dirty soiled same kept image is = record {
+  same_length = is.same_length ∙ ap (λ (l : List ℕ). length l) same;
+  bytes = is.bytes;
+  stable = λ k clean. is.stable k (kept k clean) ∙ ap (λ (l : List ℕ). get_or l k 0) same;
+}
+
+-- where nothing is dirty, an image is what is read
+pub image_clean : (now : List ℕ) (dirty : ℕ → Bool) → IsClean dirty → (image : List ℕ) → IsImage now dirty image → image ≡ now
+image_clean now dirty clean image is = ext_get_or 0 image now is.same_length (λ k h. is.stable k (clean k))
+
+-- bytes are one of their own images
+pub image_own : (now : List ℕ) (dirty : ℕ → Bool) → ((k : ℕ) → get_or now k 0 < 256) → IsImage now dirty now
+image_own now dirty fits = record { same_length = refl; bytes = fits; stable = λ k clean. refl }
 
 -- an image that begins with this front, and goes on with an image of what stands behind it
 pub record Behind (front back : List ℕ) (dirty : ℕ → Bool) (image : List ℕ) : Type 0 where

@@ -1,5 +1,5 @@
 -- A stop, position by position.
-use Rattle.std.proofs.Common.{◌≡◌, ◌⊎◌, ℕ, suc, ◌+◌, ◌-◌, ◌<◌, ◌≤◌, Bool, true, false, List, length, min, set, slice_index_or, refl, sym, ◌∙◌, ap, subst, inl, inr, arith}
+use Rattle.std.proofs.Common.{◌≡◌, ◌⊎◌, ℕ, zero, suc, ◌+◌, ◌-◌, ◌<◌, ◌≤◌, Bool, true, false, List, length, min, set, slice_index_or, refl, sym, ◌∙◌, ap, subst, inl, inr, arith}
 use Rattle.std.proofs.lemmas.Bool.{cases_eq}
 use Rattle.std.proofs.lemmas.List.{get_or-set_same, get_or-set_other}
 use Rattle.lc_disk.specs.declared.choice.Choice.{Choice}
@@ -35,8 +35,18 @@ module _ (was stable : List ℕ) (dirty : ℕ → Bool) (choices : List Choice) 
   up_to : (k n : ℕ) → k < n + 1 → (k < n) ⊎ (k ≡ n)
   up_to k n h = elim (cases_eq k n) [ inl e ↦ inr e | inr e ↦ inl (omega (arith, e, h)) ]
 
-  pub stopped_none : ((k : ℕ) → slice_index_or was k 0 < 256) → Stopped was stable dirty choices 0 0 was
-  stopped_none fits = record { next_is = omega arith; done = λ k h. absurd (omega (arith, h)); rest = λ k h. refl; fits = fits }
+  none_below : (n : ℕ) → ((k : ℕ) → k < n → dirty k ≡ false) → dirty_below dirty n ≡ 0
+  none_below zero clean = refl
+  none_below (suc n) clean = rw (clean n (omega arith)) (omega (arith, none_below n (λ k h. clean k (omega (arith, h)))))
+
+  -- where nothing is dirty before the first position that is looked at
+  pub stopped_none : (start : ℕ) → ((k : ℕ) → k < start → dirty k ≡ false) → ((k : ℕ) → slice_index_or was k 0 < 256) → Stopped was stable dirty choices start 0 was
+  stopped_none start clean fits = record {
+    next_is = omega (arith, none_below start clean);
+    done = λ k h. sym (left_clean k (clean k h));
+    rest = λ k h. refl;
+    fits = fits;
+  }
 
   pub stopped_clean : (position next : ℕ) (bytes : List ℕ) → dirty position ≡ false → Stopped was stable dirty choices position next bytes
       → Stopped was stable dirty choices (position + 1) next bytes

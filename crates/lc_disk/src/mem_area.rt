@@ -1,21 +1,29 @@
 //! An area in memory, which never fails.
-ghost use Rattle.std.specs.Prelude.{◌≡◌, ◌+◌, ◌≤◌, ◌<◌, ℕ, true, false, length, replicate, slice_index_or, take, drop, Ok, IfOk};
-ghost use Rattle.lc_disk.specs.Area.{IsImage, IsSameOutside, BecomeDirty, overlaid};
+ghost use Rattle.std.specs.Prelude.{◌≡◌, ◌+◌, ◌≤◌, ◌<◌, ◌^◌, ℕ, Bool, true, false, length, replicate, slice_index_or, take, drop, Ok, IfOk, OnErr};
+ghost use Rattle.lc_disk.specs.Area.{IsImage, IsSameOutside, BecomeDirty, IsClean, overlaid};
+ghost use Rattle.lc_disk.specs.Span.{IsSpan};
 ghost use Rattle.lc_disk.specs.Stop.{left_by_stop};
 
 use crate::{Area, Choice, DeviceFault, Stoppable};
 use std::alloc::{AllocError, Global};
+use std::ops::Range;
 
 /// Bytes in memory, always honest: what a read gives, what stood there after the last sync, and which positions were
-/// written since.
+/// written since. `new` and `from_bytes` take memory, and no other call does.
 #[derive(Debug, Drop)]
 pub struct MemArea {
     bytes: Vec<u8>,
     stable: Vec<u8>,
     dirty: Vec<bool>,
+    // From the first dirty position to behind the last.
+    span: Range<usize>,
     ghost fits: { (k : ℕ) → slice_index_or bytes.items k 0 < 256 },
     ghost same_stable: { length stable.items ≡ length bytes.items },
     ghost same_dirty: { length dirty.items ≡ length bytes.items },
+    // What is not dirty is stable as it reads.
+    ghost settled: { (k : ℕ) → slice_index_or dirty.items k false ≡ false → slice_index_or stable.items k 0 ≡ slice_index_or bytes.items k 0 },
+    ghost spans: { IsSpan span.start span.end (λ k. slice_index_or dirty.items k false) },
+    ghost within: { span.end ≤ length bytes.items },
 }
 
 impl MemArea {
@@ -26,11 +34,13 @@ impl MemArea {
         ensures bytes { IfOk result (λ m. memory_now m ≡ replicate len 0) }
         ensures stable { IfOk result (λ m. memory_stable m ≡ replicate len 0) }
         ensures clean { IfOk result (λ m. (k : ℕ) → memory_dirty m k ≡ false) }
+        ensures memory { OnErr result (0 < len) }
     {
         Ok(MemArea {
-            bytes: vec![in alloc; 0; len]?,
-            stable: vec![in alloc; 0; len]?,
-            dirty: vec![in alloc; false; len]?,
+            bytes: filled(alloc, 0, len)?,
+            stable: filled(alloc, 0, len)?,
+            dirty: filled(alloc, false, len)?,
+            span: 0..0,
         })
     }
 
@@ -39,11 +49,13 @@ impl MemArea {
         ensures bytes { IfOk result (λ m. memory_now m ≡ bytes.now) }
         ensures stable { IfOk result (λ m. memory_stable m ≡ bytes.now) }
         ensures clean { IfOk result (λ m. (k : ℕ) → memory_dirty m k ≡ false) }
+        ensures memory { OnErr result (0 < length bytes.now) }
     {
         Ok(MemArea {
-            bytes: bytes.to_vec(alloc)?,
-            stable: bytes.to_vec(alloc)?,
-            dirty: vec![in alloc; false; bytes.len()]?,
+            bytes: copied(alloc, bytes)?,
+            stable: copied(alloc, bytes)?,
+            dirty: filled(alloc, false, bytes.len())?,
+            span: 0..0,
         })
     }
 
@@ -62,16 +74,19 @@ impl MemArea {
         ensures dirtied { BecomeDirty at len (memory_dirty self.old) (memory_dirty self.new) }
     {
         mark(&mut self.dirty, at, len);
+        self.span = widened(&self.span, at, len);
     }
 
-    // Makes each byte stable as it reads.
+    // Makes each byte stable as it reads. It looks at the span alone.
     fn make_stable(&mut self)
         ensures same { memory_now self.new ≡ memory_now self.old }
         ensures stable { memory_stable self.new ≡ memory_now self.old }
         ensures clean { (k : ℕ) → memory_dirty self.new k ≡ false }
     {
-        self.stable.copy_from_slice(&self.bytes);
-        self.dirty.fill(false);
+        let (start, end) = (self.span.start, self.span.end);
+        settle(&mut self.stable, &self.bytes, start, end);
+        clear(&mut self.dirty, start, end);
+        self.span = 0..0;
     }
 }
 
@@ -109,11 +124,12 @@ impl Area for MemArea {
         ensures dirtied { BecomeDirty at (length bytes.now) (memory_dirty self.old) (memory_dirty self.new) }
         ensures same_stable { memory_stable self.new ≡ memory_stable self.old }
     {
+        self.spoil(at, bytes.len());
         overlay(&mut self.bytes, at, bytes);
-        mark(&mut self.dirty, at, bytes.len());
         Ok(())
     }
 
+    /// It costs what lies from the first dirty position to the last, and not the whole area.
     fn sync(&mut self) -> Result<(), DeviceFault>
         ensures done { result ≡ Ok tt }
         ensures same { memory_now self.new ≡ memory_now self.old }
@@ -133,7 +149,7 @@ impl Stoppable for MemArea {
     ghost use Rattle.lc_disk.specs.MemArea.{memory_now, memory_stable, memory_dirty};
 
     /// Takes one choice for each dirty position, in ascending order; the last choice holds for the rest, and with
-    /// none each byte is kept.
+    /// none each byte is kept. It costs what lies from the first dirty position to the last, and not the whole area.
     fn stop(&mut self, choices: &[Choice])
         ensures len { length (memory_now self.new) ≡ length (memory_now self.old) }
         ensures chosen { (k : ℕ) → slice_index_or (memory_now self.new) k 0
@@ -142,8 +158,50 @@ impl Stoppable for MemArea {
         ensures stable { memory_stable self.new ≡ memory_now self.new }
         ensures clean { (k : ℕ) → memory_dirty self.new k ≡ false }
     {
-        choose(&mut self.bytes, &self.stable, &self.dirty, choices);
+        choose(
+            &mut self.bytes,
+            &self.stable,
+            &self.dirty,
+            &self.span,
+            choices,
+        );
         self.make_stable();
+    }
+}
+
+// So many copies of a value.
+fn filled<T: Copy + Drop>(alloc: Global, value: T, len: usize) -> Result<Vec<T>, AllocError>
+    ensures items { IfOk result (λ v. v.items ≡ replicate len value) }
+    ensures memory { OnErr result (0 < len) }
+{
+    let mut copies = Vec::with_capacity(alloc, len)?;
+    copies.resize(len, value)?;
+    Ok(copies)
+}
+
+// The same bytes.
+fn copied(alloc: Global, bytes: &[u8]) -> Result<Vec<u8>, AllocError>
+    ensures items { IfOk result (λ v. v.items ≡ bytes.now) }
+    ensures memory { OnErr result (0 < length bytes.now) }
+{
+    let mut copy = Vec::with_capacity(alloc, bytes.len())?;
+    copy.extend_from_slice(bytes)?;
+    Ok(copy)
+}
+
+// The span of what was dirty, and of `len` positions from one on.
+fn widened(span: &Range<usize>, at: usize, len: usize) -> Range<usize>
+    requires { at + len < 2 ^ 64 }
+    ensures spans { (was later : ℕ → Bool) → IsSpan span.now.start span.now.end was → BecomeDirty at len was later
+        → IsSpan result.start result.end later }
+    ensures within { (limit : ℕ) → span.now.end ≤ limit → at + len ≤ limit → result.end ≤ limit }
+{
+    if len == 0 {
+        span.start..span.end
+    } else if span.is_empty() {
+        at..at + len
+    } else {
+        span.start.min(at)..span.end.max(at + len)
     }
 }
 
@@ -167,10 +225,35 @@ fn mark(dirty: &mut [bool], at: usize, len: usize)
     }
 }
 
-// Takes one choice for each dirty position; the last choice holds for the rest.
-fn choose(bytes: &mut [u8], stable: &[u8], dirty: &[bool], choices: &[Choice])
+// Makes the bytes between these two stable as they read, outside of which they are.
+fn settle(stable: &mut [u8], bytes: &[u8], start: usize, end: usize)
+    requires ordered { start ≤ end }
+    requires within { end ≤ length bytes.now }
+    requires len { length stable.old ≡ length bytes.now }
+    requires before { (k : ℕ) → k < start → slice_index_or stable.old k 0 ≡ slice_index_or bytes.now k 0 }
+    requires after { (k : ℕ) → end ≤ k → slice_index_or stable.old k 0 ≡ slice_index_or bytes.now k 0 }
+    ensures { stable.new ≡ bytes.now }
+{
+    overlay(stable, start, &bytes[start..end]);
+}
+
+// Makes the positions between these two clean, outside of which none is dirty.
+fn clear(dirty: &mut [bool], start: usize, end: usize)
+    requires spans { IsSpan start end (λ k. slice_index_or dirty.old k false) }
+    requires within { end ≤ length dirty.old }
+    ensures len { length dirty.new ≡ length dirty.old }
+    ensures clean { IsClean (λ k. slice_index_or dirty.new k false) }
+{
+    dirty[start..end].fill(false);
+}
+
+// Takes one choice for each dirty position, of which there is none outside of the span; the last choice holds for the
+// rest.
+fn choose(bytes: &mut [u8], stable: &[u8], dirty: &[bool], span: &Range<usize>, choices: &[Choice])
     requires stable { length stable.now ≡ length bytes.old }
     requires dirty { length dirty.now ≡ length bytes.old }
+    requires spans { IsSpan span.now.start span.now.end (λ i. slice_index_or dirty.now i false) }
+    requires within { span.now.end ≤ length bytes.old }
     ensures len { length bytes.new ≡ length bytes.old }
     ensures chosen { (k : ℕ) → slice_index_or bytes.new k 0
         ≡ left_by_stop bytes.old stable.now (λ i. slice_index_or dirty.now i false) choices.now k }
@@ -178,7 +261,7 @@ fn choose(bytes: &mut [u8], stable: &[u8], dirty: &[bool], choices: &[Choice])
 {
     let last = choices.len().saturating_sub(1);
     let mut next = 0;
-    for position in 0..bytes.len() {
+    for position in span.start..span.end {
         if dirty[position] {
             let choice = choices.get(next).copied().unwrap_or(Choice::Keep);
             bytes[position] = choice.left_of(bytes[position], stable[position]);
