@@ -1,12 +1,100 @@
--- How the first gate is closed over all records.
-use Rattle.std.proofs.Common.{◌≡◌, ◌⊎◌, ℕ, ◌+◌, ◌<◌, Bool, false, List, [], ◌∷◌, ◌++◌, length, get_or, drop, refl, ◌∙◌, ap, subst, inl, inr, arith}
-use Rattle.lc_disk.specs.Area.{IsSameOutside, BecomeDirty, overlaid}
-use Rattle.lc_disk.proofs.Images.{torn_byte}
-use Rattle.lc_record.specs.Words.{bytes_of}
+-- How the first gate is closed over whatever stands behind it.
+use Rattle.std.proofs.Common.{◌≡◌, ◌≢◌, ◌↔◌, ℕ, zero, suc, ◌<◌, ◌%◌, Bool, true, false, IsTrue, if◌then◌else◌, List, [], ◌∷◌, ◌++◌, length, slice_index, slice_index_or, drop, refl, sym, ◌∙◌, ap, subst, inl, inr, arith}
+use Rattle.std.proofs.lemmas.Bool.{cases_eq, false≢true}
+use Rattle.lc_disk.specs.Area.{IsImage, IsSameOutside, BecomeDirty, IsClean, overlaid}
+use Rattle.lc_disk.proofs.Images.{image_kept}
+use Rattle.lc_disk.proofs.Outside.{same_after}
+use Rattle.lc_record.specs.Words.{words_of, bytes_of}
 use Rattle.lc_record.specs.declared.record.Record.{Record}
-use Rattle.lc_log.specs.LogText.{joined}
-use Rattle.lc_log.specs.NodeLog.{behind_gate, IsAtRest, IsOpening, IsShut, IsClean, EachImage, IsWithOrWithout}
-use Rattle.lc_log.proofs.StateLemmas.{group_gate, rest_image, opening_image, rest_kept, opening_kept}
+use Rattle.lc_log.specs.LogText.{IsLogText, joined}
+use Rattle.lc_log.specs.NodeLog.{IsAtRest, IsShut, EachImage, IsWithOrWithout}
+use Rattle.lc_log.proofs.LogLemmas.{closed_text}
+use Rattle.lc_log.proofs.StateLemmas.{group_gate}
+
+closed_none : (gate : ℕ) (behind : List ℕ) → gate % 256 ≢ 165 → IsLogText (words_of (gate ∷ behind)) []
+closed_none gate behind closed = closed_text [] gate behind tt closed
+
+first_of : (now : List ℕ) → 0 < length now → now ≡ slice_index now 0 ∷ drop 1 now
+first_of [] long = absurd (omega arith)
+first_of (x ∷ xs) long = refl
+
+first_fits : (now : List ℕ) → ((k : ℕ) → slice_index_or now k 0 < 256) → 0 < length now → slice_index now 0 < 256
+first_fits [] fits long = absurd (omega (arith, long))
+first_fits (x ∷ xs) fits long = fits 0
+
+-- an open gate is written over
+
+module _ (now next : List ℕ) (dirty soiled : ℕ → Bool) (behind : List ℕ) (opens : now ≡ 165 ∷ behind) (same : IsSameOutside 0 1 now next) (soils : BecomeDirty 0 1 dirty soiled) where
+  each_byte : (y : ℕ) (ys : List ℕ) → IsImage next soiled (y ∷ ys) → y ≡ 165 → (k : ℕ) → dirty k ≡ false → slice_index_or (y ∷ ys) k 0 ≡ slice_index_or now k 0
+  each_byte y ys is e zero clean = e ∙ sym (ap (λ (l : List ℕ). slice_index_or l 0 0) opens)
+  each_byte y ys is e (suc k) clean = is.stable (suc k) (soils.after (suc k) (omega arith) ∙ clean) ∙ same_after 0 1 now next same (suc k) (omega arith)
+
+  -- an image where the gate is open is one of before
+  gate_torn : (records : List Record) → EachImage now dirty (λ words. IsLogText words records) → EachImage next soiled (IsWithOrWithout [] records)
+  gate_torn records before [] is = absurd (omega (arith, is.same_length, same.same_length, ap (λ (l : List ℕ). length l) opens))
+  gate_torn records before (y ∷ ys) is = elim (cases_eq y 165) [
+    | inl e ↦ inr (before (y ∷ ys) (record { same_length = is.same_length ∙ same.same_length; bytes = is.bytes; stable = each_byte y ys is e }))
+    | inr other ↦ inl (closed_none y ys (λ z. other (omega (arith, is.bytes 0, z))))
+  ]
+
+module _ (now next : List ℕ) (dirty soiled : ℕ → Bool) where
+  -- a write of no bytes touches nothing
+  pub untouched : IsSameOutside 0 0 now next → BecomeDirty 0 0 dirty soiled → (next ≡ now) × ((k : ℕ) → soiled k ≡ dirty k)
+  untouched same soils = (same.after, λ k. soils.after k (omega arith))
+
+  module _ (records : List Record) (before : EachImage now dirty (λ words. IsLogText words records)) (long : 0 < length now) where
+    none_written : IsSameOutside 0 0 now next → BecomeDirty 0 0 dirty soiled → EachImage next soiled (IsWithOrWithout [] records)
+    none_written same soils image is =
+        let still = untouched same soils in
+        inr (before image (image_kept now next dirty soiled still.0 (λ k clean. still.1 k ∙ clean) image is))
+
+    one_written : slice_index now 0 ≡ 165 → IsSameOutside 0 1 now next → BecomeDirty 0 1 dirty soiled → EachImage next soiled (IsWithOrWithout [] records)
+    one_written is_open same soils = gate_torn now next dirty soiled (drop 1 now) (first_of now long ∙ ap (λ (n : ℕ). n ∷ drop 1 now) is_open) same soils records before
+
+    -- whatever is left of the write
+    pub reset_torn : (is_open : Bool) → IsTrue is_open ↔ (slice_index now 0 ≡ 165) → (bytes : List ℕ) → bytes ≡ (if is_open then 0 ∷ [] else [])
+        → IsSameOutside 0 (length bytes) now next → BecomeDirty 0 (length bytes) dirty soiled → EachImage next soiled (IsWithOrWithout [] records)
+    reset_torn true reads bytes one same soils =
+        let size : length bytes ≡ 1 = ap (λ (l : List ℕ). length l) one in
+        one_written (reads.0 refl) (subst (λ (n : ℕ). IsSameOutside 0 n now next) size same) (subst (λ (n : ℕ). BecomeDirty 0 n dirty soiled) size soils)
+    reset_torn false reads bytes none same soils =
+        let size : length bytes ≡ 0 = ap (λ (l : List ℕ). length l) none in
+        none_written (subst (λ (n : ℕ). IsSameOutside 0 n now next) size same) (subst (λ (n : ℕ). BecomeDirty 0 n dirty soiled) size soils)
+
+    pub reset_written : (is_open : Bool) → IsTrue is_open ↔ (slice_index now 0 ≡ 165) → (bytes : List ℕ) → bytes ≡ (if is_open then 0 ∷ [] else [])
+        → IsSameOutside 0 (length bytes) now next → BecomeDirty 0 (length bytes) dirty soiled
+        → ((k : ℕ) → slice_index_or now k 0 < 256) → next ≡ overlaid now 0 bytes → IsShut next soiled records
+    reset_written true reads bytes one same soils fits lies = record {
+      gate = 0;
+      behind = drop 1 now;
+      text = lies ∙ ap (λ (l : List ℕ). overlaid now 0 l) one;
+      closed = λ z. absurd (omega (arith, z));
+      images = reset_torn true reads bytes one same soils;
+    }
+    reset_written false reads bytes none same soils fits lies = record {
+      gate = slice_index now 0;
+      behind = drop 1 now;
+      text = lies ∙ ap (λ (l : List ℕ). overlaid now 0 l) none ∙ first_of now long;
+      closed = λ z. absurd (false≢true (reads.1 (omega (arith, z, first_fits now fits long))));
+      images = reset_torn false reads bytes none same soils;
+    }
+
+pub reset_over : (now : List ℕ) (dirty later : ℕ → Bool) (records : List Record) → IsShut now dirty records → IsClean later → IsAtRest now later 0 []
+reset_over now dirty later records shut clean = record {
+  gate = shut.gate;
+  behind = shut.behind;
+  text = shut.text;
+  closed = shut.closed;
+  whole = tt;
+  size = refl;
+  clean = λ k _. clean k;
+}
+
+pub shut_kept : (now next : List ℕ) (dirty later : ℕ → Bool) (records : List Record) → next ≡ now → ((k : ℕ) → dirty k ≡ false → later k ≡ false) → IsShut now dirty records
+    → EachImage next later (IsWithOrWithout [] records)
+shut_kept now next dirty later records same kept shut image is = shut.images image (image_kept now next dirty later same kept image is)
+
+-- which gate a log at rest begins with
 
 none_of : (records : List Record) → length (joined records) ≡ 0 → records ≡ []
 none_of [] e = refl
@@ -16,90 +104,20 @@ some_of : (records : List Record) → 0 < length (joined records) → 0 < length
 some_of [] h = absurd (omega (arith, h))
 some_of (r ∷ rs) h = omega arith
 
-module _ (now next : List ℕ) (dirty soiled : ℕ → Bool) (end : ℕ) (stable : List Record) where
-  -- there is nothing to close
-  reset_none : (n : ℕ) → end ≡ 0 → n ≡ 0 → IsAtRest now dirty end stable → IsSameOutside 0 n now next → BecomeDirty 0 n dirty soiled → IsShut next soiled stable
-  reset_none n empty least rest same soils =
+module _ (now : List ℕ) (dirty : ℕ → Bool) (end : ℕ) (stable : List Record) (rest : IsAtRest now dirty end stable) where
+  gate_of_none : end ≡ 0 → slice_index now 0 ≢ 165
+  gate_of_none empty opens =
       let none : stable ≡ [] = none_of stable (rest.size ∙ empty) in
-      let unchanged : next ≡ now = let at_start : 0 + n ≡ 0 = omega (arith, least) in subst (λ (m : ℕ). drop m next ≡ drop m now) at_start same.after in
-      inl (
-        record {
-          gate = rest.gate;
-          behind = rest.behind;
-          text = unchanged ∙ rest.text ∙ ap (λ (rs : List Record). bytes_of (joined rs) ++ rest.gate ∷ rest.behind) none;
-          closed = rest.closed;
-          whole = tt;
-          size = refl;
-          clean = λ k h. soils.after k (omega (arith, least)) ∙ rest.clean k (omega (arith, h));
-        },
-        none,
-      )
+      let text : now ≡ rest.gate ∷ rest.behind = rest.text ∙ ap (λ (rs : List Record). bytes_of (joined rs) ++ rest.gate ∷ rest.behind) none in
+      let same : slice_index now 0 ≡ rest.gate = ap (λ (l : List ℕ). slice_index l 0) text in
+      rest.closed (omega (arith, same, opens))
 
-  -- the first gate at any byte
-  reset_torn : 0 < end → IsAtRest now dirty end stable → IsSameOutside 0 1 now next → BecomeDirty 0 1 dirty soiled → IsOpening (get_or next 0 0) next soiled 0 (length (joined stable)) [] stable
-  reset_torn full rest same soils =
-      let some : 0 < length stable = some_of stable (omega (arith, rest.size)) in
-      let split : now ≡ 165 ∷ (behind_gate stable ++ rest.gate ∷ rest.behind) = rest.text ∙ ap (λ (l : List ℕ). l ++ rest.gate ∷ rest.behind) (group_gate stable some) in
-      record {
-        next_gate = rest.gate;
-        after = rest.behind;
-        text = torn_byte [] 165 (behind_gate stable ++ rest.gate ∷ rest.behind) next 0 refl (subst (λ (l : List ℕ). IsSameOutside 0 1 l next) split same);
-        next_closed = rest.closed;
-        stable_whole = tt;
-        whole = rest.whole;
-        some = some;
-        stable_size = refl;
-        size = refl;
-        clean = λ k h other. soils.after k (omega (arith, other)) ∙ rest.clean k (omega (arith, h, rest.size));
-      }
+  gate_of_some : 0 < end → slice_index now 0 ≡ 165
+  gate_of_some full =
+      let some : 0 < length stable = some_of stable (omega (arith, rest.size, full)) in
+      ap (λ (l : List ℕ). slice_index l 0) (rest.text ∙ ap (λ (l : List ℕ). l ++ rest.gate ∷ rest.behind) (group_gate stable some))
 
-  reset_done : 0 < end → IsAtRest now dirty end stable → next ≡ overlaid now 0 (0 ∷ []) → IsSameOutside 0 1 now next → BecomeDirty 0 1 dirty soiled → IsShut next soiled stable
-  reset_done full rest lies same soils =
-      let zero_first : get_or next 0 0 ≡ 0 = ap (λ (l : List ℕ). get_or l 0 0) lies in
-      inr (get_or next 0 0, (λ z. absurd (omega (arith, zero_first, z))), reset_torn full rest same soils)
-
-pub shut_image : (now : List ℕ) (dirty : ℕ → Bool) (records : List Record) → IsShut now dirty records → EachImage now dirty (IsWithOrWithout [] records)
-shut_image now dirty records (inl rest) image is = inl (rest_image now dirty 0 [] rest.0 image is)
-shut_image now dirty records (inr closing) image is = opening_image closing.0 now dirty 0 (length (joined records)) [] records closing.2 image is
-
-pub reset_over : (now : List ℕ) (dirty later : ℕ → Bool) (records : List Record) → IsShut now dirty records → IsClean later → IsAtRest now later 0 []
-reset_over now dirty later records (inl rest) clean = rest_kept now now dirty later 0 [] refl (λ k _. clean k) rest.0
-reset_over now dirty later records (inr closing) clean = record {
-  gate = closing.0;
-  behind = behind_gate records ++ closing.2.next_gate ∷ closing.2.after;
-  text = closing.2.text;
-  closed = closing.1;
-  whole = tt;
-  size = refl;
-  clean = λ k _. clean k;
-}
-
-pub shut_kept : (now next : List ℕ) (dirty later : ℕ → Bool) (records : List Record) → next ≡ now → ((k : ℕ) → dirty k ≡ false → later k ≡ false) → IsShut now dirty records → IsShut next later records
-shut_kept now next dirty later records same kept (inl rest) = inl (rest_kept now next dirty later 0 [] same kept rest.0, rest.1)
-shut_kept now next dirty later records same kept (inr closing) =
-    inr (closing.0, closing.1, opening_kept now next dirty later 0 [] same kept closing.0 (length (joined records)) records closing.2)
-
-module _ (now next : List ℕ) (dirty soiled : ℕ → Bool) (end : ℕ) (stable : List Record) (bytes : List ℕ) where
-  pub reset_any : ((end ≡ 0) × (bytes ≡ [])) ⊎ ((0 < end) × (bytes ≡ 0 ∷ [])) → IsAtRest now dirty end stable
-      → IsSameOutside 0 (length bytes) now next → BecomeDirty 0 (length bytes) dirty soiled → EachImage next soiled (IsWithOrWithout [] stable)
-  reset_any (inl none) rest same soils =
-      shut_image next soiled stable (reset_none now next dirty soiled end stable (length bytes) none.0 (ap (λ (l : List ℕ). length l) none.1) rest same soils)
-  reset_any (inr one) rest same soils =
-      let long : length bytes ≡ 1 = ap (λ (l : List ℕ). length l) one.1 in
-      opening_image _ next soiled 0 (length (joined stable)) [] stable
-      (reset_torn now next dirty soiled end stable one.0 rest (subst (λ (n : ℕ). IsSameOutside 0 n now next) long same) (subst (λ (n : ℕ). BecomeDirty 0 n dirty soiled) long soils))
-
-  pub reset_written : ((end ≡ 0) × (bytes ≡ [])) ⊎ ((0 < end) × (bytes ≡ 0 ∷ [])) → IsAtRest now dirty end stable → next ≡ overlaid now 0 bytes
-      → IsSameOutside 0 (length bytes) now next → BecomeDirty 0 (length bytes) dirty soiled → IsShut next soiled stable
-  reset_written (inl none) rest lies same soils =
-      reset_none now next dirty soiled end stable (length bytes) none.0 (ap (λ (l : List ℕ). length l) none.1) rest same soils
-  reset_written (inr one) rest lies same soils =
-      let long : length bytes ≡ 1 = ap (λ (l : List ℕ). length l) one.1 in
-      reset_done now next dirty soiled end stable one.0 rest (lies ∙ ap (λ (l : List ℕ). overlaid now 0 l) one.1)
-      (subst (λ (n : ℕ). IsSameOutside 0 n now next) long same) (subst (λ (n : ℕ). BecomeDirty 0 n dirty soiled) long soils)
-
-  -- a write of no bytes touches nothing
-  pub untouched : length bytes ≡ 0 → IsSameOutside 0 (length bytes) now next → BecomeDirty 0 (length bytes) dirty soiled → (next ≡ now) × ((k : ℕ) → soiled k ≡ dirty k)
-  untouched none same soils =
-      let at_start : 0 + length bytes ≡ 0 = omega (arith, none) in
-      (subst (λ (m : ℕ). drop m next ≡ drop m now) at_start same.after, λ k. soils.after k (omega (arith, none)))
+  -- it is open exactly where there is a record
+  pub gate_reads : (is_open : Bool) → IsTrue is_open ↔ (end ≢ 0) → IsTrue is_open ↔ (slice_index now 0 ≡ 165)
+  gate_reads is_open full =
+      ((λ yes. gate_of_some (omega (arith, full.0 yes))), λ opens. full.1 (λ empty. gate_of_none empty opens))

@@ -3,14 +3,14 @@ use Rattle.std.proofs.Common.{◌≡◌, ◌≢◌, ℕ, suc, ◌+◌, ◌*◌, 
 use Rattle.std.proofs.lemmas.Bool.{cases_eq, cases_lt}
 use Rattle.std.specs.Int.{w64, to_le_bytes}
 use Rattle.std.specs.List.{AllByRecursion}
-use Rattle.lc_disk.specs.Area.{IsImage, IsSameOutside, BecomeDirty, overlaid}
+use Rattle.lc_disk.specs.Area.{IsImage, IsSameOutside, BecomeDirty, IsClean, overlaid}
 use Rattle.lc_disk.proofs.Overlaid.{overlaid_behind}
 use Rattle.lc_disk.proofs.Images.{Behind, behind_clean, FirstByte, only_first, torn_behind, torn_byte}
 use Rattle.lc_record.specs.Words.{words_of, bytes_of}
 use Rattle.lc_record.specs.declared.record.Record.{Record}
 use Rattle.lc_record.proofs.WordLemmas.{bytes_of-append, length-bytes_of}
 use Rattle.lc_log.specs.LogText.{IsWhole, IsLogText, joined}
-use Rattle.lc_log.specs.NodeLog.{IsGroup, behind_gate, IsAtRest, IsStaged, IsOpening, IsClean, EachImage, IsWithOrWithout}
+use Rattle.lc_log.specs.NodeLog.{IsGroup, behind_gate, IsAtRest, IsStaged, IsOpening, EachImage, IsWithOrWithout}
 use Rattle.lc_log.proofs.LogLemmas.{closed_text, joined-append, whole-append}
 
 -- a group's first byte is its open gate

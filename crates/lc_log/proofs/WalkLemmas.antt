@@ -1,5 +1,6 @@
 -- The words of bytes, eight at a time.
-use Rattle.std.proofs.Common.{◌≡◌, ℕ, ◌+◌, ◌≤◌, ◌<◌, List, [], ◌∷◌, ◌++◌, map, length, take, drop, refl, sym, ◌∙◌, ap, ap₂, arith, append_assoc, append-nil, length-append, take-append-drop, add-zero, zero-add}
+use Rattle.std.proofs.Common.{◌≡◌, ℕ, ◌+◌, ◌≤◌, ◌<◌, List, [], ◌∷◌, ◌++◌, map, length, take, drop, refl, sym, ◌∙◌, ap, ap₂, inl, inr, arith, append_assoc, append-nil, length-append, take-append-drop, add-zero, zero-add}
+use Rattle.std.proofs.lemmas.Bool.{cases_lt}
 use Rattle.std.proofs.lemmas.List.{drop-drop, length-take-le}
 use Rattle.std.specs.List.{AllByRecursion}
 use Rattle.lc_record.specs.Record.{spelling}
@@ -32,6 +33,13 @@ words_of-short (a ∷ b ∷ c ∷ d ∷ e ∷ []) h = refl
 words_of-short (a ∷ b ∷ c ∷ d ∷ e ∷ f ∷ []) h = refl
 words_of-short (a ∷ b ∷ c ∷ d ∷ e ∷ f ∷ g ∷ []) h = refl
 words_of-short (a ∷ b ∷ c ∷ d ∷ e ∷ f ∷ g ∷ i ∷ xs) h = absurd (omega arith)
+
+-- where there is a word there are its bytes
+pub words_of-some : (xs : List ℕ) → 0 < length (words_of xs) → 8 ≤ length xs
+words_of-some xs some = elim (cases_lt (length xs) 8) [
+  | inl short ↦ absurd (omega (arith, some, ap length (words_of-short xs short)))
+  | inr long ↦ long
+]
 
 pub words_of-eight : (xs : List ℕ) → length xs ≡ 8 → words_of xs ≡ from_le_bytes w64 xs ∷ []
 unfolding words_of

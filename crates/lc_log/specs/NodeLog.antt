@@ -1,7 +1,7 @@
 -- What a log's area reads in each state of its calls, and what a stop may leave of it.
-use Rattle.std.specs.Prelude.{◌≡◌, ◌≢◌, ◌⊎◌, ℕ, ◌+◌, ◌*◌, ◌%◌, ◌<◌, Bool, true, false, List, [], ◌∷◌, ◌++◌, length, drop}
+use Rattle.std.specs.Prelude.{◌≡◌, ◌≢◌, ◌⊎◌, ◌↔◌, ℕ, ◌+◌, ◌*◌, ◌%◌, ◌<◌, Bool, true, false, IsTrue, List, [], ◌∷◌, ◌++◌, length, drop, slice_index}
 use Rattle.std.specs.List.{AllByRecursion}
-use Rattle.lc_disk.specs.Area.{IsImage}
+use Rattle.lc_disk.specs.Area.{IsImage, BecomeDirty, IsClean, overlaid}
 use Rattle.lc_disk.specs.declared.area.Area.{Ghosts}
 use Rattle.lc_record.specs.Words.{words_of, bytes_of}
 use Rattle.lc_record.specs.declared.record.Record.{Record}
@@ -51,14 +51,6 @@ pub record IsOpening (gate : ℕ) (now : List ℕ) (dirty : ℕ → Bool) (end w
   pub size : length (joined group) ≡ words
   pub clean : (k : ℕ) → k < 8 * (end + words) + 1 → k ≢ 8 * end → dirty k ≡ false
 
--- there is no record, or the first gate is closed over all of them
-abbrev pub IsShut : List ℕ → (ℕ → Bool) → List Record → Type 0
-IsShut now dirty records = (IsAtRest now dirty 0 [] × (records ≡ [])) ⊎ ((gate : ℕ) × (gate % 256 ≢ 165) × IsOpening gate now dirty 0 (length (joined records)) [] records)
-
--- no position is dirty
-abbrev pub IsClean : (ℕ → Bool) → Type 0
-IsClean dirty = (k : ℕ) → dirty k ≡ false
-
 -- the words of each image have this
 abbrev pub EachImage : List ℕ → (ℕ → Bool) → (List ℕ → Type 0) → Type 0
 EachImage now dirty P = (image : List ℕ) → IsImage now dirty image → P (words_of image)
@@ -66,6 +58,14 @@ EachImage now dirty P = (image : List ℕ) → IsImage now dirty image → P (wo
 -- the words are the text of the stable records, or of these and the whole group
 abbrev pub IsWithOrWithout : List Record → List Record → List ℕ → Type 0
 IsWithOrWithout stable group words = IsLogText words stable ⊎ IsLogText words (stable ++ group)
+
+-- the first gate reads closed, and each image is the text of all these records or of none
+pub record IsShut (now : List ℕ) (dirty : ℕ → Bool) (records : List Record) : Type 0 where
+  pub gate : ℕ
+  pub behind : List ℕ
+  pub text : now ≡ gate ∷ behind
+  pub closed : gate % 256 ≢ 165
+  pub images : EachImage now dirty (IsWithOrWithout [] records)
 
 -- The same of an area that is honest; `a` is what contracts see of it.
 module _ {D : Type 0} (a : Ghosts D) (area : D) where
@@ -85,6 +85,14 @@ module _ {D : Type 0} (a : Ghosts D) (area : D) where
   abbrev pub IsOpened : ℕ → ℕ → List Record → List Record → Type 0
   IsOpened end words stable group = a.honest area ≡ true → IsOpening 165 (a.now area) (a.dirty area) end words stable group
 
+  -- the words of whatever a stop leaves are the text of these records
+  abbrev pub Holds : List Record → Type 0
+  Holds records = LeavesOnly (λ words. IsLogText words records)
+
+  -- whether its first gate reads open
+  abbrev pub GateReads : Bool → Type 0
+  GateReads is_open = a.honest area ≡ true → IsTrue is_open ↔ (slice_index (a.now area) 0 ≡ 165)
+
   abbrev pub IsClosing : List Record → Type 0
   IsClosing records = a.honest area ≡ true → IsShut (a.now area) (a.dirty area) records
 
@@ -96,3 +104,11 @@ module _ {D : Type 0} (a : Ghosts D) (area : D) where
 pub record Continues {D : Type 0} (a : Ghosts D) (old new : D) : Type 0 where
   pub honest : a.honest new ≡ a.honest old
   pub same_length : length (a.now new) ≡ length (a.now old)
+
+-- of an area that is honest, just these bytes were laid over it from this position on
+abbrev pub Wrote : {D : Type 0} → Ghosts D → ℕ → List ℕ → D → D → Type 0
+Wrote a at bytes old new = a.honest old ≡ true → (a.now new ≡ overlaid (a.now old) at bytes) × BecomeDirty at (length bytes) (a.dirty old) (a.dirty new)
+
+-- of an area that is honest, nothing that is read has changed, and nothing is dirty
+abbrev pub MadeStable : {D : Type 0} → Ghosts D → D → D → Type 0
+MadeStable a old new = a.honest old ≡ true → (a.now new ≡ a.now old) × IsClean (a.dirty new)

@@ -1,8 +1,10 @@
 //! A log whose first gate was closed.
-ghost use Rattle.std.specs.Prelude.{◌≡◌, ℕ, ◌+◌, ◌<◌, ◌≤◌, ◌^◌, List, [], true, false, length, IfOk, IfErr};
+ghost use Rattle.std.specs.Prelude.{◌≡◌, ◌≢◌, ℕ, ◌+◌, ◌<◌, ◌≤◌, ◌^◌, List, [], ◌∷◌, true, false, length, IfOk, IfErr, if◌then◌else◌};
 
 use crate::{Failed, Idle};
 use lc_disk::Area;
+
+const CLOSED_GATE: u8 = 0;
 
 /// A log with a closed first gate, which may be torn. This project's own.
 #[derive(Drop)]
@@ -16,7 +18,42 @@ pub struct Closing<D: Area> {
 impl<D: Area> Closing<D> {
     ghost use Rattle.lc_record.specs.declared.record.Record.{Record};
     ghost use Rattle.lc_log.specs.LogText.{IsLogText};
-    ghost use Rattle.lc_log.specs.NodeLog.{IsClosing, IsIdle, IsWithOrWithout, LeavesOnly, Continues};
+    ghost use Rattle.lc_log.specs.NodeLog.{IsClosing, IsIdle, IsUntouched, IsWithOrWithout, Holds, GateReads, LeavesOnly, Wrote, MadeStable, Continues};
+
+    /// Closes the first gate of an area where it reads open, as the caller has read it; else the call is made with no
+    /// bytes. What stands behind the records may be anything, an open gate too.
+    pub fn begin(area: D, is_open: bool) -> Result<Closing<D>, Failed<D>>
+        requires room { 8 ≤ length (D.now area) }
+
+        ensures closing { IfOk result (λ log. (records : List Record)
+            → GateReads D.Area area is_open → Holds D.Area area records
+            → IsClosing D.Area log.area records) }
+
+        // A stop leaves all the records or none.
+        ensures images { IfOk result (λ log. (records : List Record)
+            → GateReads D.Area area is_open → Holds D.Area area records
+            → LeavesOnly D.Area log.area (IsWithOrWithout [] records)) }
+
+        ensures wrote { IfOk result (λ log. Wrote D.Area 0 (if is_open then 0 ∷ [] else []) area log.area) }
+        ensures device { IfOk result (λ log. Continues D.Area area log.area) }
+        ensures no_cause { IfOk result (λ log. D.failures log.area ≡ D.failures area) }
+
+        ensures failed { IfErr result (λ failed. (records : List Record)
+            → GateReads D.Area area is_open → Holds D.Area area records
+            → LeavesOnly D.Area failed.area (IsWithOrWithout [] records)) }
+
+        ensures failed_untouched { IfErr result (λ failed. is_open ≡ false → IsUntouched D.Area failed.area area) }
+        ensures failed_device { IfErr result (λ failed. Continues D.Area area failed.area) }
+        ensures cause { IfErr result (λ failed. D.failures failed.area ≡ D.failures area + 1) }
+    {
+        // Its length is below 2^64.
+        let _len = area.len();
+        let mut area = area;
+        match area.write_at(0, closing_bytes(is_open)) {
+            Ok(()) => Ok(Closing { area }),
+            Err(_) => Err(Failed { area }),
+        }
+    }
 
     /// Makes the closed gate stable: the log has no record.
     pub fn reset_sync(self) -> Result<Idle<D>, Failed<D>>
@@ -29,7 +66,7 @@ impl<D: Area> Closing<D> {
             → IsClosing D.Area self.area records
             → LeavesOnly D.Area log.area (λ words. IsLogText words [])) }
 
-        ensures stable { IfOk result (λ log. D.honest log.area ≡ true → (k : ℕ) → D.dirty log.area k ≡ false) }
+        ensures stable { IfOk result (λ log. MadeStable D.Area self.area log.area) }
         ensures end { IfOk result (λ log. log.end ≡ 0) }
         ensures device { IfOk result (λ log. Continues D.Area self.area log.area) }
         ensures no_cause { IfOk result (λ log. D.failures log.area ≡ D.failures self.area) }
@@ -48,4 +85,11 @@ impl<D: Area> Closing<D> {
             Err(_) => Err(Failed { area }),
         }
     }
+}
+
+// What is written over a gate to close it: nothing where it reads closed.
+fn closing_bytes(is_open: bool) -> &'static [u8]
+    ensures { result.now ≡ (if is_open then 0 ∷ [] else []) }
+{
+    if is_open { &[CLOSED_GATE] } else { &[] }
 }

@@ -1,13 +1,13 @@
 //! A log at rest, and the calls that begin on it.
-ghost use Rattle.std.specs.Prelude.{◌≡◌, ◌≢◌, ℕ, ◌+◌, ◌*◌, ◌%◌, ◌<◌, ◌≤◌, ◌^◌, ◌++◌, List, [], true, false, length, slice_index, IfOk, IfErr};
+ghost use Rattle.std.specs.Prelude.{◌≡◌, ◌≢◌, ℕ, ◌+◌, ◌*◌, ◌%◌, ◌<◌, ◌≤◌, ◌^◌, ◌++◌, List, [], ◌∷◌, true, false, length, drop, slice_index, ◌==◌, if◌then◌else◌, IfOk, IfErr};
+ghost use Rattle.lc_disk.specs.Area.{IsClean, overlaid};
+ghost use Rattle.lc_record.specs.Words.{bytes_of};
 
 use crate::{Closing, Failed, Written};
 use lc_disk::Area;
 use lc_record::Group;
 
 pub(crate) const WORD_BYTES: usize = 8;
-
-const CLOSED_GATE: u8 = 0;
 
 /// A log with stable records and nothing under way. That a log has the new values alone is RVM's (Satyanarayanan et
 /// al., TOCS 1994); its states and its gates are this project's own.
@@ -24,7 +24,7 @@ pub struct Idle<D: Area> {
 impl<D: Area> Idle<D> {
     ghost use Rattle.lc_record.specs.declared.record.Record.{Record};
     ghost use Rattle.lc_log.specs.LogText.{IsLogText};
-    ghost use Rattle.lc_log.specs.NodeLog.{IsIdle, IsWritten, IsClosing, IsGroup, IsUntouched, IsWithOrWithout, LeavesOnly, Continues};
+    ghost use Rattle.lc_log.specs.NodeLog.{IsIdle, IsWritten, IsClosing, IsGroup, IsUntouched, IsWithOrWithout, LeavesOnly, Wrote, Continues};
 
     /// The log of an area that begins with no open gate, as it will after any stop: it has no record.
     pub fn new(area: D) -> Self
@@ -53,7 +53,11 @@ impl<D: Area> Idle<D> {
             → IsIdle D.Area self.area self.end stable → IsGroup group.now.words records
             → LeavesOnly D.Area log.area (λ words. IsLogText words (stable ++ records))) }
 
-        ensures stable { IfOk result (λ log. D.honest log.area ≡ true → (k : ℕ) → D.dirty log.area k ≡ false) }
+        // The group stands behind the records, with its gate open, and a zero word behind it.
+        ensures wrote { IfOk result (λ log. D.honest self.area ≡ true
+            → D.now log.area ≡ overlaid (D.now self.area) (8 * self.end) (165 ∷ drop 1 (bytes_of (group.now.words ++ 0 ∷ [])))) }
+
+        ensures stable { IfOk result (λ log. D.honest self.area ≡ true → IsClean (D.dirty log.area)) }
         ensures end { IfOk result (λ log. log.end ≡ self.end + length group.now.words) }
         ensures device { IfOk result (λ log. Continues D.Area self.area log.area) }
         ensures no_cause { IfOk result (λ log. D.failures log.area ≡ D.failures self.area) }
@@ -85,6 +89,7 @@ impl<D: Area> Idle<D> {
             → IsIdle D.Area self.area self.end stable
             → LeavesOnly D.Area log.area (λ words. IsLogText words stable)) }
 
+        ensures wrote { IfOk result (λ log. Wrote D.Area (8 * self.end + 1) (drop 1 (bytes_of (group.now.words ++ 0 ∷ []))) self.area log.area) }
         ensures end { IfOk result (λ log. log.end ≡ self.end) }
         ensures words { IfOk result (λ log. log.words ≡ length group.now.words) }
         ensures device { IfOk result (λ log. Continues D.Area self.area log.area) }
@@ -119,7 +124,7 @@ impl<D: Area> Idle<D> {
             → IsIdle D.Area self.area self.end stable
             → LeavesOnly D.Area log.area (IsWithOrWithout [] stable)) }
 
-        ensures untouched { IfOk result (λ log. self.end ≡ 0 → IsUntouched D.Area log.area self.area) }
+        ensures wrote { IfOk result (λ log. Wrote D.Area 0 (if self.end == 0 then [] else 0 ∷ []) self.area log.area) }
         ensures device { IfOk result (λ log. Continues D.Area self.area log.area) }
         ensures no_cause { IfOk result (λ log. D.failures log.area ≡ D.failures self.area) }
 
@@ -131,11 +136,6 @@ impl<D: Area> Idle<D> {
         ensures failed_device { IfErr result (λ failed. Continues D.Area self.area failed.area) }
         ensures cause { IfErr result (λ failed. D.failures failed.area ≡ D.failures self.area + 1) }
     {
-        let Idle { mut area, end } = self;
-        let gate: &[u8] = if end == 0 { &[] } else { &[CLOSED_GATE] };
-        match area.write_at(0, gate) {
-            Ok(()) => Ok(Closing { area }),
-            Err(_) => Err(Failed { area }),
-        }
+        Closing::begin(self.area, self.end != 0)
     }
 }

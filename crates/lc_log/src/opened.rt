@@ -20,7 +20,7 @@ pub struct Opened<D: Area> {
 impl<D: Area> Opened<D> {
     ghost use Rattle.lc_record.specs.declared.record.Record.{Record};
     ghost use Rattle.lc_log.specs.LogText.{IsLogText};
-    ghost use Rattle.lc_log.specs.NodeLog.{IsOpened, IsIdle, IsWithOrWithout, LeavesOnly, Continues};
+    ghost use Rattle.lc_log.specs.NodeLog.{IsOpened, IsIdle, IsWithOrWithout, LeavesOnly, MadeStable, Continues};
 
     /// Makes the open gate stable, and with it the group.
     pub fn sync_gate(self) -> Result<Idle<D>, Failed<D>>
@@ -33,7 +33,7 @@ impl<D: Area> Opened<D> {
             → IsOpened D.Area self.area self.end self.words stable records
             → LeavesOnly D.Area log.area (λ words. IsLogText words (stable ++ records))) }
 
-        ensures stable { IfOk result (λ log. D.honest log.area ≡ true → (k : ℕ) → D.dirty log.area k ≡ false) }
+        ensures stable { IfOk result (λ log. MadeStable D.Area self.area log.area) }
         ensures end { IfOk result (λ log. log.end ≡ self.end + self.words) }
         ensures device { IfOk result (λ log. Continues D.Area self.area log.area) }
         ensures no_cause { IfOk result (λ log. D.failures log.area ≡ D.failures self.area) }

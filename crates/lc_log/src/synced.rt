@@ -1,5 +1,5 @@
 //! A log with a stable group behind its closed gate.
-ghost use Rattle.std.specs.Prelude.{◌≡◌, ℕ, ◌+◌, ◌*◌, ◌<◌, ◌≤◌, ◌^◌, List, length, IfOk, IfErr};
+ghost use Rattle.std.specs.Prelude.{◌≡◌, ℕ, ◌+◌, ◌*◌, ◌<◌, ◌≤◌, ◌^◌, List, [], ◌∷◌, length, IfOk, IfErr};
 
 use crate::idle::WORD_BYTES;
 use crate::{Failed, Opened};
@@ -22,7 +22,7 @@ pub struct Synced<D: Area> {
 
 impl<D: Area> Synced<D> {
     ghost use Rattle.lc_record.specs.declared.record.Record.{Record};
-    ghost use Rattle.lc_log.specs.NodeLog.{IsSynced, IsOpened, IsWithOrWithout, LeavesOnly, Continues};
+    ghost use Rattle.lc_log.specs.NodeLog.{IsSynced, IsOpened, IsWithOrWithout, LeavesOnly, Wrote, Continues};
 
     /// Opens the gate.
     pub fn open_gate(self) -> Result<Opened<D>, Failed<D>>
@@ -35,6 +35,7 @@ impl<D: Area> Synced<D> {
             → IsSynced D.Area self.area self.end self.words stable records
             → LeavesOnly D.Area log.area (IsWithOrWithout stable records)) }
 
+        ensures wrote { IfOk result (λ log. Wrote D.Area (8 * self.end) (165 ∷ []) self.area log.area) }
         ensures end { IfOk result (λ log. log.end ≡ self.end) }
         ensures words { IfOk result (λ log. log.words ≡ self.words) }
         ensures device { IfOk result (λ log. Continues D.Area self.area log.area) }

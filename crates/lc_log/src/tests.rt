@@ -292,3 +292,86 @@ fn a_reset_of_no_record_makes_its_calls(rt: HostRuntime) -> Result<(), Fail> {
     are_dirty(&rt, failed.area.into_area(), 0);
     Ok(())
 }
+
+// A record of nine words: nine bytes at 0 in segment 1.
+const NINE: [u8; 72] = [
+    0xa5, 0x01, 0x01, 0x00, 0x09, 0x00, 0x00, 0x00, //
+    0x00, 0x00, 0x01, 0x00, 0x00, 0x00, 0x00, 0x00, //
+    0x01, 0x00, 0x00, 0x00, 0x00, 0x00, 0x00, 0x00, //
+    0x01, 0x00, 0x00, 0x00, 0x00, 0x00, 0x00, 0x00, //
+    0x01, 0x00, 0x00, 0x00, 0x00, 0x00, 0x00, 0x00, //
+    0x09, 0x00, 0x00, 0x00, 0x00, 0x00, 0x00, 0x00, //
+    0x01, 0x02, 0x03, 0x04, 0x05, 0x06, 0x07, 0x08, //
+    0x09, 0x00, 0x00, 0x00, 0x00, 0x00, 0x00, 0x00, //
+    0x09, 0x00, 0x00, 0x00, 0x00, 0x00, 0x00, 0x00,
+];
+
+// Eight records in 65 words, with no word behind them.
+fn full(alloc: Global) -> Result<Vec<u8>, Fail> {
+    let mut bytes = Vec::from_slice(alloc, &NINE)?;
+    for _ in 0..7 {
+        bytes.extend_from_slice(&HELLO[..64])?;
+    }
+    Ok(bytes)
+}
+
+#[test]
+fn records_may_fill_a_log_to_its_last_word(rt: HostRuntime) -> Result<(), Fail> {
+    let alloc = rt.alloc();
+    let bytes = full(alloc)?;
+    assert_eq!(rt; bytes.len(), LOG_LEN);
+    let found = walk(alloc, &bytes)?;
+    assert_eq!(rt; found.records.len(), 8);
+    assert_eq!(rt; found.end_place, 65);
+    Ok(())
+}
+
+// A reset begun on these bytes, as a recovery begins it.
+fn closing(alloc: Global, bytes: &[u8]) -> Result<Closing<MemArea>, Fail> {
+    if bytes.len() < 8 {
+        return Err(Fail::from("there is a word"));
+    }
+    let area = MemArea::from_bytes(alloc, bytes)?;
+    Ok(
+        Closing::begin(area, bytes[0] == 0xa5)
+            .ok()
+            .ok_or("the gate is closed")?,
+    )
+}
+
+// After a reset that was begun on these bytes nothing is found, and a stop within it leaves this many records or none.
+fn resets(rt: &impl Abort, alloc: Global, bytes: &[u8], count: usize) -> Result<(), Fail> {
+    for (choice, left) in [
+        (Choice::Keep, 0),
+        (Choice::Stable, count),
+        (Choice::Byte(0xa5), count),
+        (Choice::Byte(0), 0),
+    ] {
+        let mut area = closing(alloc, bytes)?.area;
+        area.stop(&[choice]);
+        assert_eq!(rt; walk(alloc, area.bytes())?.records.len(), left);
+    }
+    let log = closing(alloc, bytes)?
+        .reset_sync()
+        .ok()
+        .ok_or("the closed gate is synced")?;
+    assert_eq!(rt; log.end, 0);
+    let mut area = log.area;
+    area.stop(&[Choice::Byte(0xa5)]);
+    assert_eq!(rt; area.bytes().first(), Some(&0));
+    finds(rt, alloc, area.bytes(), 0)
+}
+
+#[test]
+fn a_reset_begins_on_whatever_was_found(rt: HostRuntime) -> Result<(), Fail> {
+    let alloc = rt.alloc();
+    // An open gate over no record.
+    let mut none = [0; 72];
+    none[0] = 0xa5;
+    resets(&rt, alloc, &none, 0)?;
+    // An open gate behind the record.
+    let mut one = HELLO;
+    one[64] = 0xa5;
+    resets(&rt, alloc, &one, 1)?;
+    resets(&rt, alloc, &full(alloc)?, 8)
+}

@@ -1,5 +1,5 @@
 //! The records of a log, read from its front.
-ghost use Rattle.std.specs.Prelude.{◌≡◌, [], ◌∷◌, IfOk, length};
+ghost use Rattle.std.specs.Prelude.{◌≡◌, ◌≤◌, [], ◌∷◌, IfOk, OnErr, length};
 ghost use Rattle.lc_record.specs.Words.{words_of};
 ghost use Rattle.lc_log.specs.LogText.{IsWalk};
 
@@ -10,23 +10,28 @@ use std::alloc::{AllocError, Global};
 const WORD_BYTES: usize = 8;
 
 /// The records of a log's bytes, one behind another, up to the first place where none begins. It is safe on any
-/// bytes; those behind the last whole word are not looked at.
+/// bytes; those behind the last whole word are not looked at, and without a whole word no memory is asked for.
 pub fn walk(alloc: Global, bytes: &[u8]) -> Result<Walk, AllocError>
-    ensures { IfOk result (λ w. IsWalk (words_of bytes.now) w.records.items w.end_place) }
+    ensures walk { IfOk result (λ w. IsWalk (words_of bytes.now) w.records.items w.end_place) }
+    ensures memory { OnErr result (8 ≤ length bytes.now) }
 {
     let words = words_in(alloc, bytes)?;
     let mut records = Vec::new(alloc);
     let mut end_place = 0;
-    while let Some((record, len)) = decode(alloc, &words[end_place..])? {
+    while end_place < words.len() {
+        let Some((record, len)) = decode(alloc, &words[end_place..])? else {
+            break;
+        };
         records.push((end_place, record))?;
         end_place += len;
     }
     Ok(Walk { records, end_place })
 }
 
-/// The whole words of these bytes, the lowest byte of each first.
+/// The whole words of these bytes, the lowest byte of each first. Where there is none no memory is asked for.
 pub fn words_in(alloc: Global, bytes: &[u8]) -> Result<Vec<u64>, AllocError>
-    ensures { IfOk result (λ words. words.items ≡ words_of bytes.now) }
+    ensures words { IfOk result (λ words. words.items ≡ words_of bytes.now) }
+    ensures memory { OnErr result (8 ≤ length bytes.now) }
 {
     let mut words = Vec::with_capacity(alloc, bytes.len() / WORD_BYTES)?;
     let mut rest = bytes;

@@ -20,7 +20,7 @@ pub struct Written<D: Area> {
 impl<D: Area> Written<D> {
     ghost use Rattle.lc_record.specs.declared.record.Record.{Record};
     ghost use Rattle.lc_log.specs.LogText.{IsLogText};
-    ghost use Rattle.lc_log.specs.NodeLog.{IsWritten, IsSynced, LeavesOnly, Continues};
+    ghost use Rattle.lc_log.specs.NodeLog.{IsWritten, IsSynced, LeavesOnly, MadeStable, Continues};
 
     /// Makes the group stable, behind the closed gate.
     pub fn sync_group(self) -> Result<Synced<D>, Failed<D>>
@@ -33,6 +33,7 @@ impl<D: Area> Written<D> {
             → IsWritten D.Area self.area self.end self.words stable records
             → LeavesOnly D.Area log.area (λ words. IsLogText words stable)) }
 
+        ensures stable { IfOk result (λ log. MadeStable D.Area self.area log.area) }
         ensures end { IfOk result (λ log. log.end ≡ self.end) }
         ensures words { IfOk result (λ log. log.words ≡ self.words) }
         ensures device { IfOk result (λ log. Continues D.Area self.area log.area) }

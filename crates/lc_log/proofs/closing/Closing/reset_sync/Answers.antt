@@ -1,6 +1,6 @@
 use Rattle.std.proofs.Common.{◌≡◌, ◌∙◌, sym, true, []}
 use Rattle.lc_log.proofs.StateLemmas.{rest_kept, rest_image}
-use Rattle.lc_log.proofs.ResetLemmas.{reset_over, shut_image, shut_kept}
+use Rattle.lc_log.proofs.ResetLemmas.{reset_over, shut_kept}
 use Rattle.lc_log.proofs.closing.Closing.reset_sync.Goals as goal
 
 pub returns-in-Ok-clause-empty : goal.returns-in-Ok-clause-empty
@@ -19,4 +19,4 @@ pub returns-in-Err-clause-failed : goal.returns-in-Err-clause-failed
 returns-in-Err-clause-failed g c records closing honest =
     let was : g.D.Area.honest c.args.self.area ≡ true = sym c.sync.ensures.honest ∙ honest in
     let h = c.in-Err.ensures in
-    shut_image _ _ records (shut_kept _ _ _ _ records (h.same was) (λ k e. h.same_dirty was k ∙ e) (closing was))
+    shut_kept _ _ _ _ records (h.same was) (λ k e. h.same_dirty was k ∙ e) (closing was)

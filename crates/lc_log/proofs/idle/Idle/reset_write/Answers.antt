@@ -1,28 +1,22 @@
-use Rattle.std.proofs.Common.{◌≡◌, ◌∙◌, ◌⊎◌, ◌<◌, [], ◌∷◌, inl, inr, sym, true, rules}
-use Rattle.lc_log.proofs.ResetLemmas.{reset_any, reset_written}
+use Rattle.std.proofs.Common.{rules}
+use Rattle.std.proofs.lemmas.Result.{IfOk-weaker, MatchResult-weaker}
+use Rattle.lc_log.proofs.StateLemmas.{rest_image}
+use Rattle.lc_log.proofs.ResetLemmas.{gate_reads}
 use Rattle.lc_log.proofs.idle.Idle.reset_write.Goals as goal
-use Rattle.lc_log.proofs.idle.Idle.reset_write.Goals.{then-end-eq0, else-end-eq0}
 
-pub returns-in-Ok-clause-closing : goal.returns-in-Ok-clause-closing
-returns-in-Ok-clause-closing g c stable idle honest =
-    let was : g.D.Area.honest c.args.self.area ≡ true = sym c.write_at.ensures.honest ∙ honest in
-    let h = c.in-Ok.ensures in
-    let choice : ((c.args.self.end ≡ 0) × (c.if-end-eq0.gate.now ≡ [])) ⊎ ((0 < c.args.self.end) × (c.if-end-eq0.gate.now ≡ 0 ∷ [])) =
-    elim c.if-end-eq0.branch [ then-end-eq0 w ↦ inl (search rules, search rules) | else-end-eq0 w ↦ inr (search rules, search rules) ] in
-    reset_written _ _ _ _ _ stable _ choice (idle was) (h.written was) (h.torn was) (h.dirtied was)
+pub returns-clause-closing : goal.returns-clause-closing
+returns-clause-closing g c =
+    IfOk-weaker c.begin.result _ _ (λ log closing stable idle.
+    closing stable (λ honest. gate_reads _ _ _ stable (idle honest) _ (search rules)) (λ honest. rest_image _ _ _ stable (idle honest)))
+    c.begin.ensures.closing
 
-pub returns-in-Ok-clause-images : goal.returns-in-Ok-clause-images
-returns-in-Ok-clause-images g c stable idle honest =
-    let was : g.D.Area.honest c.args.self.area ≡ true = sym c.write_at.ensures.honest ∙ honest in
-    let h = c.write_at.ensures in
-    let choice : ((c.args.self.end ≡ 0) × (c.if-end-eq0.gate.now ≡ [])) ⊎ ((0 < c.args.self.end) × (c.if-end-eq0.gate.now ≡ 0 ∷ [])) =
-    elim c.if-end-eq0.branch [ then-end-eq0 w ↦ inl (search rules, search rules) | else-end-eq0 w ↦ inr (search rules, search rules) ] in
-    reset_any _ _ _ _ _ stable _ choice (idle was) (h.torn was) (h.dirtied was)
+pub returns-clause-images : goal.returns-clause-images
+returns-clause-images g c =
+    IfOk-weaker c.begin.result _ _ (λ log closing stable idle.
+    closing stable (λ honest. gate_reads _ _ _ stable (idle honest) _ (search rules)) (λ honest. rest_image _ _ _ stable (idle honest)))
+    c.begin.ensures.images
 
-pub returns-in-Err-clause-failed : goal.returns-in-Err-clause-failed
-returns-in-Err-clause-failed g c stable idle honest =
-    let was : g.D.Area.honest c.args.self.area ≡ true = sym c.write_at.ensures.honest ∙ honest in
-    let h = c.write_at.ensures in
-    let choice : ((c.args.self.end ≡ 0) × (c.if-end-eq0.gate.now ≡ [])) ⊎ ((0 < c.args.self.end) × (c.if-end-eq0.gate.now ≡ 0 ∷ [])) =
-    elim c.if-end-eq0.branch [ then-end-eq0 w ↦ inl (search rules, search rules) | else-end-eq0 w ↦ inr (search rules, search rules) ] in
-    reset_any _ _ _ _ _ stable _ choice (idle was) (h.torn was) (h.dirtied was)
+pub returns-clause-failed : goal.returns-clause-failed
+returns-clause-failed g c =
+    MatchResult-weaker c.begin.result c.begin.ensures.failed (λ _ t. t) (λ f closing stable idle.
+    closing stable (λ honest. gate_reads _ _ _ stable (idle honest) _ (search rules)) (λ honest. rest_image _ _ _ stable (idle honest)))
