@@ -1,3 +1,4 @@
 pub mod SlotLemmas
 pub mod PageLemmas
 pub mod StateLemmas
+pub mod WritingLemmas

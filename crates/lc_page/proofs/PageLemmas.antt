@@ -1,6 +1,6 @@
 -- Which of two slots is the page.
-use Rattle.std.proofs.Common.{◌≡◌, ◌≢◌, ℕ, ◌<◌, ◌≤◌, ◌^◌, Bool, true, false, cond, leb, ltb, Option, Some, None, List, [], ◌∷◌, length, get_or, set, take, refl, sym, ◌∙◌, ap, arith}
-use Rattle.std.proofs.lemmas.Bool.{ne_eqb, le-leb, le-ltb, lt-ltb}
+use Rattle.std.proofs.Common.{◌≡◌, ◌≢◌, ℕ, ◌<◌, ◌≤◌, ◌^◌, ◌&&◌, Bool, true, false, cond, leb, ltb, Option, Some, None, List, [], ◌∷◌, length, get_or, set, take, refl, sym, ◌∙◌, ap, arith}
+use Rattle.std.proofs.lemmas.Bool.{ne_eqb, leb-true, le-leb, le-ltb, lt-ltb}
 use Rattle.std.proofs.lemmas.Nat.{from_le_bytes-to_le_bytes_8}
 use Rattle.std.proofs.lemmas.List.{take_all}
 use Rattle.lc_page.specs.declared.slot.Slot.{Slot}
@@ -167,3 +167,30 @@ pub written_page : (seq : ℕ) (bytes : List ℕ) → seq ≤ 2 ^ 60 → length 
 written_page seq bytes small long =
     let of : ℕ → List ℕ → Page = λ n l. record { sequence = n; content = l } in
     ap (λ (n : ℕ). of n (take 256 bytes)) (from_le_bytes-to_le_bytes_8 seq (omega arith)) ∙ ap (λ (l : List ℕ). of seq l) (take_all 256 bytes (omega (arith, long)))
+
+-- bounds of a page that is read
+
+both_end : (x y : Bool) → (x && y) ≡ true → y ≡ true
+both_end true y e = e
+both_end false y e = absurd (cc)
+
+open_small : (slot : List ℕ) → is_open slot ≡ true → sequence_of slot ≤ 2 ^ 60
+unfolding is_open
+open_small slot e = leb-true _ _ (both_end _ _ e)
+
+-- the present slot is open
+first_open : (first second newer : Bool) → chosen_slot first second newer ≡ Some First → first ≡ true
+first_open true second newer e = refl
+first_open false true newer e = absurd (cc)
+first_open false false newer e = absurd (cc)
+
+second_open : (first second newer : Bool) → chosen_slot first second newer ≡ Some Second → second ≡ true
+second_open first true newer e = refl
+second_open true false newer e = absurd (cc)
+second_open false false newer e = absurd (cc)
+
+pub first_small : (first second : List ℕ) (newer : Bool) → chosen_slot (is_open first) (is_open second) newer ≡ Some First → sequence_of first ≤ 2 ^ 60
+first_small first second newer e = open_small first (first_open (is_open first) (is_open second) newer e)
+
+pub second_small : (first second : List ℕ) (newer : Bool) → chosen_slot (is_open first) (is_open second) newer ≡ Some Second → sequence_of second ≤ 2 ^ 60
+second_small first second newer e = open_small second (second_open (is_open first) (is_open second) newer e)

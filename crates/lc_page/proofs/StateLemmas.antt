@@ -3,6 +3,7 @@ use Rattle.std.proofs.Common.{◌≡◌, ◌≢◌, ◌⊎◌, ℕ, ◌+◌, ◌
 use Rattle.std.proofs.lemmas.Bool.{cases_eq, cases_lt, eqb-true, eqb-false}
 use Rattle.std.proofs.lemmas.List.{ext_get_or, get_or-drop, get_or_past}
 use Rattle.lc_disk.specs.Area.{IsImage, IsSameOutside, BecomeDirty, overlaid}
+use Rattle.lc_disk.specs.declared.area.Area.{Ghosts}
 use Rattle.lc_page.specs.declared.slot.Slot.{Slot}
 use Rattle.lc_page.specs.declared.slot.Slot.TheVariants.{First, Second}
 use Rattle.lc_page.specs.declared.page_text.PageText.{PageText}
@@ -10,12 +11,12 @@ use Rattle.lc_page.specs.declared.draft.Draft.{Draft}
 use Rattle.lc_page.specs.Slot.{number_of, other, next_slot}
 use Rattle.lc_page.specs.Page.{Page, slot_at, slot_bytes, has_gate, sequence_of, is_open, page_of_slot, present_slot, page_at, page_of, text_of, page_in, text_in}
 use Rattle.lc_page.specs.PageVector.{gate_of, settled_text}
-use Rattle.lc_page.specs.PageWrite.{behind_gate, drafted, alone, IsSlotImage, EachImage, IsSettled, IsNext, IsBegun, IsBeside, IsClosing, IsClosed, IsFilling, IsFilled, IsTorn, IsOpening, IsEither, SameInside, SameOutside}
+use Rattle.lc_page.specs.PageWrite.{behind_gate, closing_bytes, drafted, alone, IsSlotImage, EachImage, IsSettled, IsNext, IsBegun, IsBeside, IsClosing, IsClosed, IsFilling, IsFilled, IsTorn, IsOpening, IsEither, Shows, SameInside, SameOutside, Writes}
 use Rattle.lc_page.proofs.SlotLemmas.{number_small, slot_get, slot_short, slot_length, slot_same_length, slot_fits, slot_image, slot_itself, laid, laid_bytes, laid_image, SameSlot, same_slot, kept_bytes, kept_image, overlaid_get, unwritten, other_kept, outside_kept, nothing_written, all_kept, clean_image, clean_gate, gate_and_behind, behind_image}
 use Rattle.lc_page.proofs.PageLemmas.{shut, only_other, not_present, newer_wins, next_is_free, made_text, gates_get, two, two_here, two_there, each_slot, same_page, same_text, gate_is, two_gates, written_gates, written_open, written_page}
 
 -- each image of an area has this page, where each of the two slots has
-pub area_images : (now : List ℕ) (dirty : ℕ → Bool) (page : ℕ) (P : Page → Type 0) → EachImage now dirty page (λ slots. P (page_of slots)) → (image : List ℕ) → IsImage now dirty image → P (page_in image page)
+area_images : (now : List ℕ) (dirty : ℕ → Bool) (page : ℕ) (P : Page → Type 0) → EachImage now dirty page (λ slots. P (page_of slots)) → (image : List ℕ) → IsImage now dirty image → P (page_in image page)
 area_images now dirty page P each image is = each (slot_bytes image page) (λ slot. slot_image now dirty image page slot is)
 
 -- a page with nothing dirty is settled
@@ -53,6 +54,27 @@ settled_images now dirty page text is image of =
 
 -- what is done beside a page
 
+-- keeps the page and its text
+pub kept_page : (page : ℕ) (now later : List ℕ) (dirty soiled : ℕ → Bool) → SameInside page now dirty later soiled → (page_in later page ≡ page_in now page) × (text_in later page ≡ text_in now page)
+kept_page page now later dirty soiled s =
+    let bytes : (slot : Slot) → slot_bytes later page slot ≡ slot_bytes now page slot = λ slot. kept_bytes page slot now later dirty soiled (same_slot page slot now later dirty soiled s) in
+    (same_page (slot_bytes later page) (slot_bytes now page) bytes, same_text (slot_bytes later page) (slot_bytes now page) bytes)
+
+-- and what a stop may leave of it
+pub kept_images : (page : ℕ) (now later : List ℕ) (dirty soiled : ℕ → Bool) → (2 * page + 2) * 272 ≤ length now → ((k : ℕ) → get_or now k 0 < 256) → SameInside page now dirty later soiled
+    → (image : List ℕ) → IsImage later soiled image → (before : List ℕ) × IsImage now dirty before × (page_in image page ≡ page_in before page) × (text_in image page ≡ text_in before page)
+kept_images page now later dirty soiled room fits s image is =
+    let slots : Slot → List ℕ = slot_bytes image page in
+    let are : (slot : Slot) → IsSlotImage now dirty page slot (slots slot) =
+    λ slot. kept_image page slot now later dirty soiled (same_slot page slot now later dirty soiled s) (slots slot) (slot_image later soiled image page slot is) in
+    let long : (slot : Slot) → length (slots slot) ≡ 272 = λ slot. (are slot).same_length ∙ slot_length now page slot room in
+    let bytes : (slot : Slot) → slots slot ≡ slot_bytes (laid now page slots) page slot = λ slot. sym (laid_bytes now page slots room long slot) in (
+      laid now page slots,
+      laid_image now dirty page slots room fits are,
+      same_page slots (slot_bytes (laid now page slots) page) bytes,
+      same_text slots (slot_bytes (laid now page slots) page) bytes,
+    )
+
 module _ (now later : List ℕ) (dirty soiled : ℕ → Bool) where
   pub kept_settled : (page : ℕ) (text : PageText) → SameInside page now dirty later soiled → IsSettled now dirty page text → IsSettled later soiled page text
   kept_settled page text s is =
@@ -66,7 +88,7 @@ module _ (now later : List ℕ) (dirty soiled : ℕ → Bool) where
       }
 
   module _ (draft : Draft) (text : PageText) (old : Page) where
-    pub kept_beside : SameSlot draft.page (other draft.slot) now dirty later soiled → IsBeside now dirty draft text old → IsBeside later soiled draft text old
+    kept_beside : SameSlot draft.page (other draft.slot) now dirty later soiled → IsBeside now dirty draft text old → IsBeside later soiled draft text old
     kept_beside s is =
         let bytes = kept_bytes draft.page (other draft.slot) now later dirty soiled s in
         record {
@@ -110,7 +132,7 @@ module _ (now later : List ℕ) (dirty soiled : ℕ → Bool) where
       pub kept_filled : IsFilled now dirty draft text old → IsFilled later soiled draft text old
       kept_filled is = record { filling = kept_filling is.filling; clean = λ k above below. s.clean draft.slot k below (is.clean k above below) }
 
-      pub kept_torn : IsTorn now dirty draft text old → IsTorn later soiled draft text old
+      kept_torn : IsTorn now dirty draft text old → IsTorn later soiled draft text old
       kept_torn is = record {
         beside = kept_beside there_same is.beside;
         behind = ap (λ (l : List ℕ). drop 1 l) here_bytes ∙ is.behind;
@@ -123,13 +145,25 @@ module _ (now later : List ℕ) (dirty soiled : ℕ → Bool) where
 -- what a stop leaves
 
 module _ (now : List ℕ) (dirty : ℕ → Bool) (draft : Draft) (text : PageText) (old : Page) where
-  pub closed_images : IsClosed now dirty draft text old → EachImage now dirty draft.page (λ slots. page_of slots ≡ old)
+  closed_images : IsClosed now dirty draft text old → EachImage now dirty draft.page (λ slots. page_of slots ≡ old)
   closed_images is slots are =
       let closed : get_or (slots draft.slot) 0 0 ≢ 165 = λ e. is.closed (sym (clean_gate now dirty draft.page draft.slot (slots draft.slot) is.clean (are draft.slot)) ∙ e) in
       only_other slots draft.slot (shut (slots draft.slot) closed) ∙ is.beside.other_is (slots (other draft.slot)) (are (other draft.slot))
 
+  -- with the gate closed the area reads the old page
+  shut_reads : IsBeside now dirty draft text old → get_or (slot_bytes now draft.page draft.slot) 0 0 ≢ 165 → page_in now draft.page ≡ old
+  shut_reads is closed =
+      only_other (slot_bytes now draft.page) draft.slot (shut (slot_bytes now draft.page draft.slot) closed)
+      ∙ is.other_is (slot_bytes now draft.page (other draft.slot)) (slot_itself now dirty draft.page (other draft.slot) is.fits)
+
+  pub closing_shows : IsClosing now dirty draft text old → Shows now dirty draft.page (λ page. page ≡ old)
+  closing_shows is = record { reads = shut_reads is.beside is.closed; images = area_images now dirty draft.page (λ (page : Page). page ≡ old) is.page_is }
+
+  pub closed_shows : IsClosed now dirty draft text old → Shows now dirty draft.page (λ page. page ≡ old)
+  closed_shows is = record { reads = shut_reads is.beside is.closed; images = area_images now dirty draft.page (λ (page : Page). page ≡ old) (closed_images is) }
+
   -- the page that is written is the newer one
-  pub written_wins : (slots : Slot → List ℕ) → IsNext draft text → old.sequence ≡ text.seq → slots draft.slot ≡ 165 ∷ behind_gate draft.seq draft.bytes
+  written_wins : (slots : Slot → List ℕ) → IsNext draft text → old.sequence ≡ text.seq → slots draft.slot ≡ 165 ∷ behind_gate draft.seq draft.bytes
       → alone (slots (other draft.slot)) ≡ old → (present_slot slots ≡ Some draft.slot) × (page_of slots ≡ drafted draft)
   written_wins slots next seq here there =
       let whole : page_of_slot (slots draft.slot) ≡ drafted draft = ap page_of_slot here ∙ written_page draft.seq draft.bytes next.small next.long in
@@ -139,17 +173,43 @@ module _ (now : List ℕ) (dirty : ℕ → Bool) (draft : Draft) (text : PageTex
       let present : present_slot slots ≡ Some draft.slot = newer_wins slots draft.slot opened below in
       (present, ap (page_at slots) present ∙ whole)
 
-  pub torn_images : (2 * draft.page + 2) * 272 ≤ length now → IsTorn now dirty draft text old → EachImage now dirty draft.page (λ slots. IsEither old (drafted draft) (page_of slots))
-  torn_images room is slots are =
-      let bytes = slot_bytes now draft.page draft.slot in
-      let whole : length bytes ≡ 272 = slot_length now draft.page draft.slot room in
-      let parts : (byte : ℕ) × (slots draft.slot ≡ byte ∷ drop 1 bytes) = behind_image now dirty draft.page draft.slot (slots draft.slot) (omega arith) is.clean (are draft.slot) in
-      let text_here : slots draft.slot ≡ parts.0 ∷ behind_gate draft.seq draft.bytes = parts.1 ∙ ap (λ (l : List ℕ). parts.0 ∷ l) is.behind in
-      let there : alone (slots (other draft.slot)) ≡ old = is.beside.other_is (slots (other draft.slot)) (are (other draft.slot)) in
-      elim (cases_eq parts.0 165) [
-        | inl e ↦ inr (written_wins slots is.beside.next is.beside.sequence (text_here ∙ ap (λ (n : ℕ). n ∷ behind_gate draft.seq draft.bytes) e) there).1
-        | inr closed ↦ inl (only_other slots draft.slot (shut (slots draft.slot) (λ e. closed (sym (ap (λ (l : List ℕ). get_or l 0 0) text_here) ∙ e))) ∙ there)
-      ]
+  -- with any byte at the gate it is the new page or the old one
+  either_wins : (slots : Slot → List ℕ) (byte : ℕ) → IsNext draft text → old.sequence ≡ text.seq → slots draft.slot ≡ byte ∷ behind_gate draft.seq draft.bytes
+      → alone (slots (other draft.slot)) ≡ old → IsEither old (drafted draft) (page_of slots)
+  either_wins slots byte next seq here there = elim (cases_eq byte 165) [
+    | inl e ↦ inr (written_wins slots next seq (here ∙ ap (λ (n : ℕ). n ∷ behind_gate draft.seq draft.bytes) e) there).1
+    | inr closed ↦ inl (only_other slots draft.slot (shut (slots draft.slot) (λ e. closed (sym (ap (λ (l : List ℕ). get_or l 0 0) here) ∙ e))) ∙ there)
+  ]
+
+  module _ (room : (2 * draft.page + 2) * 272 ≤ length now) (is : IsTorn now dirty draft text old) where
+    whole_slot : length (slot_bytes now draft.page draft.slot) ≡ 272
+    whole_slot = slot_length now draft.page draft.slot room
+
+    torn_images : EachImage now dirty draft.page (λ slots. IsEither old (drafted draft) (page_of slots))
+    torn_images slots are =
+        let bytes = slot_bytes now draft.page draft.slot in
+        let parts : (byte : ℕ) × (slots draft.slot ≡ byte ∷ drop 1 bytes) = behind_image now dirty draft.page draft.slot (slots draft.slot) (omega (arith, whole_slot)) is.clean (are draft.slot) in
+        either_wins slots parts.0 is.beside.next is.beside.sequence (parts.1 ∙ ap (λ (l : List ℕ). parts.0 ∷ l) is.behind)
+        (is.beside.other_is (slots (other draft.slot)) (are (other draft.slot)))
+
+    torn_bytes : slot_bytes now draft.page draft.slot ≡ get_or (slot_bytes now draft.page draft.slot) 0 0 ∷ behind_gate draft.seq draft.bytes
+    torn_bytes = gate_and_behind (slot_bytes now draft.page draft.slot) (omega (arith, whole_slot)) ∙ ap (λ (l : List ℕ). get_or (slot_bytes now draft.page draft.slot) 0 0 ∷ l) is.behind
+
+    beside_reads : alone (slot_bytes now draft.page (other draft.slot)) ≡ old
+    beside_reads = is.beside.other_is (slot_bytes now draft.page (other draft.slot)) (slot_itself now dirty draft.page (other draft.slot) is.beside.fits)
+
+    pub torn_shows : Shows now dirty draft.page (IsEither old (drafted draft))
+    torn_shows = record {
+      reads = either_wins (slot_bytes now draft.page) (get_or (slot_bytes now draft.page draft.slot) 0 0) is.beside.next is.beside.sequence torn_bytes beside_reads;
+      images = area_images now dirty draft.page (IsEither old (drafted draft)) torn_images;
+    }
+
+    -- and with the gate open the area reads the new page
+    open_bytes : get_or (slot_bytes now draft.page draft.slot) 0 0 ≡ 165 → slot_bytes now draft.page draft.slot ≡ 165 ∷ behind_gate draft.seq draft.bytes
+    open_bytes gate = torn_bytes ∙ ap (λ (n : ℕ). n ∷ behind_gate draft.seq draft.bytes) gate
+
+    pub open_wins : get_or (slot_bytes now draft.page draft.slot) 0 0 ≡ 165 → (present_slot (slot_bytes now draft.page) ≡ Some draft.slot) × (page_in now draft.page ≡ drafted draft)
+    open_wins gate = written_wins (slot_bytes now draft.page) is.beside.next is.beside.sequence (open_bytes gate) beside_reads
 
 -- the first call
 
@@ -163,7 +223,7 @@ module _ (now : List ℕ) (dirty : ℕ → Bool) (draft : Draft) (text : PageTex
   reads_text : text_in now draft.page ≡ text
   reads_text = settled_reads now dirty draft.page text fits is
 
-  pub settled_beside : IsBeside now dirty draft text (page_in now draft.page)
+  settled_beside : IsBeside now dirty draft text (page_in now draft.page)
   settled_beside = record {
     next = next;
     sequence = ap (λ (t : PageText). t.seq) reads_text;
@@ -181,8 +241,11 @@ module _ (now : List ℕ) (dirty : ℕ → Bool) (draft : Draft) (text : PageTex
         ap alone (sym there) ∙ sym (not_present slots draft.slot (free_slot slots (is.text_is slots are))) ∙ is.page_is slots are;
   }
 
+  reads_open : gate_of text draft.slot ≡ true → get_or (slot_bytes now draft.page draft.slot) 0 0 ≡ 165
+  reads_open gate = eqb-true (get_or (slot_bytes now draft.page draft.slot) 0 0) 165 (gate_is (slot_bytes now draft.page) text reads_text draft.slot ∙ gate)
+
   -- with the gate closed already
-  pub closing_closed : gate_of text draft.slot ≡ false → IsClosing now dirty draft text (page_in now draft.page)
+  closing_closed : gate_of text draft.slot ≡ false → IsClosing now dirty draft text (page_in now draft.page)
   closing_closed closed = record {
     beside = settled_beside;
     closed = eqb-false (get_or (slot_bytes now draft.page draft.slot) 0 0) 165 (gate_is (slot_bytes now draft.page) text reads_text draft.slot ∙ closed);
@@ -194,31 +257,53 @@ module _ (now : List ℕ) (dirty : ℕ → Bool) (draft : Draft) (text : PageTex
     there_kept : SameSlot draft.page (other draft.slot) now dirty later soiled
     there_kept = other_kept draft.page (slot_at draft.page draft.slot) 1 now later dirty soiled same soils draft.slot (omega arith) (omega arith)
 
-    pub closing_beside : IsBeside later soiled draft text (page_in now draft.page)
+    closing_beside : IsBeside later soiled draft text (page_in now draft.page)
     closing_beside = kept_beside now later dirty soiled draft text (page_in now draft.page) there_kept settled_beside
+
+    -- behind the gate all reads as before
+    rest_same : (k : ℕ) → 0 < k → k < 272 → get_or (slot_bytes later draft.page draft.slot) k 0 ≡ get_or (slot_bytes now draft.page draft.slot) k 0
+    rest_same k some below =
+        slot_get later draft.page draft.slot k below
+        ∙ (unwritten draft.page (slot_at draft.page draft.slot) 1 now later dirty soiled same soils (slot_at draft.page draft.slot + k) (inr (omega arith))).0
+        ∙ sym (slot_get now draft.page draft.slot k below)
+
+    rest_clean : (k : ℕ) → 0 < k → dirty (slot_at draft.page draft.slot + k) ≡ false → soiled (slot_at draft.page draft.slot + k) ≡ false
+    rest_clean k some e = (unwritten draft.page (slot_at draft.page draft.slot) 1 now later dirty soiled same soils (slot_at draft.page draft.slot + k) (inr (omega arith))).1 ∙ e
 
     -- an image with the gate open is one of before
     open_before : gate_of text draft.slot ≡ true → (image : List ℕ) → get_or image 0 0 ≡ 165 → IsSlotImage later soiled draft.page draft.slot image → IsSlotImage now dirty draft.page draft.slot image
-    open_before gate image opened of =
-        let reads : get_or (slot_bytes now draft.page draft.slot) 0 0 ≡ 165 =
-        eqb-true (get_or (slot_bytes now draft.page draft.slot) 0 0) 165 (gate_is (slot_bytes now draft.page) text reads_text draft.slot ∙ gate) in
-        let at = slot_at draft.page draft.slot in
-        record {
-          same_length = of.same_length ∙ slot_same_length now later draft.page draft.slot same.same_length;
-          bytes = of.bytes;
-          stable = λ k e. elim (cases_eq k 0) [
-            | inl zero ↦ subst (λ (i : ℕ). get_or image i 0 ≡ get_or (slot_bytes now draft.page draft.slot) i 0) (sym zero) (opened ∙ sym reads)
-            | inr some ↦ elim (cases_lt k 272) [
-              | inl below ↦
-                  let rest = unwritten draft.page at 1 now later dirty soiled same soils (at + k) (inr (omega (arith, some))) in
-                  of.stable k (rest.1 ∙ e) ∙ slot_get later draft.page draft.slot k below ∙ rest.0 ∙ sym (slot_get now draft.page draft.slot k below)
-              | inr past ↦ get_or_past image k 0 (omega (arith, of.same_length, slot_short later draft.page draft.slot))
-                  ∙ sym (get_or_past (slot_bytes now draft.page draft.slot) k 0 (omega (arith, slot_short now draft.page draft.slot)))
-            ]
-          ];
-        }
+    open_before gate image opened of = record {
+      same_length = of.same_length ∙ slot_same_length now later draft.page draft.slot same.same_length;
+      bytes = of.bytes;
+      stable = λ k e. elim (cases_eq k 0) [
+        | inl zero ↦ subst (λ (i : ℕ). get_or image i 0 ≡ get_or (slot_bytes now draft.page draft.slot) i 0) (sym zero) (opened ∙ sym (reads_open gate))
+        | inr some ↦ elim (cases_lt k 272) [
+          | inl below ↦ of.stable k (rest_clean k (omega (arith, some)) e) ∙ rest_same k (omega (arith, some)) below
+          | inr past ↦ get_or_past image k 0 (omega (arith, of.same_length, slot_short later draft.page draft.slot))
+              ∙ sym (get_or_past (slot_bytes now draft.page draft.slot) k 0 (omega (arith, slot_short now draft.page draft.slot)))
+        ]
+      ];
+    }
 
-    pub closing_images : gate_of text draft.slot ≡ true → EachImage later soiled draft.page (λ slots. page_of slots ≡ page_in now draft.page)
+    -- and so is what is read
+    same_open : gate_of text draft.slot ≡ true → get_or (slot_bytes later draft.page draft.slot) 0 0 ≡ 165 → slot_bytes later draft.page draft.slot ≡ slot_bytes now draft.page draft.slot
+    same_open gate opened =
+        ext_get_or 0 (slot_bytes later draft.page draft.slot) (slot_bytes now draft.page draft.slot) (slot_same_length now later draft.page draft.slot same.same_length) (λ k h. elim (cases_eq k 0) [
+          | inl zero ↦ subst (λ (i : ℕ). get_or (slot_bytes later draft.page draft.slot) i 0 ≡ get_or (slot_bytes now draft.page draft.slot) i 0) (sym zero) (opened ∙ sym (reads_open gate))
+          | inr some ↦ rest_same k (omega (arith, some)) (omega (arith, slot_short later draft.page draft.slot))
+        ])
+
+    closing_reads : gate_of text draft.slot ≡ true → page_in later draft.page ≡ page_in now draft.page
+    closing_reads gate =
+        let there : slot_bytes later draft.page (other draft.slot) ≡ slot_bytes now draft.page (other draft.slot) = kept_bytes draft.page (other draft.slot) now later dirty soiled there_kept in
+        elim (cases_eq (get_or (slot_bytes later draft.page draft.slot) 0 0) 165) [
+          | inl opened ↦ same_page (slot_bytes later draft.page) (slot_bytes now draft.page)
+              (each_slot (λ slot. slot_bytes later draft.page slot ≡ slot_bytes now draft.page slot) draft.slot (same_open gate opened) there)
+          | inr closed ↦ only_other (slot_bytes later draft.page) draft.slot (shut (slot_bytes later draft.page draft.slot) closed) ∙ ap alone there
+              ∙ settled_beside.other_is (slot_bytes now draft.page (other draft.slot)) (itself (other draft.slot))
+        ]
+
+    closing_images : gate_of text draft.slot ≡ true → EachImage later soiled draft.page (λ slots. page_of slots ≡ page_in now draft.page)
     closing_images gate slots are = elim (cases_eq (get_or (slots draft.slot) 0 0) 165) [
       | inl opened ↦ is.page_is slots
           (each_slot (λ slot. IsSlotImage now dirty draft.page slot (slots slot)) draft.slot
@@ -227,17 +312,17 @@ module _ (now : List ℕ) (dirty : ℕ → Bool) (draft : Draft) (text : PageTex
       | inr closed ↦ only_other slots draft.slot (shut (slots draft.slot) closed) ∙ closing_beside.other_is (slots (other draft.slot)) (are (other draft.slot))
     ]
 
-    pub closing_open : gate_of text draft.slot ≡ true → get_or (slot_bytes later draft.page draft.slot) 0 0 ≢ 165 → IsClosing later soiled draft text (page_in now draft.page)
+    closing_open : gate_of text draft.slot ≡ true → get_or (slot_bytes later draft.page draft.slot) 0 0 ≢ 165 → IsClosing later soiled draft text (page_in now draft.page)
     closing_open gate closed = record { beside = closing_beside; closed = closed; page_is = closing_images gate }
 
 -- the byte that was laid at a gate
-pub gate_laid : (now later : List ℕ) (page : ℕ) (slot : Slot) (byte : ℕ) → (2 * page + 2) * 272 ≤ length now → later ≡ overlaid now (slot_at page slot) (byte ∷ []) → get_or (slot_bytes later page slot) 0 0 ≡ byte
+gate_laid : (now later : List ℕ) (page : ℕ) (slot : Slot) (byte : ℕ) → (2 * page + 2) * 272 ≤ length now → later ≡ overlaid now (slot_at page slot) (byte ∷ []) → get_or (slot_bytes later page slot) 0 0 ≡ byte
 gate_laid now later page slot byte room lies =
     let small : number_of slot ≤ 1 = number_small slot in
     slot_get later page slot 0 (omega arith) ∙ ap (λ (l : List ℕ). get_or l (slot_at page slot + 0) 0) lies ∙ overlaid_get now (byte ∷ []) (slot_at page slot) 0 (omega arith) (omega arith)
 
 -- the bytes that were laid behind a gate
-pub behind_laid : (now later bytes : List ℕ) (page : ℕ) (slot : Slot) → (2 * page + 2) * 272 ≤ length now → length later ≡ length now → length bytes ≡ 271
+behind_laid : (now later bytes : List ℕ) (page : ℕ) (slot : Slot) → (2 * page + 2) * 272 ≤ length now → length later ≡ length now → length bytes ≡ 271
     → later ≡ overlaid now (slot_at page slot + 1) bytes → drop 1 (slot_bytes later page slot) ≡ bytes
 behind_laid now later bytes page slot room same long lies =
     let small : number_of slot ≤ 1 = number_small slot in
@@ -249,6 +334,10 @@ behind_laid now later bytes page slot room same long lies =
     get_or-drop 1 (slot_bytes later page slot) i 0 ∙ slot_get later page slot (1 + i) (omega arith)
     ∙ ap (λ (k : ℕ). get_or later k 0) place ∙ ap (λ (l : List ℕ). get_or l (slot_at page slot + 1 + i) 0) lies
     ∙ overlaid_get now bytes (slot_at page slot + 1) i (omega arith) (omega arith))
+
+-- a call that laid bytes over a page, by other words for the place and for the bytes
+pub writes_at : {D : Type 0} (a : Ghosts D) (page at to : ℕ) (bytes others : List ℕ) (old new : D) (ok : Bool) → at ≡ to → bytes ≡ others → Writes a page at bytes old new ok → Writes a page to others old new ok
+writes_at a page at to bytes others old new ok place same call = subst (λ (l : List ℕ). Writes a page to l old new ok) same (subst (λ (k : ℕ). Writes a page k bytes old new ok) place call)
 
 -- the second to the sixth call
 
@@ -269,22 +358,16 @@ module _ (now later : List ℕ) (dirty soiled : ℕ → Bool) (draft : Draft) (t
       after : IsOpening later soiled draft text old
       after = kept_opening now later dirty soiled draft text old inside opening
 
-      whole : length (slot_bytes later draft.page draft.slot) ≡ 272
-      whole = slot_length later draft.page draft.slot room
-
       here_is : slot_bytes later draft.page draft.slot ≡ 165 ∷ behind_gate draft.seq draft.bytes
-      here_is = gate_and_behind (slot_bytes later draft.page draft.slot) (omega (arith, whole)) ∙ ap (λ (n : ℕ). n ∷ drop 1 (slot_bytes later draft.page draft.slot)) after.gate ∙ ap (λ (l : List ℕ). 165 ∷ l) after.torn.behind
-
-      there_is : alone (slot_bytes later draft.page (other draft.slot)) ≡ old
-      there_is = after.torn.beside.other_is (slot_bytes later draft.page (other draft.slot)) (slot_itself later soiled draft.page (other draft.slot) after.torn.beside.fits)
+      here_is = open_bytes later soiled draft text old room after.torn after.gate
 
       wins : (present_slot (slot_bytes later draft.page) ≡ Some draft.slot) × (page_in later draft.page ≡ drafted draft)
-      wins = written_wins later soiled draft text old (slot_bytes later draft.page) after.torn.beside.next after.torn.beside.sequence here_is there_is
+      wins = open_wins later soiled draft text old room after.torn after.gate
 
       pub opened_page : page_in later draft.page ≡ drafted draft
       opened_page = wins.1
 
-      pub opened_text : text_in later draft.page ≡ settled_text text draft.seq
+      opened_text : text_in later draft.page ≡ settled_text text draft.seq
       opened_text =
           let slots : Slot → List ℕ = slot_bytes later draft.page in
           let beside = after.torn.beside in
@@ -299,10 +382,18 @@ module _ (now later : List ℕ) (dirty soiled : ℕ → Bool) (draft : Draft) (t
       pub opened_settled : IsSettled later soiled draft.page (settled_text text draft.seq)
       opened_settled = subst (λ (t : PageText). IsSettled later soiled draft.page t) opened_text (clean_settled later soiled draft.page (λ slot k _. clean (slot_at draft.page slot + k)))
 
--- the page after the sixth call, in each image
-pub opened_images : (now : List ℕ) (dirty : ℕ → Bool) (draft : Draft) (text : PageText) → IsSettled now dirty draft.page text → page_in now draft.page ≡ drafted draft
+-- the page after the sixth call
+opened_images : (now : List ℕ) (dirty : ℕ → Bool) (draft : Draft) (text : PageText) → IsSettled now dirty draft.page text → page_in now draft.page ≡ drafted draft
     → EachImage now dirty draft.page (λ slots. page_of slots ≡ drafted draft)
 opened_images now dirty draft text is e slots are = is.page_is slots are ∙ e
+
+pub opened_shows : (now : List ℕ) (dirty : ℕ → Bool) (draft : Draft) (text : PageText) → IsSettled now dirty draft.page text → page_in now draft.page ≡ drafted draft
+    → Shows now dirty draft.page (λ page. page ≡ drafted draft)
+opened_shows now dirty draft text is e = record { reads = e; images = area_images now dirty draft.page (λ (page : Page). page ≡ drafted draft) (opened_images now dirty draft text is e) }
+
+-- what closes a gate
+pub chosen_bytes : (gate : Bool) (bytes : List ℕ) → ((gate ≡ false) × (bytes ≡ [])) ⊎ ((gate ≡ true) × (bytes ≡ 0 ∷ [])) → bytes ≡ closing_bytes gate
+chosen_bytes gate bytes choice = elim choice [ inl none ↦ none.1 ∙ ap closing_bytes (sym none.0) | inr one ↦ one.1 ∙ ap closing_bytes (sym one.0) ]
 
 -- the writes, at a place
 
@@ -325,10 +416,14 @@ module _ (now later : List ℕ) (dirty soiled : ℕ → Bool) (draft : Draft) (a
       none_closing closed none = kept_closing now later dirty soiled draft text (page_in now draft.page) (none_written none)
           (closing_closed now dirty draft text fits is begun.next (sym begun.gate ∙ closed))
 
-      pub first_images : EachImage later soiled draft.page (λ slots. page_of slots ≡ page_in now draft.page)
-      first_images = elim choice [
-        | inl none ↦ (none_closing none.0 none.1).page_is
-        | inr one ↦ closing_images now dirty draft text fits is begun.next later soiled (gate_same one.1) (gate_soils one.1) (sym begun.gate ∙ one.0)
+      pub first_shows : Shows later soiled draft.page (λ page. page ≡ page_in now draft.page)
+      first_shows = elim choice [
+        | inl none ↦ closing_shows later soiled draft text (page_in now draft.page) (none_closing none.0 none.1)
+        | inr one ↦ record {
+          reads = closing_reads now dirty draft text fits is begun.next later soiled (gate_same one.1) (gate_soils one.1) (sym begun.gate ∙ one.0);
+          images = area_images later soiled draft.page (λ (page : Page). page ≡ page_in now draft.page)
+              (closing_images now dirty draft text fits is begun.next later soiled (gate_same one.1) (gate_soils one.1) (sym begun.gate ∙ one.0));
+        }
       ]
 
       pub first_closing : (2 * draft.page + 2) * 272 ≤ length now → later ≡ overlaid now at bytes → IsClosing later soiled draft text (page_in now draft.page)
@@ -397,15 +492,3 @@ module _ (now later : List ℕ) (dirty soiled : ℕ → Bool) (draft : Draft) (a
       torn = fifth_torn text old is;
       gate = gate_laid now later draft.page draft.slot 165 room (subst (λ (k : ℕ). later ≡ overlaid now k (165 ∷ [])) place lies);
     }
-
--- each image of the area, between the calls
-
-module _ (now : List ℕ) (dirty : ℕ → Bool) (draft : Draft) (text : PageText) (old : Page) where
-  pub area_closing : IsClosing now dirty draft text old → (image : List ℕ) → IsImage now dirty image → page_in image draft.page ≡ old
-  area_closing is = area_images now dirty draft.page (λ (page : Page). page ≡ old) is.page_is
-
-  pub area_closed : IsClosed now dirty draft text old → (image : List ℕ) → IsImage now dirty image → page_in image draft.page ≡ old
-  area_closed is = area_images now dirty draft.page (λ (page : Page). page ≡ old) (closed_images now dirty draft text old is)
-
-  pub area_opening : (2 * draft.page + 2) * 272 ≤ length now → IsOpening now dirty draft text old → (image : List ℕ) → IsImage now dirty image → IsEither old (drafted draft) (page_in image draft.page)
-  area_opening room is = area_images now dirty draft.page (IsEither old (drafted draft)) (torn_images now dirty draft text old room is.torn)

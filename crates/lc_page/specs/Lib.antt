@@ -3,3 +3,4 @@ pub mod Page
 pub mod Fault
 pub mod PageVector
 pub mod PageWrite
+pub mod Writing

@@ -1,7 +1,7 @@
 -- What an area reads of a page while it is written, and what a stop may leave of it.
-use Rattle.std.specs.Prelude.{◌≡◌, ◌≢◌, ◌⊎◌, ℕ, ◌+◌, ◌<◌, ◌≤◌, ◌^◌, Bool, true, false, if◌then◌else◌, List, ◌++◌, length, drop, replicate, slice_index_or}
+use Rattle.std.specs.Prelude.{◌≡◌, ◌≢◌, ◌⊎◌, ℕ, ◌+◌, ◌<◌, ◌≤◌, ◌^◌, Bool, true, false, if◌then◌else◌, List, [], ◌∷◌, ◌++◌, length, drop, replicate, slice_index_or}
 use Rattle.std.specs.Int.{w64, to_le_bytes}
-use Rattle.lc_disk.specs.Area.{IsImage}
+use Rattle.lc_disk.specs.Area.{IsImage, IsSameOutside, BecomeDirty, overlaid}
 use Rattle.lc_disk.specs.declared.area.Area.{Ghosts}
 use Rattle.lc_page.specs.declared.slot.Slot.{Slot}
 use Rattle.lc_page.specs.declared.slot.Slot.TheVariants.{First, Second}
@@ -14,6 +14,11 @@ use Rattle.lc_page.specs.PageVector.{gate_of}
 -- what stands behind the gate of a slot with this page
 abbrev pub behind_gate : ℕ → List ℕ → List ℕ
 behind_gate seq bytes = replicate 7 0 ++ to_le_bytes w64 seq ++ bytes
+
+-- what closes a gate: the byte 00 where it reads as open, else nothing
+abbrev pub closing_bytes : Bool → List ℕ
+closing_bytes true = 0 ∷ []
+closing_bytes false = []
 
 -- the page that is written
 abbrev pub drafted : Draft → Page
@@ -91,6 +96,11 @@ pub record IsOpening (now : List ℕ) (dirty : ℕ → Bool) (draft : Draft) (te
   pub torn : IsTorn now dirty draft text old
   pub gate : slice_index_or (slot_bytes now draft.page draft.slot) 0 0 ≡ 165
 
+-- the area reads a page that has this, and whatever a stop leaves has one
+pub record Shows (now : List ℕ) (dirty : ℕ → Bool) (page : ℕ) (P : Page → Type 0) : Type 0 where
+  pub reads : P (page_in now page)
+  pub images : (image : List ℕ) → IsImage now dirty image → P (page_in image page)
+
 -- what others may do to an area beside a page: in its two slots all reads as before, and nothing has become dirty
 pub record SameInside (page : ℕ) (now : List ℕ) (dirty : ℕ → Bool) (later : List ℕ) (soiled : ℕ → Bool) : Type 0 where
   pub same_length : length later ≡ length now
@@ -115,9 +125,13 @@ module _ {D : Type 0} (a : Ghosts D) where
     pub same_length : length (a.now new) ≡ length (a.now old)
     pub counted : a.failures new ≡ (if ok then a.failures old else a.failures old + 1)
 
-  -- a call that writes to one page
-  pub record Writes (page : ℕ) (old new : D) (ok : Bool) : Type 0 where
+  -- a call that lays these bytes over a page, from this position on, and changes nothing else; where it fails, each of
+  -- these positions may read as any byte
+  pub record Writes (page at : ℕ) (bytes : List ℕ) (old new : D) (ok : Bool) : Type 0 where
     pub device : Continues old new ok
+    pub written : a.honest old ≡ true → ok ≡ true → a.now new ≡ overlaid (a.now old) at bytes
+    pub torn : a.honest old ≡ true → IsSameOutside at (length bytes) (a.now old) (a.now new)
+    pub dirtied : a.honest old ≡ true → BecomeDirty at (length bytes) (a.dirty old) (a.dirty new)
     pub others : a.honest old ≡ true → SameOutside page (a.now old) (a.dirty old) (a.now new) (a.dirty new)
 
   -- a call that makes each position stable, or none
@@ -125,6 +139,11 @@ module _ {D : Type 0} (a : Ghosts D) where
     pub device : Continues old new ok
     pub same : a.honest old ≡ true → a.now new ≡ a.now old
     pub dirty : a.honest old ≡ true → (k : ℕ) → a.dirty new k ≡ (if ok then false else a.dirty old k)
+
+  -- what leaves the two slots of a page as they were
+  pub record KeepsPage (page : ℕ) (old new : D) : Type 0 where
+    pub honest : a.honest new ≡ a.honest old
+    pub inside : a.honest old ≡ true → SameInside page (a.now old) (a.dirty old) (a.now new) (a.dirty new)
 
   -- The states, while it is honest.
 
@@ -146,9 +165,9 @@ module _ {D : Type 0} (a : Ghosts D) where
   abbrev pub OpeningIn : D → Draft → PageText → Page → Type 0
   OpeningIn area draft text old = a.honest area ≡ true → IsOpening (a.now area) (a.dirty area) draft text old
 
-  -- while it is honest, a stop leaves a page that has this
-  abbrev pub LeavesPage : D → ℕ → (Page → Type 0) → Type 0
-  LeavesPage area page P = a.honest area ≡ true → (image : List ℕ) → IsImage (a.now area) (a.dirty area) image → P (page_in image page)
+  -- while it is honest, a page has this, as it reads and as a stop leaves it
+  abbrev pub HasPage : D → ℕ → (Page → Type 0) → Type 0
+  HasPage area page P = a.honest area ≡ true → Shows (a.now area) (a.dirty area) page P
 
 -- it is this page, or that
 abbrev pub IsEither : Page → Page → Page → Type 0

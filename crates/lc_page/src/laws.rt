@@ -1,16 +1,35 @@
-//! Laws of the states: what is done beside a page keeps each of them.
-ghost use Rattle.std.specs.Prelude.{◌≡◌, ◌≢◌, ◌+◌, ◌*◌, ◌<◌, ◌≤◌, ℕ, Bool, false, List, length, slice_index_or};
+//! Laws of pages, settled or under way: what is done beside a page keeps it.
+ghost use Rattle.std.specs.Prelude.{◌≡◌, ◌≢◌, ◌+◌, ◌*◌, ◌<◌, ◌≤◌, ℕ, Bool, true, false, List, length, slice_index_or};
 ghost use Rattle.lc_disk.specs.Area.{IsImage};
 ghost use Rattle.lc_page.specs.declared.page_text.PageText.{PageText};
-ghost use Rattle.lc_page.specs.declared.draft.Draft.{Draft};
 ghost use Rattle.lc_page.specs.declared.slot.Slot.{Slot};
 ghost use Rattle.lc_page.specs.Page.{Page, slot_at, page_in, text_in};
-ghost use Rattle.lc_page.specs.PageWrite.{drafted, IsEither, IsSettled, IsClosing, IsClosed, IsFilling, IsFilled, IsOpening, SameInside, SameOutside};
+ghost use Rattle.lc_page.specs.PageWrite.{drafted, IsEither, IsSettled, SameInside, SameOutside, KeepsPage, HasPage};
+ghost use Rattle.lc_page.specs.Writing.{draft_of, calls_of, IsUnderWay};
+ghost use Rattle.lc_page.specs.declared.writing.Writing.{Writing};
+
+use lc_disk::Area;
 
 /// What leaves all outside of one page as it was leaves all inside of another page as it was.
 pub fn other_page_keeps()
     ensures { (page beside : ℕ) (now later : List ℕ) (dirty soiled : ℕ → Bool) → page ≢ beside
         → SameOutside beside now dirty later soiled → SameInside page now dirty later soiled }
+{}
+
+/// A page that is left as it was inside keeps its bytes and its text.
+pub fn same_page_beside()
+    ensures { (page : ℕ) (now later : List ℕ) (dirty soiled : ℕ → Bool) → SameInside page now dirty later soiled
+        → (page_in later page ≡ page_in now page) × (text_in later page ≡ text_in now page) }
+{}
+
+/// And whatever a stop leaves of it a stop may have left before, where the area has both its slots and its bytes are
+/// below 256, as `Area::len` says.
+pub fn same_images_beside()
+    ensures { (page : ℕ) (now later : List ℕ) (dirty soiled : ℕ → Bool) → (2 * page + 2) * 272 ≤ length now
+        → ((k : ℕ) → slice_index_or now k 0 < 256) → SameInside page now dirty later soiled
+        → (image : List ℕ) → IsImage later soiled image
+        → (before : List ℕ) × IsImage now dirty before
+        × (page_in image page ≡ page_in before page) × (text_in image page ≡ text_in before page) }
 {}
 
 /// What keeps all that is read, and makes nothing dirty, as a sync does, leaves all inside of a page as it was.
@@ -47,57 +66,31 @@ pub fn settled_images()
         → (image : List ℕ) → IsImage now dirty image → (text_in image page ≡ text) × (page_in image page ≡ page_in now page) }
 {}
 
-/// After the first call each image has the old page.
-pub fn closing_images()
-    ensures { (now : List ℕ) (dirty : ℕ → Bool) (draft : Draft) (text : PageText) (old : Page) → IsClosing now dirty draft text old
-        → (image : List ℕ) → IsImage now dirty image → page_in image draft.page ≡ old }
-{}
-
-/// After the second call too, and so after the third and the fourth.
-pub fn closed_images()
-    ensures { (now : List ℕ) (dirty : ℕ → Bool) (draft : Draft) (text : PageText) (old : Page) → IsClosed now dirty draft text old
-        → (image : List ℕ) → IsImage now dirty image → page_in image draft.page ≡ old }
-{}
-
-/// After the fifth call each image has the old page or the new one.
-pub fn opening_images()
-    ensures { (now : List ℕ) (dirty : ℕ → Bool) (draft : Draft) (text : PageText) (old : Page)
-        → (2 * draft.page + 2) * 272 ≤ length now → IsOpening now dirty draft text old
-        → (image : List ℕ) → IsImage now dirty image → IsEither old (drafted draft) (page_in image draft.page) }
-{}
-
 /// What is done beside a settled page keeps it settled.
 pub fn keeps_settled()
     ensures { (page : ℕ) (now later : List ℕ) (dirty soiled : ℕ → Bool) (text : PageText)
         → SameInside page now dirty later soiled → IsSettled now dirty page text → IsSettled later soiled page text }
 {}
 
-/// What is done beside a page keeps what holds of it after the first call.
-pub fn keeps_closing()
-    ensures { (now later : List ℕ) (dirty soiled : ℕ → Bool) (draft : Draft) (text : PageText) (old : Page)
-        → SameInside draft.page now dirty later soiled → IsClosing now dirty draft text old → IsClosing later soiled draft text old }
+/// And a page that is under way, under way.
+pub fn others_keep<D: Area>()
+    ensures { (old new : D) (writing : Writing) (text : PageText) (page : Page)
+        → KeepsPage D.Area (draft_of writing).page old new
+        → IsUnderWay D.Area old writing text page → IsUnderWay D.Area new writing text page }
 {}
 
-/// What is done beside a page keeps what holds of it after the second call.
-pub fn keeps_closed()
-    ensures { (now later : List ℕ) (dirty soiled : ℕ → Bool) (draft : Draft) (text : PageText) (old : Page)
-        → SameInside draft.page now dirty later soiled → IsClosed now dirty draft text old → IsClosed later soiled draft text old }
-{}
+/// Of a page that is under way, the area and each image have the old page before the fifth call. After it the area reads
+/// the new page, and each image has the old one or the new one.
+pub fn page_under_way<D: Area>()
+    ensures old { (area : D) (writing : Writing) (text : PageText) (old : Page) → calls_of writing < 5
+        → IsUnderWay D.Area area writing text old
+        → HasPage D.Area area (draft_of writing).page (λ page. page ≡ old) }
 
-/// What is done beside a page keeps what holds of it after the third call.
-pub fn keeps_filling()
-    ensures { (now later : List ℕ) (dirty soiled : ℕ → Bool) (draft : Draft) (text : PageText) (old : Page)
-        → SameInside draft.page now dirty later soiled → IsFilling now dirty draft text old → IsFilling later soiled draft text old }
-{}
+    ensures either { (area : D) (writing : Writing) (text : PageText) (old : Page)
+        → (2 * (draft_of writing).page + 2) * 272 ≤ length (D.now area) → IsUnderWay D.Area area writing text old
+        → HasPage D.Area area (draft_of writing).page (IsEither old (drafted (draft_of writing))) }
 
-/// What is done beside a page keeps what holds of it after the fourth call.
-pub fn keeps_filled()
-    ensures { (now later : List ℕ) (dirty soiled : ℕ → Bool) (draft : Draft) (text : PageText) (old : Page)
-        → SameInside draft.page now dirty later soiled → IsFilled now dirty draft text old → IsFilled later soiled draft text old }
-{}
-
-/// What is done beside a page keeps what holds of it after the fifth call.
-pub fn keeps_opening()
-    ensures { (now later : List ℕ) (dirty soiled : ℕ → Bool) (draft : Draft) (text : PageText) (old : Page)
-        → SameInside draft.page now dirty later soiled → IsOpening now dirty draft text old → IsOpening later soiled draft text old }
+    ensures reads { (area : D) (writing : Writing) (text : PageText) (old : Page) → calls_of writing ≡ 5
+        → (2 * (draft_of writing).page + 2) * 272 ≤ length (D.now area) → IsUnderWay D.Area area writing text old
+        → D.honest area ≡ true → page_in (D.now area) (draft_of writing).page ≡ drafted (draft_of writing) }
 {}

@@ -11,14 +11,15 @@ mod page_vector;
 mod page_write;
 mod reading;
 mod slot;
+mod writing;
 
 pub use draft::Draft;
 pub use entry::Entry;
 pub use fault::PageFault;
 pub use laws::{
-    closed_images, closing_images, keeps_closed, keeps_closing, keeps_filled, keeps_filling,
-    keeps_opening, keeps_settled, opening_images, other_page_keeps, settled_from_images,
-    settled_images, settled_reads, settled_when_clean, sync_keeps,
+    keeps_settled, other_page_keeps, others_keep, page_under_way, same_images_beside,
+    same_page_beside, settled_from_images, settled_images, settled_reads, settled_when_clean,
+    sync_keeps,
 };
 pub use limits::{GREATEST_SEQUENCE, PAGE_BYTES, SLOT_BYTES, has_page, is_sequence};
 pub use page_text::PageText;
@@ -26,6 +27,7 @@ pub use page_vector::PageVector;
 pub use page_write::{Begun, Closed, Closing, Filled, Filling, Opening, PageWrite};
 pub use reading::{page_bytes, read_page};
 pub use slot::Slot;
+pub use writing::Writing;
 
 #[cfg(test)]
 mod tests;

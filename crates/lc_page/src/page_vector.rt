@@ -1,5 +1,5 @@
 //! What a node keeps of the pages of a segment.
-ghost use Rattle.std.specs.Prelude.{◌≡◌, ◌-◌, ◌<◌, ◌^◌, ◌↔◌, IsTrue, IfOk, length, map, slice_set};
+ghost use Rattle.std.specs.Prelude.{◌≡◌, ◌-◌, ◌<◌, ◌^◌, ◌↔◌, IsTrue, IfOk, OnErr, length, map, slice_set};
 
 use crate::{Entry, PageText, Slot};
 use std::alloc::{AllocError, Global};
@@ -24,9 +24,10 @@ impl Model for PageVector {
 impl PageVector {
     ghost use Rattle.lc_page.specs.PageVector.{new_entry, entry_at, is_dirty, held, released, touched_at, settled};
 
-    /// The entries of pages that are read like these.
+    /// The entries of pages that are read like these. Of no page they take no memory.
     pub fn new(alloc: Global, texts: &[PageText]) -> Result<PageVector, AllocError>
-        ensures { IfOk result (λ v. v ≡ map new_entry texts.now) }
+        ensures entries { IfOk result (λ v. v ≡ map new_entry texts.now) }
+        ensures no_memory { OnErr result (0 < length texts.now) }
     {
         let mut entries = Vec::with_capacity(alloc, texts.len())?;
         for text in texts {

@@ -1,10 +1,10 @@
 //! A page write: six calls of the device, one from each state to the next.
-ghost use Rattle.std.specs.Prelude.{◌≡◌, ◌+◌, ◌*◌, ◌<◌, ◌≤◌, ◌^◌, ◌↔◌, ℕ, true, false, length, is_ok, IsOk, IfOk, IfErr, OnOk, OnErr};
+ghost use Rattle.std.specs.Prelude.{◌≡◌, ◌+◌, ◌*◌, ◌<◌, ◌≤◌, ◌^◌, ◌↔◌, ℕ, true, false, [], ◌∷◌, length, is_ok, IsOk, IfOk, IfErr, OnOk, OnErr};
 ghost use Rattle.lc_page.specs.declared.page_text.PageText.{PageText};
 ghost use Rattle.lc_page.specs.Slot.{next_slot};
-ghost use Rattle.lc_page.specs.Page.{Page, page_in};
+ghost use Rattle.lc_page.specs.Page.{Page, slot_at, page_in};
 ghost use Rattle.lc_page.specs.PageVector.{entry_at, entry_text, settled_text};
-ghost use Rattle.lc_page.specs.PageWrite.{IsBegun, drafted, Writes, Syncs, SettledIn, ClosingIn, ClosedIn, FillingIn, FilledIn, OpeningIn, LeavesPage, IsEither};
+ghost use Rattle.lc_page.specs.PageWrite.{IsBegun, drafted, closing_bytes, behind_gate, Writes, Syncs, SettledIn, ClosingIn, ClosedIn, FillingIn, FilledIn, OpeningIn, HasPage, IsEither};
 
 use crate::limits::{GATE_CLOSED, GATE_OPEN};
 use crate::{Draft, PageFault, PageVector};
@@ -108,15 +108,16 @@ impl PageWrite<Begun> {
             → ClosingIn D.Area area.new self.draft text (page_in (D.now area.old) self.draft.page)) }
 
         // After a fault too.
-        ensures images { (text : PageText) → IsBegun self.draft self.state.gate text
+        ensures page { (text : PageText) → IsBegun self.draft self.state.gate text
             → SettledIn D.Area area.old self.draft.page text
-            → LeavesPage D.Area area.new self.draft.page (λ page. page ≡ page_in (D.now area.old) self.draft.page) }
+            → HasPage D.Area area.new self.draft.page (λ page. page ≡ page_in (D.now area.old) self.draft.page) }
 
         // A closed gate is not closed again.
         ensures nothing { self.state.gate ≡ false → D.honest area.old ≡ true
             → (k : ℕ) → D.dirty area.new k ≡ D.dirty area.old k }
 
-        ensures others { Writes D.Area self.draft.page area.old area.new (is_ok result) }
+        ensures call { Writes D.Area self.draft.page (slot_at self.draft.page self.draft.slot) (closing_bytes self.state.gate)
+            area.old area.new (is_ok result) }
         ensures fault { IfErr result (λ f. f ≡ PageFault.DeviceFault) }
     {
         let PageWrite { draft, state } = self;
@@ -140,10 +141,10 @@ impl PageWrite<Closing> {
             → ClosedIn D.Area area.new self.draft text old) }
 
         // After a fault too.
-        ensures images { (text : PageText) (old : Page) → ClosingIn D.Area area.old self.draft text old
-            → LeavesPage D.Area area.new self.draft.page (λ page. page ≡ old) }
+        ensures page { (text : PageText) (old : Page) → ClosingIn D.Area area.old self.draft text old
+            → HasPage D.Area area.new self.draft.page (λ page. page ≡ old) }
 
-        ensures others { Syncs D.Area area.old area.new (is_ok result) }
+        ensures call { Syncs D.Area area.old area.new (is_ok result) }
         ensures fault { IfErr result (λ f. f ≡ PageFault.DeviceFault) }
     {
         let PageWrite { draft, state: _ } = self;
@@ -168,10 +169,11 @@ impl PageWrite<Closed> {
             → FillingIn D.Area area.new self.draft text old) }
 
         // After a fault too.
-        ensures images { (text : PageText) (old : Page) → ClosedIn D.Area area.old self.draft text old
-            → LeavesPage D.Area area.new self.draft.page (λ page. page ≡ old) }
+        ensures page { (text : PageText) (old : Page) → ClosedIn D.Area area.old self.draft text old
+            → HasPage D.Area area.new self.draft.page (λ page. page ≡ old) }
 
-        ensures others { Writes D.Area self.draft.page area.old area.new (is_ok result) }
+        ensures call { Writes D.Area self.draft.page (slot_at self.draft.page self.draft.slot + 1)
+            (behind_gate self.draft.seq self.draft.bytes) area.old area.new (is_ok result) }
         ensures fault { IfErr result (λ f. f ≡ PageFault.DeviceFault) }
     {
         let PageWrite { draft, state: _ } = self;
@@ -194,10 +196,10 @@ impl PageWrite<Filling> {
             → FilledIn D.Area area.new self.draft text old) }
 
         // After a fault too.
-        ensures images { (text : PageText) (old : Page) → FillingIn D.Area area.old self.draft text old
-            → LeavesPage D.Area area.new self.draft.page (λ page. page ≡ old) }
+        ensures page { (text : PageText) (old : Page) → FillingIn D.Area area.old self.draft text old
+            → HasPage D.Area area.new self.draft.page (λ page. page ≡ old) }
 
-        ensures others { Syncs D.Area area.old area.new (is_ok result) }
+        ensures call { Syncs D.Area area.old area.new (is_ok result) }
         ensures fault { IfErr result (λ f. f ≡ PageFault.DeviceFault) }
     {
         let PageWrite { draft, state: _ } = self;
@@ -222,10 +224,11 @@ impl PageWrite<Filled> {
             → OpeningIn D.Area area.new self.draft text old) }
 
         // After a fault too.
-        ensures images { (text : PageText) (old : Page) → FilledIn D.Area area.old self.draft text old
-            → LeavesPage D.Area area.new self.draft.page (IsEither old (drafted self.draft)) }
+        ensures page { (text : PageText) (old : Page) → FilledIn D.Area area.old self.draft text old
+            → HasPage D.Area area.new self.draft.page (IsEither old (drafted self.draft)) }
 
-        ensures others { Writes D.Area self.draft.page area.old area.new (is_ok result) }
+        ensures call { Writes D.Area self.draft.page (slot_at self.draft.page self.draft.slot) (165 ∷ [])
+            area.old area.new (is_ok result) }
         ensures fault { IfErr result (λ f. f ≡ PageFault.DeviceFault) }
     {
         let PageWrite { draft, state: _ } = self;
@@ -247,16 +250,13 @@ impl PageWrite<Opening> {
         ensures settled { OnOk result ((text : PageText) (old : Page) → OpeningIn D.Area area.old self.draft text old
             → SettledIn D.Area area.new self.draft.page (settled_text text self.draft.seq)) }
 
-        ensures written { OnOk result ((text : PageText) (old : Page) → OpeningIn D.Area area.old self.draft text old
-            → D.honest area.new ≡ true → page_in (D.now area.new) self.draft.page ≡ drafted self.draft) }
-
-        ensures images { OnOk result ((text : PageText) (old : Page) → OpeningIn D.Area area.old self.draft text old
-            → LeavesPage D.Area area.new self.draft.page (λ page. page ≡ drafted self.draft)) }
+        ensures page { OnOk result ((text : PageText) (old : Page) → OpeningIn D.Area area.old self.draft text old
+            → HasPage D.Area area.new self.draft.page (λ page. page ≡ drafted self.draft)) }
 
         ensures failed { OnErr result ((text : PageText) (old : Page) → OpeningIn D.Area area.old self.draft text old
-            → LeavesPage D.Area area.new self.draft.page (IsEither old (drafted self.draft))) }
+            → HasPage D.Area area.new self.draft.page (IsEither old (drafted self.draft))) }
 
-        ensures others { Syncs D.Area area.old area.new (is_ok result) }
+        ensures call { Syncs D.Area area.old area.new (is_ok result) }
         ensures fault { IfErr result (λ f. f ≡ PageFault.DeviceFault) }
     {
         match area.sync() {

@@ -1,5 +1,5 @@
 //! What an area holds of a page.
-ghost use Rattle.std.specs.Prelude.{◌≡◌, ◌+◌, ◌*◌, ◌≤◌, ◌==◌, length, nat_lt};
+ghost use Rattle.std.specs.Prelude.{◌≡◌, ◌+◌, ◌*◌, ◌≤◌, ◌^◌, ◌==◌, length, nat_lt};
 ghost use Rattle.std.specs.List.{list_all};
 ghost use Rattle.lc_page.specs.Page.{slot_bytes, has_gate, sequence_of, content_of, is_open, page_in, text_in, chosen_slot};
 
@@ -39,7 +39,8 @@ fn sequence(slot: &[u8]) -> u64
 // The page of a slot.
 fn content(slot: &[u8]) -> &[u8]
     requires { length slot.now ≡ 272 }
-    ensures { result.now ≡ content_of slot.now }
+    ensures bytes { result.now ≡ content_of slot.now }
+    ensures len { length result.now ≡ 256 }
 {
     &slot[16..SLOT_BYTES]
 }
@@ -83,7 +84,8 @@ fn present(first: &[u8], second: &[u8]) -> Option<Slot>
 /// sequence 0. The area has both slots of the page: `has_page` tests it. Two slots with a gate are this project's own.
 pub fn read_page(bytes: &[u8], page: u32) -> PageText
     requires { (2 * page + 2) * 272 ≤ length bytes.now }
-    ensures { result ≡ text_in bytes.now page }
+    ensures text { result ≡ text_in bytes.now page }
+    ensures small { result.seq ≤ 2 ^ 60 }
 {
     let first = slot_of(bytes, page, Slot::First);
     let second = slot_of(bytes, page, Slot::Second);
@@ -104,7 +106,8 @@ pub fn read_page(bytes: &[u8], page: u32) -> PageText
 /// page.
 pub fn page_bytes(bytes: &[u8], page: u32) -> &[u8]
     requires { (2 * page + 2) * 272 ≤ length bytes.now }
-    ensures { result.now ≡ (page_in bytes.now page).content }
+    ensures bytes { result.now ≡ (page_in bytes.now page).content }
+    ensures len { length result.now ≡ 256 }
 {
     let first = slot_of(bytes, page, Slot::First);
     let second = slot_of(bytes, page, Slot::Second);

@@ -1,4 +1,4 @@
-ghost use Rattle.std.specs.Prelude.{◌≡◌, ◌+◌, ◌*◌, ◌≤◌, length};
+ghost use Rattle.std.specs.Prelude.{◌≡◌, ◌+◌, ◌*◌, ◌≤◌, ◌^◌, length};
 
 use crate::*;
 use lc_disk::{Area, Choice, Fuse, MemArea, Stoppable, When};
@@ -35,31 +35,22 @@ fn write_page<D: Area>(area: &mut D, write: PageWrite<Begun>) -> Result<(), u8>
 }
 
 // The first calls of a write, so many of them.
-fn begin_writing<D: Area>(area: &mut D, write: PageWrite<Begun>, calls: u8) -> Result<(), PageFault>
+fn begin_writing<D: Area>(
+    area: &mut D,
+    write: PageWrite<Begun>,
+    calls: u8,
+) -> Result<Option<Writing>, PageFault>
     requires { (2 * write.draft.page + 2) * 272 ≤ length (D.now area.old) }
     ensures { length (D.now area.new) ≡ length (D.now area.old) }
 {
-    let closing = write.close_gate(area)?;
-    if calls == 1 {
-        return Ok(());
+    let mut writing = Writing::begin(write, area)?;
+    for _ in 1..calls {
+        match writing.step(area)? {
+            Some(next) => writing = next,
+            None => return Ok(None),
+        }
     }
-    let closed = closing.sync_closed(area)?;
-    if calls == 2 {
-        return Ok(());
-    }
-    let filling = closed.fill(area)?;
-    if calls == 3 {
-        return Ok(());
-    }
-    let filled = filling.sync_filled(area)?;
-    if calls == 4 {
-        return Ok(());
-    }
-    let opening = filled.open_gate(area)?;
-    if calls == 5 {
-        return Ok(());
-    }
-    opening.sync_open(area)
+    Ok(Some(writing))
 }
 
 // Two pages of zeros.
@@ -209,7 +200,14 @@ fn check_stop(rt: &impl Abort, alloc: Global, calls: u8, choice: Choice) -> Resu
     assert!(rt; write_page(&mut area, write).is_ok());
     pages.settle(1, 9);
     let write = PageWrite::begin(&pages, 1, &[0xaa; 256], 10)?;
-    begin_writing(&mut area, write, calls)?;
+    let writing = begin_writing(&mut area, write, calls)?;
+    match writing {
+        Some(writing) => {
+            assert_eq!(rt; writing.calls(), calls);
+            assert_eq!(rt; writing.draft().seq, 10);
+        }
+        None => assert_eq!(rt; calls, 6),
+    }
     area.stop(&[choice]);
     let bytes = area.bytes();
     assert_eq!(rt; bytes.len(), AREA_BYTES);
@@ -246,6 +244,37 @@ fn a_call_that_fails_ends_the_write(rt: HostRuntime) -> Result<(), Fail> {
         assert_eq!(rt; area.faults(), 1);
     }
     Ok(())
+}
+
+// Writes page 1, and makes one more call, which fails.
+fn check_calls(rt: &impl Abort, alloc: Global, bytes: &[u8], seq: u64) -> Result<(), Fail>
+    requires len { length bytes.now ≡ 1088 }
+    requires seq { seq ≤ 2 ^ 60 }
+{
+    let pages = PageVector::new(alloc, &[read_page(bytes, 0), read_page(bytes, 1)])?;
+    assert_eq!(rt; pages.len(), 2);
+    let area = MemArea::from_bytes(alloc, bytes)?;
+    let mut area = Fuse::new(area, When::At(7));
+    let write = PageWrite::begin(&pages, 1, &[0xaa; 256], seq)?;
+    assert_eq!(rt; write_page(&mut area, write), Ok(()));
+    assert_eq!(rt; area.faults(), 0);
+    assert!(rt; area.sync().is_err());
+    Ok(())
+}
+
+#[test]
+fn a_write_makes_six_calls(rt: HostRuntime) -> Result<(), Fail> {
+    let mut bytes = [0; AREA_BYTES];
+    check_calls(&rt, rt.alloc(), &bytes, 10)?;
+    // Number 7 stands in the first slot of page 1, number 9 in the second.
+    bytes[544] = 0xa5;
+    bytes[552] = 7;
+    bytes[816] = 0xa5;
+    bytes[824] = 9;
+    check_calls(&rt, rt.alloc(), &bytes, 10)?;
+    // And in the first slot a gate that stays open over a malformed number.
+    bytes[559] = 0xff;
+    check_calls(&rt, rt.alloc(), &bytes, 10)
 }
 
 #[test]
