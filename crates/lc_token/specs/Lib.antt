@@ -2,5 +2,7 @@ pub mod Fault
 pub mod Backlog
 pub mod HoldBack
 pub mod Token
+pub mod Standing
 pub mod TokenPlace
+pub mod Lending
 pub mod Calls

@@ -1,7 +1,8 @@
 -- How far the pages of a segment on the disk have come.
-use Rattle.std.specs.Prelude.{◌≡◌, ◌⊎◌, ℕ, ◌<◌, ◌≤◌, ◌^◌, true, min, Option, Some, None, List, length}
+use Rattle.std.specs.Prelude.{◌≡◌, ◌⊎◌, ℕ, ◌<◌, ◌≤◌, ◌^◌, true, max, min, Option, Some, None, List, length, slice_set}
 use Rattle.lc_page.specs.declared.entry.Entry.{Entry}
-use Rattle.lc_page.specs.PageVector.{entry_at, is_dirty}
+use Rattle.lc_page.specs.PageVector.{entry_at, is_dirty, settled}
+use Rattle.lc_token.specs.declared.token.Token.{Token}
 
 -- the page is one of these, and dirty; a page's number has 32 bits
 abbrev pub IsDirtyPage : List Entry → ℕ → Type 0
@@ -30,3 +31,13 @@ IsReached seq pages reached = (AreClean pages × (reached ≡ seq)) ⊎ IsLeastS
 abbrev pub least_with : Option ℕ → ℕ → ℕ
 least_with None number = number
 least_with (Some least) number = min least number
+
+-- the token once a page was written under a number: the page is settled, and `clean` has come to what the pages on the
+-- disk have reached, if that is more
+pub record IsWritten (old : Token) (page number : ℕ) (new : Token) : Type 0 where
+  pub pages : new.pages ≡ slice_set old.pages page (settled (entry_at old.pages page) number)
+  pub reached : ℕ
+  pub is_reached : IsReached old.seq new.pages reached
+  pub clean : new.clean ≡ max old.clean reached
+  pub segment : new.segment ≡ old.segment
+  pub seq : new.seq ≡ old.seq

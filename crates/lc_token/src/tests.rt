@@ -63,6 +63,21 @@ fn records_out_of_order_are_applied_in_order(rt: HostRuntime) -> Result<(), Fail
     Ok(())
 }
 
+#[test]
+fn a_hundred_records_in_descending_order(rt: HostRuntime) -> Result<(), Fail> {
+    let alloc = rt.alloc();
+    let mut hold_back = HoldBack::new(alloc, 1, 0);
+    for seq in (2..=100).rev() {
+        assert_eq!(rt; receive(&mut hold_back, alloc, seq)?, Received::HeldBack);
+    }
+    assert_eq!(rt; receive(&mut hold_back, alloc, 1)?, Received::Applied(100));
+    for seq in 1..=100 {
+        assert_eq!(rt; next_number(&mut hold_back), Some(seq));
+    }
+    assert_eq!(rt; next_number(&mut hold_back), None);
+    Ok(())
+}
+
 // The text of a fault, and once more where there was no memory.
 fn says(rt: &impl Abort, alloc: Global, fault: TokenFault, text: &str) -> Result<(), Fail> {
     let said = match format!(in alloc; "{fault}") {
@@ -130,10 +145,11 @@ fn a_token_is_written_leaves_and_arrives(rt: HostRuntime) -> Result<(), Fail> {
         Err(_) => token_of(alloc)?,
     };
     let mut place = TokenPlace::new(1, Some(token));
-    let token = place.token_mut().ok_or("the token stands there")?;
-    assert_eq!(rt; token.pages.len(), 1);
-    token.pages.touch(0, 4);
-    token.written(0, 4);
+    let pages = place.pages_mut();
+    assert_eq!(rt; pages.len(), 1);
+    pages.touch(0, 4);
+    place.written(0, 4);
+    let token = place.token().ok_or("the token stands there")?;
     assert_eq!(rt; token.clean, 5);
     let token = place.leave(false, false, 8, 8)?;
     let mut hold_back = HoldBack::new(alloc, 1, 4);

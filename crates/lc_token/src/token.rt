@@ -1,7 +1,6 @@
 //! What says which node may change a segment.
 ghost use Rattle.std.specs.Prelude.{◌≡◌, ◌<◌, ℕ, length, max, slice_set};
-ghost use Rattle.lc_page.specs.PageVector.{entry_at, settled};
-ghost use Rattle.lc_token.specs.Token.{IsOldestDirty, IsReached, least_with};
+ghost use Rattle.lc_token.specs.Token.{IsOldestDirty, least_with};
 
 use lc_page::PageVector;
 
@@ -20,14 +19,13 @@ pub struct Token {
 }
 
 impl Token {
+    ghost use Rattle.lc_token.specs.Token.{IsWritten};
+
     /// Notes that a page was written under a number: `clean` rises to the least number that a dirty page has on the
     /// disk, and where no page is dirty to the token's own. It takes no memory. This project's own.
     pub fn written(&mut self, page: u32, number: u64)
         requires { page < length self.old.pages }
-        ensures pages { self.new.pages ≡ slice_set self.old.pages page (settled (entry_at self.old.pages page) number) }
-        ensures clean { (reached : ℕ) × IsReached self.old.seq self.new.pages reached × (self.new.clean ≡ max self.old.clean reached) }
-        ensures segment { self.new.segment ≡ self.old.segment }
-        ensures seq { self.new.seq ≡ self.old.seq }
+        ensures { IsWritten self.old page number self.new }
     {
         self.pages.settle(page, number);
         let reached = oldest_dirty(&self.pages).unwrap_or(self.seq);

@@ -1,19 +1,36 @@
 //! The place of a segment's token at a node.
-ghost use Rattle.std.specs.Prelude.{◌≡◌, ◌<◌, ◌≤◌, ◌↔◌, true, false, [], IfOk, IsOk, IsSome, IsTrue, OnOk, OnErr};
+ghost use Rattle.std.specs.Prelude.{◌≡◌, ◌+◌, ◌<◌, ◌≤◌, ◌^◌, ◌↔◌, true, false, [], length, IfOk, IsOk, IsSome, IsSomeAnd, IsTrue, OnOk, OnErr};
 ghost use Rattle.std.specs.Option.{ForSome, option_copied, option_copied_mut};
 ghost use Rattle.std.specs.Borrow.{sem};
-ghost use Rattle.lc_token.specs.TokenPlace.{LendsToken};
 
 use crate::{HoldBack, Token, TokenFault};
+use lc_page::PageVector;
+use std::marker::Model;
 
-/// The place of one segment's token at a node: the token stands there, or it is empty.
+/// The place of one segment's token at a node: the token stands there, or it is empty. Contracts see it as a `Standing`.
+/// A token that stands there is of the segment.
 #[derive(Debug, Drop)]
 pub struct TokenPlace {
     segment: u32,
     token: Option<Token>,
 }
 
+impl Model for TokenPlace {
+    ghost use Rattle.lc_token.specs.Standing.{Standing};
+
+    ghost Value = { Standing };
+
+    ghost use Rattle.lc_token.specs.TokenPlace.{standing_of, HasItsToken};
+
+    ghost view = { standing_of };
+
+    ghost invariant = { HasItsToken };
+}
+
 impl TokenPlace {
+    ghost use Rattle.lc_token.specs.Token.{IsWritten};
+    ghost use Rattle.lc_token.specs.Lending.{LendsPages};
+
     /// The place of a segment, with its token or without.
     pub fn new(segment: u32, token: Option<Token>) -> TokenPlace
         requires { ForSome token (λ t. t.segment ≡ segment) }
@@ -30,19 +47,44 @@ impl TokenPlace {
         self.segment
     }
 
-    /// The token that stands here.
+    /// The token that stands here, which is of the place's segment.
     pub fn token(&self) -> Option<&Token>
-        ensures { option_copied result ≡ self.now.token }
+        ensures token { option_copied result ≡ self.now.token }
+        ensures segment { ForSome self.now.token (λ t. t.segment ≡ self.now.segment) }
     {
         self.token.as_ref()
     }
 
-    /// The token that stands here, to be changed.
-    pub fn token_mut(&mut self) -> Option<&mut Token>
-        ensures* writes_back { sem 𝓛 (LendsToken self.entry result) }
-        ensures token { option_copied_mut result ≡ self.old.token }
+    /// What is kept of the pages of the token that stands here, to be changed.
+    pub fn pages_mut(&mut self) -> &mut PageVector
+        requires { IsSome self.old.token }
+        ensures* writes_back { sem 𝓛 (LendsPages self.entry result) }
+        ensures pages { ForSome self.old.token (λ t. result.now ≡ t.pages) }
     {
-        self.token.as_mut()
+        let token = self.token.as_mut().unwrap();
+        &mut token.pages
+    }
+
+    /// Counts a record of the segment that is closed here: the token's number rises by one. A token stands here, and has
+    /// not used its last number, 2^60. It takes no memory.
+    pub fn count_record(&mut self)
+        requires { IsSomeAnd self.old.token (λ t. t.seq < 2 ^ 60) }
+        ensures { ForSome self.old.token (λ t. self.new ≡ record self.old { token = Some (record t { seq = t.seq + 1 }) }) }
+    {
+        if let Some(token) = &mut self.token {
+            token.seq += 1;
+        }
+    }
+
+    /// Notes that a page was written under a number, as `Token::written` does; a token stands here. It takes no memory.
+    pub fn written(&mut self, page: u32, number: u64)
+        requires { IsSomeAnd self.old.token (λ t. page < length t.pages) }
+        ensures token { ForSome self.old.token (λ t. IsSomeAnd self.new.token (λ u. IsWritten t page number u)) }
+        ensures segment { self.new.segment ≡ self.old.segment }
+    {
+        if let Some(token) = &mut self.token {
+            token.written(page, number);
+        }
     }
 
     /// Whether no token stands here.
@@ -74,6 +116,7 @@ impl TokenPlace {
         ensures done { IsOk result
             ↔ (IsSome self.old.token × (held ≡ false) × (writing ≡ false) × (reserved ≤ stable)) }
         ensures token { IfOk result (λ token. self.old.token ≡ Some token) }
+        ensures segment { IfOk result (λ token. token.segment ≡ self.old.segment) }
         ensures empty { OnOk result (self.new ≡ record self.old { token = None }) }
         ensures err { OnErr result (self.new ≡ self.old) }
     {
