@@ -1,12 +1,13 @@
 -- A set's runs after a range more.
-use Rattle.std.proofs.Common.{◌≡◌, ℕ, ◌+◌, suc, ◌<◌, ◌≤◌, true, false, inl, refl, List, [], ◌∷◌, ◌++◌, length, take, drop, eqb, sym, subst, ap, ◌∙◌, arith, length-append, length-take, length-drop}
+use Rattle.std.proofs.Common.{◌≡◌, ◌⊎◌, ℕ, ◌+◌, zero, suc, ◌<◌, ◌≤◌, true, false, inl, inr, refl, List, [], ◌∷◌, ◌++◌, length, take, drop, eqb, sym, subst, ap, ◌∙◌, arith, length-append, length-take, length-drop}
 use Rattle.std.specs.Prelude.{◌↔◌, Result, Ok, Err, OnOk, IsOk}
 use Rattle.std.specs.Result.{is_err}
-use Rattle.std.proofs.lemmas.Bool.{eqb-true, eq-eqb}
-use Rattle.lc_range.specs.RangeSet.{Has, IsCanonical, EndWithin, AddsPositions, NeedsRunsAbove}
+use Rattle.std.proofs.lemmas.Bool.{cases_eq, cases_lt, eqb-true, eq-eqb}
+use Rattle.lc_range.specs.Range.{HasPosition}
+use Rattle.lc_range.specs.RangeSet.{Has, IsCanonical, EndWithin, AddsPositions, MissesSome, NeedsRunsAbove}
 use Rattle.lc_range.specs.Walk.{merged, some_holds}
 use Rattle.lc_range.specs.declared.range.Range.{Range}
-use Rattle.lc_range.proofs.SetLemmas.{adds_merged, canonical_merged, ends_merged, needs_above, above_needs, held, holds_from}
+use Rattle.lc_range.proofs.SetLemmas.{one_canonical, adds_merged, canonical_merged, ends_merged, needs_above, above_needs, held, holds_from}
 
 module _ (old : List Range) (range : Range) (new : List Range) (c : IsCanonical old) (some : 1 ≤ range.len) (same : new ≡ merged range old) where
   pub adds : AddsPositions old range.segment range.offset range.len new
@@ -59,3 +60,46 @@ ok_gives (Err y) e p = absurd cc
 pub err_is_not_ok : {T E : Type 0} (r : Result T E) → is_err r ≡ true → IsOk r → ⊥
 err_is_not_ok (Ok x) e p = cc
 err_is_not_ok (Err y) e p = cc
+
+-- Positions that a set misses
+
+has_position : (range : Range) (s k : ℕ) → HasPosition range s k ⊎ (HasPosition range s k → ⊥)
+has_position range s k = elim (cases_eq s range.segment) [
+  | inr other ↦ inr (λ has. other has.0)
+  | inl same ↦ elim (cases_lt k range.offset) [
+    | inl before ↦ inr (λ has. omega (arith, before, has.1))
+    | inr low ↦ elim (cases_lt k (range.offset + range.len)) [ inl high ↦ inl (same, low, high) | inr behind ↦ inr (λ has. omega (arith, behind, has.2)) ]
+  ]
+]
+
+has_or_not : (runs : List Range) (s k : ℕ) → Has runs s k ⊎ (Has runs s k → ⊥)
+has_or_not [] s k = inr (λ never. never)
+has_or_not (run ∷ runs) s k = elim (has_position run s k) [
+  | inl here ↦ inl (inl here)
+  | inr not_here ↦ elim (has_or_not runs s k) [ inl later ↦ inl (inr later) | inr not_later ↦ inr (λ has. elim has [ inl here ↦ not_here here | inr later ↦ not_later later ]) ]
+]
+
+all_or_some : (runs : List Range) (s offset len : ℕ) → ((k : ℕ) → offset ≤ k → k < offset + len → Has runs s k) ⊎ MissesSome runs s offset len
+all_or_some runs s offset zero = inl (λ k low high. absurd (omega (arith, low, high)))
+all_or_some runs s offset (suc n) = elim (all_or_some runs s offset n) [
+  | inr some ↦ inr (some.0, some.1, omega (arith, some.2), some.3)
+  | inl all ↦ elim (has_or_not runs s (offset + n)) [
+    | inr not ↦ inr (offset + n, omega arith, omega arith, not)
+    | inl last ↦ inl (λ k low high. elim (cases_lt k (offset + n)) [
+      | inl before ↦ all k low before
+      | inr behind ↦ (let same : offset + n ≡ k = omega (arith, behind, high) in subst (λ (j : ℕ). Has runs s j) same last)
+    ])
+  ]
+]
+
+-- a set that needs more runs misses some of the positions
+pub needs_misses : (runs : List Range) (s offset len : ℕ) → IsCanonical runs → NeedsRunsAbove (length runs) runs s offset len → MissesSome runs s offset len
+needs_misses runs s offset len c needs = elim (all_or_some runs s offset len) [
+  | inr some ↦ some
+  | inl all ↦
+      let same : needs.0 ≡ runs = one_canonical needs.0 runs needs.1 c (λ r k. (
+        λ has. elim ((needs.2 r k).0 has) [ inl old ↦ old | inr new ↦ subst (λ (n : ℕ). Has runs n k) (sym new.0) (all k new.1 new.2) ],
+        λ has. (needs.2 r k).1 (inl has),
+      )) in
+      absurd (omega (arith, needs.3, ap length same))
+]

@@ -1,8 +1,8 @@
 -- The parts of a range that no run has.
-use Rattle.std.proofs.Common.{◌≡◌, ◌⊎◌, ℕ, ◌+◌, ◌-◌, ◌<◌, ◌≤◌, true, false, eqb, ltb, ◌&&◌, List, [], ◌∷◌, ◌++◌, refl, sym, ap, subst, ◌∙◌, inl, inr, arith}
+use Rattle.std.proofs.Common.{◌≡◌, ◌⊎◌, ℕ, ◌+◌, ◌-◌, ◌<◌, ◌≤◌, true, false, eqb, ltb, ◌&&◌, List, [], ◌∷◌, ◌++◌, length, refl, sym, ap, subst, ◌∙◌, inl, inr, arith}
 use Rattle.std.proofs.lemmas.Bool.{cond_both, and_parts, and_cases, eqb-true, eqb-false, ltb-true, ltb-false, cases_lt}
 use Rattle.lc_range.specs.Range.{HasPosition}
-use Rattle.lc_range.specs.RangeSet.{Has, LiesBefore, IsCanonical, EndWithin, AreOutside, total_len}
+use Rattle.lc_range.specs.RangeSet.{Has, LiesBefore, IsCanonical, EndWithin, AreOutside, MissesSome, total_len}
 use Rattle.lc_range.specs.Copies.{AreSome}
 use Rattle.lc_range.specs.Walk.{piece, is_in_way, parts}
 use Rattle.lc_range.specs.declared.range.Range.{Range}
@@ -185,3 +185,10 @@ parts_are runs slice s offset len bound xs items same c fits one two =
       ends = ends_weaker (parts s offset (offset + len) runs) (offset + len) bound fits (parts_end s offset (offset + len) runs);
       total = omega (arith, total-parts s offset (offset + len) runs);
     })
+
+-- the first of these parts begins at a position that is not in the set
+pub misses_some : (set xs : List Range) (s offset len : ℕ) → AreOutside set s offset len xs → IsCanonical xs → 1 ≤ length xs → MissesSome set s offset len
+misses_some set [] s offset len outside c some = absurd (omega (arith, some))
+misses_some set (x ∷ xs) s offset len outside c some =
+    let is = (outside x.segment x.offset).0 (inl (refl, omega arith, omega (arith, c.0))) in
+    (x.offset, is.1, is.2, subst (λ (n : ℕ). Has set n x.offset → ⊥) is.0 is.3)

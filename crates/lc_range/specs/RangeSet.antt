@@ -34,6 +34,10 @@ abbrev pub NeedsRunsAbove : ℕ → List Range → ℕ → ℕ → ℕ → Type 
 NeedsRunsAbove n old segment offset len =
     (runs : List Range) × IsCanonical runs × AddsPositions old segment offset len runs × (n < length runs)
 
+-- some of len positions from offset on is not in the set
+abbrev pub MissesSome : List Range → ℕ → ℕ → ℕ → Type 0
+MissesSome set segment offset len = (k : ℕ) × (offset ≤ k) × (k < offset + len) × (Has set segment k → ⊥)
+
 -- the positions of these runs are those of len from offset on that are not in the set
 abbrev pub AreOutside : List Range → ℕ → ℕ → ℕ → List Range → Type 0
 AreOutside set segment offset len runs =

@@ -8,7 +8,8 @@ use crate::Range;
 use crate::outside::total_len;
 use std::alloc::AllocError;
 
-/// Adds these ranges, and the bytes that an image has there. Where there is no memory, the lists are as before.
+/// Adds these ranges, and the bytes that an image has there; no range takes no memory. Where there is no memory, the
+/// lists are as before.
 pub fn keep(
     ranges: &mut Vec<Range>,
     bytes: &mut Vec<u8>,
@@ -20,7 +21,11 @@ pub fn keep(
     ensures ranges { OnOk result (ranges.new.items ≡ ranges.old.items ++ parts.now) }
     ensures bytes { OnOk result (bytes.new.items ≡ bytes.old.items ++ cut image.now parts.now) }
     ensures err { OnErr result ((ranges.new.items ≡ ranges.old.items) × (bytes.new.items ≡ bytes.old.items)) }
+    ensures memory { OnErr result (1 ≤ length parts.now) }
 {
+    if parts.is_empty() {
+        return Ok(());
+    }
     ranges.reserve(parts.len())?;
     bytes.reserve(total_len(parts))?;
     ranges.extend_from_slice(parts).unwrap();

@@ -1,5 +1,5 @@
 //! The parts of a range that a set does not have.
-ghost use Rattle.std.specs.Prelude.{◌≡◌, ◌+◌, ◌-◌, ◌^◌, ◌<◌, ◌≤◌, ◌++◌, IfOk, OnOk};
+ghost use Rattle.std.specs.Prelude.{◌≡◌, ◌+◌, ◌-◌, ◌^◌, ◌<◌, ◌≤◌, ◌++◌, length, IfOk, OnOk, OnErr};
 ghost use Rattle.lc_range.specs.RangeSet.{EndWithin, total_len};
 ghost use Rattle.lc_range.specs.Walk.{is_in_way, parts, piece};
 
@@ -7,7 +7,8 @@ use crate::Range;
 use smallvec::SmallVec;
 use std::alloc::{AllocError, Global};
 
-/// The parts of `len` positions of a segment, from `offset` on, that no run has.
+/// The parts of `len` positions of a segment, from `offset` on, that no run has. It takes memory only where there are
+/// parts, and more than 8.
 pub fn outside(
     alloc: Global,
     runs: &[Range],
@@ -16,7 +17,8 @@ pub fn outside(
     len: u32,
 ) -> Result<SmallVec<Range, 8>, AllocError>
     requires { EndWithin runs.now (2 ^ 32 - 1) }
-    ensures { IfOk result (λ v. v.items ≡ parts segment offset (offset + len) runs.now) }
+    ensures parts { IfOk result (λ v. v.items ≡ parts segment offset (offset + len) runs.now) }
+    ensures memory { OnErr result (1 ≤ length (parts segment offset (offset + len) runs.now)) }
 {
     let to = u64::from(offset) + u64::from(len);
     let mut from = offset;
@@ -47,7 +49,8 @@ fn push_piece(
     to: u64,
 ) -> Result<(), AllocError>
     requires { to < from + 2 ^ 32 }
-    ensures { OnOk result (ranges.new.items ≡ ranges.old.items ++ piece segment from to) }
+    ensures pushed { OnOk result (ranges.new.items ≡ ranges.old.items ++ piece segment from to) }
+    ensures memory { OnErr result (from < to) }
 {
     if u64::from(from) < to {
         ranges.push(Range {

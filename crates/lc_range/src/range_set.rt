@@ -1,6 +1,6 @@
 //! The positions that a transaction has set.
 ghost use Rattle.std.specs.Prelude.{◌≡◌, ◌+◌, ◌-◌, ◌^◌, ◌<◌, ◌≤◌, ◌↔◌, ℕ, [], false, length, Err, IsTrue, OnOk, OnErr};
-ghost use Rattle.lc_range.specs.RangeSet.{Has, IsCanonical, EndWithin, AddsPositions, NeedsRunsAbove};
+ghost use Rattle.lc_range.specs.RangeSet.{Has, IsCanonical, EndWithin, AddsPositions, MissesSome, NeedsRunsAbove};
 
 use crate::runs::{is_touched, replace, some_holds, touched};
 use crate::{Range, RangeFault};
@@ -68,6 +68,7 @@ impl RangeSet {
         // Memory is wanted only for one run more, beside 8 at least.
         ensures no_memory { result ≡ Err RangeFault.NoMemory
             → (8 ≤ length self.old) × NeedsRunsAbove (length self.old) self.old segment offset len }
+        ensures misses { result ≡ Err RangeFault.NoMemory → MissesSome self.old segment offset len }
     {
         if len == 0 {
             return Err(RangeFault::EmptyRange);
@@ -109,19 +110,15 @@ impl RangeSet {
     }
 
     /// Whether each of `len` positions of a segment, from `offset` on, is in the set.
-    pub fn covers(&self, segment: u32, offset: u32, len: usize) -> bool
+    pub fn covers(&self, segment: u32, offset: u32, len: u32) -> bool
         ensures { IsTrue result ↔ ((k : ℕ) → offset ≤ k → k < offset + len → Has self.now segment k) }
     {
-        let runs = self.runs.as_slice();
-        let Ok(len) = u32::try_from(len) else {
-            return false;
-        };
         let range = Range {
             segment,
             offset,
             len,
         };
-        len == 0 || some_holds(runs, &range)
+        len == 0 || some_holds(self.runs.as_slice(), &range)
     }
 
     /// The runs, ascending by segment and offset, disjoint, and none next to another of its segment.

@@ -1,6 +1,6 @@
 //! The old bytes of a transaction, which an abort puts back.
 ghost use Rattle.std.specs.Prelude.{◌≡◌, ◌+◌, ◌≤◌, ℕ, [], length, take, slice_index, unwrap_or, OnOk, OnErr};
-ghost use Rattle.lc_range.specs.RangeSet.{CountsOutside};
+ghost use Rattle.lc_range.specs.RangeSet.{CountsOutside, MissesSome};
 ghost use Rattle.lc_range.specs.Undo.{KeepsOld, LiesBelow, bytes_kept, kept};
 
 use crate::copies::{keep, put_back};
@@ -47,7 +47,7 @@ impl Undo {
     ///
     /// # Errors
     ///
-    /// Where there is no memory; what is kept is then as before.
+    /// Where there is no memory; what is kept is then as before. Memory is wanted only where there is a byte to keep.
     pub fn keep_old(
         &mut self,
         alloc: Global,
@@ -75,6 +75,9 @@ impl Undo {
             → (s ≡ segment → offset + len ≤ bound) → LiesBelow self.new s bound) }
 
         ensures err { OnErr result (self.new ≡ self.old) }
+
+        // Memory is wanted only for a copy.
+        ensures memory { OnErr result (MissesSome set.now segment offset len) }
     {
         let parts = outside(alloc, set.ranges(), segment, offset, len)?;
         keep(&mut self.ranges, &mut self.bytes, parts.as_slice(), image)

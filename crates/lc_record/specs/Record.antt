@@ -50,6 +50,10 @@ IsLock lock = (1 ≤ lock.segment) × (lock.segment ≤ 16) × (1 ≤ lock.seq) 
 abbrev pub IsRange : RangeData → Type 0
 IsRange range = (1 ≤ length range.bytes) × (range.offset + length range.bytes ≤ 16384) × AreBytes range.bytes
 
+-- its bytes are bytes
+abbrev pub HoldsBytes : RangeData → Type 0
+HoldsBytes range = AreBytes range.bytes
+
 -- of an earlier segment, or of the same with a gap between
 abbrev pub IsBefore : RangeData → RangeData → Type 0
 IsBefore a b = (a.segment < b.segment) ⊎ ((a.segment ≡ b.segment) × (a.offset + length a.bytes < b.offset))

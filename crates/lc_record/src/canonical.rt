@@ -2,7 +2,7 @@
 ghost use Rattle.std.specs.Prelude.{◌≡◌, ◌+◌, ◌≤◌, ◌↔◌, IsTrue, length};
 ghost use Rattle.std.specs.List.{AllByRecursion};
 ghost use Rattle.lc_record.specs.Words.{AreBytes};
-ghost use Rattle.lc_record.specs.Record.{IsCanonical, IsRange};
+ghost use Rattle.lc_record.specs.Record.{HoldsBytes, IsCanonical, IsRange};
 ghost use Rattle.lc_record.specs.Reading.{Passes, ascend, follow, is_lock, start};
 
 use crate::limits::{MAX_LOCKS, MAX_NODE, MAX_OFFSET, MAX_RANGES, MAX_SEGMENT, MAX_SEQ};
@@ -90,4 +90,19 @@ pub fn is_canonical(record: &Record) -> bool
         record.locks.as_slice(),
         record.ranges.as_slice(),
     )
+}
+
+/// The bytes of the ranges are bytes: a slice tells of its own.
+pub fn hold_bytes(ranges: &[RangeData])
+    ensures { AllByRecursion HoldsBytes ranges.now }
+{
+    for range in ranges {
+        are_bytes(range.bytes.as_slice());
+    }
+}
+
+fn are_bytes(bytes: &[u8])
+    ensures { AreBytes bytes.now }
+{
+    let _len = bytes.len();
 }

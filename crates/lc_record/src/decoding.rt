@@ -1,5 +1,5 @@
 //! Reading a record from words.
-ghost use Rattle.std.specs.Prelude.{IfOk, IfSome, IfNone, Some, ◌≡◌, List, ℕ};
+ghost use Rattle.std.specs.Prelude.{IfOk, OnErr, IfSome, IfNone, Some, ◌≡◌, List, ℕ};
 ghost use Rattle.lc_record.specs.Codec.{BeginsWith, BeginsNoRecord};
 ghost use Rattle.lc_record.specs.Reading.{Gives, items_at, range_of, record_at};
 ghost use Rattle.lc_record.specs.declared.record.Record.{Record as Spelled};
@@ -9,10 +9,12 @@ use crate::parts::{RangeWords, front_of, len_of, range_of};
 use crate::{Items, RangeData, Record};
 use std::alloc::{AllocError, Global};
 
-/// The record at the front of these words, and how many it takes; None exactly where they begin with no record.
+/// The record at the front of these words, and how many it takes; None exactly where they begin with no record. It
+/// takes memory only where they begin with one.
 pub fn decode(alloc: Global, words: &[u64]) -> Result<Option<(Record, usize)>, AllocError>
     ensures found { IfOk result (λ found. IfSome found (λ x. BeginsWith words.now x.0 x.1)) }
     ensures none { IfOk result (λ found. IfNone found (BeginsNoRecord words.now)) }
+    ensures memory { OnErr result ((r : Spelled) × (len : ℕ) × BeginsWith words.now r len) }
 {
     let Some(len) = len_of(words) else {
         return Ok(None);

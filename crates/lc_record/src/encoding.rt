@@ -4,7 +4,7 @@ ghost use Rattle.std.specs.List.{flat_map};
 ghost use Rattle.lc_record.specs.Record.{range_len, record_len, lock_words, range_words, spelling, IsCanonical, IsRecord};
 ghost use Rattle.lc_record.specs.Codec.{IsRefused};
 
-use crate::canonical::is_canonical;
+use crate::canonical::{hold_bytes, is_canonical};
 use crate::data::{data_len, push_data};
 use crate::fields::{
     LENGTH_PLACE, LOCK_COUNT_PLACE, OFFSET_PLACE, RANGE_COUNT_PLACE, VERSION_PLACE,
@@ -27,12 +27,14 @@ pub fn encoded_words(record: &Record) -> usize
     words
 }
 
-/// The one spelling of a record. It looks for NotCanonical, then TooLong, then NoMemory.
+/// The one spelling of a record. It looks for NotCanonical, then TooLong, then NoMemory: it takes memory only for a
+/// record that has a spelling.
 pub fn encode(alloc: Global, record: &Record) -> Result<Vec<u64>, RecordFault>
     ensures spelled { IfOk result (λ words. IsRecord «record».now words.items) }
     ensures refused { IfErr result (λ fault. IsRefused «record».now fault) }
 {
     if !is_canonical(record) {
+        hold_bytes(record.ranges.as_slice());
         return Err(RecordFault::NotCanonical);
     }
     let words = encoded_words(record);

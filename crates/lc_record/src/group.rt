@@ -29,7 +29,7 @@ impl Model for Group {
 }
 
 impl Group {
-    /// An empty group with room for this many words.
+    /// An empty group with room for this many words. It takes memory for them and for the zero word behind them.
     pub fn new(alloc: Global, room: u32) -> Result<Group, AllocError>
         ensures { IfOk result (λ g. g ≡ record { words = []; room = room }) }
     {

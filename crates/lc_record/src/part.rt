@@ -1,5 +1,6 @@
 //! What a record says of one segment.
-ghost use Rattle.std.specs.Prelude.{◌≡◌, ◌==◌, ◌↔◌, IfOk, filter};
+ghost use Rattle.std.specs.Prelude.{◌≡◌, ◌==◌, ◌↔◌, IfOk, IsSome, OnErr, filter};
+ghost use Rattle.lc_record.specs.Record.{Writes};
 
 use crate::{Items, RangeData, Record};
 use std::alloc::{AllocError, Global};
@@ -19,10 +20,12 @@ pub struct Part {
 impl Part {
     ghost use Rattle.lc_record.specs.Part.{number_in, part_of};
 
-    /// A copy of the part of a record that is of this segment; None, and no memory, where the record has no lock on it.
+    /// A copy of the part of a record that is of this segment; None where the record has no lock on it. It takes memory
+    /// only where the record has a lock on the segment, and a range there.
     pub fn of(alloc: Global, record: &Record, segment: u32) -> Result<Option<Part>, AllocError>
         ensures part { IfOk result (λ part. part ≡ part_of segment «record».now) }
         ensures none { (result ≡ Ok None) ↔ (number_in segment «record».now.locks ≡ None) }
+        ensures memory { OnErr result (IsSome (number_in segment «record».now.locks) × Writes segment «record».now.ranges) }
     {
         let Some(seq) = Part::number_in(record, segment) else {
             return Ok(None);
@@ -54,7 +57,8 @@ fn ranges_of(
     ranges: &[RangeData],
     segment: u32,
 ) -> Result<Vec<RangeData>, AllocError>
-    ensures { IfOk result (λ copies. copies.items ≡ filter (λ range. range.segment == segment) ranges.now) }
+    ensures copies { IfOk result (λ copies. copies.items ≡ filter (λ range. range.segment == segment) ranges.now) }
+    ensures memory { OnErr result (Writes segment ranges.now) }
 {
     let mut copies = Vec::new(alloc);
     for range in ranges {

@@ -1,6 +1,6 @@
 -- What the end of a transaction finds.
 use Rattle.std.proofs.Common.{◌≡◌, ℕ, ◌<◌, ◌≤◌, List, length, Option, None, Some, sym, ap, subst, ◌∙◌, arith}
-use Rattle.std.specs.Prelude.{◌↔◌}
+use Rattle.std.specs.Prelude.{◌↔◌, Result, Ok, Err}
 use Rattle.lc_range.specs.RangeSet.{IsCanonical, EndWithin}
 use Rattle.lc_range.specs.declared.range.Range.{Range}
 use Rattle.lc_record.specs.Record.{record_len}
@@ -9,8 +9,9 @@ use Rattle.lc_record.specs.declared.record.Lock.{Lock}
 use Rattle.lc_record.specs.declared.record.RangeData.{RangeData}
 use Rattle.lc_tx.specs.declared.images.Images.{Ghosts}
 use Rattle.lc_tx.specs.declared.tx.Tx.{Tx}
+use Rattle.lc_tx.specs.declared.tx_fault.TxFault.{TxFault}
 use Rattle.lc_tx.specs.Images.{bytes_of}
-use Rattle.lc_tx.specs.Prepared.{AreSmall, AreUnspent, IsFirstSpent, final_record}
+use Rattle.lc_tx.specs.Prepared.{AreSmall, AreUnspent, IsFirstSpent, IsLoggable, final_record}
 use Rattle.lc_tx.specs.Tx.{RunsOn}
 use Rattle.lc_tx.specs.Walk.{words_of, spent_in, AreFromOne, AreInside}
 use Rattle.lc_tx.proofs.RecordLemmas.{spent_is, unspent_from, spent_not_unspent, len_is, inside_from, short_from, from_one}
@@ -21,6 +22,19 @@ same_record a b one two three =
     ap (λ (n : ℕ). record { node = n; locks = a.locks; ranges = a.ranges }) one
     ∙ ap (λ (l : List Lock). record { node = b.node; locks = l; ranges = a.ranges }) two
     ∙ ap (λ (l : List RangeData). record { node = b.node; locks = b.locks; ranges = l }) three
+
+-- a refusal that is handed on
+pub handed_on : {A B P : Type 0} (one : Result A TxFault) (other : Result B TxFault) (fault x : TxFault) → one ≡ Err fault → other ≡ Err fault → (one ≡ Err x) ↔ P → (other ≡ Err x) ↔ P
+handed_on one other fault x was is told = (
+  λ e. (let same : fault ≡ x = cc in told.0 (was ∙ ap (λ (f : TxFault). Err f) same)),
+  λ p. (let e : one ≡ Err x = told.1 p in let same : fault ≡ x = cc in is ∙ ap (λ (f : TxFault). Err f) same),
+)
+
+-- where a number of words is told, the record may be logged
+pub loggable : {I : Type 0} (m : Ghosts I) (images : I) (tx : Tx) (node : ℕ) (told : Result (Option ℕ) TxFault) (found : Option ℕ) (n : ℕ)
+    → ((node words : ℕ) → (told ≡ Ok (Some words)) ↔ (IsLoggable m images tx node × (words ≡ record_len (final_record m images tx node))))
+    → told ≡ Ok found → found ≡ Some n → IsLoggable m images tx node
+loggable m images tx node told found n tells was is = ((tells node n).0 (was ∙ ap (λ (o : Option ℕ). Ok o) is)).0
 
 module _ {I : Type 0} (m : Ghosts I) (images : I) (tx : Tx) (runs : List Range) (same : runs ≡ tx.set) where
   first : (node : ℕ) (found : Option ℕ) → found ≡ spent_in m images runs → (s : ℕ) → (found ≡ Some s) ↔ IsFirstSpent (final_record m images tx node).locks s

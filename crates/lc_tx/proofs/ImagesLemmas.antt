@@ -16,7 +16,7 @@ pub record ImageLaws {I : Type 0} (m : Ghosts I) : Type 0 where
   pub other_image : (s : I) (segment other : ℕ) (image : Picture) → IsSome (m.number_of s segment) → IsSome (m.number_of s other) → other ≢ segment
       → m.image_of (m.with_image s segment image) other ≡ m.image_of s other
   pub beside_itself : (s : I) → m.IsSameBeside s s
-  pub beside_image : (s : I) (segment : ℕ) (image : Picture) → m.IsSameBeside s (m.with_image s segment image)
+  pub beside_image : (s : I) (segment : ℕ) (image : Picture) → IsSome (m.number_of s segment) → m.IsSameBeside s (m.with_image s segment image)
   pub beside_chained : (s t u : I) → m.IsSameBeside s t → m.IsSameBeside t u → m.IsSameBeside s u
 
 -- what became of the image of a segment that is held, and of one that is restored
@@ -131,7 +131,7 @@ module _ {I : Type 0} (m : Ghosts I) where
     imaged s x image here = record {
       numbers = λ n. laws.same_numbers s x n image here;
       others = λ n there not. laws.other_image s x n image here there (λ e. false≢true (sym not ∙ subst (λ (k : ℕ). is_member k (x ∷ []) ≡ true) (sym e) (one_is x)));
-      beside = laws.beside_image s x image;
+      beside = laws.beside_image s x image here;
     }
 
     pub chained : (xs : List ℕ) (x : ℕ) (old mid new : I) → IsSameBut m xs old mid → IsSameBut m (x ∷ []) mid new → IsSameBut m (xs ++ x ∷ []) old new
@@ -158,7 +158,7 @@ module _ {I : Type 0} (m : Ghosts I) where
         | inl same ↦ subst (λ (k : ℕ). m.image_of (m.with_image s x image) k ≡ m.image_of s k) (sym same) (laws.own_image s x image here ∙ is)
         | inr other ↦ laws.other_image s x n image here there other
       ];
-      beside = laws.beside_image s x image;
+      beside = laws.beside_image s x image here;
     }
 
     each_more : (R : ℕ → Picture → Picture → Type 0) → ((s : ℕ) (a b c : Picture) → R s a b → R s b c → R s a c) → (xs : List ℕ) (x : ℕ) (old mid : I) (image : Picture)

@@ -10,3 +10,5 @@ pub mod MarkLemmas
 pub mod DataLemmas
 pub mod StandsLemmas
 pub mod AscendLemmas
+pub mod BesideLemmas
+pub mod CanonicalLemmas

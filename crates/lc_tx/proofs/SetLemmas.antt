@@ -1,6 +1,7 @@
 -- Numbers as a set.
-use Rattle.std.proofs.Common.{◌≡◌, ℕ, ◌<◌, ◌≤◌, Bool, true, false, eqb, ltb, ◌||◌, List, [], ◌∷◌, ◌++◌, refl, sym, ap, subst, ◌∙◌, inl, inr, arith}
+use Rattle.std.proofs.Common.{◌≡◌, ℕ, ◌+◌, ◌<◌, ◌≤◌, Bool, true, false, eqb, ltb, ◌||◌, List, [], ◌∷◌, ◌++◌, length, refl, sym, ap, subst, ◌∙◌, inl, inr, arith}
 use Rattle.std.proofs.lemmas.Bool.{cond_both, eqb-true, eqb-false, ltb-true, ltb-false, eq-eqb, or_cases, or_left, or_right}
+use Rattle.std.proofs.lemmas.List.{append-nil, append_assoc}
 use Rattle.std.specs.List.{list_any}
 use Rattle.lc_record.specs.Record.{Chain}
 use Rattle.lc_record.specs.Transaction.{is_member}
@@ -72,3 +73,29 @@ set_more xs set next n is e = subst (λ (l : List ℕ). IsSetOf (xs ++ n ∷ [])
 pub any_is : (n : ℕ) (xs : List ℕ) → list_any (λ y. eqb y n) xs ≡ is_member n xs
 any_is n [] = refl
 any_is n (x ∷ xs) = ap (λ (b : Bool). eqb x n || b) (any_is n xs)
+
+-- How many there are
+
+pub longer : (n : ℕ) (xs : List ℕ) → length xs ≤ length (with_in_order n xs)
+longer n [] = omega arith
+longer n (y ∷ xs) =
+    cond_both (ltb y n) (y ∷ with_in_order n xs) (with_number n (y ∷ xs)) (λ (l : List ℕ). length (y ∷ xs) ≤ length l)
+    (λ e. omega (arith, longer n xs))
+    (λ e. cond_both (eqb n y) (y ∷ xs) (n ∷ y ∷ xs) (λ (l : List ℕ). length (y ∷ xs) ≤ length l) (λ same. omega arith) (λ other. omega arith))
+
+-- the set of more numbers is at least as long
+pub with_rest : (ns xs set : List ℕ) → IsSetOf xs set → (all : List ℕ) × IsSetOf (xs ++ ns) all × (length set ≤ length all)
+with_rest [] xs set is = (set, subst (λ (l : List ℕ). IsSetOf l set) (sym (append-nil xs)) is, omega arith)
+with_rest (n ∷ ns) xs set is =
+    let later = with_rest ns (xs ++ n ∷ []) (with_in_order n set) (set_more xs set (with_in_order n set) n is refl) in
+    (later.0, subst (λ (l : List ℕ). IsSetOf l later.0) (append_assoc xs (n ∷ []) ns) later.1, omega (arith, later.2, longer n set))
+
+ascending_few : (x : ℕ) (xs : List ℕ) (most : ℕ) → Ascend (x ∷ xs) → ((k : ℕ) → is_member k (x ∷ xs) ≡ true → k ≤ most) → x + length xs ≤ most
+ascending_few x [] most up below = omega (arith, below x (or_left (eqb x x) false (eq-eqb x x refl)))
+ascending_few x (y ∷ xs) most up below = omega (arith, up.0, ascending_few y xs most up.1 (λ k is. below k (or_right (eqb x k) _ is)))
+
+-- a set of numbers from 1 up to a number has at most so many
+pub few_numbers : (most : ℕ) (set : List ℕ) → Ascend set → ((k : ℕ) → is_member k set ≡ true → (1 ≤ k) × (k ≤ most)) → length set ≤ most
+few_numbers most [] up within = omega arith
+few_numbers most (x ∷ xs) up within =
+    omega (arith, ascending_few x xs most up (λ k is. (within k is).1), (within x (or_left (eqb x x) (is_member x xs) (eq-eqb x x refl))).0)

@@ -37,6 +37,11 @@ is_of_read OutOfSegment = true
 is_of_read NoMemory = true
 is_of_read _ = false
 
+abbrev pub is_of_needs : TxFault → Bool
+is_of_needs (SequenceSpent segment) = true
+is_of_needs (TooLong words) = true
+is_of_needs _ = false
+
 abbrev pub is_of_end : TxFault → Bool
 is_of_end (SequenceSpent segment) = true
 is_of_end (TooLong words) = true

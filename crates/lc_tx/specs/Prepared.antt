@@ -2,10 +2,13 @@
 use Rattle.std.specs.Prelude.{◌≡◌, ◌⊎◌, ℕ, ◌+◌, ◌<◌, ◌≤◌, ◌^◌, ◌==◌, if◌then◌else◌, List, [], ◌∷◌, map, take, drop, length, unwrap_or, IsTrue}
 use Rattle.lc_record.specs.Transaction.{is_member}
 use Rattle.lc_range.specs.declared.range.Range.{Range}
+use Rattle.lc_record.specs.Record.{record_len, IsRecord}
 use Rattle.lc_record.specs.declared.record.Record.{Record}
 use Rattle.lc_record.specs.declared.record.Lock.{Lock}
 use Rattle.lc_record.specs.declared.record.RangeData.{RangeData}
 use Rattle.lc_tx.specs.declared.images.Images.{Ghosts}
+use Rattle.lc_tx.specs.declared.prepared.Prepared.{Prepared}
+use Rattle.lc_tx.specs.declared.prepared.Prepared.TheVariants.{Empty, Record as Words}
 use Rattle.lc_tx.specs.declared.tx.Tx.{Tx}
 use Rattle.lc_tx.specs.Images.{bytes_of}
 
@@ -30,6 +33,11 @@ abbrev pub AreUnspent : List Lock → Type 0
 AreUnspent [] = Unit {0}
 AreUnspent (lock ∷ locks) = (lock.seq ≤ 2 ^ 60) × AreUnspent locks
 
+-- the words are those of the record
+abbrev pub IsRecordOf : Record → Prepared → Type 0
+IsRecordOf r Empty = ⊥
+IsRecordOf r (Words words) = IsRecord r words × (length words ≡ record_len r)
+
 module _ {I : Type 0} (m : Ghosts I) where
   -- the number behind that of a segment's token
   abbrev pub next_number : I → ℕ → ℕ
@@ -50,6 +58,12 @@ module _ {I : Type 0} (m : Ghosts I) where
     locks = map (λ segment. record { segment = segment; seq = next_number images segment }) (segments_of tx.set);
     ranges = map (run_data images) tx.set;
   }
+
+  -- something is set, the next numbers are at most the greatest, and the record has 4096 words at most
+  pub record IsLoggable (images : I) (tx : Tx) (node : ℕ) : Type 0 where
+    pub some : tx.set ≡ [] → ⊥
+    pub unspent : AreUnspent (final_record images tx node).locks
+    pub short : record_len (final_record images tx node) ≤ 4096
 
   -- a segment that it locked is one of 16, from 1, and has 16,384 bytes at most
   pub record AreSmall (images : I) (segments : List ℕ) : Type 0 where

@@ -1,9 +1,9 @@
 -- A transaction on the images at a node.
-use Rattle.std.specs.Prelude.{◌≡◌, ℕ, ◌+◌, ◌<◌, ◌≤◌, List, [], length, Some, IsTrue, slice_index}
+use Rattle.std.specs.Prelude.{◌≡◌, ℕ, ◌+◌, ◌<◌, ◌≤◌, List, [], length, Some, IsSome, IsTrue, slice_index}
 use Rattle.lc_record.specs.Record.{Chain}
 use Rattle.lc_record.specs.Transaction.{is_member}
 use Rattle.lc_range.specs.RangeSet.{Has, AddsPositions}
-use Rattle.lc_range.specs.Undo.{KeepsOld, LiesBelow}
+use Rattle.lc_range.specs.Undo.{KeepsOld, LiesBelow, kept}
 use Rattle.lc_tx.specs.declared.images.Images.{Ghosts}
 use Rattle.lc_tx.specs.declared.tx.Tx.{Tx}
 use Rattle.lc_tx.specs.Images.{IsHere, bytes_of, AreHeldBy}
@@ -28,6 +28,8 @@ module _ {I : Type 0} (m : Ghosts I) where
     pub set_locked : (segment k : ℕ) → Has tx.set segment k → Locked tx segment
     pub set_inside : (segment k : ℕ) → Has tx.set segment k → k < length (bytes_of m images segment)
     pub kept_inside : (segment : ℕ) → Locked tx segment → LiesBelow tx.undo segment (length (bytes_of m images segment))
+    pub holds : (segment : ℕ) → Locked tx segment → (m.image_of images segment).holder ≡ Some tx.thread
+    pub set_kept : (segment k : ℕ) → Has tx.set segment k → IsSome (kept tx.undo segment k)
 
   -- it has the locks of these segments, and nothing is set
   pub record Begins (thread : ℕ) (segments : List ℕ) (old new : I) (tx : Tx) : Type 0 where
@@ -43,3 +45,7 @@ module _ {I : Type 0} (m : Ghosts I) where
     pub same_locks : new.locked ≡ old.locked
     pub adds : AddsPositions old.set segment offset len new.set
     pub keeps : KeepsOld old.undo old.set segment offset len (slice_index (bytes_of m images segment)) new.undo
+
+  -- the segments that it locked are here, with the images that they had; what else changed is left open
+  abbrev pub KeepsLocked : I → I → Tx → Type 0
+  KeepsLocked old new tx = (segment : ℕ) → Locked tx segment → IsHere m new segment × (m.image_of new segment ≡ m.image_of old segment)

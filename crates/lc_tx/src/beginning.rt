@@ -1,8 +1,9 @@
 //! The beginning of a transaction.
-ghost use Rattle.std.specs.Prelude.{◌≡◌, ◌↔◌, ℕ, None, IfOk, OnErr, IfErr, IsTrue};
-ghost use Rattle.lc_tx.specs.Images.{IsHere, IsFirstTaken, IsSame};
+ghost use Rattle.std.specs.Prelude.{◌≡◌, ◌↔◌, ◌<◌, ℕ, List, length, None, IfOk, OnErr, IfErr, IsTrue};
+ghost use Rattle.lc_record.specs.Transaction.{is_member};
+ghost use Rattle.lc_tx.specs.Images.{IsHere, IsFree, IsFirstTaken, IsSame};
 ghost use Rattle.lc_tx.specs.Fault.{is_of_begin};
-ghost use Rattle.lc_tx.specs.Tx.{Begins, RunsOn};
+ghost use Rattle.lc_tx.specs.Tx.{Begins, IsSetOf, RunsOn};
 
 use crate::locking::{first_taken, hold, set_of};
 use crate::{Images, Tx, TxFault};
@@ -26,7 +27,8 @@ impl Tx {
     ///
     /// # Errors
     ///
-    /// `NotHere` or `Busy` of the least segment that is not free, and `NoMemory`. The images are then as before.
+    /// `NotHere` or `Busy` of the least segment that is not free, and `NoMemory`, only for more than 16 segments. The
+    /// images are then as before.
     pub fn begin<I: Images>(
         alloc: Global,
         images: &mut I,
@@ -35,10 +37,17 @@ impl Tx {
     ) -> Result<Self, TxFault>
         ensures begins { IfOk result (λ tx. Begins I.Images thread segments.now images.old images.new tx) }
         ensures runs { IfOk result (λ tx. RunsOn I.Images images.new tx) }
+        ensures free { IfOk result (λ tx. (s : ℕ) → IsTrue (is_member s segments.now) → IsFree I.Images images.old s) }
         ensures not_here { (s : ℕ) → (result ≡ Err (TxFault.NotHere s))
             ↔ (IsFirstTaken I.Images images.old segments.now s × (I.number_of images.old s ≡ None)) }
         ensures busy { (s : ℕ) → (result ≡ Err (TxFault.Busy s))
             ↔ (IsFirstTaken I.Images images.old segments.now s × IsHere I.Images images.old s) }
+
+        // Memory is wanted only for more than 16 segments, all of them free.
+        ensures no_memory { result ≡ Err TxFault.NoMemory
+            → ((s : ℕ) → IsTrue (is_member s segments.now) → IsFree I.Images images.old s)
+            × ((set : List ℕ) × IsSetOf segments.now set × (16 < length set)) }
+
         ensures err { OnErr result (IsSame I.Images images.old images.new) }
         ensures faults { IfErr result (λ fault. IsTrue (is_of_begin fault)) }
     {

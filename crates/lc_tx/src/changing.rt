@@ -1,6 +1,6 @@
 //! The changes of a transaction.
-ghost use Rattle.std.specs.Prelude.{◌≡◌, ◌≢◌, ◌↔◌, ◌+◌, ◌<◌, ◌≤◌, ℕ, IsTrue, IsOk, length, take, drop, slice_index, IfOk, OnOk, OnErr, IfErr};
-ghost use Rattle.lc_range.specs.RangeSet.{AddsPositions, NeedsRunsAbove};
+ghost use Rattle.std.specs.Prelude.{◌≡◌, ◌≢◌, ◌↔◌, ◌+◌, ◌-◌, ◌^◌, ◌<◌, ◌≤◌, ℕ, IsTrue, IsOk, length, take, drop, min, slice_index, IfOk, OnOk, OnErr, IfErr};
+ghost use Rattle.lc_range.specs.RangeSet.{AddsPositions, MissesSome, NeedsRunsAbove};
 ghost use Rattle.lc_range.specs.Undo.{KeepsOld, LiesBelow};
 ghost use Rattle.lc_tx.specs.Images.{IsSame, IsWritten, bytes_of};
 ghost use Rattle.lc_tx.specs.Fault.{is_of_set_range, is_of_read};
@@ -8,7 +8,7 @@ ghost use Rattle.lc_tx.specs.Tx.{AreSet, Locked, RunsOn, SetsRange};
 
 use crate::image::lay;
 use crate::{Images, Tx, TxFault};
-use lc_range::RangeSet;
+use lc_range::{RangeFault, RangeSet};
 use std::alloc::Global;
 
 // Whether so many bytes from an offset on lie among these.
@@ -18,15 +18,19 @@ fn lies_within(bytes: &[u8], offset: u32, len: usize) -> bool
     len <= bytes.len() && offset as usize <= bytes.len() - len
 }
 
-// The bytes of a range of these.
+// The bytes of a range of these. None take no memory.
 fn copy_of(alloc: Global, bytes: &[u8], offset: u32, len: u32) -> Result<Vec<u8>, TxFault>
     ensures copied { IfOk result (λ v. v.items ≡ take len (drop offset bytes.now)) }
     ensures outside { (result ≡ Err TxFault.OutOfSegment) ↔ (length bytes.now < offset + len) }
     ensures locked { result ≢ Err TxFault.NotLocked }
+    ensures no_memory { result ≡ Err TxFault.NoMemory → (0 < len) × (offset + len ≤ length bytes.now) }
     ensures faults { IfErr result (λ fault. IsTrue (is_of_read fault)) }
 {
     if !lies_within(bytes, offset, len as usize) {
         return Err(TxFault::OutOfSegment);
+    }
+    if len == 0 {
+        return Ok(Vec::new(alloc));
     }
     let start = offset as usize;
     Vec::from_slice(alloc, &bytes[start..start + len as usize]).map_err(|_| TxFault::NoMemory)
@@ -65,6 +69,11 @@ impl Tx {
     fn is_set(&self, segment: u32, offset: u32, len: usize) -> bool
         ensures { IsTrue result ↔ AreSet self.now segment offset len }
     {
+        let Ok(len) = u32::try_from(len) else {
+            // No run has so many.
+            let _runs = self.set.ranges();
+            return false;
+        };
         self.set.covers(segment, offset, len)
     }
 
@@ -86,14 +95,16 @@ impl Tx {
             → (s ≡ segment → length bytes.now ≤ bound) → LiesBelow self.new.undo s bound) }
         ensures inside { OnOk result (offset + len ≤ length bytes.now) }
         ensures err { OnErr result (self.new ≡ self.old) }
-        ensures outside { (result ≡ Err TxFault.OutOfSegment) ↔ (length bytes.now < offset + len) }
+        ensures outside { (result ≡ Err TxFault.OutOfSegment) ↔ (min (length bytes.now) (2 ^ 32 - 1) < offset + len) }
         ensures too_many { (result ≡ Err TxFault.TooManyRanges)
-            ↔ ((offset + len ≤ length bytes.now) × NeedsRunsAbove 64 self.old.set segment offset len) }
+            ↔ ((offset + len ≤ min (length bytes.now) (2 ^ 32 - 1)) × NeedsRunsAbove 64 self.old.set segment offset len) }
+        ensures no_memory { result ≡ Err TxFault.NoMemory → (offset + len ≤ min (length bytes.now) (2 ^ 32 - 1))
+            × (¬ NeedsRunsAbove 64 self.old.set segment offset len) × MissesSome self.old.set segment offset len }
         ensures not_locked { result ≢ Err TxFault.NotLocked }
         ensures empty { result ≢ Err TxFault.EmptyRange }
         ensures faults { IfErr result (λ fault. IsTrue (is_of_set_range fault)) }
     {
-        if !lies_within(bytes, offset, len as usize) {
+        if !lies_within(bytes, offset, len as usize) || offset.checked_add(len).is_none() {
             return Err(TxFault::OutOfSegment);
         }
         if !self.set.has_room(segment, offset, len) {
@@ -107,11 +118,16 @@ impl Tx {
         {
             return Err(TxFault::NoMemory);
         }
-        if self.set.add(segment, u32::MAX, offset, len).is_err() {
-            self.undo.truncate(copies);
-            return Err(TxFault::NoMemory);
+        match self.set.add(segment, u32::MAX, offset, len) {
+            Ok(()) => Ok(()),
+            Err(RangeFault::NoMemory) => {
+                self.undo.truncate(copies);
+                Err(TxFault::NoMemory)
+            }
+            Err(RangeFault::EmptyRange) => unreachable!(),
+            Err(RangeFault::OutOfSegment) => unreachable!(),
+            Err(RangeFault::TooManyRanges) => unreachable!(),
         }
-        Ok(())
     }
 
     /// Sets `len` bytes of a segment from `offset` on: the transaction may write them, and an abort gives back the
@@ -120,8 +136,8 @@ impl Tx {
     ///
     /// # Errors
     ///
-    /// `NotLocked`, `EmptyRange`, `OutOfSegment` and `TooManyRanges`, looked at in this order, and `NoMemory`. The
-    /// transaction is then as before.
+    /// `NotLocked`, `EmptyRange`, `OutOfSegment` and `TooManyRanges`, looked at in this order, and `NoMemory`, only
+    /// where some byte of the range was not set. No range ends behind 2^32 - 1. The transaction is then as before.
     pub fn set_range<I: Images>(
         &mut self,
         alloc: Global,
@@ -137,11 +153,16 @@ impl Tx {
         ensures err { OnErr result (self.new ≡ self.old) }
         ensures not_locked { (result ≡ Err TxFault.NotLocked) ↔ ¬ Locked self.old segment }
         ensures empty { (result ≡ Err TxFault.EmptyRange) ↔ (Locked self.old segment × (len ≡ 0)) }
-        ensures outside { (result ≡ Err TxFault.OutOfSegment)
-            ↔ (Locked self.old segment × (0 < len) × (length (bytes_of I.Images images.old segment) < offset + len)) }
-        ensures too_many { (result ≡ Err TxFault.TooManyRanges)
-            ↔ (Locked self.old segment × (0 < len) × (offset + len ≤ length (bytes_of I.Images images.old segment))
+        ensures outside { (result ≡ Err TxFault.OutOfSegment) ↔ (Locked self.old segment × (0 < len)
+            × (min (length (bytes_of I.Images images.old segment)) (2 ^ 32 - 1) < offset + len)) }
+        ensures too_many { (result ≡ Err TxFault.TooManyRanges) ↔ (Locked self.old segment × (0 < len)
+            × (offset + len ≤ min (length (bytes_of I.Images images.old segment)) (2 ^ 32 - 1))
             × NeedsRunsAbove 64 self.old.set segment offset len) }
+
+        // Memory is wanted only where none of these is the case, and some byte was not set.
+        ensures no_memory { result ≡ Err TxFault.NoMemory → Locked self.old segment × (0 < len)
+            × (offset + len ≤ min (length (bytes_of I.Images images.old segment)) (2 ^ 32 - 1))
+            × (¬ NeedsRunsAbove 64 self.old.set segment offset len) × MissesSome self.old.set segment offset len }
         ensures faults { IfErr result (λ fault. IsTrue (is_of_set_range fault)) }
     {
         if !self.has_locked(segment) {
@@ -203,6 +224,7 @@ impl Tx {
         ensures no_range { (result ≡ Err TxFault.NoRange) ↔ (Locked self.now segment
             × (offset + length bytes.now ≤ length (bytes_of I.Images images.old segment))
             × ¬ AreSet self.now segment offset (length bytes.now)) }
+        ensures no_memory { result ≢ Err TxFault.NoMemory }
     {
         if !self.has_locked(segment) {
             return Err(TxFault::NotLocked);
@@ -217,7 +239,7 @@ impl Tx {
     ///
     /// # Errors
     ///
-    /// `NotLocked` and `OutOfSegment`, looked at in this order, and `NoMemory`.
+    /// `NotLocked` and `OutOfSegment`, looked at in this order, and `NoMemory`, which no bytes want.
     pub fn read<I: Images>(
         &self,
         alloc: Global,
@@ -233,6 +255,8 @@ impl Tx {
         ensures not_locked { (result ≡ Err TxFault.NotLocked) ↔ ¬ Locked self.now segment }
         ensures outside { (result ≡ Err TxFault.OutOfSegment) ↔ (Locked self.now segment
             × (length (bytes_of I.Images images.old segment) < offset + len)) }
+        ensures no_memory { result ≡ Err TxFault.NoMemory → Locked self.now segment × (0 < len)
+            × (offset + len ≤ length (bytes_of I.Images images.old segment)) }
         ensures faults { IfErr result (λ fault. IsTrue (is_of_read fault)) }
     {
         if !self.has_locked(segment) {

@@ -1,27 +1,65 @@
 //! The end of a transaction.
-ghost use Rattle.std.specs.Prelude.{◌≡◌, ◌↔◌, ◌<◌, ◌≤◌, ℕ, [], None, List, IfErr, IsTrue};
+ghost use Rattle.std.specs.Prelude.{◌≡◌, ◌↔◌, ◌<◌, ◌≤◌, ℕ, [], None, List, IfOk, IfErr, IfSome, IsTrue, MatchResult};
 ghost use Rattle.lc_record.specs.Record.{record_len, IsRecord};
 ghost use Rattle.lc_tx.specs.Images.{AreHeldBy, AreRestored, IsSame};
-ghost use Rattle.lc_tx.specs.Prepared.{AreSmall, AreUnspent, IsFirstSpent, final_record};
+ghost use Rattle.lc_tx.specs.Prepared.{AreSmall, AreUnspent, IsFirstSpent, IsLoggable, IsRecordOf, final_record};
 ghost use Rattle.lc_range.specs.RangeSet.{IsCanonical};
-ghost use Rattle.lc_tx.specs.Fault.{is_of_end};
+ghost use Rattle.lc_tx.specs.Fault.{is_of_end, is_of_needs};
 ghost use Rattle.lc_tx.specs.Tx.{RunsOn};
 
 use crate::limits::MAX_WORDS;
 use crate::locking::hold;
 use crate::recording::{first_spent, record_of, words_of};
 use crate::{Images, Prepared, Tx, TxFault};
-use lc_record::{Items, encode};
+use lc_record::{Items, RecordFault, encode};
 use std::alloc::Global;
 
 impl Tx {
+    /// How many words the record of the transaction takes, 1 to 4096, or None where nothing is set. It takes no memory,
+    /// so that a caller looks for room in its log before `prepare_end` takes some.
+    ///
+    /// # Errors
+    ///
+    /// `SequenceSpent` of the least segment that has used its last number and `TooLong`, looked at in this order.
+    pub fn end_needs<I: Images>(&self, images: &I) -> Result<Option<u32>, TxFault>
+        requires runs { RunsOn I.Images images.now self.now }
+        requires small { AreSmall I.Images images.now self.now.locked.items }
+
+        // Whichever node logs it.
+        ensures empty { (result ≡ Ok None) ↔ (self.now.set ≡ []) }
+        ensures words { (node words : ℕ) → (result ≡ Ok (Some words)) ↔ (IsLoggable I.Images images.now self.now node
+            × (words ≡ record_len (final_record I.Images images.now self.now node))) }
+        ensures spent { (node s : ℕ) → (result ≡ Err (TxFault.SequenceSpent s))
+            ↔ IsFirstSpent (final_record I.Images images.now self.now node).locks s }
+        ensures too_long { (node words : ℕ) → (result ≡ Err (TxFault.TooLong words))
+            ↔ (AreUnspent (final_record I.Images images.now self.now node).locks
+            × (4096 < record_len (final_record I.Images images.now self.now node))
+            × (words ≡ record_len (final_record I.Images images.now self.now node))) }
+
+        ensures few { IfOk result (λ needs. IfSome needs (λ words. (1 ≤ words) × (words ≤ 4096))) }
+        ensures faults { IfErr result (λ fault. IsTrue (is_of_needs fault)) }
+        ensures canonical { IsCanonical self.now.set }
+    {
+        let runs = self.set.ranges();
+        if runs.is_empty() {
+            return Ok(None);
+        }
+        if let Some(segment) = first_spent(images, runs) {
+            return Err(TxFault::SequenceSpent { segment });
+        }
+        let words = words_of(runs) as u32;
+        if words > MAX_WORDS {
+            return Err(TxFault::TooLong { words });
+        }
+        Ok(Some(words))
+    }
+
     /// The record of the transaction, as a node is about to log it: the next number of each segment that has a set
     /// position, and the final bytes of all that was set. Idea: RVM's new values (Satyanarayanan et al., TOCS 1994).
     ///
     /// # Errors
     ///
-    /// `SequenceSpent` of the least segment that has used its last number and `TooLong`, looked at in this order, and
-    /// `NoMemory`.
+    /// Those of `end_needs`, and `NoMemory`, only where there is a record of at most 4096 words.
     pub fn prepare_end<I: Images>(
         &self,
         alloc: Global,
@@ -42,28 +80,27 @@ impl Tx {
             × (words ≡ record_len (final_record I.Images images.old self.now node))) }
         ensures record { (words : List ℕ) → result ≡ Ok (Prepared.Record words)
             → IsRecord (final_record I.Images images.old self.now node) words }
+
+        // Where `end_needs` gives a number of words, there is a record of so many, or no memory; elsewhere no memory is wanted.
+        ensures ready { IsLoggable I.Images images.old self.now node
+            → MatchResult result (IsRecordOf (final_record I.Images images.old self.now node)) (λ fault. fault ≡ TxFault.NoMemory) }
+        ensures no_memory { result ≡ Err TxFault.NoMemory → IsLoggable I.Images images.old self.now node }
+
         ensures faults { IfErr result (λ fault. IsTrue (is_of_end fault)) }
         ensures canonical { IsCanonical self.now.set }
     {
-        let runs = self.set.ranges();
-        if runs.is_empty() {
+        let Some(_words) = self.end_needs(images)? else {
             return Ok(Prepared::Empty);
-        }
-        if let Some(segment) = first_spent(images, runs) {
-            return Err(TxFault::SequenceSpent { segment });
-        }
-        let words = words_of(runs);
-        if words > MAX_WORDS {
-            return Err(TxFault::TooLong {
-                words: words as u32,
-            });
-        }
+        };
+        let runs = self.set.ranges();
         let Ok(record) = record_of(alloc, images, runs, node) else {
             return Err(TxFault::NoMemory);
         };
         match encode(alloc, &record) {
             Ok(words) => Ok(Prepared::Record(Items::new(words))),
-            Err(_) => Err(TxFault::NoMemory),
+            Err(RecordFault::NoMemory) => Err(TxFault::NoMemory),
+            Err(RecordFault::NotCanonical) => unreachable!(),
+            Err(RecordFault::TooLong { .. }) => unreachable!(),
         }
     }
 

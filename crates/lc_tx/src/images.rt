@@ -41,7 +41,7 @@ pub trait Images {
 
     ghost beside_itself: { (s : Self) → IsSameBeside s s };
 
-    ghost beside_image: { (s : Self) (segment : ℕ) (image : Picture) → IsSameBeside s (with_image s segment image) };
+    ghost beside_image: { (s : Self) (segment : ℕ) (image : Picture) → IsSome (number_of s segment) → IsSameBeside s (with_image s segment image) };
 
     ghost beside_chained: { (s t u : Self) → IsSameBeside s t → IsSameBeside t u → IsSameBeside s u };
 }

@@ -1,5 +1,5 @@
 //! Laws of transactions: what is kept of one stands for a transaction of the model.
-ghost use Rattle.std.specs.Prelude.{◌≡◌, ◌↔◌, ◌+◌, ◌<◌, ◌≤◌, ℕ, List, [], true, length, IsTrue};
+ghost use Rattle.std.specs.Prelude.{◌≡◌, ◌↔◌, ◌+◌, ◌<◌, ◌≤◌, ℕ, List, [], true, false, map, length, IsTrue};
 ghost use Rattle.lc_record.specs.Content.{Content, segment_of};
 ghost use Rattle.lc_record.specs.Transaction.{Transaction, is_member, all_set};
 ghost use Rattle.lc_record.specs.Marks.{is_empty, ranges, ascending, marked, written};
@@ -7,8 +7,8 @@ ghost use Rattle.lc_record.specs.Recorded.{record_of};
 ghost use Rattle.lc_record.specs.declared.geometry.Geometry.{Geometry};
 ghost use Rattle.lc_range.specs.RangeSet.{IsCanonical, NeedsRunsAbove};
 ghost use Rattle.lc_tx.specs.declared.tx.Tx.{Tx as Kept};
-ghost use Rattle.lc_tx.specs.Images.{bytes_of, IsSame, IsWritten, AreRestored, AreHeldBy};
-ghost use Rattle.lc_tx.specs.Tx.{IsSetOf, Locked, AreSet, RunsOn, Begins, SetsRange};
+ghost use Rattle.lc_tx.specs.Images.{bytes_of, IsSame, IsSameBut, IsWritten, AreRestored, AreHeldBy};
+ghost use Rattle.lc_tx.specs.Tx.{IsSetOf, Locked, AreSet, RunsOn, KeepsLocked, Begins, SetsRange};
 ghost use Rattle.lc_tx.specs.Prepared.{final_record};
 ghost use Rattle.lc_tx.specs.StandsFor.{StandsFor, Show, AreNumbers, begun_on};
 
@@ -41,6 +41,20 @@ pub fn bytes_written<I: Images>()
 pub fn same_images<I: Images>()
     ensures { (old new : I) (tx : Kept) (content : Content) (t : Transaction)
         → StandsFor I.Images old tx content t → RunsOn I.Images old tx → IsSame I.Images old new → StandsFor I.Images new tx content t }
+{}
+
+/// What leaves the segments that it locked leaves a transaction its images.
+pub fn runs_beside<I: Images>()
+    ensures runs { (old new : I) (tx : Kept) → RunsOn I.Images old tx → KeepsLocked I.Images old new tx → RunsOn I.Images new tx }
+    ensures apart { (old new : I) (segments : List ℕ) (tx : Kept) → RunsOn I.Images old tx → IsSameBut I.Images segments old new
+        → ((s : ℕ) → Locked tx s → is_member s segments ≡ false) → KeepsLocked I.Images old new tx }
+{}
+
+/// It leaves what it stands for, on whatever the content has become elsewhere.
+pub fn stands_beside<I: Images>()
+    ensures { (old new : I) (tx : Kept) (content other : Content) (t : Transaction)
+        → StandsFor I.Images old tx content t → RunsOn I.Images old tx → KeepsLocked I.Images old new tx → map length other ≡ map length content
+        → ((s : ℕ) → Locked tx s → segment_of s other ≡ segment_of s content) → StandsFor I.Images new tx other t }
 {}
 
 /// More than 64 runs would stand exactly where the transaction would have more than 64 ranges.
@@ -82,4 +96,10 @@ pub fn one_ascending_list()
     ensures { (g : Geometry) (segments set : List ℕ) → IsSetOf segments set
         → ((segment : ℕ) → IsTrue (is_member segment segments) → (1 ≤ segment) × (segment ≤ g.segments))
         → set ≡ ascending g segments }
+{}
+
+/// Segments numbered from 1 up to a number are at most so many.
+pub fn few_segments()
+    ensures { (most : ℕ) (segments set : List ℕ) → IsSetOf segments set
+        → ((segment : ℕ) → IsTrue (is_member segment segments) → (1 ≤ segment) × (segment ≤ most)) → length set ≤ most }
 {}

@@ -17,8 +17,8 @@ mod tx_fault;
 pub use image::Image;
 pub use images::Images;
 pub use laws::{
-    begun, bytes_written, content_is_back, nothing_is_set, one_ascending_list, one_record,
-    range_set, runs_are_ranges, same_images, set_positions,
+    begun, bytes_written, content_is_back, few_segments, nothing_is_set, one_ascending_list,
+    one_record, range_set, runs_are_ranges, runs_beside, same_images, set_positions, stands_beside,
 };
 pub use prepared::Prepared;
 pub use tx::Tx;

@@ -1,7 +1,7 @@
 //! The numbers of the grammar of records.
 
 /// The most words of a record.
-pub const MAX_WORDS: usize = 4096;
+pub const MAX_WORDS: u32 = 4096;
 /// The greatest number of a commit on a segment.
 pub const MAX_NUMBER: u64 = 1 << 60;
 /// The bytes of a word.

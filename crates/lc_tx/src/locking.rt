@@ -1,5 +1,5 @@
 //! Which segments are free, and who holds them.
-ghost use Rattle.std.specs.Prelude.{◌≡◌, ◌↔◌, ◌++◌, ◌≤◌, ℕ, Some, None, IsTrue, MatchOption, length, take, drop, min, OnOk, IfOk};
+ghost use Rattle.std.specs.Prelude.{◌≡◌, ◌↔◌, ◌++◌, ◌≤◌, ℕ, Some, None, ◌<◌, List, IsTrue, MatchOption, length, take, drop, min, OnOk, OnErr, IfOk};
 ghost use Rattle.smallvec.specs.SmallVec.{small_vec_len};
 ghost use Rattle.lc_record.specs.Transaction.{is_member};
 ghost use Rattle.lc_tx.specs.Images.{IsHere, IsFree, IsFirstTaken, IsSame, AreHeldBy};
@@ -60,7 +60,9 @@ fn count_below(numbers: &[u32], number: u32) -> usize
 
 // Adds a number to ascending ones, once.
 fn insert(set: &mut SmallVec<u32, 16>, number: u32) -> Result<(), AllocError>
-    ensures { OnOk result (set.new.items ≡ with_in_order number set.old.items) }
+    ensures inserted { OnOk result (set.new.items ≡ with_in_order number set.old.items) }
+    ensures capacity { set.old.capacity ≤ set.new.capacity }
+    ensures memory { OnErr result (set.old.capacity < length (with_in_order number set.old.items)) }
 {
     let place = count_below(set.as_slice(), number);
     if place < set.len() && set[place] == number {
@@ -70,9 +72,10 @@ fn insert(set: &mut SmallVec<u32, 16>, number: u32) -> Result<(), AllocError>
     Ok(())
 }
 
-/// These numbers as a set: ascending, each once.
+/// These numbers as a set: ascending, each once. It takes no memory for 16.
 pub fn set_of(alloc: Global, numbers: &[u32]) -> Result<SmallVec<u32, 16>, AllocError>
-    ensures { IfOk result (λ set. IsSetOf numbers.now set.items) }
+    ensures set { IfOk result (λ set. IsSetOf numbers.now set.items) }
+    ensures memory { OnErr result ((set : List ℕ) × IsSetOf numbers.now set × (16 < length set)) }
 {
     let mut set = SmallVec::new(alloc);
     for number in numbers {

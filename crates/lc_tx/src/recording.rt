@@ -1,6 +1,8 @@
 //! The record of a transaction's runs.
 ghost use Rattle.std.specs.Prelude.{◌≡◌, ◌+◌, ◌<◌, ◌≤◌, ◌^◌, ℕ, IsTrue, length, map, take, drop, unwrap_or, IfOk};
 ghost use Rattle.lc_record.specs.Transaction.{is_member};
+ghost use Rattle.std.specs.List.{AllByRecursion};
+ghost use Rattle.lc_record.specs.Words.{AreBytes};
 ghost use Rattle.lc_range.specs.RangeSet.{EndWithin};
 ghost use Rattle.lc_tx.specs.Images.{IsHere, IsSame, bytes_of};
 ghost use Rattle.lc_tx.specs.Prepared.{AreUnspent, run_data, segments_of};
@@ -82,6 +84,7 @@ fn run_data(alloc: Global, image: &[u8], run: &Range) -> Result<RangeData, Alloc
     ensures segment { IfOk result (λ it. it.segment ≡ run.now.segment) }
     ensures offset { IfOk result (λ it. it.offset ≡ run.now.offset) }
     ensures bytes { IfOk result (λ it. it.bytes ≡ take run.now.len (drop run.now.offset image.now)) }
+    ensures fit { IfOk result (λ it. AreBytes it.bytes) }
 {
     let start = run.offset as usize;
     let bytes = Vec::from_slice(alloc, &image[start..start + run.len as usize])?;
@@ -100,6 +103,7 @@ fn ranges_of<I: Images>(
 ) -> Result<Vec<RangeData>, AllocError>
     requires { AreInside I.Images images.old runs.now }
     ensures ranges { IfOk result (λ ranges. ranges.items ≡ map (run_data I.Images images.old) runs.now) }
+    ensures fit { IfOk result (λ ranges. AllByRecursion (λ it. AreBytes it.bytes) ranges.items) }
     ensures same { IsSame I.Images images.old images.new }
 {
     let mut ranges = Vec::with_capacity(alloc, runs.len())?;
@@ -124,6 +128,7 @@ pub fn record_of<I: Images>(
     ensures node { IfOk result (λ r. r.node ≡ node) }
     ensures locks { IfOk result (λ r. r.locks ≡ locks_of I.Images images.old runs.now) }
     ensures ranges { IfOk result (λ r. r.ranges ≡ map (run_data I.Images images.old) runs.now) }
+    ensures fit { IfOk result (λ r. AllByRecursion (λ it. AreBytes it.bytes) r.ranges) }
     ensures same { IsSame I.Images images.old images.new }
 {
     let locks = locks_of(alloc, images, runs)?;

@@ -57,7 +57,7 @@ impl Images for TwoImages {
 
     ghost beside_itself = { λ s. tt };
 
-    ghost beside_image = { λ s segment image. tt };
+    ghost beside_image = { λ s segment image here. tt };
 
     ghost beside_chained = { λ s t u one two. tt };
 }
@@ -82,6 +82,16 @@ fn prepare(alloc: Global, images: &mut TwoImages, tx: &Tx, node: u16) -> Result<
         return Err(TxFault::NoMemory);
     }
     tx.prepare_end(alloc, images, node)
+}
+
+// What the end needs, on images of 16,384 bytes at most.
+fn needs(images: &TwoImages, tx: &Tx) -> Result<Option<u32>, TxFault>
+    requires { RunsOn ⟦<TwoImages as Images>⟧ images.now tx.now }
+{
+    if images.first.bytes().len() > 16384 || images.second.bytes().len() > 16384 {
+        return Err(TxFault::NoMemory);
+    }
+    tx.end_needs(images)
 }
 
 // Sets these ranges of a segment, each an offset and a length.
@@ -122,6 +132,7 @@ fn ranges_merge_in_the_record(rt: HostRuntime) -> Result<(), Fail> {
         1,
         &[(0, 4), (4, 4), (2, 3), (20, 1)],
     )?;
+    assert_eq!(rt; needs(&images, &tx), Ok(Some(11)));
     let prepared = prepare(alloc, &mut images, &tx, 0)?;
     let words = words_of(prepared).ok_or("something was set")?;
     assert_eq!(rt; words.as_slice().len(), 11);
@@ -220,6 +231,7 @@ fn nothing_set_is_nothing_to_log(rt: HostRuntime) -> Result<(), Fail> {
     let alloc = rt.alloc();
     let mut images = two_images(alloc, 256)?;
     let tx = Tx::begin(alloc, &mut images, 0, &[1, 2])?;
+    assert_eq!(rt; needs(&images, &tx), Ok(None));
     assert!(rt; words_of(prepare(alloc, &mut images, &tx, 0)?).is_none());
     let none = Tx::begin(alloc, &mut images, 1, &[])?;
     assert!(rt; none.locked().is_empty());
@@ -273,9 +285,11 @@ fn numbers_end_at_2_to_60(rt: HostRuntime) -> Result<(), Fail> {
         let mut tx = Tx::begin(alloc, &mut images, 0, &[1, 2])?;
         tx.set_range(alloc, &mut images, 1, 0, 1)?;
         tx.set_range(alloc, &mut images, 2, 0, 1)?;
-        let fault = prepare(alloc, &mut images, &tx, 0).err();
         let spent = TxFault::SequenceSpent { segment: 2 };
-        assert_eq!(rt; fault, if is_spent { Some(spent) } else { None });
+        let answer = if is_spent { Err(spent) } else { Ok(Some(13)) };
+        assert_eq!(rt; needs(&images, &tx), answer);
+        let fault = prepare(alloc, &mut images, &tx, 0).err();
+        assert_eq!(rt; fault, answer.err());
     }
     Ok(())
 }
@@ -287,8 +301,57 @@ fn a_record_has_4096_words_at_most(rt: HostRuntime) -> Result<(), Fail> {
     let mut tx = Tx::begin(alloc, &mut images, 0, &[1, 2])?;
     tx.set_range(alloc, &mut images, 1, 0, 16384)?;
     tx.set_range(alloc, &mut images, 2, 0, 16384)?;
-    let fault = prepare(alloc, &mut images, &tx, 0).err();
-    assert_eq!(rt; fault, Some(TxFault::TooLong { words: 4107 }));
+    let long = TxFault::TooLong { words: 4107 };
+    assert_eq!(rt; needs(&images, &tx), Err(long));
+    assert_eq!(rt; prepare(alloc, &mut images, &tx, 0).err(), Some(long));
+    Ok(())
+}
+
+// The numbers of the refusals of a range, a write and a read behind a segment's 256 bytes, or 0.
+fn codes_behind(alloc: Global, images: &mut TwoImages, tx: &mut Tx, segment: u32) -> [u8; 3]
+    requires { RunsOn ⟦<TwoImages as Images>⟧ images.old tx.old }
+    ensures { RunsOn ⟦<TwoImages as Images>⟧ images.new tx.new }
+{
+    let mut codes = [0; 3];
+    if let Err(fault) = tx.set_range(alloc, images, segment, 256, 1) {
+        codes[0] = fault.code();
+    }
+    if let Err(fault) = tx.write(images, segment, 256, b"a") {
+        codes[1] = fault.code();
+    }
+    if let Err(fault) = tx.read(alloc, images, segment, 256, 1) {
+        codes[2] = fault.code();
+    }
+    codes
+}
+
+#[test]
+fn an_unlocked_segment_is_refused_before_its_length(rt: HostRuntime) -> Result<(), Fail> {
+    let alloc = rt.alloc();
+    let mut images = two_images(alloc, 256)?;
+    let mut tx = Tx::begin(alloc, &mut images, 0, &[1])?;
+    assert_eq!(rt; codes_behind(alloc, &mut images, &mut tx, 1), [4, 4, 4]);
+    assert_eq!(rt; codes_behind(alloc, &mut images, &mut tx, 2), [5, 5, 5]);
+    Ok(())
+}
+
+// Seventeen times one of two segments are two locks, no bytes are read, and a range is set once more.
+#[test]
+fn what_does_not_grow_wants_no_memory(rt: HostRuntime) -> Result<(), Fail> {
+    let alloc = rt.alloc();
+    let mut images = match two_images(alloc, 64) {
+        Ok(images) => images,
+        Err(_) => two_images(alloc, 64)?,
+    };
+    let mut segments = [2; 17];
+    segments[8] = 1;
+    let mut tx = Tx::begin(alloc, &mut images, 1, &segments)?;
+    assert_eq!(rt; tx.locked(), [1, 2].as_slice());
+    assert!(rt; tx.read(alloc, &mut images, 1, 64, 0)?.is_empty());
+    assert!(rt; words_of(prepare(alloc, &mut images, &tx, 0)?).is_none());
+    set_again(&rt, alloc, &mut images, &mut tx, 4)?;
+    assert_eq!(rt; tx.set_range(alloc, &mut images, 1, 4, 2), Ok(()));
+    assert_eq!(rt; needs(&images, &tx), Ok(Some(8)));
     Ok(())
 }
 

@@ -1,6 +1,9 @@
-use Rattle.std.proofs.Common.{◌≡◌, ◌∷◌, ◌++◌, List, [], length, map, take, get_or, refl, ap, sym, ◌∙◌, arith}
+use Rattle.std.proofs.Common.{◌≡◌, ◌∷◌, ◌++◌, List, [], length, map, take, get_or, refl, ap, sym, subst, ◌∙◌, arith}
 use Rattle.std.proofs.lemmas.List.{take_more, map-append}
+use Rattle.std.specs.List.{AllByRecursion}
 use Rattle.lc_range.specs.declared.range.Range.{Range}
+use Rattle.lc_record.specs.Words.{AreBytes}
+use Rattle.lc_tx.proofs.CanonicalLemmas.{fit_more}
 use Rattle.lc_record.specs.declared.record.RangeData.{RangeData}
 use Rattle.lc_tx.specs.declared.image.Image.{Image as Picture}
 use Rattle.lc_tx.specs.Images.{bytes_of}
@@ -62,5 +65,6 @@ loop-run-preserved g c =
     record {
       ranges = c.in_ok-push.ensures.items ∙ ap (λ (l : List RangeData). l ++ it ∷ []) c.loop-run.invariant.ranges ∙ ap (λ (r : RangeData). map (run_data g.I.Images old) (take i runs) ++ r ∷ []) is
           ∙ sym (map-append (run_data g.I.Images old) (take i runs) (run ∷ [])) ∙ ap (map (run_data g.I.Images old)) (sym (take_more runs i d c.loop-run-test.true));
+      fit = subst (λ (l : List RangeData). AllByRecursion (λ r. AreBytes r.bytes) l) (sym c.in_ok-push.ensures.items) (fit_more c.loop-run.ranges.items it c.loop-run.invariant.fit c.in_ok-data.ensures.fit);
       same = same_lent g.I.Images (laws g) old c.loop-run.images runs i d c.image-image.result.now c.requires c.loop-run-test.true c.loop-run.invariant.same c.image-image.ensures.value;
     }

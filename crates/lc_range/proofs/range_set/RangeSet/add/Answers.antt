@@ -2,7 +2,7 @@ use Rattle.std.proofs.Common.{◌≡◌, ◌+◌, ◌-◌, ◌^◌, ◌<◌, ◌
 use Rattle.lc_range.specs.RangeSet.{IsCanonical, EndWithin, NeedsRunsAbove}
 use Rattle.lc_range.specs.Walk.{merged}
 use Rattle.lc_range.specs.declared.range.Range.{Range}
-use Rattle.lc_range.proofs.AddLemmas.{adds, canonical, above, not_above, ends, length_replaced, made, ok_gives, err_is_not_ok}
+use Rattle.lc_range.proofs.AddLemmas.{adds, canonical, above, not_above, ends, length_replaced, made, ok_gives, err_is_not_ok, needs_misses}
 use Rattle.lc_range.proofs.range_set.RangeSet.add.Goals as goal
 use Rattle.lc_range.proofs.range_set.RangeSet.add.Goals.{After-replace, Then-len-ge-MAX_RUNS, Then-is_err, Else-is_err}
 
@@ -134,3 +134,10 @@ returns-clause-canonical c =
 pub returns-clause-too_many : goal.returns-clause-too_many
 returns-clause-too_many c =
     (λ e. absurd (cc), λ h. absurd (not_above c.args.self.now (record { segment = c.args.segment; offset = c.args.offset; len = c.args.len }) c.insert.new.self.items (was_canonical c) (omega (arith, c.if-len-eq0.false)) (merged_is c) 64 (few_inserted c) h.2))
+
+pub returns-then-is_err-clause-misses : goal.returns-then-is_err-clause-misses
+returns-then-is_err-clause-misses c = λ e.
+    let set = c.args.self.now in
+    let old_len : length c.self.inside.runs.items ≡ length set = ap length c.self.view_is in
+    needs_misses set c.args.segment c.args.offset c.args.len (subst (λ (l : List Range). IsCanonical l) c.self.view_is c.self.invariant.canonical)
+    ((without_memory c (length set) (omega (arith, old_len, c.self.invariant.few))).0 refl)

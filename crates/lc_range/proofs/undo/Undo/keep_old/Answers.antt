@@ -1,10 +1,13 @@
-use Rattle.std.proofs.Common.{◌≡◌, ◌+◌, ◌≤◌, ℕ, List, ◌++◌, length, take, ap, refl, sym, subst, ◌∙◌, arith}
+use Rattle.std.proofs.Common.{◌≡◌, ◌+◌, ◌≤◌, ℕ, List, ◌++◌, length, take, ap, refl, sym, subst, ◌∙◌, arith, rules}
+use Rattle.std.proofs.lemmas.Result.{on_err_weaker}
 use Rattle.std.proofs.lemmas.List.{take_at}
 use Rattle.std.specs.Prelude.{slice_index, OnOk}
-use Rattle.lc_range.specs.RangeSet.{CountsOutside, total_len}
+use Rattle.lc_range.specs.RangeSet.{CountsOutside, IsCanonical, MissesSome, total_len}
+use Rattle.lc_range.specs.Walk.{parts}
+use Rattle.lc_range.specs.declared.range.Range.{Range}
 use Rattle.lc_range.specs.Undo.{OldBytes, KeepsOld, LiesBelow, bytes_kept}
 use Rattle.lc_range.specs.Copies.{copies_of, cut}
-use Rattle.lc_range.proofs.PartsLemmas.{ArePartsOf, parts_are, some_from_canonical}
+use Rattle.lc_range.proofs.PartsLemmas.{ArePartsOf, parts_are, parts_outside, canonical-parts, misses_some, some_from_canonical}
 use Rattle.lc_range.proofs.KeepLemmas.{bytes_kept-append, bytes_kept-copies, length-cut, keeps_first, keeps_bytes, keeps_others, keeps_below, on_both, copies_after, view_after}
 use Rattle.lc_range.proofs.undo.Undo.keep_old.Goals as goal
 use Rattle.lc_range.proofs.undo.Undo.keep_old.Goals.{After-as_slice, Joined-parts}
@@ -12,7 +15,7 @@ use Rattle.lc_range.proofs.undo.Undo.keep_old.Goals.{After-as_slice, Joined-part
 before : (c : After-as_slice) → ArePartsOf c.args.set.now c.args.segment c.args.offset c.args.len (length c.args.image.now) c.as_slice.result.now
 before c =
     parts_are c.args.set.now c.ranges-2.result.now c.args.segment c.args.offset c.args.len (length c.args.image.now) c.as_slice.result.now c.in_ok-parts.parts.items
-    c.ranges-2.ensures.runs c.ranges-2.ensures.canonical c.requires c.as_slice.ensures c.in_ok-parts.ensures
+    c.ranges-2.ensures.runs c.ranges-2.ensures.canonical c.requires c.as_slice.ensures c.in_ok-parts.ensures.parts
 
 pub keep-requires-clause-within : goal.keep-requires-clause-within
 keep-requires-clause-within c = (before c).ends
@@ -23,7 +26,7 @@ keep-requires-clause-fits c = omega (arith, (before c).total)
 the_parts : (c : Joined-parts) → ArePartsOf c.args.set.now c.args.segment c.args.offset c.args.len (length c.args.image.now) c.as_slice.result.now
 the_parts c =
     parts_are c.args.set.now c.ranges-2.result.now c.args.segment c.args.offset c.args.len (length c.args.image.now) c.as_slice.result.now c.in_ok-parts.parts.items
-    c.ranges-2.ensures.runs c.ranges-2.ensures.canonical c.requires c.as_slice.ensures c.in_ok-parts.ensures
+    c.ranges-2.ensures.runs c.ranges-2.ensures.canonical c.requires c.as_slice.ensures c.in_ok-parts.ensures.parts
 
 pub invariant_of-self : goal.invariant_of-self
 invariant_of-self c =
@@ -63,3 +66,21 @@ returns-clause-below c =
 
 pub returns-clause-front : goal.returns-clause-front
 returns-clause-front c = shown c (λ l. take (length c.args.self.now) l ≡ c.args.self.now) (take_at c.args.self.now _ (length c.args.self.now) refl)
+
+pub returns-in_err-parts-clause-memory : goal.returns-in_err-parts-clause-memory
+returns-in_err-parts-clause-memory c =
+    let runs = c.ranges-2.result.now in
+    let front = parts c.args.segment c.args.offset (c.args.offset + c.args.len) runs in
+    let all = parts_outside runs c.args.segment c.args.offset c.args.len canonical in
+    let misses : MissesSome c.args.set.now c.args.segment c.args.offset c.args.len =
+    subst (λ (l : List Range). MissesSome l c.args.segment c.args.offset c.args.len) c.ranges-2.ensures.runs
+    (misses_some runs front c.args.segment c.args.offset c.args.len all (canonical-parts c.args.segment c.args.offset (c.args.offset + c.args.len) runs canonical) (c.in_err-parts.ensures.memory)) in
+    search rules
+  where
+    canonical : IsCanonical c.ranges-2.result.now
+    canonical = subst (λ (l : List Range). IsCanonical l) (sym c.ranges-2.ensures.runs) c.ranges-2.ensures.canonical
+
+pub returns-clause-memory : goal.returns-clause-memory
+returns-clause-memory c =
+    let parts = the_parts c in
+    on_err_weaker c.keep.result (misses_some c.args.set.now c.as_slice.result.now c.args.segment c.args.offset c.args.len parts.outside parts.canonical) c.keep.ensures.memory
