@@ -1,7 +1,6 @@
 -- A store that fits a state, with some of its parts changed.
-use Rattle.std.proofs.Common.{◌≡◌, ℕ, ◌+◌, ◌<◌, ◌≤◌, true, false, nat_lt, List, [], ◌++◌, length, Some, None, refl, sym, ◌∙◌, ap, subst, true≢false, arith}
-use Rattle.std.specs.Prelude.{◌↔◌, Result, Ok, Err, MatchBool}
-use Rattle.std.proofs.lemmas.Bool.Decides.{nat_tests}
+use Rattle.std.proofs.Common.{◌≡◌, ℕ, ◌+◌, ◌<◌, ◌≤◌, true, false, List, [], ◌++◌, length, Option, Some, None, refl, sym, ◌∙◌, ap, ap₂, subst, true≢false, arith}
+use Rattle.std.specs.Prelude.{◌↔◌, Result, Ok, Err}
 use Rattle.lc_disk.specs.MemArea.{memory_now, memory_dirty}
 use Rattle.lc_record.specs.declared.geometry.Geometry.{Geometry}
 use Rattle.lc_core.specs.History.{value}
@@ -10,7 +9,7 @@ use Rattle.lc_core.specs.Settled.{history_records}
 use Rattle.lc_core.specs.Machine.{appended, dropped}
 use Rattle.lc_core.specs.declared.event.Event.TheVariants.{Reserve}
 use Rattle.lc_core.specs.declared.refusal.Refusal.{Refusal}
-use Rattle.lc_core.specs.declared.refusal.Refusal.TheVariants.{SequenceSpent, TooLong, Full}
+use Rattle.lc_core.specs.declared.refusal.Refusal.TheVariants.{SequenceSpent, TooLong}
 use Rattle.lc_core.specs.declared.reply.Reply.{Reply}
 use Rattle.lc_core.specs.declared.reply.Reply.TheVariants.{Reserved, Refused}
 use Rattle.lc_record.specs.Transaction.{Transaction, is_member}
@@ -18,20 +17,18 @@ use Rattle.lc_record.specs.Record.{record_len, IsRecord}
 use Rattle.lc_record.specs.declared.record.Record.{Record}
 use Rattle.lc_record.proofs.SpellingLemmas.{length-spelling}
 use Rattle.lc_range.specs.RangeSet.{IsCanonical}
-use Rattle.lc_tx.specs.Fault.{is_of_end}
+use Rattle.lc_tx.specs.Fault.{is_of_needs}
 use Rattle.lc_tx.specs.Tx.{RunsOn}
 use Rattle.lc_tx.specs.Prepared.{IsFirstSpent, AreUnspent, final_record}
-use Rattle.lc_tx.specs.declared.prepared.Prepared.{Prepared}
-use Rattle.lc_tx.specs.declared.prepared.Prepared.TheVariants.{Empty}
 use Rattle.lc_tx.specs.declared.tx.Tx.{Tx}
 use Rattle.lc_tx.specs.declared.tx_fault.TxFault.{TxFault}
 use Rattle.lc_tx.specs.declared.tx_fault.TxFault.TheVariants.{Busy as IsBusy, NotHere as IsNotHere, NoRange as HasNoRange, OutOfSegment as IsOutside, NotLocked as IsNotLocked, NoMemory, TooLong as IsTooLong, SequenceSpent as IsSpent, EmptyRange as IsEmpty, TooManyRanges as AreTooMany}
 use Rattle.lc_tool.specs.Refused.{refusal_of}
 use Rattle.lc_tool.specs.OneSegment.{the_images}
 use Rattle.lc_tool.specs.Session.{Answers, Ends}
-use Rattle.lc_tool.specs.Fits.{Fits, FitsBytes, FitsRecords, FitsStill, IsReleased, IsLogged, Logs}
+use Rattle.lc_tool.specs.Fits.{Fits, FitsBytes, FitsRecords, FitsStill, IsReleased, IsLogged}
 use Rattle.lc_tool.proofs.StepLemmas.{the_one, fits_open}
-use Rattle.lc_tool.proofs.EndLemmas.{closed_after, ended_bytes, spent_row, too_long_row, full_row, reserve_row, close_row, bytes_after, records_after}
+use Rattle.lc_tool.proofs.EndLemmas.{closed_after, ended_bytes, spent_row, too_long_row, reserve_row, close_row, bytes_after, records_after}
 use Rattle.lc_tool.specs.declared.solo.Solo.{Solo}
 
 module _ (m : Setting) (w : Solo) (s : State) (h : Fits m w s) where
@@ -74,12 +71,6 @@ module _ (m : Setting) (w : Solo) (s : State) (h : Fits m w s) where
 
 -- The end of a transaction
 
-past_is : (a b : ℕ) → nat_lt a b ≡ true → a < b
-past_is a b e = grind (arith, nat_tests)
-
-room_is : (a b : ℕ) → nat_lt a b ≡ false → b ≤ a
-room_is a b e = grind (arith, nat_tests)
-
 module _ (m : Setting) (w : Solo) (s : State) (h : Fits m w s) (tx : Tx) (is : w.running ≡ Some tx) (canonical : IsCanonical tx.set) where
   runs : RunsOn the_images w.segment tx
   runs = w.runs tx is
@@ -99,66 +90,50 @@ module _ (m : Setting) (w : Solo) (s : State) (h : Fits m w s) (tx : Tx) (is : w
       (ap (λ g. g.words) (released.same_staged ∙ staged)) (released.same_records ∙ ap (λ seg. seg.records) segment)
       h.still (ended_bytes m w s h tx is runs canonical n.segment none bytes free) h.records h.acked
 
-  -- its words are logged, or there is no room
-  pub logged : (mid n : Solo) (words : List ℕ) (reply : Reply) → Logs mid words reply n → mid.geometry ≡ w.geometry → mid.log ≡ w.log → mid.staged ≡ w.staged → mid.segment ≡ w.segment → mid.running ≡ w.running → mid.acked ≡ w.acked
+  -- its words are logged
+  pub logged : (mid n : Solo) (words : List ℕ) (reply : Reply) → IsLogged mid words n → reply ≡ Reserved (mid.log.end + length mid.staged.words) (length words)
+      → mid.log.end + length mid.staged.words + length words ≤ mid.geometry.words
+      → mid.geometry ≡ w.geometry → mid.log ≡ w.log → mid.staged ≡ w.staged → mid.segment ≡ w.segment → mid.running ≡ w.running → mid.acked ≡ w.acked
       → (tx.set ≡ [] → ⊥) → IsRecord (final_record the_images w.segment tx 0) words
       → (one : State) × (after : State) × Answers m s (Reserve 0 0) reply one × Ends m one 0 0 reply after × Fits m n after
-  logged mid n words reply logs geometry log staged segment running acked some spelled =
-      elim (nat_lt w.geometry.words (place + length words)) as (λ b. nat_lt w.geometry.words (place + length words) ≡ b
-      → MatchBool b ((reply ≡ Refused (Full place (length words))) × (n ≡ mid)) ((reply ≡ Reserved place (length words)) × IsLogged mid words n)
-      → (one : State) × (after : State) × Answers m s (Reserve 0 0) reply one × Ends m one 0 0 reply after × Fits m n after) [
-        | true ↦ λ past full.
-            subst (λ (r : Reply). (one : State) × (after : State) × Answers m s (Reserve 0 0) r one × Ends m one 0 0 r after × Fits m n after) (sym full.0) (
-              s,
-              s,
-              full_row m w s h tx is runs canonical some words spelled (past_is w.geometry.words (place + length words) past),
-              refl,
-              subst (λ (x : Solo). Fits m x s) (sym full.1) (same_fits m w s h mid geometry log staged segment running acked),
-            )
-        | false ↦ λ room reserved.
-            let kept = reserved.1 in
-            let t : Transaction = the_one m w s h tx is in
-            let bytes : n.segment.image.bytes.items ≡ w.segment.image.bytes.items = kept.same_bytes ∙ ap (λ seg. seg.image.bytes.items) segment in
-            let free : n.segment.image.holder ≡ None = kept.free tx (running ∙ is) (λ other. ap (λ seg. seg.image.holder) segment ∙ free_now other) in
-            subst (λ (r : Reply). (one : State) × (after : State) × Answers m s (Reserve 0 0) r one × Ends m one 0 0 r after × Fits m n after) (sym reserved.0) (
-              appended s t,
-              closed_after s t,
-              reserve_row m w s h tx is runs canonical some words spelled (room_is w.geometry.words (place + length words) room),
-              close_row m w s h tx is runs canonical some words spelled,
-              over_fits m w s h n (closed_after s t) (w.staged.words ++ words) (w.segment.records + 1)
-                  (kept.same_geometry ∙ geometry) (kept.same_log ∙ log) kept.over (kept.same_acked ∙ acked)
-                  (ap (λ g. g.words) kept.staged ∙ ap (λ g. g.words ++ words) staged) (kept.one_more ∙ ap (λ seg. seg.records + 1) segment)
-                  h.still (bytes_after m w s h tx is runs canonical some words spelled n.segment bytes free) (records_after m w s h tx is runs canonical some words spelled) h.acked,
-            )
-      ] refl logs_here
-    where
-      place : ℕ
-      place = w.log.end + length w.staged.words
-
-      logs_here : MatchBool (nat_lt w.geometry.words (place + length words)) ((reply ≡ Refused (Full place (length words))) × (n ≡ mid)) ((reply ≡ Reserved place (length words)) × IsLogged mid words n)
-      logs_here =
-          subst (λ g. MatchBool (nat_lt g.words (w.log.end + length w.staged.words + length words)) ((reply ≡ Refused (Full (w.log.end + length w.staged.words) (length words))) × (n ≡ mid)) ((reply ≡ Reserved (w.log.end + length w.staged.words) (length words)) × IsLogged mid words n)) geometry
-          (subst (λ l. MatchBool (nat_lt mid.geometry.words (l.end + length w.staged.words + length words)) ((reply ≡ Refused (Full (l.end + length w.staged.words) (length words))) × (n ≡ mid)) ((reply ≡ Reserved (l.end + length w.staged.words) (length words)) × IsLogged mid words n)) log
-          (subst (λ g. MatchBool (nat_lt mid.geometry.words (mid.log.end + length g.words + length words)) ((reply ≡ Refused (Full (mid.log.end + length g.words) (length words))) × (n ≡ mid)) ((reply ≡ Reserved (mid.log.end + length g.words) (length words)) × IsLogged mid words n)) staged logs))
+  logged mid n words reply kept is_reply room geometry log staged segment running acked some spelled =
+      let t : Transaction = the_one m w s h tx is in
+      let place : ℕ = w.log.end + length w.staged.words in
+      let bytes : n.segment.image.bytes.items ≡ w.segment.image.bytes.items = kept.same_bytes ∙ ap (λ seg. seg.image.bytes.items) segment in
+      let free : n.segment.image.holder ≡ None = kept.free tx (running ∙ is) (λ other. ap (λ seg. seg.image.holder) segment ∙ free_now other) in
+      let place_is : mid.log.end + length mid.staged.words ≡ place = ap₂ (λ (a b : ℕ). a + b) (ap (λ l. l.end) log) (ap (λ g. length g.words) staged) in
+      let fits : place + length words ≤ w.geometry.words =
+      subst (λ (g : Geometry). place + length words ≤ g.words) geometry (subst (λ (k : ℕ). k + length words ≤ mid.geometry.words) place_is room) in
+      subst (λ (r : Reply). (one : State) × (after : State) × Answers m s (Reserve 0 0) r one × Ends m one 0 0 r after × Fits m n after)
+      (sym (is_reply ∙ ap (λ (k : ℕ). Reserved k (length words)) place_is)) (
+        appended s t,
+        closed_after s t,
+        reserve_row m w s h tx is runs canonical some words spelled fits,
+        close_row m w s h tx is runs canonical some words spelled,
+        over_fits m w s h n (closed_after s t) (w.staged.words ++ words) (w.segment.records + 1)
+            (kept.same_geometry ∙ geometry) (kept.same_log ∙ log) kept.over (kept.same_acked ∙ acked)
+            (ap (λ g. g.words) kept.staged ∙ ap (λ g. g.words ++ words) staged) (kept.one_more ∙ ap (λ seg. seg.records + 1) segment)
+            h.still (bytes_after m w s h tx is runs canonical some words spelled n.segment bytes free) (records_after m w s h tx is runs canonical some words spelled) h.acked,
+      )
 
   -- a fault of its end
-  pub end_fault : (r : Result Prepared TxFault) (fault : TxFault) (refusal : Refusal)
-      → ((r ≡ Ok Empty) ↔ (tx.set ≡ []))
+  pub end_fault : (r : Result (Option ℕ) TxFault) (fault : TxFault) (refusal : Refusal)
+      → ((r ≡ Ok None) ↔ (tx.set ≡ []))
       → ((n : ℕ) → (r ≡ Err (IsSpent n)) ↔ IsFirstSpent (final_record the_images w.segment tx 0).locks n)
       → ((n : ℕ) → (r ≡ Err (IsTooLong n)) ↔ (AreUnspent (final_record the_images w.segment tx 0).locks × (4096 < record_len (final_record the_images w.segment tx 0)) × (n ≡ record_len (final_record the_images w.segment tx 0))))
-      → is_of_end fault ≡ true → r ≡ Err fault → refusal_of fault ≡ Some refusal → Answers m s (Reserve 0 0) (Refused refusal) s
+      → is_of_needs fault ≡ true → r ≡ Err fault → refusal_of fault ≡ Some refusal → Answers m s (Reserve 0 0) (Refused refusal) s
   end_fault r fault refusal empty first long may err same = by_fault fault may err same
     where
       some : tx.set ≡ [] → ⊥
-      some none = let both : Ok Empty ≡ Err fault = sym (empty.1 none) ∙ err in cc
+      some none = let both : Ok None ≡ Err fault = sym (empty.1 none) ∙ err in cc
 
-      by_fault : (f : TxFault) → is_of_end f ≡ true → r ≡ Err f → refusal_of f ≡ Some refusal → Answers m s (Reserve 0 0) (Refused refusal) s
+      by_fault : (f : TxFault) → is_of_needs f ≡ true → r ≡ Err f → refusal_of f ≡ Some refusal → Answers m s (Reserve 0 0) (Refused refusal) s
       by_fault (IsSpent n) may err same =
           subst (λ (q : Refusal). Answers m s (Reserve 0 0) (Refused q) s) (let e : SequenceSpent n ≡ refusal = cc in e) (spent_row m w s h tx is runs canonical some n ((first n).0 err))
       by_fault (IsTooLong n) may err same =
           let why = (long n).0 err in
           subst (λ (q : Refusal). Answers m s (Reserve 0 0) (Refused q) s) (let e : TooLong n ≡ refusal = cc in e) (too_long_row m w s h tx is runs canonical some n why.0 why.1 why.2)
-      by_fault NoMemory may err same = absurd (let none : None ≡ Some refusal = same in cc)
+      by_fault NoMemory may err same = absurd (true≢false (sym may))
       by_fault (IsBusy n) may err same = absurd (true≢false (sym may))
       by_fault (IsNotHere n) may err same = absurd (true≢false (sym may))
       by_fault IsNotLocked may err same = absurd (true≢false (sym may))
@@ -167,9 +142,13 @@ module _ (m : Setting) (w : Solo) (s : State) (h : Fits m w s) (tx : Tx) (is : w
       by_fault IsEmpty may err same = absurd (true≢false (sym may))
       by_fault AreTooMany may err same = absurd (true≢false (sym may))
 
+-- a record's words are as many as its length says
+pub words_len : (r : Record) (words : List ℕ) → IsRecord r words → length words ≡ record_len r
+words_len r words is = ap length is.spelled ∙ length-spelling r
+
 -- a record's words are some, and few
 pub words_between : (r : Record) (words : List ℕ) → IsRecord r words → (1 ≤ length words) × (length words ≤ 4096)
 words_between r words is =
-    let len : length words ≡ record_len r = ap length is.spelled ∙ length-spelling r in
+    let len = words_len r words is in
     let more : 3 ≤ record_len r = omega arith in
     (omega (arith, len, more), omega (arith, len, is.short))

@@ -225,28 +225,31 @@ module _ (m : Setting) (w : Solo) (s : State) (h : Fits m w s) where
             subst (λ (k : ℕ). Answers m s (Reserve 0 0) (Refused (TooLong k)) s) (sym same)
             (refused_by (TooLong (record_len prepared)) refl (unspent prepared.locks _ fresh ∙ long_len w.geometry.words place (record_len prepared) long))
 
-        module _ (words : List ℕ) (spelled : IsRecord prepared words) where
-          fresh : AreUnspent prepared.locks
-          fresh = few_numbers prepared.locks spelled.canonical.each_lock
+        -- a record that has its numbers, and is short
+        module _ (fresh : AreUnspent prepared.locks) (short : record_len prepared ≤ 4096) where
+          -- the log has no room
+          pub full_row : w.geometry.words < place + record_len prepared → Answers m s (Reserve 0 0) (Refused (Full place (record_len prepared))) s
+          full_row past =
+              refused_by (Full place (record_len prepared)) refl (unspent prepared.locks _ fresh ∙ full_len w.geometry.words place (record_len prepared) short past)
 
+          -- the log has room
+          pub room_row : place + record_len prepared ≤ w.geometry.words → Answers m s (Reserve 0 0) (Reserved place (record_len prepared)) (appended s t)
+          room_row fits =
+              let room : record_refusal w.geometry.words place prepared ≡ None =
+              unspent prepared.locks _ fresh ∙ room_len w.geometry.words place (record_len prepared) short fits in (
+                step-row m s (Reserve 0 0) (Reserved place (record_len prepared)) (appended s t) (no_refusal m w s h (Reserve 0 0) (known_seat m w s h) h.still.not_halted)
+                    (reserve-done m s 0 0 t place (record_len prepared) (running m w s h tx is) (set_some canonical some)),
+                settled_by (Reserved place (record_len prepared)) (sym (reply_by None room)),
+              )
+
+        module _ (words : List ℕ) (spelled : IsRecord prepared words) where
           len_is : length words ≡ record_len prepared
           len_is = ap length spelled.spelled ∙ length-spelling prepared
 
-          -- the log has no room
-          pub full_row : w.geometry.words < place + length words → Answers m s (Reserve 0 0) (Refused (Full place (length words))) s
-          full_row past =
-              subst (λ (k : ℕ). Answers m s (Reserve 0 0) (Refused (Full place k)) s) (sym len_is)
-              (refused_by (Full place (record_len prepared)) refl (unspent prepared.locks _ fresh ∙ full_len w.geometry.words place (record_len prepared) spelled.short (subst (λ (k : ℕ). w.geometry.words < place + k) len_is past)))
-
-          -- the log has room
           pub reserve_row : place + length words ≤ w.geometry.words → Answers m s (Reserve 0 0) (Reserved place (length words)) (appended s t)
           reserve_row fits =
-              let room : record_refusal w.geometry.words place prepared ≡ None =
-              unspent prepared.locks _ fresh ∙ room_len w.geometry.words place (record_len prepared) spelled.short (subst (λ (k : ℕ). place + k ≤ w.geometry.words) len_is fits) in (
-                step-row m s (Reserve 0 0) (Reserved place (length words)) (appended s t) (no_refusal m w s h (Reserve 0 0) (known_seat m w s h) h.still.not_halted)
-                    (reserve-done m s 0 0 t place (length words) (running m w s h tx is) (set_some canonical some)),
-                settled_by (Reserved place (length words)) (ap (Reserved place) len_is ∙ sym (reply_by None room)),
-              )
+              subst (λ (k : ℕ). Answers m s (Reserve 0 0) (Reserved place k) (appended s t)) (sym len_is)
+              (room_row (few_numbers prepared.locks spelled.canonical.each_lock) spelled.short (subst (λ (k : ℕ). place + k ≤ w.geometry.words) len_is fits))
 
           -- The close behind it
 

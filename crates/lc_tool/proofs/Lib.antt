@@ -2,6 +2,7 @@ mod Items
 mod Numbers
 mod Pages
 mod Words
+mod FieldLemmas
 mod Writes
 mod OneNodeLemmas
 mod EndLemmas
@@ -13,3 +14,4 @@ mod OptionNumbers
 mod Asking
 mod StepLemmas
 mod CloseLemmas
+mod MemoryLemmas

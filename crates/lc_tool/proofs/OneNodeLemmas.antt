@@ -53,7 +53,7 @@ ascending_none g one = rw one refl
 ascending_some : (g : Geometry) (s : ℕ) (segments : List ℕ) → g.segments ≡ 1 → (s == 1) ≡ true → ascending g (s ∷ segments) ≡ 1 ∷ []
 ascending_some g s segments one first = rw (one, first) refl
 
-ascending_first : (g : Geometry) (segments : List ℕ) → g.segments ≡ 1 → list_all (λ s. s == 1) segments ≡ true → (ascending g segments ≡ []) ⊎ (ascending g segments ≡ 1 ∷ [])
+pub ascending_first : (g : Geometry) (segments : List ℕ) → g.segments ≡ 1 → list_all (λ s. s == 1) segments ≡ true → (ascending g segments ≡ []) ⊎ (ascending g segments ≡ 1 ∷ [])
 ascending_first g [] one all = inl (ascending_none g one)
 ascending_first g (s ∷ segments) one all = inr (ascending_some g s segments one (and-both (s == 1) (list_all (λ s. s == 1) segments) all).0)
 

@@ -115,7 +115,7 @@ module _ (m : Setting) (s : State) (number : ℕ) (refused : Bool) where
       ]
 
   -- the last line
-  pub breaks_here : (line : List ℕ) (lines : List (List ℕ)) (shown : List ℕ) (status : ℕ) → Breaks line number shown status → Runs m s number refused (line ∷ lines) shown status
+  pub breaks_here : (line : List ℕ) (lines : List (List ℕ)) (shown : List ℕ) (status : ℕ) → Breaks m s line number shown status → Runs m s number refused (line ∷ lines) shown status
   breaks_here line lines shown status breaks =
       elim breaks [
         | inl h ↦ inl h

@@ -1,5 +1,5 @@
 -- The steps of the one transaction.
-use Rattle.std.proofs.Common.{◌≡◌, ◌≢◌, ℕ, ◌+◌, ◌<◌, ◌≤◌, Bool, true, false, ◌==◌, nat_le, List, [], ◌∷◌, length, take, drop, replicate, Option, Some, None, refl, sym, ◌∙◌, ap, subst, arith, ne_eqb, eq-eqb, le-leb, true≢false, inl, inr}
+use Rattle.std.proofs.Common.{◌≡◌, ◌≢◌, ℕ, ◌+◌, ◌-◌, ◌^◌, ◌<◌, ◌≤◌, min, Bool, true, false, ◌==◌, nat_le, List, [], ◌∷◌, length, take, drop, replicate, Option, Some, None, refl, sym, ◌∙◌, ap, subst, arith, ne_eqb, eq-eqb, le-leb, true≢false, inl, inr}
 use Rattle.std.specs.Prelude.{◌↔◌, Result, Ok, Err, IfOk, IsOk, IsErr, MatchOption}
 use Rattle.std.specs.List.{list_all}
 use Rattle.std.proofs.lemmas.Bool.{cases_lt}
@@ -8,7 +8,7 @@ use Rattle.lc_record.specs.Content.{Content, put, on_segment, segment_of}
 use Rattle.lc_record.specs.Transaction.{Transaction, is_member, locks, all_set, effect}
 use Rattle.lc_record.specs.Geometry.{segment_len}
 use Rattle.lc_record.specs.Marks.{ascending, no_marks, marked, written, ranges}
-use Rattle.lc_range.specs.RangeSet.{NeedsRunsAbove}
+use Rattle.lc_range.specs.RangeSet.{NeedsRunsAbove, MissesSome}
 use Rattle.lc_core.specs.History.{value}
 use Rattle.lc_core.specs.State.{Setting, State, running_of}
 use Rattle.lc_core.specs.Refusals.{is_known, is_seat, is_segment}
@@ -157,19 +157,25 @@ module _ (m : Setting) (w : Solo) (s : State) (h : Fits m w s) where
         range_step offset len (Refused TooManyRanges) s
         (set_range-too_many m s 0 0 1 offset len the_one running (held lock) (ne_eqb len 0 differ) (inside (offset + len) fits) (le-false (ranges (marked the_one 1 offset len).marks) 64 more))
 
+    pub range_taken : (offset len : ℕ) → is_member 1 tx.locked.items ≡ true → 0 < len → offset + len ≤ length w.segment.image.bytes.items → (NeedsRunsAbove 64 tx.set 1 offset len → ⊥)
+        → Step m s (SetRange 0 0 1 offset len) Accepted (changed s (marked the_one 1 offset len))
+    range_taken offset len lock some fits few =
+        let differ : len ≢ 0 = omega (arith, some) in
+        let u : Transaction = marked the_one 1 offset len in
+        let count : nat_le (ranges u.marks) 64 ≡ true = elim (cases_lt 64 (ranges u.marks)) [
+          | inl many ↦ absurd (few ((more_runs the_images w.segment tx 1 offset len content the_one fits_open.stands lock fits).1 many))
+          | inr less ↦ le-leb (ranges u.marks) 64 less
+        ] in
+        range_step offset len Accepted (changed s u) (set_range-done m s 0 0 1 offset len the_one running (held lock) (ne_eqb len 0 differ) (inside (offset + len) fits) count)
+
     pub range_row : (new : Tx) (offset len : ℕ) → RunsOn the_images w.segment tx → RunsOn the_images w.segment new
         → is_member 1 tx.locked.items ≡ true → 0 < len → offset + len ≤ length w.segment.image.bytes.items → (NeedsRunsAbove 64 tx.set 1 offset len → ⊥)
         → SetsRange the_images w.segment tx 1 offset len new
         → Step m s (SetRange 0 0 1 offset len) Accepted (changed s (marked the_one 1 offset len))
         × FitsBytes w.segment (Some new) (value m.start s.earlier s.history) (changed s (marked the_one 1 offset len)).running
     range_row new offset len before after lock some fits few sets =
-        let differ : len ≢ 0 = omega (arith, some) in
-        let u : Transaction = marked the_one 1 offset len in
-        let count : nat_le (ranges u.marks) 64 ≡ true = elim (cases_lt 64 (ranges u.marks)) [
-          | inl many ↦ absurd (few ((more_runs the_images w.segment tx 1 offset len content the_one fits_open.stands lock fits).1 many))
-          | inr less ↦ le-leb (ranges u.marks) 64 less
-        ] in (
-          range_step offset len Accepted (changed s u) (set_range-done m s 0 0 1 offset len the_one running (held lock) (ne_eqb len 0 differ) (inside (offset + len) fits) count),
+        let u : Transaction = marked the_one 1 offset len in (
+          range_taken offset len lock some fits few,
           (
             u,
             with_changed-own the_one u s.running only fits_open.own fits_open.own,
@@ -184,6 +190,12 @@ module _ (m : Setting) (w : Solo) (s : State) (h : Fits m w s) where
       where
         same_itself : IsSame the_images w.segment w.segment
         same_itself = record { numbers = λ n. refl; others = λ n here other. refl; beside = refl }
+
+    -- some position of the range is not set
+    pub range_more : (offset len : ℕ) → MissesSome tx.set 1 offset len → all_set offset len (segment_of 1 the_one.marks) ≡ false
+    range_more offset len misses =
+        not_true (all_set offset len (segment_of 1 the_one.marks)) (λ all.
+        misses.3 ((positions_set the_images w.segment tx content the_one 1 offset len fits_open.stands).1 all misses.0 misses.1 misses.2))
 
     -- bytes are written
 
@@ -298,6 +310,21 @@ pub record RangeAnswers (segment : OneSegment) (tx : Tx) (n offset len : ℕ) (r
   pub empty : (r ≡ Err IsEmpty) ↔ (Locked tx n × (len ≡ 0))
   pub outside : (r ≡ Err IsOutside) ↔ (Locked tx n × (0 < len) × (length segment.image.bytes.items < offset + len))
   pub too_many : (r ≡ Err AreTooMany) ↔ (Locked tx n × (0 < len) × (offset + len ≤ length segment.image.bytes.items) × NeedsRunsAbove 64 tx.set n offset len)
+
+-- a segment's bytes are fewer than a range may reach
+pub range_answers : (segment : OneSegment) (tx : Tx) (n offset len : ℕ) (r : Result (Unit {0}) TxFault) → length segment.image.bytes.items < 2 ^ 32
+    → (r ≡ Err IsNotLocked) ↔ (Locked tx n → ⊥) → (r ≡ Err IsEmpty) ↔ (Locked tx n × (len ≡ 0))
+    → (r ≡ Err IsOutside) ↔ (Locked tx n × (0 < len) × (min (length segment.image.bytes.items) (2 ^ 32 - 1) < offset + len))
+    → (r ≡ Err AreTooMany) ↔ (Locked tx n × (0 < len) × (offset + len ≤ min (length segment.image.bytes.items) (2 ^ 32 - 1)) × NeedsRunsAbove 64 tx.set n offset len)
+    → RangeAnswers segment tx n offset len r
+range_answers segment tx n offset len r short not_locked empty outside too_many =
+    let all : min (length segment.image.bytes.items) (2 ^ 32 - 1) ≡ length segment.image.bytes.items = omega (arith, short) in
+    record {
+      not_locked = not_locked;
+      empty = empty;
+      outside = subst (λ (k : ℕ). (r ≡ Err IsOutside) ↔ (Locked tx n × (0 < len) × (k < offset + len))) all outside;
+      too_many = subst (λ (k : ℕ). (r ≡ Err AreTooMany) ↔ (Locked tx n × (0 < len) × (offset + len ≤ k) × NeedsRunsAbove 64 tx.set n offset len)) all too_many;
+    }
 
 pub record WriteAnswers (segment : OneSegment) (tx : Tx) (n offset len : ℕ) (r : Result (Unit {0}) TxFault) : Type 0 where
   pub ok : IsOk r ↔ (Locked tx n × (offset + len ≤ length segment.image.bytes.items) × AreSet tx n offset len)

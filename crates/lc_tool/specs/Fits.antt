@@ -1,5 +1,5 @@
 -- When a store of one node, one thread and one segment fits a state of the plain machine.
-use Rattle.std.specs.Prelude.{◌≡◌, ℕ, Bool, true, false, List, [], ◌∷◌, ◌++◌, ◌+◌, length, nat_lt, Option, Some, None, IsTrue, MatchBool}
+use Rattle.std.specs.Prelude.{◌≡◌, ℕ, Bool, true, false, List, [], ◌∷◌, ◌++◌, ◌+◌, length, Option, Some, None, IsTrue}
 use Rattle.std.specs.List.{AllByRecursion}
 use Rattle.lc_disk.specs.MemArea.{memory_now, memory_dirty}
 use Rattle.lc_record.specs.Content.{Content}
@@ -12,15 +12,13 @@ use Rattle.lc_core.specs.History.{Entry, History, transactions, value}
 use Rattle.lc_core.specs.State.{Setting, State, Place, At, Flush, Phase, Up, is_by}
 use Rattle.lc_core.specs.Merging.{counted_all}
 use Rattle.lc_core.specs.Settled.{no_numbers, history_records}
-use Rattle.lc_tool.specs.Session.{zeros_of, Answers, Finishes, Ends, Does}
+use Rattle.lc_tool.specs.Session.{zeros_of, Answers, AsksMemory, Finishes, Ends, Does}
 use Rattle.lc_tool.specs.declared.command.Command.{Command}
 use Rattle.lc_tool.specs.declared.command.Command.TheVariants.{Step as Asks}
 use Rattle.std.specs.Io.KnownBytes.{Appends}
 use Rattle.lc_core.specs.declared.event.Event.{Event}
 use Rattle.lc_core.specs.declared.event.Event.TheVariants.{Begin, SetRange, Write, Read, Abort, Reserve, FlushStep}
 use Rattle.lc_core.specs.declared.reply.Reply.{Reply}
-use Rattle.lc_core.specs.declared.reply.Reply.TheVariants.{Reserved, Refused}
-use Rattle.lc_core.specs.declared.refusal.Refusal.TheVariants.{Full}
 use Rattle.lc_tx.specs.StandsFor.{StandsFor}
 use Rattle.lc_tx.specs.declared.tx.Tx.{Tx}
 use Rattle.lc_tool.specs.declared.one_segment.OneSegment.{OneSegment}
@@ -130,9 +128,6 @@ pub record IsLogged (old : Solo) (words : List ℕ) (new : Solo) : Type 0 where
   pub same_bytes : new.segment.image.bytes.items ≡ old.segment.image.bytes.items
   pub free : (tx : Tx) → old.running ≡ Some tx → (is_member 1 tx.locked.items ≡ false → old.segment.image.holder ≡ None) → new.segment.image.holder ≡ None
 
--- they are, where there is room; else nothing changes
-abbrev pub Logs : Solo → List ℕ → Reply → Solo → Type 0
-Logs old words reply new =
-    MatchBool (nat_lt old.geometry.words (old.log.end + length old.staged.words + length words))
-    ((reply ≡ Refused (Full (old.log.end + length old.staged.words) (length words))) × (new ≡ old))
-    ((reply ≡ Reserved (old.log.end + length old.staged.words) (length words)) × IsLogged old words new)
+-- the command asks for memory
+abbrev pub AsksFor : Solo → Command → Type 0
+AsksFor old command = (m : Setting) (before : State) → Fits m old before → AsksMemory m before command

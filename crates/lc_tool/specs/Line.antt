@@ -179,10 +179,11 @@ command_of (keyword ∷ fields) =
     else if bytes_eq keyword (codes "show") then show_of fields
     else None
 
--- it has fields of any number, which take memory
+-- its fields take memory: a begin with a segment, or a write with bytes
 abbrev pub is_open_ended : List (List ℕ) → Bool
 is_open_ended [] = false
-is_open_ended (keyword ∷ fields) = bytes_eq keyword (codes "begin") || bytes_eq keyword (codes "write")
+is_open_ended (keyword ∷ fields) =
+    (bytes_eq keyword (codes "begin") && nat_lt 2 (length fields)) || (bytes_eq keyword (codes "write") && nat_lt 4 (length fields))
 
 -- Lines
 

@@ -1,29 +1,29 @@
 -- What the lines of a script do: each command is one or more steps of the plain machine, and what is printed is the
 -- text of its replies.
-use Rattle.std.specs.Prelude.{◌≡◌, ◌⊎◌, ℕ, ◌+◌, ◌*◌, Bool, true, false, ◌&&◌, ◌||◌, ◌==◌, nat_lt, List, [], ◌∷◌, ◌++◌, length, take, drop, filter, replicate, MatchBool, if◌then◌else◌}
+use Rattle.std.specs.Prelude.{◌≡◌, ◌⊎◌, ℕ, ◌+◌, ◌*◌, Bool, true, false, ◌&&◌, ◌||◌, ◌==◌, nat_lt, ◌<◌, IsTrue, Some, List, [], ◌∷◌, ◌++◌, length, take, drop, filter, replicate, MatchBool, if◌then◌else◌}
 use Rattle.std.specs.List.{flat_map, AllByRecursion}
 use Rattle.std.specs.Str.Lines.{strip_carriage_return}
 use Rattle.lc_record.specs.Content.{Content, segment_of}
-use Rattle.lc_record.specs.Transaction.{effects}
+use Rattle.lc_record.specs.Transaction.{Transaction, all_set, effects}
 use Rattle.lc_record.specs.Geometry.{segment_len}
 use Rattle.lc_record.specs.Record.{spelling}
 use Rattle.lc_record.specs.declared.geometry.Geometry.{Geometry}
 use Rattle.lc_log.specs.LogText.{placed}
 use Rattle.lc_core.specs.History.{is_of, value}
-use Rattle.lc_core.specs.State.{Up, State, Setting, fresh}
+use Rattle.lc_core.specs.State.{Up, State, Setting, fresh, running_of}
 use Rattle.lc_core.specs.Refusals.{is_node, is_segment}
 use Rattle.lc_core.specs.Machine.{Step, Run}
 use Rattle.lc_core.specs.Settled.{Settled, stable_records}
 use Rattle.lc_core.specs.declared.event.Event.{Event}
-use Rattle.lc_core.specs.declared.event.Event.TheVariants.{Reserve, Close, FlushStep}
+use Rattle.lc_core.specs.declared.event.Event.TheVariants.{SetRange, Read, Reserve, Close, FlushStep}
 use Rattle.lc_core.specs.declared.refusal.Refusal.TheVariants.{Unknown}
 use Rattle.lc_core.specs.declared.reply.Reply.{Reply}
-use Rattle.lc_core.specs.declared.reply.Reply.TheVariants.{Ok as Accepted, Reserved, Stepped, Refused}
+use Rattle.lc_core.specs.declared.reply.Reply.TheVariants.{Ok as Accepted, Bytes, Reserved, Stepped, Refused}
 use Rattle.lc_tool.specs.declared.command.Command.{Command}
 use Rattle.lc_tool.specs.declared.command.Command.TheVariants.{Step as Asks, End, Flush, Log, Inspect, Show}
 use Rattle.lc_tool.specs.declared.command.Line.{Line}
 use Rattle.lc_tool.specs.declared.command.Line.TheVariants.{Skipped, Command as Commanded, NotUnderstood}
-use Rattle.lc_tool.specs.Line.{line_of}
+use Rattle.lc_tool.specs.Line.{line_of, words, is_open_ended}
 use Rattle.lc_tool.specs.Text.{reply_text, closed_text, not_understood_text, too_long_text, no_memory_text, words_text, page_text, records_text}
 
 -- One reply
@@ -88,6 +88,32 @@ Does m old (Show node segment page) text refused new =
     Shows (is_node m.geometry node && is_segment m.geometry segment && nat_lt page m.geometry.pages)
     (page_text (page_of page (segment_of segment (image_of m node old)))) text refused × (new ≡ old)
 
+-- Memory
+
+-- the thread's open transaction has a position of this range that is not set
+abbrev pub SetsMore : State → ℕ → ℕ → ℕ → ℕ → ℕ → Type 0
+SetsMore s node thread segment offset len =
+    (t : Transaction) × (running_of node thread s ≡ Some t) × (all_set offset len (segment_of segment t.marks) ≡ false)
+
+-- The command asks for memory: a range that is taken and sets a position more, a read that gives bytes, an end that gets a
+-- place, and what shows records of the log. No other does.
+abbrev pub AsksMemory : Setting → State → Command → Type 0
+AsksMemory m s (Asks (SetRange node thread segment offset len)) =
+    (new : State) × Answers m s (SetRange node thread segment offset len) Accepted new × SetsMore s node thread segment offset len
+AsksMemory m s (Asks (Read node thread segment offset len)) =
+    (bytes : List ℕ) × Answers m s (Read node thread segment offset len) (Bytes bytes) s × (0 < length bytes)
+AsksMemory m s (Asks event) = ⊥
+AsksMemory m s (End node thread) = (place words : ℕ) × (new : State) × Answers m s (Reserve node thread) (Reserved place words) new
+AsksMemory m s (Log node) = (is_node m.geometry node ≡ true) × (0 < length (stable_records m node s))
+AsksMemory m s (Inspect node) = is_node m.geometry node ≡ true
+AsksMemory m s (Flush node) = ⊥
+AsksMemory m s (Show node segment page) = ⊥
+
+-- the line does: its fields, or its command
+abbrev pub LineAsksMemory : Setting → State → List ℕ → Type 0
+LineAsksMemory m s line =
+    IsTrue (is_open_ended (words line)) ⊎ ((command : Command) × (line_of line ≡ Commanded command) × AsksMemory m s command)
+
 -- All lines
 
 -- What the rest of a script prints and which status it ends with, by what a line says: `next` is the same of the
@@ -103,11 +129,12 @@ Prints next m s number refused (Commanded command) text status =
 abbrev pub NoMemory : List ℕ → ℕ → Type 0
 NoMemory text status = (text ≡ no_memory_text) × (status ≡ 1)
 
--- from a state on, where this is the number of the first of these lines, and whether something was refused before
+-- from a state on, where this is the number of the first of these lines, and whether something was refused before; there
+-- may be no memory for a line that asks for some
 abbrev pub Runs : Setting → State → ℕ → Bool → List (List ℕ) → List ℕ → ℕ → Type 0
 Runs m s number refused [] text status = MatchBool refused ((text ≡ []) × (status ≡ 1)) ((text ≡ []) × (status ≡ 0))
 Runs m s number refused (line ∷ lines) text status =
-    NoMemory text status
+    (LineAsksMemory m s line × NoMemory text status)
     ⊎ Prints (λ mid was rest end. Runs m mid (number + 1) was lines rest end) m s number refused (line_of line) text status
 
 -- A script's lines: each ends at a line feed, and one carriage return before it is dropped; the last line may lack its
@@ -131,7 +158,7 @@ zeros_of g = replicate g.segments (replicate (segment_len g) 0)
 abbrev pub setting_of : Geometry → Setting
 setting_of g = record { geometry = g; start = zeros_of g }
 
--- what a script prints, and the status that it ends with
+-- what a script prints, and the status that it ends with; there may be no memory for the script or the store
 abbrev pub RunsScript : Geometry → List ℕ → List ℕ → ℕ → Type 0
 RunsScript g script text status =
     NoMemory text status

@@ -1,5 +1,5 @@
 //! What each command does to the store, and what it prints.
-ghost use Rattle.std.specs.Prelude.{◌≡◌, ◌≢◌, ◌≤◌, ◌<◌, ◌*◌, ◌+◌, IfOk, OnOk, IsTrue};
+ghost use Rattle.std.specs.Prelude.{◌≡◌, ◌≢◌, ◌≤◌, ◌<◌, ◌*◌, ◌+◌, IfOk, OnOk, OnErr, IsTrue};
 ghost use Rattle.std.specs.Io.KnownBytes.{Appends, Keeps};
 ghost use Rattle.lc_tool.specs.Session.{is_refused, end_text};
 ghost use Rattle.lc_tool.specs.Text.{reply_text, words_text};
@@ -23,12 +23,14 @@ const WORD_BYTES: usize = 8;
 const PAGE_BYTES: usize = PAGE as usize;
 
 impl Solo {
-    ghost use Rattle.lc_tool.specs.Fits.{Follows, is_of_script};
+    ghost use Rattle.lc_tool.specs.declared.command.Command.TheVariants.{Step};
+    ghost use Rattle.lc_tool.specs.Fits.{AsksFor, Follows, is_of_script};
 
     /// One event of a script.
     fn step(&mut self, alloc: Global, event: &Event) -> Result<Reply, AllocError>
         requires { IsTrue (is_of_script event.now) }
-        ensures { IfOk result (λ reply. Follows self.old event.now reply self.new) }
+        ensures follows { IfOk result (λ reply. Follows self.old event.now reply self.new) }
+        ensures memory { OnErr result (AsksFor self.old (Step event.now)) }
     {
         match event {
             Event::Begin {
@@ -49,7 +51,7 @@ impl Solo {
                 segment,
                 offset,
                 bytes,
-            } => self.write(*node, *thread, *segment, *offset, bytes.as_slice()),
+            } => Ok(self.write(*node, *thread, *segment, *offset, bytes.as_slice())),
             Event::Read {
                 node,
                 thread,
@@ -74,7 +76,7 @@ fn show<W: Write>(writer: &mut W, reply: &Reply) -> Result<bool, Stop>
 
 impl Solo {
     ghost use Rattle.lc_tool.specs.declared.command.Command.TheVariants.{Log, Inspect, Show};
-    ghost use Rattle.lc_tool.specs.Fits.{Performs, IsOfScript};
+    ghost use Rattle.lc_tool.specs.Fits.{AsksFor, Performs, IsOfScript};
 
     /// One line of a script. An `Err` has written nothing where there was no memory.
     pub(crate) fn perform<W: Write>(
@@ -86,6 +88,7 @@ impl Solo {
         requires { IsOfScript command }
         ensures done { IfOk result (λ done. Performs self command (W.contents writer.old) (W.contents writer.new) done.1 done.0) }
         ensures memory { result ≡ Err Stop.NoMemory → Keeps (W.contents writer.old) (W.contents writer.new) }
+        ensures asks { result ≡ Err Stop.NoMemory → AsksFor self command }
     {
         let mut solo = self;
         match command {
@@ -127,6 +130,7 @@ impl Solo {
     fn show_log<W: Write>(&self, alloc: Global, node: u16, writer: &mut W) -> Result<bool, Stop>
         ensures done { IfOk result (λ refused. Performs self.now (Log node) (W.contents writer.old) (W.contents writer.new) refused self.now) }
         ensures memory { result ≡ Err Stop.NoMemory → Keeps (W.contents writer.old) (W.contents writer.new) }
+        ensures asks { result ≡ Err Stop.NoMemory → AsksFor self.now (Log node) }
     {
         if node != 0 {
             return show(writer, &Reply::Refused(Refusal::Unknown));
@@ -141,6 +145,7 @@ impl Solo {
     fn show_records<W: Write>(&self, alloc: Global, node: u16, writer: &mut W) -> Result<bool, Stop>
         ensures done { IfOk result (λ refused. Performs self.now (Inspect node) (W.contents writer.old) (W.contents writer.new) refused self.now) }
         ensures memory { result ≡ Err Stop.NoMemory → Keeps (W.contents writer.old) (W.contents writer.new) }
+        ensures asks { result ≡ Err Stop.NoMemory → AsksFor self.now (Inspect node) }
     {
         if node != 0 {
             return show(writer, &Reply::Refused(Refusal::Unknown));

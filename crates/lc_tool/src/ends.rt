@@ -1,19 +1,23 @@
 //! How a transaction of the store ends, and how its records become stable.
-ghost use Rattle.std.specs.Prelude.{◌≡◌, ◌+◌, ◌≤◌, ◌++◌, length, IfOk};
+ghost use Rattle.std.specs.Prelude.{◌≡◌, ◌+◌, ◌≤◌, ◌++◌, length, IfOk, OnErr};
+ghost use Rattle.lc_core.specs.declared.reply.Reply.TheVariants.{Reserved};
 
 use crate::solo::Solo;
-use crate::steps::refused;
+use crate::steps::refusal_of;
 use lc_core::{Refusal, Reply};
 use lc_record::Group;
 use lc_tx::Prepared;
 use std::alloc::{AllocError, Global};
 
 impl Solo {
-    ghost use Rattle.lc_tool.specs.Fits.{FollowsEnd, FollowsFlush, IsReleased, Logs};
+    ghost use Rattle.lc_tool.specs.declared.command.Command.TheVariants.{End};
+    ghost use Rattle.lc_tool.specs.Fits.{AsksFor, FollowsEnd, FollowsFlush, IsLogged, IsReleased};
 
-    /// The open transaction gets its place and is closed: its record stands behind those that are staged.
+    /// The open transaction gets its place and is closed: its record stands behind those that are staged. Whatever is
+    /// refused is refused before memory is asked for.
     pub(crate) fn end(&mut self, alloc: Global, node: u16, thread: u16) -> Result<Reply, AllocError>
         ensures follows { IfOk result (λ reply. FollowsEnd self.old node thread reply self.new) }
+        ensures memory { OnErr result (AsksFor self.old (End node thread)) }
     {
         if node != 0 || thread != 0 {
             return Ok(Reply::Refused(Refusal::Unknown));
@@ -21,13 +25,25 @@ impl Solo {
         let Some(tx) = &self.running else {
             return Ok(Reply::Refused(Refusal::OutOfTurn));
         };
+        let needs = match tx.end_needs(&self.segment) {
+            Ok(needs) => needs,
+            Err(fault) => return Ok(Reply::Refused(refusal_of(fault))),
+        };
+        let Some(need) = needs else {
+            self.release();
+            return Ok(Reply::Ended);
+        };
+        let tail = self.log.end + self.staged.len();
+        if tail + need as usize > self.geometry.words as usize {
+            return Ok(Reply::Refused(Refusal::Full {
+                tail: tail as u32,
+                need,
+            }));
+        }
         match tx.prepare_end(alloc, &mut self.segment, node) {
-            Ok(Prepared::Empty) => {
-                self.release();
-                Ok(Reply::Ended)
-            }
             Ok(Prepared::Record(words)) => Ok(self.log_record(words.as_slice())),
-            Err(fault) => refused(fault),
+            Ok(Prepared::Empty) => unreachable!(),
+            Err(_) => Err(AllocError),
         }
     }
 
@@ -40,19 +56,14 @@ impl Solo {
         }
     }
 
-    // The words of the open transaction's record get a place, and it is over, if there is room.
+    // The words of the open transaction's record get a place, for which there is room, and it is over.
     fn log_record(&mut self, words: &[u64]) -> Reply
         requires some { 1 ≤ length words.now }
-        requires small { length words.now ≤ 4096 }
-        ensures { Logs self.old words.now result self.new }
+        requires room { self.old.log.end + length self.old.staged.words + length words.now ≤ self.old.geometry.words }
+        ensures reply { result ≡ Reserved (self.old.log.end + length self.old.staged.words) (length words.now) }
+        ensures logged { IsLogged self.old words.now self.new }
     {
         let place = self.log.end + self.staged.len();
-        if place + words.len() > self.geometry.words as usize {
-            return Reply::Refused(Refusal::Full {
-                tail: place as u32,
-                need: words.len() as u32,
-            });
-        }
         stage(&mut self.staged, words);
         self.release();
         self.segment.records += 1;

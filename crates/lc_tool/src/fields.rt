@@ -1,5 +1,5 @@
 //! What is left of a line, taken word by word.
-ghost use Rattle.std.specs.Prelude.{◌≡◌, ◌<◌, length, option_map, vec_items, IfOk, OnSome};
+ghost use Rattle.std.specs.Prelude.{◌≡◌, ◌<◌, length, option_map, vec_items, IfOk, OnErr, OnSome};
 ghost use Rattle.std.specs.List.{prefix_len, position_or_len};
 ghost use Rattle.lc_tool.specs.Line.{is_space, words, bytes_of, first, u16_of, u32_of, all_numbers, no_more, Takes};
 
@@ -64,7 +64,8 @@ impl<'a> Fields<'a> {
 
     /// Bytes, where the next word is hexadecimal digits.
     pub fn bytes(&mut self, alloc: Global) -> Result<Option<Vec<u8>>, AllocError>
-        ensures { IfOk result (λ found. Takes (first bytes_of (words self.old.rest.now)) (option_map vec_items found) self.new.rest.now) }
+        ensures value { IfOk result (λ found. Takes (first bytes_of (words self.old.rest.now)) (option_map vec_items found) self.new.rest.now) }
+        ensures memory { OnErr result (0 < length (words self.old.rest.now)) }
     {
         match self.word() {
             None => Ok(None),
@@ -74,9 +75,10 @@ impl<'a> Fields<'a> {
 
     /// A number for each word that is left, where each is one.
     pub fn all_u32(&mut self, alloc: Global) -> Result<Option<Vec<u32>>, AllocError>
-        ensures { IfOk result (λ found. option_map vec_items found ≡ all_numbers (words self.old.rest.now)) }
+        ensures value { IfOk result (λ found. option_map vec_items found ≡ all_numbers (words self.old.rest.now)) }
+        ensures memory { OnErr result (0 < length (words self.old.rest.now)) }
     {
-        let mut numbers = Vec::with_capacity(alloc, self.rest.len() / 2)?;
+        let mut numbers = Vec::new(alloc);
         while let Some(word) = self.word() {
             let Some(number) = u32_number(word) else {
                 return Ok(None);

@@ -19,6 +19,7 @@ mod records;
 mod replies;
 mod scripts;
 mod solo;
+mod source;
 mod steps;
 mod stop;
 mod text;

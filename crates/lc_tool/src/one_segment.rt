@@ -38,7 +38,7 @@ impl Images for OneSegment {
 
     ghost beside_itself = { λ s. refl };
 
-    ghost beside_image = { λ s segment image. refl };
+    ghost beside_image = { λ s segment image here. refl };
 
     ghost beside_chained = { λ s t u one two. one ∙ two };
 }

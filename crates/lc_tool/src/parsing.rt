@@ -1,5 +1,5 @@
 //! Lines of a script.
-ghost use Rattle.std.specs.Prelude.{◌≡◌, option_map, IfOk, OnErr, IsTrue};
+ghost use Rattle.std.specs.Prelude.{◌≡◌, ◌<◌, length, option_map, IfOk, OnErr, IsTrue};
 ghost use Rattle.lc_tool.specs.Line.{words, Takes, thread_of, spot_of, begin_of, range_of, write_of, read_of, abort_of, end_of, show_of, node_of, command_of, is_open_ended, line_of};
 
 use crate::command::{Command, Line};
@@ -31,7 +31,8 @@ fn spot(fields: &mut Fields) -> Option<(u16, u16, u32, u32)>
 
 #[tactic(auto, unfolding(crate::specs::Line::begin_of))]
 fn begin(alloc: Global, mut fields: Fields) -> Result<Option<Command>, AllocError>
-    ensures { IfOk result (λ command. command ≡ begin_of (words fields.entry.rest.now)) }
+    ensures value { IfOk result (λ command. command ≡ begin_of (words fields.entry.rest.now)) }
+    ensures memory { OnErr result (2 < length (words fields.entry.rest.now)) }
 {
     let Some((node, thread)) = thread(&mut fields) else {
         return Ok(None);
@@ -64,7 +65,8 @@ fn range(mut fields: Fields) -> Option<Command>
 
 #[tactic(auto, unfolding(crate::specs::Line::write_of))]
 fn write(alloc: Global, mut fields: Fields) -> Result<Option<Command>, AllocError>
-    ensures { IfOk result (λ command. command ≡ write_of (words fields.entry.rest.now)) }
+    ensures value { IfOk result (λ command. command ≡ write_of (words fields.entry.rest.now)) }
+    ensures memory { OnErr result (4 < length (words fields.entry.rest.now)) }
 {
     let Some((node, thread, segment, offset)) = spot(&mut fields) else {
         return Ok(None);
@@ -185,7 +187,7 @@ fn command(alloc: Global, mut fields: Fields) -> Result<Option<Command>, AllocEr
     Ok(None)
 }
 
-/// What a line asks for, without what ends it. Only `begin` and `write` take memory.
+/// What a line asks for, without what ends it. Only a `begin` with segments and a `write` with bytes take memory.
 #[tactic(auto, unfolding(crate::specs::Line::line_of))]
 pub fn parse(alloc: Global, line: &[u8]) -> Result<Line, AllocError>
     ensures value { IfOk result (λ read. read ≡ line_of line.now) }

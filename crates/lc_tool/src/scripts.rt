@@ -13,12 +13,13 @@ use crate::lines::first_line;
 use crate::outcome::Outcome;
 use crate::parsing::parse;
 use crate::solo::Solo;
+use crate::source::Source;
 use crate::stop::Stop;
 use crate::text::{write_no_memory, write_not_understood, write_too_long};
 use lc_disk::MemArea;
 use lc_record::Geometry;
 use std::alloc::Global;
-use std::io::{ErrorKind, Read, Write};
+use std::io::{Read, Write};
 
 // The bytes of the longest script.
 const LONGEST: usize = 1_048_576;
@@ -64,10 +65,11 @@ fn read_script<R: Read>(alloc: Global, reader: &mut R) -> Result<Vec<u8>, ToolFa
     ensures { IfOk result (λ script. IfSome (R.remaining reader.old) (λ all. script.items ≡ take (LONGEST + 1) all)) }
 {
     let mut script = Vec::new(alloc);
-    match reader.take(LONGEST as u64 + 1).read_to_end(&mut script) {
+    let mut source = Source::new(reader).take(LONGEST as u64 + 1);
+    match source.read_to_end(&mut script) {
         Ok(_) => Ok(script),
-        Err(error) if error.kind() == ErrorKind::OutOfMemory => Err(ToolFault::NoMemory),
-        Err(_) => Err(ToolFault::Read),
+        Err(_) if source.into_inner().failed => Err(ToolFault::Read),
+        Err(_) => Err(ToolFault::NoMemory),
     }
 }
 

@@ -1,5 +1,5 @@
 //! The steps of the store.
-ghost use Rattle.std.specs.Prelude.{◌≡◌, ◌==◌, IfOk, IsErr, Ok, MatchOption};
+ghost use Rattle.std.specs.Prelude.{◌≡◌, ◌≢◌, ◌==◌, IfOk, IsErr, OnErr, Ok, Some, MatchOption};
 ghost use Rattle.std.specs.List.{list_all};
 ghost use Rattle.lc_core.specs.declared.event.Event.TheVariants.{Begin, SetRange, Write, Read, Abort};
 ghost use Rattle.lc_core.specs.declared.reply.Reply.TheVariants.{Refused};
@@ -15,7 +15,8 @@ use lc_tx::{Tx, TxFault};
 use std::alloc::{AllocError, Global};
 
 impl Solo {
-    ghost use Rattle.lc_tool.specs.Fits.{Follows};
+    ghost use Rattle.lc_tool.specs.declared.command.Command.TheVariants.{Step};
+    ghost use Rattle.lc_tool.specs.Fits.{AsksFor, Follows};
 
     /// The one thread begins a transaction.
     pub(crate) fn begin(
@@ -25,7 +26,8 @@ impl Solo {
         thread: u16,
         segments: &[u32],
     ) -> Result<Reply, AllocError>
-        ensures { IfOk result (λ reply. Follows self.old (Begin node thread segments.now) reply self.new) }
+        ensures follows { IfOk result (λ reply. Follows self.old (Begin node thread segments.now) reply self.new) }
+        ensures memory { OnErr result (AsksFor self.old (Step (Begin node thread segments.now))) }
     {
         if !is_known(node, thread, segments) {
             return Ok(Reply::Refused(Refusal::Unknown));
@@ -52,7 +54,8 @@ impl Solo {
         offset: u32,
         len: u32,
     ) -> Result<Reply, AllocError>
-        ensures { IfOk result (λ reply. Follows self.old (SetRange node thread segment offset len) reply self.new) }
+        ensures follows { IfOk result (λ reply. Follows self.old (SetRange node thread segment offset len) reply self.new) }
+        ensures memory { OnErr result (AsksFor self.old (Step (SetRange node thread segment offset len))) }
     {
         if node != 0 || thread != 0 || segment != 1 {
             return Ok(Reply::Refused(Refusal::Unknown));
@@ -74,18 +77,18 @@ impl Solo {
         segment: u32,
         offset: u32,
         bytes: &[u8],
-    ) -> Result<Reply, AllocError>
-        ensures { IfOk result (λ reply. Follows self.old (Write node thread segment offset bytes.now) reply self.new) }
+    ) -> Reply
+        ensures { Follows self.old (Write node thread segment offset bytes.now) result self.new }
     {
         if node != 0 || thread != 0 || segment != 1 {
-            return Ok(Reply::Refused(Refusal::Unknown));
+            return Reply::Refused(Refusal::Unknown);
         }
         let Some(tx) = &self.running else {
-            return Ok(Reply::Refused(Refusal::OutOfTurn));
+            return Reply::Refused(Refusal::OutOfTurn);
         };
         match tx.write(&mut self.segment, segment, offset, bytes) {
-            Ok(()) => Ok(Reply::Ok),
-            Err(fault) => refused(fault),
+            Ok(()) => Reply::Ok,
+            Err(fault) => Reply::Refused(refusal_of(fault)),
         }
     }
 
@@ -99,7 +102,8 @@ impl Solo {
         offset: u32,
         len: u32,
     ) -> Result<Reply, AllocError>
-        ensures { IfOk result (λ reply. Follows self.old (Read node thread segment offset len) reply self.new) }
+        ensures follows { IfOk result (λ reply. Follows self.old (Read node thread segment offset len) reply self.new) }
+        ensures memory { OnErr result (AsksFor self.old (Step (Read node thread segment offset len))) }
     {
         if node != 0 || thread != 0 || segment != 1 {
             return Ok(Reply::Refused(Refusal::Unknown));
@@ -142,21 +146,31 @@ fn are_first(segments: &[u32]) -> bool
     segments.iter().all(|segment| *segment == 1)
 }
 
-/// The reply to what a transaction refused.
-pub(crate) fn refused(fault: TxFault) -> Result<Reply, AllocError>
-    ensures { MatchOption (refusal_of fault) (IsErr result) (λ refusal. result ≡ Ok (Refused refusal)) }
+/// What a store answers where a transaction refused for another reason than want of memory.
+pub(crate) fn refusal_of(fault: TxFault) -> Refusal
+    requires { fault ≢ TxFault.NoMemory }
+    ensures { refusal_of fault ≡ Some result }
 {
-    let refusal = match fault {
+    match fault {
         TxFault::Busy { segment } => Refusal::Busy { segment },
         TxFault::NotHere { segment } => Refusal::NotHere { segment },
         TxFault::NoRange => Refusal::NoRange,
         TxFault::OutOfSegment => Refusal::OutOfSegment { area: None },
         TxFault::NotLocked => Refusal::NotLocked,
-        TxFault::NoMemory => return Err(AllocError),
+        TxFault::NoMemory => unreachable!(),
         TxFault::TooLong { words } => Refusal::TooLong { words },
         TxFault::SequenceSpent { segment } => Refusal::SequenceSpent { segment },
         TxFault::EmptyRange => Refusal::EmptyRange,
         TxFault::TooManyRanges => Refusal::TooManyRanges,
-    };
-    Ok(Reply::Refused(refusal))
+    }
+}
+
+// The reply to what a transaction refused, or want of memory.
+fn refused(fault: TxFault) -> Result<Reply, AllocError>
+    ensures { MatchOption (refusal_of fault) (IsErr result) (λ refusal. result ≡ Ok (Refused refusal)) }
+{
+    match fault {
+        TxFault::NoMemory => Err(AllocError),
+        _ => Ok(Reply::Refused(refusal_of(fault))),
+    }
 }

@@ -4,7 +4,7 @@ use thiserror::Error;
 /// A fault of the reader or of the writer, or, of an inspection alone, want of memory.
 #[derive(Clone, Copy, Debug, PartialEq, Eq, Error)]
 pub enum ToolFault {
-    /// The reader failed; an interrupted read counts too.
+    /// The reader failed; a read that was interrupted counts too.
     #[error("the script could not be read")]
     Read,
     /// The writer failed. Nothing is said of how much went out.

@@ -1,7 +1,7 @@
 //! Runs a script of commands over a new store in memory.
 #![tactic(auto)]
 
-ghost use Rattle.std.specs.Prelude.{IfOk, ◌<◌};
+ghost use Rattle.std.specs.Prelude.{◌≡◌, ◌⊎◌};
 
 mod stop;
 
@@ -33,16 +33,23 @@ fn ended<R: AllocGlobal + Env + Input + Print>(rt: &R) -> Result<u8, Stop> {
     }
 }
 
-// The status of a program that stopped, with its line.
-fn stopped<R: Print + Eprint>(rt: &R, stop: Stop) -> u8 {
-    let printed = match stop {
-        Stop::NotUnderstood => rt.eprintln(stop),
-        Stop::NoMemory => rt.println(stop),
-        Stop::InOrOut => Ok(()),
-    };
-    match printed {
-        Ok(()) => stop.status(),
-        Err(_) => Stop::InOrOut.status(),
+// The status of a program that stopped, once its line was printed. A command line that is not understood has its own
+// status, whether or not the line could be.
+fn stopped<R: Print + Eprint>(rt: &R, stop: Stop) -> u8
+    ensures not_understood { stop ≡ Stop.NotUnderstood → result ≡ 2 }
+    ensures memory { stop ≡ Stop.NoMemory → (result ≡ 1) ⊎ (result ≡ 3) }
+    ensures fault { stop ≡ Stop.InOrOut → result ≡ 3 }
+{
+    match stop {
+        Stop::NotUnderstood => {
+            let _ = rt.eprintln(stop);
+            stop.status()
+        }
+        Stop::NoMemory => match rt.println(stop) {
+            Ok(()) => stop.status(),
+            Err(_) => Stop::InOrOut.status(),
+        },
+        Stop::InOrOut => stop.status(),
     }
 }
 

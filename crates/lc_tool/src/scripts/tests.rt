@@ -1,7 +1,9 @@
 use super::{LONGEST, run_script};
+use crate::ToolFault;
 use crate::areas::zero_areas;
 use crate::inspector::inspect;
 use lc_record::Geometry;
+use std::io::{self, Error, ErrorKind, Read, Write};
 use std::process::Abort;
 use std::test::*;
 
@@ -186,6 +188,136 @@ fn the_longest_script(rt: HostRuntime) -> Result<(), Fail> {
     check_run(&rt, 1, 64, script.as_slice(), "", 0)?;
     script.push(b'\n')?;
     check_run(&rt, 1, 64, script.as_slice(), "script too long\n", 2)
+}
+
+// A reader that gives these bytes, one at a call, but for one call that fails.
+#[derive(Drop)]
+struct Failing<'a> {
+    rest: &'a [u8],
+    fails_at: usize,
+    kind: ErrorKind,
+}
+
+impl Read for Failing<'_> {
+    fn read(&mut self, buf: &mut [u8]) -> io::Result<usize> {
+        if self.rest.len() == self.fails_at {
+            self.fails_at = usize::MAX;
+            return Err(Error::from(self.kind));
+        }
+        let (Some((first, rest)), Some(place)) = (self.rest.split_first(), buf.first_mut()) else {
+            return Ok(0);
+        };
+        *place = *first;
+        self.rest = rest;
+        Ok(1)
+    }
+}
+
+// A writer that takes so many bytes, and then fails.
+#[derive(Drop)]
+struct Narrow {
+    room: usize,
+}
+
+impl Write for Narrow {
+    fn write(&mut self, buf: &[u8]) -> io::Result<usize> {
+        let Some(room) = self.room.checked_sub(buf.len()) else {
+            return Err(Error::from(ErrorKind::Other));
+        };
+        self.room = room;
+        Ok(buf.len())
+    }
+
+    fn flush(&mut self) -> io::Result<()> {
+        Ok(())
+    }
+}
+
+// A run of a script, given byte by byte, of which one read fails with so many bytes left.
+fn run_failing(
+    rt: &(impl Abort + AllocGlobal),
+    fails_at: usize,
+    kind: ErrorKind,
+    room: usize,
+) -> Result<Result<u8, ToolFault>, Fail> {
+    let alloc = rt.alloc();
+    let Some(geometry) = Geometry::new(1, 1, 1, 1, 64) else {
+        panic!(rt; "no such store");
+    };
+    let areas = zero_areas(alloc, &geometry)?;
+    let mut reader = Failing {
+        rest: b"begin 0 0 1\nflush 0\n",
+        fails_at,
+        kind,
+    };
+    Ok(run_script(alloc, geometry, areas, &mut reader, &mut Narrow { room }))
+}
+
+#[test]
+fn a_reader_that_fails_once(rt: HostRuntime) -> Result<(), Fail> {
+    for kind in [
+        ErrorKind::Interrupted,
+        ErrorKind::OutOfMemory,
+        ErrorKind::Other,
+    ] {
+        for left in [20, 8, 0] {
+            assert_eq!(rt; run_failing(&rt, left, kind, 64)?, Err(ToolFault::Read));
+        }
+    }
+    // No read comes with so many bytes left.
+    assert_eq!(rt; run_failing(&rt, 21, ErrorKind::Other, 64)?, Ok(0));
+    Ok(())
+}
+
+#[test]
+fn a_writer_that_fails(rt: HostRuntime) -> Result<(), Fail> {
+    // The replies are `ok` and `nothing`.
+    for room in [0, 2, 3, 10] {
+        assert_eq!(rt;
+            run_failing(&rt, 21, ErrorKind::Other, room)?,
+            Err(ToolFault::Write)
+        );
+    }
+    assert_eq!(rt; run_failing(&rt, 21, ErrorKind::Other, 11)?, Ok(0));
+    let log = [
+        0xa5, 1, 1, 0, 8, 0, 0, 0, 0, 0, 1, 0, 0, 0, 0, 0, 1, 0, 0, 0, 0, 0, 0, 0, 1, 0, 0, 0, 0,
+        0, 0, 0, 1, 0, 0, 0, 3, 0, 0, 0, 5, 0, 0, 0, 0, 0, 0, 0, 0x68, 0x65, 0x6c, 0x6c, 0x6f, 0,
+        0, 0, 8, 0, 0, 0, 0, 0, 0, 0,
+    ];
+    for room in [0, 20, 33] {
+        assert_eq!(rt;
+            inspect(rt.alloc(), &log, &mut Narrow { room }),
+            Err(ToolFault::Write)
+        );
+    }
+    assert_eq!(rt; inspect(rt.alloc(), &log, &mut Narrow { room: 34 }), Ok(()));
+    Ok(())
+}
+
+// With no transaction open, and in one that begins with 17 repeats; reads of no bytes.
+#[test]
+fn lines_out_of_turn(rt: HostRuntime) -> Result<(), Fail> {
+    check_run(
+        &rt,
+        1,
+        64,
+        b"range 0 0 1 0 1\nwrite 0 0 1 0 00\nread 0 0 1 0 0\nend 0 0\nabort 0 0\nbegin 0 0 1 1 1 1 1 1 1 1 1 1 1 1 1 1 1 1\nread 0 0 1 0 0\nread 0 0 1 256 0\nabort 0 0\n",
+        "refused OutOfTurn\nrefused OutOfTurn\nrefused OutOfTurn\nrefused OutOfTurn\nrefused OutOfTurn\nok\nbytes\nbytes\nok\n",
+        1,
+    )
+}
+
+#[test]
+fn more_than_a_thousand_lines(rt: HostRuntime) -> Result<(), Fail> {
+    let mut script = "begin 0 0 1\n".to_string(rt.alloc())?;
+    let mut want = "ok\n".to_string(rt.alloc())?;
+    for _ in 0..1100 {
+        script.push_str("read 0 0 1 0 1\n")?;
+        want.push_str("bytes 00\n")?;
+    }
+    script.push_str("jump\n")?;
+    want.push_str("line 1102: not understood\n")?;
+    check_run(&rt, 1, 64, script.as_str().as_bytes(), want.as_str(), 2)
 }
 
 #[test]

@@ -17,9 +17,10 @@ returns-in-Ok-perform-clause-leaves g c = λ m s h.
     (next.0, next.1, inr (c.in-Command.command, sym c.in-Ok.ensures.value ∙ c.in-Command.is, next.2), next.3, next.4)
 
 pub returns-in-Err-NoMemory-clause-leaves : goal.returns-in-Err-NoMemory-clause-leaves
-returns-in-Err-NoMemory-clause-leaves g c =
-    let shown = c.in_ok-no_memory-in-Err-NoMemory.ensures.shown in (
+returns-in-Err-NoMemory-clause-leaves g c = λ m s h.
+    let shown = c.in_ok-no_memory-in-Err-NoMemory.ensures.shown in
+    let want = ap Err c.in-Err-NoMemory.field-0-is in (
       no_memory_text,
-      inl (refl, shown.0),
-      keeps_then (g.W.Write.contents c.args.writer.now) _ (g.W.Write.contents c.no_memory-in-Err-NoMemory.new.writer) no_memory_text (c.in-Err-NoMemory.ensures.memory (ap Err c.in-Err-NoMemory.field-0-is)) shown.1,
+      inl (inr (c.in-Command.command, sym c.in-Ok.ensures.value ∙ c.in-Command.is, c.in-Err-NoMemory.ensures.asks want m s h), (refl, shown.0)),
+      keeps_then (g.W.Write.contents c.args.writer.now) _ (g.W.Write.contents c.no_memory-in-Err-NoMemory.new.writer) no_memory_text (c.in-Err-NoMemory.ensures.memory want) shown.1,
     )

@@ -12,7 +12,7 @@ pub returns-in-Ends-clause-runs : goal.returns-in-Ends-clause-runs
 returns-in-Ends-clause-runs g c = λ m first h.
     let before = c.loop-rest.invariant.runs m first h in
     let so_far = before.2 in
-    let ends = rw c.in-Ends.is at c.in_ok-next.ensures.leaves in
+    let ends = (rw c.in-Ends.is at c.in_ok-next.ensures.leaves) m before.0 before.1 in
     let line = c.first_line.result.0.now in
     let behind = c.first_line.result.1.now in
     let here : Runs m before.0 c.loop-rest.number c.loop-rest.refused (script_lines c.loop-rest.rest.now) ends.0 c.in-Ends.status =

@@ -1,10 +1,13 @@
-use Rattle.std.proofs.Common.{◌≡◌, length}
+use Rattle.std.proofs.Common.{◌≡◌, ◌≤◌, length}
 use Rattle.lc_tool.specs.Line.{words, all_numbers}
 use Rattle.lc_tool.proofs.Items.{with_front}
 use Rattle.lc_tool.proofs.fields.Fields.all_u32.Given as goal
 
 abbrev pub invariant-loop-word : goal.invariant-loop-word
-invariant-loop-word l = with_front l.numbers.items (all_numbers (words l.self.rest.now)) ≡ all_numbers (words l.fn.self.rest.now)
+invariant-loop-word l = record {
+  read : with_front l.numbers.items (all_numbers (words l.self.rest.now)) ≡ all_numbers (words l.fn.self.rest.now);
+  fewer : length (words l.self.rest.now) ≤ length (words l.fn.self.rest.now);
+}
 
 abbrev pub decreases-loop-word : goal.decreases-loop-word
 decreases-loop-word l = length l.self.rest.now

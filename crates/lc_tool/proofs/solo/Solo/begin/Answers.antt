@@ -1,4 +1,4 @@
-use Rattle.std.proofs.Common.{◌≡◌, ℕ, ◌≤◌, ◌+◌, true, None, length, sym, ◌∙◌, ap, subst}
+use Rattle.std.proofs.Common.{◌≡◌, ℕ, ◌≤◌, ◌+◌, true, None, Err, length, sym, ◌∙◌, ap, subst}
 use Rattle.std.specs.List.{list_all}
 use Rattle.lc_core.specs.Refusals.{is_known, is_seat, is_segment}
 use Rattle.lc_core.specs.Machine.{begun}
@@ -8,6 +8,8 @@ use Rattle.lc_tx.specs.Tx.{RunsOn}
 use Rattle.lc_tool.specs.OneSegment.{the_images}
 use Rattle.lc_tool.specs.declared.one_segment.OneSegment.{OneSegment}
 use Rattle.lc_tool.proofs.OneNodeLemmas.{only_one, is_none, seat_zero, same_segment, same_records, held_bytes}
+use Rattle.lc_tx.specs.declared.tx_fault.TxFault.{TxFault}
+use Rattle.lc_tool.proofs.MemoryLemmas.{by_want, few_here}
 use Rattle.lc_tool.proofs.StepLemmas.{begin_row, begin_fault, by_refusal}
 use Rattle.lc_tool.proofs.CloseLemmas.{records_with}
 use Rattle.lc_tool.proofs.solo.Solo.begin.Goals as goal
@@ -44,8 +46,8 @@ invariant_of-self-in-Err-1 c =
       runs = λ x e. subst (λ (seg : OneSegment). RunsOn the_images seg x) (sym same) (w.runs x e);
     }
 
-pub returns-in-Ok : goal.returns-in-Ok
-returns-in-Ok c = λ m s h.
+pub returns-in-Ok-clause-follows : goal.returns-in-Ok-clause-follows
+returns-in-Ok-clause-follows c = λ m s h.
     let w = c.args.self.now in
     let known : is_known m.geometry (Begin c.args.node c.args.thread c.args.segments.now) ≡ true = sym (c.if-not-is_known.ensures m.geometry (only_one m w s h)) in
     let none : w.running ≡ None = is_none w.running (sym c.if-is_some.ensures) in
@@ -64,11 +66,21 @@ returns-in-Ok c = λ m s h.
       },
     )
 
-pub returns-in-Err : goal.returns-in-Err
-returns-in-Err c = by_refusal _ c.refused.result _ c.refused.ensures (λ refusal named m s h.
+pub returns-in-Err-clause-follows : goal.returns-in-Err-clause-follows
+returns-in-Err-clause-follows c = by_refusal _ c.refused.result _ c.refused.ensures (λ refusal named m s h.
     let w = c.args.self.now in
     let known : is_known m.geometry (Begin c.args.node c.args.thread c.args.segments.now) ≡ true = sym (c.if-not-is_known.ensures m.geometry (only_one m w s h)) in
     let none : w.running ≡ None = is_none w.running (sym c.if-is_some.ensures) in
     let seat = seat_zero m w s h c.args.node c.args.thread (and-both (is_seat m.geometry c.args.node c.args.thread) (list_all (is_segment m.geometry) c.args.segments.now) known).0 in
     let first : is_known m.geometry (Begin 0 0 c.args.segments.now) ≡ true = rw (seat.0, seat.1) at known in
     absurd (begin_fault m w s h c.args.segments.now c.begin.result c.in-Err.fault refusal none first c.begin.ensures.not_here c.begin.ensures.busy c.in-Err.ensures.faults c.in-Err.is named))
+
+-- there are too few segments for memory to be asked for
+pub returns-in-Err-clause-memory : goal.returns-in-Err-clause-memory
+returns-in-Err-clause-memory c = by_want c.in-Err.fault c.refused.result _ c.refused.ensures (λ want m s h.
+    let w = c.args.self.now in
+    let known : is_known m.geometry (Begin c.args.node c.args.thread c.args.segments.now) ≡ true = sym (c.if-not-is_known.ensures m.geometry (only_one m w s h)) in
+    let seat = seat_zero m w s h c.args.node c.args.thread (and-both (is_seat m.geometry c.args.node c.args.thread) (list_all (is_segment m.geometry) c.args.segments.now) known).0 in
+    let first : is_known m.geometry (Begin 0 0 c.args.segments.now) ≡ true = rw (seat.0, seat.1) at known in
+    let why = c.begin.ensures.no_memory (c.in-Err.is ∙ ap (λ (f : TxFault). Err f) want) in
+    few_here m w s h c.args.segments.now why.1.0 first why.1.1 why.1.2)

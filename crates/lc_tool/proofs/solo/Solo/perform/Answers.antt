@@ -5,7 +5,7 @@ use Rattle.lc_tool.proofs.solo.Solo.perform.Goals as goal
 
 pub returns-in_ok-refused-in-Step-clause-done : goal.returns-in_ok-refused-in-Step-clause-done
 returns-in_ok-refused-in-Step-clause-done g c = λ m s h.
-    let next = c.in_ok-reply-in-Step.ensures m s h in
+    let next = c.in_ok-reply-in-Step.ensures.follows m s h in
     let reply = c.in_ok-reply-in-Step.reply in
     let shown = c.in_ok-refused-in-Step.ensures.shown in
     (reply_text reply, next.0, rw c.in-Step.is (reply, next.1, refl, shown.0), shown.1, next.2)

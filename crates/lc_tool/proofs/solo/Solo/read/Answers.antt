@@ -1,5 +1,7 @@
-use Rattle.std.proofs.Common.{◌≡◌, ℕ, ◌≤◌, ◌+◌, length, refl, sym, ◌∙◌, ap, subst}
-use Rattle.lc_tx.specs.Tx.{RunsOn}
+use Rattle.std.proofs.Common.{◌≡◌, ℕ, ◌≤◌, ◌+◌, Err, length, refl, sym, ◌∙◌, ap, subst}
+use Rattle.lc_tx.specs.Tx.{Locked, RunsOn}
+use Rattle.lc_tx.specs.declared.tx_fault.TxFault.{TxFault}
+use Rattle.lc_tool.proofs.MemoryLemmas.{by_want, read_asks}
 use Rattle.lc_tx.specs.declared.tx.Tx.{Tx}
 use Rattle.lc_tool.specs.OneSegment.{the_images}
 use Rattle.lc_tool.specs.declared.one_segment.OneSegment.{OneSegment}
@@ -24,8 +26,8 @@ invariant_of-self-2 c =
       runs = λ x e. subst (λ (seg : OneSegment). RunsOn the_images seg x) (sym same) (w.runs x e);
     }
 
-pub returns-in-Ok : goal.returns-in-Ok
-returns-in-Ok c = λ m s h.
+pub returns-in-Ok-clause-follows : goal.returns-in-Ok-clause-follows
+returns-in-Ok-clause-follows c = λ m s h.
     let w = c.args.self.now in
     let tx : Tx = c.in-Some.tx in
     let same : c.read.new.images ≡ w.segment = same_segment w.segment c.read.new.images c.read.ensures.images in
@@ -35,8 +37,8 @@ returns-in-Ok c = λ m s h.
     rw (c.if-node-ne0.false, c.if-thread-ne0.false, c.if-segment-ne1.false)
     (s, (step, tt), same_fits m w s h _ refl refl refl same refl refl)
 
-pub returns-in-Err : goal.returns-in-Err
-returns-in-Err c = by_refusal _ c.refused.result _ c.refused.ensures (λ refusal named m s h.
+pub returns-in-Err-clause-follows : goal.returns-in-Err-clause-follows
+returns-in-Err-clause-follows c = by_refusal _ c.refused.result _ c.refused.ensures (λ refusal named m s h.
     let w = c.args.self.now in
     let tx : Tx = c.in-Some.tx in
     let same : c.read.new.images ≡ w.segment = same_segment w.segment c.read.new.images c.read.ensures.images in
@@ -45,3 +47,13 @@ returns-in-Err c = by_refusal _ c.refused.result _ c.refused.ensures (λ refusal
     let step = read_fault m w s h tx c.in-Some.is c.args.offset c.args.len c.read.result c.in-Err.fault refusal answers c.in-Err.ensures.faults c.in-Err.is named in
     rw (c.if-node-ne0.false, c.if-thread-ne0.false, c.if-segment-ne1.false)
     (s, (step, tt), same_fits m w s h _ refl refl refl same refl refl))
+
+-- some byte is given
+pub returns-in-Err-clause-memory : goal.returns-in-Err-clause-memory
+returns-in-Err-clause-memory c = by_want c.in-Err.fault c.refused.result _ c.refused.ensures (λ want m s h.
+    let w = c.args.self.now in
+    let tx : Tx = c.in-Some.tx in
+    let why = c.read.ensures.no_memory (c.in-Err.is ∙ ap (λ (f : TxFault). Err f) want) in
+    let lock : Locked tx 1 = subst (λ (n : ℕ). Locked tx n) c.if-segment-ne1.false why.0 in
+    rw (c.if-node-ne0.false, c.if-thread-ne0.false, c.if-segment-ne1.false)
+    (read_asks m w s h tx c.in-Some.is c.args.offset c.args.len lock why.1 why.2))
