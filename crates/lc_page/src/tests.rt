@@ -256,7 +256,7 @@ fn check_calls(rt: &impl Abort, alloc: Global, bytes: &[u8], seq: u64) -> Result
     let area = MemArea::from_bytes(alloc, bytes)?;
     let mut area = Fuse::new(area, When::At(7));
     let write = PageWrite::begin(&pages, 1, &[0xaa; 256], seq)?;
-    assert_eq!(rt; write_page(&mut area, write), Ok(()));
+    assert!(rt; begin_writing(&mut area, write, 6)?.is_none());
     assert_eq!(rt; area.faults(), 0);
     assert!(rt; area.sync().is_err());
     Ok(())
