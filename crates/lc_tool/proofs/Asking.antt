@@ -1,5 +1,5 @@
 -- What the words ask for.
-use Rattle.std.proofs.Common.{◌≡◌, ◌∙◌, ◌⊎◌, List, [], true, refl, sym, ap, ap₂, subst, false, inl, inr}
+use Rattle.std.proofs.Common.{◌≡◌, ◌∙◌, ◌⊎◌, List, [], Option, true, refl, sym, ap, ap₂, subst, false, inl, inr}
 use Rattle.std.specs.Option.{option_map_or}
 use Rattle.clap.specs.Words.{AddsArg, App, Rule, rule_of, with_rule, HasMatchesOf, IsAmong, Row, Text, app_of, fault_of, is_simple, is_simple_and_free, subcommand_of, subcommand_rows_of}
 use Rattle.clap.specs.declared.builder.arg.Arg.{Arg}
@@ -9,7 +9,8 @@ use Rattle.clap.specs.declared.parser.matches.ArgMatches.{ArgMatches}
 use Rattle.clap.specs.declared.error.kind.ErrorKind.{ErrorKind}
 use Rattle.clap.specs.declared.error.kind.ErrorKind.TheVariants.{DisplayHelp, OutOfMemory}
 use Rattle.clap.proofs.OnLiterals.{clap_on_literals}
-use Rattle.lc_tool.specs.CommandLine.{HasNumbersAt, IsAskedBy, IsReadOf, options_of, program_app}
+use Rattle.lc_tool.proofs.RunWords.{faultless_words}
+use Rattle.lc_tool.specs.CommandLine.{HasNumbersAt, IsAskedBy, IsReadOf, program_app}
 use Rattle.lc_tool.specs.declared.command_line.Asked.{Asked}
 use Rattle.lc_tool.specs.declared.command_line.Asked.TheVariants.{Run, Help, NotUnderstood}
 
@@ -21,17 +22,19 @@ pub program_is_free : is_simple_and_free program_app ≡ true
 unfolding clap_on_literals
 program_is_free = refl
 
-pub asked : (asked : Asked) (rows : List Row) (words : List Text) → IsReadOf rows asked → rows ≡ options_of words
-    → fault_of program_app words ≡ [] → IsAskedBy words asked
-asked (Run g) rows words read same none = (read.0, none, subst (λ (r : List Row). HasNumbersAt r g) same read.1)
-asked (Help text) rows words read same none = absurd read
-asked NotUnderstood rows words read same none = tt
-
 pub same_options : (c : Command) (m : ArgMatches) (words : List Text) → app_of c ≡ program_app → HasMatchesOf (app_of c) words m
-    → option_map_or (λ found. found.1) (subcommand_rows_of m) [] ≡ options_of words
+    → subcommand_rows_of m ≡ subcommand_of program_app words
 same_options c m words is has =
-    let rows = (has (ap is_simple is ∙ program_is_simple)).1 ∙ ap (λ (a : App). subcommand_of a words) is in
-    rw rows refl
+    (has (ap is_simple is ∙ program_is_simple)).1 ∙ ap (λ (a : App). subcommand_of a words) is
+
+pub asked : (asked : Asked) (found : Option (Text × List Row)) (words : List Text) → IsReadOf found asked → found ≡ subcommand_of program_app words
+    → fault_of program_app words ≡ [] → IsAskedBy words asked
+asked (Run g) found words read same none =
+    (read.0, none, subst (λ (o : Option (Text × List Row)). HasNumbersAt (option_map_or (λ f. f.1) o []) g) same read.1)
+asked (Help text) found words read same none = absurd read
+asked NotUnderstood found words read same none =
+    let run = faultless_words words none in
+    absurd (read run.0 (same ∙ run.1) run.2)
 
 pub no_fault : (c : Command) (words : List Text) → app_of c ≡ program_app → fault_of (app_of c) words ≡ []
     → fault_of program_app words ≡ []

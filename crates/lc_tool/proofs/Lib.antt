@@ -11,6 +11,8 @@ mod ShowLemmas
 mod LineLemmas
 mod ScriptLemmas
 mod OptionNumbers
+mod OptionRows
+mod RunWords
 mod Asking
 mod StepLemmas
 mod CloseLemmas

@@ -1,8 +1,7 @@
 //! The command line of the program.
-ghost use Rattle.std.specs.Prelude.{◌≡◌, IfOk, IfSome, [], false, map};
-ghost use Rattle.std.specs.Option.{option_map_or};
+ghost use Rattle.std.specs.Prelude.{◌≡◌, IfOk, IfSome, IsNone, false, map};
 ghost use Rattle.clap.specs.Words.{app_of, found_of, rows_of, rule_of, subcommand_rows_of};
-ghost use Rattle.lc_tool.specs.CommandLine.{HasNumbersAt, IsAskedBy, IsReadOf, number_at, option_rule, program_app};
+ghost use Rattle.lc_tool.specs.CommandLine.{HasNumbersAt, HasSizeAt, IsAskedBy, IsReadOf, number_at, option_rule, program_app};
 ghost use Rattle.lc_tool.specs.OneNode.{IsOne};
 
 use clap::builder::ValueParser;
@@ -102,7 +101,7 @@ fn option<'a>(
 }
 
 fn asked_of(matches: &ArgMatches<'_>) -> Asked
-    ensures { IsReadOf (option_map_or (λ found. found.1) (subcommand_rows_of matches.now) []) result }
+    ensures { IsReadOf (subcommand_rows_of matches.now) result }
 {
     match matches.subcommand_matches("run").and_then(geometry_of) {
         Some(geometry) => Asked::Run(geometry),
@@ -114,6 +113,7 @@ fn asked_of(matches: &ArgMatches<'_>) -> Asked
 fn geometry_of(options: &ArgMatches<'_>) -> Option<Geometry>
     ensures one { IfSome result (λ g. IsOne g) }
     ensures numbers { IfSome result (HasNumbersAt (rows_of (found_of options.now))) }
+    ensures none { IsNone result → HasSizeAt (rows_of (found_of options.now)) → ⊥ }
 {
     let nodes = number_of(options, "nodes")?;
     let threads = number_of(options, "threads")?;
@@ -128,7 +128,7 @@ fn geometry_of(options: &ArgMatches<'_>) -> Option<Geometry>
 
 // The number that the option has.
 fn number_of(options: &ArgMatches<'_>, name: &str) -> Option<u32>
-    ensures { IfSome result (λ n. n ≡ number_at name.now (rows_of (found_of options.now))) }
+    ensures { result ≡ number_at name.now (rows_of (found_of options.now)) }
 {
     options.get_one::<u32>(name)
 }
