@@ -1,5 +1,5 @@
 -- A store that fits a state, with some of its parts changed.
-use Rattle.std.proofs.Common.{◌≡◌, ℕ, ◌+◌, ◌<◌, ◌≤◌, true, false, List, [], ◌++◌, length, Option, Some, None, refl, sym, ◌∙◌, ap, ap₂, subst, true≢false, arith}
+use Rattle.std.proofs.Common.{◌≡◌, ℕ, ◌+◌, ◌<◌, ◌≤◌, true, false, List, [], ◌++◌, length, Option, Some, None, sym, ◌∙◌, ap, ap₂, subst, true≢false, arith}
 use Rattle.std.specs.Prelude.{◌↔◌, Result, Ok, Err}
 use Rattle.lc_disk.specs.MemArea.{memory_now, memory_dirty}
 use Rattle.lc_record.specs.declared.geometry.Geometry.{Geometry}
@@ -24,7 +24,7 @@ use Rattle.lc_tx.specs.declared.tx.Tx.{Tx}
 use Rattle.lc_tx.specs.declared.tx_fault.TxFault.{TxFault}
 use Rattle.lc_tx.specs.declared.tx_fault.TxFault.TheVariants.{Busy as IsBusy, NotHere as IsNotHere, NoRange as HasNoRange, OutOfSegment as IsOutside, NotLocked as IsNotLocked, NoMemory, TooLong as IsTooLong, SequenceSpent as IsSpent, EmptyRange as IsEmpty, TooManyRanges as AreTooMany}
 use Rattle.lc_tool.specs.Refused.{refusal_of}
-use Rattle.lc_tool.specs.OneSegment.{the_images}
+use Rattle.lc_tx.specs.OneSegment.{the_images}
 use Rattle.lc_tool.specs.Session.{Answers, Ends}
 use Rattle.lc_tool.specs.Fits.{Fits, FitsBytes, FitsRecords, FitsStill, IsReleased, IsLogged}
 use Rattle.lc_tool.proofs.StepLemmas.{the_one, fits_open}

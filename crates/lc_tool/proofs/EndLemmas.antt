@@ -40,8 +40,8 @@ use Rattle.lc_tx.specs.Prepared.{IsFirstSpent, AreUnspent, final_record}
 use Rattle.lc_tx.specs.StandsFor.{StandsFor, AreNumbers}
 use Rattle.lc_tx.specs.declared.tx.Tx.{Tx}
 use Rattle.lc_tx.proofs.StandsLemmas.{record_stands, empty_set}
-use Rattle.lc_tool.specs.OneSegment.{the_images}
-use Rattle.lc_tool.specs.declared.one_segment.OneSegment.{OneSegment}
+use Rattle.lc_tx.specs.OneSegment.{the_images}
+use Rattle.lc_tx.specs.declared.one_segment.OneSegment.{OneSegment}
 use Rattle.lc_tool.proofs.OneNodeLemmas.{only_one, known_seat, no_refusal, none_running, other_running, locked_first, without-own}
 use Rattle.lc_tool.proofs.StepLemmas.{the_one, fits_open, only, running, whole, nothing_written}
 

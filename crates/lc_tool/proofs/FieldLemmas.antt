@@ -1,5 +1,5 @@
 -- How many words the fields of a line take.
-use Rattle.std.proofs.Common.{◌≡◌, ℕ, ◌+◌, ◌<◌, List, [], ◌∷◌, length, Option, Some, None, refl, sym, ◌∙◌, ap, arith}
+use Rattle.std.proofs.Common.{◌≡◌, ℕ, ◌+◌, List, [], ◌∷◌, length, Option, Some, None, refl, ap, arith}
 use Rattle.std.specs.Prelude.{option_map, OnErr, Result, Ok, Err}
 use Rattle.lc_tool.specs.Line.{◌>>=◌, first, u16_of, u32_of, thread_of, spot_of}
 

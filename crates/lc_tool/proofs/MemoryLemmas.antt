@@ -1,5 +1,5 @@
 -- When a command of the store asks for memory.
-use Rattle.std.proofs.Common.{◌≡◌, ℕ, ◌+◌, ◌*◌, ◌<◌, ◌≤◌, true, false, ◌==◌, List, [], ◌∷◌, length, take, drop, Option, Some, None, refl, sym, ◌∙◌, ap, arith, true≢false, length-drop, inl, inr}
+use Rattle.std.proofs.Common.{◌≡◌, ℕ, ◌+◌, ◌<◌, ◌≤◌, true, ◌==◌, List, [], ◌∷◌, length, take, drop, Option, Some, None, refl, sym, ◌∙◌, ap, arith, length-drop, inl, inr}
 use Rattle.std.specs.Prelude.{Result, Ok, Err, OnErr, IsErr, MatchOption}
 use Rattle.std.specs.List.{list_all}
 use Rattle.std.specs.declared.alloc.AllocError.{AllocError}
@@ -11,7 +11,6 @@ use Rattle.lc_record.specs.declared.record.Record.{Record}
 use Rattle.lc_range.specs.RangeSet.{IsCanonical, MissesSome, NeedsRunsAbove}
 use Rattle.lc_core.specs.Machine.{appended, changed}
 use Rattle.lc_core.specs.Refusals.{is_known, is_seat, is_segment}
-use Rattle.lc_core.specs.Settled.{stable_records}
 use Rattle.lc_core.specs.State.{Setting, State}
 use Rattle.lc_core.specs.declared.event.Event.TheVariants.{Begin, SetRange, Read}
 use Rattle.lc_core.specs.declared.refusal.Refusal.{Refusal}
@@ -20,13 +19,13 @@ use Rattle.lc_core.specs.declared.reply.Reply.TheVariants.{Refused}
 use Rattle.lc_core.proofs.Rows.{and-both}
 use Rattle.lc_log.specs.LogText.{joined}
 use Rattle.lc_tx.specs.Prepared.{AreUnspent, final_record}
-use Rattle.lc_tx.specs.Tx.{IsSetOf, Locked, RunsOn}
+use Rattle.lc_tx.specs.Tx.{IsSetOf, Locked}
 use Rattle.lc_tx.specs.declared.tx.Tx.{Tx}
 use Rattle.lc_tx.specs.declared.tx_fault.TxFault.{TxFault}
 use Rattle.lc_tx.specs.declared.tx_fault.TxFault.TheVariants.{Busy as IsBusy, NotHere as IsNotHere, NoRange as HasNoRange, OutOfSegment as IsOutside, NotLocked as IsNotLocked, NoMemory, TooLong as IsTooLong, SequenceSpent as IsSpent, EmptyRange as IsEmpty, TooManyRanges as AreTooMany}
 use Rattle.lc_tx.proofs.AscendLemmas.{set_is_ascending}
 use Rattle.lc_tool.specs.Fits.{Fits}
-use Rattle.lc_tool.specs.OneSegment.{the_images}
+use Rattle.lc_tx.specs.OneSegment.{the_images}
 use Rattle.lc_tool.specs.Refused.{refusal_of}
 use Rattle.lc_tool.specs.Session.{AsksMemory}
 use Rattle.lc_tool.specs.declared.command.Command.TheVariants.{Step as Asks, End, Log}

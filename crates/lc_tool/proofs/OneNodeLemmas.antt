@@ -19,9 +19,9 @@ use Rattle.lc_tx.specs.declared.image.Image.{Image}
 use Rattle.lc_tx.specs.declared.tx.Tx.{Tx}
 use Rattle.lc_range.specs.Undo.{OldBytes}
 use Rattle.lc_tool.specs.OneNode.{IsOne}
-use Rattle.lc_tool.specs.OneSegment.{the_images, is_one}
+use Rattle.lc_tx.specs.OneSegment.{the_images, is_one}
 use Rattle.lc_tool.specs.Fits.{Fits, FitsBytes, IsOwn}
-use Rattle.lc_tool.specs.declared.one_segment.OneSegment.{OneSegment}
+use Rattle.lc_tx.specs.declared.one_segment.OneSegment.{OneSegment}
 use Rattle.lc_tool.specs.declared.solo.Solo.{Solo}
 
 pub one_segment : (g : Geometry) (s : ℕ) → g.segments ≡ 1 → is_segment g s ≡ (s == 1)

@@ -24,7 +24,7 @@ use Rattle.lc_tool.specs.Session.{image_of, Shows}
 use Rattle.lc_tool.specs.Fits.{Fits, FitsBytes}
 use Rattle.lc_tool.specs.declared.solo.Solo.{Solo}
 use Rattle.lc_tx.specs.declared.tx.Tx.{Tx}
-use Rattle.lc_tool.specs.declared.one_segment.OneSegment.{OneSegment}
+use Rattle.lc_tx.specs.declared.one_segment.OneSegment.{OneSegment}
 use Rattle.lc_tool.proofs.OneNodeLemmas.{only_one, one_segment}
 use Rattle.lc_tool.proofs.EndLemmas.{the_records}
 

@@ -32,9 +32,9 @@ use Rattle.lc_tx.specs.Fault.{is_of_begin, is_of_set_range, is_of_read}
 use Rattle.lc_tx.specs.declared.tx_fault.TxFault.{TxFault}
 use Rattle.lc_tx.specs.declared.tx_fault.TxFault.TheVariants.{Busy as IsBusy, NotHere as IsNotHere, NoRange as HasNoRange, OutOfSegment as IsOutside, NotLocked as IsNotLocked, NoMemory, TooLong as IsTooLong, SequenceSpent as IsSpent, EmptyRange as IsEmpty, TooManyRanges as AreTooMany}
 use Rattle.lc_tool.specs.Refused.{refusal_of}
-use Rattle.lc_tool.specs.OneSegment.{the_images}
+use Rattle.lc_tx.specs.OneSegment.{the_images}
 use Rattle.lc_tool.specs.Fits.{Fits, FitsBytes, IsOpen}
-use Rattle.lc_tool.specs.declared.one_segment.OneSegment.{OneSegment}
+use Rattle.lc_tx.specs.declared.one_segment.OneSegment.{OneSegment}
 use Rattle.lc_tool.specs.declared.solo.Solo.{Solo}
 use Rattle.lc_tool.proofs.OneNodeLemmas.{member_first, locked_first, with_changed-own, without-own, only_one, segment_bytes, idle, free_begin, turn_begin, running_one, running_is, known_one, known_seat, no_refusal, all_first}
 

@@ -1,6 +1,5 @@
 -- The areas of a store that holds nothing.
 use Rattle.std.specs.Prelude.{◌≡◌, ℕ, ◌+◌, ◌*◌, false, List, [], ◌∷◌, map, replicate}
-use Rattle.std.specs.List.{AllByRecursion}
 use Rattle.lc_disk.specs.declared.mem_area.MemArea.{MemArea}
 use Rattle.lc_disk.specs.MemArea.{memory_now, memory_dirty}
 use Rattle.lc_record.specs.declared.geometry.Geometry.{Geometry}

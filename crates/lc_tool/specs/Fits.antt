@@ -21,8 +21,8 @@ use Rattle.lc_core.specs.declared.event.Event.TheVariants.{Begin, SetRange, Writ
 use Rattle.lc_core.specs.declared.reply.Reply.{Reply}
 use Rattle.lc_tx.specs.StandsFor.{StandsFor}
 use Rattle.lc_tx.specs.declared.tx.Tx.{Tx}
-use Rattle.lc_tool.specs.declared.one_segment.OneSegment.{OneSegment}
-use Rattle.lc_tool.specs.OneSegment.{the_images}
+use Rattle.lc_tx.specs.declared.one_segment.OneSegment.{OneSegment}
+use Rattle.lc_tx.specs.OneSegment.{the_images}
 use Rattle.lc_tool.specs.declared.solo.Solo.{Solo}
 
 -- The open transaction: what is kept of it stands for it, on the content, and the segment's bytes are those with its

@@ -8,5 +8,4 @@ pub mod OneNode
 pub mod Fits
 pub mod Outcome
 pub mod CommandLine
-pub mod OneSegment
 pub mod Refused

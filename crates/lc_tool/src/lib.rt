@@ -11,7 +11,6 @@ mod fields;
 mod hex;
 mod inspector;
 mod lines;
-mod one_segment;
 mod opening;
 mod outcome;
 mod parsing;

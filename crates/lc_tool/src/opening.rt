@@ -5,12 +5,11 @@ ghost use Rattle.lc_tool.specs.Areas.{AreZeros};
 ghost use Rattle.lc_tool.specs.OneNode.{IsOne};
 ghost use Rattle.lc_tool.specs.Session.{setting_of};
 
-use crate::one_segment::OneSegment;
 use crate::solo::Solo;
 use lc_disk::MemArea;
 use lc_log::NodeLog;
 use lc_record::{Geometry, Group};
-use lc_tx::Image;
+use lc_tx::{Image, OneSegment};
 use std::alloc::{AllocError, Global};
 
 impl Solo {

@@ -3,13 +3,12 @@ ghost use Rattle.std.specs.Prelude.{◌≡◌, ◌+◌, ◌*◌, ◌≤◌, ◌<
 ghost use Rattle.std.specs.Option.{ForSome};
 ghost use Rattle.lc_disk.specs.MemArea.{memory_now};
 ghost use Rattle.lc_tx.specs.Tx.{RunsOn};
-ghost use Rattle.lc_tool.specs.OneSegment.{the_images};
+ghost use Rattle.lc_tx.specs.OneSegment.{the_images};
 
-use crate::one_segment::OneSegment;
 use lc_disk::MemArea;
 use lc_log::NodeLog;
 use lc_record::{Geometry, Group};
-use lc_tx::Tx;
+use lc_tx::{OneSegment, Tx};
 
 /// The log, the records that are closed and not flushed, the segment, and the open transaction.
 #[derive(Drop)]

@@ -6,3 +6,4 @@ pub mod Fault
 pub mod Walk
 pub mod TwoImages
 pub mod StandsFor
+pub mod OneSegment

@@ -9,6 +9,7 @@ mod images;
 mod laws;
 mod limits;
 mod locking;
+mod one_segment;
 mod prepared;
 mod recording;
 mod tx;
@@ -20,6 +21,7 @@ pub use laws::{
     begun, bytes_written, content_is_back, few_segments, nothing_is_set, one_ascending_list,
     one_record, range_set, runs_are_ranges, runs_beside, same_images, set_positions, stands_beside,
 };
+pub use one_segment::OneSegment;
 pub use prepared::Prepared;
 pub use tx::Tx;
 pub use tx_fault::TxFault;

@@ -5,8 +5,8 @@ use Rattle.lc_core.specs.Machine.{begun}
 use Rattle.lc_core.specs.declared.event.Event.TheVariants.{Begin}
 use Rattle.lc_core.proofs.Rows.{and-both}
 use Rattle.lc_tx.specs.Tx.{RunsOn}
-use Rattle.lc_tool.specs.OneSegment.{the_images}
-use Rattle.lc_tool.specs.declared.one_segment.OneSegment.{OneSegment}
+use Rattle.lc_tx.specs.OneSegment.{the_images}
+use Rattle.lc_tx.specs.declared.one_segment.OneSegment.{OneSegment}
 use Rattle.lc_tool.proofs.OneNodeLemmas.{only_one, is_none, seat_zero, same_segment, same_records, held_bytes}
 use Rattle.lc_tx.specs.declared.tx_fault.TxFault.{TxFault}
 use Rattle.lc_tool.proofs.MemoryLemmas.{by_want, few_here}

@@ -1,17 +1,16 @@
-use Rattle.std.proofs.Common.{◌≡◌, ℕ, ◌≤◌, ◌<◌, ◌+◌, List, [], Option, Some, None, Ok, Err, length, refl, sym, ◌∙◌, ap, subst, arith, true≢false}
+use Rattle.std.proofs.Common.{◌≡◌, ℕ, ◌≤◌, ◌<◌, ◌+◌, List, [], Option, Some, Ok, length, refl, sym, ◌∙◌, ap, subst, arith}
 use Rattle.std.specs.Prelude.{◌↔◌, Result}
 use Rattle.lc_record.specs.Record.{IsRecord, record_len}
 use Rattle.lc_core.specs.Machine.{dropped}
 use Rattle.lc_core.specs.State.{State}
 use Rattle.lc_tx.specs.Tx.{RunsOn}
-use Rattle.lc_tx.specs.Prepared.{AreSmall, IsFirstSpent, IsLoggable, AreUnspent, final_record}
+use Rattle.lc_tx.specs.Prepared.{AreSmall, IsLoggable, final_record}
 use Rattle.lc_tx.specs.declared.tx_fault.TxFault.{TxFault}
-use Rattle.lc_tx.specs.declared.tx_fault.TxFault.TheVariants.{SequenceSpent, TooLong, NoMemory}
 use Rattle.lc_tx.specs.declared.prepared.Prepared.{Prepared}
-use Rattle.lc_tx.specs.declared.prepared.Prepared.TheVariants.{Empty, Record}
+use Rattle.lc_tx.specs.declared.prepared.Prepared.TheVariants.{Record}
 use Rattle.lc_tx.specs.declared.tx.Tx.{Tx}
-use Rattle.lc_tool.specs.OneSegment.{the_images}
-use Rattle.lc_tool.specs.declared.one_segment.OneSegment.{OneSegment}
+use Rattle.lc_tx.specs.OneSegment.{the_images}
+use Rattle.lc_tx.specs.declared.one_segment.OneSegment.{OneSegment}
 use Rattle.lc_tool.specs.declared.solo.Solo.{Solo}
 use Rattle.lc_tool.proofs.OneNodeLemmas.{same_segment, locked_first}
 use Rattle.lc_tool.proofs.StepLemmas.{the_one}

@@ -3,8 +3,8 @@ use Rattle.lc_tx.specs.Tx.{Locked, RunsOn}
 use Rattle.lc_tx.specs.declared.tx_fault.TxFault.{TxFault}
 use Rattle.lc_tool.proofs.MemoryLemmas.{by_want, read_asks}
 use Rattle.lc_tx.specs.declared.tx.Tx.{Tx}
-use Rattle.lc_tool.specs.OneSegment.{the_images}
-use Rattle.lc_tool.specs.declared.one_segment.OneSegment.{OneSegment}
+use Rattle.lc_tx.specs.OneSegment.{the_images}
+use Rattle.lc_tx.specs.declared.one_segment.OneSegment.{OneSegment}
 use Rattle.lc_tool.proofs.OneNodeLemmas.{same_segment}
 use Rattle.lc_tool.proofs.StepLemmas.{ReadAnswers, read_done, read_fault, by_refusal}
 use Rattle.lc_tool.proofs.CloseLemmas.{same_fits}

@@ -7,9 +7,9 @@ use Rattle.lc_tx.specs.Tx.{Locked, RunsOn, SetsRange}
 use Rattle.lc_tx.specs.declared.tx_fault.TxFault.{TxFault}
 use Rattle.lc_tool.proofs.MemoryLemmas.{by_want, range_asks}
 use Rattle.lc_tx.specs.declared.tx.Tx.{Tx}
-use Rattle.lc_tool.specs.OneSegment.{the_images}
+use Rattle.lc_tx.specs.OneSegment.{the_images}
 use Rattle.lc_tool.specs.Fits.{FitsBytes}
-use Rattle.lc_tool.specs.declared.one_segment.OneSegment.{OneSegment}
+use Rattle.lc_tx.specs.declared.one_segment.OneSegment.{OneSegment}
 use Rattle.lc_tool.proofs.OneNodeLemmas.{same_segment}
 use Rattle.lc_tool.proofs.StepLemmas.{RangeAnswers, range_answers, the_one, range_done, range_fault, by_refusal}
 use Rattle.lc_tool.proofs.CloseLemmas.{same_fits, records_with}

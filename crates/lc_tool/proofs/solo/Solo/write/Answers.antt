@@ -5,7 +5,7 @@ use Rattle.lc_core.specs.Machine.{changed}
 use Rattle.lc_tx.specs.Images.{IsWritten}
 use Rattle.lc_tx.specs.declared.tx.Tx.{Tx}
 use Rattle.lc_tx.specs.declared.tx_fault.TxFault.{TxFault}
-use Rattle.lc_tool.specs.OneSegment.{the_images}
+use Rattle.lc_tx.specs.OneSegment.{the_images}
 use Rattle.lc_tool.specs.Fits.{FitsBytes}
 use Rattle.lc_tool.proofs.OneNodeLemmas.{same_segment, same_records}
 use Rattle.lc_tool.proofs.StepLemmas.{WriteAnswers, the_one, write_done, write_fault}

@@ -1,16 +1,16 @@
-//! The one segment of a store.
+//! A node of one segment.
 ghost use Rattle.std.proofs.Common.{refl, ◌∙◌};
-ghost use Rattle.lc_tool.specs.OneSegment.{the_images, one_here};
+ghost use Rattle.lc_tx.specs.OneSegment.{the_images, one_here};
 
-use lc_tx::{Image, Images};
+use crate::{Image, Images};
 
-/// Segment 1, whose token is here.
+/// The images of a node that has segment 1 alone, with its token. This project's own.
 #[derive(Debug, Drop)]
-pub(crate) struct OneSegment {
-    /// Its bytes, with those of the open transaction.
-    pub(crate) image: Image,
+pub struct OneSegment {
+    /// Its bytes, with those of an open transaction.
+    pub image: Image,
     /// How many records were closed; each has the next number of the segment.
-    pub(crate) records: u64,
+    pub records: u64,
 }
 
 impl Images for OneSegment {

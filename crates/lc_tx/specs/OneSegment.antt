@@ -1,8 +1,8 @@
--- The images of a store of one segment.
+-- The images of a node of one segment.
 use Rattle.std.specs.Prelude.{◌≡◌, ℕ, true, false, ◌==◌, Some, None, IsSome, if◌then◌else◌}
 use Rattle.std.proofs.Common.{refl, sym, ◌∙◌, eqb-true, true≢false}
 use Rattle.lc_tx.specs.declared.images.Images.{Ghosts}
-use Rattle.lc_tool.specs.declared.one_segment.OneSegment.{OneSegment}
+use Rattle.lc_tx.specs.declared.one_segment.OneSegment.{OneSegment}
 
 -- the token of segment 1 is here, with the number of the records
 abbrev pub the_images : Ghosts OneSegment
