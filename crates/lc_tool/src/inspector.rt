@@ -1,5 +1,5 @@
 //! The records of a log, one a line.
-ghost use Rattle.std.specs.Prelude.{◌≡◌, ◌≢◌, OnOk};
+ghost use Rattle.std.specs.Prelude.{◌≡◌, ◌≢◌, ◌≤◌, OnOk, length};
 ghost use Rattle.std.specs.Io.KnownBytes.{Appends, Keeps};
 ghost use Rattle.lc_record.specs.Words.{words_of};
 ghost use Rattle.lc_tool.specs.Inspector.{Inspects};
@@ -11,10 +11,11 @@ use std::alloc::Global;
 use std::io::Write;
 
 /// Writes a line for each record of a log's bytes, in order, with its place and its words, and nothing else. It is
-/// safe on any bytes; what stands behind the last record is not shown.
+/// safe on any bytes; what stands behind the last record is not shown. Without a whole word it asks for no memory.
 pub fn inspect<W: Write>(alloc: Global, bytes: &[u8], writer: &mut W) -> Result<(), ToolFault>
     ensures shown { OnOk result (Inspects (words_of bytes.now) (W.contents writer.old) (W.contents writer.new)) }
     ensures memory { result ≡ Err ToolFault.NoMemory → Keeps (W.contents writer.old) (W.contents writer.new) }
+    ensures asks { result ≡ Err ToolFault.NoMemory → 8 ≤ length bytes.now }
     ensures never_reads { result ≢ Err ToolFault.Read }
 {
     let Ok(found) = walk(alloc, bytes) else {
