@@ -1,7 +1,8 @@
 -- Slots of an area, position by position, and what a stop may leave of them.
 use Rattle.std.proofs.Common.{◌≡◌, ◌≢◌, ◌⊎◌, ℕ, suc, ◌+◌, ◌-◌, ◌*◌, ◌<◌, ◌≤◌, Bool, false, List, [], ◌∷◌, ◌++◌, length, get_or, take, drop, refl, sym, ◌∙◌, ap, subst, inl, inr, arith, append-nil, length-append, length-take, length-drop}
 use Rattle.std.proofs.lemmas.Bool.{cases_lt}
-use Rattle.std.proofs.lemmas.List.{ext_get_or, get_or-take, get_or-drop, get_or_past, get_or_append_left, get_or-append_right, get_or-append-add, length-take-le, drop_more, nil_from_length}
+use Rattle.std.proofs.lemmas.List.{ext_get_or, get_or-take, get_or-drop, get_or_past, get_or_append_left, get_or-append_right, length-take-le, drop_more, nil_from_length}
+use Rattle.lc_disk.proofs.Outside.{same_before, same_after, overlaid_get}
 use Rattle.lc_disk.specs.Area.{IsImage, IsSameOutside, BecomeDirty, overlaid}
 use Rattle.lc_disk.proofs.Images.{FirstByte, only_first}
 use Rattle.lc_page.specs.declared.slot.Slot.{Slot}
@@ -78,22 +79,6 @@ module _ (page : ℕ) (slot : Slot) (now later : List ℕ) (dirty soiled : ℕ �
   }
 
 -- an area outside of a range that was written
-
-pub same_before : (at n : ℕ) (now later : List ℕ) → IsSameOutside at n now later → (k : ℕ) → k < at → get_or later k 0 ≡ get_or now k 0
-same_before at n now later s k h = sym (get_or-take at later k 0 h) ∙ ap (λ (l : List ℕ). get_or l k 0) s.before ∙ get_or-take at now k 0 h
-
-pub same_after : (at n : ℕ) (now later : List ℕ) → IsSameOutside at n now later → (k : ℕ) → at + n ≤ k → get_or later k 0 ≡ get_or now k 0
-same_after at n now later s k h =
-    let split : at + n + (k - (at + n)) ≡ k = omega arith in
-    subst (λ (i : ℕ). get_or later i 0 ≡ get_or now i 0) split
-    (sym (get_or-drop (at + n) later (k - (at + n)) 0) ∙ ap (λ (l : List ℕ). get_or l (k - (at + n)) 0) s.after ∙ get_or-drop (at + n) now (k - (at + n)) 0)
-
--- what was laid over an area
-pub overlaid_get : (now bytes : List ℕ) (at i : ℕ) → at + length bytes ≤ length now → i < length bytes → get_or (overlaid now at bytes) (at + i) 0 ≡ get_or bytes i 0
-overlaid_get now bytes at i room below =
-    let long : length (take at now) ≡ at = length-take-le at now (omega arith) in
-    get_or_append_left (take at now ++ bytes) (drop (at + length bytes) now) 0 (at + i) (omega (arith, length-append (take at now) bytes))
-    ∙ subst (λ (n : ℕ). get_or (take at now ++ bytes) (n + i) 0 ≡ get_or bytes i 0) long (get_or-append-add (take at now) bytes i 0)
 
 module _ (page at n : ℕ) (now later : List ℕ) (dirty soiled : ℕ → Bool) (same : IsSameOutside at n now later) (soils : BecomeDirty at n dirty soiled) where
   -- a position that was not written

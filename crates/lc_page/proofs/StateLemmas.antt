@@ -12,7 +12,8 @@ use Rattle.lc_page.specs.Slot.{number_of, other, next_slot}
 use Rattle.lc_page.specs.Page.{Page, slot_at, slot_bytes, has_gate, sequence_of, is_open, page_of_slot, present_slot, page_at, page_of, text_of, page_in, text_in}
 use Rattle.lc_page.specs.PageVector.{gate_of, settled_text}
 use Rattle.lc_page.specs.PageWrite.{behind_gate, closing_bytes, drafted, alone, IsSlotImage, EachImage, IsSettled, IsNext, IsBegun, IsBeside, IsClosing, IsClosed, IsFilling, IsFilled, IsTorn, IsOpening, IsEither, Shows, SameInside, SameOutside, Writes}
-use Rattle.lc_page.proofs.SlotLemmas.{number_small, slot_get, slot_short, slot_length, slot_same_length, slot_fits, slot_image, slot_itself, laid, laid_bytes, laid_image, SameSlot, same_slot, kept_bytes, kept_image, overlaid_get, unwritten, other_kept, outside_kept, nothing_written, all_kept, clean_image, clean_gate, gate_and_behind, behind_image}
+use Rattle.lc_disk.proofs.Outside.{overlaid_get}
+use Rattle.lc_page.proofs.SlotLemmas.{number_small, slot_get, slot_short, slot_length, slot_same_length, slot_fits, slot_image, slot_itself, laid, laid_bytes, laid_image, SameSlot, same_slot, kept_bytes, kept_image, unwritten, other_kept, outside_kept, nothing_written, all_kept, clean_image, clean_gate, gate_and_behind, behind_image}
 use Rattle.lc_page.proofs.PageLemmas.{shut, only_other, not_present, newer_wins, next_is_free, made_text, gates_get, two, two_here, two_there, each_slot, same_page, same_text, gate_is, two_gates, written_gates, written_open, written_page}
 
 -- each image of an area has this page, where each of the two slots has
