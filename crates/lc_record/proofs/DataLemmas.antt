@@ -1,12 +1,13 @@
 -- The bytes of a range as whole words, and back.
-use Rattle.std.proofs.Common.{◌≡◌, ℕ, zero, suc, ◌+◌, ◌-◌, ◌*◌, ◌/◌, ◌<◌, ◌≤◌, min, true, eqb, List, [], ◌∷◌, ◌++◌, length, get_or, take, drop, replicate, refl, sym, ◌∙◌, ap, arith, inl, inr, append_assoc, length-append, length-drop, take-append-drop}
+use Rattle.std.proofs.Common.{◌≡◌, ℕ, zero, suc, ◌+◌, ◌-◌, ◌*◌, ◌/◌, ◌<◌, ◌≤◌, min, true, eqb, List, [], ◌∷◌, ◌++◌, length, get_or, take, drop, replicate, refl, sym, ◌∙◌, ap, arith, append_assoc, length-append, length-drop, take-append-drop}
 use Rattle.std.specs.List.{list_all}
 use Rattle.std.specs.Int.{w64, from_le_bytes, to_le_bytes}
-use Rattle.std.proofs.lemmas.Bool.{and_parts, eqb-true, cases_lt}
+use Rattle.std.proofs.lemmas.Bool.{and_parts, eqb-true}
 use Rattle.std.proofs.lemmas.List.{length-take, length-take-le, length-replicate, take_at, take_all, take_min, take_more, drop_at, drop_all, drop-drop, append-nil, nil_from_length}
 use Rattle.lc_record.specs.Words.{words_of, bytes_of, AreWords, AreBytes}
 use Rattle.lc_record.specs.Record.{data_words}
-use Rattle.lc_record.specs.Reading.{data_len, is_padded}
+use Rattle.lc_record.specs.Layout.{data_len}
+use Rattle.lc_record.specs.Reading.{is_padded}
 use Rattle.lc_record.proofs.WordLemmas.{AreBytes-append, AreBytes-take, AreBytes-bytes_of, AreWords-words_of, length-words_of, length-bytes_of, bytes_of-words_of, bytes_of-append, words_of-bytes_of-all, words_of-eight, words_of-first, words_of-nil}
 
 -- zeros
@@ -117,22 +118,25 @@ data_first bytes long =
 data_none : data_words [] ≡ []
 data_none = words_of-nil
 
-pub data_step : (bytes : List ℕ) (n : ℕ) → 0 < length bytes → n ≡ min (length bytes) 8 → data_words bytes ≡ word_of (take n bytes) ∷ data_words (drop n bytes)
-data_step bytes n some is = elim (cases_lt (length bytes) 8) [
-  | inl short ↦
-      let whole : length bytes ≤ n = omega (arith, is) in
-      data_last bytes some short ∙ ap (λ (l : List ℕ). word_of l ∷ []) (sym (take_all n bytes whole)) ∙ ap (λ (l : List ℕ). word_of (take n bytes) ∷ l) (sym (ap data_words (drop_all n bytes whole) ∙ data_none))
-  | inr long ↦ let eight : 8 ≡ n = omega (arith, is) in data_first bytes long ∙ ap (λ (k : ℕ). word_of (take k bytes) ∷ data_words (drop k bytes)) eight
-]
+data_eight : (bytes : List ℕ) → 8 ≤ length bytes → data_words bytes ≡ from_le_bytes w64 (take 8 bytes) ∷ data_words (drop 8 bytes)
+data_eight bytes long =
+    let none : 8 - length (take 8 bytes) ≡ 0 = omega (arith, length-take-le 8 bytes long) in
+    let whole : take 8 bytes ++ replicate (8 - length (take 8 bytes)) 0 ≡ take 8 bytes = ap (λ (n : ℕ). take 8 bytes ++ replicate n 0) none ∙ append-nil (take 8 bytes) in
+    data_first bytes long ∙ ap (λ (l : List ℕ). from_le_bytes w64 l ∷ data_words (drop 8 bytes)) whole
 
 -- what the loop has pushed, and what is left
-pub pushed : (front bytes all start : List ℕ) (n : ℕ) (w : ℕ) → 0 < length bytes → n ≡ min (length bytes) 8 → w ≡ word_of (take n bytes)
-    → front ++ data_words bytes ≡ start ++ data_words all → (front ++ w ∷ []) ++ data_words (drop n bytes) ≡ start ++ data_words all
-pushed front bytes all start n w some is word so_far =
-    append_assoc front (w ∷ []) (data_words (drop n bytes))
-    ∙ ap (λ (x : ℕ). front ++ x ∷ data_words (drop n bytes)) word
-    ∙ ap (λ (l : List ℕ). front ++ l) (sym (data_step bytes n some is))
+
+pub pushed : (front bytes all start : List ℕ) (w : ℕ) → 8 ≤ length bytes → w ≡ from_le_bytes w64 (take 8 bytes)
+    → front ++ data_words bytes ≡ start ++ data_words all → (front ++ w ∷ []) ++ data_words (drop 8 bytes) ≡ start ++ data_words all
+pushed front bytes all start w long word so_far =
+    append_assoc front (w ∷ []) (data_words (drop 8 bytes))
+    ∙ ap (λ (x : ℕ). front ++ x ∷ data_words (drop 8 bytes)) word
+    ∙ ap (λ (l : List ℕ). front ++ l) (sym (data_eight bytes long))
     ∙ so_far
+
+pub pushed_last : (front bytes all start : List ℕ) (w : ℕ) → 0 < length bytes → length bytes < 8 → w ≡ word_of bytes → front ++ data_words bytes ≡ start ++ data_words all → front ++ w ∷ [] ≡ start ++ data_words all
+pushed_last front bytes all start w some short word so_far =
+    ap (λ (x : ℕ). front ++ x ∷ []) word ∙ ap (λ (l : List ℕ). front ++ l) (sym (data_last bytes some short)) ∙ so_far
 
 pub pushed_all : (front bytes all start : List ℕ) → length bytes ≡ 0 → front ++ data_words bytes ≡ start ++ data_words all → front ≡ start ++ data_words all
 pushed_all front bytes all start none so_far =

@@ -1,5 +1,6 @@
 pub mod WordLemmas
 pub mod DataLemmas
+pub mod LayoutLemmas
 pub mod SpellingLemmas
 pub mod ReadingLemmas
 pub mod OrderLemmas
@@ -7,3 +8,4 @@ pub mod LoopLemmas
 pub mod RecordLemmas
 pub mod GroupLemmas
 pub mod SegmentLemmas
+pub mod LockLemmas

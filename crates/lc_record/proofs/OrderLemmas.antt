@@ -1,13 +1,15 @@
 -- Locks that ascend, and ranges that follow on them: what is tested is what the grammar says.
-use Rattle.std.proofs.Common.{◌≡◌, ◌⊎◌, ℕ, ◌+◌, ◌^◌, ◌<◌, ◌≤◌, Bool, true, false, cond, eqb, ltb, leb, ◌&&◌, List, [], ◌∷◌, length, Option, Some, None, refl, sym, ap, subst, ◌∙◌, inl, inr, arith}
+use Rattle.std.proofs.Common.{◌≡◌, ◌⊎◌, ℕ, ◌^◌, ◌<◌, ◌≤◌, Bool, true, false, cond, eqb, ltb, leb, ◌&&◌, List, [], ◌∷◌, length, Option, Some, None, refl, sym, ap, subst, ◌∙◌, inl, inr, arith}
 use Rattle.std.specs.Prelude.{◌↔◌}
 use Rattle.std.specs.List.{AllByRecursion}
 use Rattle.std.proofs.lemmas.Bool.{and_parts, and_from, eqb-true, leb-true, ltb-true, eq-eqb, ne_eqb, le-leb, lt-ltb, cases_eq, cases_Bool}
 use Rattle.std.proofs.lemmas.Option.{cond_some, same_Some}
-use Rattle.lc_record.specs.Record.{Chain, IsLock, IsRange, IsBefore, Locks, Writes}
+use Rattle.lc_record.specs.GrammarVersion.{end_of}
+use Rattle.lc_record.specs.Record.{Chain, IsLock, IsRange, IsBefore, Locks, Writes, span_of}
 use Rattle.lc_record.specs.Reading.{◌>>=◌, is_lock, ascend, Place, place, start, step, holds, follow}
 use Rattle.lc_record.specs.declared.record.Lock.{Lock}
 use Rattle.lc_record.specs.declared.record.RangeData.{RangeData}
+use Rattle.lc_record.specs.declared.span.Span.{Span}
 
 -- Locks
 
@@ -61,16 +63,19 @@ locked_above before (lock ∷ locks) segment up locked = elim locked [
 
 -- Ranges
 
+abbrev range_end : RangeData → ℕ
+range_end range = end_of (span_of range)
+
 -- the first range comes behind this place, and each other behind the one before it
 abbrev Ordered : ℕ → ℕ → List RangeData → Type 0
 Ordered segment end [] = Unit {0}
 Ordered segment end (range ∷ ranges) = ((segment < range.segment) ⊎ ((segment ≡ range.segment) × (end < range.offset))) × Chain IsBefore (range ∷ ranges)
 
-ordered_chain : (range : RangeData) (ranges : List RangeData) → Ordered range.segment (range.offset + length range.bytes) ranges → Chain IsBefore (range ∷ ranges)
+ordered_chain : (range : RangeData) (ranges : List RangeData) → Ordered range.segment (range_end range) ranges → Chain IsBefore (range ∷ ranges)
 ordered_chain range [] h = tt
 ordered_chain range (next ∷ ranges) h = (h.0, h.1)
 
-chain_ordered : (range : RangeData) (ranges : List RangeData) → Chain IsBefore (range ∷ ranges) → Ordered range.segment (range.offset + length range.bytes) ranges
+chain_ordered : (range : RangeData) (ranges : List RangeData) → Chain IsBefore (range ∷ ranges) → Ordered range.segment (range_end range) ranges
 chain_ordered range [] h = tt
 chain_ordered range (next ∷ ranges) h = (h.0, h.1)
 
@@ -93,12 +98,9 @@ pub record Followed (segment end : ℕ) (locks : List Lock) (ranges : List Range
   pub used : (s : ℕ) → Locks s locks → Writes s ranges
   pub locked : (s : ℕ) → Writes s ranges → (s ≡ segment) ⊎ Locks s locks
 
-abbrev end_of : RangeData → ℕ
-end_of range = range.offset + length range.bytes
-
 -- the next range is of the segment before it
 followed_same : (segment end : ℕ) (locks : List Lock) (range : RangeData) (ranges : List RangeData) → range.segment ≡ segment → end < range.offset
-    → Followed range.segment (end_of range) locks ranges → Followed segment end locks (range ∷ ranges)
+    → Followed range.segment (range_end range) locks ranges → Followed segment end locks (range ∷ ranges)
 followed_same segment end locks range ranges same gap later = record {
   ordered = (inr (sym same, gap), ordered_chain range ranges later.ordered);
   used = λ s locked. inr (later.used s locked);
@@ -110,7 +112,7 @@ followed_same segment end locks range ranges same gap later = record {
 
 -- it is of the segment of the next lock
 followed_next : (segment end : ℕ) (lock : Lock) (locks : List Lock) (range : RangeData) (ranges : List RangeData) → lock.segment ≡ range.segment → segment < range.segment
-    → Followed range.segment (end_of range) locks ranges → Followed segment end (lock ∷ locks) (range ∷ ranges)
+    → Followed range.segment (range_end range) locks ranges → Followed segment end (lock ∷ locks) (range ∷ ranges)
 followed_next segment end lock locks range ranges same less later = record {
   ordered = (inl less, ordered_chain range ranges later.ordered);
   used = λ s locked. elim locked [ inl here ↦ inl (sym same ∙ here) | inr there ↦ inr (later.used s there) ];
@@ -121,41 +123,41 @@ followed_next segment end lock locks range ranges same less later = record {
 }
 
 -- the next place
-step_same : (segment end : ℕ) (locks : List Lock) (its offset len : ℕ) → its ≡ segment → end < offset → step (place segment end locks) its offset len ≡ Some (place its (offset + len) locks)
-step_same segment end locks its offset len same gap =
-    let a : eqb its segment ≡ true = eq-eqb _ _ same in
-    let b : ltb end offset ≡ true = lt-ltb _ _ gap in
+step_same : (segment end : ℕ) (locks : List Lock) (span : Span) → span.segment ≡ segment → end < span.offset → step (place segment end locks) span ≡ Some (place span.segment (end_of span) locks)
+step_same segment end locks span same gap =
+    let a : eqb span.segment segment ≡ true = eq-eqb _ _ same in
+    let b : ltb end span.offset ≡ true = lt-ltb _ _ gap in
     rw (a, b) refl
 
-step_next : (segment end : ℕ) (lock : Lock) (locks : List Lock) (its offset len : ℕ) → (its ≡ segment → ⊥) → lock.segment ≡ its → step (place segment end (lock ∷ locks)) its offset len ≡ Some (place its (offset + len) locks)
-step_next segment end lock locks its offset len other same =
-    let a : eqb its segment ≡ false = ne_eqb _ _ other in
-    let b : eqb lock.segment its ≡ true = eq-eqb _ _ same in
+step_next : (segment end : ℕ) (lock : Lock) (locks : List Lock) (span : Span) → (span.segment ≡ segment → ⊥) → lock.segment ≡ span.segment → step (place segment end (lock ∷ locks)) span ≡ Some (place span.segment (end_of span) locks)
+step_next segment end lock locks span other same =
+    let a : eqb span.segment segment ≡ false = ne_eqb _ _ other in
+    let b : eqb lock.segment span.segment ≡ true = eq-eqb _ _ same in
     rw (a, b) refl
 
-same_takes : (segment end : ℕ) (locks : List Lock) (its offset len : ℕ) (after : Place) → its ≡ segment → step (place segment end locks) its offset len ≡ Some after
-    → (end < offset) × (place its (offset + len) locks ≡ after)
-same_takes segment end locks its offset len after same e =
-    let a : eqb its segment ≡ true = eq-eqb _ _ same in
-    let rest : cond (ltb end offset) (Some (place its (offset + len) locks)) None ≡ Some after = rw a at e in
-    let taken = cond_some (ltb end offset) (place its (offset + len) locks) after rest in
+same_takes : (segment end : ℕ) (locks : List Lock) (span : Span) (after : Place) → span.segment ≡ segment → step (place segment end locks) span ≡ Some after
+    → (end < span.offset) × (place span.segment (end_of span) locks ≡ after)
+same_takes segment end locks span after same e =
+    let a : eqb span.segment segment ≡ true = eq-eqb _ _ same in
+    let rest : cond (ltb end span.offset) (Some (place span.segment (end_of span) locks)) None ≡ Some after = rw a at e in
+    let taken = cond_some (ltb end span.offset) (place span.segment (end_of span) locks) after rest in
     (ltb-true _ _ taken.0, taken.1)
 
-next_takes : (segment end : ℕ) (lock : Lock) (locks : List Lock) (its offset len : ℕ) (after : Place) → (its ≡ segment → ⊥) → step (place segment end (lock ∷ locks)) its offset len ≡ Some after
-    → (lock.segment ≡ its) × (place its (offset + len) locks ≡ after)
-next_takes segment end lock locks its offset len after other e =
-    let a : eqb its segment ≡ false = ne_eqb _ _ other in
-    let rest : (cond (eqb lock.segment its) (Some locks) None >>= λ l. Some (place its (offset + len) l)) ≡ Some after = rw a at e in
-    elim (cases_Bool (eqb lock.segment its)) [
+next_takes : (segment end : ℕ) (lock : Lock) (locks : List Lock) (span : Span) (after : Place) → (span.segment ≡ segment → ⊥) → step (place segment end (lock ∷ locks)) span ≡ Some after
+    → (lock.segment ≡ span.segment) × (place span.segment (end_of span) locks ≡ after)
+next_takes segment end lock locks span after other e =
+    let a : eqb span.segment segment ≡ false = ne_eqb _ _ other in
+    let rest : (cond (eqb lock.segment span.segment) (Some locks) None >>= λ l. Some (place span.segment (end_of span) l)) ≡ Some after = rw a at e in
+    elim (cases_Bool (eqb lock.segment span.segment)) [
       | inl is_it ↦
-          let made : Some (place its (offset + len) locks) ≡ Some after = rw is_it at rest in
+          let made : Some (place span.segment (end_of span) locks) ≡ Some after = rw is_it at rest in
           (eqb-true _ _ is_it, same_Some _ _ made)
       | inr is_not ↦ let none : None ≡ Some after = rw is_not at rest in absurd cc
     ]
 
-none_takes : (segment end : ℕ) (its offset len : ℕ) (after : Place) → (its ≡ segment → ⊥) → step (place segment end []) its offset len ≡ Some after → ⊥
-none_takes segment end its offset len after other e =
-    let a : eqb its segment ≡ false = ne_eqb _ _ other in
+none_takes : (segment end : ℕ) (span : Span) (after : Place) → (span.segment ≡ segment → ⊥) → step (place segment end []) span ≡ Some after → ⊥
+none_takes segment end span after other e =
+    let a : eqb span.segment segment ≡ false = ne_eqb _ _ other in
     let none : None ≡ Some after = rw a at e in
     absurd cc
 
@@ -163,27 +165,27 @@ pub follow_takes : (segment end : ℕ) (locks : List Lock) (ranges : List RangeD
 follow_takes segment end [] [] up e = record { ordered = tt; used = λ s locked. absurd locked; locked = λ s written. absurd written }
 follow_takes segment end (lock ∷ locks) [] up e = absurd (omega (arith, eqb-true (length (lock ∷ locks)) 0 e))
 follow_takes segment end [] (range ∷ ranges) up e =
-    let h = holds_some (step (place segment end []) range.segment range.offset (length range.bytes)) (λ after. follow after ranges) e in
+    let h = holds_some (step (place segment end []) (span_of range)) (λ after. follow after ranges) e in
     elim (cases_eq range.segment segment) [
       | inl same ↦
-          let t = same_takes segment end [] range.segment range.offset (length range.bytes) h.0 same h.1 in
-          let later : follow (place range.segment (end_of range) []) ranges ≡ true = ap (λ (p : Place). follow p ranges) t.1 ∙ h.2 in
-          followed_same segment end [] range ranges same t.0 (follow_takes range.segment (end_of range) [] ranges tt later)
-      | inr other ↦ absurd (none_takes segment end range.segment range.offset (length range.bytes) h.0 other h.1)
+          let t = same_takes segment end [] (span_of range) h.0 same h.1 in
+          let later : follow (place range.segment (range_end range) []) ranges ≡ true = ap (λ (p : Place). follow p ranges) t.1 ∙ h.2 in
+          followed_same segment end [] range ranges same t.0 (follow_takes range.segment (range_end range) [] ranges tt later)
+      | inr other ↦ absurd (none_takes segment end (span_of range) h.0 other h.1)
     ]
 follow_takes segment end (lock ∷ locks) (range ∷ ranges) up e =
-    let h = holds_some (step (place segment end (lock ∷ locks)) range.segment range.offset (length range.bytes)) (λ after. follow after ranges) e in
+    let h = holds_some (step (place segment end (lock ∷ locks)) (span_of range)) (λ after. follow after ranges) e in
     elim (cases_eq range.segment segment) [
       | inl same ↦
-          let t = same_takes segment end (lock ∷ locks) range.segment range.offset (length range.bytes) h.0 same h.1 in
-          let later : follow (place range.segment (end_of range) (lock ∷ locks)) ranges ≡ true = ap (λ (p : Place). follow p ranges) t.1 ∙ h.2 in
+          let t = same_takes segment end (lock ∷ locks) (span_of range) h.0 same h.1 in
+          let later : follow (place range.segment (range_end range) (lock ∷ locks)) ranges ≡ true = ap (λ (p : Place). follow p ranges) t.1 ∙ h.2 in
           let still : Ascends range.segment (lock ∷ locks) = subst (λ (n : ℕ). Ascends n (lock ∷ locks)) (sym same) up in
-          followed_same segment end (lock ∷ locks) range ranges same t.0 (follow_takes range.segment (end_of range) (lock ∷ locks) ranges still later)
+          followed_same segment end (lock ∷ locks) range ranges same t.0 (follow_takes range.segment (range_end range) (lock ∷ locks) ranges still later)
       | inr other ↦
-          let t = next_takes segment end lock locks range.segment range.offset (length range.bytes) h.0 other h.1 in
-          let later : follow (place range.segment (end_of range) locks) ranges ≡ true = ap (λ (p : Place). follow p ranges) t.1 ∙ h.2 in
+          let t = next_takes segment end lock locks (span_of range) h.0 other h.1 in
+          let later : follow (place range.segment (range_end range) locks) ranges ≡ true = ap (λ (p : Place). follow p ranges) t.1 ∙ h.2 in
           let still : Ascends range.segment locks = subst (λ (n : ℕ). Ascends n locks) t.0 up.1 in
-          followed_next segment end lock locks range ranges t.0 (omega (arith, t.0, up.0)) (follow_takes range.segment (end_of range) locks ranges still later)
+          followed_next segment end lock locks range ranges t.0 (omega (arith, t.0, up.0)) (follow_takes range.segment (range_end range) locks ranges still later)
     ]
 
 -- the other way
@@ -195,12 +197,12 @@ follow_from segment end [] (range ∷ ranges) up is =
     elim (is.locked range.segment (inl refl)) [
       | inl same ↦
           let gap : end < range.offset = elim is.ordered.0 [ inl less ↦ absurd (omega (arith, less, same)) | inr both ↦ both.1 ] in
-          let later : Followed range.segment (end_of range) [] ranges = record {
+          let later : Followed range.segment (range_end range) [] ranges = record {
             ordered = chain_ordered range ranges is.ordered.1;
             used = λ s locked. absurd locked;
             locked = λ s written. elim (is.locked s (inr written)) [ inl here ↦ inl (here ∙ sym same) | inr none ↦ absurd none ];
           } in
-          rw (step_same segment end [] range.segment range.offset (length range.bytes) same gap) (follow_from range.segment (end_of range) [] ranges tt later)
+          rw (step_same segment end [] (span_of range) same gap) (follow_from range.segment (range_end range) [] ranges tt later)
       | inr none ↦ absurd none
     ]
 follow_from segment end (lock ∷ locks) (range ∷ ranges) up is =
@@ -209,7 +211,7 @@ follow_from segment end (lock ∷ locks) (range ∷ ranges) up is =
       | inl same ↦
           let gap : end < range.offset = elim is.ordered.0 [ inl less ↦ absurd (omega (arith, less, same)) | inr both ↦ both.1 ] in
           let still : Ascends range.segment (lock ∷ locks) = subst (λ (n : ℕ). Ascends n (lock ∷ locks)) (sym same) up in
-          let later : Followed range.segment (end_of range) (lock ∷ locks) ranges = record {
+          let later : Followed range.segment (range_end range) (lock ∷ locks) ranges = record {
             ordered = chain_ordered range ranges is.ordered.1;
             used = λ s locked. elim (is.used s locked) [
               | inl here ↦ absurd (omega (arith, here, locked_above range.segment (lock ∷ locks) s still locked))
@@ -217,7 +219,7 @@ follow_from segment end (lock ∷ locks) (range ∷ ranges) up is =
             ];
             locked = λ s written. elim (is.locked s (inr written)) [ inl here ↦ inl (here ∙ sym same) | inr locked ↦ inr locked ];
           } in
-          rw (step_same segment end (lock ∷ locks) range.segment range.offset (length range.bytes) same gap) (follow_from range.segment (end_of range) (lock ∷ locks) ranges still later)
+          rw (step_same segment end (lock ∷ locks) (span_of range) same gap) (follow_from range.segment (range_end range) (lock ∷ locks) ranges still later)
       | inr other ↦
           let less : segment < range.segment = elim is.ordered.0 [ inl l ↦ l | inr both ↦ absurd (other (sym both.0)) ] in
           let not_above : lock.segment ≤ range.segment = elim (is.locked range.segment (inl refl)) [
@@ -227,7 +229,7 @@ follow_from segment end (lock ∷ locks) (range ∷ ranges) up is =
           let not_below : range.segment ≤ lock.segment = from lock.segment (is.used lock.segment (inl refl)) in
           let same : lock.segment ≡ range.segment = omega (arith, not_above, not_below) in
           let still : Ascends range.segment locks = subst (λ (n : ℕ). Ascends n locks) same up.1 in
-          let later : Followed range.segment (end_of range) locks ranges = record {
+          let later : Followed range.segment (range_end range) locks ranges = record {
             ordered = chain_ordered range ranges is.ordered.1;
             used = λ s locked. elim (is.used s (inr locked)) [
               | inl here ↦ absurd (omega (arith, here, locked_above range.segment locks s still locked))
@@ -238,12 +240,12 @@ follow_from segment end (lock ∷ locks) (range ∷ ranges) up is =
               | inr locked ↦ elim locked [ inl here ↦ inl (sym here ∙ same) | inr there ↦ inr there ]
             ];
           } in
-          rw (step_next segment end lock locks range.segment range.offset (length range.bytes) other same) (follow_from range.segment (end_of range) locks ranges still later)
+          rw (step_next segment end lock locks (span_of range) other same) (follow_from range.segment (range_end range) locks ranges still later)
     ]
 
 -- from the start: no range is of segment 0, since none begins behind the end of a segment
 
-written_some : (ranges : List RangeData) (s : ℕ) → AllByRecursion IsRange ranges → Ordered 0 16384 ranges → Writes s ranges → 0 < s
+written_some : (ranges : List RangeData) (s : ℕ) → AllByRecursion IsRange ranges → Ordered 0 262144 ranges → Writes s ranges → 0 < s
 written_some [] s is h written = absurd written
 written_some (range ∷ ranges) s is h written =
     let first : 0 < range.segment = elim h.0 [ inl less ↦ less | inr both ↦ absurd (omega (arith, both.1, is.0)) ] in
@@ -259,9 +261,9 @@ ordered_any segment end (range ∷ ranges) h = h.1
 
 pub start_takes : (locks : List Lock) (ranges : List RangeData) → Ascends 0 locks → AllByRecursion IsRange ranges → follow (start locks) ranges ≡ true → Fits locks ranges
 start_takes locks ranges up is e =
-    let f : Followed 0 16384 locks ranges = follow_takes 0 16384 locks ranges up e in
+    let f : Followed 0 262144 locks ranges = follow_takes 0 262144 locks ranges up e in
     record {
-      ranges_ascend = ordered_any 0 16384 ranges f.ordered;
+      ranges_ascend = ordered_any 0 262144 ranges f.ordered;
       same_segments = λ s. (
         f.used s,
         λ written. elim (f.locked s written) [
@@ -275,13 +277,13 @@ locked_some : (locks : List Lock) (s : ℕ) → AllByRecursion IsLock locks → 
 locked_some [] s is locked = absurd locked
 locked_some (lock ∷ locks) s is locked = elim locked [ inl here ↦ omega (arith, here, is.0) | inr there ↦ locked_some locks s is.1 there ]
 
-ordered_start : (ranges : List RangeData) → ((s : ℕ) → Writes s ranges → 0 < s) → Chain IsBefore ranges → Ordered 0 16384 ranges
+ordered_start : (ranges : List RangeData) → ((s : ℕ) → Writes s ranges → 0 < s) → Chain IsBefore ranges → Ordered 0 262144 ranges
 ordered_start [] some h = tt
 ordered_start (range ∷ ranges) some h = (inl (some range.segment (inl refl)), h)
 
 pub start_from : (locks : List Lock) (ranges : List RangeData) → AllByRecursion IsLock locks → Ascends 0 locks → Chain IsBefore ranges → ((s : ℕ) → Locks s locks ↔ Writes s ranges) → follow (start locks) ranges ≡ true
 start_from locks ranges is up chain same =
-    follow_from 0 16384 locks ranges up (record {
+    follow_from 0 262144 locks ranges up (record {
       ordered = ordered_start ranges (λ s written. locked_some locks s is ((same s).1 written)) chain;
       used = λ s. (same s).0;
       locked = λ s written. inr ((same s).1 written);

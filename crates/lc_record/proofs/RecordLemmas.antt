@@ -1,26 +1,29 @@
 -- Whole records: what is read stands at the front, and what is spelled is read again.
-use Rattle.std.proofs.Common.{◌≡◌, ℕ, ◌+◌, ◌≤◌, ◌^◌, Bool, true, cond, eqb, List, [], ◌∷◌, ◌++◌, length, take, Option, Some, None, refl, sym, ap, subst, ◌∙◌, inl, inr, arith, append_assoc, length-append, drop, take-append-drop}
+use Rattle.std.proofs.Common.{◌≡◌, ◌≢◌, ℕ, ◌+◌, ◌/◌, ◌<◌, ◌≤◌, ◌^◌, Bool, true, cond, eqb, ◌&&◌, List, [], ◌∷◌, ◌++◌, length, get_or, take, Option, Some, None, refl, sym, ap, subst, ◌∙◌, inl, inr, arith, append_assoc, length-append, drop, take-append-drop}
 use Rattle.std.specs.Prelude.{IsTrue, ◌↔◌, IfSome, IfNone}
 use Rattle.std.specs.List.{flat_map, AllByRecursion}
 use Rattle.std.proofs.lemmas.Bool.{and_parts, and_from, eqb-true, eq-eqb}
 use Rattle.std.proofs.lemmas.List.{take_at, length-take-le}
 use Rattle.std.proofs.lemmas.Option.{cond_some, none-some, same_Some}
 use Rattle.lc_record.specs.Words.{AreWords}
-use Rattle.lc_record.specs.Record.{record_len, lock_words, range_words, spelling, IsLock, IsRange, Locks, Writes, IsCanonical, IsRecord}
+use Rattle.lc_record.specs.GrammarVersion.{number}
+use Rattle.lc_record.specs.Record.{record_len, header, lock_words, range_words, spelling, version_of, IsLock, IsRange, Locks, Writes, IsCanonical, IsRecord}
 use Rattle.lc_record.specs.Codec.{BeginsWith, BeginsNoRecord}
 use Rattle.lc_record.specs.Reading.{◌>>=◌, Gives, head_at, locks_at, ascend, ranges_at, Place, start, follow, walked, is_closed, Front, front, front_at, len_at, record_of, record_at, Passes}
 use Rattle.lc_record.specs.declared.parts.Head.{Head}
 use Rattle.lc_record.specs.declared.record.Record.{Record}
 use Rattle.lc_record.specs.declared.record.Lock.{Lock}
 use Rattle.lc_record.specs.declared.record.RangeData.{RangeData}
-use Rattle.lc_record.proofs.SpellingLemmas.{length-spelling, AreWords-spelling, segment_small}
+use Rattle.lc_record.specs.declared.grammar_version.GrammarVersion.{GrammarVersion}
+use Rattle.lc_record.specs.declared.grammar_version.GrammarVersion.TheVariants.{First, Second}
+use Rattle.lc_record.proofs.SpellingLemmas.{length-spelling, AreWords-spelling, segment_small, word_len}
 use Rattle.lc_record.proofs.OrderLemmas.{ascend_takes, ascend_from, ascends_chain, locks_ascend, Fits, start_takes, start_from}
-use Rattle.lc_record.proofs.ReadingLemmas.{bind_some, first_word, second_word, IsHead, HeadTakes, head_takes, head_again, LocksTake, locks_take, locks_again, RangesTake, ranges_take, AreBelow, ranges_again}
+use Rattle.lc_record.proofs.ReadingLemmas.{bind_some, behind_fit, head_first, head_second, IsHead, HeadTakes, head_takes, head_again, LocksTake, locks_take, locks_again, RangesTake, ranges_take, AreBelow, ranges_again}
 
 -- All before the ranges
 
 pub record FrontTakes (words : List ℕ) (f : Front) : Type 0 where
-  pub spelled : words ≡ first_word f.head ∷ second_word f.head ∷ (flat_map lock_words f.locks ++ f.rest)
+  pub spelled : words ≡ head_first f.head ∷ head_second f.head ∷ (flat_map lock_words f.locks ++ f.rest)
   pub is : IsHead f.head
   pub count : length f.locks ≡ f.head.locks
   pub ascending : ascend 0 f.locks ≡ true
@@ -34,14 +37,14 @@ front_takes words f e =
     let first : HeadTakes words h.0.0 h.0.1 = head_takes words h.0 h.1 in
     let second : LocksTake h.0.0.locks h.0.1 l.0.0 l.0.1 = locks_take h.0.0.locks h.0.1 l.0 l.1 in
     subst (λ (y : Front). FrontTakes words y) taken.1 (record {
-      spelled = first.spelled ∙ ap (λ (t : List ℕ). first_word h.0.0 ∷ second_word h.0.0 ∷ t) second.spelled;
+      spelled = first.spelled ∙ ap (λ (t : List ℕ). head_first h.0.0 ∷ head_second h.0.0 ∷ t) second.spelled;
       is = first.is;
       count = second.count;
       ascending = taken.0;
     })
 
 front_again : (head : Head) (locks : List Lock) (rest : List ℕ) → IsHead head → length locks ≡ head.locks → AllByRecursion IsLock locks → ascend 0 locks ≡ true
-    → front_at (first_word head ∷ second_word head ∷ (flat_map lock_words locks ++ rest)) ≡ Some (front head locks rest)
+    → front_at (head_first head ∷ head_second head ∷ (flat_map lock_words locks ++ rest)) ≡ Some (front head locks rest)
 unfolding front_at
 front_again head locks rest is count each up =
     let its : locks_at head.locks (flat_map lock_words locks ++ rest) ≡ Some (locks, rest) = subst (λ (n : ℕ). locks_at n (flat_map lock_words locks ++ rest) ≡ Some (locks, rest)) count (locks_again locks rest each) in
@@ -49,12 +52,19 @@ front_again head locks rest is count each up =
 
 -- The ranges
 
-walked_takes : (before : Place) (read : Option (List RangeData × List ℕ)) (rest : List ℕ) → walked before read ≡ Some rest
-    → (ranges : List RangeData) × (read ≡ Some (ranges, rest)) × (follow before ranges ≡ true)
-walked_takes before read rest e =
-    let r = bind_some read (λ ranges. cond (follow before ranges.0) (Some ranges.1) None) rest e in
-    let taken = cond_some (follow before r.0.0) r.0.1 rest r.2 in
-    (r.0.0, r.1 ∙ ap (λ (l : List ℕ). Some (r.0.0, l)) taken.1, taken.0)
+same_number : (v w : GrammarVersion) → number v ≡ number w → v ≡ w
+same_number First First e = refl
+same_number First Second e = absurd (omega (arith, e))
+same_number Second First e = absurd (omega (arith, e))
+same_number Second Second e = refl
+
+walked_takes : (version : GrammarVersion) (before : Place) (read : Option (List RangeData × List ℕ)) (rest : List ℕ) → walked version before read ≡ Some rest
+    → (ranges : List RangeData) × (read ≡ Some (ranges, rest)) × (follow before ranges ≡ true) × (version_of ranges ≡ version)
+walked_takes version before read rest e =
+    let r = bind_some read (λ ranges. cond (follow before ranges.0 && eqb (number (version_of ranges.0)) (number version)) (Some ranges.1) None) rest e in
+    let taken = cond_some (follow before r.0.0 && eqb (number (version_of r.0.0)) (number version)) r.0.1 rest r.2 in
+    let both = and_parts (follow before r.0.0) (eqb (number (version_of r.0.0)) (number version)) taken.0 in
+    (r.0.0, r.1 ∙ ap (λ (l : List ℕ). Some (r.0.0, l)) taken.1, both.0, same_number (version_of r.0.0) version (eqb-true _ _ both.1))
 
 closed_takes : (len : ℕ) (words rest : List ℕ) → is_closed len words rest ≡ true → (behind : List ℕ) × (rest ≡ len ∷ behind) × (length words ≡ length behind + len)
 closed_takes len words [] e = absurd cc
@@ -66,15 +76,18 @@ closed_takes len words (last ∷ behind) e =
 
 -- what the first two words of a record say
 abbrev head_from : Record → Head
-head_from r = record { node = r.node; locks = length r.locks; ranges = length r.ranges; len = record_len r }
+head_from r = record { version = version_of r.ranges; node = r.node; locks = length r.locks; ranges = length r.ranges; len = record_len r }
 
-spelling_split : (r : Record) (rest : List ℕ) → spelling r ++ rest
-    ≡ first_word (head_from r) ∷ second_word (head_from r) ∷ (flat_map lock_words r.locks ++ (flat_map range_words r.ranges ++ record_len r ∷ rest))
+-- the words of a record, and what stands behind it
+abbrev words_behind : Head → List Lock → List RangeData → List ℕ → List ℕ
+words_behind head locks ranges rest = head_first head ∷ head_second head ∷ (flat_map lock_words locks ++ (flat_map (range_words head.version) ranges ++ head.len ∷ rest))
+
+spelling_split : (r : Record) (rest : List ℕ) → spelling r ++ rest ≡ words_behind (head_from r) r.locks r.ranges rest
 spelling_split r rest =
     let locks = flat_map lock_words r.locks in
-    let ranges = flat_map range_words r.ranges in
+    let ranges = flat_map (range_words (version_of r.ranges)) r.ranges in
     ap
-    (λ (t : List ℕ). first_word (head_from r) ∷ second_word (head_from r) ∷ t)
+    (λ (t : List ℕ). head_first (head_from r) ∷ head_second (head_from r) ∷ t)
     (append_assoc (locks ++ ranges) (record_len r ∷ []) rest ∙ append_assoc locks ranges (record_len r ∷ rest))
 
 canonical_from : (r : Record) → r.node ≤ 7 → 1 ≤ length r.locks → length r.locks ≤ 16 → 1 ≤ length r.ranges → length r.ranges ≤ 64
@@ -117,44 +130,36 @@ passes_canonical r = (
   },
 )
 
-behind_fit : (front rest : List ℕ) → AreWords (front ++ rest) → AreWords rest
-behind_fit [] rest fit = fit
-behind_fit (w ∷ front) rest fit = behind_fit front rest fit.1
-
 -- words that end where their length says
-same_len : (words behind : List ℕ) (r : Record) (n : ℕ) → words ≡ first_word (record (head_from r) { len = n }) ∷ second_word (head_from r) ∷ (flat_map lock_words r.locks ++ (flat_map range_words r.ranges ++ n ∷ behind))
-    → length words ≡ length behind + n → n ≡ record_len r
+same_len : (words behind : List ℕ) (r : Record) (n : ℕ) → words ≡ words_behind (record (head_from r) { len = n }) r.locks r.ranges behind → length words ≡ length behind + n → n ≡ record_len r
 same_len words behind r n parts ends =
-    let rest = flat_map range_words r.ranges ++ n ∷ behind in
+    let ranges = flat_map (range_words (version_of r.ranges)) r.ranges in
     omega (
       arith,
       ends,
       ap (λ (t : List ℕ). length t) parts,
-      length-append (flat_map lock_words r.locks) rest,
-      length-append (flat_map range_words r.ranges) (n ∷ behind),
+      length-append (flat_map lock_words r.locks) (ranges ++ n ∷ behind),
+      length-append ranges (n ∷ behind),
       ap (λ (t : List ℕ). length t) (spelling_split r behind),
       length-append (spelling r) behind,
       length-spelling r,
-      length-append (flat_map lock_words r.locks) (flat_map range_words r.ranges ++ record_len r ∷ behind),
-      length-append (flat_map range_words r.ranges) (record_len r ∷ behind),
+      length-append (flat_map lock_words r.locks) (ranges ++ record_len r ∷ behind),
+      length-append ranges (record_len r ∷ behind),
     )
 
-whole_begins : (words : List ℕ) (head : Head) (locks : List Lock) (ranges : List RangeData) (behind : List ℕ)
-    → words ≡ first_word head ∷ second_word head ∷ (flat_map lock_words locks ++ (flat_map range_words ranges ++ head.len ∷ behind)) → length words ≡ length behind + head.len
-    → IsHead head → length locks ≡ head.locks → length ranges ≡ head.ranges
+whole_begins : (words : List ℕ) (head : Head) (locks : List Lock) (ranges : List RangeData) (behind : List ℕ) → words ≡ words_behind head locks ranges behind → length words ≡ length behind + head.len
+    → IsHead head → version_of ranges ≡ head.version → length locks ≡ head.locks → length ranges ≡ head.ranges
     → ascend 0 locks ≡ true → AllByRecursion IsRange ranges → follow (start locks) ranges ≡ true
     → BeginsWith words (record { node = head.node; locks = locks; ranges = ranges }) head.len
-whole_begins words head locks ranges behind parts ends is count_locks count_ranges up each following =
+whole_begins words head locks ranges behind parts ends is version count_locks count_ranges up each following =
     let r : Record = record { node = head.node; locks = locks; ranges = ranges } in
     let same_head : head ≡ record (head_from r) { len = head.len } =
-    ap (λ (n : ℕ). record head { locks = n }) (sym count_locks) ∙ ap (λ (n : ℕ). record head { locks = length locks; ranges = n }) (sym count_ranges) in
-    let its_parts : words ≡ first_word (record (head_from r) { len = head.len }) ∷ second_word (head_from r) ∷ (flat_map lock_words locks ++ (flat_map range_words ranges ++ head.len ∷ behind)) =
-    parts ∙ ap (λ (h : Head). first_word h ∷ second_word h ∷ (flat_map lock_words locks ++ (flat_map range_words ranges ++ head.len ∷ behind))) same_head in
+    ap (λ (v : GrammarVersion). record head { version = v }) (sym version)
+    ∙ ap (λ (n : ℕ). record head { version = version_of ranges; locks = n }) (sym count_locks)
+    ∙ ap (λ (n : ℕ). record head { version = version_of ranges; locks = length locks; ranges = n }) (sym count_ranges) in
+    let its_parts : words ≡ words_behind (record (head_from r) { len = head.len }) locks ranges behind = parts ∙ ap (λ (h : Head). words_behind h locks ranges behind) same_head in
     let the_len : head.len ≡ record_len r = same_len words behind r head.len its_parts ends in
-    let whole : words ≡ spelling r ++ behind =
-    its_parts
-    ∙ ap (λ (n : ℕ). first_word (record (head_from r) { len = n }) ∷ second_word (head_from r) ∷ (flat_map lock_words locks ++ (flat_map range_words ranges ++ n ∷ behind))) the_len
-    ∙ sym (spelling_split r behind) in
+    let whole : words ≡ spelling r ++ behind = its_parts ∙ ap (λ (n : ℕ). words_behind (record (head_from r) { len = n }) locks ranges behind) the_len ∙ sym (spelling_split r behind) in
     record {
       whole = record {
         canonical = canonical_from r is.node (omega (arith, is.some_locks, count_locks)) (omega (arith, is.few_locks, count_locks)) (omega (arith, is.some_ranges, count_ranges)) (omega (arith, is.few_ranges, count_ranges)) up each following;
@@ -165,19 +170,20 @@ whole_begins words head locks ranges behind parts ends is count_locks count_rang
     }
 
 -- what is read stands at the front
-parts_begin : (words : List ℕ) (f : Front) (ranges : List RangeData) (rest : List ℕ) → AreWords words → front_at words ≡ Some f → ranges_at f.head.ranges f.rest ≡ Some (ranges, rest)
-    → follow (start f.locks) ranges ≡ true → is_closed f.head.len words rest ≡ true → BeginsWith words (record_of f ranges) f.head.len
-parts_begin words f ranges rest fit has_front has_ranges following closed =
-    let r = record_of f ranges in
+parts_begin : (words : List ℕ) (f : Front) (ranges : List RangeData) (rest : List ℕ) → AreWords words → front_at words ≡ Some f → ranges_at f.head.version f.head.ranges f.rest ≡ Some (ranges, rest)
+    → follow (start f.locks) ranges ≡ true → version_of ranges ≡ f.head.version → is_closed f.head.len words rest ≡ true → BeginsWith words (record_of f ranges) f.head.len
+parts_begin words f ranges rest fit has_front has_ranges following version closed =
     let first : FrontTakes words f = front_takes words f has_front in
     let front_fit : AreWords (flat_map lock_words f.locks ++ f.rest) = (subst AreWords first.spelled fit).1.1 in
     let rest_fit : AreWords f.rest = behind_fit (flat_map lock_words f.locks) f.rest front_fit in
-    let second : RangesTake f.head.ranges f.rest ranges rest = ranges_take f.head.ranges f.rest (ranges, rest) rest_fit has_ranges in
+    let second : RangesTake f.head.version f.head.ranges f.rest ranges rest = ranges_take f.head.version f.head.ranges f.rest (ranges, rest) rest_fit has_ranges in
     let end = closed_takes f.head.len words rest closed in
-    let to_end : words ≡ first_word f.head ∷ second_word f.head ∷ (flat_map lock_words f.locks ++ (flat_map range_words ranges ++ f.head.len ∷ end.0)) =
+    let to_end : words ≡ words_behind f.head f.locks ranges end.0 =
     first.spelled
-    ∙ ap (λ (t : List ℕ). first_word f.head ∷ second_word f.head ∷ (flat_map lock_words f.locks ++ t)) (second.spelled ∙ ap (λ (t : List ℕ). flat_map range_words ranges ++ t) end.1) in
-    whole_begins words f.head f.locks ranges end.0 to_end end.2 first.is first.count second.count first.ascending second.each following
+    ∙ ap
+    (λ (t : List ℕ). head_first f.head ∷ head_second f.head ∷ (flat_map lock_words f.locks ++ t))
+    (second.spelled ∙ ap (λ (t : List ℕ). flat_map (range_words f.head.version) ranges ++ t) end.1) in
+    whole_begins words f.head f.locks ranges end.0 to_end end.2 first.is version first.count second.count first.ascending second.each following
 
 -- the record whose length is read is the record that is read
 pub record Reads (words : List ℕ) (len : ℕ) : Type 0 where
@@ -185,26 +191,31 @@ pub record Reads (words : List ℕ) (len : ℕ) : Type 0 where
   pub is_read : record_at words ≡ Some its
   pub begins : BeginsWith words its len
 
-record_read : (words : List ℕ) (f : Front) (ranges : List RangeData) (rest : List ℕ) → front_at words ≡ Some f → ranges_at f.head.ranges f.rest ≡ Some (ranges, rest) → record_at words ≡ Some (record_of f ranges)
+record_read : (words : List ℕ) (f : Front) (ranges : List RangeData) (rest : List ℕ) → front_at words ≡ Some f → ranges_at f.head.version f.head.ranges f.rest ≡ Some (ranges, rest)
+    → record_at words ≡ Some (record_of f ranges)
 unfolding record_at
 record_read words f ranges rest has_front has_ranges = rw (has_front, has_ranges) refl
 
-closed_reads : (words : List ℕ) (len : ℕ) (f : Front) (rest : List ℕ) → AreWords words → front_at words ≡ Some f → walked (start f.locks) (ranges_at f.head.ranges f.rest) ≡ Some rest
+-- what stands behind the ranges
+abbrev walked_front : Front → Option (List ℕ)
+walked_front f = walked f.head.version (start f.locks) (ranges_at f.head.version f.head.ranges f.rest)
+
+closed_reads : (words : List ℕ) (len : ℕ) (f : Front) (rest : List ℕ) → AreWords words → front_at words ≡ Some f → walked_front f ≡ Some rest
     → cond (is_closed f.head.len words rest) (Some f.head.len) None ≡ Some len → Reads words len
 closed_reads words len f rest fit has_front has_walked e =
-    let r = walked_takes (start f.locks) (ranges_at f.head.ranges f.rest) rest has_walked in
+    let r = walked_takes f.head.version (start f.locks) (ranges_at f.head.version f.head.ranges f.rest) rest has_walked in
     let taken = cond_some (is_closed f.head.len words rest) f.head.len len e in
     record {
       its = record_of f r.0;
       is_read = record_read words f r.0 rest has_front r.1;
-      begins = subst (λ (n : ℕ). BeginsWith words (record_of f r.0) n) taken.1 (parts_begin words f r.0 rest fit has_front r.1 r.2 taken.0);
+      begins = subst (λ (n : ℕ). BeginsWith words (record_of f r.0) n) taken.1 (parts_begin words f r.0 rest fit has_front r.1 r.2 r.3 taken.0);
     }
 
 pub len_takes : (words : List ℕ) (len : ℕ) → AreWords words → len_at words ≡ Some len → Reads words len
 unfolding len_at
 len_takes words len fit e =
-    let f = bind_some (front_at words) (λ front. walked (start front.locks) (ranges_at front.head.ranges front.rest) >>= λ rest. cond (is_closed front.head.len words rest) (Some front.head.len) None) len e in
-    let w = bind_some (walked (start f.0.locks) (ranges_at f.0.head.ranges f.0.rest)) (λ rest. cond (is_closed f.0.head.len words rest) (Some f.0.head.len) None) len f.2 in
+    let f = bind_some (front_at words) (λ front. walked_front front >>= λ rest. cond (is_closed front.head.len words rest) (Some front.head.len) None) len e in
+    let w = bind_some (walked_front f.0) (λ rest. cond (is_closed f.0.head.len words rest) (Some f.0.head.len) None) len f.2 in
     closed_reads words len f.0 w.0 fit f.1 w.1 w.2
 
 -- what is spelled is read again, whatever follows it
@@ -216,15 +227,15 @@ are_below locks (range ∷ ranges) is locked =
 
 module _ (r : Record) (is : IsCanonical r) (short : record_len r ≤ 4096) (rest : List ℕ) where
   abbrev behind : List ℕ
-  behind = flat_map range_words r.ranges ++ record_len r ∷ rest
+  behind = flat_map (range_words (version_of r.ranges)) r.ranges ++ record_len r ∷ rest
 
   front_is : front_at (spelling r ++ rest) ≡ Some (front (head_from r) r.locks behind)
   front_is =
       let its : IsHead (head_from r) = record { node = is.node; some_locks = is.some_locks; few_locks = is.few_locks; some_ranges = is.some_ranges; few_ranges = is.few_ranges; short = short } in
       ap front_at (spelling_split r rest) ∙ front_again (head_from r) r.locks behind its refl is.each_lock (canonical_ascends r is)
 
-  ranges_are : ranges_at (length r.ranges) behind ≡ Some (r.ranges, record_len r ∷ rest)
-  ranges_are = ranges_again r.ranges (record_len r ∷ rest) (are_below r.locks r.ranges is.each_lock (λ s. (is.same_segments s).1)) is.each_range
+  ranges_are : ranges_at (version_of r.ranges) (length r.ranges) behind ≡ Some (r.ranges, record_len r ∷ rest)
+  ranges_are = ranges_again (version_of r.ranges) r.ranges (record_len r ∷ rest) (are_below r.locks r.ranges is.each_lock (λ s. (is.same_segments s).1)) is.each_range
 
   closes : is_closed (record_len r) (spelling r ++ rest) (record_len r ∷ rest) ≡ true
   closes =
@@ -233,7 +244,9 @@ module _ (r : Record) (is : IsCanonical r) (short : record_len r ≤ 4096) (rest
 
   len_again : len_at (spelling r ++ rest) ≡ Some (record_len r)
   unfolding len_at
-  len_again = rw (front_is, ranges_are, canonical_follows r is, closes) refl
+  len_again =
+      let same : eqb (number (version_of r.ranges)) (number (version_of r.ranges)) ≡ true = eq-eqb _ _ refl in
+      rw (front_is, ranges_are, canonical_follows r is, same, closes) refl
 
   record_again : record_at (spelling r ++ rest) ≡ Some r
   unfolding record_at
@@ -296,3 +309,18 @@ begins_once words r q m n one other =
     let first : length (take m words) ≡ m = length-take-le m words one.within in
     let second : length (take n words) ≡ n = length-take-le n words other.within in
     (parts.0, sym first ∙ ap (λ (l : List ℕ). length l) parts.1 ∙ second)
+
+-- what its first word tells
+
+pub header_is : (r : Record) (words : List ℕ) → IsRecord r words → get_or words 0 0 ≡ header r
+header_is r words is = ap (λ (l : List ℕ). get_or l 0 0) is.spelled
+
+pub header_tells : (r : Record) (words : List ℕ) → IsRecord r words → get_or words 0 0 / 2 ^ 32 ≡ length words
+header_tells r words is =
+    ap (λ (n : ℕ). n / 2 ^ 32) (header_is r words is) ∙ word_len (version_of r.ranges) (length r.ranges) (record_len r) is.canonical.few_ranges ∙ sym (record_length r words is)
+
+pub header_not_zero : (r : Record) (words : List ℕ) → IsRecord r words → get_or words 0 0 ≢ 0
+header_not_zero r words is e = let same = header_is r words is in absurd (omega arith)
+
+pub record_some : (r : Record) (words : List ℕ) → IsRecord r words → 0 < length words
+record_some r words is = omega (arith, record_length r words is)

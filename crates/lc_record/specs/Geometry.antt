@@ -11,7 +11,7 @@ pub record IsGeometry (nodes threads segments pages words : ℕ) : Type 0 where
   pub some_segments : 1 ≤ segments
   pub few_segments : segments ≤ 16
   pub some_pages : 1 ≤ pages
-  pub few_pages : pages ≤ 64
+  pub few_pages : pages ≤ 1024
   pub some_words : 64 ≤ words
   pub few_words : words ≤ 4096
 

@@ -1,6 +1,10 @@
 pub mod Words
 pub mod Geometry
+pub mod GrammarVersion
+pub mod Layout
 pub mod Record
+pub mod SpellingView
+pub mod Spelling
 pub mod GroupView
 pub mod Group
 pub mod Codec
@@ -11,3 +15,4 @@ pub mod Reading
 pub mod Part
 pub mod Marks
 pub mod Recorded
+pub mod Newest

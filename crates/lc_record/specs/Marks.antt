@@ -1,5 +1,5 @@
 -- The positions that a transaction set, as ranges.
-use Rattle.std.specs.Prelude.{ℕ, zero, suc, ◌+◌, Bool, true, false, ◌==◌, List, [], ◌∷◌, ◌++◌, filter, replicate}
+use Rattle.std.specs.Prelude.{ℕ, zero, suc, ◌+◌, Bool, true, false, not, ◌==◌, List, [], ◌∷◌, ◌++◌, filter, replicate}
 use Rattle.lc_record.specs.Content.{put, on_segment}
 use Rattle.lc_record.specs.Transaction.{Transaction, Marks, is_member}
 use Rattle.lc_record.specs.Geometry.{segment_len}
@@ -29,6 +29,10 @@ counting from (suc n) = from ∷ counting (from + 1) n
 -- these segments as a set, ascending
 abbrev pub ascending : Geometry → List ℕ → List ℕ
 ascending g segments = filter (λ s. is_member s segments) (counting 1 g.segments)
+
+-- those of the second list that are not in the first
+abbrev pub beside : List ℕ → List ℕ → List ℕ
+beside segments others = filter (λ s. not (is_member s segments)) others
 
 abbrev pub no_marks : Geometry → Marks
 no_marks g = replicate g.segments (replicate (segment_len g) false)

@@ -2,7 +2,12 @@
 use Rattle.std.specs.Prelude.{◌≡◌, ℕ, zero, suc, ◌+◌, ◌/◌, ◌%◌, ◌^◌, ◌≤◌, Bool, true, false, ◌&&◌, ◌==◌, nat_lt, nat_le, if◌then◌else◌, List, [], ◌∷◌, length, take, drop, Option, Some, None}
 use Rattle.std.specs.List.{list_all, AllByRecursion}
 use Rattle.lc_record.specs.Words.{bytes_of}
-use Rattle.lc_record.specs.Record.{IsRange}
+use Rattle.lc_record.specs.GrammarVersion.{end_of, number, of_number}
+use Rattle.lc_record.specs.Layout.{data_len}
+use Rattle.lc_record.specs.Record.{IsRange, span_of, version_of}
+use Rattle.lc_record.specs.declared.grammar_version.GrammarVersion.{GrammarVersion}
+use Rattle.lc_record.specs.declared.grammar_version.GrammarVersion.TheVariants.{First, Second}
+use Rattle.lc_record.specs.declared.span.Span.{Span}
 use Rattle.lc_record.specs.declared.parts.Head.{Head}
 use Rattle.lc_record.specs.declared.record.Record.{Record}
 use Rattle.lc_record.specs.declared.record.Lock.{Lock}
@@ -31,7 +36,7 @@ many read (suc n) words = do
 
 abbrev pub is_first : ℕ → Bool
 is_first first =
-    (first % 256 == 0xa5) && (first / 2 ^ 8 % 2 ^ 8 == 1)
+    (first % 256 == 0xa5)
     && nat_le 1 (first / 2 ^ 16 % 2 ^ 16) && nat_le (first / 2 ^ 16 % 2 ^ 16) 64 && nat_le (first / 2 ^ 32) 4096
 
 abbrev pub is_second : ℕ → Bool
@@ -39,11 +44,13 @@ is_second second =
     nat_lt second (2 ^ 32) && nat_le (second % 2 ^ 16) 7
     && nat_le 1 (second / 2 ^ 16 % 2 ^ 16) && nat_le (second / 2 ^ 16 % 2 ^ 16) 16
 
-abbrev pub head_of : ℕ → ℕ → Head
-head_of first second = record { node = second % 2 ^ 16; locks = second / 2 ^ 16 % 2 ^ 16; ranges = first / 2 ^ 16 % 2 ^ 16; len = first / 2 ^ 32 }
+abbrev pub head_of : GrammarVersion → ℕ → ℕ → Head
+head_of version first second = record { version = version; node = second % 2 ^ 16; locks = second / 2 ^ 16 % 2 ^ 16; ranges = first / 2 ^ 16 % 2 ^ 16; len = first / 2 ^ 32 }
 
 unfoldable pub head_at : List ℕ → Option (Head × List ℕ)
-head_at (first ∷ second ∷ rest) = if is_first first && is_second second then Some (head_of first second, rest) else None
+head_at (first ∷ second ∷ rest) = do
+  version ← of_number (first / 2 ^ 8 % 2 ^ 8)
+  if is_first first && is_second second then Some (head_of version first second, rest) else None
 head_at _ = None
 
 -- Locks
@@ -65,35 +72,49 @@ ascend before (lock ∷ locks) = is_lock lock && nat_lt before lock.segment && a
 
 -- Ranges
 
--- the words that so many bytes take
-abbrev pub data_len : ℕ → ℕ
-data_len len = (len + 7) / 8
+-- where a range stands: one word has its segment and its offset
+unfoldable pub packed_at : List ℕ → Option (Span × List ℕ)
+packed_at (place ∷ len ∷ rest) = Some (record { segment = place % 2 ^ 32; offset = place / 2 ^ 32; len = len }, rest)
+packed_at _ = None
+
+-- each has a word of its own
+unfoldable pub apart_at : List ℕ → Option (Span × List ℕ)
+apart_at (segment ∷ offset ∷ len ∷ rest) =
+    if nat_lt segment (2 ^ 32) && nat_lt offset (2 ^ 32) then Some (record { segment = segment; offset = offset; len = len }, rest) else None
+apart_at _ = None
+
+abbrev pub place_at : GrammarVersion → List ℕ → Option (Span × List ℕ)
+place_at First words = packed_at words
+place_at Second words = apart_at words
 
 -- the bytes of a range lie in a segment, and all of them are there
-abbrev pub has_room : ℕ → ℕ → List ℕ → Bool
-has_room offset len rest = nat_le 1 len && nat_le (offset + len) 16384 && nat_le (data_len len) (length rest)
+abbrev pub has_room : Span → List ℕ → Bool
+has_room span rest = nat_le 1 span.len && nat_le (end_of span) 262144 && nat_le (data_len span.len) (length rest)
 
 -- what stands behind so many bytes is zero
 abbrev pub is_padded : ℕ → List ℕ → Bool
 is_padded len words = list_all (λ b. b == 0) (drop len (bytes_of words))
 
 -- a range, of which these words are the data
-abbrev pub range_of : ℕ → ℕ → ℕ → List ℕ → RangeData
-range_of segment offset len words = record { segment = segment; offset = offset; bytes = take len (bytes_of words) }
+abbrev pub range_of : Span → List ℕ → RangeData
+range_of span words = record { segment = span.segment; offset = span.offset; bytes = take span.len (bytes_of words) }
 
-unfoldable pub range_at : List ℕ → Option (RangeData × List ℕ)
-range_at (place ∷ len ∷ rest) =
-    if has_room (place / 2 ^ 32) len rest && is_padded len (take (data_len len) rest)
-    then Some (range_of (place % 2 ^ 32) (place / 2 ^ 32) len (take (data_len len) rest), drop (data_len len) rest)
+-- the range that stands here, with its bytes in front of the rest
+abbrev pub filled : Span → List ℕ → Option (RangeData × List ℕ)
+filled span rest =
+    if has_room span rest && is_padded span.len (take (data_len span.len) rest)
+    then Some (range_of span (take (data_len span.len) rest), drop (data_len span.len) rest)
     else None
-range_at _ = None
 
-abbrev pub ranges_at : ℕ → List ℕ → Option (List RangeData × List ℕ)
-ranges_at = many range_at
+unfoldable pub range_at : GrammarVersion → List ℕ → Option (RangeData × List ℕ)
+range_at version words = place_at version words >>= λ x. filled x.0 x.1
+
+abbrev pub ranges_at : GrammarVersion → ℕ → List ℕ → Option (List RangeData × List ℕ)
+ranges_at version = many (range_at version)
 
 -- the ranges alone
-abbrev pub items_at : ℕ → List ℕ → Option (List RangeData)
-items_at n words = ranges_at n words >>= λ x. Some x.0
+abbrev pub items_at : GrammarVersion → ℕ → List ℕ → Option (List RangeData)
+items_at version n words = ranges_at version n words >>= λ x. Some x.0
 
 -- Ranges against locks
 
@@ -108,7 +129,7 @@ place segment end locks = record { segment = segment; end = end; locks = locks }
 
 -- before the first range; nothing stands in segment 0 behind this end
 abbrev pub start : List Lock → Place
-start locks = place 0 16384 locks
+start locks = place 0 262144 locks
 
 -- the next lock is of the segment
 abbrev pub next_lock : ℕ → List Lock → Option (List Lock)
@@ -116,11 +137,11 @@ next_lock segment [] = None
 next_lock segment (lock ∷ locks) = if lock.segment == segment then Some locks else None
 
 -- one range more: of the same segment with a gap between, or of the segment of the next lock
-abbrev pub step : Place → ℕ → ℕ → ℕ → Option Place
-step before segment offset len =
-    if segment == before.segment
-    then if nat_lt before.end offset then Some (place segment (offset + len) before.locks) else None
-    else next_lock segment before.locks >>= λ locks. Some (place segment (offset + len) locks)
+abbrev pub step : Place → Span → Option Place
+step before span =
+    if span.segment == before.segment
+    then if nat_lt before.end span.offset then Some (place span.segment (end_of span) before.locks) else None
+    else next_lock span.segment before.locks >>= λ locks. Some (place span.segment (end_of span) locks)
 
 abbrev pub holds : {A : Type 0} → Option A → (A → Bool) → Bool
 holds None test = false
@@ -129,11 +150,11 @@ holds (Some x) test = test x
 -- so do all of these, and none of the locks is left
 abbrev pub follow : Place → List RangeData → Bool
 follow before [] = length before.locks == 0
-follow before (range ∷ ranges) = holds (step before range.segment range.offset (length range.bytes)) (λ after. follow after ranges)
+follow before (range ∷ ranges) = holds (step before (span_of range)) (λ after. follow after ranges)
 
--- what stands behind ranges that follow
-abbrev pub walked : Place → Option (List RangeData × List ℕ) → Option (List ℕ)
-walked before read = read >>= λ ranges. if follow before ranges.0 then Some ranges.1 else None
+-- what stands behind ranges that follow, and that are of this version
+abbrev pub walked : GrammarVersion → Place → Option (List RangeData × List ℕ) → Option (List ℕ)
+walked version before read = read >>= λ ranges. if follow before ranges.0 && (number (version_of ranges.0) == number version) then Some ranges.1 else None
 
 -- Records
 
@@ -161,7 +182,7 @@ front_at words = do
 unfoldable pub len_at : List ℕ → Option ℕ
 len_at words = do
   front ← front_at words
-  rest ← walked (start front.locks) (ranges_at front.head.ranges front.rest)
+  rest ← walked front.head.version (start front.locks) (ranges_at front.head.version front.head.ranges front.rest)
   if is_closed front.head.len words rest then Some front.head.len else None
 
 abbrev pub record_of : Front → List RangeData → Record
@@ -171,7 +192,7 @@ record_of front ranges = record { node = front.head.node; locks = front.locks; r
 unfoldable pub record_at : List ℕ → Option Record
 record_at words = do
   front ← front_at words
-  ranges ← ranges_at front.head.ranges front.rest
+  ranges ← ranges_at front.head.version front.head.ranges front.rest
   Some (record_of front ranges.0)
 
 -- what is tested of a record that is to be written

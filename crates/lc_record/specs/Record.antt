@@ -1,7 +1,13 @@
--- The grammar of records, version 1: the one spelling of each record in words of 64 bits.
-use Rattle.std.specs.Prelude.{◌≡◌, ◌⊎◌, ◌↔◌, ℕ, ◌+◌, ◌-◌, ◌*◌, ◌/◌, ◌^◌, ◌<◌, ◌≤◌, List, [], ◌∷◌, ◌++◌, length, replicate, sum_by}
+-- The grammar of records: the one spelling of each record in words of 64 bits.
+use Rattle.std.specs.Prelude.{◌≡◌, ◌⊎◌, ◌↔◌, ℕ, ◌+◌, ◌-◌, ◌*◌, ◌^◌, ◌<◌, ◌≤◌, List, [], ◌∷◌, ◌++◌, length, map, replicate}
 use Rattle.std.specs.List.{flat_map, AllByRecursion}
 use Rattle.lc_record.specs.Words.{words_of, AreBytes}
+use Rattle.lc_record.specs.GrammarVersion.{end_of, version_for}
+use Rattle.lc_record.specs.Layout.{data_len, first_word, second_word, layout_of, layout_len}
+use Rattle.lc_record.specs.declared.grammar_version.GrammarVersion.{GrammarVersion}
+use Rattle.lc_record.specs.declared.grammar_version.GrammarVersion.TheVariants.{First, Second}
+use Rattle.lc_record.specs.declared.layout.Layout.{Layout}
+use Rattle.lc_record.specs.declared.span.Span.{Span}
 use Rattle.lc_record.specs.declared.record.Record.{Record}
 use Rattle.lc_record.specs.declared.record.Lock.{Lock}
 use Rattle.lc_record.specs.declared.record.RangeData.{RangeData}
@@ -12,13 +18,29 @@ Chain R [] = Unit {0}
 Chain R (x ∷ []) = Unit {0}
 Chain R (x ∷ y ∷ ys) = R x y × Chain R (y ∷ ys)
 
--- Lengths, in words
+-- The layout
 
-abbrev pub range_len : RangeData → ℕ
-range_len range = 2 + (length range.bytes + 7) / 8
+-- where a range stands
+abbrev pub span_of : RangeData → Span
+span_of range = record { segment = range.segment; offset = range.offset; len = length range.bytes }
 
+abbrev pub spans_of : List RangeData → List Span
+spans_of ranges = map span_of ranges
+
+-- the second exactly where some range ends behind 16384
+abbrev pub version_of : List RangeData → GrammarVersion
+version_of ranges = version_for (spans_of ranges)
+
+abbrev pub record_layout : Record → Layout
+record_layout r = layout_of (length r.locks) (spans_of r.ranges)
+
+-- its length, in words
 abbrev pub record_len : Record → ℕ
-record_len r = 3 + 2 * length r.locks + sum_by range_len r.ranges
+record_len r = layout_len (record_layout r)
+
+-- its first word
+abbrev pub header : Record → ℕ
+header r = first_word (version_of r.ranges) (length r.ranges) (record_len r)
 
 -- Words
 
@@ -27,20 +49,21 @@ lock_words lock = lock.segment ∷ lock.seq ∷ []
 
 -- the bytes in whole words, the last of them filled up with zeros
 abbrev pub data_words : List ℕ → List ℕ
-data_words bytes = words_of (bytes ++ replicate (8 * ((length bytes + 7) / 8) - length bytes) 0)
+data_words bytes = words_of (bytes ++ replicate (8 * data_len (length bytes) - length bytes) 0)
 
-abbrev pub range_words : RangeData → List ℕ
-range_words range = (range.segment + 2 ^ 32 * range.offset) ∷ length range.bytes ∷ data_words range.bytes
+-- where a range stands: in the first version the segment and the offset share a word
+abbrev pub span_words : GrammarVersion → Span → List ℕ
+span_words First span = (span.segment + 2 ^ 32 * span.offset) ∷ span.len ∷ []
+span_words Second span = span.segment ∷ span.offset ∷ span.len ∷ []
 
--- gate a5, version 1, the number of ranges, the record's length
-abbrev pub header : Record → ℕ
-header r = 0xa5 + 2 ^ 8 * 1 + 2 ^ 16 * length r.ranges + 2 ^ 32 * record_len r
+abbrev pub range_words : GrammarVersion → RangeData → List ℕ
+range_words version range = span_words version (span_of range) ++ data_words range.bytes
 
 -- the one spelling of a record
 abbrev pub spelling : Record → List ℕ
 spelling r =
-    header r ∷ (r.node + 2 ^ 16 * length r.locks)
-    ∷ (flat_map lock_words r.locks ++ flat_map range_words r.ranges ++ record_len r ∷ [])
+    header r ∷ second_word r.node (length r.locks)
+    ∷ (flat_map lock_words r.locks ++ flat_map (range_words (version_of r.ranges)) r.ranges ++ record_len r ∷ [])
 
 -- Which records have a spelling
 
@@ -48,7 +71,7 @@ abbrev pub IsLock : Lock → Type 0
 IsLock lock = (1 ≤ lock.segment) × (lock.segment ≤ 16) × (1 ≤ lock.seq) × (lock.seq ≤ 2 ^ 60)
 
 abbrev pub IsRange : RangeData → Type 0
-IsRange range = (1 ≤ length range.bytes) × (range.offset + length range.bytes ≤ 16384) × AreBytes range.bytes
+IsRange range = (1 ≤ length range.bytes) × (end_of (span_of range) ≤ 262144) × AreBytes range.bytes
 
 -- its bytes are bytes
 abbrev pub HoldsBytes : RangeData → Type 0
@@ -56,7 +79,7 @@ HoldsBytes range = AreBytes range.bytes
 
 -- of an earlier segment, or of the same with a gap between
 abbrev pub IsBefore : RangeData → RangeData → Type 0
-IsBefore a b = (a.segment < b.segment) ⊎ ((a.segment ≡ b.segment) × (a.offset + length a.bytes < b.offset))
+IsBefore a b = (a.segment < b.segment) ⊎ ((a.segment ≡ b.segment) × (end_of (span_of a) < b.offset))
 
 -- some lock is of the segment; some range is
 abbrev pub Locks : ℕ → List Lock → Type 0

@@ -6,6 +6,7 @@ ghost use Rattle.lc_record.specs.Record.{HoldsBytes, IsCanonical, IsRange};
 ghost use Rattle.lc_record.specs.Reading.{Passes, ascend, follow, is_lock, start};
 
 use crate::limits::{MAX_LOCKS, MAX_NODE, MAX_OFFSET, MAX_RANGES, MAX_SEGMENT, MAX_SEQ};
+use crate::span::Span;
 use crate::walk::{start, step};
 use crate::{Lock, RangeData, Record};
 
@@ -36,9 +37,9 @@ fn is_range(range: &RangeData) -> bool
 }
 
 fn lie_within(offset: u32, bytes: &[u8]) -> bool
-    ensures { IsTrue result ↔ ((1 ≤ length bytes.now) × (offset + length bytes.now ≤ 16384) × AreBytes bytes.now) }
+    ensures { IsTrue result ↔ ((1 ≤ length bytes.now) × (offset + length bytes.now ≤ 262144) × AreBytes bytes.now) }
 {
-    let end = offset as usize + bytes.len();
+    let end = offset as u64 + bytes.len() as u64;
     !bytes.is_empty() && end <= MAX_OFFSET
 }
 
@@ -59,8 +60,12 @@ fn follow(locks: &[Lock], ranges: &[RangeData]) -> bool
 {
     let mut walk = start(locks);
     for range in ranges {
-        let bytes = range.bytes.as_slice();
-        let Some(after) = step(walk, range.segment, range.offset, bytes.len()) else {
+        let span = Span {
+            segment: range.segment,
+            offset: range.offset,
+            len: range.bytes.as_slice().len() as u64,
+        };
+        let Some(after) = step(walk, span) else {
             return false;
         };
         walk = after;

@@ -1,10 +1,11 @@
 //! The bytes of a range as whole words, the last of them filled up with zeros.
-ghost use Rattle.std.specs.Prelude.{◌≡◌, ◌==◌, ◌+◌, ◌-◌, ◌/◌, ◌≤◌, ◌++◌, length, replicate, take, OnOk, IfOk};
+ghost use Rattle.std.specs.Prelude.{◌≡◌, ◌==◌, ◌+◌, ◌-◌, ◌<◌, ◌≤◌, [], ◌∷◌, ◌++◌, length, replicate, take, vec_len, vec_capacity, IfOk};
 ghost use Rattle.std.specs.List.{list_all};
 ghost use Rattle.std.specs.Int.{w64, from_le_bytes};
 ghost use Rattle.lc_record.specs.Words.{bytes_of};
 ghost use Rattle.lc_record.specs.Record.{data_words};
-ghost use Rattle.lc_record.specs.Reading.{data_len, is_padded};
+ghost use Rattle.lc_record.specs.Layout.{data_len};
+ghost use Rattle.lc_record.specs.Reading.{is_padded};
 
 use crate::limits::WORD;
 use std::alloc::{AllocError, Global};
@@ -25,17 +26,30 @@ fn word_of(bytes: &[u8]) -> u64
     u64::from_le_bytes(word)
 }
 
-/// Adds the words of these bytes.
-pub fn push_data(words: &mut Vec<u64>, bytes: &[u8]) -> Result<(), AllocError>
-    ensures { OnOk result (words.new.items ≡ words.old.items ++ data_words bytes.now) }
+/// Adds a word, in the room that there is.
+pub fn push(words: &mut Vec<u64>, word: u64)
+    requires { vec_len words.old < vec_capacity words.old }
+    ensures items { words.new.items ≡ words.old.items ++ word ∷ [] }
+    ensures len { vec_len words.new ≡ vec_len words.old + 1 }
+    ensures room { vec_capacity words.old ≤ vec_capacity words.new }
+{
+    words.push(word).unwrap();
+}
+
+/// Adds the words of these bytes, in the room that there is.
+pub fn push_data(words: &mut Vec<u64>, bytes: &[u8])
+    requires { vec_len words.old + data_len (length bytes.now) ≤ vec_capacity words.old }
+    ensures items { words.new.items ≡ words.old.items ++ data_words bytes.now }
+    ensures room { vec_capacity words.old ≤ vec_capacity words.new }
 {
     let mut rest = bytes;
-    while !rest.is_empty() {
-        let (front, behind) = rest.split_at(rest.len().min(WORD));
-        words.push(word_of(front))?;
+    while let Some((front, behind)) = rest.split_first_chunk::<WORD>() {
+        push(words, u64::from_le_bytes(*front));
         rest = behind;
     }
-    Ok(())
+    if !rest.is_empty() {
+        push(words, word_of(rest));
+    }
 }
 
 /// So many of the bytes of these words, the first.

@@ -5,7 +5,7 @@ ghost use Rattle.lc_record.specs.Reading.{Gives, items_at, range_of, record_at};
 ghost use Rattle.lc_record.specs.declared.record.Record.{Record as Spelled};
 
 use crate::data::read_data;
-use crate::parts::{RangeWords, front_of, len_of, range_of};
+use crate::parts::{Head, RangeWords, front_of, len_of, range_of};
 use crate::{Items, RangeData, Record};
 use std::alloc::{AllocError, Global};
 
@@ -41,7 +41,7 @@ fn read_record(alloc: Global, words: &[u64]) -> Result<Option<Record>, AllocErro
         return Ok(None);
     };
     let (head, locks, rest) = front;
-    let Some(ranges) = read_ranges(alloc, head.ranges, rest)? else {
+    let Some(ranges) = read_ranges(alloc, head, rest)? else {
         return Ok(None);
     };
     let locks = Vec::from_slice(alloc, &locks[..head.locks as usize])?;
@@ -54,15 +54,15 @@ fn read_record(alloc: Global, words: &[u64]) -> Result<Option<Record>, AllocErro
 
 fn read_ranges(
     alloc: Global,
-    count: u16,
+    head: Head,
     words: &[u64],
 ) -> Result<Option<Vec<RangeData>>, AllocError>
-    ensures { IfOk result (λ found. Gives (λ v. v.items) found (items_at count words.now)) }
+    ensures { IfOk result (λ found. Gives (λ v. v.items) found (items_at head.version head.ranges words.now)) }
 {
-    let mut ranges = Vec::with_capacity(alloc, count as usize)?;
+    let mut ranges = Vec::with_capacity(alloc, head.ranges as usize)?;
     let mut rest = words;
-    for _ in 0..count {
-        let Some((range, behind)) = range_of(rest) else {
+    for _ in 0..head.ranges {
+        let Some((range, behind)) = range_of(head.version, rest) else {
             return Ok(None);
         };
         ranges.push(read_range(alloc, range)?)?;
@@ -72,11 +72,11 @@ fn read_ranges(
 }
 
 fn read_range(alloc: Global, range: RangeWords<'_>) -> Result<RangeData, AllocError>
-    ensures { IfOk result (λ r. r ≡ range_of range.entry.segment range.entry.offset range.entry.len range.entry.data.now) }
+    ensures { IfOk result (λ r. r ≡ range_of range.entry.span range.entry.data.now) }
 {
     Ok(RangeData {
-        segment: range.segment,
-        offset: range.offset,
-        bytes: Items::new(read_data(alloc, range.len, range.data)?),
+        segment: range.span.segment,
+        offset: range.span.offset,
+        bytes: Items::new(read_data(alloc, range.span.len as usize, range.data)?),
     })
 }

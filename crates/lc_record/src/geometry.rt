@@ -13,7 +13,7 @@ pub struct Geometry {
     pub threads: u16,
     /// 1 to 16, numbered from 1.
     pub segments: u32,
-    /// 1 to 64 of each segment, numbered from 0, of 256 bytes each.
+    /// 1 to 1024 of each segment, numbered from 0, of 256 bytes each.
     pub pages: u32,
     /// 64 to 4096 of each log, of 8 bytes each.
     pub words: u32,
@@ -24,7 +24,7 @@ pub struct Geometry {
     ghost some_segments: { 1 ≤ segments },
     ghost few_segments: { segments ≤ 16 },
     ghost some_pages: { 1 ≤ pages },
-    ghost few_pages: { pages ≤ 64 },
+    ghost few_pages: { pages ≤ 1024 },
     ghost some_words: { 64 ≤ words },
     ghost few_words: { words ≤ 4096 },
 }
@@ -40,7 +40,7 @@ impl Geometry {
         if nodes < 1 || nodes > 8 || threads < 1 || threads > 16 {
             return None;
         }
-        if segments < 1 || segments > 16 || pages < 1 || pages > 64 {
+        if segments < 1 || segments > 16 || pages < 1 || pages > 1024 {
             return None;
         }
         if words < 64 || words > 4096 {

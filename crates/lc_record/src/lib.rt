@@ -8,13 +8,17 @@ mod encoding;
 mod fault;
 mod fields;
 mod geometry;
+mod grammar_version;
 mod group;
 mod items;
 mod laws;
+mod layout;
 mod limits;
 mod part;
 mod parts;
 mod record;
+mod span;
+mod spelling;
 mod walk;
 
 pub use decoding::{check, decode};
@@ -22,11 +26,15 @@ pub use encoding::{encode, encoded_words};
 pub use fault::RecordFault;
 pub use fields::{gate, length, lock_count, node, range_count, version};
 pub use geometry::{Geometry, PAGE};
+pub use grammar_version::GrammarVersion;
 pub use group::Group;
 pub use items::Items;
-pub use laws::one_reading;
+pub use laws::{header_tells_length, one_reading};
+pub use layout::Layout;
+pub use limits::{MAX_SEQ, MAX_WORDS};
 pub use part::Part;
 pub use record::{Lock, RangeData, Record};
+pub use spelling::Spelling;
 
 #[cfg(test)]
 mod tests;

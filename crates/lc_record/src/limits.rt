@@ -2,8 +2,6 @@
 
 /// The low byte of a record's first word. Any other byte closes the record.
 pub const GATE_OPEN: u8 = 0xa5;
-/// The version of the grammar.
-pub const VERSION: u8 = 1;
 /// The most words of a record.
 pub const MAX_WORDS: usize = 4096;
 /// The greatest number of a node.
@@ -17,7 +15,9 @@ pub const MAX_SEGMENT: u32 = 16;
 /// The greatest number of a commit on a segment.
 pub const MAX_SEQ: u64 = 1 << 60;
 /// Where the bytes of a segment end at the latest.
-pub const MAX_OFFSET: usize = 16384;
+pub const MAX_OFFSET: u64 = 262144;
+/// Where the ranges of the first version end at the latest.
+pub const FIRST_END: u64 = 16384;
 /// The bytes of a word.
 pub const WORD: usize = 8;
 /// Above the second word of each record.
@@ -26,5 +26,3 @@ pub const SECOND_END: u64 = 1 << 32;
 pub const RECORD_WORDS: usize = 3;
 /// The words of a lock.
 pub const LOCK_WORDS: usize = 2;
-/// The words of a range before its bytes.
-pub const RANGE_WORDS: usize = 2;

@@ -1,21 +1,23 @@
 //! Where the parts of a record stand in its words.
 ghost use Rattle.std.specs.Prelude.{◌≡◌, ◌*◌, ◌/◌, ◌%◌, ◌^◌, ◌≤◌, IfSome, length, take};
-ghost use Rattle.lc_record.specs.Reading.{Gives, front, front_at, has_room, head_at, is_closed, is_first, is_second, len_at, lock_at, locks_at, range_at, range_of, ranges_at, start, walked};
+ghost use Rattle.lc_record.specs.Reading.{Gives, apart_at, front, front_at, has_room, head_at, is_closed, is_first, is_second, len_at, lock_at, locks_at, packed_at, place_at, range_at, range_of, ranges_at, start, walked};
 
-use crate::Lock;
 use crate::canonical::ascend;
 use crate::data::{data_len, is_padded};
 use crate::fields::{
     gate, length, lock_count, node, range_count, range_offset, range_segment, version,
 };
 use crate::limits::{
-    GATE_OPEN, MAX_LOCKS, MAX_NODE, MAX_OFFSET, MAX_RANGES, MAX_WORDS, SECOND_END, VERSION,
+    GATE_OPEN, MAX_LOCKS, MAX_NODE, MAX_OFFSET, MAX_RANGES, MAX_WORDS, SECOND_END,
 };
+use crate::span::Span;
 use crate::walk::{start, step};
+use crate::{GrammarVersion, Lock};
 
 /// What the first two words say.
 #[derive(Clone, Copy)]
 pub struct Head {
+    pub version: GrammarVersion,
     pub node: u16,
     pub locks: u16,
     pub ranges: u16,
@@ -25,9 +27,7 @@ pub struct Head {
 /// A range, with its bytes as words.
 #[derive(Clone, Copy)]
 pub struct RangeWords<'a> {
-    pub segment: u32,
-    pub offset: u32,
-    pub len: usize,
+    pub span: Span,
     pub data: &'a [u64],
 }
 
@@ -35,7 +35,6 @@ fn is_first(first: u64) -> bool
     ensures { result ≡ is_first first }
 {
     gate(first) == GATE_OPEN
-        && version(first) == VERSION
         && range_count(first) >= 1
         && range_count(first) as usize <= MAX_RANGES
         && length(first) as usize <= MAX_WORDS
@@ -58,10 +57,12 @@ fn head_of(words: &[u64]) -> Option<(Head, &[u64])>
     let [first, second, rest @ ..] = words else {
         return None;
     };
+    let version = GrammarVersion::of_number(version(*first))?;
     if !is_first(*first) || !is_second(*second) {
         return None;
     }
     let head = Head {
+        version,
         node: node(*second),
         locks: lock_count(*second),
         ranges: range_count(*first),
@@ -115,57 +116,94 @@ pub fn front_of(words: &[u64]) -> Option<(Head, [Lock; MAX_LOCKS], &[u64])>
     Some((head, locks, rest))
 }
 
-fn has_room(offset: u32, len: u64, rest: &[u64]) -> bool
-    ensures { result ≡ has_room offset len rest.now }
-{
-    let most = MAX_OFFSET as u64;
-    len >= 1
-        && len <= most
-        && u64::from(offset) + len <= most
-        && data_len(len as usize) <= rest.len()
-}
-
-/// The range at the front, and the words behind it.
-#[tactic(auto, unfolding(crate::specs::Reading::range_at))]
-pub fn range_of(words: &[u64]) -> Option<(RangeWords<'_>, &[u64])>
-    ensures read { Gives (λ x. (range_of x.0.segment x.0.offset x.0.len x.0.data.now, x.1.now)) result (range_at words.now) }
-    ensures short { IfSome result (λ x. x.0.len ≤ 16384) }
-    ensures whole { IfSome result (λ x. x.0.len ≤ 8 * length x.0.data.now) }
+#[tactic(auto, unfolding(crate::specs::Reading::packed_at))]
+fn packed_of(words: &[u64]) -> Option<(Span, &[u64])>
+    ensures { Gives (λ x. (x.0, x.1.now)) result (packed_at words.now) }
 {
     let [place, len, rest @ ..] = words else {
         return None;
     };
-    let segment = range_segment(*place);
-    let offset = range_offset(*place);
-    if !has_room(offset, *len, rest) {
+    let span = Span {
+        segment: range_segment(*place),
+        offset: range_offset(*place),
+        len: *len,
+    };
+    Some((span, rest))
+}
+
+#[tactic(auto, unfolding(crate::specs::Reading::apart_at))]
+fn apart_of(words: &[u64]) -> Option<(Span, &[u64])>
+    ensures { Gives (λ x. (x.0, x.1.now)) result (apart_at words.now) }
+{
+    let [segment, offset, len, rest @ ..] = words else {
+        return None;
+    };
+    if *segment > u64::from(u32::MAX) || *offset > u64::from(u32::MAX) {
         return None;
     }
-    let len = *len as usize;
+    let span = Span {
+        segment: *segment as u32,
+        offset: *offset as u32,
+        len: *len,
+    };
+    Some((span, rest))
+}
+
+// Where the range at the front stands, and the words behind that.
+fn place_of(version: GrammarVersion, words: &[u64]) -> Option<(Span, &[u64])>
+    ensures { Gives (λ x. (x.0, x.1.now)) result (place_at version words.now) }
+{
+    match version {
+        GrammarVersion::First => packed_of(words),
+        GrammarVersion::Second => apart_of(words),
+    }
+}
+
+fn has_room(span: Span, rest: &[u64]) -> bool
+    ensures { result ≡ has_room span rest.now }
+{
+    span.len >= 1
+        && span.len <= MAX_OFFSET
+        && u64::from(span.offset) + span.len <= MAX_OFFSET
+        && data_len(span.len as usize) <= rest.len()
+}
+
+/// The range at the front, and the words behind it.
+#[tactic(auto, unfolding(crate::specs::Reading::range_at))]
+pub fn range_of(version: GrammarVersion, words: &[u64]) -> Option<(RangeWords<'_>, &[u64])>
+    ensures read { Gives (λ x. (range_of x.0.span x.0.data.now, x.1.now)) result (range_at version words.now) }
+    ensures short { IfSome result (λ x. x.0.span.len ≤ 262144) }
+    ensures whole { IfSome result (λ x. x.0.span.len ≤ 8 * length x.0.data.now) }
+{
+    let (span, rest) = place_of(version, words)?;
+    if !has_room(span, rest) {
+        return None;
+    }
+    let len = span.len as usize;
     let (data, behind) = rest.split_at(data_len(len));
     if !is_padded(len, data) {
         return None;
     }
-    let range = RangeWords {
-        segment,
-        offset,
-        len,
-        data,
-    };
-    Some((range, behind))
+    Some((RangeWords { span, data }, behind))
 }
 
-/// The words behind so many ranges, which follow on these locks.
-fn behind_ranges<'a>(locks: &[Lock], count: u16, words: &'a [u64]) -> Option<&'a [u64]>
-    ensures { Gives (λ rest. rest.now) result (walked (start locks.now) (ranges_at count words.now)) }
+// The words behind the ranges, which follow on these locks and are of the version that the head has.
+fn behind_ranges<'a>(head: Head, locks: &[Lock], words: &'a [u64]) -> Option<&'a [u64]>
+    ensures { Gives (λ rest. rest.now) result (walked head.version (start locks.now) (ranges_at head.version head.ranges words.now)) }
 {
     let mut walk = start(locks);
+    let mut needed = GrammarVersion::First;
     let mut rest = words;
-    for _ in 0..count {
-        let (range, behind) = range_of(rest)?;
-        walk = step(walk, range.segment, range.offset, range.len)?;
+    for _ in 0..head.ranges {
+        let (range, behind) = range_of(head.version, rest)?;
+        walk = step(walk, range.span)?;
+        needed = needed.later(GrammarVersion::ending_at(walk.end));
         rest = behind;
     }
     if !walk.locks.is_empty() {
+        return None;
+    }
+    if needed.number() != head.version.number() {
         return None;
     }
     Some(rest)
@@ -186,7 +224,7 @@ pub fn len_of(words: &[u64]) -> Option<usize>
     ensures { Gives (λ len. len) result (len_at words.now) }
 {
     let (head, locks, rest) = front_of(words)?;
-    let behind = behind_ranges(&locks[..head.locks as usize], head.ranges, rest)?;
+    let behind = behind_ranges(head, &locks[..head.locks as usize], rest)?;
     if !is_closed(head.len, words, behind) {
         return None;
     }

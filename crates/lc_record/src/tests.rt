@@ -78,6 +78,56 @@ fn letters_words() -> [u64; 17] {
     ]
 }
 
+// The record of node 0 under lock 1:1, with eight bytes at 16376 in segment 1: they end at 16384.
+fn near_words() -> [u64; 8] {
+    [
+        u64::from_le_bytes([0xa5, 0x01, 0x01, 0x00, 0x08, 0x00, 0x00, 0x00]),
+        u64::from_le_bytes([0x00, 0x00, 0x01, 0x00, 0x00, 0x00, 0x00, 0x00]),
+        1,
+        1,
+        u64::from_le_bytes([0x01, 0x00, 0x00, 0x00, 0xf8, 0x3f, 0x00, 0x00]),
+        8,
+        u64::from_le_bytes([0x6c, 0x63, 0x00, 0x00, 0x00, 0x00, 0x00, 0x00]),
+        8,
+    ]
+}
+
+// The record of node 0 under lock 1:1, with the same bytes at 16380 in segment 1.
+fn far_words() -> [u64; 9] {
+    [
+        u64::from_le_bytes([0xa5, 0x02, 0x01, 0x00, 0x09, 0x00, 0x00, 0x00]),
+        u64::from_le_bytes([0x00, 0x00, 0x01, 0x00, 0x00, 0x00, 0x00, 0x00]),
+        1,
+        1,
+        1,
+        16380,
+        8,
+        u64::from_le_bytes([0x6c, 0x63, 0x00, 0x00, 0x00, 0x00, 0x00, 0x00]),
+        9,
+    ]
+}
+
+// The record of node 0 under lock 1:1, with the same bytes at 16380 and at 16389 in segment 1.
+fn far_twice_words() -> [u64; 13] {
+    [
+        u64::from_le_bytes([0xa5, 0x02, 0x02, 0x00, 0x0d, 0x00, 0x00, 0x00]),
+        u64::from_le_bytes([0x00, 0x00, 0x01, 0x00, 0x00, 0x00, 0x00, 0x00]),
+        1,
+        1,
+        1,
+        16380,
+        8,
+        u64::from_le_bytes([0x6c, 0x63, 0x00, 0x00, 0x00, 0x00, 0x00, 0x00]),
+        1,
+        16389,
+        8,
+        u64::from_le_bytes([0x6c, 0x63, 0x00, 0x00, 0x00, 0x00, 0x00, 0x00]),
+        13,
+    ]
+}
+
+const LC: [u8; 8] = [0x6c, 0x63, 0x00, 0x00, 0x00, 0x00, 0x00, 0x00];
+
 fn record_of(
     alloc: Global,
     node: u16,
@@ -164,6 +214,68 @@ fn records_are_written_and_read(rt: HostRuntime) -> Result<(), Fail> {
 }
 
 #[test]
+fn far_ranges_are_written_in_the_second_version(rt: HostRuntime) -> Result<(), Fail> {
+    let alloc = rt.alloc();
+    let near = record_of(alloc, 0, &[(1, 1)], &[(1, 16376, &LC)])?;
+    is_spelled(&rt, alloc, &near, &near_words())?;
+    let far = record_of(alloc, 0, &[(1, 1)], &[(1, 16380, &LC)])?;
+    is_spelled(&rt, alloc, &far, &far_words())?;
+    let twice = record_of(alloc, 0, &[(1, 1)], &[(1, 16380, &LC), (1, 16389, &LC)])?;
+    is_spelled(&rt, alloc, &twice, &far_twice_words())?;
+    let mut end_words = far_words();
+    end_words[5] = 262136;
+    let end = record_of(alloc, 0, &[(1, 1)], &[(1, 262136, &LC)])?;
+    is_spelled(&rt, alloc, &end, &end_words)
+}
+
+#[test]
+fn other_words_of_the_second_version_are_no_record(rt: HostRuntime) -> Result<(), Fail> {
+    let alloc = rt.alloc();
+    for (place, changed) in [
+        // The first version, and a third.
+        (
+            0,
+            u64::from_le_bytes([0xa5, 0x01, 0x01, 0x00, 0x09, 0x00, 0x00, 0x00]),
+        ),
+        (
+            0,
+            u64::from_le_bytes([0xa5, 0x03, 0x01, 0x00, 0x09, 0x00, 0x00, 0x00]),
+        ),
+        // No segment, and one of more than 32 bits.
+        (4, 0),
+        (4, (1 << 32) + 1),
+        // No range that ends behind 16384, one that leaves its segment, and an offset of more than 32 bits.
+        (5, 16376),
+        (5, 262137),
+        (5, (1 << 32) + 16380),
+        (8, 8),
+    ] {
+        let mut words = far_words();
+        let word = words.get_mut(place).ok_or("the place is among the words")?;
+        *word = changed;
+        is_no_record(&rt, alloc, &words)?;
+    }
+    // Seven bytes, filled up with zero or not.
+    let mut seven = far_words();
+    seven[6] = 7;
+    assert_eq!(rt; check(&seven), Some(9));
+    seven[7] = u64::from_le_bytes([0x6c, 0x63, 0x00, 0x00, 0x00, 0x00, 0x00, 0x01]);
+    is_no_record(&rt, alloc, &seven)?;
+    // Ranges that touch.
+    let mut touching = far_twice_words();
+    touching[9] = 16388;
+    is_no_record(&rt, alloc, &touching)?;
+    // A range of the first version that ends behind 16384.
+    let mut near = near_words();
+    near[4] = u64::from_le_bytes([0x01, 0x00, 0x00, 0x00, 0xf9, 0x3f, 0x00, 0x00]);
+    is_no_record(&rt, alloc, &near)?;
+    for len in 0..9 {
+        is_no_record(&rt, alloc, &far_words()[..len])?;
+    }
+    Ok(())
+}
+
+#[test]
 fn other_words_are_no_record(rt: HostRuntime) -> Result<(), Fail> {
     let alloc = rt.alloc();
     for (place, changed) in [
@@ -212,6 +324,7 @@ fn other_records_have_no_spelling(rt: HostRuntime) -> Result<(), Fail> {
         record_of(alloc, 0, &[(1, 1)], &[(1, 3, b"hello"), (1, 8, b"you")])?,
         record_of(alloc, 0, &[(1, 1)], &[(1, 3, b"")])?,
         record_of(alloc, 8, &[(1, 1)], &[(1, 3, b"hello")])?,
+        record_of(alloc, 0, &[(1, 1)], &[(1, 262137, &LC)])?,
     ];
     for record in &none {
         let fault = encode(alloc, record).err().ok_or("there is a fault")?;
@@ -248,6 +361,8 @@ fn the_first_two_words_have_fields(rt: HostRuntime) {
     assert_eq!(rt; length(first), 17);
     assert_eq!(rt; node(second), 7);
     assert_eq!(rt; lock_count(second), 2);
+    let [first, ..] = far_words();
+    assert_eq!(rt; version(first), 2);
 }
 
 #[test]
@@ -256,6 +371,9 @@ fn a_geometry_has_areas(rt: HostRuntime) -> Result<(), Fail> {
     assert_eq!(rt; geometry.log_len(), 520);
     assert_eq!(rt; geometry.segment_len(), 768);
     assert_eq!(rt; Geometry::new(9, 4, 2, 3, 64), None);
+    let largest = Geometry::new(2, 4, 2, 1024, 64).ok_or("segments may have 1024 pages")?;
+    assert_eq!(rt; largest.segment_len(), 262144);
+    assert_eq!(rt; Geometry::new(2, 4, 2, 1025, 64), None);
     Ok(())
 }
 

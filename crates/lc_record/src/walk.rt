@@ -4,12 +4,13 @@ ghost use Rattle.lc_record.specs.Reading.{Gives, next_lock, place, start, step};
 
 use crate::Lock;
 use crate::limits::MAX_OFFSET;
+use crate::span::Span;
 
 /// How far the ranges have come: where the last one ended, and the locks of which none came yet.
 #[derive(Clone, Copy)]
 pub struct Walk<'a> {
     pub segment: u32,
-    pub end: usize,
+    pub end: u64,
     pub locks: &'a [Lock],
 }
 
@@ -36,16 +37,17 @@ fn next_lock(segment: u32, locks: &[Lock]) -> Option<&[Lock]>
     Some(rest)
 }
 
-/// One range more, or None where it does not follow: it is of the same segment with a gap between, or of the segment of the next lock.
-pub fn step(before: Walk<'_>, segment: u32, offset: u32, len: usize) -> Option<Walk<'_>>
-    requires { len < 2 ^ 63 }
+/// One range more, or None where it does not follow: it is of the same segment with a gap between, or of the segment
+/// of the next lock.
+pub fn step(before: Walk<'_>, span: Span) -> Option<Walk<'_>>
+    requires { span.len < 2 ^ 63 }
     ensures { Gives (λ w. place w.segment w.end w.locks.now) result
-        (step (place before.entry.segment before.entry.end before.entry.locks.now) segment offset len) }
+        (step (place before.entry.segment before.entry.end before.entry.locks.now) span) }
 {
-    let offset = offset as usize;
-    let end = offset + len;
+    let segment = span.segment;
+    let end = u64::from(span.offset) + span.len;
     if segment == before.segment {
-        if offset <= before.end {
+        if u64::from(span.offset) <= before.end {
             return None;
         }
         return Some(Walk {

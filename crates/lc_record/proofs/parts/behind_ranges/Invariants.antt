@@ -1,6 +1,9 @@
 use Rattle.std.proofs.Common.{◌≡◌, ◌-◌}
 use Rattle.lc_record.specs.Reading.{place, start, ranges_at, walked}
+use Rattle.lc_record.proofs.LoopLemmas.{walked_on}
 use Rattle.lc_record.proofs.parts.behind_ranges.Given as goal
 
 abbrev pub invariant-loop : goal.invariant-loop
-invariant-loop l = walked (place l.walk.segment l.walk.end l.walk.locks.now) (ranges_at (l.count - l.counter) l.rest) ≡ walked (start l.locks) (ranges_at l.count l.words)
+invariant-loop l =
+    walked_on l.needed l.head.version (place l.walk.segment l.walk.end l.walk.locks.now) (ranges_at l.head.version (l.head.ranges - l.counter) l.rest)
+    ≡ walked l.head.version (start l.locks) (ranges_at l.head.version l.head.ranges l.words)
