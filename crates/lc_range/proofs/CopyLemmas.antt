@@ -112,7 +112,7 @@ kept_some (r ∷ rs) bytes (suc i) k d whole within low high =
     later None b h = h
     later (Some x) b h = refl
 
-some_at : (ranges : List Range) (i : ℕ) (d : Range) → AreSome ranges → i < length ranges → 1 ≤ (get_or ranges i d).len
+pub some_at : (ranges : List Range) (i : ℕ) (d : Range) → AreSome ranges → i < length ranges → 1 ≤ (get_or ranges i d).len
 some_at [] i d some within = absurd (omega arith)
 some_at (r ∷ rs) zero d some within = some.0
 some_at (r ∷ rs) (suc i) d some within = some_at rs i d some.1 (omega arith)

@@ -1,9 +1,13 @@
 pub mod RangeLemmas
 pub mod SetLemmas
 pub mod WalkLemmas
+pub mod PlaceLemmas
 pub mod AddLemmas
 pub mod CopyLemmas
 pub mod PartsLemmas
+pub mod GrowLemmas
+pub mod OutsideLemmas
+pub mod CutLemmas
 pub mod KeepLemmas
 pub mod StepLemmas
 pub mod RoomLemmas

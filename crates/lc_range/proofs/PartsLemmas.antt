@@ -58,7 +58,7 @@ piece_total s from to = cond_both (ltb from to) (the_piece s from to ∷ []) [] 
 
 -- A run in the way
 
-in_way : (run : Range) (s from to : ℕ) → is_in_way run s from to ≡ true → (run.segment ≡ s) × (run.offset < to) × (from < run.offset + run.len)
+pub in_way : (run : Range) (s from to : ℕ) → is_in_way run s from to ≡ true → (run.segment ≡ s) × (run.offset < to) × (from < run.offset + run.len)
 in_way run s from to e =
     let p = and_parts (eqb run.segment s && ltb run.offset to) (ltb from (run.offset + run.len)) e in
     let q = and_parts (eqb run.segment s) (ltb run.offset to) p.0 in

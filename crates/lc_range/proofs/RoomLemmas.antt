@@ -1,11 +1,8 @@
--- Whether a run more stands with a range, and the first of some copies.
-use Rattle.std.proofs.Common.{◌≡◌, ℕ, zero, suc, ◌+◌, ◌<◌, ◌≤◌, Bool, true, false, List, [], ◌∷◌, ◌++◌, length, get_or, take, drop, refl, sym, ap, ◌∙◌, inl, inr, subst, arith, length-append, length-take, length-drop}
+-- Whether a run more stands with a range.
+use Rattle.std.proofs.Common.{◌≡◌, ℕ, ◌+◌, ◌<◌, ◌≤◌, Bool, true, false, List, [], ◌∷◌, ◌++◌, length, get_or, take, drop, ap, inl, inr, arith, length-append, length-take, length-drop}
 use Rattle.std.proofs.lemmas.Bool.{cond_both, cases_Bool}
-use Rattle.std.proofs.lemmas.List.{take-take, drop-take}
-use Rattle.lc_range.specs.RangeSet.{Has, IsCanonical, EndWithin, NeedsRunsAbove, total_len}
+use Rattle.lc_range.specs.RangeSet.{Has, IsCanonical, EndWithin, NeedsRunsAbove}
 use Rattle.lc_range.specs.Walk.{is_before, joined, absorbed, merged}
-use Rattle.lc_range.specs.Undo.{OldBytes}
-use Rattle.lc_range.specs.Copies.{AreSome, AreCopies, copies_of}
 use Rattle.lc_range.specs.declared.range.Range.{Range}
 use Rattle.lc_range.proofs.WalkLemmas.{absorbed_more}
 use Rattle.lc_range.proofs.SetLemmas.{needs_above, above_needs}
@@ -51,46 +48,6 @@ module _ (runs : List Range) (range : Range) (canonical : IsCanonical runs) (som
 
   pub full_if_apart : (b : Bool) → 64 ≤ length runs → (b ≡ false → length (merged range runs) ≡ length runs + 1) → b ≡ false → NeedsRunsAbove 64 runs range.segment range.offset range.len
   full_if_apart b full apart e = needs_above 64 range runs some canonical (omega (arith, full, apart e))
-
--- The first of some copies
-
-some_front : (n : ℕ) (xs : List Range) → AreSome xs → AreSome (take n xs)
-some_front zero xs some = tt
-some_front (suc n) [] some = tt
-some_front (suc n) (x ∷ xs) some = (some.0, some_front n xs some.1)
-
-pub total_front : (n : ℕ) (xs : List Range) → total_len (take n xs) ≤ total_len xs
-total_front zero xs = omega arith
-total_front (suc n) [] = omega arith
-total_front (suc n) (x ∷ xs) = omega (arith, total_front n xs)
-
-pub length_copies : (xs : List Range) (bytes : List ℕ) → length (copies_of xs bytes) ≡ length xs
-length_copies [] bytes = refl
-length_copies (x ∷ xs) bytes = ap suc (length_copies xs (drop x.len bytes))
-
-copies_front : (n : ℕ) (xs : List Range) (bytes : List ℕ) → copies_of (take n xs) (take (total_len (take n xs)) bytes) ≡ take n (copies_of xs bytes)
-copies_front zero xs bytes = refl
-copies_front (suc n) [] bytes = refl
-copies_front (suc n) (x ∷ xs) bytes =
-    let rest : ℕ = total_len (take n xs) in
-    ap (λ (l : List ℕ). record { segment = x.segment; offset = x.offset; bytes = l } ∷ copies_of (take n xs) (drop x.len (take (x.len + rest) bytes))) (take-take x.len (x.len + rest) bytes (omega arith))
-    ∙ ap (λ (l : List ℕ). record { segment = x.segment; offset = x.offset; bytes = take x.len bytes } ∷ copies_of (take n xs) l) (drop-take x.len rest bytes)
-    ∙ ap (λ (l : List OldBytes). record { segment = x.segment; offset = x.offset; bytes = take x.len bytes } ∷ l) (copies_front n xs (drop x.len bytes))
-
-module _ (n len : ℕ) (xs new : List Range) (bytes new_bytes : List ℕ) (front : new ≡ take n xs) (total : len ≡ total_len new) (new_front : new_bytes ≡ take len bytes) where
-  total_is : len ≡ total_len (take n xs)
-  total_is = total ∙ ap total_len front
-
-  pub copies_kept : AreCopies xs bytes → AreCopies new new_bytes
-  copies_kept copies = record {
-    some = subst (λ (l : List Range). AreSome l) (sym front) (some_front n xs copies.some);
-    whole = omega (arith, ap length new_front, length-take len bytes, total, total_is, total_front n xs, copies.whole);
-  }
-
-  pub view_front : (old : List OldBytes) → copies_of xs bytes ≡ old → copies_of new new_bytes ≡ take n old
-  view_front old view =
-      ap (λ (l : List Range). copies_of l new_bytes) front ∙ ap (λ (l : List ℕ). copies_of (take n xs) l) (new_front ∙ ap (λ (m : ℕ). take m bytes) total_is)
-      ∙ copies_front n xs bytes ∙ ap (take n) view
 
 -- no run has a position at its end or behind
 pub has_below : (runs : List Range) (bound s k : ℕ) → EndWithin runs bound → Has runs s k → k < bound

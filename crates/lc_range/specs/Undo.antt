@@ -1,6 +1,6 @@
 -- Old bytes, as copies in the order in which they were made.
-use Rattle.std.specs.Prelude.{◌≡◌, ℕ, ◌+◌, ◌-◌, ◌<◌, ◌≤◌, ◌==◌, nat_le, if◌then◌else◌, ◌&&◌, List, [], ◌∷◌, length, Option, Some, None, IsSome, slice_get}
-use Rattle.lc_range.specs.RangeSet.{Has}
+use Rattle.std.specs.Prelude.{◌≡◌, ℕ, zero, suc, ◌+◌, ◌-◌, ◌<◌, ◌≤◌, ◌==◌, nat_le, if◌then◌else◌, Bool, false, ◌&&◌, List, [], ◌∷◌, length, take, Option, Some, None, IsSome, slice_get}
+use Rattle.lc_range.specs.RangeSet.{Has, IsCanonical, AreOutside}
 use Rattle.lc_range.specs.declared.range.Range.{Range}
 
 -- a copy of bytes that stood in a segment from offset on
@@ -27,6 +27,33 @@ kept (copy ∷ copies) segment k = first_of (byte_at copy segment k) (kept copie
 abbrev pub bytes_kept : List OldBytes → ℕ
 bytes_kept [] = 0
 bytes_kept (copy ∷ copies) = length copy.bytes + bytes_kept copies
+
+-- the first n bytes of these copies, in their order
+abbrev pub first_bytes : ℕ → List OldBytes → List OldBytes
+first_bytes zero copies = []
+first_bytes (suc n) [] = []
+first_bytes (suc n) (copy ∷ copies) = record copy { bytes = take (suc n) copy.bytes } ∷ first_bytes (suc n - length copy.bytes) copies
+
+-- a copy ends at a position of a segment
+abbrev pub is_end : OldBytes → ℕ → ℕ → Bool
+is_end copy segment k = (copy.segment == segment) && (copy.offset + length copy.bytes == k)
+
+-- the last of these copies does
+abbrev pub ends_at : List OldBytes → ℕ → ℕ → Bool
+ends_at [] segment k = false
+ends_at (copy ∷ []) segment k = is_end copy segment k
+ends_at (copy ∷ next ∷ copies) segment k = ends_at (next ∷ copies) segment k
+
+-- 1 where the first of these runs begins right where the last copy ends, else 0
+abbrev pub continuing : List OldBytes → List Range → ℕ
+continuing copies [] = 0
+continuing copies (run ∷ runs) = if ends_at copies run.segment run.offset then 1 else 0
+
+-- a copy is added for each run of len positions from offset on that are not in the set, but for one that continues the
+-- last copy
+abbrev pub AddsCopies : List OldBytes → List Range → ℕ → ℕ → ℕ → List OldBytes → Type 0
+AddsCopies old set segment offset len new =
+    (runs : List Range) × IsCanonical runs × AreOutside set segment offset len runs × (length new + continuing old runs ≡ length old + length runs)
 
 -- all that is kept of a segment lies below a position
 abbrev pub LiesBelow : List OldBytes → ℕ → ℕ → Type 0

@@ -5,6 +5,10 @@ use Rattle.lc_range.specs.declared.range.Range.{Range}
 abbrev pub is_before : Range → Range → Bool
 is_before a b = nat_lt a.segment b.segment || ((a.segment == b.segment) && nat_lt (a.offset + a.len) b.offset)
 
+-- a range begins in the segment of another, right where that ends
+abbrev pub is_continued : Range → Range → Bool
+is_continued a b = (a.segment == b.segment) && (a.offset + a.len == b.offset)
+
 abbrev pub is_holding : Range → Range → Bool
 is_holding a b = ((a.segment == b.segment) && nat_le a.offset b.offset) && nat_le (b.offset + b.len) (a.offset + a.len)
 

@@ -1,49 +1,64 @@
 //! Bytes of ranges, taken from an image one after another and put back.
-ghost use Rattle.std.specs.Prelude.{◌≡◌, ◌+◌, ◌-◌, ◌^◌, ◌<◌, ◌≤◌, ◌++◌, ℕ, length, slice_index, unwrap_or, vec_len, vec_capacity, OnOk, OnErr};
-ghost use Rattle.lc_range.specs.RangeSet.{EndWithin, total_len};
-ghost use Rattle.lc_range.specs.Copies.{AreCopies, copies_of, cut};
+ghost use Rattle.std.specs.Prelude.{◌≡◌, ◌+◌, ◌-◌, ◌^◌, ◌<◌, ◌≤◌, ◌++◌, ℕ, length, slice_index, unwrap_or, OnOk, OnErr};
+ghost use Rattle.lc_range.specs.RangeSet.{total_len};
+ghost use Rattle.lc_range.specs.Copies.{AreCopies, AreSome, copies_of, first_ranges, is_last_continued, with_range};
 ghost use Rattle.lc_range.specs.Undo.{LiesBelow, kept};
 
 use crate::Range;
-use crate::outside::total_len;
+use smallvec::SmallVec;
 use std::alloc::AllocError;
 
-/// Adds these ranges, and the bytes that an image has there; no range takes no memory. Where there is no memory, the
-/// lists are as before.
-pub fn keep(
-    ranges: &mut Vec<Range>,
-    bytes: &mut Vec<u8>,
-    parts: &[Range],
-    image: &[u8],
+/// Adds the bytes of a range, in its order. Where it continues the last range, that grows by it. Where there is no
+/// memory, the lists are as before.
+pub fn add(
+    ranges: &mut SmallVec<Range, 8>,
+    bytes: &mut SmallVec<u8, 64>,
+    range: Range,
+    copy: &[u8],
 ) -> Result<(), AllocError>
-    requires within { EndWithin parts.now (length image.now) }
-    requires fits { total_len parts.now < 2 ^ 64 }
-    ensures ranges { OnOk result (ranges.new.items ≡ ranges.old.items ++ parts.now) }
-    ensures bytes { OnOk result (bytes.new.items ≡ bytes.old.items ++ cut image.now parts.now) }
+    requires { range.offset + range.len < 2 ^ 32 }
+    ensures ranges { OnOk result (ranges.new.items ≡ with_range ranges.old.items range) }
+    ensures bytes { OnOk result (bytes.new.items ≡ bytes.old.items ++ copy.now) }
     ensures err { OnErr result ((ranges.new.items ≡ ranges.old.items) × (bytes.new.items ≡ bytes.old.items)) }
-    ensures memory { OnErr result (1 ≤ length parts.now) }
 {
-    if parts.is_empty() {
+    if is_last_continued(ranges.as_slice(), &range) {
+        bytes.extend_from_slice(copy)?;
+        let last = ranges.len() - 1;
+        ranges[last].len += range.len;
         return Ok(());
     }
-    ranges.reserve(parts.len())?;
-    bytes.reserve(total_len(parts))?;
-    ranges.extend_from_slice(parts).unwrap();
-    push_bytes(bytes, parts, image);
+    ranges.reserve(1)?;
+    bytes.extend_from_slice(copy)?;
+    ranges.push_reserved(range);
     Ok(())
 }
 
-// Adds the bytes that an image has at these ranges, in the room that there is.
-fn push_bytes(bytes: &mut Vec<u8>, ranges: &[Range], image: &[u8])
-    requires within { EndWithin ranges.now (length image.now) }
-    requires room { vec_len bytes.old + total_len ranges.now ≤ vec_capacity bytes.old }
-    ensures { bytes.new.items ≡ bytes.old.items ++ cut image.now ranges.now }
+// Whether a range continues the last of these.
+fn is_last_continued(ranges: &[Range], range: &Range) -> bool
+    ensures { result ≡ is_last_continued ranges.now range.now }
 {
-    for range in ranges {
-        let start = range.offset as usize;
-        bytes
-            .extend_from_slice(&image[start..start + range.len as usize])
-            .unwrap();
+    match ranges.last() {
+        Some(last) => last.is_continued(range),
+        None => false,
+    }
+}
+
+/// Cuts ranges of so many bytes back to those of the first `len`.
+pub fn cut_back(ranges: &mut SmallVec<Range, 8>, bytes: usize, len: usize)
+    requires some { AreSome ranges.old.items }
+    requires bytes { bytes ≡ total_len ranges.old.items }
+    ensures { ranges.new.items ≡ first_ranges len ranges.old.items }
+{
+    let mut end = bytes;
+    while len < end {
+        let last = ranges.len() - 1;
+        let start = end - ranges[last].len as usize;
+        if start < len {
+            ranges[last].len = (len - start) as u32;
+            return;
+        }
+        ranges.truncate(last);
+        end = start;
     }
 }
 

@@ -4,7 +4,6 @@
 mod copies;
 mod fault;
 mod laws;
-mod outside;
 mod range;
 mod range_set;
 mod runs;

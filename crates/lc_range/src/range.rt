@@ -14,7 +14,7 @@ pub struct Range {
 }
 
 impl Range {
-    ghost use Rattle.lc_range.specs.Walk.{is_before, is_holding, joined};
+    ghost use Rattle.lc_range.specs.Walk.{is_before, is_continued, is_holding, joined};
 
     /// Whether it lies in an earlier segment, or in the same with a gap between.
     pub(crate) fn is_before(&self, other: &Range) -> bool
@@ -23,6 +23,14 @@ impl Range {
         self.segment < other.segment
             || self.segment == other.segment
                 && u64::from(self.offset) + u64::from(self.len) < u64::from(other.offset)
+    }
+
+    /// Whether the other begins in its segment, right where it ends.
+    pub(crate) fn is_continued(&self, other: &Range) -> bool
+        ensures { result ≡ is_continued self.now other.now }
+    {
+        self.segment == other.segment
+            && u64::from(self.offset) + u64::from(self.len) == u64::from(other.offset)
     }
 
     /// Whether it has each position of the other.

@@ -1,28 +1,32 @@
 //! A set's runs, walked and changed in place.
-ghost use Rattle.std.specs.Prelude.{◌≡◌, ◌+◌, ◌-◌, ◌^◌, ◌<◌, ◌≤◌, ◌∷◌, ◌++◌, IsTrue, false, length, take, drop};
+ghost use Rattle.std.specs.Prelude.{◌≡◌, ◌+◌, ◌-◌, ◌^◌, ◌<◌, ◌≤◌, ◌∷◌, ◌++◌, IsTrue, true, false, length, take, drop};
+ghost use Rattle.std.specs.List.Sorted.{IsPartitionPoint};
 ghost use Rattle.smallvec.specs.SmallVec.{small_vec_len};
-ghost use Rattle.lc_range.specs.RangeSet.{EndWithin};
-ghost use Rattle.lc_range.specs.Walk.{absorbed, merged, some_holds};
+ghost use Rattle.lc_range.specs.RangeSet.{EndWithin, IsCanonical};
+ghost use Rattle.lc_range.specs.Walk.{absorbed, is_before, merged, some_holds};
 
 use crate::Range;
 use crate::touched::Touched;
 use smallvec::SmallVec;
 
 /// How many of these runs, from the first on, lie before a range.
-fn count_before(runs: &[Range], range: &Range) -> usize
+pub fn count_before(runs: &[Range], range: &Range) -> usize
+    requires { IsCanonical runs.now }
     ensures within { result ≤ length runs.now }
+    ensures place { IsPartitionPoint (λ run. is_before run range.now ≡ true) (λ run. is_before run range.now ≡ false) runs.now result }
     ensures rest { take result runs.now ++ absorbed range.now (drop result runs.now) ≡ merged range.now runs.now }
 {
-    for (i, run) in runs.iter().enumerate() {
-        if !run.is_before(range) {
-            return i;
-        }
-    }
-    runs.len()
+    let range = *range;
+    runs.partition_point(
+        |run: &Range| -> bool
+            ensures { result ≡ is_before run.now range }
+        { run.is_before(&range) },
+    )
 }
 
 /// Whether a range overlaps or touches a run, so that no run more stands with it.
 pub fn is_touched(runs: &[Range], range: &Range) -> bool
+    requires { IsCanonical runs.now }
     ensures touched { IsTrue result → length (merged range.now runs.now) ≤ length runs.now }
     ensures apart { result ≡ false → length (merged range.now runs.now) ≡ length runs.now + 1 }
 {
@@ -32,6 +36,7 @@ pub fn is_touched(runs: &[Range], range: &Range) -> bool
 
 /// Which runs a range takes the place of, and joined to which run.
 pub fn touched(runs: &[Range], range: &Range) -> Touched
+    requires canonical { IsCanonical runs.now }
     requires ends { EndWithin runs.now (2 ^ 32 - 1) }
     requires end { range.now.offset + range.now.len < 2 ^ 32 }
     ensures ordered { result.start ≤ result.end }
@@ -63,12 +68,9 @@ pub fn replace(runs: &mut SmallVec<Range, 8>, start: usize, end: usize, run: Ran
 
 /// Whether some run has each position of a range.
 pub fn some_holds(runs: &[Range], range: &Range) -> bool
+    requires { IsCanonical runs.now }
     ensures { result ≡ some_holds runs.now range.now }
 {
-    for run in runs {
-        if run.is_holding(range) {
-            return true;
-        }
-    }
-    false
+    let place = count_before(runs, range);
+    place < runs.len() && runs[place].is_holding(range)
 }

@@ -99,14 +99,14 @@ fn old_bytes_come_back(rt: HostRuntime) -> Result<(), Fail> {
     let mut undo = Undo::new(rt.alloc());
     let mut one = [1, 2, 3, 4, 5, 6, 7, 8];
     let mut two = [11, 12, 13, 14];
-    undo.keep_old(rt.alloc(), &set, 1, 2, 3, &one)?;
+    undo.keep_old(&set, 1, 2, 3, &one)?;
     set.add(1, 8, 2, 3)?;
     one[2] = 90;
     one[4] = 91;
-    undo.keep_old(rt.alloc(), &set, 2, 0, 4, &two)?;
+    undo.keep_old(&set, 2, 0, 4, &two)?;
     set.add(2, 4, 0, 4)?;
     two = [92; 4];
-    undo.keep_old(rt.alloc(), &set, 1, 0, 8, &one)?;
+    undo.keep_old(&set, 1, 0, 8, &one)?;
     set.add(1, 8, 0, 8)?;
     one = [93; 8];
     undo.restore(1, &mut one);
@@ -133,30 +133,84 @@ fn refused_memory_leaves_the_set(rt: HostRuntime) -> Result<(), Fail> {
     Ok(())
 }
 
-// Where memory is refused what is kept is as before, and the next attempt keeps the bytes.
+// Where memory is refused what is kept is as before, and the next attempt keeps the bytes. More copies and bytes are
+// kept than lie in place, so that the lists of both ask for memory.
 #[test]
 fn refused_memory_leaves_the_old_bytes(rt: HostRuntime) -> Result<(), Fail> {
     let mut set = RangeSet::new(rt.alloc());
     for i in 0..10 {
-        if set.add(1, 64, 4 * i, 2).is_err() {
-            set.add(1, 64, 4 * i, 2)?;
+        if set.add(1, 160, 16 * i, 8).is_err() {
+            set.add(1, 160, 16 * i, 8)?;
         }
     }
     let mut undo = Undo::new(rt.alloc());
-    let mut image = [7; 64];
-    if undo.keep_old(rt.alloc(), &set, 1, 0, 64, &image).is_err() {
-        let mut blank = [0; 64];
-        undo.restore(1, &mut blank);
-        assert_eq!(rt; blank, [0; 64]);
-        undo.keep_old(rt.alloc(), &set, 1, 0, 64, &image)?;
+    let mut image = [7; 160];
+    if undo.keep_old(&set, 1, 0, 160, &image).is_err() {
+        assert_eq!(rt; (undo.copies(), undo.len()), (0, 0));
+        undo.keep_old(&set, 1, 0, 160, &image)?;
     }
-    for i in 0..64 {
+    assert_eq!(rt; (undo.copies(), undo.len()), (10, 80));
+    for i in 0..160 {
         image[i] = 9;
     }
     undo.restore(1, &mut image);
-    for i in 0..64 {
-        let is_set = i < 40 && i % 4 < 2;
+    for i in 0..160 {
+        let is_set = i % 16 < 8;
         assert_eq!(rt; image[i], if is_set { 9 } else { 7 }, "at {i}");
     }
+    Ok(())
+}
+
+// It passes whichever allocation is made to fail, since it makes none.
+#[test]
+fn a_small_transaction_takes_no_memory(rt: HostRuntime) -> Result<(), Fail> {
+    let mut set = RangeSet::new(rt.alloc());
+    let mut undo = Undo::new(rt.alloc());
+    let mut image = [1, 2, 3, 4, 5, 6, 7, 8];
+    undo.keep_old(&set, 1, 2, 5, &image)?;
+    set.add(1, 8, 2, 5)?;
+    image[2..7].copy_from_slice(b"hello");
+    undo.restore(1, &mut image);
+    assert_eq!(rt; image, [1, 2, 3, 4, 5, 6, 7, 8]);
+    Ok(())
+}
+
+// Where memory is refused the next attempt keeps the byte.
+#[test]
+fn bytes_in_a_row_are_one_copy(rt: HostRuntime) -> Result<(), Fail> {
+    let mut set = RangeSet::new(rt.alloc());
+    let mut undo = Undo::new(rt.alloc());
+    let mut image = [5; 16_384];
+    for at in 0..16_384 {
+        if undo.keep_old(&set, 1, at, 1, &image).is_err() {
+            undo.keep_old(&set, 1, at, 1, &image)?;
+        }
+        set.add(1, 16_384, at, 1)?;
+        image[at as usize] = 6;
+    }
+    assert_eq!(rt; (undo.copies(), undo.len()), (1, 16_384));
+    undo.restore(1, &mut image);
+    for at in 0..16_384 {
+        assert_eq!(rt; image[at], 5, "at {at}");
+    }
+    Ok(())
+}
+
+#[test]
+fn other_segments_and_gaps_keep_copies_apart(rt: HostRuntime) -> Result<(), Fail> {
+    let set = RangeSet::new(rt.alloc());
+    let mut undo = Undo::new(rt.alloc());
+    let image = [1, 2, 3, 4, 5, 6, 7, 8];
+    undo.keep_old(&set, 1, 0, 2, &image)?;
+    undo.keep_old(&set, 2, 2, 2, &image)?;
+    undo.keep_old(&set, 2, 5, 2, &image)?;
+    assert_eq!(rt; (undo.copies(), undo.len()), (3, 6));
+    undo.keep_old(&set, 2, 7, 1, &image)?;
+    assert_eq!(rt; (undo.copies(), undo.len()), (3, 7));
+    let mut blank = [0; 8];
+    undo.restore(2, &mut blank);
+    assert_eq!(rt; blank, [0, 0, 3, 4, 0, 6, 7, 8]);
+    undo.truncate(5);
+    assert_eq!(rt; (undo.copies(), undo.len()), (3, 5));
     Ok(())
 }

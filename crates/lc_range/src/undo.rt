@@ -1,21 +1,25 @@
 //! The old bytes of a transaction, which an abort puts back.
-ghost use Rattle.std.specs.Prelude.{◌≡◌, ◌+◌, ◌≤◌, ℕ, [], length, take, slice_index, unwrap_or, OnOk, OnErr};
-ghost use Rattle.lc_range.specs.RangeSet.{CountsOutside, MissesSome};
-ghost use Rattle.lc_range.specs.Undo.{KeepsOld, LiesBelow, bytes_kept, kept};
+ghost use Rattle.std.specs.Prelude.{◌≡◌, ◌+◌, ◌-◌, ◌^◌, ◌<◌, ◌≤◌, ℕ, [], length, min, slice_index, unwrap_or, OnOk, OnErr};
+ghost use Rattle.lc_range.specs.RangeSet.{CountsOutside, EndWithin, IsCanonical, MissesSome};
+ghost use Rattle.lc_range.specs.Undo.{AddsCopies, KeepsOld, LiesBelow, bytes_kept, first_bytes, kept};
+ghost use Rattle.lc_range.specs.Copies.{with_copies};
+ghost use Rattle.lc_range.specs.Walk.{parts, piece};
 
-use crate::copies::{keep, put_back};
-use crate::outside::{outside, total_len};
+use crate::copies::{add, cut_back, put_back};
+use crate::runs::count_before;
 use crate::{Range, RangeSet};
+use smallvec::SmallVec;
 use std::alloc::{AllocError, Global};
 use std::marker::Model;
 
 /// Copies of old bytes, which contracts see as a list of copies in the order in which they were made. `kept` says
-/// which byte is kept of a position: that of the first copy that has it. Idea: the old values that RVM keeps in
-/// memory for an abort (Satyanarayanan et al., TOCS 1994).
+/// which byte is kept of a position: that of the first copy that has it. Bytes that continue the last copy are added
+/// to it. It takes no memory for 8 copies of 64 bytes in all, for which it is 192 bytes large.
+/// Idea: the old values that RVM keeps in memory for an abort (Satyanarayanan et al., TOCS 1994).
 #[derive(Debug, Drop)]
 pub struct Undo {
-    ranges: Vec<Range>,
-    bytes: Vec<u8>,
+    ranges: SmallVec<Range, 8>,
+    bytes: SmallVec<u8, 64>,
 }
 
 impl Model for Undo {
@@ -37,38 +41,40 @@ impl Undo {
         ensures { result ≡ [] }
     {
         Undo {
-            ranges: Vec::new(alloc),
-            bytes: Vec::new(alloc),
+            ranges: SmallVec::new(alloc),
+            bytes: SmallVec::new(alloc),
         }
     }
 
     /// Keeps the bytes of `len` positions of a segment from `offset` on that are not in the set, as the segment's
-    /// image has them. What was kept before stays.
+    /// image has them. What was kept before stays. As in a `RangeSet`, no range ends behind 2^32 - 1.
     ///
     /// # Errors
     ///
     /// Where there is no memory; what is kept is then as before. Memory is wanted only where there is a byte to keep.
     pub fn keep_old(
         &mut self,
-        alloc: Global,
         set: &RangeSet,
         segment: u32,
         offset: u32,
         len: u32,
         image: &[u8],
     ) -> Result<(), AllocError>
-        requires { offset + len ≤ length image.now }
+        requires { offset + len ≤ min (length image.now) (2 ^ 32 - 1) }
 
         // Of each position: what was kept; else the image's byte, in the range and outside of the set; else nothing.
         ensures kept { OnOk result
             (KeepsOld self.old set.now segment offset len (slice_index image.now) self.new) }
 
-        // The copies that were there stand in front.
-        ensures front { OnOk result (take (length self.old) self.new ≡ self.old) }
+        // The bytes that were there stand in front, in the same copies.
+        ensures front { OnOk result (first_bytes (bytes_kept self.old) self.new ≡ self.old) }
 
         // Only those bytes are copied.
         ensures count { OnOk result ((n : ℕ) × CountsOutside set.now segment offset len n
             × (bytes_kept self.new ≡ bytes_kept self.old + n)) }
+
+        // Bytes in a row are one copy, and go to the last one where they continue it.
+        ensures copies { OnOk result (AddsCopies self.old set.now segment offset len self.new) }
 
         // What is kept stays below a bound, if the range does.
         ensures below { OnOk result ((s bound : ℕ) → LiesBelow self.old s bound
@@ -79,24 +85,91 @@ impl Undo {
         // Memory is wanted only for a copy.
         ensures memory { OnErr result (MissesSome set.now segment offset len) }
     {
-        let parts = outside(alloc, set.ranges(), segment, offset, len)?;
-        keep(&mut self.ranges, &mut self.bytes, parts.as_slice(), image)
+        let before = self.len();
+        let done = self.keep_outside(set.ranges(), segment, offset, offset + len, image);
+        if done.is_err() {
+            self.truncate(before);
+        }
+        done
+    }
+
+    // Keeps the bytes of the positions from one on up to another that no run has.
+    fn keep_outside(
+        &mut self,
+        runs: &[Range],
+        segment: u32,
+        offset: u32,
+        end: u32,
+        image: &[u8],
+    ) -> Result<(), AllocError>
+        requires canonical { IsCanonical runs.now }
+        requires ends { EndWithin runs.now (2 ^ 32 - 1) }
+        requires ordered { offset ≤ end }
+        requires within { end ≤ length image.now }
+        ensures ok { OnOk result (self.new ≡ with_copies self.old image.now (parts segment offset end runs.now)) }
+        ensures front { (n : ℕ) → n ≤ bytes_kept self.old → first_bytes n self.new ≡ first_bytes n self.old }
+        ensures memory { OnErr result (1 ≤ length (parts segment offset end runs.now)) }
+    {
+        let range = Range {
+            segment,
+            offset,
+            len: end - offset,
+        };
+        let mut from = offset;
+        for run in &runs[count_before(runs, &range)..] {
+            if range.is_before(run) {
+                break;
+            }
+            self.keep(segment, from, run.offset, image)?;
+            from = run.offset + run.len;
+        }
+        self.keep(segment, from, end, image)
+    }
+
+    // Keeps the bytes of the positions from one on up to another, if there are some.
+    fn keep(&mut self, segment: u32, from: u32, to: u32, image: &[u8]) -> Result<(), AllocError>
+        requires { to ≤ length image.now }
+        ensures ok { OnOk result (self.new ≡ with_copies self.old image.now (piece segment from to)) }
+        ensures err { OnErr result (self.new ≡ self.old) }
+        ensures memory { OnErr result (from < to) }
+    {
+        if from < to {
+            let range = Range {
+                segment,
+                offset: from,
+                len: to - from,
+            };
+            add(
+                &mut self.ranges,
+                &mut self.bytes,
+                range,
+                &image[from as usize..to as usize],
+            )?;
+        }
+        Ok(())
     }
 
     /// How many copies there are.
-    pub fn len(&self) -> usize
+    pub fn copies(&self) -> usize
         ensures { result ≡ length self.now }
     {
         self.ranges.len()
     }
 
-    /// Keeps the first `len` copies alone, or all where there are fewer. It takes no memory.
-    pub fn truncate(&mut self, len: usize)
-        ensures { self.new ≡ take len self.old }
+    /// How many bytes are kept.
+    pub fn len(&self) -> usize
+        ensures bytes { result ≡ bytes_kept self.now }
+        ensures all { first_bytes result self.now ≡ self.now }
     {
-        self.ranges.truncate(len);
-        let bytes = total_len(self.ranges.as_slice());
-        self.bytes.truncate(bytes);
+        self.bytes.len()
+    }
+
+    /// Keeps the first `len` bytes alone, or all where there are fewer. It takes no memory.
+    pub fn truncate(&mut self, len: usize)
+        ensures { self.new ≡ first_bytes len self.old }
+    {
+        cut_back(&mut self.ranges, self.bytes.len(), len);
+        self.bytes.truncate(len);
     }
 
     /// Puts the bytes that are kept of a segment back into its image. It takes no memory.

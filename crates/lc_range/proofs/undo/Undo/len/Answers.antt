@@ -1,6 +1,12 @@
-use Rattle.std.proofs.Common.{length, ap, arith}
-use Rattle.lc_range.proofs.RoomLemmas.{length_copies}
+use Rattle.std.proofs.Common.{List, ap, subst, arith, ◌≡◌}
+use Rattle.lc_range.specs.Undo.{OldBytes, bytes_kept, first_bytes}
+use Rattle.lc_range.proofs.CutLemmas.{bytes_in, first_all}
 use Rattle.lc_range.proofs.undo.Undo.len.Goals as goal
 
-pub returns : goal.returns
-returns c = omega (arith, c.len.ensures, length_copies c.self.inside.ranges.items c.self.inside.bytes.items, ap length c.self.view_is)
+pub returns-clause-bytes : goal.returns-clause-bytes
+returns-clause-bytes c = omega (arith, c.len.ensures.value, bytes_in c.self.inside.ranges.items c.self.inside.bytes.items c.self.invariant.whole, c.self.invariant.whole, ap bytes_kept c.self.view_is)
+
+pub returns-clause-all : goal.returns-clause-all
+returns-clause-all c =
+    subst (λ (l : List OldBytes). first_bytes c.len.result l ≡ l) c.self.view_is
+    (first_all c.len.result c.self.inside.ranges.items c.self.inside.bytes.items c.self.invariant (omega (arith, c.len.ensures.value)))

@@ -1,18 +1,16 @@
-use Rattle.std.proofs.Common.{ap, ◌∙◌, arith}
-use Rattle.lc_range.specs.RangeSet.{total_len}
-use Rattle.lc_range.proofs.RoomLemmas.{total_front, copies_kept, view_front}
+use Rattle.std.proofs.Common.{List, ℕ, ap, subst, sym, ◌∙◌}
+use Rattle.lc_range.specs.Undo.{first_bytes}
+use Rattle.lc_range.specs.Copies.{AreCopies, copies_of, first_ranges}
+use Rattle.lc_range.specs.declared.range.Range.{Range}
+use Rattle.lc_range.proofs.CutLemmas.{are_first, copies_first}
 use Rattle.lc_range.proofs.undo.Undo.truncate.Goals as goal
-
-pub total_len-bytes-requires : goal.total_len-bytes-requires
-total_len-bytes-requires c =
-    omega (arith, ap total_len (c.as_slice.ensures.value ∙ c.truncate.ensures.items), total_front c.args.len c.self.inside.ranges.items, c.self.invariant.whole)
 
 pub invariant_of-self : goal.invariant_of-self
 invariant_of-self c =
-    copies_kept c.args.len c.total_len-bytes.result c.self.inside.ranges.items c.truncate.new.self.items c.self.inside.bytes.items c.truncate-2.new.self.items
-    c.truncate.ensures.items (c.total_len-bytes.ensures ∙ ap total_len c.as_slice.ensures.value) c.truncate-2.ensures.items c.self.invariant
+    subst (λ (l : List Range). AreCopies l c.truncate.new.self.items) (sym c.cut_back.ensures)
+    (subst (λ (b : List ℕ). AreCopies (first_ranges c.args.len c.self.inside.ranges.items) b) (sym c.truncate.ensures.items) (are_first c.args.len c.self.inside.ranges.items c.self.inside.bytes.items c.self.invariant))
 
 pub returns : goal.returns
 returns c =
-    view_front c.args.len c.total_len-bytes.result c.self.inside.ranges.items c.truncate.new.self.items c.self.inside.bytes.items c.truncate-2.new.self.items
-    c.truncate.ensures.items (c.total_len-bytes.ensures ∙ ap total_len c.as_slice.ensures.value) c.truncate-2.ensures.items c.args.self.now c.self.view_is
+    ap (λ (l : List Range). copies_of l c.truncate.new.self.items) c.cut_back.ensures ∙ ap (copies_of (first_ranges c.args.len c.self.inside.ranges.items)) c.truncate.ensures.items
+    ∙ copies_first c.args.len c.self.inside.ranges.items c.self.inside.bytes.items c.self.invariant.whole ∙ ap (first_bytes c.args.len) c.self.view_is
