@@ -47,10 +47,10 @@ pub(crate) fn measure<R: AllocGlobal + Clock + Print>(rt: &R, ranges: u32) -> io
 
 // How many words the record of a transaction of so many ranges has.
 fn committed(alloc: Global, segment: &mut OneSegment, ranges: u32) -> Result<usize, TxFault> {
-    let mut tx = Tx::begin(alloc, segment, 0, &[1])?;
+    let mut tx = Tx::begin(alloc, segment, 0, &[1], &[])?;
     for range in 0..ranges {
         let offset = range.wrapping_mul(STRIDE);
-        tx.set_range(alloc, segment, 1, offset, DATA.len() as u32)?;
+        tx.set_range(segment, 1, offset, DATA.len() as u32)?;
         tx.write(segment, 1, offset, DATA)?;
     }
     if segment.image.bytes().len() > SEGMENT_BYTES {

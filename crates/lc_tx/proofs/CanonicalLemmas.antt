@@ -98,7 +98,7 @@ module _ {I : Type 0} (m : Ghosts I) (images : I) where
       let bytes = bytes_of m images run.segment in
       length-take-le run.len (drop run.offset bytes) (omega (arith, length-drop run.offset bytes, inside))
 
-  each_range : (runs : List Range) → IsCanonical runs → AreInside m images runs → EndWithin runs 16384 → AllByRecursion (λ it. AreBytes it.bytes) (map datum runs) → AllByRecursion IsRange (map datum runs)
+  each_range : (runs : List Range) → IsCanonical runs → AreInside m images runs → EndWithin runs 262144 → AllByRecursion (λ it. AreBytes it.bytes) (map datum runs) → AllByRecursion IsRange (map datum runs)
   each_range [] c inside short fit = tt
   each_range (run ∷ runs) c inside short fit =
       ((omega (arith, c.0, long run inside.0.1), omega (arith, short.0, long run inside.0.1), fit.0), each_range runs c.2 inside.1 short.1 fit.1)
@@ -110,7 +110,7 @@ module _ {I : Type 0} (m : Ghosts I) (images : I) where
       (elim c.1.0 [ inl less ↦ inl less | inr same ↦ inr (same.0, omega (arith, same.1, long run inside.0.1)) ], ranges_ascend (next ∷ runs) c.2 inside.1)
 
   pub has_spelling : (node : ℕ) (runs : List Range) → (runs ≡ [] → ⊥) → node ≤ 7 → IsCanonical runs → length runs ≤ 64 → AllByRecursion InStore runs
-      → AreUnspent (map lock (segments_of runs)) → AreInside m images runs → EndWithin runs 16384 → AllByRecursion (λ it. AreBytes it.bytes) (map datum runs)
+      → AreUnspent (map lock (segments_of runs)) → AreInside m images runs → EndWithin runs 262144 → AllByRecursion (λ it. AreBytes it.bytes) (map datum runs)
       → HasSpelling (record { node = node; locks = map lock (segments_of runs); ranges = map datum runs })
   has_spelling node [] some small c many store low inside short fit = absurd (some refl)
   has_spelling node (run ∷ runs) some small c many store low inside short fit =

@@ -3,25 +3,21 @@ use Rattle.std.proofs.Common.{◌≡◌, ℕ, ◌<◌, ◌≤◌, List, length, 
 use Rattle.std.specs.Prelude.{◌↔◌, Result, Ok, Err}
 use Rattle.lc_range.specs.RangeSet.{IsCanonical, EndWithin}
 use Rattle.lc_range.specs.declared.range.Range.{Range}
-use Rattle.lc_record.specs.Record.{record_len}
-use Rattle.lc_record.specs.declared.record.Record.{Record}
-use Rattle.lc_record.specs.declared.record.Lock.{Lock}
-use Rattle.lc_record.specs.declared.record.RangeData.{RangeData}
+use Rattle.lc_record.specs.Layout.{layout_len}
+use Rattle.lc_record.specs.Record.{record_layout, record_len, spelling, IsRecord}
+use Rattle.lc_record.specs.declared.layout.Layout.{Layout}
 use Rattle.lc_tx.specs.declared.images.Images.{Ghosts}
 use Rattle.lc_tx.specs.declared.tx.Tx.{Tx}
 use Rattle.lc_tx.specs.declared.tx_fault.TxFault.{TxFault}
 use Rattle.lc_tx.specs.Images.{bytes_of}
-use Rattle.lc_tx.specs.Prepared.{AreSmall, AreUnspent, IsFirstSpent, IsLoggable, final_record}
+use Rattle.lc_tx.specs.Prepared.{AreSmall, AreUnspent, IsFirstSpent, IsLoggable, final_record, runs_record, run_data}
 use Rattle.lc_tx.specs.Tx.{RunsOn}
-use Rattle.lc_tx.specs.Walk.{words_of, spent_in, AreFromOne, AreInside}
-use Rattle.lc_tx.proofs.RecordLemmas.{spent_is, unspent_from, spent_not_unspent, len_is, inside_from, short_from, from_one}
-
--- records with the same parts
-pub same_record : (a b : Record) → a.node ≡ b.node → a.locks ≡ b.locks → a.ranges ≡ b.ranges → a ≡ b
-same_record a b one two three =
-    ap (λ (n : ℕ). record { node = n; locks = a.locks; ranges = a.ranges }) one
-    ∙ ap (λ (l : List Lock). record { node = b.node; locks = l; ranges = a.ranges }) two
-    ∙ ap (λ (l : List RangeData). record { node = b.node; locks = b.locks; ranges = l }) three
+use Rattle.lc_tx.specs.Walk.{runs_layout, spent_in, AreFromOne, AreInside}
+use Rattle.std.specs.Prelude.{map}
+use Rattle.std.specs.List.{AllByRecursion}
+use Rattle.lc_record.specs.Words.{AreBytes}
+use Rattle.lc_tx.proofs.CanonicalLemmas.{has_spelling, in_store}
+use Rattle.lc_tx.proofs.RecordLemmas.{spent_is, unspent_from, spent_not_unspent, layout_is, inside_from, short_from, from_one}
 
 -- a refusal that is handed on
 pub handed_on : {A B P : Type 0} (one : Result A TxFault) (other : Result B TxFault) (fault x : TxFault) → one ≡ Err fault → other ≡ Err fault → (one ≡ Err x) ↔ P → (other ≡ Err x) ↔ P
@@ -30,11 +26,11 @@ handed_on one other fault x was is told = (
   λ p. (let e : one ≡ Err x = told.1 p in let same : fault ≡ x = cc in is ∙ ap (λ (f : TxFault). Err f) same),
 )
 
--- where a number of words is told, the record may be logged
-pub loggable : {I : Type 0} (m : Ghosts I) (images : I) (tx : Tx) (node : ℕ) (told : Result (Option ℕ) TxFault) (found : Option ℕ) (n : ℕ)
-    → ((node words : ℕ) → (told ≡ Ok (Some words)) ↔ (IsLoggable m images tx node × (words ≡ record_len (final_record m images tx node))))
-    → told ≡ Ok found → found ≡ Some n → IsLoggable m images tx node
-loggable m images tx node told found n tells was is = ((tells node n).0 (was ∙ ap (λ (o : Option ℕ). Ok o) is)).0
+-- where a layout is told, the record may be logged, and is laid out so
+pub loggable : {I : Type 0} (m : Ghosts I) (images : I) (tx : Tx) (node : ℕ) (told : Result (Option Layout) TxFault) (found : Option Layout) (layout : Layout)
+    → ((node : ℕ) (layout : Layout) → (told ≡ Ok (Some layout)) ↔ (IsLoggable m images tx node × (layout ≡ record_layout (final_record m images tx node))))
+    → told ≡ Ok found → found ≡ Some layout → IsLoggable m images tx node × (layout ≡ record_layout (final_record m images tx node))
+loggable m images tx node told found layout tells was is = (tells node layout).0 (was ∙ ap (λ (o : Option Layout). Ok o) is)
 
 module _ {I : Type 0} (m : Ghosts I) (images : I) (tx : Tx) (runs : List Range) (same : runs ≡ tx.set) where
   first : (node : ℕ) (found : Option ℕ) → found ≡ spent_in m images runs → (s : ℕ) → (found ≡ Some s) ↔ IsFirstSpent (final_record m images tx node).locks s
@@ -62,17 +58,31 @@ module _ {I : Type 0} (m : Ghosts I) (images : I) (tx : Tx) (runs : List Range) 
     pub runs_inside : AreInside m images runs
     runs_inside = subst (λ (l : List Range). AreInside m images l) (sym same) inside
 
-    pub len : (node : ℕ) → record_len (final_record m images tx node) ≡ words_of runs
-    len node = len_is m images tx node inside ∙ ap words_of (sym same)
+    pub laid : (node : ℕ) → record_layout (final_record m images tx node) ≡ runs_layout runs
+    laid node = layout_is m images tx.set node inside ∙ ap runs_layout (sym same)
+
+    pub len : (node : ℕ) → record_len (final_record m images tx node) ≡ layout_len (runs_layout runs)
+    len node = ap layout_len (laid node)
 
     module _ (small : AreSmall m images tx.locked.items) where
-      pub runs_short : EndWithin runs 16384
+      pub runs_short : EndWithin runs 262144
       runs_short =
-          subst (λ (l : List Range). EndWithin l 16384) (sym same)
-          (short_from tx.set 16384 canonical (λ s k h. below k (length (bytes_of m images s)) (on.set_inside s k h) (small.short s (on.set_locked s k h))))
+          subst (λ (l : List Range). EndWithin l 262144) (sym same)
+          (short_from tx.set 262144 canonical (λ s k h. below k (length (bytes_of m images s)) (on.set_inside s k h) (small.short s (on.set_locked s k h))))
         where
-          below : (k n : ℕ) → k < n → n ≤ 16384 → k < 16384
+          below : (k n : ℕ) → k < n → n ≤ 262144 → k < 262144
           below k n one two = omega arith
 
       pub runs_from_one : AreFromOne runs
       runs_from_one = subst (λ (l : List Range). AreFromOne l) (sym same) (from_one tx.set canonical (λ s k h. small.some s (on.set_locked s k h)))
+
+      -- the words of a record that may be logged are its spelling
+      pub is_record : (node : ℕ) (words : List ℕ) → node ≤ 7 → length tx.set ≤ 64 → IsLoggable m images tx node → words ≡ spelling (runs_record m images runs node)
+          → AllByRecursion (λ it. AreBytes it.bytes) (map (run_data m images) runs) → IsRecord (final_record m images tx node) words
+      is_record node words low few may is fit = record {
+        canonical = has_spelling m images node tx.set may.some low canonical few
+            (in_store tx.set canonical (λ s k h. (let lock = on.set_locked s k h in (small.some s lock, small.few s lock)))) may.unspent inside (subst (λ (l : List Range). EndWithin l 262144) same runs_short)
+            (subst (λ (l : List Range). AllByRecursion (λ it. AreBytes it.bytes) (map (run_data m images) l)) same fit);
+        short = may.short;
+        spelled = is ∙ ap (λ (l : List Range). spelling (runs_record m images l node)) same;
+      }

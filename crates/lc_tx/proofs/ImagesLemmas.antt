@@ -1,13 +1,18 @@
 -- How images change, a segment after another.
-use Rattle.std.proofs.Common.{◌≡◌, ◌≢◌, ℕ, ◌<◌, ◌≤◌, min, true, List, [], ◌∷◌, ◌++◌, length, Option, None, Some, unwrap_or, refl, sym, ap, subst, ◌∙◌, inl, inr, arith}
-use Rattle.std.specs.Prelude.{◌↔◌, IsSome, MatchOption, slice_index}
-use Rattle.std.proofs.lemmas.Bool.{cases_Bool, cases_eq, cases_lt, false≢true}
+use Rattle.std.proofs.Common.{◌≡◌, ◌≢◌, ℕ, true, List, [], ◌∷◌, ◌++◌, length, Option, unwrap_or, refl, sym, ap, subst, ◌∙◌, inl, inr}
+use Rattle.std.specs.Prelude.{IsSome, None, Some, slice_index}
+use Rattle.std.proofs.lemmas.Bool.{cases_Bool, cases_eq, false≢true}
 use Rattle.lc_record.specs.Transaction.{is_member}
 use Rattle.lc_range.specs.Undo.{OldBytes, kept}
 use Rattle.lc_tx.specs.declared.images.Images.{Ghosts}
 use Rattle.lc_tx.specs.declared.image.Image.{Image as Picture}
-use Rattle.lc_tx.specs.Images.{IsHere, IsFree, bytes_of, IsFirstTaken, IsSameBut, IsSame, AreHeldBy, AreRestored}
-use Rattle.lc_tx.proofs.MemberLemmas.{member_left, member_last, member_push, no_member_push, not_one, one_is}
+use Rattle.lc_tx.specs.declared.lock_mode.LockMode.{LockMode}
+use Rattle.lc_tx.specs.Holders.{Leaves}
+use Rattle.lc_tx.specs.Images.{IsHere, bytes_of, IsSameBut, IsSame}
+use Rattle.lc_tx.specs.LockMode.{Allow, Takes}
+use Rattle.lc_tx.specs.Locking.{AreBack, AreLeft, AreTaken, CanLock}
+use Rattle.lc_tx.proofs.HolderLemmas.{leaves_twice, takes_twice}
+use Rattle.lc_tx.proofs.MemberLemmas.{member_push, neither, no_member_push, not_one, one_is}
 
 -- the laws of images
 pub record ImageLaws {I : Type 0} (m : Ghosts I) : Type 0 where
@@ -19,21 +24,27 @@ pub record ImageLaws {I : Type 0} (m : Ghosts I) : Type 0 where
   pub beside_image : (s : I) (segment : ℕ) (image : Picture) → IsSome (m.number_of s segment) → m.IsSameBeside s (m.with_image s segment image)
   pub beside_chained : (s t u : I) → m.IsSameBeside s t → m.IsSameBeside t u → m.IsSameBeside s u
 
--- what became of the image of a segment that is held, and of one that is restored
-abbrev pub Held : Option ℕ → ℕ → Picture → Picture → Type 0
-Held holder segment old new = (new.holder ≡ holder) × (new.bytes.items ≡ old.bytes.items)
+-- what became of the image of a segment that is locked, of one whose lock is given back, and of one that is restored
+abbrev pub Taken : LockMode → ℕ → ℕ → Picture → Picture → Type 0
+Taken mode thread segment old new = Takes mode thread old.holders new.holders × (new.bytes.items ≡ old.bytes.items)
 
-abbrev pub Restored : List OldBytes → ℕ → Picture → Picture → Type 0
-Restored copies segment old new =
-    (new.holder ≡ None) × (length new.bytes.items ≡ length old.bytes.items)
+abbrev pub Left : ℕ → ℕ → Picture → Picture → Type 0
+Left thread segment old new = Leaves thread old.holders new.holders × (new.bytes.items ≡ old.bytes.items)
+
+abbrev pub Back : List OldBytes → ℕ → Picture → Picture → Type 0
+Back copies segment old new =
+    (new.holders ≡ old.holders) × (length new.bytes.items ≡ length old.bytes.items)
     × ((k : ℕ) → slice_index new.bytes.items k ≡ unwrap_or (kept copies segment k) (slice_index old.bytes.items k))
 
-held_twice : (holder : Option ℕ) (s : ℕ) (a b c : Picture) → Held holder s a b → Held holder s b c → Held holder s a c
-held_twice holder s a b c one two = (two.0, two.1 ∙ one.1)
+taken_twice : (mode : LockMode) (thread s : ℕ) (a b c : Picture) → Taken mode thread s a b → Taken mode thread s b c → Taken mode thread s a c
+taken_twice mode thread s a b c one two = (takes_twice mode thread a.holders b.holders c.holders one.0 two.0, two.1 ∙ one.1)
 
-restored_twice : (copies : List OldBytes) (s : ℕ) (a b c : Picture) → Restored copies s a b → Restored copies s b c → Restored copies s a c
-restored_twice copies s a b c one two =
-    (two.0, two.1 ∙ one.1, λ k. two.2 k ∙ ap (unwrap_or (kept copies s k)) (one.2 k) ∙ twice (kept copies s k) (slice_index a.bytes.items k))
+left_twice : (thread s : ℕ) (a b c : Picture) → Left thread s a b → Left thread s b c → Left thread s a c
+left_twice thread s a b c one two = (leaves_twice thread a.holders b.holders c.holders one.0 two.0, two.1 ∙ one.1)
+
+back_twice : (copies : List OldBytes) (s : ℕ) (a b c : Picture) → Back copies s a b → Back copies s b c → Back copies s a c
+back_twice copies s a b c one two =
+    (two.0 ∙ one.0, two.1 ∙ one.1, λ k. two.2 k ∙ ap (unwrap_or (kept copies s k)) (one.2 k) ∙ twice (kept copies s k) (slice_index a.bytes.items k))
   where
     twice : (o : Option ℕ) (x : ℕ) → unwrap_or o (unwrap_or o x) ≡ unwrap_or o x
     twice None x = refl
@@ -44,16 +55,14 @@ module _ {I : Type 0} (m : Ghosts I) where
   abbrev pub EachIs : (ℕ → Picture → Picture → Type 0) → List ℕ → I → I → Type 0
   EachIs R segments old new = IsSameBut m segments old new × ((s : ℕ) → is_member s segments ≡ true → R s (m.image_of old s) (m.image_of new s))
 
-  -- the least of these that is not free, if one is not
-  abbrev pub FirstIs : I → List ℕ → Option ℕ → Type 0
-  FirstIs images segments None = (s : ℕ) → is_member s segments ≡ true → IsFree m images s
-  FirstIs images segments (Some first) = IsFirstTaken m images segments first
+  pub taken_from : (mode : LockMode) (thread : ℕ) (segments : List ℕ) (old new : I) → EachIs (Taken mode thread) segments old new → AreTaken m mode thread segments old new
+  taken_from mode thread segments old new each = record { same = each.0; takes = λ s e. (each.1 s e).0; same_bytes = λ s e. (each.1 s e).1 }
 
-  pub held_from : (holder : Option ℕ) (segments : List ℕ) (old new : I) → EachIs (Held holder) segments old new → AreHeldBy m holder segments old new
-  held_from holder segments old new each = record { same = each.0; holder_is = λ s e. (each.1 s e).0; same_bytes = λ s e. (each.1 s e).1 }
+  pub left_from : (thread : ℕ) (segments : List ℕ) (old new : I) → EachIs (Left thread) segments old new → AreLeft m thread segments old new
+  left_from thread segments old new each = record { same = each.0; leaves = λ s e. (each.1 s e).0; same_bytes = λ s e. (each.1 s e).1 }
 
-  pub restored_from : (copies : List OldBytes) (segments : List ℕ) (old new : I) → EachIs (Restored copies) segments old new → AreRestored m copies segments old new
-  restored_from copies segments old new each = record { same = each.0; holder_is = λ s e. (each.1 s e).0; same_length = λ s e. (each.1 s e).1; bytes_are = λ s k e. (each.1 s e).2 k }
+  pub back_from : (copies : List OldBytes) (segments : List ℕ) (old new : I) → EachIs (Back copies) segments old new → AreBack m copies segments old new
+  back_from copies segments old new each = record { same = each.0; same_holders = λ s e. (each.1 s e).0; same_length = λ s e. (each.1 s e).1; bytes_are = λ s k e. (each.1 s e).2 k }
 
   pub here_along : (segments : List ℕ) (old new : I) (s : ℕ) → IsSameBut m segments old new → IsHere m old s → IsHere m new s
   here_along segments old new s same here = subst (λ (o : Option ℕ). IsSome o) (sym (same.numbers s)) here
@@ -61,66 +70,21 @@ module _ {I : Type 0} (m : Ghosts I) where
   pub here_back : (segments : List ℕ) (old new : I) (s : ℕ) → IsSameBut m segments old new → IsHere m new s → IsHere m old s
   here_back segments old new s same here = subst (λ (o : Option ℕ). IsSome o) (same.numbers s) here
 
-  pub free_along : (old new : I) (s : ℕ) → IsSame m old new → IsFree m old s → IsFree m new s
-  free_along old new s same free = (here_along [] old new s same free.0, ap (λ (p : Picture). p.holder) (same.others s free.0 refl) ∙ free.1)
+  pub lock_along : (mode : LockMode) (old new : I) (s : ℕ) → IsSame m old new → CanLock m mode old s → CanLock m mode new s
+  lock_along mode old new s same can = (here_along [] old new s same can.0, subst (λ (p : Picture). Allow mode p.holders) (sym (same.others s can.0 refl)) can.1)
 
-  pub free_back : (old new : I) (s : ℕ) → IsSame m old new → IsFree m new s → IsFree m old s
-  free_back old new s same free =
-      let here : IsHere m old s = here_back [] old new s same free.0 in (here, ap (λ (p : Picture). p.holder) (sym (same.others s here refl)) ∙ free.1)
+  pub lock_back : (mode : LockMode) (old new : I) (s : ℕ) → IsSame m old new → CanLock m mode new s → CanLock m mode old s
+  lock_back mode old new s same can =
+      let here : IsHere m old s = here_back [] old new s same can.0 in (here, subst (λ (p : Picture). Allow mode p.holders) (same.others s here refl) can.1)
 
-  -- The first that is taken
-
-  pub first_free : (images : I) (xs : List ℕ) (x : ℕ) (first : Option ℕ) → FirstIs images xs first → IsFree m images x → FirstIs images (xs ++ x ∷ []) first
-  first_free images xs x None all free = λ s e. elim (member_push s x xs e) [
-    | inl early ↦ all s early
-    | inr same ↦ subst (λ (n : ℕ). IsFree m images n) same free
-  ]
-  first_free images xs x (Some first) is free = record {
-    member = member_left first xs (x ∷ []) is.member;
-    taken = is.taken;
-    least = λ s e less. elim (member_push s x xs e) [ inl early ↦ is.least s early less | inr same ↦ subst (λ (n : ℕ). IsFree m images n) same free ];
+  -- what changes some segments, and then others, changes both
+  pub both_changed : (xs ys : List ℕ) (old mid new : I) → ((s t u : I) → m.IsSameBeside s t → m.IsSameBeside t u → m.IsSameBeside s u)
+      → IsSameBut m xs old mid → IsSameBut m ys mid new → IsSameBut m (xs ++ ys) old new
+  both_changed xs ys old mid new chain one two = record {
+    numbers = λ s. two.numbers s ∙ one.numbers s;
+    others = λ s here not. let p = neither s xs ys not in two.others s (here_along xs old mid s one here) p.1 ∙ one.others s here p.0;
+    beside = chain old mid new one.beside two.beside;
   }
-
-  pub first_more : (images : I) (xs : List ℕ) (x next : ℕ) (first : Option ℕ) → FirstIs images xs first → (IsFree m images x → ⊥)
-      → MatchOption first (next ≡ x) (λ n. next ≡ min n x) → FirstIs images (xs ++ x ∷ []) (Some next)
-  first_more images xs x next None all taken is = subst (λ (n : ℕ). IsFirstTaken m images (xs ++ x ∷ []) n) (sym is) (record {
-    member = member_last x xs;
-    taken = taken;
-    least = λ s e less. elim (member_push s x xs e) [ inl early ↦ all s early | inr same ↦ absurd (omega (arith, same, less)) ];
-  })
-  first_more images xs x next (Some first) old taken is = elim (cases_lt x first) [
-    | inl less ↦ subst (λ (n : ℕ). IsFirstTaken m images (xs ++ x ∷ []) n) (sym (is ∙ right first x less)) (record {
-      member = member_last x xs;
-      taken = taken;
-      least = λ s e below. elim (member_push s x xs e) [ inl early ↦ old.least s early (omega (arith, below, less)) | inr same ↦ absurd (omega (arith, same, below)) ];
-    })
-    | inr most ↦ subst (λ (n : ℕ). IsFirstTaken m images (xs ++ x ∷ []) n) (sym (is ∙ left first x most)) (record {
-      member = member_left first xs (x ∷ []) old.member;
-      taken = old.taken;
-      least = λ s e below. elim (member_push s x xs e) [ inl early ↦ old.least s early below | inr same ↦ absurd (omega (arith, same, below, most)) ];
-    })
-  ]
-    where
-      right : (a b : ℕ) → b < a → min a b ≡ b
-      right a b less = omega arith
-
-      left : (a b : ℕ) → a ≤ b → min a b ≡ a
-      left a b less = omega arith
-
-  pub one_first : (images : I) (xs : List ℕ) (a b : ℕ) → IsFirstTaken m images xs a → IsFirstTaken m images xs b → a ≡ b
-  one_first images xs a b one two = elim (cases_lt a b) [
-    | inl less ↦ absurd (one.taken (two.least a one.member less))
-    | inr most ↦ elim (cases_lt b a) [ inl less ↦ absurd (two.taken (one.least b two.member less)) | inr least ↦ omega (arith, most, least) ]
-  ]
-
-  pub first_is : (images : I) (xs : List ℕ) (first : Option ℕ) → FirstIs images xs first → (s : ℕ) → (first ≡ Some s) ↔ IsFirstTaken m images xs s
-  first_is images xs None all s = (λ e. absurd cc, λ is. absurd (is.taken (all s is.member)))
-  first_is images xs (Some first) is s =
-      (λ e. let same : first ≡ s = cc in subst (λ (n : ℕ). IsFirstTaken m images xs n) same is, λ other. ap (λ (n : ℕ). Some n) (one_first images xs first s is other))
-
-  pub none_first : (images : I) (xs : List ℕ) (first : Option ℕ) → FirstIs images xs first → first ≡ None → (s : ℕ) → is_member s xs ≡ true → IsFree m images s
-  none_first images xs None all e = all
-  none_first images xs (Some first) is e = absurd cc
 
   module _ (laws : ImageLaws m) where
     pub same_itself : (segments : List ℕ) (s : I) → IsSameBut m segments s s
@@ -183,16 +147,20 @@ module _ {I : Type 0} (m : Ghosts I) where
           ],
         )
 
-    pub held_more : (holder : Option ℕ) (xs : List ℕ) (x : ℕ) (old mid : I) (image : Picture) → ((s : ℕ) → is_member s xs ≡ true → IsHere m old s) → IsHere m mid x
-        → EachIs (Held holder) xs old mid → Held holder x (m.image_of mid x) image → EachIs (Held holder) (xs ++ x ∷ []) old (m.with_image mid x image)
-    held_more holder = each_more (Held holder) (held_twice holder)
+    pub taken_more : (mode : LockMode) (thread : ℕ) (xs : List ℕ) (x : ℕ) (old mid : I) (image : Picture) → ((s : ℕ) → is_member s xs ≡ true → IsHere m old s) → IsHere m mid x
+        → EachIs (Taken mode thread) xs old mid → Taken mode thread x (m.image_of mid x) image → EachIs (Taken mode thread) (xs ++ x ∷ []) old (m.with_image mid x image)
+    taken_more mode thread = each_more (Taken mode thread) (taken_twice mode thread)
 
-    pub restored_more : (copies : List OldBytes) (xs : List ℕ) (x : ℕ) (old mid : I) (image : Picture) → ((s : ℕ) → is_member s xs ≡ true → IsHere m old s) → IsHere m mid x
-        → EachIs (Restored copies) xs old mid → Restored copies x (m.image_of mid x) image → EachIs (Restored copies) (xs ++ x ∷ []) old (m.with_image mid x image)
-    restored_more copies = each_more (Restored copies) (restored_twice copies)
+    pub left_more : (thread : ℕ) (xs : List ℕ) (x : ℕ) (old mid : I) (image : Picture) → ((s : ℕ) → is_member s xs ≡ true → IsHere m old s) → IsHere m mid x
+        → EachIs (Left thread) xs old mid → Left thread x (m.image_of mid x) image → EachIs (Left thread) (xs ++ x ∷ []) old (m.with_image mid x image)
+    left_more thread = each_more (Left thread) (left_twice thread)
+
+    pub back_more : (copies : List OldBytes) (xs : List ℕ) (x : ℕ) (old mid : I) (image : Picture) → ((s : ℕ) → is_member s xs ≡ true → IsHere m old s) → IsHere m mid x
+        → EachIs (Back copies) xs old mid → Back copies x (m.image_of mid x) image → EachIs (Back copies) (xs ++ x ∷ []) old (m.with_image mid x image)
+    back_more copies = each_more (Back copies) (back_twice copies)
 
     -- a segment's bytes are as many as before
-    pub same_len : (copies : List OldBytes) (xs : List ℕ) (x : ℕ) (old mid : I) → IsHere m old x → EachIs (Restored copies) xs old mid → length (bytes_of m mid x) ≡ length (bytes_of m old x)
+    pub same_len : (copies : List OldBytes) (xs : List ℕ) (x : ℕ) (old mid : I) → IsHere m old x → EachIs (Back copies) xs old mid → length (bytes_of m mid x) ≡ length (bytes_of m old x)
     same_len copies xs x old mid here each = elim (cases_Bool (is_member x xs)) [
       | inl was ↦ (each.1 x was).1
       | inr not ↦ ap (λ (p : Picture). length p.bytes.items) (each.0.others x here not)

@@ -1,9 +1,17 @@
+pub mod ReaderLemmas
+pub mod HolderLemmas
 pub mod MemberLemmas
 pub mod PutLemmas
 pub mod ImagesLemmas
+pub mod ShutLemmas
+pub mod HoldsLemmas
+pub mod LockedLemmas
+pub mod BeginLemmas
 pub mod SetLemmas
 pub mod RunLemmas
+pub mod SpellLemmas
 pub mod RecordLemmas
+pub mod CanonicalLemmas
 pub mod EndLemmas
 pub mod TwoLemmas
 pub mod MarkLemmas
@@ -11,4 +19,3 @@ pub mod DataLemmas
 pub mod StandsLemmas
 pub mod AscendLemmas
 pub mod BesideLemmas
-pub mod CanonicalLemmas

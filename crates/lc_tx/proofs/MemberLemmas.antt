@@ -1,7 +1,9 @@
 -- Members of lists.
-use Rattle.std.proofs.Common.{◌≡◌, ◌⊎◌, ℕ, zero, suc, ◌<◌, true, false, eqb, List, [], ◌∷◌, ◌++◌, length, take, get_or, refl, sym, subst, ◌∙◌, inl, inr, arith}
-use Rattle.std.proofs.lemmas.Bool.{cases_Bool, false≢true, eqb-true, eq-eqb, ne_eqb, or_cases, or_from, or_left, or_right}
+use Rattle.std.proofs.Common.{◌≡◌, ◌⊎◌, ℕ, zero, suc, ◌<◌, Bool, true, false, not, ◌||◌, eqb, List, [], ◌∷◌, ◌++◌, length, take, get_or, refl, sym, ap, subst, ◌∙◌, inl, inr, arith}
+use Rattle.std.proofs.lemmas.Bool.{cases_Bool, false≢true, eqb-true, eq-eqb, ne_eqb, or_cases, or_from, or_left, or_right, false_from_ne_true}
+use Rattle.std.specs.Prelude.{if◌then◌else◌}
 use Rattle.lc_record.specs.Transaction.{is_member}
+use Rattle.lc_tx.specs.Tx.{none_of}
 
 pub member_left : (n : ℕ) (xs ys : List ℕ) → is_member n xs ≡ true → is_member n (xs ++ ys) ≡ true
 member_left n [] ys e = absurd (false≢true e)
@@ -42,3 +44,58 @@ pub member_take : (n i : ℕ) (xs : List ℕ) → is_member n (take i xs) ≡ tr
 member_take n zero xs e = absurd (false≢true e)
 member_take n (suc i) [] e = absurd (false≢true e)
 member_take n (suc i) (x ∷ xs) e = elim (or_cases (eqb x n) (is_member n (take i xs)) e) [ inl here ↦ or_left (eqb x n) _ here | inr later ↦ or_right (eqb x n) _ (member_take n i xs later) ]
+
+-- Two lists
+
+pub member_both : (n : ℕ) (xs ys : List ℕ) → is_member n (xs ++ ys) ≡ (is_member n xs || is_member n ys)
+member_both n [] ys = refl
+member_both n (x ∷ xs) ys = ap (λ (b : Bool). eqb x n || b) (member_both n xs ys) ∙ sym (or-assoc (eqb x n) (is_member n xs) (is_member n ys))
+  where
+    or-assoc : (a b c : Bool) → ((a || b) || c) ≡ (a || (b || c))
+    or-assoc true b c = refl
+    or-assoc false b c = refl
+
+pub of_both : (n : ℕ) (xs ys : List ℕ) → is_member n (xs ++ ys) ≡ true → (is_member n xs ≡ true) ⊎ (is_member n ys ≡ true)
+of_both n xs ys e = or_cases (is_member n xs) (is_member n ys) (sym (member_both n xs ys) ∙ e)
+
+pub in_first : (n : ℕ) (xs ys : List ℕ) → is_member n xs ≡ true → is_member n (xs ++ ys) ≡ true
+in_first n xs ys e = member_left n xs ys e
+
+pub in_second : (n : ℕ) (xs ys : List ℕ) → is_member n ys ≡ true → is_member n (xs ++ ys) ≡ true
+in_second n xs ys e = member_both n xs ys ∙ or_right (is_member n xs) (is_member n ys) e
+
+pub neither : (n : ℕ) (xs ys : List ℕ) → is_member n (xs ++ ys) ≡ false → (is_member n xs ≡ false) × (is_member n ys ≡ false)
+neither n xs ys e = (
+  false_from_ne_true (is_member n xs) (λ is. false≢true (sym e ∙ in_first n xs ys is)),
+  false_from_ne_true (is_member n ys) (λ is. false≢true (sym e ∙ in_second n xs ys is)),
+)
+
+pub not_both : (n : ℕ) (xs ys : List ℕ) → is_member n xs ≡ false → is_member n ys ≡ false → is_member n (xs ++ ys) ≡ false
+not_both n xs ys one two = member_both n xs ys ∙ or_from (is_member n xs) (is_member n ys) one two
+
+-- those that are none of these
+pub of_others : (n : ℕ) (these those : List ℕ) → is_member n (none_of these those) ≡ true → (is_member n those ≡ true) × (is_member n these ≡ false)
+of_others n these [] e = absurd (false≢true e)
+of_others n these (x ∷ those) e =
+    elim (is_member x these) as (λ b. is_member x these ≡ b → is_member n (if not b then x ∷ none_of these those else none_of these those) ≡ true
+    → (is_member n (x ∷ those) ≡ true) × (is_member n these ≡ false)) [
+      | true ↦ λ one later. let is = of_others n these those later in (or_right (eqb x n) (is_member n those) is.0, is.1)
+      | false ↦ λ not_one member. elim (or_cases (eqb x n) (is_member n (none_of these those)) member) [
+        | inl here ↦ (or_left (eqb x n) (is_member n those) here, subst (λ (k : ℕ). is_member k these ≡ false) (eqb-true x n here) not_one)
+        | inr later ↦ let is = of_others n these those later in (or_right (eqb x n) (is_member n those) is.0, is.1)
+      ]
+    ] refl e
+
+pub is_other : (n : ℕ) (these those : List ℕ) → is_member n those ≡ true → is_member n these ≡ false → is_member n (none_of these those) ≡ true
+is_other n these [] e none = absurd (false≢true e)
+is_other n these (x ∷ those) e none =
+    elim (is_member x these) as (λ b. is_member x these ≡ b → is_member n (if not b then x ∷ none_of these those else none_of these those) ≡ true) [
+      | true ↦ λ one. elim (or_cases (eqb x n) (is_member n those) e) [
+        | inl here ↦ absurd (false≢true (sym none ∙ subst (λ (k : ℕ). is_member k these ≡ true) (eqb-true x n here) one))
+        | inr later ↦ is_other n these those later none
+      ]
+      | false ↦ λ not_one. elim (or_cases (eqb x n) (is_member n those) e) [
+        | inl here ↦ or_left (eqb x n) (is_member n (none_of these those)) here
+        | inr later ↦ or_right (eqb x n) (is_member n (none_of these those)) (is_other n these those later none)
+      ]
+    ] refl

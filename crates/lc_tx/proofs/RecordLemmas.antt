@@ -1,19 +1,19 @@
 -- The record of a transaction.
 use Rattle.std.proofs.Common.{◌≡◌, ℕ, zero, suc, ◌+◌, ◌-◌, ◌/◌, ◌^◌, ◌<◌, ◌≤◌, eqb, leb, List, [], ◌∷◌, length, map, take, drop, get_or, Option, Some, unwrap_or, refl, sym, ap, subst, ◌∙◌, inl, inr, arith}
-use Rattle.std.specs.Prelude.{◌↔◌, sum_by}
+use Rattle.std.specs.Prelude.{◌↔◌}
 use Rattle.std.proofs.lemmas.Bool.{cond-true, cond-false, cases_eq, cases_Bool, cases_lt, eq-eqb, ne_eqb, leb-true, leb-false, lt-leb}
-use Rattle.std.proofs.lemmas.List.Sums.{sum_by-cons}
 use Rattle.std.proofs.lemmas.List.{length-map, length-drop, length-take-le}
 use Rattle.lc_range.specs.RangeSet.{Has, IsCanonical, EndWithin}
 use Rattle.lc_range.specs.declared.range.Range.{Range}
-use Rattle.lc_record.specs.Record.{range_len, record_len}
+use Rattle.lc_record.specs.Record.{spans_of, record_layout}
+use Rattle.lc_record.specs.Layout.{layout_of}
+use Rattle.lc_record.specs.declared.span.Span.{Span}
 use Rattle.lc_record.specs.declared.record.Lock.{Lock}
 use Rattle.lc_record.specs.declared.record.RangeData.{RangeData}
-use Rattle.lc_tx.specs.declared.tx.Tx.{Tx}
 use Rattle.lc_tx.specs.declared.images.Images.{Ghosts}
 use Rattle.lc_tx.specs.Images.{IsHere, bytes_of, IsSame}
-use Rattle.lc_tx.specs.Prepared.{segments_of, next_number, run_data, final_record, IsFirstSpent, AreUnspent}
-use Rattle.lc_tx.specs.Walk.{run_words, words_of, spent_in, locks_of, AreFromOne, AreInside}
+use Rattle.lc_tx.specs.Prepared.{segments_of, next_number, run_data, runs_record, IsFirstSpent, AreUnspent}
+use Rattle.lc_tx.specs.Walk.{run_span, runs_layout, spent_in, locks_of, AreFromOne, AreInside}
 use Rattle.lc_tx.specs.declared.image.Image.{Image as Picture}
 use Rattle.lc_tx.proofs.ImagesLemmas.{ImageLaws, here_along, same_imaged, same_chained}
 use Rattle.lc_tx.proofs.RunLemmas.{others, with_others}
@@ -36,13 +36,6 @@ module _ {I : Type 0} (m : Ghosts I) where
   same_lent laws old mid runs i d image inside within was is =
       let x : ℕ = (get_or runs i d).segment in
       same_chained m laws old mid (m.with_image mid x image) was (same_imaged m laws mid x image (here_along m [] old mid x was (inside_at old runs i d inside within).0) is)
-
-  pub data_is : (images : I) (run : Range) (it : RangeData) (bytes : List ℕ) → it.segment ≡ run.segment → it.offset ≡ run.offset → it.bytes ≡ take run.len (drop run.offset bytes)
-      → bytes ≡ bytes_of m images run.segment → it ≡ run_data m images run
-  data_is images run it bytes one two three same =
-      ap (λ (n : ℕ). record { segment = n; offset = it.offset; bytes = it.bytes }) one
-      ∙ ap (λ (n : ℕ). record { segment = run.segment; offset = n; bytes = it.bytes }) two
-      ∙ ap (λ (l : List ℕ). record { segment = run.segment; offset = run.offset; bytes = l }) (three ∙ ap (λ (l : List ℕ). take run.len (drop run.offset l)) same)
 
   -- The first that is spent
 
@@ -105,20 +98,20 @@ module _ {I : Type 0} (m : Ghosts I) where
   spent_not_unspent [] s first low = first
   spent_not_unspent (lock ∷ locks) s first low = elim first [ inl here ↦ absurd (omega (arith, here.0, low.0)) | inr later ↦ spent_not_unspent locks s later.1 low.1 ]
 
-  -- The words of a record
+  -- How a record is laid out
 
-  sum_words : (images : I) (runs : List Range) → AreInside m images runs → sum_by range_len (map (run_data m images) runs) ≡ sum_by run_words runs
-  sum_words images [] inside = refl
-  sum_words images (run ∷ runs) inside =
+  spans_are : (images : I) (runs : List Range) → AreInside m images runs → spans_of (map (run_data m images) runs) ≡ map run_span runs
+  spans_are images [] inside = refl
+  spans_are images (run ∷ runs) inside =
       let bytes = bytes_of m images run.segment in
       let long : length (take run.len (drop run.offset bytes)) ≡ run.len = length-take-le run.len (drop run.offset bytes) (omega (arith, length-drop run.offset bytes, inside.0.1)) in
-      sum_by-cons range_len (run_data m images run) (map (run_data m images) runs)
-      ∙ ap (λ (n : ℕ). 2 + (n + 7) / 8 + sum_by range_len (map (run_data m images) runs)) long
-      ∙ ap (λ (n : ℕ). run_words run + n) (sum_words images runs inside.1) ∙ sym (sum_by-cons run_words run runs)
+      ap (λ (n : ℕ). record { segment = run.segment; offset = run.offset; len = n } ∷ spans_of (map (run_data m images) runs)) long
+      ∙ ap (λ (l : List Span). run_span run ∷ l) (spans_are images runs inside.1)
 
-  pub len_is : (images : I) (tx : Tx) (node : ℕ) → AreInside m images tx.set → record_len (final_record m images tx node) ≡ words_of tx.set
-  len_is images tx node inside =
-      omega (arith, length-map (segments_of tx.set) (lock_of images), sum_words images tx.set inside)
+  pub layout_is : (images : I) (runs : List Range) (node : ℕ) → AreInside m images runs → record_layout (runs_record m images runs node) ≡ runs_layout runs
+  layout_is images runs node inside =
+      ap (λ (n : ℕ). layout_of n (spans_of (map (run_data m images) runs))) (length-map (segments_of runs) (lock_of images))
+      ∙ ap (layout_of (length (segments_of runs))) (spans_are images runs inside)
 
   -- The runs of a transaction
 

@@ -1,12 +1,13 @@
 -- Numbers as a set.
-use Rattle.std.proofs.Common.{◌≡◌, ℕ, ◌+◌, ◌<◌, ◌≤◌, Bool, true, false, eqb, ltb, ◌||◌, List, [], ◌∷◌, ◌++◌, length, refl, sym, ap, subst, ◌∙◌, inl, inr, arith}
+use Rattle.std.proofs.Common.{◌≡◌, ℕ, ◌+◌, ◌<◌, ◌≤◌, Bool, true, false, not, eqb, ltb, ◌||◌, List, [], ◌∷◌, ◌++◌, length, refl, sym, ap, subst, ◌∙◌, inl, inr, arith}
 use Rattle.std.proofs.lemmas.Bool.{cond_both, eqb-true, eqb-false, ltb-true, ltb-false, eq-eqb, or_cases, or_left, or_right}
 use Rattle.std.proofs.lemmas.List.{append-nil, append_assoc}
 use Rattle.std.specs.List.{list_any}
+use Rattle.std.specs.Prelude.{if◌then◌else◌}
 use Rattle.lc_record.specs.Record.{Chain}
 use Rattle.lc_record.specs.Transaction.{is_member}
 use Rattle.lc_tx.specs.Prepared.{with_number}
-use Rattle.lc_tx.specs.Tx.{IsSetOf}
+use Rattle.lc_tx.specs.Tx.{IsSetOf, none_of}
 use Rattle.lc_tx.specs.Walk.{with_in_order}
 use Rattle.lc_tx.proofs.MemberLemmas.{member_left, member_last, member_push}
 
@@ -99,3 +100,23 @@ pub few_numbers : (most : ℕ) (set : List ℕ) → Ascend set → ((k : ℕ) �
 few_numbers most [] up within = omega arith
 few_numbers most (x ∷ xs) up within =
     omega (arith, ascending_few x xs most up (λ k is. (within k is).1), (within x (or_left (eqb x x) (is_member x xs) (eq-eqb x x refl))).0)
+
+-- Numbers that are none of these
+
+pub others_both : (these xs ys : List ℕ) → none_of these (xs ++ ys) ≡ none_of these xs ++ none_of these ys
+others_both these [] ys = refl
+others_both these (x ∷ xs) ys =
+    elim (is_member x these) as (λ b. (if not b then x ∷ none_of these (xs ++ ys) else none_of these (xs ++ ys)) ≡ (if not b then x ∷ none_of these xs else none_of these xs) ++ none_of these ys) [
+      | true ↦ others_both these xs ys
+      | false ↦ ap (λ (l : List ℕ). x ∷ l) (others_both these xs ys)
+    ]
+
+pub others_one : (these : List ℕ) (x : ℕ) → is_member x these ≡ false → none_of these (x ∷ []) ≡ x ∷ []
+others_one these x none = ap (λ (b : Bool). if not b then x ∷ [] else []) none
+
+pub others_none : (these : List ℕ) (x : ℕ) → is_member x these ≡ true → none_of these (x ∷ []) ≡ []
+others_none these x one = ap (λ (b : Bool). if not b then x ∷ [] else []) one
+
+pub others_of_none : (xs : List ℕ) → none_of [] xs ≡ xs
+others_of_none [] = refl
+others_of_none (x ∷ xs) = ap (λ (l : List ℕ). x ∷ l) (others_of_none xs)

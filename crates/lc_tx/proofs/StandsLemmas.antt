@@ -1,8 +1,8 @@
 -- What a transaction does keeps what it stands for.
 use Rattle.std.proofs.Common.{◌≡◌, ◌≢◌, ◌⊎◌, ℕ, zero, suc, ◌+◌, ◌<◌, ◌≤◌, Bool, true, false, ◌==◌, List, [], ◌∷◌, ◌++◌, map, length, replicate, Option, None, Some, refl, sym, ◌∙◌, ap, subst, arith, inl, inr, true≢false, eqb-true, eq-eqb, ne_eqb}
-use Rattle.std.specs.Prelude.{◌↔◌, IsSome, unwrap_or, slice_index}
+use Rattle.std.specs.Prelude.{◌↔◌, All, IsSome, IsTrue, unwrap_or, slice_index}
 use Rattle.std.proofs.lemmas.Bool.{cases_lt}
-use Rattle.std.proofs.lemmas.List.Elements.{All-nil}
+use Rattle.std.proofs.lemmas.List.Elements.{All-head, All-nil, All-tail}
 use Rattle.lc_record.specs.Content.{Content, put, on_segment, segment_of}
 use Rattle.lc_record.specs.Transaction.{Transaction, Written, is_member, all_set, writes_on, effect}
 use Rattle.lc_record.specs.Marks.{ranges, is_empty, marked, written}
@@ -14,9 +14,11 @@ use Rattle.lc_range.specs.declared.range.Range.{Range}
 use Rattle.lc_tx.specs.declared.images.Images.{Ghosts}
 use Rattle.lc_tx.specs.declared.tx.Tx.{Tx}
 use Rattle.lc_tx.specs.Images.{bytes_of, IsSame, IsWritten, AreRestored}
-use Rattle.lc_tx.specs.Tx.{Locked, AreSet, RunsOn, Begins, SetsRange}
+use Rattle.lc_tx.specs.Tx.{Locked, Reads, Holds, AreSet, RunsOn, Begins, SetsRange}
 use Rattle.lc_tx.specs.Prepared.{final_record, next_number, segments_of}
 use Rattle.lc_tx.specs.StandsFor.{StandsFor, Show, AreNumbers, begun_on, unmarked}
+use Rattle.lc_tx.proofs.HoldsLemmas.{asked_reading, asked_writing, held_cases, held_here, locked_holds, read_apart, reads_holds}
+use Rattle.lc_tx.proofs.MemberLemmas.{in_first, in_second, member_both}
 use Rattle.lc_tx.proofs.MarkLemmas.{runs_of, set_is_runs, count_all, canonical_all, has_positions}
 use Rattle.lc_tx.proofs.DataLemmas.{data_in, record_ranges, record_locks}
 
@@ -142,6 +144,16 @@ shape-writes [] content = refl
 shape-writes (w ∷ ws) content =
     shape-writes ws (on_segment w.segment (put w.offset w.bytes) content) ∙ shape-on_segment w.segment (put w.offset w.bytes) content (length-put w.offset w.bytes)
 
+-- what is not written has the content's bytes
+unwritten : (locked : List ℕ) (s : ℕ) (ws : List Written) (content : Content) → All (λ w. IsTrue (is_member w.segment locked)) ws → is_member s locked ≡ false
+    → segment_of s (writes_on ws content) ≡ segment_of s content
+unwritten locked s [] content all none = refl
+unwritten locked s (w ∷ ws) content all none =
+    let here : is_member w.segment locked ≡ true = All-head (λ (v : Written). IsTrue (is_member v.segment locked)) w ws all in
+    let differ : s ≢ w.segment = λ same. true≢false (sym here ∙ subst (λ (n : ℕ). is_member n locked ≡ false) same none) in
+    unwritten locked s ws (on_segment w.segment (put w.offset w.bytes) content) (All-tail (λ (v : Written). IsTrue (is_member v.segment locked)) w ws all) none
+    ∙ segment_of-other s w.segment (put w.offset w.bytes) content differ
+
 -- no position of an empty list is marked
 no_marks : (k : ℕ) → all_set k 1 [] ≡ false
 no_marks zero = refl
@@ -177,27 +189,28 @@ is_some_of (Some c) b same = refl
 -- The steps
 
 module _ {I : Type 0} (m : Ghosts I) where
-  same_shown : (old new : I) (tx : Tx) (s : ℕ) → RunsOn m old tx → IsSame m old new → Locked tx s → bytes_of m new s ≡ bytes_of m old s
-  same_shown old new tx s runs same lock = ap (λ image. image.bytes.items) (same.others s (runs.here s lock) refl)
+  same_shown : (old new : I) (tx : Tx) (s : ℕ) → RunsOn m old tx → IsSame m old new → Holds tx s → bytes_of m new s ≡ bytes_of m old s
+  same_shown old new tx s runs same held = ap (λ image. image.bytes.items) (same.others s (held_here m old tx s runs held) refl)
 
   -- the length of a segment's marks is that of its bytes
   marks_length : (images : I) (tx : Tx) (content : Content) (t : Transaction) (s : ℕ) → StandsFor m images tx content t → Locked tx s
       → length (bytes_of m images s) ≡ length (segment_of s t.marks)
   marks_length images tx content t s is lock =
-      ap length (is.shown s lock) ∙ length-written_segment s t.writes content ∙ sym (shape_at s t.marks content is.shape)
+      ap length (is.shown s (locked_holds tx s lock)) ∙ length-written_segment s t.writes content ∙ sym (shape_at s t.marks content is.shape)
 
   pub same_stands : (old new : I) (tx : Tx) (content : Content) (t : Transaction)
       → StandsFor m old tx content t → RunsOn m old tx → IsSame m old new → StandsFor m new tx content t
   same_stands old new tx content t is runs same = record {
     thread_is = is.thread_is;
     locked_are = is.locked_are;
+    reading_are = is.reading_are;
     well_formed = is.well_formed;
     shape = is.shape;
     inside = is.inside;
     set_is = is.set_is;
-    shown = λ s lock. same_shown old new tx s runs same lock ∙ is.shown s lock;
+    shown = λ s held. same_shown old new tx s runs same held ∙ is.shown s held;
     all_kept = is.all_kept;
-    kept_is = λ s k lock. ap (λ bytes. unwrap_or (kept tx.undo s k) (slice_index bytes k)) (same_shown old new tx s runs same lock) ∙ is.kept_is s k lock;
+    kept_is = λ s k lock. ap (λ bytes. unwrap_or (kept tx.undo s k) (slice_index bytes k)) (same_shown old new tx s runs same (locked_holds tx s lock)) ∙ is.kept_is s k lock;
   }
 
   pub range_stands : (images later : I) (old new : Tx) (segment offset len : ℕ) (content : Content) (t : Transaction)
@@ -207,11 +220,12 @@ module _ {I : Type 0} (m : Ghosts I) where
   range_stands images later old new segment offset len content t is lock sets same runs after = record {
     thread_is = is.thread_is ∙ sym sets.same_thread;
     locked_are = is.locked_are ∙ sym locks_are;
+    reading_are = is.reading_are ∙ sym reading_are;
     well_formed = well-marked t segment offset len is.well_formed (ap (is_member segment) is.locked_are ∙ lock);
     shape = shape-on_segment segment (put offset (replicate len true)) t.marks (length-put offset (replicate len true)) ∙ is.shape;
-    inside = λ s held. is.inside s (was s held);
+    inside = λ s held. is.inside s (was_held s held);
     set_is = λ s k. (to s k, from s k);
-    shown = λ s held. same_shown images later old s runs same (was s held) ∙ is.shown s (was s held);
+    shown = λ s held. same_shown images later old s runs same (was_held s held) ∙ is.shown s (was_held s held);
     all_kept = λ s k has. elim (some_or_none (kept old.undo s k)) [
       | inl some ↦ is_some_of (kept new.undo s k) some.0 (sets.keeps.first s k some.0 some.1)
       | inr none ↦ elim ((sets.adds s k).0 has) [
@@ -219,14 +233,23 @@ module _ {I : Type 0} (m : Ghosts I) where
         | inr range ↦ is_some_of (kept new.undo s k) (slice_index (bytes_of m images segment) k) (fresh s k none range.0 range.1 range.2)
       ]
     ];
-    kept_is = λ s k held. kept_still s k (was s held);
+    kept_is = λ s k locked. kept_still s k (was s locked);
   }
     where
       locks_are : new.locked.items ≡ old.locked.items
       locks_are = ap (λ locked. locked.items) sets.same_locks
 
+      reading_are : new.reading.items ≡ old.reading.items
+      reading_are = ap (λ reading. reading.items) sets.same_reading
+
       was : (s : ℕ) → Locked new s → Locked old s
-      was s held = sym (ap (is_member s) locks_are) ∙ held
+      was s locked = sym (ap (is_member s) locks_are) ∙ locked
+
+      was_held : (s : ℕ) → Holds new s → Holds old s
+      was_held s held = elim (held_cases new s held) [
+        | inl locked ↦ locked_holds old s (was s locked)
+        | inr read ↦ reads_holds old s (sym (ap (is_member s) reading_are) ∙ read)
+      ]
 
       not_set : (s k : ℕ) → kept old.undo s k ≡ None → Has old.set s k → ⊥
       not_set s k none has = none_is_not_some (kept old.undo s k) none (is.all_kept s k has)
@@ -246,7 +269,7 @@ module _ {I : Type 0} (m : Ghosts I) where
           inside_marks has =
               let bound : k < length (bytes_of m later segment) = after.set_inside segment k has in
               let long : length (bytes_of m later segment) ≡ length (segment_of segment t.marks) =
-              ap length (same_shown images later old segment runs same lock) ∙ marks_length images old content t segment is lock in
+              ap length (same_shown images later old segment runs same (locked_holds old segment lock)) ∙ marks_length images old content t segment is lock in
               subst (λ (n : ℕ). k < n) long bound
 
       from : (s k : ℕ) → all_set k 1 (segment_of s (marked t segment offset len).marks) ≡ true → Has new.set s k
@@ -257,7 +280,7 @@ module _ {I : Type 0} (m : Ghosts I) where
 
       kept_still : (s k : ℕ) → Locked old s → unwrap_or (kept new.undo s k) (slice_index (bytes_of m later s) k) ≡ slice_index (segment_of s content) k
       kept_still s k held =
-          let bytes : bytes_of m later s ≡ bytes_of m images s = same_shown images later old s runs same held in
+          let bytes : bytes_of m later s ≡ bytes_of m images s = same_shown images later old s runs same (locked_holds old s held) in
           let before : unwrap_or (kept old.undo s k) (slice_index (bytes_of m images s) k) ≡ slice_index (segment_of s content) k = is.kept_is s k held in
           elim (some_or_none (kept old.undo s k)) [
             | inl some ↦
@@ -301,6 +324,7 @@ module _ {I : Type 0} (m : Ghosts I) where
   write_stands old new tx segment offset bytes content t is runs lock set wrote = record {
     thread_is = is.thread_is;
     locked_are = is.locked_are;
+    reading_are = is.reading_are;
     well_formed = well-written t segment offset bytes is.well_formed (ap (is_member segment) is.locked_are ∙ lock)
         ((positions_set old tx content t segment offset (length bytes) is).0 set);
     shape = is.shape;
@@ -314,18 +338,18 @@ module _ {I : Type 0} (m : Ghosts I) where
       one_more : (s : ℕ) → segment_of s (effect (written t segment offset bytes) content) ≡ segment_of s (on_segment segment (put offset bytes) (effect t content))
       one_more s = ap (segment_of s) (writes-more t.writes (record { segment = segment; offset = offset; bytes = bytes }) content)
 
-      other_bytes : (s : ℕ) → Locked tx s → s ≢ segment → bytes_of m new s ≡ bytes_of m old s
-      other_bytes s held differ = ap (λ image. image.bytes.items) (wrote.same.others s (runs.here s held) (not_member s differ))
+      other_bytes : (s : ℕ) → Holds tx s → s ≢ segment → bytes_of m new s ≡ bytes_of m old s
+      other_bytes s held differ = ap (λ image. image.bytes.items) (wrote.same.others s (held_here m old tx s runs held) (not_member s differ))
         where
           not_member : (n : ℕ) → n ≢ segment → is_member n (segment ∷ []) ≡ false
           not_member n apart = (let other : segment ≢ n = λ same. apart (sym same) in rw (ne_eqb segment n other) refl)
 
-      shown_at : (s : ℕ) → Locked tx s → bytes_of m new s ≡ segment_of s (effect (written t segment offset bytes) content)
+      shown_at : (s : ℕ) → Holds tx s → bytes_of m new s ≡ segment_of s (effect (written t segment offset bytes) content)
       shown_at s held = elim (s == segment) as (λ b. (s == segment) ≡ b → bytes_of m new s ≡ segment_of s (effect (written t segment offset bytes) content)) [
         | true ↦ λ e.
             let same : segment ≡ s = sym (eqb-true s segment e) in
             subst (λ (n : ℕ). bytes_of m new n ≡ segment_of n (effect (written t segment offset bytes) content)) same
-            (wrote.bytes_are ∙ ap (put offset bytes) (is.shown segment lock)
+            (wrote.bytes_are ∙ ap (put offset bytes) (is.shown segment (locked_holds tx segment lock))
             ∙ sym (segment_of-same segment (put offset bytes) (effect t content) refl) ∙ sym (one_more segment))
         | false ↦ λ e.
             let differ : s ≢ segment = λ same. true≢false (sym (eq-eqb s segment same) ∙ e) in
@@ -353,43 +377,54 @@ module _ {I : Type 0} (m : Ghosts I) where
                 ∙ ap (λ n. slice_index (bytes_of m old n) k) (sym same)
             | false ↦ λ e.
                 let differ : s ≢ segment = λ same. true≢false (sym (eq-eqb s segment same) ∙ e) in
-                ap (λ b. slice_index b k) (other_bytes s held differ)
+                ap (λ b. slice_index b k) (other_bytes s (locked_holds tx s held) differ)
           ] refl
 
   pub content_back : (old new : I) (tx : Tx) (content : Content) (t : Transaction) (segment : ℕ)
-      → StandsFor m old tx content t → AreRestored m tx.undo tx.locked.items old new → Locked tx segment
+      → StandsFor m old tx content t → AreRestored m tx.undo tx.thread tx.locked.items tx.reading.items old new → Locked tx segment
       → bytes_of m new segment ≡ segment_of segment content
   content_back old new tx content t segment is restored lock =
       same_list (bytes_of m new segment) (segment_of segment content)
-      (restored.same_length segment lock ∙ ap length (is.shown segment lock) ∙ length-written_segment segment t.writes content)
+      (restored.same_length segment lock ∙ ap length (is.shown segment (locked_holds tx segment lock)) ∙ length-written_segment segment t.writes content)
       (λ k. restored.bytes_are segment k lock ∙ is.kept_is segment k lock)
 
-  pub begun_stands : (old new : I) (thread node : ℕ) (segments : List ℕ) (tx : Tx) (content : Content)
-      → Begins m thread segments old new tx → Show m old segments content → StandsFor m new tx content (begun_on content node tx)
-  begun_stands old new thread node segments tx content begins show = record {
+  -- what it locked for reading shows the content
+  pub read_shown : (images : I) (tx : Tx) (content : Content) (t : Transaction) (segment : ℕ)
+      → StandsFor m images tx content t → RunsOn m images tx → Reads tx segment → bytes_of m images segment ≡ segment_of segment content
+  read_shown images tx content t segment is runs read =
+      is.shown segment (reads_holds tx segment read)
+      ∙ unwritten t.locked segment t.writes content is.well_formed.write_locked (ap (is_member segment) is.locked_are ∙ read_apart m images tx segment runs read)
+
+  pub begun_stands : (old new : I) (thread node : ℕ) (segments reading : List ℕ) (tx : Tx) (content : Content)
+      → Begins m thread segments reading old new tx → Show m old (segments ++ reading) content → StandsFor m new tx content (begun_on content node tx)
+  begun_stands old new thread node segments reading tx content begins show = record {
     thread_is = refl;
     locked_are = refl;
+    reading_are = refl;
     well_formed = record {
       set_locked = λ s place set. absurd (true≢false (sym set ∙ none_marked s place content));
       write_locked = All-nil (λ (w : Written). _);
       write_set = All-nil (λ (w : Written). _);
     };
     shape = same_shape content;
-    inside = λ s lock. show.inside s (asked s lock);
+    inside = λ s held. show.inside s (asked s held);
     set_is = λ s k. (
       (λ has. absurd (subst (λ (set : List Range). Has set s k) begins.nothing_set has)),
       (λ set. absurd (true≢false (sym set ∙ none_marked s k content))),
     );
-    shown = λ s lock. shown_at s lock;
+    shown = λ s held. shown_at s held;
     all_kept = λ s k has. absurd (subst (λ (set : List Range). Has set s k) begins.nothing_set has);
-    kept_is = λ s k lock. ap (λ copies. unwrap_or (kept copies s k) (slice_index (bytes_of m new s) k)) begins.nothing_kept ∙ ap (λ b. slice_index b k) (shown_at s lock);
+    kept_is = λ s k lock. ap (λ copies. unwrap_or (kept copies s k) (slice_index (bytes_of m new s) k)) begins.nothing_kept ∙ ap (λ b. slice_index b k) (shown_at s (locked_holds tx s lock));
   }
     where
-      asked : (s : ℕ) → Locked tx s → is_member s segments ≡ true
-      asked s lock = sym (begins.locked_are.same s) ∙ lock
+      asked : (s : ℕ) → Holds tx s → is_member s (segments ++ reading) ≡ true
+      asked s held = elim (held_cases tx s held) [
+        | inl lock ↦ in_first s segments reading (asked_writing m old new thread segments reading tx begins s lock)
+        | inr read ↦ in_second s segments reading (asked_reading m old new thread segments reading tx begins s read)
+      ]
 
-      shown_at : (s : ℕ) → Locked tx s → bytes_of m new s ≡ segment_of s content
-      shown_at s lock = begins.held.same_bytes s lock ∙ show.shown s (asked s lock)
+      shown_at : (s : ℕ) → Holds tx s → bytes_of m new s ≡ segment_of s content
+      shown_at s held = begins.held.same_bytes s (member_both s tx.locked.items tx.reading.items ∙ held) ∙ show.shown s (asked s held)
 
       same_shape : (xs : Content) → map length (unmarked xs) ≡ map length xs
       same_shape [] = refl
@@ -462,7 +497,7 @@ module _ {I : Type 0} (m : Ghosts I) where
       ∙ ap (λ locks. record { node = t.node; locks = locks; ranges = map (data_in (bytes_of m images)) (runs_of 1 t.marks) })
       (record_locks (next_number m images) numbers t.marks (λ s k set. ap (λ o. unwrap_or o 0 + 1) (are s (locked s k set))))
       ∙ ap (λ laid. record { node = t.node; locks = locks_of numbers 1 t.marks; ranges = laid })
-      (record_ranges (bytes_of m images) t.marks (effect t content) shape (λ s k set. is.shown s (locked s k set)))
+      (record_ranges (bytes_of m images) t.marks (effect t content) shape (λ s k set. is.shown s (locked_holds tx s (locked s k set))))
     where
       locked : (s k : ℕ) → all_set k 1 (segment_of s t.marks) ≡ true → Locked tx s
       locked s k set = sym (ap (is_member s) is.locked_are) ∙ is.well_formed.set_locked s k set

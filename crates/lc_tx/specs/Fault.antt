@@ -1,7 +1,7 @@
 -- The numbers of the faults.
 use Rattle.std.specs.Prelude.{ℕ, Bool, true, false}
 use Rattle.lc_tx.specs.declared.tx_fault.TxFault.{TxFault}
-use Rattle.lc_tx.specs.declared.tx_fault.TxFault.TheVariants.{Busy, NotHere, NoRange, OutOfSegment, NotLocked, NoMemory, TooLong, SequenceSpent, EmptyRange, TooManyRanges}
+use Rattle.lc_tx.specs.declared.tx_fault.TxFault.TheVariants.{Busy, NotHere, NoRange, OutOfSegment, NotLocked, NoMemory, TooLong, SequenceSpent, EmptyRange, TooManyRanges, ReadOnly}
 
 abbrev pub number_of : TxFault → ℕ
 number_of (Busy segment) = 1
@@ -14,6 +14,7 @@ number_of (TooLong words) = 7
 number_of (SequenceSpent segment) = 8
 number_of EmptyRange = 9
 number_of TooManyRanges = 10
+number_of (ReadOnly segment) = 11
 
 -- Which faults each call may have
 
@@ -23,8 +24,15 @@ is_of_begin (NotHere segment) = true
 is_of_begin NoMemory = true
 is_of_begin _ = false
 
+abbrev pub is_of_lock : TxFault → Bool
+is_of_lock NotLocked = true
+is_of_lock (ReadOnly segment) = true
+is_of_lock EmptyRange = true
+is_of_lock _ = false
+
 abbrev pub is_of_set_range : TxFault → Bool
 is_of_set_range NotLocked = true
+is_of_set_range (ReadOnly segment) = true
 is_of_set_range EmptyRange = true
 is_of_set_range OutOfSegment = true
 is_of_set_range TooManyRanges = true

@@ -1,4 +1,8 @@
+pub mod Readers
+pub mod Holders
+pub mod LockMode
 pub mod Images
+pub mod Locking
 pub mod Image
 pub mod Tx
 pub mod Prepared

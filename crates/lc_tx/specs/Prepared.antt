@@ -51,13 +51,17 @@ module _ {I : Type 0} (m : Ghosts I) where
     bytes = take run.len (drop run.offset (bytes_of m images run.segment));
   }
 
-  -- the next number of each segment with a set position, and the final bytes of each run
-  abbrev pub final_record : I → Tx → ℕ → Record
-  final_record images tx node = record {
+  -- the next number of each segment of these runs, and the final bytes of each run
+  abbrev pub runs_record : I → List Range → ℕ → Record
+  runs_record images runs node = record {
     node = node;
-    locks = map (λ segment. record { segment = segment; seq = next_number images segment }) (segments_of tx.set);
-    ranges = map (run_data images) tx.set;
+    locks = map (λ segment. record { segment = segment; seq = next_number images segment }) (segments_of runs);
+    ranges = map (run_data images) runs;
   }
+
+  -- of all that a transaction set
+  abbrev pub final_record : I → Tx → ℕ → Record
+  final_record images tx node = runs_record images tx.set node
 
   -- something is set, the next numbers are at most the greatest, and the record has 4096 words at most
   pub record IsLoggable (images : I) (tx : Tx) (node : ℕ) : Type 0 where
@@ -65,8 +69,8 @@ module _ {I : Type 0} (m : Ghosts I) where
     pub unspent : AreUnspent (final_record images tx node).locks
     pub short : record_len (final_record images tx node) ≤ 4096
 
-  -- a segment that it locked is one of 16, from 1, and has 16,384 bytes at most
+  -- a segment that it locked is one of 16, from 1, and has 262,144 bytes at most
   pub record AreSmall (images : I) (segments : List ℕ) : Type 0 where
     pub some : (segment : ℕ) → IsTrue (is_member segment segments) → 1 ≤ segment
     pub few : (segment : ℕ) → IsTrue (is_member segment segments) → segment ≤ 16
-    pub short : (segment : ℕ) → IsTrue (is_member segment segments) → length (bytes_of m images segment) ≤ 16384
+    pub short : (segment : ℕ) → IsTrue (is_member segment segments) → length (bytes_of m images segment) ≤ 262144

@@ -7,7 +7,7 @@ use Rattle.lc_range.specs.Undo.{kept}
 use Rattle.lc_tx.specs.declared.images.Images.{Ghosts}
 use Rattle.lc_tx.specs.declared.tx.Tx.{Tx}
 use Rattle.lc_tx.specs.Images.{bytes_of}
-use Rattle.lc_tx.specs.Tx.{Locked}
+use Rattle.lc_tx.specs.Tx.{Locked, Holds}
 
 -- of each position of the content, that it is not set
 abbrev pub unmarked : Content → Marks
@@ -15,19 +15,20 @@ unmarked content = map (λ bytes. replicate (length bytes) false) content
 
 -- the transaction that has just begun, on this content
 abbrev pub begun_on : Content → ℕ → Tx → Transaction
-begun_on content node tx = record { node = node; thread = tx.thread; locked = tx.locked.items; marks = unmarked content; writes = [] }
+begun_on content node tx = record { node = node; thread = tx.thread; locked = tx.locked.items; reading = tx.reading.items; marks = unmarked content; writes = [] }
 
 module _ {I : Type 0} (m : Ghosts I) where
   -- the content is that without the transaction
   pub record StandsFor (images : I) (tx : Tx) (content : Content) (t : Transaction) : Type 0 where
     pub thread_is : t.thread ≡ tx.thread
     pub locked_are : t.locked ≡ tx.locked.items
+    pub reading_are : t.reading ≡ tx.reading.items
     pub well_formed : IsWellFormed t
     pub shape : map length t.marks ≡ map length content
-    pub inside : (segment : ℕ) → Locked tx segment → (1 ≤ segment) × (segment ≤ length content)
+    pub inside : (segment : ℕ) → Holds tx segment → (1 ≤ segment) × (segment ≤ length content)
     pub set_is : (segment k : ℕ) → Has tx.set segment k ↔ IsTrue (all_set k 1 (segment_of segment t.marks))
     -- the images show its writes
-    pub shown : (segment : ℕ) → Locked tx segment → bytes_of m images segment ≡ segment_of segment (effect t content)
+    pub shown : (segment : ℕ) → Holds tx segment → bytes_of m images segment ≡ segment_of segment (effect t content)
     -- what is kept tells the content
     pub all_kept : (segment k : ℕ) → Has tx.set segment k → IsSome (kept tx.undo segment k)
     pub kept_is : (segment k : ℕ) → Locked tx segment

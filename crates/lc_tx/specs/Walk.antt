@@ -1,6 +1,9 @@
 -- What the walks over segments and runs give.
 use Rattle.std.specs.Prelude.{ℕ, ◌+◌, ◌*◌, ◌/◌, ◌^◌, ◌≤◌, nat_lt, nat_le, if◌then◌else◌, List, [], ◌∷◌, length, map, Option, Some, None, unwrap_or, sum_by}
 use Rattle.lc_range.specs.declared.range.Range.{Range}
+use Rattle.lc_record.specs.Layout.{layout_of}
+use Rattle.lc_record.specs.declared.layout.Layout.{Layout}
+use Rattle.lc_record.specs.declared.span.Span.{Span}
 use Rattle.lc_record.specs.declared.record.Lock.{Lock}
 use Rattle.lc_tx.specs.declared.images.Images.{Ghosts}
 use Rattle.lc_tx.specs.Images.{IsHere, bytes_of}
@@ -11,12 +14,13 @@ abbrev pub with_in_order : ℕ → List ℕ → List ℕ
 with_in_order n [] = n ∷ []
 with_in_order n (next ∷ numbers) = if nat_lt next n then next ∷ with_in_order n numbers else with_number n (next ∷ numbers)
 
--- the words of a record of these runs
-abbrev pub run_words : Range → ℕ
-run_words run = 2 + (run.len + 7) / 8
+-- where a run stands
+abbrev pub run_span : Range → Span
+run_span run = record { segment = run.segment; offset = run.offset; len = run.len }
 
-abbrev pub words_of : List Range → ℕ
-words_of runs = 3 + 2 * length (segments_of runs) + sum_by run_words runs
+-- how a record of these runs is laid out
+abbrev pub runs_layout : List Range → Layout
+runs_layout runs = layout_of (length (segments_of runs)) (map run_span runs)
 
 -- the segment of each run has a number from 1
 abbrev pub AreFromOne : List Range → Type 0

@@ -1,16 +1,16 @@
 //! The beginning of a transaction.
-ghost use Rattle.std.specs.Prelude.{◌≡◌, ◌↔◌, ◌<◌, ℕ, List, length, None, IfOk, OnErr, IfErr, IsTrue};
-ghost use Rattle.lc_record.specs.Transaction.{is_member};
-ghost use Rattle.lc_tx.specs.Images.{IsHere, IsFree, IsFirstTaken, IsSame};
+ghost use Rattle.std.specs.Prelude.{◌≡◌, ◌↔◌, ◌<◌, ◌⊎◌, ℕ, List, length, None, IfOk, OnErr, IfErr, IsTrue};
+ghost use Rattle.lc_tx.specs.Images.{IsHere, IsLockable, IsFirstTaken, IsSame};
 ghost use Rattle.lc_tx.specs.Fault.{is_of_begin};
-ghost use Rattle.lc_tx.specs.Tx.{Begins, IsSetOf, RunsOn};
+ghost use Rattle.lc_tx.specs.Tx.{Begins, IsSetOf, RunsOn, none_of};
 
-use crate::locking::{first_taken, hold, set_of};
+use crate::lock_mode::LockMode;
+use crate::locking::{first_shut, lesser, lock, set_beside, set_of};
 use crate::{Images, Tx, TxFault};
 use lc_range::{RangeSet, Undo};
 use std::alloc::Global;
 
-// Why a segment that is not free is not locked.
+// Why a segment that cannot be locked is not.
 fn fault_of<I: Images>(images: &I, segment: u32) -> TxFault
     ensures not_here { I.number_of images.now segment ≡ None → result ≡ TxFault.NotHere segment }
     ensures busy { IsHere I.Images images.now segment → result ≡ TxFault.Busy segment }
@@ -22,45 +22,56 @@ fn fault_of<I: Images>(images: &I, segment: u32) -> TxFault
 }
 
 impl Tx {
-    /// Begins a transaction of a thread, which locks these segments, in any order and with repeats. It locks all of
-    /// them or none.
+    /// Begins a transaction of a thread, numbered below 16 as a store has 16 threads of a node at most. It locks
+    /// `segments` for writing and `reading` for reading, each in any order and with repeats; one of both for writing. A
+    /// segment is written by one transaction alone, or read by several. It locks all of them or none.
     ///
     /// # Errors
     ///
-    /// `NotHere` or `Busy` of the least segment that is not free, and `NoMemory`, only for more than 16 segments. The
-    /// images are then as before.
+    /// `NotHere` or `Busy` of the least segment of both lists that cannot be locked, and `NoMemory`, only for more than 16
+    /// segments of one kind. The images are then as before.
     pub fn begin<I: Images>(
         alloc: Global,
         images: &mut I,
         thread: u16,
         segments: &[u32],
+        reading: &[u32],
     ) -> Result<Self, TxFault>
-        ensures begins { IfOk result (λ tx. Begins I.Images thread segments.now images.old images.new tx) }
+        requires { thread < 16 }
+        ensures begins { IfOk result (λ tx. Begins I.Images thread segments.now reading.now images.old images.new tx) }
         ensures runs { IfOk result (λ tx. RunsOn I.Images images.new tx) }
-        ensures free { IfOk result (λ tx. (s : ℕ) → IsTrue (is_member s segments.now) → IsFree I.Images images.old s) }
+        ensures free { IfOk result (λ tx. (s : ℕ) → IsLockable I.Images images.old segments.now reading.now s) }
         ensures not_here { (s : ℕ) → (result ≡ Err (TxFault.NotHere s))
-            ↔ (IsFirstTaken I.Images images.old segments.now s × (I.number_of images.old s ≡ None)) }
+            ↔ (IsFirstTaken I.Images images.old segments.now reading.now s × (I.number_of images.old s ≡ None)) }
         ensures busy { (s : ℕ) → (result ≡ Err (TxFault.Busy s))
-            ↔ (IsFirstTaken I.Images images.old segments.now s × IsHere I.Images images.old s) }
+            ↔ (IsFirstTaken I.Images images.old segments.now reading.now s × IsHere I.Images images.old s) }
 
-        // Memory is wanted only for more than 16 segments, all of them free.
+        // Memory is wanted only for more than 16 segments of one kind, where all can be locked.
         ensures no_memory { result ≡ Err TxFault.NoMemory
-            → ((s : ℕ) → IsTrue (is_member s segments.now) → IsFree I.Images images.old s)
-            × ((set : List ℕ) × IsSetOf segments.now set × (16 < length set)) }
+            → ((s : ℕ) → IsLockable I.Images images.old segments.now reading.now s)
+            × (((set : List ℕ) × IsSetOf segments.now set × (16 < length set))
+            ⊎ ((set : List ℕ) × IsSetOf (none_of segments.now reading.now) set × (16 < length set))) }
 
         ensures err { OnErr result (IsSame I.Images images.old images.new) }
         ensures faults { IfErr result (λ fault. IsTrue (is_of_begin fault)) }
     {
-        if let Some(segment) = first_taken(images, segments) {
+        let written = first_shut(images, segments, LockMode::Exclusive);
+        let read = first_shut(images, reading, LockMode::Shared);
+        if let Some(segment) = lesser(written, read) {
             return Err(fault_of(images, segment));
         }
         let Ok(locked) = set_of(alloc, segments) else {
             return Err(TxFault::NoMemory);
         };
-        hold(images, locked.as_slice(), Some(thread));
+        let Ok(reading) = set_beside(alloc, segments, reading) else {
+            return Err(TxFault::NoMemory);
+        };
+        lock(images, locked.as_slice(), thread, LockMode::Exclusive);
+        lock(images, reading.as_slice(), thread, LockMode::Shared);
         Ok(Tx {
             thread,
             locked,
+            reading,
             set: RangeSet::new(alloc),
             undo: Undo::new(alloc),
         })

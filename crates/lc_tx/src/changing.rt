@@ -1,12 +1,13 @@
 //! The changes of a transaction.
-ghost use Rattle.std.specs.Prelude.{◌≡◌, ◌≢◌, ◌↔◌, ◌+◌, ◌-◌, ◌^◌, ◌<◌, ◌≤◌, ℕ, IsTrue, IsOk, length, take, drop, min, slice_index, IfOk, OnOk, OnErr, IfErr};
+ghost use Rattle.std.specs.Prelude.{◌≡◌, ◌≢◌, ◌↔◌, ◌+◌, ◌-◌, ◌^◌, ◌<◌, ◌≤◌, ℕ, IsTrue, IsOk, length, take, drop, min, slice_index, Some, None, IfOk, OnOk, OnErr, IfErr};
 ghost use Rattle.lc_range.specs.RangeSet.{AddsPositions, MissesSome, NeedsRunsAbove};
 ghost use Rattle.lc_range.specs.Undo.{KeepsOld, LiesBelow};
 ghost use Rattle.lc_tx.specs.Images.{IsSame, IsWritten, bytes_of};
-ghost use Rattle.lc_tx.specs.Fault.{is_of_set_range, is_of_read};
-ghost use Rattle.lc_tx.specs.Tx.{AreSet, Locked, RunsOn, SetsRange};
+ghost use Rattle.lc_tx.specs.Fault.{is_of_lock, is_of_set_range, is_of_read};
+ghost use Rattle.lc_tx.specs.Tx.{AreSet, Holds, Locked, Reads, RunsOn, SetsRange};
 
 use crate::image::lay;
+use crate::lock_mode::LockMode;
 use crate::{Images, Tx, TxFault};
 use lc_range::{RangeFault, RangeSet};
 use std::alloc::Global;
@@ -44,11 +45,18 @@ impl Tx {
         self.thread
     }
 
-    /// The segments that it locked, ascending.
+    /// The segments that it locked for writing, ascending.
     pub fn locked(&self) -> &[u32]
         ensures { result.now ≡ self.now.locked.items }
     {
         self.locked.as_slice()
+    }
+
+    /// The segments that it locked for reading, ascending.
+    pub fn reading(&self) -> &[u32]
+        ensures { result.now ≡ self.now.reading.items }
+    {
+        self.reading.as_slice()
     }
 
     /// The positions that it set.
@@ -58,11 +66,19 @@ impl Tx {
         &self.set
     }
 
-    // Whether it locked a segment.
-    fn has_locked(&self, segment: u32) -> bool
-        ensures { IsTrue result ↔ Locked self.now segment }
+    // How it locked a segment, if it did.
+    fn mode_of(&self, segment: u32) -> Option<LockMode>
+        ensures writing { (result ≡ Some LockMode.Exclusive) ↔ Locked self.now segment }
+        ensures reading { (result ≡ Some LockMode.Shared) ↔ (Reads self.now segment × ¬ Locked self.now segment) }
+        ensures none { (result ≡ None) ↔ ¬ Holds self.now segment }
     {
-        self.locked().contains(&segment)
+        if self.locked().contains(&segment) {
+            return Some(LockMode::Exclusive);
+        }
+        if self.reading().contains(&segment) {
+            return Some(LockMode::Shared);
+        }
+        None
     }
 
     // Whether each of so many positions of a segment, from an offset on, is set.
@@ -80,7 +96,6 @@ impl Tx {
     // Sets a range of a segment that has these bytes.
     fn set_bytes(
         &mut self,
-        alloc: Global,
         bytes: &[u8],
         segment: u32,
         offset: u32,
@@ -89,6 +104,7 @@ impl Tx {
         requires { 0 < len }
         ensures thread { self.new.thread ≡ self.old.thread }
         ensures locked { self.new.locked ≡ self.old.locked }
+        ensures reading { self.new.reading ≡ self.old.reading }
         ensures adds { OnOk result (AddsPositions self.old.set segment offset len self.new.set) }
         ensures keeps { OnOk result (KeepsOld self.old.undo self.old.set segment offset len (slice_index bytes.now) self.new.undo) }
         ensures below { OnOk result ((s bound : ℕ) → LiesBelow self.old.undo s bound
@@ -101,6 +117,7 @@ impl Tx {
         ensures no_memory { result ≡ Err TxFault.NoMemory → (offset + len ≤ min (length bytes.now) (2 ^ 32 - 1))
             × (¬ NeedsRunsAbove 64 self.old.set segment offset len) × MissesSome self.old.set segment offset len }
         ensures not_locked { result ≢ Err TxFault.NotLocked }
+        ensures writable { (s : ℕ) → result ≢ Err (TxFault.ReadOnly s) }
         ensures empty { result ≢ Err TxFault.EmptyRange }
         ensures faults { IfErr result (λ fault. IsTrue (is_of_set_range fault)) }
     {
@@ -110,10 +127,10 @@ impl Tx {
         if !self.set.has_room(segment, offset, len) {
             return Err(TxFault::TooManyRanges);
         }
-        let copies = self.undo.len();
+        let kept = self.undo.len();
         if self
             .undo
-            .keep_old(alloc, &self.set, segment, offset, len, bytes)
+            .keep_old(&self.set, segment, offset, len, bytes)
             .is_err()
         {
             return Err(TxFault::NoMemory);
@@ -121,12 +138,29 @@ impl Tx {
         match self.set.add(segment, u32::MAX, offset, len) {
             Ok(()) => Ok(()),
             Err(RangeFault::NoMemory) => {
-                self.undo.truncate(copies);
+                self.undo.truncate(kept);
                 Err(TxFault::NoMemory)
             }
             Err(RangeFault::EmptyRange) => unreachable!(),
             Err(RangeFault::OutOfSegment) => unreachable!(),
             Err(RangeFault::TooManyRanges) => unreachable!(),
+        }
+    }
+
+    // Whether it may set a range of this length in a segment, whatever bytes that has.
+    fn check_range(&self, segment: u32, len: u32) -> Result<(), TxFault>
+        ensures ok { IsOk result ↔ (Locked self.now segment × (0 < len)) }
+        ensures not_locked { (result ≡ Err TxFault.NotLocked) ↔ ¬ Holds self.now segment }
+        ensures read_only { (s : ℕ) → (result ≡ Err (TxFault.ReadOnly s))
+            ↔ (Reads self.now segment × (¬ Locked self.now segment) × (s ≡ segment)) }
+        ensures empty { (result ≡ Err TxFault.EmptyRange) ↔ (Locked self.now segment × (len ≡ 0)) }
+        ensures faults { IfErr result (λ fault. IsTrue (is_of_lock fault)) }
+    {
+        match self.mode_of(segment) {
+            None => Err(TxFault::NotLocked),
+            Some(LockMode::Shared) => Err(TxFault::ReadOnly { segment }),
+            Some(LockMode::Exclusive) if len == 0 => Err(TxFault::EmptyRange),
+            Some(LockMode::Exclusive) => Ok(()),
         }
     }
 
@@ -136,11 +170,11 @@ impl Tx {
     ///
     /// # Errors
     ///
-    /// `NotLocked`, `EmptyRange`, `OutOfSegment` and `TooManyRanges`, looked at in this order, and `NoMemory`, only
-    /// where some byte of the range was not set. No range ends behind 2^32 - 1. The transaction is then as before.
+    /// `NotLocked`, `ReadOnly`, `EmptyRange`, `OutOfSegment` and `TooManyRanges`, looked at in this order, and
+    /// `NoMemory`, only where some byte of the range was not set. No range ends behind 2^32 - 1. The transaction is then
+    /// as before.
     pub fn set_range<I: Images>(
         &mut self,
-        alloc: Global,
         images: &mut I,
         segment: u32,
         offset: u32,
@@ -151,7 +185,8 @@ impl Tx {
         ensures images { IsSame I.Images images.old images.new }
         ensures runs { RunsOn I.Images images.new self.new }
         ensures err { OnErr result (self.new ≡ self.old) }
-        ensures not_locked { (result ≡ Err TxFault.NotLocked) ↔ ¬ Locked self.old segment }
+        ensures not_locked { (result ≡ Err TxFault.NotLocked) ↔ ¬ Holds self.old segment }
+        ensures read_only { (s : ℕ) → (result ≡ Err (TxFault.ReadOnly s)) ↔ (Reads self.old segment × (s ≡ segment)) }
         ensures empty { (result ≡ Err TxFault.EmptyRange) ↔ (Locked self.old segment × (len ≡ 0)) }
         ensures outside { (result ≡ Err TxFault.OutOfSegment) ↔ (Locked self.old segment × (0 < len)
             × (min (length (bytes_of I.Images images.old segment)) (2 ^ 32 - 1) < offset + len)) }
@@ -165,14 +200,9 @@ impl Tx {
             × (¬ NeedsRunsAbove 64 self.old.set segment offset len) × MissesSome self.old.set segment offset len }
         ensures faults { IfErr result (λ fault. IsTrue (is_of_set_range fault)) }
     {
-        if !self.has_locked(segment) {
-            return Err(TxFault::NotLocked);
-        }
-        if len == 0 {
-            return Err(TxFault::EmptyRange);
-        }
+        self.check_range(segment, len)?;
         let image = images.image(segment);
-        self.set_bytes(alloc, image.bytes(), segment, offset, len)
+        self.set_bytes(image.bytes(), segment, offset, len)
     }
 
     // Whether the bytes of a write lie in the segment's, and are set.
@@ -188,6 +218,7 @@ impl Tx {
         ensures no_range { (result ≡ Err TxFault.NoRange)
             ↔ ((offset + len ≤ length image.now) × ¬ AreSet self.now segment offset len) }
         ensures not_locked { result ≢ Err TxFault.NotLocked }
+        ensures writable { (s : ℕ) → result ≢ Err (TxFault.ReadOnly s) }
         ensures no_memory { result ≢ Err TxFault.NoMemory }
     {
         if !lies_within(image, offset, len) {
@@ -203,7 +234,7 @@ impl Tx {
     ///
     /// # Errors
     ///
-    /// `NotLocked`, `OutOfSegment` and `NoRange`, looked at in this order. The images are then as before.
+    /// `NotLocked`, `ReadOnly`, `OutOfSegment` and `NoRange`, looked at in this order. The images are then as before.
     pub fn write<I: Images>(
         &self,
         images: &mut I,
@@ -218,7 +249,8 @@ impl Tx {
         ensures ok { IsOk result ↔ (Locked self.now segment
             × (offset + length bytes.now ≤ length (bytes_of I.Images images.old segment))
             × AreSet self.now segment offset (length bytes.now)) }
-        ensures not_locked { (result ≡ Err TxFault.NotLocked) ↔ ¬ Locked self.now segment }
+        ensures not_locked { (result ≡ Err TxFault.NotLocked) ↔ ¬ Holds self.now segment }
+        ensures read_only { (s : ℕ) → (result ≡ Err (TxFault.ReadOnly s)) ↔ (Reads self.now segment × (s ≡ segment)) }
         ensures outside { (result ≡ Err TxFault.OutOfSegment) ↔ (Locked self.now segment
             × (length (bytes_of I.Images images.old segment) < offset + length bytes.now)) }
         ensures no_range { (result ≡ Err TxFault.NoRange) ↔ (Locked self.now segment
@@ -226,8 +258,10 @@ impl Tx {
             × ¬ AreSet self.now segment offset (length bytes.now)) }
         ensures no_memory { result ≢ Err TxFault.NoMemory }
     {
-        if !self.has_locked(segment) {
-            return Err(TxFault::NotLocked);
+        match self.mode_of(segment) {
+            None => return Err(TxFault::NotLocked),
+            Some(LockMode::Shared) => return Err(TxFault::ReadOnly { segment }),
+            Some(LockMode::Exclusive) => {}
         }
         let image = images.image(segment);
         self.check_write(image.bytes(), segment, offset, bytes.len())?;
@@ -235,7 +269,7 @@ impl Tx {
         Ok(())
     }
 
-    /// The `len` bytes of a segment from `offset` on.
+    /// The `len` bytes of a segment from `offset` on, which it locked for writing or for reading.
     ///
     /// # Errors
     ///
@@ -252,14 +286,14 @@ impl Tx {
         ensures bytes { IfOk result (λ v. v.items ≡ take len (drop offset (bytes_of I.Images images.old segment))) }
         ensures images { IsSame I.Images images.old images.new }
         ensures runs { RunsOn I.Images images.new self.now }
-        ensures not_locked { (result ≡ Err TxFault.NotLocked) ↔ ¬ Locked self.now segment }
-        ensures outside { (result ≡ Err TxFault.OutOfSegment) ↔ (Locked self.now segment
+        ensures not_locked { (result ≡ Err TxFault.NotLocked) ↔ ¬ Holds self.now segment }
+        ensures outside { (result ≡ Err TxFault.OutOfSegment) ↔ (Holds self.now segment
             × (length (bytes_of I.Images images.old segment) < offset + len)) }
-        ensures no_memory { result ≡ Err TxFault.NoMemory → Locked self.now segment × (0 < len)
+        ensures no_memory { result ≡ Err TxFault.NoMemory → Holds self.now segment × (0 < len)
             × (offset + len ≤ length (bytes_of I.Images images.old segment)) }
         ensures faults { IfErr result (λ fault. IsTrue (is_of_read fault)) }
     {
-        if !self.has_locked(segment) {
+        if self.mode_of(segment).is_none() {
             return Err(TxFault::NotLocked);
         }
         let image = images.image(segment);

@@ -1,20 +1,56 @@
 //! The end of a transaction.
-ghost use Rattle.std.specs.Prelude.{◌≡◌, ◌↔◌, ◌<◌, ◌≤◌, ℕ, [], None, List, IfOk, IfErr, IfSome, IsTrue, MatchResult};
-ghost use Rattle.lc_record.specs.Record.{record_len, IsRecord};
-ghost use Rattle.lc_tx.specs.Images.{AreHeldBy, AreRestored, IsSame};
+ghost use Rattle.std.specs.Prelude.{◌≡◌, ◌↔◌, ◌<◌, ◌≤◌, ℕ, [], None, List, IfOk, IfErr, IfSome, IsTrue, MatchResult, Some};
+ghost use Rattle.lc_record.specs.Record.{record_layout, record_len, IsRecord};
+ghost use Rattle.lc_record.specs.declared.layout.Layout.{Layout as Laid};
+ghost use Rattle.lc_tx.specs.Walk.{runs_layout};
+ghost use Rattle.lc_tx.specs.Images.{AreReleased, AreRestored, IsSame};
+ghost use Rattle.lc_tx.specs.Locking.{AreBack};
 ghost use Rattle.lc_tx.specs.Prepared.{AreSmall, AreUnspent, IsFirstSpent, IsLoggable, IsRecordOf, final_record};
 ghost use Rattle.lc_range.specs.RangeSet.{IsCanonical};
 ghost use Rattle.lc_tx.specs.Fault.{is_of_end, is_of_needs};
 ghost use Rattle.lc_tx.specs.Tx.{RunsOn};
 
-use crate::limits::MAX_WORDS;
-use crate::locking::hold;
-use crate::recording::{first_spent, record_of, words_of};
+use crate::locking::unlock;
+use crate::recording::{first_spent, layout_of, spell};
 use crate::{Images, Prepared, Tx, TxFault};
-use lc_record::{Items, RecordFault, encode};
+use lc_record::{Items, Layout, MAX_WORDS};
 use std::alloc::Global;
 
 impl Tx {
+    // How the record of the transaction is laid out, in 4096 words at most; None where nothing is set.
+    fn layout<I: Images>(&self, images: &I) -> Result<Option<Layout>, TxFault>
+        requires runs { RunsOn I.Images images.now self.now }
+        requires small { AreSmall I.Images images.now self.now.locked.items }
+        ensures empty { (result ≡ Ok None) ↔ (self.now.set ≡ []) }
+        ensures laid { (node : ℕ) (layout : Laid) → (result ≡ Ok (Some layout)) ↔ (IsLoggable I.Images images.now self.now node
+            × (layout ≡ record_layout (final_record I.Images images.now self.now node))) }
+        ensures runs { (layout : Laid) → result ≡ Ok (Some layout) → layout ≡ runs_layout self.now.set }
+        ensures spent { (node s : ℕ) → (result ≡ Err (TxFault.SequenceSpent s))
+            ↔ IsFirstSpent (final_record I.Images images.now self.now node).locks s }
+        ensures too_long { (node words : ℕ) → (result ≡ Err (TxFault.TooLong words))
+            ↔ (AreUnspent (final_record I.Images images.now self.now node).locks
+            × (4096 < record_len (final_record I.Images images.now self.now node))
+            × (words ≡ record_len (final_record I.Images images.now self.now node))) }
+        ensures faults { IfErr result (λ fault. IsTrue (is_of_needs fault)) }
+        ensures canonical { IsCanonical self.now.set }
+    {
+        let runs = self.set.ranges();
+        if runs.is_empty() {
+            return Ok(None);
+        }
+        if let Some(segment) = first_spent(images, runs) {
+            return Err(TxFault::SequenceSpent { segment });
+        }
+        let layout = layout_of(runs);
+        let words = layout.words();
+        if words > MAX_WORDS {
+            return Err(TxFault::TooLong {
+                words: words as u32,
+            });
+        }
+        Ok(Some(layout))
+    }
+
     /// How many words the record of the transaction takes, 1 to 4096, or None where nothing is set. It takes no memory,
     /// so that a caller looks for room in its log before `prepare_end` takes some.
     ///
@@ -40,22 +76,15 @@ impl Tx {
         ensures faults { IfErr result (λ fault. IsTrue (is_of_needs fault)) }
         ensures canonical { IsCanonical self.now.set }
     {
-        let runs = self.set.ranges();
-        if runs.is_empty() {
+        let Some(needed) = self.layout(images)? else {
             return Ok(None);
-        }
-        if let Some(segment) = first_spent(images, runs) {
-            return Err(TxFault::SequenceSpent { segment });
-        }
-        let words = words_of(runs) as u32;
-        if words > MAX_WORDS {
-            return Err(TxFault::TooLong { words });
-        }
-        Ok(Some(words))
+        };
+        Ok(Some(needed.words() as u32))
     }
 
     /// The record of the transaction, as a node is about to log it: the next number of each segment that has a set
-    /// position, and the final bytes of all that was set. Idea: RVM's new values (Satyanarayanan et al., TOCS 1994).
+    /// position, and the final bytes of all that was set, written straight from the images into memory that is taken at
+    /// once. Idea: RVM's new values (Satyanarayanan et al., TOCS 1994).
     ///
     /// # Errors
     ///
@@ -89,39 +118,44 @@ impl Tx {
         ensures faults { IfErr result (λ fault. IsTrue (is_of_end fault)) }
         ensures canonical { IsCanonical self.now.set }
     {
-        let Some(_words) = self.end_needs(images)? else {
+        let Some(layout) = self.layout(images)? else {
             return Ok(Prepared::Empty);
         };
-        let runs = self.set.ranges();
-        let Ok(record) = record_of(alloc, images, runs, node) else {
+        let Ok(words) = spell(alloc, images, self.set.ranges(), node, &layout) else {
             return Err(TxFault::NoMemory);
         };
-        match encode(alloc, &record) {
-            Ok(words) => Ok(Prepared::Record(Items::new(words))),
-            Err(RecordFault::NoMemory) => Err(TxFault::NoMemory),
-            Err(RecordFault::NotCanonical) => unreachable!(),
-            Err(RecordFault::TooLong { .. }) => unreachable!(),
-        }
+        Ok(Prepared::Record(Items::new(words)))
     }
 
-    /// Ends the transaction without a commit: its segments have the bytes that they had, and are free. It takes no
-    /// memory. Idea: RVM's restore mode (Satyanarayanan et al., TOCS 1994).
-    pub fn abort<I: Images>(self, images: &mut I)
-        requires runs { RunsOn I.Images images.old self }
-        ensures { AreRestored I.Images self.undo self.locked.items images.old images.new }
+    // Gives back the bytes that what it locked for writing had.
+    fn restore<I: Images>(&self, images: &mut I)
+        requires { RunsOn I.Images images.old self.now }
+        ensures { AreBack I.Images self.now.undo self.now.locked.items images.old images.new }
     {
         for segment in self.locked.as_slice() {
             let image = images.image(*segment);
             self.undo.restore(*segment, image.bytes.as_mut_slice());
-            image.holder = None;
         }
     }
 
-    /// Ends the transaction with its writes: its segments are free. It takes no memory.
+    /// Ends the transaction without a commit: what it locked for writing has the bytes that it had, and is free; what it
+    /// locked for reading has one reader less, and is free where it was the last. It takes no memory. Idea: RVM's restore
+    /// mode (Satyanarayanan et al., TOCS 1994).
+    pub fn abort<I: Images>(self, images: &mut I)
+        requires runs { RunsOn I.Images images.old self }
+        ensures { AreRestored I.Images self.undo self.thread self.locked.items self.reading.items images.old images.new }
+    {
+        self.restore(images);
+        self.release(images);
+    }
+
+    /// Ends the transaction with its writes: what it locked for writing is free; what it locked for reading has one
+    /// reader less, and is free where it was the last. It takes no memory.
     pub fn release<I: Images>(self, images: &mut I)
         requires runs { RunsOn I.Images images.old self }
-        ensures { AreHeldBy I.Images None self.locked.items images.old images.new }
+        ensures { AreReleased I.Images self.thread self.locked.items self.reading.items images.old images.new }
     {
-        hold(images, self.locked.as_slice(), None);
+        unlock(images, self.locked.as_slice(), self.thread);
+        unlock(images, self.reading.as_slice(), self.thread);
     }
 }

@@ -1,27 +1,29 @@
 //! A segment's bytes at a node.
-ghost use Rattle.std.specs.Prelude.{◌≡◌, None};
+ghost use Rattle.std.specs.Prelude.{◌≡◌};
 ghost use Rattle.lc_record.specs.Content.{put};
 ghost use Rattle.lc_tx.specs.Image.{laid_over};
+ghost use Rattle.lc_tx.specs.declared.holders.Holders.TheVariants.{Free};
 
+use crate::Holders;
 use lc_record::Part;
 
-/// A segment's bytes as a node has them, with those of open transactions, and the thread whose transaction holds the
-/// segment's lock. This project's own.
+/// A segment's bytes as a node has them, with those of open transactions, and the threads whose transactions hold the
+/// segment. This project's own.
 #[derive(Debug, Drop)]
 pub struct Image {
     pub(crate) bytes: Vec<u8>,
-    pub(crate) holder: Option<u16>,
+    pub(crate) holders: Holders,
 }
 
 impl Image {
     /// The image of these bytes, which no transaction holds.
     pub fn new(bytes: Vec<u8>) -> Self
         ensures bytes { result.bytes ≡ bytes }
-        ensures holder { result.holder ≡ None }
+        ensures holders { result.holders ≡ Free }
     {
         Image {
             bytes,
-            holder: None,
+            holders: Holders::Free,
         }
     }
 
@@ -32,18 +34,18 @@ impl Image {
         self.bytes.as_slice()
     }
 
-    /// The thread whose transaction holds the segment.
-    pub fn holder(&self) -> Option<u16>
-        ensures { result ≡ self.now.holder }
+    /// Whose transactions hold the segment.
+    pub fn holders(&self) -> Holders
+        ensures { result ≡ self.now.holders }
     {
-        self.holder
+        self.holders
     }
 
     /// Lays the bytes of a record's part over its own, the first range first. What reaches past them is left out. It
     /// takes no memory. Idea: a peer applies the ranges that another node committed (Feeley et al., OSDI 1994).
     pub fn put(&mut self, part: &Part)
         ensures bytes { self.new.bytes.items ≡ laid_over part.now.ranges self.old.bytes.items }
-        ensures holder { self.new.holder ≡ self.old.holder }
+        ensures holders { self.new.holders ≡ self.old.holders }
     {
         for range in part.ranges.as_slice() {
             lay(

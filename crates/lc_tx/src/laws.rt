@@ -1,23 +1,31 @@
 //! Laws of transactions: what is kept of one stands for a transaction of the model.
-ghost use Rattle.std.specs.Prelude.{◌≡◌, ◌↔◌, ◌+◌, ◌<◌, ◌≤◌, ℕ, List, [], true, false, map, length, IsTrue};
+ghost use Rattle.std.specs.Prelude.{◌≡◌, ◌≢◌, ◌↔◌, ◌+◌, ◌<◌, ◌≤◌, ◌++◌, ℕ, List, [], None, true, false, map, length, IsTrue};
 ghost use Rattle.lc_record.specs.Content.{Content, segment_of};
 ghost use Rattle.lc_record.specs.Transaction.{Transaction, is_member, all_set};
 ghost use Rattle.lc_record.specs.Marks.{is_empty, ranges, ascending, marked, written};
 ghost use Rattle.lc_record.specs.Recorded.{record_of};
 ghost use Rattle.lc_record.specs.declared.geometry.Geometry.{Geometry};
 ghost use Rattle.lc_range.specs.RangeSet.{IsCanonical, NeedsRunsAbove};
+ghost use Rattle.lc_tx.specs.declared.holders.Holders.{Holders as Held};
+ghost use Rattle.lc_tx.specs.declared.holders.Holders.TheVariants.{Free};
 ghost use Rattle.lc_tx.specs.declared.tx.Tx.{Tx as Kept};
-ghost use Rattle.lc_tx.specs.Images.{bytes_of, IsSame, IsSameBut, IsWritten, AreRestored, AreHeldBy};
-ghost use Rattle.lc_tx.specs.Tx.{IsSetOf, Locked, AreSet, RunsOn, KeepsLocked, Begins, SetsRange};
+ghost use Rattle.lc_tx.specs.Holders.{reads, writer_of};
+ghost use Rattle.lc_tx.specs.Images.{bytes_of, IsLockable, IsSame, IsSameBut, IsWritten, AreReleased, AreRestored};
+ghost use Rattle.lc_tx.specs.Tx.{IsSetOf, Locked, Reads, Holds, AreSet, RunsOn, KeepsLocked, Begins, SetsRange};
 ghost use Rattle.lc_tx.specs.Prepared.{final_record};
 ghost use Rattle.lc_tx.specs.StandsFor.{StandsFor, Show, AreNumbers, begun_on};
 
 use crate::Images;
 
+/// What nobody writes and nobody reads is free.
+pub fn who_is_free()
+    ensures { (holders : Held) → writer_of holders ≡ None → ((thread : ℕ) → reads holders thread ≡ false) → holders ≡ Free }
+{}
+
 /// A transaction that has begun stands for one with nothing set, on the content that its images show.
 pub fn begun<I: Images>()
-    ensures { (old new : I) (thread node : ℕ) (segments : List ℕ) (tx : Kept) (content : Content)
-        → Begins I.Images thread segments old new tx → Show I.Images old segments content
+    ensures { (old new : I) (thread node : ℕ) (segments reading : List ℕ) (tx : Kept) (content : Content)
+        → Begins I.Images thread segments reading old new tx → Show I.Images old (segments ++ reading) content
         → StandsFor I.Images new tx content (begun_on content node tx) }
 {}
 
@@ -47,14 +55,33 @@ pub fn same_images<I: Images>()
 pub fn runs_beside<I: Images>()
     ensures runs { (old new : I) (tx : Kept) → RunsOn I.Images old tx → KeepsLocked I.Images old new tx → RunsOn I.Images new tx }
     ensures apart { (old new : I) (segments : List ℕ) (tx : Kept) → RunsOn I.Images old tx → IsSameBut I.Images segments old new
-        → ((s : ℕ) → Locked tx s → is_member s segments ≡ false) → KeepsLocked I.Images old new tx }
+        → ((s : ℕ) → Holds tx s → is_member s segments ≡ false) → KeepsLocked I.Images old new tx }
+{}
+
+/// What one transaction begins, writes, aborts or releases leaves another its images, that of another thread at the same
+/// node.
+pub fn keep_beside<I: Images>()
+    ensures begin { (old new : I) (thread : ℕ) (segments reading : List ℕ) (tx other : Kept) → RunsOn I.Images old other
+        → Begins I.Images thread segments reading old new tx → ((s : ℕ) → IsLockable I.Images old segments reading s)
+        → KeepsLocked I.Images old new other }
+    ensures write { (old new : I) (segment offset : ℕ) (bytes : List ℕ) (tx other : Kept) → RunsOn I.Images old other
+        → RunsOn I.Images old tx → tx.thread ≢ other.thread → Locked tx segment
+        → IsWritten I.Images old segment offset bytes new → KeepsLocked I.Images old new other }
+    ensures abort { (old new : I) (tx other : Kept) → RunsOn I.Images old other
+        → RunsOn I.Images old tx → tx.thread ≢ other.thread
+        → AreRestored I.Images tx.undo tx.thread tx.locked.items tx.reading.items old new
+        → KeepsLocked I.Images old new other }
+    ensures release { (old new : I) (tx other : Kept) → RunsOn I.Images old other
+        → RunsOn I.Images old tx → tx.thread ≢ other.thread
+        → AreReleased I.Images tx.thread tx.locked.items tx.reading.items old new
+        → KeepsLocked I.Images old new other }
 {}
 
 /// It leaves what it stands for, on whatever the content has become elsewhere.
 pub fn stands_beside<I: Images>()
     ensures { (old new : I) (tx : Kept) (content other : Content) (t : Transaction)
         → StandsFor I.Images old tx content t → RunsOn I.Images old tx → KeepsLocked I.Images old new tx → map length other ≡ map length content
-        → ((s : ℕ) → Locked tx s → segment_of s other ≡ segment_of s content) → StandsFor I.Images new tx other t }
+        → ((s : ℕ) → Holds tx s → segment_of s other ≡ segment_of s content) → StandsFor I.Images new tx other t }
 {}
 
 /// More than 64 runs would stand exactly where the transaction would have more than 64 ranges.
@@ -84,14 +111,22 @@ pub fn one_record<I: Images>()
         → final_record I.Images images tx t.node ≡ record_of numbers content t }
 {}
 
+/// What it locked for reading shows the content.
+pub fn read_shows_content<I: Images>()
+    ensures { (images : I) (tx : Kept) (content : Content) (t : Transaction) (segment : ℕ)
+        → StandsFor I.Images images tx content t → RunsOn I.Images images tx → Reads tx segment
+        → bytes_of I.Images images segment ≡ segment_of segment content }
+{}
+
 /// An abort brings the content back.
 pub fn content_is_back<I: Images>()
     ensures { (old new : I) (tx : Kept) (content : Content) (t : Transaction) (segment : ℕ)
-        → StandsFor I.Images old tx content t → AreRestored I.Images tx.undo tx.locked.items old new → Locked tx segment
+        → StandsFor I.Images old tx content t → AreRestored I.Images tx.undo tx.thread tx.locked.items tx.reading.items old new → Locked tx segment
         → bytes_of I.Images new segment ≡ segment_of segment content }
 {}
 
-/// The segments that a transaction locked, of a store of this geometry, are those that were asked for, ascending.
+/// The segments that a transaction locked for writing, or for reading, of a store of this geometry, are those that were
+/// asked for, ascending.
 pub fn one_ascending_list()
     ensures { (g : Geometry) (segments set : List ℕ) → IsSetOf segments set
         → ((segment : ℕ) → IsTrue (is_member segment segments) → (1 ≤ segment) × (segment ≤ g.segments))

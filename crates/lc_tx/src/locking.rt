@@ -1,44 +1,46 @@
 //! Which segments are free, and who holds them.
-ghost use Rattle.std.specs.Prelude.{◌≡◌, ◌↔◌, ◌++◌, ◌≤◌, ℕ, Some, None, ◌<◌, List, IsTrue, MatchOption, length, take, drop, min, OnOk, OnErr, IfOk};
+ghost use Rattle.std.specs.Prelude.{◌≡◌, ◌↔◌, ◌++◌, ◌≤◌, ℕ, ◌<◌, List, IsTrue, length, take, drop, OnOk, OnErr, IfOk};
 ghost use Rattle.smallvec.specs.SmallVec.{small_vec_len};
 ghost use Rattle.lc_record.specs.Transaction.{is_member};
-ghost use Rattle.lc_tx.specs.Images.{IsHere, IsFree, IsFirstTaken, IsSame, AreHeldBy};
-ghost use Rattle.lc_tx.specs.Tx.{IsSetOf};
+ghost use Rattle.lc_tx.specs.Images.{IsHere, IsSame};
+ghost use Rattle.lc_tx.specs.Locking.{CanLock, IsLeastShut, AreTaken, AreLeft, lesser};
+ghost use Rattle.lc_tx.specs.Tx.{IsSetOf, none_of};
 ghost use Rattle.lc_tx.specs.Prepared.{with_number};
 ghost use Rattle.lc_tx.specs.Walk.{with_in_order};
 
 use crate::Images;
+use crate::lock_mode::LockMode;
 use smallvec::SmallVec;
 use std::alloc::{AllocError, Global};
 
-// Whether the segment's token is here, and no transaction holds it.
-fn is_free<I: Images>(images: &mut I, segment: u32) -> bool
-    ensures free { IsTrue result ↔ IsFree I.Images images.old segment }
+// Whether the segment's token is here, and those who hold the segment let it be locked.
+fn can_lock<I: Images>(images: &mut I, segment: u32, mode: LockMode) -> bool
+    ensures can { IsTrue result ↔ CanLock I.Images mode images.old segment }
     ensures same { IsSame I.Images images.old images.new }
 {
-    images.number(segment).is_some() && images.image(segment).holder.is_none()
+    images.number(segment).is_some() && images.image(segment).holders.allow(mode)
 }
 
-// The lesser of two numbers, of which the first may be missing.
-fn lesser(least: Option<u32>, number: u32) -> u32
-    ensures { MatchOption least (result ≡ number) (λ n. result ≡ min n number) }
+/// The lesser of two numbers, either of which may be missing.
+pub fn lesser(one: Option<u32>, other: Option<u32>) -> Option<u32>
+    ensures { result ≡ lesser one other }
 {
-    match least {
-        Some(least) => least.min(number),
-        None => number,
+    match (one, other) {
+        (Some(one), Some(other)) => Some(one.min(other)),
+        (one, None) => one,
+        (None, other) => other,
     }
 }
 
-/// The least of these segments that is not free.
-pub fn first_taken<I: Images>(images: &mut I, segments: &[u32]) -> Option<u32>
-    ensures some { (s : ℕ) → (result ≡ Some s) ↔ IsFirstTaken I.Images images.old segments.now s }
-    ensures none { result ≡ None → (s : ℕ) → IsTrue (is_member s segments.now) → IsFree I.Images images.old s }
+/// The least of these segments that cannot be locked in this mode.
+pub fn first_shut<I: Images>(images: &mut I, segments: &[u32], mode: LockMode) -> Option<u32>
+    ensures least { IsLeastShut I.Images mode images.old segments.now result }
     ensures same { IsSame I.Images images.old images.new }
 {
     let mut first = None;
     for segment in segments {
-        if !is_free(images, *segment) {
-            first = Some(lesser(first, *segment));
+        if !can_lock(images, *segment, mode) {
+            first = lesser(first, Some(*segment));
         }
     }
     first
@@ -72,24 +74,51 @@ fn insert(set: &mut SmallVec<u32, 16>, number: u32) -> Result<(), AllocError>
     Ok(())
 }
 
+/// Those numbers that are none of these, as a set: ascending, each once. It takes no memory for 16.
+pub fn set_beside(
+    alloc: Global,
+    these: &[u32],
+    numbers: &[u32],
+) -> Result<SmallVec<u32, 16>, AllocError>
+    ensures set { IfOk result (λ set. IsSetOf (none_of these.now numbers.now) set.items) }
+    ensures memory { OnErr result ((set : List ℕ) × IsSetOf (none_of these.now numbers.now) set × (16 < length set)) }
+{
+    let mut set = SmallVec::new(alloc);
+    for number in numbers {
+        if !these.contains(number) {
+            insert(&mut set, *number)?;
+        }
+    }
+    Ok(set)
+}
+
 /// These numbers as a set: ascending, each once. It takes no memory for 16.
 pub fn set_of(alloc: Global, numbers: &[u32]) -> Result<SmallVec<u32, 16>, AllocError>
     ensures set { IfOk result (λ set. IsSetOf numbers.now set.items) }
     ensures memory { OnErr result ((set : List ℕ) × IsSetOf numbers.now set × (16 < length set)) }
 {
-    let mut set = SmallVec::new(alloc);
-    for number in numbers {
-        insert(&mut set, *number)?;
-    }
-    Ok(set)
+    set_beside(alloc, &[], numbers)
 }
 
-/// Gives each of the segments, which are here, this holder.
-pub fn hold<I: Images>(images: &mut I, segments: &[u32], holder: Option<u16>)
-    requires { (s : ℕ) → IsTrue (is_member s segments.now) → IsHere I.Images images.old s }
-    ensures { AreHeldBy I.Images holder segments.now images.old images.new }
+/// Locks each of these segments, which are here, in this mode.
+pub fn lock<I: Images>(images: &mut I, segments: &[u32], thread: u16, mode: LockMode)
+    requires here { (s : ℕ) → IsTrue (is_member s segments.now) → IsHere I.Images images.old s }
+    requires thread { thread < 16 }
+    ensures { AreTaken I.Images mode thread segments.now images.old images.new }
 {
     for segment in segments {
-        images.image(*segment).holder = holder;
+        let image = images.image(*segment);
+        image.holders = image.holders.with(thread, mode);
+    }
+}
+
+/// Gives the thread's lock of each of these segments back, which are here.
+pub fn unlock<I: Images>(images: &mut I, segments: &[u32], thread: u16)
+    requires { (s : ℕ) → IsTrue (is_member s segments.now) → IsHere I.Images images.old s }
+    ensures { AreLeft I.Images thread segments.now images.old images.new }
+{
+    for segment in segments {
+        let image = images.image(*segment);
+        image.holders = image.holders.without(thread);
     }
 }

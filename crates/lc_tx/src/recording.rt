@@ -1,17 +1,17 @@
 //! The record of a transaction's runs.
-ghost use Rattle.std.specs.Prelude.{◌≡◌, ◌+◌, ◌<◌, ◌≤◌, ◌^◌, ℕ, IsTrue, length, map, take, drop, unwrap_or, IfOk};
-ghost use Rattle.lc_record.specs.Transaction.{is_member};
-ghost use Rattle.std.specs.List.{AllByRecursion};
+ghost use Rattle.std.specs.Prelude.{◌≡◌, ◌+◌, ◌*◌, ◌<◌, ◌≤◌, ◌^◌, ◌++◌, length, map, take, drop, unwrap_or, IfOk};
+ghost use Rattle.std.specs.List.{AllByRecursion, flat_map};
 ghost use Rattle.lc_record.specs.Words.{AreBytes};
+ghost use Rattle.lc_record.specs.Layout.{layout_len};
+ghost use Rattle.lc_record.specs.Record.{spelling as spelling_of, lock_words, range_words};
 ghost use Rattle.lc_range.specs.RangeSet.{EndWithin};
-ghost use Rattle.lc_tx.specs.Images.{IsHere, IsSame, bytes_of};
-ghost use Rattle.lc_tx.specs.Prepared.{AreUnspent, run_data, segments_of};
-ghost use Rattle.lc_tx.specs.Walk.{locks_of, run_words, spent_in, words_of, AreFromOne, AreInside};
+ghost use Rattle.lc_tx.specs.Images.{IsSame};
+ghost use Rattle.lc_tx.specs.Prepared.{AreUnspent, run_data, runs_record, segments_of};
+ghost use Rattle.lc_tx.specs.Walk.{locks_of, runs_layout, spent_in, AreFromOne, AreInside};
 
 use crate::Images;
-use crate::limits::{LOCK_WORDS, MAX_NUMBER, RANGE_WORDS, RECORD_WORDS, WORD};
 use lc_range::Range;
-use lc_record::{Items, Lock, RangeData, Record};
+use lc_record::{Layout, Lock, MAX_SEQ, Spelling};
 use std::alloc::{AllocError, Global};
 
 // The number of a segment's token.
@@ -26,116 +26,103 @@ pub fn first_spent<I: Images>(images: &I, runs: &[Range]) -> Option<u32>
     ensures { result ≡ spent_in I.Images images.now runs.now }
 {
     for run in runs {
-        if number(images, run.segment) >= MAX_NUMBER {
+        if number(images, run.segment) >= MAX_SEQ {
             return Some(run.segment);
         }
     }
     None
 }
 
-// The words of a run.
-fn run_words(run: &Range) -> usize
-    ensures { result ≡ run_words run.now }
-{
-    RANGE_WORDS + (run.len as usize).div_ceil(WORD)
-}
-
-/// How many words the record of these runs takes.
-pub fn words_of(runs: &[Range]) -> usize
+/// How the record of these runs is laid out.
+pub fn layout_of(runs: &[Range]) -> Layout
     requires few { length runs.now ≤ 64 }
-    requires short { EndWithin runs.now 16384 }
+    requires short { EndWithin runs.now 262144 }
     requires numbered { AreFromOne runs.now }
-    ensures words { result ≡ words_of runs.now }
-    ensures fits { result < 2 ^ 32 }
+    ensures laid { result ≡ runs_layout runs.now }
+    ensures fits { layout_len result < 2 ^ 32 }
 {
-    let mut words = RECORD_WORDS;
+    let mut layout = Layout::new();
     let mut last = 0;
     for run in runs {
         if run.segment != last {
-            words += LOCK_WORDS;
             last = run.segment;
+            layout.add_lock();
         }
-        words += run_words(run);
     }
-    words
+    for run in runs {
+        layout.add_range(run.offset, run.len as usize);
+    }
+    layout
 }
 
-// A lock for each segment of these runs, with its next number.
-fn locks_of<I: Images>(alloc: Global, images: &I, runs: &[Range]) -> Result<Vec<Lock>, AllocError>
+/// The words of the record of these runs: the next number of each segment, and the bytes of each run, straight from the
+/// images.
+pub fn spell<I: Images>(
+    alloc: Global,
+    images: &mut I,
+    runs: &[Range],
+    node: u16,
+    layout: &Layout,
+) -> Result<Vec<u64>, AllocError>
+    requires numbered { AreFromOne runs.now }
+    requires unspent { AreUnspent (locks_of I.Images images.old runs.now) }
+    requires inside { AreInside I.Images images.old runs.now }
+    requires laid { layout.now ≡ runs_layout runs.now }
+    requires short { layout_len layout.now ≤ 4096 }
+    ensures words { IfOk result (λ words. words.items ≡ spelling_of (runs_record I.Images images.old runs.now node)) }
+    ensures fit { IfOk result (λ words. AllByRecursion (λ it. AreBytes it.bytes) (map (run_data I.Images images.old) runs.now)) }
+    ensures same { IsSame I.Images images.old images.new }
+{
+    let mut spelling = Spelling::new(alloc, node, layout)?;
+    add_locks(&mut spelling, images, runs);
+    add_ranges(&mut spelling, images, runs);
+    Ok(spelling.finish())
+}
+
+// Adds a lock for each segment of these runs, with its next number.
+fn add_locks<I: Images>(spelling: &mut Spelling, images: &I, runs: &[Range])
     requires numbered { AreFromOne runs.now }
     requires unspent { AreUnspent (locks_of I.Images images.now runs.now) }
-    ensures { IfOk result (λ locks. locks.items ≡ locks_of I.Images images.now runs.now) }
+    requires room { length spelling.old.words + 2 * length (segments_of runs.now) ≤ spelling.old.len }
+    ensures { spelling.new ≡ record spelling.old {
+      words = spelling.old.words ++ flat_map lock_words (locks_of I.Images images.now runs.now);
+    } }
 {
-    let mut locks = Vec::new(alloc);
     let mut last = 0;
     for run in runs {
         if run.segment != last {
             last = run.segment;
             let seq = number(images, last) + 1;
-            locks.push(Lock { segment: last, seq })?;
+            spelling.add_lock(Lock { segment: last, seq });
         }
     }
-    Ok(locks)
 }
 
-// A run with the bytes that an image has there.
-fn run_data(alloc: Global, image: &[u8], run: &Range) -> Result<RangeData, AllocError>
-    requires { run.now.offset + run.now.len ≤ length image.now }
-    ensures segment { IfOk result (λ it. it.segment ≡ run.now.segment) }
-    ensures offset { IfOk result (λ it. it.offset ≡ run.now.offset) }
-    ensures bytes { IfOk result (λ it. it.bytes ≡ take run.now.len (drop run.now.offset image.now)) }
-    ensures fit { IfOk result (λ it. AreBytes it.bytes) }
-{
-    let start = run.offset as usize;
-    let bytes = Vec::from_slice(alloc, &image[start..start + run.len as usize])?;
-    Ok(RangeData {
-        segment: run.segment,
-        offset: run.offset,
-        bytes: Items::new(bytes),
-    })
-}
-
-// The runs with their bytes.
-fn ranges_of<I: Images>(
-    alloc: Global,
-    images: &mut I,
-    runs: &[Range],
-) -> Result<Vec<RangeData>, AllocError>
-    requires { AreInside I.Images images.old runs.now }
-    ensures ranges { IfOk result (λ ranges. ranges.items ≡ map (run_data I.Images images.old) runs.now) }
-    ensures fit { IfOk result (λ ranges. AllByRecursion (λ it. AreBytes it.bytes) ranges.items) }
+// Adds the runs, with the bytes that the images have there.
+fn add_ranges<I: Images>(spelling: &mut Spelling, images: &mut I, runs: &[Range])
+    requires inside { AreInside I.Images images.old runs.now }
+    requires room { length spelling.old.words
+        + length (flat_map (range_words spelling.old.version) (map (run_data I.Images images.old) runs.now)) ≤ spelling.old.len }
+    ensures spelled { spelling.new ≡ record spelling.old {
+      words = spelling.old.words
+          ++ flat_map (range_words spelling.old.version) (map (run_data I.Images images.old) runs.now);
+    } }
+    ensures fit { AllByRecursion (λ it. AreBytes it.bytes) (map (run_data I.Images images.old) runs.now) }
     ensures same { IsSame I.Images images.old images.new }
 {
-    let mut ranges = Vec::with_capacity(alloc, runs.len())?;
     for run in runs {
         let image = images.image(run.segment);
-        let data = run_data(alloc, image.bytes(), run)?;
-        ranges.push(data)?;
+        let bytes = run_bytes(image.bytes(), run);
+        spelling.add_range(run.segment, run.offset, bytes);
     }
-    Ok(ranges)
 }
 
-/// The record of these runs: the next number of each segment, and the bytes of each run.
-pub fn record_of<I: Images>(
-    alloc: Global,
-    images: &mut I,
-    runs: &[Range],
-    node: u16,
-) -> Result<Record, AllocError>
-    requires numbered { AreFromOne runs.now }
-    requires unspent { AreUnspent (locks_of I.Images images.old runs.now) }
-    requires inside { AreInside I.Images images.old runs.now }
-    ensures node { IfOk result (λ r. r.node ≡ node) }
-    ensures locks { IfOk result (λ r. r.locks ≡ locks_of I.Images images.old runs.now) }
-    ensures ranges { IfOk result (λ r. r.ranges ≡ map (run_data I.Images images.old) runs.now) }
-    ensures fit { IfOk result (λ r. AllByRecursion (λ it. AreBytes it.bytes) r.ranges) }
-    ensures same { IsSame I.Images images.old images.new }
+// The bytes that an image has in a run.
+fn run_bytes<'a>(image: &'a [u8], run: &Range) -> &'a [u8]
+    requires { run.now.offset + run.now.len ≤ length image.now }
+    ensures bytes { result.now ≡ take run.now.len (drop run.now.offset image.now) }
+    ensures fit { AreBytes result.now }
 {
-    let locks = locks_of(alloc, images, runs)?;
-    let ranges = ranges_of(alloc, images, runs)?;
-    Ok(Record {
-        node,
-        locks: Items::new(locks),
-        ranges: Items::new(ranges),
-    })
+    let start = run.offset as usize;
+    &image[start..start + run.len as usize]
 }

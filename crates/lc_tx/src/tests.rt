@@ -78,7 +78,7 @@ fn prepare(alloc: Global, images: &mut TwoImages, tx: &Tx, node: u16) -> Result<
     requires node { node ≤ 7 }
     ensures { RunsOn ⟦<TwoImages as Images>⟧ images.new tx.now }
 {
-    if images.first.bytes().len() > 16384 || images.second.bytes().len() > 16384 {
+    if images.first.bytes().len() > 262144 || images.second.bytes().len() > 262144 {
         return Err(TxFault::NoMemory);
     }
     tx.prepare_end(alloc, images, node)
@@ -88,7 +88,7 @@ fn prepare(alloc: Global, images: &mut TwoImages, tx: &Tx, node: u16) -> Result<
 fn needs(images: &TwoImages, tx: &Tx) -> Result<Option<u32>, TxFault>
     requires { RunsOn ⟦<TwoImages as Images>⟧ images.now tx.now }
 {
-    if images.first.bytes().len() > 16384 || images.second.bytes().len() > 16384 {
+    if images.first.bytes().len() > 262144 || images.second.bytes().len() > 262144 {
         return Err(TxFault::NoMemory);
     }
     tx.end_needs(images)
@@ -96,7 +96,6 @@ fn needs(images: &TwoImages, tx: &Tx) -> Result<Option<u32>, TxFault>
 
 // Sets these ranges of a segment, each an offset and a length.
 fn set_all(
-    alloc: Global,
     images: &mut TwoImages,
     tx: &mut Tx,
     segment: u32,
@@ -106,7 +105,7 @@ fn set_all(
     ensures { RunsOn ⟦<TwoImages as Images>⟧ images.new tx.new }
 {
     for (offset, len) in ranges {
-        tx.set_range(alloc, images, segment, *offset, *len)?;
+        tx.set_range(images, segment, *offset, *len)?;
     }
     Ok(())
 }
@@ -122,16 +121,10 @@ fn words_of(prepared: Prepared) -> Option<Items<u64>> {
 fn ranges_merge_in_the_record(rt: HostRuntime) -> Result<(), Fail> {
     let alloc = rt.alloc();
     let mut images = two_images(alloc, 256)?;
-    let mut tx = Tx::begin(alloc, &mut images, 3, &[1])?;
+    let mut tx = Tx::begin(alloc, &mut images, 3, &[1], &[])?;
     assert_eq!(rt; tx.thread(), 3);
-    assert_eq!(rt; images.first.holder(), Some(3));
-    set_all(
-        alloc,
-        &mut images,
-        &mut tx,
-        1,
-        &[(0, 4), (4, 4), (2, 3), (20, 1)],
-    )?;
+    assert_eq!(rt; images.first.holders().writer(), Some(3));
+    set_all(&mut images, &mut tx, 1, &[(0, 4), (4, 4), (2, 3), (20, 1)])?;
     assert_eq!(rt; needs(&images, &tx), Ok(Some(11)));
     let prepared = prepare(alloc, &mut images, &tx, 0)?;
     let words = words_of(prepared).ok_or("something was set")?;
@@ -155,7 +148,7 @@ fn ranges_merge_in_the_record(rt: HostRuntime) -> Result<(), Fail> {
         (1, 20, 1)
     );
     tx.release(&mut images);
-    assert_eq!(rt; images.first.holder(), None);
+    assert!(rt; images.first.holders().is_free());
     Ok(())
 }
 
@@ -163,25 +156,22 @@ fn ranges_merge_in_the_record(rt: HostRuntime) -> Result<(), Fail> {
 fn ranges_and_writes_outside_are_refused(rt: HostRuntime) -> Result<(), Fail> {
     let alloc = rt.alloc();
     let mut images = two_images(alloc, 256)?;
-    let mut tx = Tx::begin(alloc, &mut images, 0, &[1])?;
-    assert_eq!(rt; tx.set_range(alloc, &mut images, 1, 250, 6), Ok(()));
+    let mut tx = Tx::begin(alloc, &mut images, 0, &[1], &[])?;
+    assert_eq!(rt; tx.set_range(&mut images, 1, 250, 6), Ok(()));
     assert_eq!(rt;
-        tx.set_range(alloc, &mut images, 1, 251, 6),
+        tx.set_range(&mut images, 1, 251, 6),
         Err(TxFault::OutOfSegment)
     );
     assert_eq!(rt;
-        tx.set_range(alloc, &mut images, 1, 5, 0),
+        tx.set_range(&mut images, 1, 5, 0),
         Err(TxFault::EmptyRange)
     );
     assert_eq!(rt;
-        tx.set_range(alloc, &mut images, 1, u32::MAX, 2),
+        tx.set_range(&mut images, 1, u32::MAX, 2),
         Err(TxFault::OutOfSegment)
     );
-    assert_eq!(rt;
-        tx.set_range(alloc, &mut images, 2, 0, 1),
-        Err(TxFault::NotLocked)
-    );
-    tx.set_range(alloc, &mut images, 1, 10, 4)?;
+    assert_eq!(rt; tx.set_range(&mut images, 2, 0, 1), Err(TxFault::NotLocked));
+    tx.set_range(&mut images, 1, 10, 4)?;
     assert_eq!(rt;
         tx.write(&mut images, 1, 10, b"abcde"),
         Err(TxFault::NoRange)
@@ -213,16 +203,16 @@ fn an_abort_gives_the_bytes_back(rt: HostRuntime) -> Result<(), Fail> {
     let old = [0x61, 0x62, 0x63, 0x64, 0x65, 0x66];
     let mut images = two_images(alloc, 6)?;
     images.first = Image::new(Vec::from_slice(alloc, &old)?);
-    let mut tx = Tx::begin(alloc, &mut images, 7, &[1])?;
-    tx.set_range(alloc, &mut images, 1, 0, 4)?;
+    let mut tx = Tx::begin(alloc, &mut images, 7, &[1], &[])?;
+    tx.set_range(&mut images, 1, 0, 4)?;
     tx.write(&mut images, 1, 0, &[1, 2, 3, 4])?;
-    tx.set_range(alloc, &mut images, 1, 2, 4)?;
+    tx.set_range(&mut images, 1, 2, 4)?;
     tx.write(&mut images, 1, 2, &[0xa, 0xb, 0xc, 0xd])?;
     let read = tx.read(alloc, &mut images, 1, 0, 6)?;
     assert_eq!(rt; read.as_slice(), [1, 2, 0xa, 0xb, 0xc, 0xd].as_slice());
     tx.abort(&mut images);
     assert_eq!(rt; images.first.bytes(), old.as_slice());
-    assert_eq!(rt; images.first.holder(), None);
+    assert!(rt; images.first.holders().is_free());
     Ok(())
 }
 
@@ -230,10 +220,10 @@ fn an_abort_gives_the_bytes_back(rt: HostRuntime) -> Result<(), Fail> {
 fn nothing_set_is_nothing_to_log(rt: HostRuntime) -> Result<(), Fail> {
     let alloc = rt.alloc();
     let mut images = two_images(alloc, 256)?;
-    let tx = Tx::begin(alloc, &mut images, 0, &[1, 2])?;
+    let tx = Tx::begin(alloc, &mut images, 0, &[1, 2], &[])?;
     assert_eq!(rt; needs(&images, &tx), Ok(None));
     assert!(rt; words_of(prepare(alloc, &mut images, &tx, 0)?).is_none());
-    let none = Tx::begin(alloc, &mut images, 1, &[])?;
+    let none = Tx::begin(alloc, &mut images, 1, &[], &[])?;
     assert!(rt; none.locked().is_empty());
     Ok(())
 }
@@ -242,17 +232,17 @@ fn nothing_set_is_nothing_to_log(rt: HostRuntime) -> Result<(), Fail> {
 fn a_transaction_has_64_ranges_at_most(rt: HostRuntime) -> Result<(), Fail> {
     let alloc = rt.alloc();
     let mut images = two_images(alloc, 256)?;
-    let mut tx = Tx::begin(alloc, &mut images, 0, &[1])?;
+    let mut tx = Tx::begin(alloc, &mut images, 0, &[1], &[])?;
     let mut ranges = [(0, 1); 64];
     for i in 0..64 {
         ranges[i as usize] = (2 * i, 1);
     }
-    set_all(alloc, &mut images, &mut tx, 1, &ranges)?;
+    set_all(&mut images, &mut tx, 1, &ranges)?;
     assert_eq!(rt;
-        tx.set_range(alloc, &mut images, 1, 200, 1),
+        tx.set_range(&mut images, 1, 200, 1),
         Err(TxFault::TooManyRanges)
     );
-    assert_eq!(rt; tx.set_range(alloc, &mut images, 1, 1, 1), Ok(()));
+    assert_eq!(rt; tx.set_range(&mut images, 1, 1, 1), Ok(()));
     assert_eq!(rt; tx.set().ranges().len(), 63);
     Ok(())
 }
@@ -263,9 +253,9 @@ fn only_what_was_set_is_logged(rt: HostRuntime) -> Result<(), Fail> {
     let mut images = two_images(alloc, 256)?;
     images.first_number = Some(4);
     images.second_number = Some(6);
-    let mut tx = Tx::begin(alloc, &mut images, 0, &[2, 1, 2])?;
+    let mut tx = Tx::begin(alloc, &mut images, 0, &[2, 1, 2], &[])?;
     assert_eq!(rt; tx.locked(), [1, 2].as_slice());
-    tx.set_range(alloc, &mut images, 2, 0, 1)?;
+    tx.set_range(&mut images, 2, 0, 1)?;
     let words = words_of(prepare(alloc, &mut images, &tx, 5)?).ok_or("something was set")?;
     let (record, _) = decode(alloc, words.as_slice())?.ok_or("the words begin with a record")?;
     assert_eq!(rt; record.node, 5);
@@ -282,9 +272,9 @@ fn numbers_end_at_2_to_60(rt: HostRuntime) -> Result<(), Fail> {
     for (number, is_spent) in [((1 << 60) - 1, false), (1 << 60, true), (u64::MAX, true)] {
         let mut images = two_images(alloc, 256)?;
         images.second_number = Some(number);
-        let mut tx = Tx::begin(alloc, &mut images, 0, &[1, 2])?;
-        tx.set_range(alloc, &mut images, 1, 0, 1)?;
-        tx.set_range(alloc, &mut images, 2, 0, 1)?;
+        let mut tx = Tx::begin(alloc, &mut images, 0, &[1, 2], &[])?;
+        tx.set_range(&mut images, 1, 0, 1)?;
+        tx.set_range(&mut images, 2, 0, 1)?;
         let spent = TxFault::SequenceSpent { segment: 2 };
         let answer = if is_spent { Err(spent) } else { Ok(Some(13)) };
         assert_eq!(rt; needs(&images, &tx), answer);
@@ -298,9 +288,9 @@ fn numbers_end_at_2_to_60(rt: HostRuntime) -> Result<(), Fail> {
 fn a_record_has_4096_words_at_most(rt: HostRuntime) -> Result<(), Fail> {
     let alloc = rt.alloc();
     let mut images = two_images(alloc, 16384)?;
-    let mut tx = Tx::begin(alloc, &mut images, 0, &[1, 2])?;
-    tx.set_range(alloc, &mut images, 1, 0, 16384)?;
-    tx.set_range(alloc, &mut images, 2, 0, 16384)?;
+    let mut tx = Tx::begin(alloc, &mut images, 0, &[1, 2], &[])?;
+    tx.set_range(&mut images, 1, 0, 16384)?;
+    tx.set_range(&mut images, 2, 0, 16384)?;
     let long = TxFault::TooLong { words: 4107 };
     assert_eq!(rt; needs(&images, &tx), Err(long));
     assert_eq!(rt; prepare(alloc, &mut images, &tx, 0).err(), Some(long));
@@ -313,7 +303,7 @@ fn codes_behind(alloc: Global, images: &mut TwoImages, tx: &mut Tx, segment: u32
     ensures { RunsOn ⟦<TwoImages as Images>⟧ images.new tx.new }
 {
     let mut codes = [0; 3];
-    if let Err(fault) = tx.set_range(alloc, images, segment, 256, 1) {
+    if let Err(fault) = tx.set_range(images, segment, 256, 1) {
         codes[0] = fault.code();
     }
     if let Err(fault) = tx.write(images, segment, 256, b"a") {
@@ -329,7 +319,7 @@ fn codes_behind(alloc: Global, images: &mut TwoImages, tx: &mut Tx, segment: u32
 fn an_unlocked_segment_is_refused_before_its_length(rt: HostRuntime) -> Result<(), Fail> {
     let alloc = rt.alloc();
     let mut images = two_images(alloc, 256)?;
-    let mut tx = Tx::begin(alloc, &mut images, 0, &[1])?;
+    let mut tx = Tx::begin(alloc, &mut images, 0, &[1], &[])?;
     assert_eq!(rt; codes_behind(alloc, &mut images, &mut tx, 1), [4, 4, 4]);
     assert_eq!(rt; codes_behind(alloc, &mut images, &mut tx, 2), [5, 5, 5]);
     Ok(())
@@ -345,12 +335,12 @@ fn what_does_not_grow_wants_no_memory(rt: HostRuntime) -> Result<(), Fail> {
     };
     let mut segments = [2; 17];
     segments[8] = 1;
-    let mut tx = Tx::begin(alloc, &mut images, 1, &segments)?;
+    let mut tx = Tx::begin(alloc, &mut images, 1, &segments, &[])?;
     assert_eq!(rt; tx.locked(), [1, 2].as_slice());
     assert!(rt; tx.read(alloc, &mut images, 1, 64, 0)?.is_empty());
     assert!(rt; words_of(prepare(alloc, &mut images, &tx, 0)?).is_none());
-    set_again(&rt, alloc, &mut images, &mut tx, 4)?;
-    assert_eq!(rt; tx.set_range(alloc, &mut images, 1, 4, 2), Ok(()));
+    set_again(&rt, &mut images, &mut tx, 4)?;
+    assert_eq!(rt; tx.set_range(&mut images, 1, 4, 2), Ok(()));
     assert_eq!(rt; needs(&images, &tx), Ok(Some(8)));
     Ok(())
 }
@@ -360,15 +350,53 @@ fn the_least_reason_is_given(rt: HostRuntime) -> Result<(), Fail> {
     let alloc = rt.alloc();
     let mut images = two_images(alloc, 256)?;
     images.second_number = None;
-    let held = Tx::begin(alloc, &mut images, 1, &[1])?;
-    let fault = Tx::begin(alloc, &mut images, 2, &[2, 1]).err();
+    let held = Tx::begin(alloc, &mut images, 1, &[1], &[])?;
+    let fault = Tx::begin(alloc, &mut images, 2, &[2, 1], &[]).err();
     assert_eq!(rt; fault, Some(TxFault::Busy { segment: 1 }));
     held.release(&mut images);
-    let fault = Tx::begin(alloc, &mut images, 2, &[2, 1]).err();
+    let fault = Tx::begin(alloc, &mut images, 2, &[2, 1], &[]).err();
     assert_eq!(rt; fault, Some(TxFault::NotHere { segment: 2 }));
-    assert_eq!(rt; images.first.holder(), None);
-    let fault = Tx::begin(alloc, &mut images, 2, &[0]).err();
+    assert!(rt; images.first.holders().is_free());
+    let fault = Tx::begin(alloc, &mut images, 2, &[0], &[]).err();
     assert_eq!(rt; fault, Some(TxFault::NotHere { segment: 0 }));
+    Ok(())
+}
+
+#[test]
+fn readers_hold_a_segment_side_by_side(rt: HostRuntime) -> Result<(), Fail> {
+    let alloc = rt.alloc();
+    let mut images = two_images(alloc, 256)?;
+    let mut one = Tx::begin(alloc, &mut images, 0, &[], &[1])?;
+    let other = Tx::begin(alloc, &mut images, 1, &[], &[1])?;
+    let busy = Some(TxFault::Busy { segment: 1 });
+    let fault = Tx::begin(alloc, &mut images, 2, &[1], &[]).err();
+    assert_eq!(rt; fault, busy);
+    let read_only = TxFault::ReadOnly { segment: 1 };
+    assert_eq!(rt; one.set_range(&mut images, 1, 0, 1), Err(read_only));
+    assert_eq!(rt; read_only.code(), 11);
+    assert_eq!(rt;
+        one.read(alloc, &mut images, 1, 0, 1)?.as_slice(),
+        [0].as_slice()
+    );
+    one.release(&mut images);
+    other.abort(&mut images);
+    let writer = Tx::begin(alloc, &mut images, 2, &[1], &[])?;
+    let fault = Tx::begin(alloc, &mut images, 0, &[], &[1]).err();
+    assert_eq!(rt; fault, busy);
+    writer.release(&mut images);
+    Ok(())
+}
+
+#[test]
+fn a_segment_of_both_lists_is_written(rt: HostRuntime) -> Result<(), Fail> {
+    let alloc = rt.alloc();
+    let mut images = two_images(alloc, 256)?;
+    let mut tx = Tx::begin(alloc, &mut images, 0, &[1], &[1])?;
+    assert_eq!(rt; tx.locked(), [1].as_slice());
+    assert!(rt; tx.reading().is_empty());
+    tx.set_range(&mut images, 1, 0, 1)?;
+    tx.write(&mut images, 1, 0, b"a")?;
+    assert_eq!(rt; images.first.bytes()[0], 0x61);
     Ok(())
 }
 
@@ -427,6 +455,11 @@ fn faults_have_texts_and_numbers(rt: HostRuntime) -> Result<(), Fail> {
         ),
         (TxFault::EmptyRange, "the range is empty", 9),
         (TxFault::TooManyRanges, "there are too many ranges", 10),
+        (
+            TxFault::ReadOnly { segment: 6 },
+            "the transaction locked segment 6 for reading",
+            11,
+        ),
     ] {
         let written = fault.to_string(rt.alloc())?;
         assert_eq!(rt; written.as_str(), text);
@@ -439,12 +472,12 @@ fn faults_have_texts_and_numbers(rt: HostRuntime) -> Result<(), Fail> {
 fn begin_again(rt: &impl Abort, alloc: Global, images: &mut TwoImages) -> Result<Tx, TxFault>
     ensures { IfOk result (λ tx. RunsOn ⟦<TwoImages as Images>⟧ images.new tx) }
 {
-    match Tx::begin(alloc, images, 1, &[1]) {
+    match Tx::begin(alloc, images, 1, &[1], &[]) {
         Ok(tx) => Ok(tx),
         Err(fault) => {
             assert_eq!(rt; fault, TxFault::NoMemory);
-            assert_eq!(rt; images.first.holder(), None);
-            Tx::begin(alloc, images, 1, &[1])
+            assert!(rt; images.first.holders().is_free());
+            Tx::begin(alloc, images, 1, &[1], &[])
         }
     }
 }
@@ -452,7 +485,6 @@ fn begin_again(rt: &impl Abort, alloc: Global, images: &mut TwoImages) -> Result
 // Sets a range, once more where there is no memory.
 fn set_again(
     rt: &impl Abort,
-    alloc: Global,
     images: &mut TwoImages,
     tx: &mut Tx,
     offset: u32,
@@ -461,28 +493,23 @@ fn set_again(
     ensures { RunsOn ⟦<TwoImages as Images>⟧ images.new tx.new }
 {
     let before = tx.set().ranges().len();
-    match tx.set_range(alloc, images, 1, offset, 2) {
+    match tx.set_range(images, 1, offset, 2) {
         Ok(()) => Ok(()),
         Err(fault) => {
             assert_eq!(rt; fault, TxFault::NoMemory);
             assert_eq!(rt; tx.set().ranges().len(), before);
-            tx.set_range(alloc, images, 1, offset, 2)
+            tx.set_range(images, 1, offset, 2)
         }
     }
 }
 
 // Sets and writes nine ranges of segment 1.
-fn write_nine(
-    rt: &impl Abort,
-    alloc: Global,
-    images: &mut TwoImages,
-    tx: &mut Tx,
-) -> Result<(), TxFault>
+fn write_nine(rt: &impl Abort, images: &mut TwoImages, tx: &mut Tx) -> Result<(), TxFault>
     requires { RunsOn ⟦<TwoImages as Images>⟧ images.old tx.old }
     ensures { RunsOn ⟦<TwoImages as Images>⟧ images.new tx.new }
 {
     for i in 0..9 {
-        set_again(rt, alloc, images, tx, 4 * i)?;
+        set_again(rt, images, tx, 4 * i)?;
         tx.write(images, 1, 4 * i, &[1, 2])?;
     }
     Ok(())
@@ -516,11 +543,11 @@ fn refused_memory_changes_nothing(rt: HostRuntime) -> Result<(), Fail> {
         Err(_) => two_images(alloc, 64)?,
     };
     let mut tx = begin_again(&rt, alloc, &mut images)?;
-    write_nine(&rt, alloc, &mut images, &mut tx)?;
+    write_nine(&rt, &mut images, &mut tx)?;
     let prepared = prepare_again(&rt, alloc, &mut images, &tx)?;
     assert!(rt; words_of(prepared).is_some());
     tx.abort(&mut images);
-    assert_eq!(rt; images.first.holder(), None);
+    assert!(rt; images.first.holders().is_free());
     for byte in images.first.bytes() {
         assert_eq!(rt; *byte, 0);
     }

@@ -34,6 +34,9 @@ pub enum TxFault {
     /// More than 64 ranges would stand.
     #[error("there are too many ranges")]
     TooManyRanges,
+    /// The transaction locked the segment for reading alone.
+    #[error("the transaction locked segment {segment} for reading")]
+    ReadOnly { segment: u32 },
 }
 
 impl TxFault {
@@ -55,6 +58,7 @@ impl TxFault {
             TxFault::SequenceSpent { .. } => 8,
             TxFault::EmptyRange => 9,
             TxFault::TooManyRanges => 10,
+            TxFault::ReadOnly { .. } => 11,
         }
     }
 }

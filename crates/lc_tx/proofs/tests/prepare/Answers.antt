@@ -8,5 +8,5 @@ prepare_end-requires-clause-small c =
     record {
       some = λ s e. (one_or_two images.first_number images.second_number s (c.requires.runs.here s e)).0;
       few = λ s e. let is = (one_or_two images.first_number images.second_number s (c.requires.runs.here s e)).1 in omega (arith, is);
-      short = λ s e. both_short images.first images.second s 16384 (omega (arith, ap length c.bytes.ensures)) (omega (arith, ap length c.bytes-else-bytes-gt16384.ensures));
+      short = λ s e. both_short images.first images.second s 262144 (omega (arith, ap length c.bytes.ensures)) (omega (arith, ap length c.bytes-else-bytes-gt262144.ensures));
     }
