@@ -1,12 +1,1 @@
-pub mod History
-pub mod State
-pub mod Refusals
-pub mod Machine
-pub mod Follows
-pub mod Numbers
-pub mod Stops
-pub mod Sound
-pub mod Choices
-pub mod Examples
-pub mod Merging
 pub mod Settled

@@ -5,18 +5,18 @@ use Rattle.lc_record.specs.Record.{record_len}
 use Rattle.lc_record.specs.Transaction.{Transaction}
 use Rattle.lc_record.specs.declared.record.Record.{Record}
 use Rattle.lc_record.specs.declared.record.Lock.{Lock}
-use Rattle.lc_core.specs.History.{transactions, value}
-use Rattle.lc_core.specs.State.{Setting, State, running_of}
+use Rattle.lc_model.specs.History.{transactions, value}
+use Rattle.lc_model.specs.State.{Setting, State, running_of}
 use Rattle.lc_record.specs.Marks.{is_empty}
 use Rattle.lc_record.specs.Recorded.{record_of, records_from}
-use Rattle.lc_core.specs.Merging.{counted_all}
-use Rattle.lc_core.specs.Refusals.{refuse_if}
-use Rattle.lc_core.specs.declared.event.Event.{Event}
-use Rattle.lc_core.specs.declared.event.Event.TheVariants.{Reserve, FlushStep}
-use Rattle.lc_core.specs.declared.refusal.Refusal.{Refusal}
-use Rattle.lc_core.specs.declared.refusal.Refusal.TheVariants.{SequenceSpent, TooLong, Full, DeviceFault}
-use Rattle.lc_core.specs.declared.reply.Reply.{Reply}
-use Rattle.lc_core.specs.declared.reply.Reply.TheVariants.{Reserved, Refused}
+use Rattle.lc_model.specs.Merging.{counted_all}
+use Rattle.lc_model.specs.Refusals.{refuse_if}
+use Rattle.lc_model.specs.declared.event.Event.{Event}
+use Rattle.lc_model.specs.declared.event.Event.TheVariants.{Reserve, FlushStep}
+use Rattle.lc_model.specs.declared.refusal.Refusal.{Refusal}
+use Rattle.lc_model.specs.declared.refusal.Refusal.TheVariants.{SequenceSpent, TooLong, Full, DeviceFault}
+use Rattle.lc_model.specs.declared.reply.Reply.{Reply}
+use Rattle.lc_model.specs.declared.reply.Reply.TheVariants.{Reserved, Refused}
 
 -- no segment has used a number
 abbrev pub no_numbers : ℕ → ℕ

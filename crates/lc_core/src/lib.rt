@@ -1,12 +1,4 @@
-//! The plain machine: what may be asked of a store, what it may answer, and which answers are right.
+//! What the plain machine leaves open, settled by the records of a store; and the types of the machine, handed on.
 #![tactic(auto)]
 
-mod event;
-pub mod examples;
-pub mod laws;
-mod refusal;
-mod reply;
-
-pub use event::Event;
-pub use refusal::Refusal;
-pub use reply::Reply;
+pub use lc_model::{Event, Refusal, Reply};

@@ -1,0 +1,36 @@
+pub mod Following
+pub mod Rows
+pub mod Keeps
+pub mod EveryCut
+pub mod Law
+pub mod Prefix
+pub mod Commute
+pub mod Lists
+pub mod Marks
+pub mod Fronts
+pub mod Holders
+pub mod Bytes
+pub mod RecordBytes
+pub mod Merging
+pub mod Seats
+mod Choices
+pub mod Downs
+pub mod Visible
+mod Numbers
+mod Pages
+pub mod Shown
+mod Result
+pub mod Moves
+mod One
+mod Outcome
+mod Decided
+mod SomeOutcome
+mod Unrefused
+mod Steps
+mod Recovered
+mod Within
+mod Zeros
+mod Tells
+mod Told
+mod SmallCuts
+mod TwoRecords
