@@ -3,26 +3,27 @@ use Rattle.std.proofs.Common.{◌≡◌, ℕ, ◌+◌, ◌<◌, ◌≤◌, true,
 use Rattle.std.specs.Prelude.{◌↔◌, Result, Ok, Err}
 use Rattle.lc_disk.specs.MemArea.{memory_now, memory_dirty}
 use Rattle.lc_record.specs.declared.geometry.Geometry.{Geometry}
-use Rattle.lc_core.specs.History.{value}
-use Rattle.lc_core.specs.State.{Setting, State}
+use Rattle.lc_model.specs.History.{value}
+use Rattle.lc_model.specs.State.{Setting, State}
 use Rattle.lc_core.specs.Settled.{history_records}
-use Rattle.lc_core.specs.Machine.{appended, dropped}
-use Rattle.lc_core.specs.declared.event.Event.TheVariants.{Reserve}
-use Rattle.lc_core.specs.declared.refusal.Refusal.{Refusal}
-use Rattle.lc_core.specs.declared.refusal.Refusal.TheVariants.{SequenceSpent, TooLong}
-use Rattle.lc_core.specs.declared.reply.Reply.{Reply}
-use Rattle.lc_core.specs.declared.reply.Reply.TheVariants.{Reserved, Refused}
+use Rattle.lc_model.specs.Machine.{appended, dropped}
+use Rattle.lc_model.specs.declared.event.Event.TheVariants.{Reserve}
+use Rattle.lc_model.specs.declared.refusal.Refusal.{Refusal}
+use Rattle.lc_model.specs.declared.refusal.Refusal.TheVariants.{SequenceSpent, TooLong}
+use Rattle.lc_model.specs.declared.reply.Reply.{Reply}
+use Rattle.lc_model.specs.declared.reply.Reply.TheVariants.{Reserved, Refused}
 use Rattle.lc_record.specs.Transaction.{Transaction, is_member}
 use Rattle.lc_record.specs.Record.{record_len, IsRecord}
 use Rattle.lc_record.specs.declared.record.Record.{Record}
 use Rattle.lc_record.proofs.SpellingLemmas.{length-spelling}
 use Rattle.lc_range.specs.RangeSet.{IsCanonical}
+use Rattle.lc_tx.specs.declared.holders.Holders.TheVariants.{Free}
 use Rattle.lc_tx.specs.Fault.{is_of_needs}
 use Rattle.lc_tx.specs.Tx.{RunsOn}
 use Rattle.lc_tx.specs.Prepared.{IsFirstSpent, AreUnspent, final_record}
 use Rattle.lc_tx.specs.declared.tx.Tx.{Tx}
 use Rattle.lc_tx.specs.declared.tx_fault.TxFault.{TxFault}
-use Rattle.lc_tx.specs.declared.tx_fault.TxFault.TheVariants.{Busy as IsBusy, NotHere as IsNotHere, NoRange as HasNoRange, OutOfSegment as IsOutside, NotLocked as IsNotLocked, NoMemory, TooLong as IsTooLong, SequenceSpent as IsSpent, EmptyRange as IsEmpty, TooManyRanges as AreTooMany}
+use Rattle.lc_tx.specs.declared.tx_fault.TxFault.TheVariants.{Busy as IsBusy, NotHere as IsNotHere, NoRange as HasNoRange, OutOfSegment as IsOutside, NotLocked as IsNotLocked, NoMemory, TooLong as IsTooLong, SequenceSpent as IsSpent, EmptyRange as IsEmpty, TooManyRanges as AreTooMany, ReadOnly as IsReadOnly}
 use Rattle.lc_tool.specs.Refused.{refusal_of}
 use Rattle.lc_tx.specs.OneSegment.{the_images}
 use Rattle.lc_tool.specs.Session.{Answers, Ends}
@@ -75,7 +76,7 @@ module _ (m : Setting) (w : Solo) (s : State) (h : Fits m w s) (tx : Tx) (is : w
   runs : RunsOn the_images w.segment tx
   runs = w.runs tx is
 
-  free_now : is_member 1 tx.locked.items ≡ false → w.segment.image.holder ≡ None
+  free_now : is_member 1 tx.locked.items ≡ false → w.segment.image.holders ≡ Free
   free_now = (fits_open m w s h tx is).free
 
   -- nothing was set
@@ -83,7 +84,7 @@ module _ (m : Setting) (w : Solo) (s : State) (h : Fits m w s) (tx : Tx) (is : w
       → tx.set ≡ [] → Fits m n (dropped s (the_one m w s h tx is).node (the_one m w s h tx is).thread)
   ended_fits mid n released geometry log staged segment running acked none =
       let bytes : n.segment.image.bytes.items ≡ w.segment.image.bytes.items = released.same_bytes ∙ ap (λ seg. seg.image.bytes.items) segment in
-      let free : n.segment.image.holder ≡ None = released.free tx (running ∙ is) (λ other. ap (λ seg. seg.image.holder) segment ∙ free_now other) in
+      let free : n.segment.image.holders ≡ Free = released.free tx (running ∙ is) (λ other. ap (λ seg. seg.image.holders) segment ∙ free_now other) in
       let t : Transaction = the_one m w s h tx is in
       over_fits m w s h n (dropped s t.node t.thread) w.staged.words w.segment.records
       (released.same_geometry ∙ geometry) (released.same_log ∙ log) released.over (released.same_acked ∙ acked)
@@ -100,7 +101,7 @@ module _ (m : Setting) (w : Solo) (s : State) (h : Fits m w s) (tx : Tx) (is : w
       let t : Transaction = the_one m w s h tx is in
       let place : ℕ = w.log.end + length w.staged.words in
       let bytes : n.segment.image.bytes.items ≡ w.segment.image.bytes.items = kept.same_bytes ∙ ap (λ seg. seg.image.bytes.items) segment in
-      let free : n.segment.image.holder ≡ None = kept.free tx (running ∙ is) (λ other. ap (λ seg. seg.image.holder) segment ∙ free_now other) in
+      let free : n.segment.image.holders ≡ Free = kept.free tx (running ∙ is) (λ other. ap (λ seg. seg.image.holders) segment ∙ free_now other) in
       let place_is : mid.log.end + length mid.staged.words ≡ place = ap₂ (λ (a b : ℕ). a + b) (ap (λ l. l.end) log) (ap (λ g. length g.words) staged) in
       let fits : place + length words ≤ w.geometry.words =
       subst (λ (g : Geometry). place + length words ≤ g.words) geometry (subst (λ (k : ℕ). k + length words ≤ mid.geometry.words) place_is room) in
@@ -137,6 +138,7 @@ module _ (m : Setting) (w : Solo) (s : State) (h : Fits m w s) (tx : Tx) (is : w
       by_fault (IsBusy n) may err same = absurd (true≢false (sym may))
       by_fault (IsNotHere n) may err same = absurd (true≢false (sym may))
       by_fault IsNotLocked may err same = absurd (true≢false (sym may))
+      by_fault (IsReadOnly n) may err same = absurd (true≢false (sym may))
       by_fault IsOutside may err same = absurd (true≢false (sym may))
       by_fault HasNoRange may err same = absurd (true≢false (sym may))
       by_fault IsEmpty may err same = absurd (true≢false (sym may))

@@ -1,7 +1,6 @@
 -- How the one transaction ends, and what its record is.
 use Rattle.std.proofs.Common.{◌≡◌, ◌⊎◌, ℕ, suc, ◌+◌, ◌<◌, ◌≤◌, ◌^◌, Bool, true, false, not, ◌&&◌, ◌==◌, nat_lt, List, [], ◌∷◌, ◌++◌, length, map, filter, drop, Option, Some, None, IsTrue, refl, sym, ◌∙◌, ap, ap₂, subst, arith, eqb-true, lt-ltb, le-ltb, append_assoc, length-append, inl, inr}
 use Rattle.std.proofs.lemmas.List.{map-append}
-use Rattle.std.proofs.Math.Bool.{and-false}
 use Rattle.std.proofs.lemmas.List.Sums.{sum_by-cons}
 use Rattle.std.specs.Prelude.{sum_by, if◌then◌else◌}
 use Rattle.std.specs.List.{AllByRecursion, list_any}
@@ -15,26 +14,27 @@ use Rattle.lc_log.specs.LogText.{joined}
 use Rattle.lc_log.proofs.LogLemmas.{joined-append}
 use Rattle.lc_log.proofs.WalkLemmas.{joined-push, whole-push}
 use Rattle.lc_disk.specs.MemArea.{memory_now, memory_dirty}
-use Rattle.lc_core.specs.History.{Entry, History, transactions, value}
-use Rattle.lc_core.specs.State.{Setting, State, is_by, is_unclosed, without}
+use Rattle.lc_model.specs.History.{Entry, History, transactions, value}
+use Rattle.lc_model.specs.State.{Setting, State, is_by, is_unclosed, without}
 use Rattle.lc_record.specs.Marks.{is_empty, stretches}
 use Rattle.lc_record.specs.Recorded.{is_set, record_of, counted, records_from}
-use Rattle.lc_core.specs.Merging.{counted_all}
+use Rattle.lc_model.specs.Merging.{counted_all}
 use Rattle.lc_core.specs.Settled.{no_numbers, history_records, node_records, log_end, next_record, first_spent, record_refusal, refusal_or, reserve_reply, Settled}
-use Rattle.lc_core.specs.Refusals.{refuse_if, is_seat, is_up}
+use Rattle.lc_model.specs.Refusals.{refuse_if, are_known, by_thread, is_up}
 use Rattle.lc_record.specs.declared.geometry.Geometry.{Geometry}
-use Rattle.lc_core.specs.declared.refusal.Refusal.{Refusal}
-use Rattle.lc_core.specs.Machine.{Step, appended, dropped, closed_by, may_refuse_reserve}
-use Rattle.lc_core.specs.declared.event.Event.TheVariants.{Reserve, Close}
-use Rattle.lc_core.specs.declared.refusal.Refusal.TheVariants.{Unknown, OutOfTurn, SequenceSpent, TooLong, Full}
-use Rattle.lc_core.specs.declared.reply.Reply.{Reply}
-use Rattle.lc_core.specs.declared.reply.Reply.TheVariants.{Ok as Accepted, Reserved, Ended, Refused}
-use Rattle.lc_core.proofs.Rows.{step-row, step-refused, common-unknown, common-none, reserve-done, reserve-ended, reserve-refused, reserve-no_turn, close-done, and-both}
+use Rattle.lc_model.specs.declared.refusal.Refusal.{Refusal}
+use Rattle.lc_model.specs.Machine.{Step, appended, dropped, closed_by, may_refuse_reserve}
+use Rattle.lc_model.specs.declared.event.Event.TheVariants.{Reserve, Close}
+use Rattle.lc_model.specs.declared.refusal.Refusal.TheVariants.{Unknown, OutOfTurn, SequenceSpent, TooLong, Full}
+use Rattle.lc_model.specs.declared.reply.Reply.{Reply}
+use Rattle.lc_model.specs.declared.reply.Reply.TheVariants.{Ok as Accepted, Reserved, Ended, Refused}
+use Rattle.lc_model.proofs.Rows.{step-row, step-refused, common-unknown, common-none, reserve-done, reserve-ended, reserve-refused, reserve-no_turn, close-done, and-both}
 use Rattle.lc_tool.specs.Session.{Answers}
 use Rattle.lc_tool.specs.Fits.{Fits, FitsBytes, FitsRecords, IsOwn}
 use Rattle.lc_tool.specs.declared.solo.Solo.{Solo}
 use Rattle.lc_range.specs.RangeSet.{Has, IsCanonical}
 use Rattle.lc_range.specs.declared.range.Range.{Range}
+use Rattle.lc_tx.specs.declared.holders.Holders.TheVariants.{Free}
 use Rattle.lc_tx.specs.Tx.{RunsOn}
 use Rattle.lc_tx.specs.Prepared.{IsFirstSpent, AreUnspent, final_record}
 use Rattle.lc_tx.specs.StandsFor.{StandsFor, AreNumbers}
@@ -42,7 +42,7 @@ use Rattle.lc_tx.specs.declared.tx.Tx.{Tx}
 use Rattle.lc_tx.proofs.StandsLemmas.{record_stands, empty_set}
 use Rattle.lc_tx.specs.OneSegment.{the_images}
 use Rattle.lc_tx.specs.declared.one_segment.OneSegment.{OneSegment}
-use Rattle.lc_tool.proofs.OneNodeLemmas.{only_one, known_seat, no_refusal, none_running, other_running, locked_first, without-own}
+use Rattle.lc_tool.proofs.OneNodeLemmas.{only_one, known_own, no_refusal, none_running, other_running, locked_first, without-own}
 use Rattle.lc_tool.proofs.StepLemmas.{the_one, fits_open, only, running, whole, nothing_written}
 
 -- Records, one after another
@@ -212,7 +212,7 @@ module _ (m : Setting) (w : Solo) (s : State) (h : Fits m w s) where
 
         refused_by : (refusal : Refusal) → may_refuse_reserve refusal ≡ true → record_refusal w.geometry.words place prepared ≡ Some refusal → Answers m s (Reserve 0 0) (Refused refusal) s
         refused_by refusal may by = (
-          step-row m s (Reserve 0 0) (Refused refusal) s (no_refusal m w s h (Reserve 0 0) (known_seat m w s h) h.still.not_halted)
+          step-row m s (Reserve 0 0) (Refused refusal) s (no_refusal m w s h (Reserve 0 0) (known_own m w s h) h.still.not_halted)
               (reserve-refused m s 0 0 t refusal (running m w s h tx is) (set_some canonical some) may),
           settled_by (Refused refusal) (sym (reply_by (Some refusal) by)),
         )
@@ -237,7 +237,7 @@ module _ (m : Setting) (w : Solo) (s : State) (h : Fits m w s) where
           room_row fits =
               let room : record_refusal w.geometry.words place prepared ≡ None =
               unspent prepared.locks _ fresh ∙ room_len w.geometry.words place (record_len prepared) short fits in (
-                step-row m s (Reserve 0 0) (Reserved place (record_len prepared)) (appended s t) (no_refusal m w s h (Reserve 0 0) (known_seat m w s h) h.still.not_halted)
+                step-row m s (Reserve 0 0) (Reserved place (record_len prepared)) (appended s t) (no_refusal m w s h (Reserve 0 0) (known_own m w s h) h.still.not_halted)
                     (reserve-done m s 0 0 t place (record_len prepared) (running m w s h tx is) (set_some canonical some)),
                 settled_by (Reserved place (record_len prepared)) (sym (reply_by None room)),
               )
@@ -260,13 +260,13 @@ module _ (m : Setting) (w : Solo) (s : State) (h : Fits m w s) where
           close_row =
               let mid : State = appended s t in
               step-row m mid (Close 0 0) Accepted (closed_after s t)
-              (common-none m.geometry mid (Close 0 0) (ap is_up h.still.up) (known_seat m w s h) h.still.not_halted)
+              (common-none m.geometry mid (Close 0 0) (ap is_up h.still.up) (known_own m w s h) h.still.not_halted)
               (close-done m mid 0 0 (unclosed_last s.history t h.records.own own))
 
           no_more : without t.node t.thread s.running ≡ []
           no_more = rw (node_is, thread_is) (without-own t s.running (only m w s h tx is) own)
 
-          pub bytes_after : (new : OneSegment) → new.image.bytes.items ≡ w.segment.image.bytes.items → new.image.holder ≡ None
+          pub bytes_after : (new : OneSegment) → new.image.bytes.items ≡ w.segment.image.bytes.items → new.image.holders ≡ Free
               → FitsBytes new None (value m.start s.earlier (closed_after s t).history) (closed_after s t).running
           bytes_after new same free =
               let entries : History = s.history ++ record { transaction = t; closed = true } ∷ [] in
@@ -324,12 +324,12 @@ module _ (m : Setting) (w : Solo) (s : State) (h : Fits m w s) where
       pub ended_row : tx.set ≡ [] → Answers m s (Reserve 0 0) Ended (dropped s t.node t.thread)
       ended_row none =
           let nothing : is_empty t.marks ≡ true = (empty_set the_images w.segment tx content t canonical stands).0 none in (
-            step-row m s (Reserve 0 0) Ended (dropped s t.node t.thread) (no_refusal m w s h (Reserve 0 0) (known_seat m w s h) h.still.not_halted)
+            step-row m s (Reserve 0 0) Ended (dropped s t.node t.thread) (no_refusal m w s h (Reserve 0 0) (known_own m w s h) h.still.not_halted)
                 (reserve-ended m s 0 0 t (running m w s h tx is) nothing),
             rw (running m w s h tx is, nothing) tt,
           )
 
-      pub ended_bytes : (new : OneSegment) → tx.set ≡ [] → new.image.bytes.items ≡ w.segment.image.bytes.items → new.image.holder ≡ None
+      pub ended_bytes : (new : OneSegment) → tx.set ≡ [] → new.image.bytes.items ≡ w.segment.image.bytes.items → new.image.holders ≡ Free
           → FitsBytes new None (value m.start s.earlier s.history) (dropped s t.node t.thread).running
       ended_bytes new none same free =
           let unchanged : effect t content ≡ content = nothing_written t content (λ n k set. subst (λ (runs : List Range). Has runs n k) none ((stands.set_is n k).1 set)) w.segment tx stands in (
@@ -339,23 +339,23 @@ module _ (m : Setting) (w : Solo) (s : State) (h : Fits m w s) where
           )
 
   -- outside of the geometry, and with none open
-  unknown_seat : (node thread : ℕ) → (node ≡ 0 → ⊥) ⊎ ((node ≡ 0) × (thread ≡ 0 → ⊥)) → is_seat m.geometry node thread ≡ false
+  unknown_seat : (node thread : ℕ) → (node ≡ 0 → ⊥) ⊎ ((node ≡ 0) × (thread ≡ 0 → ⊥)) → are_known m.geometry (by_thread node thread []) ≡ false
   unknown_seat node thread out =
       let one = only_one m w s h in
       elim out [
         | inl p ↦ let far : nat_lt node m.geometry.nodes ≡ false = le-ltb node m.geometry.nodes (omega (arith, one.nodes, nonzero node p)) in rw far refl
-        | inr p ↦ let far : nat_lt thread m.geometry.threads ≡ false = le-ltb thread m.geometry.threads (omega (arith, one.threads, nonzero thread p.1)) in rw far (and-false (nat_lt node m.geometry.nodes))
+        | inr p ↦ let far : nat_lt thread m.geometry.threads ≡ false = le-ltb thread m.geometry.threads (omega (arith, one.threads, nonzero thread p.1)) in rw far (elim (nat_lt node m.geometry.nodes) as (λ b. (b && true && false && true && true) ≡ false) [ true ↦ refl | false ↦ refl ])
       ]
 
   pub unknown_row : (node thread : ℕ) → (node ≡ 0 → ⊥) ⊎ ((node ≡ 0) × (thread ≡ 0 → ⊥)) → Answers m s (Reserve node thread) (Refused Unknown) s
   unknown_row node thread out =
-      let seat : is_seat m.geometry node thread ≡ false = unknown_seat node thread out in (
+      let seat : are_known m.geometry (by_thread node thread []) ≡ false = unknown_seat node thread out in (
         step-refused m s (Reserve node thread) Unknown (common-unknown m.geometry s (Reserve node thread) (ap is_up h.still.up) seat),
         rw (other_running w.segment w.running (value m.start s.earlier s.history) s.running node thread h.bytes (elim out [ inl p ↦ inl p | inr p ↦ inr p.1 ])) tt,
       )
 
   pub no_turn_row : w.running ≡ None → Answers m s (Reserve 0 0) (Refused OutOfTurn) s
   no_turn_row none = (
-    step-row m s (Reserve 0 0) (Refused OutOfTurn) s (no_refusal m w s h (Reserve 0 0) (known_seat m w s h) h.still.not_halted) (reserve-no_turn m s 0 0 (none_running m w s h none)),
+    step-row m s (Reserve 0 0) (Refused OutOfTurn) s (no_refusal m w s h (Reserve 0 0) (known_own m w s h) h.still.not_halted) (reserve-no_turn m s 0 0 (none_running m w s h none)),
     rw (none_running m w s h none) tt,
   )

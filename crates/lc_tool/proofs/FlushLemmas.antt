@@ -1,24 +1,24 @@
 -- A whole flush: four steps, or none where nothing is staged.
-use Rattle.std.proofs.Common.{◌≡◌, Bool, ℕ, ◌+◌, ◌<◌, true, false, ◌==◌, nat_lt, List, [], ◌∷◌, ◌++◌, length, map, drop, refl, sym, ◌∙◌, ap, subst, arith, eq-eqb, ne_eqb, length-append, append-nil, inl}
+use Rattle.std.proofs.Common.{◌≡◌, Bool, ℕ, ◌+◌, ◌<◌, true, false, ◌==◌, List, [], ◌∷◌, ◌++◌, length, map, drop, refl, sym, ◌∙◌, ap, subst, arith, eq-eqb, ne_eqb, length-append, append-nil, inl}
 use Rattle.std.proofs.lemmas.List.{length-map}
 use Rattle.std.specs.List.{AllByRecursion}
 use Rattle.lc_record.specs.Transaction.{Transaction}
 use Rattle.lc_record.specs.declared.record.Record.{Record}
 use Rattle.lc_log.specs.LogText.{joined}
 use Rattle.lc_log.specs.NodeLog.{IsAtRest}
-use Rattle.lc_core.specs.History.{Entry, History, transactions, entries_of, front, leading}
-use Rattle.lc_core.specs.State.{Setting, State}
+use Rattle.lc_model.specs.History.{Entry, History, transactions, entries_of, front, leading}
+use Rattle.lc_model.specs.State.{Setting, State}
 use Rattle.lc_record.specs.Recorded.{records_from}
-use Rattle.lc_core.specs.Refusals.{is_up, is_node}
+use Rattle.lc_model.specs.Refusals.{is_up, is_known}
 use Rattle.lc_core.specs.Settled.{no_numbers, history_records}
-use Rattle.lc_core.specs.Machine.{Step, flushed_to, acknowledged}
-use Rattle.lc_core.specs.declared.event.Event.TheVariants.{FlushStep}
-use Rattle.lc_core.specs.declared.reply.Reply.TheVariants.{Stepped, Acked, Nothing}
-use Rattle.lc_core.proofs.Rows.{step-row, common-none, and-both}
+use Rattle.lc_model.specs.Machine.{Step, flushed_to, acknowledged}
+use Rattle.lc_model.specs.declared.event.Event.TheVariants.{FlushStep}
+use Rattle.lc_model.specs.declared.reply.Reply.TheVariants.{Stepped, Acked, Nothing}
+use Rattle.lc_model.proofs.Rows.{step-row, common-none, and-both}
 use Rattle.lc_tool.specs.Session.{Finishes}
 use Rattle.lc_tool.specs.Fits.{Fits, FitsRecords, IsOwn}
 use Rattle.lc_tool.specs.declared.solo.Solo.{Solo}
-use Rattle.lc_tool.proofs.OneNodeLemmas.{only_one}
+use Rattle.lc_tool.proofs.OneNodeLemmas.{known_node}
 use Rattle.lc_tool.proofs.EndLemmas.{length-records_from}
 
 all_own : (history : History) → AllByRecursion IsOwn history → entries_of 0 history ≡ history
@@ -52,15 +52,15 @@ module _ (m : Setting) (w : Solo) (s : State) (h : Fits m w s) where
   front_is : front 0 s.history ≡ w.segment.records
   front_is = front_all s.history h.records.own ∙ h.records.closed
 
-  node_known : is_node m.geometry 0 ≡ true
-  node_known = let one = only_one m w s h in ap (λ (n : ℕ). nat_lt 0 n) one.nodes
+  flush_known : is_known m.geometry (FlushStep 0) ≡ true
+  flush_known = rw (known_node m w s h) refl
 
   pub nothing_row : w.staged.words ≡ [] → Finishes m s (FlushStep 0) Nothing s
   nothing_row none =
       let pending : h.records.pending ≡ [] = none_joined h.records.pending (sym h.records.staged_text ∙ none) in
       let same : front 0 s.history ≡ s.ack 0 = omega (arith, front_is, count_all, ap length pending, h.records.flushed, h.acked) in
       let step : Step m s (FlushStep 0) Nothing s =
-      step-row m s (FlushStep 0) Nothing s (common-none m.geometry s (FlushStep 0) (ap is_up h.still.up) node_known h.still.not_halted)
+      step-row m s (FlushStep 0) Nothing s (common-none m.geometry s (FlushStep 0) (ap is_up h.still.up) flush_known h.still.not_halted)
       (rw (h.still.no_flush, eq-eqb (front 0 s.history) (s.ack 0) same) (refl, refl)) in
       record { earlier = []; stepped = tt; over = λ x. x; run = (s, step, refl); settled = λ e. cc }
 
@@ -75,14 +75,14 @@ module _ (m : Setting) (w : Solo) (s : State) (h : Fits m w s) where
       let third : State = flushed_to second 0 3 count in
       let more : (count == s.ack 0) ≡ false = ne_eqb count (s.ack 0) (λ e. absurd (omega (arith, e, some, front_is, count_all, h.records.flushed, h.acked))) in
       let one : Step m s (FlushStep 0) (Stepped 1) first =
-      step-row m s (FlushStep 0) (Stepped 1) first (common-none m.geometry s (FlushStep 0) (ap is_up h.still.up) node_known h.still.not_halted)
+      step-row m s (FlushStep 0) (Stepped 1) first (common-none m.geometry s (FlushStep 0) (ap is_up h.still.up) flush_known h.still.not_halted)
       (rw (h.still.no_flush, more) (inl (refl, refl))) in
       let two : Step m first (FlushStep 0) (Stepped 2) second =
-      step-row m first (FlushStep 0) (Stepped 2) second (common-none m.geometry first (FlushStep 0) (ap is_up h.still.up) node_known h.still.not_halted) (inl (refl, refl)) in
+      step-row m first (FlushStep 0) (Stepped 2) second (common-none m.geometry first (FlushStep 0) (ap is_up h.still.up) flush_known h.still.not_halted) (inl (refl, refl)) in
       let three : Step m second (FlushStep 0) (Stepped 3) third =
-      step-row m second (FlushStep 0) (Stepped 3) third (common-none m.geometry second (FlushStep 0) (ap is_up h.still.up) node_known h.still.not_halted) (inl (refl, refl)) in
+      step-row m second (FlushStep 0) (Stepped 3) third (common-none m.geometry second (FlushStep 0) (ap is_up h.still.up) flush_known h.still.not_halted) (inl (refl, refl)) in
       let four : Step m third (FlushStep 0) (Acked count) flushed =
-      step-row m third (FlushStep 0) (Acked count) flushed (common-none m.geometry third (FlushStep 0) (ap is_up h.still.up) node_known h.still.not_halted) (inl (refl, refl)) in
+      step-row m third (FlushStep 0) (Acked count) flushed (common-none m.geometry third (FlushStep 0) (ap is_up h.still.up) flush_known h.still.not_halted) (inl (refl, refl)) in
       let all : Finishes m s (FlushStep 0) (Acked count) flushed = record {
         earlier = Stepped 1 ∷ Stepped 2 ∷ Stepped 3 ∷ [];
         stepped = (tt, (tt, (tt, tt)));

@@ -9,20 +9,21 @@ use Rattle.lc_record.specs.Transaction.{is_member}
 use Rattle.lc_record.specs.Marks.{ascending, marked}
 use Rattle.lc_record.specs.declared.record.Record.{Record}
 use Rattle.lc_range.specs.RangeSet.{IsCanonical, MissesSome, NeedsRunsAbove}
-use Rattle.lc_core.specs.Machine.{appended, changed}
-use Rattle.lc_core.specs.Refusals.{is_known, is_seat, is_segment}
-use Rattle.lc_core.specs.State.{Setting, State}
-use Rattle.lc_core.specs.declared.event.Event.TheVariants.{Begin, SetRange, Read}
-use Rattle.lc_core.specs.declared.refusal.Refusal.{Refusal}
-use Rattle.lc_core.specs.declared.reply.Reply.{Reply}
-use Rattle.lc_core.specs.declared.reply.Reply.TheVariants.{Refused}
-use Rattle.lc_core.proofs.Rows.{and-both}
+use Rattle.lc_model.specs.Machine.{appended, changed}
+use Rattle.lc_model.specs.Refusals.{is_known, is_segment}
+use Rattle.lc_model.specs.State.{Setting, State}
+use Rattle.lc_model.specs.declared.event.Event.TheVariants.{Begin, SetRange, Read}
+use Rattle.lc_model.specs.declared.refusal.Refusal.{Refusal}
+use Rattle.lc_model.specs.declared.reply.Reply.{Reply}
+use Rattle.lc_model.specs.declared.reply.Reply.TheVariants.{Refused}
+use Rattle.lc_model.proofs.Rows.{seat_known}
+use Rattle.std.proofs.Common.{◌++◌, append-nil}
 use Rattle.lc_log.specs.LogText.{joined}
 use Rattle.lc_tx.specs.Prepared.{AreUnspent, final_record}
 use Rattle.lc_tx.specs.Tx.{IsSetOf, Locked}
 use Rattle.lc_tx.specs.declared.tx.Tx.{Tx}
 use Rattle.lc_tx.specs.declared.tx_fault.TxFault.{TxFault}
-use Rattle.lc_tx.specs.declared.tx_fault.TxFault.TheVariants.{Busy as IsBusy, NotHere as IsNotHere, NoRange as HasNoRange, OutOfSegment as IsOutside, NotLocked as IsNotLocked, NoMemory, TooLong as IsTooLong, SequenceSpent as IsSpent, EmptyRange as IsEmpty, TooManyRanges as AreTooMany}
+use Rattle.lc_tx.specs.declared.tx_fault.TxFault.TheVariants.{Busy as IsBusy, NotHere as IsNotHere, NoRange as HasNoRange, OutOfSegment as IsOutside, NotLocked as IsNotLocked, NoMemory, TooLong as IsTooLong, SequenceSpent as IsSpent, EmptyRange as IsEmpty, TooManyRanges as AreTooMany, ReadOnly as IsReadOnly}
 use Rattle.lc_tx.proofs.AscendLemmas.{set_is_ascending}
 use Rattle.lc_tool.specs.Fits.{Fits}
 use Rattle.lc_tx.specs.OneSegment.{the_images}
@@ -47,6 +48,7 @@ no_name (IsTooLong n) e = absurd cc
 no_name (IsSpent n) e = absurd cc
 no_name IsEmpty e = absurd cc
 no_name AreTooMany e = absurd cc
+no_name (IsReadOnly n) e = absurd cc
 
 -- an answer to a fault fails for want of memory alone
 pub by_want : (fault : TxFault) (res : Result Reply AllocError) (P : Type 0)
@@ -60,11 +62,11 @@ by_want fault res P answer want = go (refusal_of fault) refl res answer
 
 module _ (m : Setting) (w : Solo) (s : State) (h : Fits m w s) where
   -- the segments of a begin are few
-  pub few_here : (segments set : List ℕ) → is_known m.geometry (Begin 0 0 segments) ≡ true → IsSetOf segments set → 16 < length set → ⊥
+  pub few_here : (segments set : List ℕ) → is_known m.geometry (Begin 0 0 segments []) ≡ true → IsSetOf segments set → 16 < length set → ⊥
   few_here segments set known is many =
       let one = (only_one m w s h).segments in
       let all : list_all (λ s. s == 1) segments ≡ true =
-      sym (all_first m.geometry segments one) ∙ (and-both (is_seat m.geometry 0 0) (list_all (is_segment m.geometry) segments) known).1 in
+      sym (all_first m.geometry segments one) ∙ ap (list_all (is_segment m.geometry)) (sym (append-nil segments)) ∙ (seat_known m.geometry 0 0 (segments ++ []) known).2 in
       let first = λ (n : ℕ) (member : is_member n segments ≡ true). member_first segments n all member in
       let same : set ≡ ascending m.geometry segments =
       set_is_ascending m.geometry segments set is (λ n member. (omega (arith, first n member), omega (arith, first n member, one))) in

@@ -1,20 +1,24 @@
 -- What a store of one node, thread and segment knows of a state that it fits.
-use Rattle.std.proofs.Common.{◌≡◌, ◌⊎◌, ℕ, ◌*◌, Bool, true, false, not, ◌&&◌, ◌||◌, ◌==◌, nat_lt, List, [], ◌∷◌, length, find, Option, Some, None, is_some, IsTrue, refl, sym, ◌∙◌, ap, ap₂, subst, arith, ne_eqb, eqb-true, eq-eqb, true≢false, inl, inr}
+use Rattle.std.proofs.Common.{◌≡◌, ◌⊎◌, ℕ, ◌*◌, Bool, true, false, not, ◌&&◌, ◌||◌, ◌==◌, nat_lt, List, [], ◌∷◌, ◌++◌, length, find, Option, Some, None, is_some, IsTrue, refl, sym, ◌∙◌, ap, ap₂, subst, arith, ne_eqb, eqb-true, eq-eqb, true≢false, inl, inr}
+use Rattle.std.specs.Prelude.{if◌then◌else◌}
 use Rattle.std.specs.List.{list_all, list_any, AllByRecursion}
 use Rattle.std.proofs.Math.Bool.{and-false}
 use Rattle.std.proofs.lemmas.Bool.Decides.{nat_tests}
 use Rattle.lc_record.specs.Content.{Content}
-use Rattle.lc_record.specs.Transaction.{Transaction, is_member, locks}
+use Rattle.lc_record.specs.Transaction.{Transaction, is_member, locks, holds}
 use Rattle.lc_record.specs.Geometry.{segment_len}
 use Rattle.lc_record.specs.Marks.{ascending}
 use Rattle.lc_record.specs.declared.geometry.Geometry.{Geometry}
-use Rattle.lc_core.specs.History.{History, value}
-use Rattle.lc_core.specs.State.{Setting, State, running_of, is_by, has_unclosed, is_unclosed, with_changed, without}
-use Rattle.lc_core.specs.Refusals.{is_known, is_seat, is_segment, is_up, is_halted, common_refusal, first_taken}
-use Rattle.lc_core.specs.declared.event.Event.{Event}
-use Rattle.lc_core.proofs.Rows.{common-none, seat_known, and-both}
-use Rattle.lc_tx.specs.Images.{IsSameBut, IsSame, AreHeldBy, AreRestored}
-use Rattle.lc_tx.specs.Tx.{Locked, RunsOn}
+use Rattle.lc_model.specs.History.{History, value}
+use Rattle.lc_model.specs.State.{Setting, State, running_of, is_by, has_unclosed, is_unclosed, is_held, is_locked, with_changed, without}
+use Rattle.lc_model.specs.Refusals.{is_known, are_known, by_thread, is_node, is_thread, is_segment, is_busy, is_up, is_halted, common_refusal, first_taken}
+use Rattle.lc_model.specs.declared.event.Event.{Event}
+use Rattle.lc_model.proofs.Rows.{common-none, seat_known, known_seat, and-both}
+use Rattle.std.proofs.lemmas.Bool.{or_cases, or_left}
+use Rattle.std.proofs.Common.{append-nil}
+use Rattle.lc_tx.specs.Images.{IsSameBut, IsSame, AreLocked, AreReleased, AreRestored}
+use Rattle.lc_tx.specs.Tx.{IsSetOf, Locked, Holds, RunsOn, none_of}
+use Rattle.lc_tx.specs.declared.holders.Holders.TheVariants.{Free}
 use Rattle.lc_tx.specs.declared.image.Image.{Image}
 use Rattle.lc_tx.specs.declared.tx.Tx.{Tx}
 use Rattle.lc_range.specs.Undo.{OldBytes}
@@ -47,7 +51,7 @@ member_first (s ∷ segments) n all member =
 
 -- The segments of a transaction that begins
 
-ascending_none : (g : Geometry) → g.segments ≡ 1 → ascending g [] ≡ []
+pub ascending_none : (g : Geometry) → g.segments ≡ 1 → ascending g [] ≡ []
 ascending_none g one = rw one refl
 
 ascending_some : (g : Geometry) (s : ℕ) (segments : List ℕ) → g.segments ≡ 1 → (s == 1) ≡ true → ascending g (s ∷ segments) ≡ 1 ∷ []
@@ -63,9 +67,9 @@ none_unclosed : (history : History) → AllByRecursion IsOwn history → list_an
 none_unclosed [] own = refl
 none_unclosed (e ∷ history) own = rw (own.0.1) (none_unclosed history own.1)
 
-none_holds : (segment : ℕ) (history : History) → AllByRecursion IsOwn history → list_any (λ e. not e.closed && locks e.transaction segment) history ≡ false
-none_holds segment [] own = refl
-none_holds segment (e ∷ history) own = rw (own.0.1) (none_holds segment history own.1)
+none_holds : (p : Transaction → Bool) (history : History) → AllByRecursion IsOwn history → list_any (λ e. not e.closed && p e.transaction) history ≡ false
+none_holds p [] own = refl
+none_holds p (e ∷ history) own = rw (own.0.1) (none_holds p history own.1)
 
 -- The one segment
 
@@ -80,25 +84,53 @@ same_segment old new same =
 pub same_records : (segments : List ℕ) (old new : OneSegment) → IsSameBut the_images segments old new → new.records ≡ old.records
 same_records segments old new same = let number : Some new.records ≡ Some old.records = same.numbers 1 in cc
 
--- whoever holds it, its bytes are the same
-pub held_bytes : (holder : Option ℕ) (segments : List ℕ) (old new : OneSegment) → AreHeldBy the_images holder segments old new → new.image.bytes.items ≡ old.image.bytes.items
-held_bytes holder segments old new held = elim (is_member 1 segments) as (λ b. is_member 1 segments ≡ b → new.image.bytes.items ≡ old.image.bytes.items) [
+-- whoever locks it, its bytes are the same
+pub locked_bytes : (thread : ℕ) (segments reading : List ℕ) (old new : OneSegment) → AreLocked the_images thread segments reading old new → new.image.bytes.items ≡ old.image.bytes.items
+locked_bytes thread segments reading old new held = elim (is_member 1 (segments ++ reading)) as (λ b. is_member 1 (segments ++ reading) ≡ b → new.image.bytes.items ≡ old.image.bytes.items) [
   | true ↦ λ e. held.same_bytes 1 e
   | false ↦ λ e. ap (λ image. image.bytes.items) (held.same.others 1 refl e)
 ] refl
 
+-- Nothing is locked for reading
+
+pub reads_nothing : (segments reading : List ℕ) → IsSetOf (none_of segments []) reading → reading ≡ []
+reads_nothing segments [] is = refl
+reads_nothing segments (n ∷ reading) is =
+    let first : is_member n (n ∷ reading) ≡ true = or_left (n == n) (is_member n reading) (eq-eqb n n refl) in
+    absurd (true≢false (sym first ∙ is.same n))
+
+pub holds_locked : (tx : Tx) (n : ℕ) → tx.reading.items ≡ [] → Holds tx n → Locked tx n
+holds_locked tx n none held = elim (or_cases (is_member n tx.locked.items) (is_member n tx.reading.items) held) [
+  | inl lock ↦ lock
+  | inr read ↦ absurd (true≢false (sym read ∙ ap (is_member n) none))
+]
+
+pub locked_holds : (tx : Tx) (n : ℕ) → Locked tx n → Holds tx n
+locked_holds tx n lock = or_left (is_member n tx.locked.items) (is_member n tx.reading.items) lock
+
+pub only_locked : (n : ℕ) (segments reading : List ℕ) → reading ≡ [] → is_member n (segments ++ reading) ≡ is_member n segments
+only_locked n segments reading none = ap (is_member n) (ap (λ (l : List ℕ). segments ++ l) none ∙ append-nil segments)
+
+-- what is not locked is as it was
+pub released_bytes : (thread : ℕ) (segments reading : List ℕ) (old new : OneSegment) → reading ≡ [] → AreReleased the_images thread segments reading old new → new.image.bytes.items ≡ old.image.bytes.items
+released_bytes thread segments reading old new none released = elim (is_member 1 segments) as (λ b. is_member 1 segments ≡ b → new.image.bytes.items ≡ old.image.bytes.items) [
+  | true ↦ λ e. released.same_bytes 1 e
+  | false ↦ λ e. ap (λ image. image.bytes.items) (released.freed.same.others 1 refl (only_locked 1 segments reading none ∙ e))
+] refl
+
 -- restored, it is as long
-pub restored_length : (copies : List OldBytes) (segments : List ℕ) (old new : OneSegment) → AreRestored the_images copies segments old new → length new.image.bytes.items ≡ length old.image.bytes.items
-restored_length copies segments old new restored = elim (is_member 1 segments) as (λ b. is_member 1 segments ≡ b → length new.image.bytes.items ≡ length old.image.bytes.items) [
+pub restored_length : (copies : List OldBytes) (thread : ℕ) (segments reading : List ℕ) (old new : OneSegment) → reading ≡ [] → AreRestored the_images copies thread segments reading old new → length new.image.bytes.items ≡ length old.image.bytes.items
+restored_length copies thread segments reading old new none restored = elim (is_member 1 segments) as (λ b. is_member 1 segments ≡ b → length new.image.bytes.items ≡ length old.image.bytes.items) [
   | true ↦ λ e. restored.same_length 1 e
-  | false ↦ λ e. ap (λ image. length image.bytes.items) (restored.same.others 1 refl e)
+  | false ↦ λ e. ap (λ image. length image.bytes.items) (restored.freed.same.others 1 refl (only_locked 1 segments reading none ∙ e))
 ] refl
 
 -- released, nobody holds it
-pub free_behind : (segments : List ℕ) (old new : OneSegment) → AreHeldBy the_images None segments old new → (is_member 1 segments ≡ false → old.image.holder ≡ None) → new.image.holder ≡ None
-free_behind segments old new held free = elim (is_member 1 segments) as (λ b. is_member 1 segments ≡ b → new.image.holder ≡ None) [
-  | true ↦ λ e. held.holder_is 1 e
-  | false ↦ λ e. ap (λ image. image.holder) (held.same.others 1 refl e) ∙ free e
+pub free_behind : (thread : ℕ) (segments reading : List ℕ) (old new : OneSegment) → reading ≡ [] → AreReleased the_images thread segments reading old new
+    → (is_member 1 segments ≡ false → old.image.holders ≡ Free) → new.image.holders ≡ Free
+free_behind thread segments reading old new none released free = elim (is_member 1 segments) as (λ b. is_member 1 segments ≡ b → new.image.holders ≡ Free) [
+  | true ↦ λ e. released.freed.free 1 e
+  | false ↦ λ e. ap (λ image. image.holders) (released.freed.same.others 1 refl (only_locked 1 segments reading none ∙ e)) ∙ free e
 ] refl
 
 -- it is the only one that is locked
@@ -151,11 +183,17 @@ module _ (m : Setting) (w : Solo) (s : State) (h : Fits m w s) where
   pub none_running : w.running ≡ None → running_of 0 0 s ≡ None
   none_running none = rw (idle none).2 refl
 
-  pub free_begin : w.running ≡ None → (segments : List ℕ) → list_all (λ s. s == 1) segments ≡ true → first_taken 0 s (ascending m.geometry segments) ≡ None
-  free_begin none segments all = elim (ascending_first m.geometry segments only_one.segments all) [
-    | inl nothing ↦ ap (first_taken 0 s) nothing
-    | inr one ↦ ap (first_taken 0 s) one ∙ rw (h.still.here, (idle none).2, none_holds 1 s.history h.records.own) refl
+  not_busy : w.running ≡ None → (segments : List ℕ) → is_busy segments s 1 ≡ false
+  not_busy none segments = elim (is_member 1 segments) as (λ b. (if b then is_held 1 s else is_locked 1 s) ≡ false) [
+    | true ↦ rw ((idle none).2, none_holds (λ t. holds t 1) s.history h.records.own) refl
+    | false ↦ rw ((idle none).2, none_holds (λ t. locks t 1) s.history h.records.own) refl
   ]
+
+  pub free_begin : w.running ≡ None → (segments : List ℕ) → list_all (λ s. s == 1) segments ≡ true → first_taken 0 s segments (ascending m.geometry (segments ++ [])) ≡ None
+  free_begin none segments all = ap (λ (l : List ℕ). first_taken 0 s segments (ascending m.geometry l)) (append-nil segments) ∙ (elim (ascending_first m.geometry segments only_one.segments all) [
+    | inl nothing ↦ ap (first_taken 0 s segments) nothing
+    | inr one ↦ ap (first_taken 0 s segments) one ∙ rw (h.still.here, not_busy none segments) refl
+  ])
 
   pub turn_begin : w.running ≡ None → (is_some (running_of 0 0 s) || has_unclosed 0 0 s) ≡ false
   turn_begin none = rw ((idle none).2, no_unclosed) refl
@@ -167,15 +205,22 @@ module _ (m : Setting) (w : Solo) (s : State) (h : Fits m w s) where
   pub running_is : (t : Transaction) → s.running ≡ t ∷ [] → IsTrue (is_by 0 0 t) → running_of 0 0 s ≡ Some t
   running_is t only own = rw (only, own) refl
 
-  pub known_one : (is_seat m.geometry 0 0 && is_segment m.geometry 1) ≡ true
-  known_one = ap₂ (λ (a b : Bool). a && b) (ap₂ (λ (a b : ℕ). nat_lt 0 a && nat_lt 0 b) only_one.nodes only_one.threads) (one_segment m.geometry 1 only_one.segments)
+  pub known_node : is_node m.geometry 0 ≡ true
+  known_node = ap (λ (n : ℕ). nat_lt 0 n) only_one.nodes
 
-  pub known_seat : is_seat m.geometry 0 0 ≡ true
-  known_seat = ap₂ (λ (a b : ℕ). nat_lt 0 a && nat_lt 0 b) only_one.nodes only_one.threads
+  known_thread : is_thread m.geometry 0 ≡ true
+  known_thread = ap (λ (n : ℕ). nat_lt 0 n) only_one.threads
 
-  pub seat_zero : (node thread : ℕ) → is_seat m.geometry node thread ≡ true → (node ≡ 0) × (thread ≡ 0)
-  seat_zero node thread known =
-      let both = seat_known m.geometry node thread known in
+  -- what the one thread names is known, with its segment and without
+  pub known_one : are_known m.geometry (by_thread 0 0 (1 ∷ [])) ≡ true
+  known_one = known_seat m.geometry 0 0 (1 ∷ []) known_node known_thread (ap (λ b. b && true) (one_segment m.geometry 1 only_one.segments))
+
+  pub known_own : are_known m.geometry (by_thread 0 0 []) ≡ true
+  known_own = known_seat m.geometry 0 0 [] known_node known_thread refl
+
+  pub seat_zero : (node thread : ℕ) (segments : List ℕ) → are_known m.geometry (by_thread node thread segments) ≡ true → (node ≡ 0) × (thread ≡ 0)
+  seat_zero node thread segments known =
+      let both = seat_known m.geometry node thread segments known in
       (omega (arith, both.0, only_one.nodes), omega (arith, both.1, only_one.threads))
 
   pub no_refusal : (event : Event) → is_known m.geometry event ≡ true → is_halted s.halted event ≡ false → common_refusal m.geometry s event ≡ None

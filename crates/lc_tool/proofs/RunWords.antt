@@ -51,7 +51,7 @@ run_fits = (
     (
       inl (option_fits (codes "segments") (codes "1") 1 1 refl refl),
       (
-        inl (option_fits (codes "pages") (codes "1") 1 64 refl refl),
+        inl (option_fits (codes "pages") (codes "1") 1 1024 refl refl),
         (
           inl (option_fits (codes "words") (codes "64") 64 4096 refl refl),
           (
@@ -104,7 +104,7 @@ size_at words none =
       nodes = number_in (codes "nodes") 1 1 words refl (omega arith) refl all;
       threads = number_in (codes "threads") 1 1 words refl (omega arith) refl all;
       segments = number_in (codes "segments") 1 1 words refl (omega arith) refl all;
-      pages = number_in (codes "pages") 1 64 words refl (omega arith) refl all;
+      pages = number_in (codes "pages") 1 1024 words refl (omega arith) refl all;
       words = number_in (codes "words") 64 4096 words refl (omega arith) refl all;
     }
 

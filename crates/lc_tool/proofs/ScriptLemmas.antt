@@ -3,7 +3,7 @@ use Rattle.std.proofs.Common.{◌≡◌, ℕ, ◌+◌, Bool, true, false, ◌||�
 use Rattle.std.proofs.lemmas.List.{length-take, take_all}
 use Rattle.std.specs.Prelude.{if◌then◌else◌, bytes_eq, codes, option_map}
 use Rattle.std.specs.Io.KnownBytes.{Appends, Keeps}
-use Rattle.lc_core.specs.State.{Setting, State}
+use Rattle.lc_model.specs.State.{Setting, State}
 use Rattle.lc_tool.specs.Line.{◌>>=◌, first, u16_of, u32_of, all_numbers, no_more, bytes_of, thread_of, spot_of, node_of, begin_of, range_of, write_of, read_of, abort_of, end_of, show_of, command_of, words, asked, line_of}
 use Rattle.lc_tool.specs.Session.{Runs, Prints, script_lines}
 use Rattle.lc_tool.specs.Outcome.{Passes, Breaks}

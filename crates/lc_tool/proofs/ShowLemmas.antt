@@ -13,11 +13,11 @@ use Rattle.lc_record.specs.declared.geometry.Geometry.{Geometry}
 use Rattle.lc_record.proofs.WordLemmas.{length-bytes_of, words_of-bytes_of-all}
 use Rattle.lc_log.specs.LogText.{joined, placed}
 use Rattle.lc_log.proofs.LogLemmas.{joined_words, text_at_rest, one_text-by}
-use Rattle.lc_core.specs.History.{is_of, value}
-use Rattle.lc_core.specs.State.{Setting, State}
-use Rattle.lc_core.specs.Refusals.{is_node, is_segment}
+use Rattle.lc_model.specs.History.{is_of, value}
+use Rattle.lc_model.specs.State.{Setting, State}
+use Rattle.lc_model.specs.Refusals.{is_node, is_segment}
 use Rattle.lc_core.specs.Settled.{stable_records}
-use Rattle.lc_core.proofs.Rows.{and-both}
+use Rattle.lc_model.proofs.Rows.{and-both}
 use Rattle.lc_tool.specs.Text.{records_text}
 use Rattle.lc_tool.specs.Inspector.{Inspects}
 use Rattle.lc_tool.specs.Session.{image_of, Shows}

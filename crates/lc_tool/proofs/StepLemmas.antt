@@ -5,24 +5,27 @@ use Rattle.std.specs.List.{list_all}
 use Rattle.std.proofs.lemmas.Bool.{cases_lt}
 use Rattle.std.proofs.lemmas.Bool.Decides.{nat_tests}
 use Rattle.lc_record.specs.Content.{Content, put, on_segment, segment_of}
-use Rattle.lc_record.specs.Transaction.{Transaction, is_member, locks, all_set, effect}
+use Rattle.lc_record.specs.Transaction.{Transaction, is_member, locks, holds, all_set, effect}
+use Rattle.lc_record.proofs.LockLemmas.{lock_holds}
+use Rattle.std.proofs.lemmas.Bool.{or_from, or_cases}
+use Rattle.std.proofs.Common.{◌++◌, append-nil}
 use Rattle.lc_record.specs.Geometry.{segment_len}
 use Rattle.lc_record.specs.Marks.{ascending, no_marks, marked, written, ranges}
 use Rattle.lc_range.specs.RangeSet.{NeedsRunsAbove, MissesSome}
-use Rattle.lc_core.specs.History.{value}
-use Rattle.lc_core.specs.State.{Setting, State, running_of}
-use Rattle.lc_core.specs.Refusals.{is_known, is_seat, is_segment}
-use Rattle.lc_core.specs.Machine.{Row, Step, begun, changed, dropped}
-use Rattle.lc_core.specs.declared.event.Event.TheVariants.{Begin, SetRange, Write, Read, Abort}
-use Rattle.lc_core.specs.declared.refusal.Refusal.{Refusal}
-use Rattle.lc_core.specs.declared.refusal.Refusal.TheVariants.{NotLocked, EmptyRange, OutOfSegment, TooManyRanges, NoRange}
-use Rattle.lc_core.specs.declared.reply.Reply.{Reply}
-use Rattle.lc_core.specs.declared.reply.Reply.TheVariants.{Ok as Accepted, Bytes, Refused}
-use Rattle.lc_core.proofs.Bytes.{byte-unset, same-bytes}
-use Rattle.lc_core.proofs.Rows.{step-row, begin-done, set_range-not_locked, set_range-no_bytes, set_range-outside, set_range-too_many, set_range-done, write-not_locked, write-outside, write-no_range, write-done, read-not_locked, read-outside, read-done, abort-done, and-both}
+use Rattle.lc_model.specs.History.{value}
+use Rattle.lc_model.specs.State.{Setting, State, running_of}
+use Rattle.lc_model.specs.Refusals.{is_known, is_segment}
+use Rattle.lc_model.specs.Machine.{Row, Step, begun, changed, dropped}
+use Rattle.lc_model.specs.declared.event.Event.TheVariants.{Begin, SetRange, Write, Read, Abort}
+use Rattle.lc_model.specs.declared.refusal.Refusal.{Refusal}
+use Rattle.lc_model.specs.declared.refusal.Refusal.TheVariants.{NotLocked, EmptyRange, OutOfSegment, TooManyRanges, NoRange}
+use Rattle.lc_model.specs.declared.reply.Reply.{Reply}
+use Rattle.lc_model.specs.declared.reply.Reply.TheVariants.{Ok as Accepted, Bytes, Refused}
+use Rattle.lc_model.proofs.Bytes.{byte-unset, same-bytes}
+use Rattle.lc_model.proofs.Rows.{step-row, begin-done, set_range-not_locked, set_range-no_bytes, set_range-outside, set_range-too_many, set_range-done, write-not_locked, write-outside, write-no_range, write-done, read-not_locked, read-outside, read-done, abort-done, seat_known}
 use Rattle.lc_record.proofs.SegmentLemmas.{length-writes_on}
 use Rattle.lc_tx.specs.Images.{IsHere, IsFree, IsFirstTaken, IsSame, IsWritten, AreRestored}
-use Rattle.lc_tx.specs.Tx.{Locked, AreSet, RunsOn, Begins, SetsRange}
+use Rattle.lc_tx.specs.Tx.{Locked, Reads, Holds, AreSet, RunsOn, Begins, SetsRange}
 use Rattle.lc_tx.specs.StandsFor.{StandsFor, Show, begun_on, unmarked}
 use Rattle.lc_tx.specs.declared.tx.Tx.{Tx}
 use Rattle.lc_tx.proofs.StandsLemmas.{begun_stands, range_stands, write_stands, content_back, positions_set, more_runs, writes-more}
@@ -30,13 +33,13 @@ use Rattle.lc_tx.proofs.AscendLemmas.{set_is_ascending}
 use Rattle.std.specs.declared.alloc.AllocError.{AllocError}
 use Rattle.lc_tx.specs.Fault.{is_of_begin, is_of_set_range, is_of_read}
 use Rattle.lc_tx.specs.declared.tx_fault.TxFault.{TxFault}
-use Rattle.lc_tx.specs.declared.tx_fault.TxFault.TheVariants.{Busy as IsBusy, NotHere as IsNotHere, NoRange as HasNoRange, OutOfSegment as IsOutside, NotLocked as IsNotLocked, NoMemory, TooLong as IsTooLong, SequenceSpent as IsSpent, EmptyRange as IsEmpty, TooManyRanges as AreTooMany}
+use Rattle.lc_tx.specs.declared.tx_fault.TxFault.TheVariants.{Busy as IsBusy, NotHere as IsNotHere, NoRange as HasNoRange, OutOfSegment as IsOutside, NotLocked as IsNotLocked, NoMemory, TooLong as IsTooLong, SequenceSpent as IsSpent, EmptyRange as IsEmpty, TooManyRanges as AreTooMany, ReadOnly as IsReadOnly}
 use Rattle.lc_tool.specs.Refused.{refusal_of}
 use Rattle.lc_tx.specs.OneSegment.{the_images}
 use Rattle.lc_tool.specs.Fits.{Fits, FitsBytes, IsOpen}
 use Rattle.lc_tx.specs.declared.one_segment.OneSegment.{OneSegment}
 use Rattle.lc_tool.specs.declared.solo.Solo.{Solo}
-use Rattle.lc_tool.proofs.OneNodeLemmas.{member_first, locked_first, with_changed-own, without-own, only_one, segment_bytes, idle, free_begin, turn_begin, running_one, running_is, known_one, known_seat, no_refusal, all_first}
+use Rattle.lc_tool.proofs.OneNodeLemmas.{member_first, locked_first, with_changed-own, without-own, only_one, segment_bytes, idle, free_begin, turn_begin, running_one, running_is, known_one, known_own, no_refusal, all_first, ascending_none, reads_nothing, holds_locked, locked_holds, only_locked, locked_bytes}
 
 -- a test that fails, by what it tests
 le-false : (a b : ℕ) → b < a → nat_le a b ≡ false
@@ -64,46 +67,46 @@ module _ (m : Setting) (w : Solo) (s : State) (h : Fits m w s) where
 
   -- A transaction begins
 
-  pub begin_row : (segments : List ℕ) (tx : Tx) (new : OneSegment) → w.running ≡ None → is_known m.geometry (Begin 0 0 segments) ≡ true
-      → Begins the_images 0 segments w.segment new tx
-      → Step m s (Begin 0 0 segments) Accepted (begun m.geometry s 0 0 segments) × FitsBytes new (Some tx) (value m.start s.earlier s.history) (begun m.geometry s 0 0 segments).running
+  pub begin_row : (segments : List ℕ) (tx : Tx) (new : OneSegment) → w.running ≡ None → is_known m.geometry (Begin 0 0 segments []) ≡ true
+      → Begins the_images 0 segments [] w.segment new tx
+      → Step m s (Begin 0 0 segments []) Accepted (begun m.geometry s 0 0 segments []) × FitsBytes new (Some tx) (value m.start s.earlier s.history) (begun m.geometry s 0 0 segments []).running
   begin_row segments tx new none known begins =
       let all : list_all (λ s. s == 1) segments ≡ true =
-      sym (all_first m.geometry segments (only_one m w s h).segments) ∙ (and-both (is_seat m.geometry 0 0) (list_all (is_segment m.geometry) segments) known).1 in
+      sym (all_first m.geometry segments (only_one m w s h).segments) ∙ ap (list_all (is_segment m.geometry)) (sym (append-nil segments)) ∙ (seat_known m.geometry 0 0 (segments ++ []) known).2 in
+      let nothing : tx.reading.items ≡ [] = reads_nothing segments tx.reading.items begins.reading_are in
       let bytes : content ≡ w.segment.image.bytes.items ∷ [] = (idle m w s h none).0 in
       let first : (n : ℕ) → is_member n segments ≡ true → n ≡ 1 = λ n member. member_first segments n all member in
       let locked : tx.locked.items ≡ ascending m.geometry segments =
       set_is_ascending m.geometry segments tx.locked.items begins.locked_are (λ n member. (omega (arith, first n member), omega (arith, first n member, (only_one m w s h).segments))) in
-      let show : Show the_images w.segment segments content = record {
-        inside = λ n member. (omega (arith, first n member), omega (arith, first n member, ap length bytes));
-        shown = λ n member. subst (λ (i : ℕ). w.segment.image.bytes.items ≡ segment_of i content) (sym (first n member)) (sym (ap (segment_of 1) bytes));
+      let asked : (n : ℕ) → is_member n (segments ++ []) ≡ true → n ≡ 1 = λ n member. first n (ap (is_member n) (sym (append-nil segments)) ∙ member) in
+      let show : Show the_images w.segment (segments ++ []) content = record {
+        inside = λ n member. (omega (arith, asked n member), omega (arith, asked n member, ap length bytes));
+        shown = λ n member. subst (λ (i : ℕ). w.segment.image.bytes.items ≡ segment_of i content) (sym (asked n member)) (sym (ap (segment_of 1) bytes));
       } in
-      let t : Transaction = record { node = 0; thread = 0; locked = ascending m.geometry segments; marks = no_marks m.geometry; writes = [] } in
+      let t : Transaction = record { node = 0; thread = 0; locked = ascending m.geometry segments; reading = ascending m.geometry []; marks = no_marks m.geometry; writes = [] } in
       let marks : unmarked content ≡ no_marks m.geometry =
       ap unmarked bytes ∙ ap (λ n. replicate n false ∷ []) (sym (segment_bytes m w s h)) ∙ sym (ap (λ n. replicate n (replicate (segment_len m.geometry) false)) (only_one m w s h).segments) in
       let same : begun_on content 0 tx ≡ t =
-      ap (λ n. record { node = 0; thread = n; locked = tx.locked.items; marks = unmarked content; writes = [] }) begins.thread_is
-      ∙ ap (λ l. record { node = 0; thread = 0; locked = l; marks = unmarked content; writes = [] }) locked
-      ∙ ap (λ ms. record { node = 0; thread = 0; locked = ascending m.geometry segments; marks = ms; writes = [] }) marks in
-      let up = no_refusal m w s h (Begin 0 0 segments) known h.still.not_halted in (
-        step-row m s (Begin 0 0 segments) Accepted (begun m.geometry s 0 0 segments) up (begin-done m s 0 0 segments (turn_begin m w s h none) (free_begin m w s h none segments all)),
+      ap (λ n. record { node = 0; thread = n; locked = tx.locked.items; reading = tx.reading.items; marks = unmarked content; writes = [] }) begins.thread_is
+      ∙ ap (λ l. record { node = 0; thread = 0; locked = l; reading = tx.reading.items; marks = unmarked content; writes = [] }) locked
+      ∙ ap (λ l. record { node = 0; thread = 0; locked = ascending m.geometry segments; reading = l; marks = unmarked content; writes = [] }) (nothing ∙ sym (ascending_none m.geometry (only_one m w s h).segments))
+      ∙ ap (λ ms. record { node = 0; thread = 0; locked = ascending m.geometry segments; reading = ascending m.geometry []; marks = ms; writes = [] }) marks in
+      let up = no_refusal m w s h (Begin 0 0 segments []) known h.still.not_halted in (
+        step-row m s (Begin 0 0 segments []) Accepted (begun m.geometry s 0 0 segments []) up (begin-done m s 0 0 segments [] (turn_begin m w s h none) (free_begin m w s h none segments all)),
         (
           t,
           ap (λ ts. t ∷ ts) (idle m w s h none).2,
           record {
             own = refl;
-            stands = subst (λ (u : Transaction). StandsFor the_images new tx content u) same (begun_stands the_images w.segment new 0 0 segments tx content begins show);
+            stands = subst (λ (u : Transaction). StandsFor the_images new tx content u) same (begun_stands the_images w.segment new 0 0 segments [] tx content begins show);
             image = bytes ∙ ap (λ (l : List ℕ). l ∷ []) (sym same_bytes);
-            free = λ other. ap (λ image. image.holder) (begins.held.same.others 1 refl other) ∙ (idle m w s h none).1;
+            free = λ other. ap (λ image. image.holders) (begins.held.same.others 1 refl (only_locked 1 tx.locked.items tx.reading.items nothing ∙ other)) ∙ (idle m w s h none).1;
           },
         ),
       )
     where
       same_bytes : new.image.bytes.items ≡ w.segment.image.bytes.items
-      same_bytes = elim (is_member 1 tx.locked.items) as (λ b. is_member 1 tx.locked.items ≡ b → new.image.bytes.items ≡ w.segment.image.bytes.items) [
-        | true ↦ λ e. begins.held.same_bytes 1 e
-        | false ↦ λ e. ap (λ image. image.bytes.items) (begins.held.same.others 1 refl e)
-      ] refl
+      same_bytes = locked_bytes 0 tx.locked.items tx.reading.items w.segment new begins.held
 
   -- The open transaction
 
@@ -120,8 +123,8 @@ module _ (m : Setting) (w : Solo) (s : State) (h : Fits m w s) where
     held : is_member 1 tx.locked.items ≡ true → locks the_one 1 ≡ true
     held lock = ap (is_member 1) fits_open.stands.locked_are ∙ lock
 
-    not_held : is_member 1 tx.locked.items ≡ false → locks the_one 1 ≡ false
-    not_held other = ap (is_member 1) fits_open.stands.locked_are ∙ other
+    not_held : is_member 1 tx.locked.items ≡ false → holds the_one 1 ≡ false
+    not_held other = or_from (locks the_one 1) (is_member 1 the_one.reading) (ap (is_member 1) fits_open.stands.locked_are ∙ other) (ap (is_member 1) (fits_open.stands.reading_are ∙ w.reads_none tx is))
 
     inside : (n : ℕ) → n ≤ length w.segment.image.bytes.items → nat_le n (segment_len m.geometry) ≡ true
     inside n fits = le-leb n (segment_len m.geometry) (omega (arith, fits, segment_bytes m w s h))
@@ -248,12 +251,12 @@ module _ (m : Setting) (w : Solo) (s : State) (h : Fits m w s) where
 
     pub read_outside : (offset len : ℕ) → is_member 1 tx.locked.items ≡ true → length w.segment.image.bytes.items < offset + len
         → Step m s (Read 0 0 1 offset len) (Refused (OutOfSegment None)) s
-    read_outside offset len lock past = read_step offset len (Refused (OutOfSegment None)) s (read-outside m s 0 0 1 offset len the_one running (held lock) (outside (offset + len) past))
+    read_outside offset len lock past = read_step offset len (Refused (OutOfSegment None)) s (read-outside m s 0 0 1 offset len the_one running (lock_holds the_one 1 (held lock)) (outside (offset + len) past))
 
     pub read_row : (offset len : ℕ) (bytes : List ℕ) → is_member 1 tx.locked.items ≡ true → offset + len ≤ length w.segment.image.bytes.items
         → bytes ≡ take len (drop offset w.segment.image.bytes.items) → Step m s (Read 0 0 1 offset len) (Bytes bytes) s
     read_row offset len bytes lock fits are =
-        read_step offset len (Bytes bytes) s (read-done m s 0 0 1 offset len the_one bytes running (held lock) (inside (offset + len) fits)
+        read_step offset len (Bytes bytes) s (read-done m s 0 0 1 offset len the_one bytes running (lock_holds the_one 1 (held lock)) (inside (offset + len) fits)
         (are ∙ ap (λ l. take len (drop offset (segment_of 1 l))) (sym fits_open.image)))
 
     -- it is over
@@ -275,20 +278,20 @@ module _ (m : Setting) (w : Solo) (s : State) (h : Fits m w s) where
         by_length (x ∷ []) one = refl
         by_length (x ∷ (y ∷ ys)) one = absurd (omega (arith, one))
 
-    pub abort_row : (new : OneSegment) → RunsOn the_images w.segment tx → AreRestored the_images tx.undo tx.locked.items w.segment new
+    pub abort_row : (new : OneSegment) → RunsOn the_images w.segment tx → AreRestored the_images tx.undo tx.thread tx.locked.items tx.reading.items w.segment new
         → Step m s (Abort 0 0) Accepted (dropped s 0 0) × FitsBytes new None (value m.start s.earlier s.history) (dropped s 0 0).running
     abort_row new runs restored = (
-      step-row m s (Abort 0 0) Accepted (dropped s 0 0) (no_refusal m w s h (Abort 0 0) (known_seat m w s h) h.still.not_halted) (abort-done m s 0 0 the_one running),
+      step-row m s (Abort 0 0) Accepted (dropped s 0 0) (no_refusal m w s h (Abort 0 0) (known_own m w s h) h.still.not_halted) (abort-done m s 0 0 the_one running),
       elim (is_member 1 tx.locked.items) as (λ b. is_member 1 tx.locked.items ≡ b → FitsBytes new None content (dropped s 0 0).running) [
         | true ↦ λ lock. (
           whole ∙ ap (λ (l : List ℕ). l ∷ []) (sym (content_back the_images w.segment new tx content the_one 1 fits_open.stands restored lock)),
-          restored.holder_is 1 lock,
+          restored.freed.free 1 lock,
           without-own the_one s.running only fits_open.own,
         )
         | false ↦ λ other.
-            let same : new.image ≡ w.segment.image = restored.same.others 1 refl other in (
+            let same : new.image ≡ w.segment.image = restored.freed.same.others 1 refl (only_locked 1 tx.locked.items tx.reading.items (w.reads_none tx is) ∙ other) in (
               sym (unset runs other) ∙ fits_open.image ∙ ap (λ image. image.bytes.items ∷ []) (sym same),
-              ap (λ image. image.holder) same ∙ fits_open.free other,
+              ap (λ image. image.holders) same ∙ fits_open.free other,
               without-own the_one s.running only fits_open.own,
             )
       ] refl,
@@ -310,17 +313,24 @@ pub record RangeAnswers (segment : OneSegment) (tx : Tx) (n offset len : ℕ) (r
   pub empty : (r ≡ Err IsEmpty) ↔ (Locked tx n × (len ≡ 0))
   pub outside : (r ≡ Err IsOutside) ↔ (Locked tx n × (0 < len) × (length segment.image.bytes.items < offset + len))
   pub too_many : (r ≡ Err AreTooMany) ↔ (Locked tx n × (0 < len) × (offset + len ≤ length segment.image.bytes.items) × NeedsRunsAbove 64 tx.set n offset len)
+  pub writable : (s : ℕ) → r ≡ Err (IsReadOnly s) → ⊥
+
+-- where nothing is locked for reading, what is not held is not locked
+pub not_locked_as : (tx : Tx) (n : ℕ) (P : Type 0) → tx.reading.items ≡ [] → P ↔ (Holds tx n → ⊥) → P ↔ (Locked tx n → ⊥)
+not_locked_as tx n P none told = (λ p lock. told.0 p (locked_holds tx n lock), λ out. told.1 (λ held. out (holds_locked tx n none held)))
 
 -- a segment's bytes are fewer than a range may reach
 pub range_answers : (segment : OneSegment) (tx : Tx) (n offset len : ℕ) (r : Result (Unit {0}) TxFault) → length segment.image.bytes.items < 2 ^ 32
-    → (r ≡ Err IsNotLocked) ↔ (Locked tx n → ⊥) → (r ≡ Err IsEmpty) ↔ (Locked tx n × (len ≡ 0))
+    → tx.reading.items ≡ [] → ((s : ℕ) → (r ≡ Err (IsReadOnly s)) ↔ (Reads tx n × (s ≡ n)))
+    → (r ≡ Err IsNotLocked) ↔ (Holds tx n → ⊥) → (r ≡ Err IsEmpty) ↔ (Locked tx n × (len ≡ 0))
     → (r ≡ Err IsOutside) ↔ (Locked tx n × (0 < len) × (min (length segment.image.bytes.items) (2 ^ 32 - 1) < offset + len))
     → (r ≡ Err AreTooMany) ↔ (Locked tx n × (0 < len) × (offset + len ≤ min (length segment.image.bytes.items) (2 ^ 32 - 1)) × NeedsRunsAbove 64 tx.set n offset len)
     → RangeAnswers segment tx n offset len r
-range_answers segment tx n offset len r short not_locked empty outside too_many =
+range_answers segment tx n offset len r short none read_only not_locked empty outside too_many =
     let all : min (length segment.image.bytes.items) (2 ^ 32 - 1) ≡ length segment.image.bytes.items = omega (arith, short) in
     record {
-      not_locked = not_locked;
+      not_locked = not_locked_as tx n (r ≡ Err IsNotLocked) none not_locked;
+      writable = λ s e. true≢false (sym ((read_only s).0 e).0 ∙ ap (is_member n) none);
       empty = empty;
       outside = subst (λ (k : ℕ). (r ≡ Err IsOutside) ↔ (Locked tx n × (0 < len) × (k < offset + len))) all outside;
       too_many = subst (λ (k : ℕ). (r ≡ Err AreTooMany) ↔ (Locked tx n × (0 < len) × (offset + len ≤ k) × NeedsRunsAbove 64 tx.set n offset len)) all too_many;
@@ -335,6 +345,13 @@ pub record WriteAnswers (segment : OneSegment) (tx : Tx) (n offset len : ℕ) (r
 pub record ReadAnswers {V : Type 0} (segment : OneSegment) (tx : Tx) (n offset len : ℕ) (r : Result V TxFault) : Type 0 where
   pub not_locked : (r ≡ Err IsNotLocked) ↔ (Locked tx n → ⊥)
   pub outside : (r ≡ Err IsOutside) ↔ (Locked tx n × (length segment.image.bytes.items < offset + len))
+
+pub read_answers : {V : Type 0} (segment : OneSegment) (tx : Tx) (n offset len : ℕ) (r : Result V TxFault) → tx.reading.items ≡ []
+    → (r ≡ Err IsNotLocked) ↔ (Holds tx n → ⊥) → (r ≡ Err IsOutside) ↔ (Holds tx n × (length segment.image.bytes.items < offset + len)) → ReadAnswers segment tx n offset len r
+read_answers segment tx n offset len r none not_locked outside = record {
+  not_locked = not_locked_as tx n (r ≡ Err IsNotLocked) none not_locked;
+  outside = (λ e. (let why = outside.0 e in (holds_locked tx n none why.0, why.1)), λ why. outside.1 (locked_holds tx n why.0, why.1));
+}
 
 module _ (m : Setting) (w : Solo) (s : State) (h : Fits m w s) (tx : Tx) (is : w.running ≡ Some tx) where
   pub range_fault : (offset len : ℕ) (r : Result (Unit {0}) TxFault) (fault : TxFault) (refusal : Refusal) → RangeAnswers w.segment tx 1 offset len r
@@ -351,6 +368,7 @@ module _ (m : Setting) (w : Solo) (s : State) (h : Fits m w s) (tx : Tx) (is : w
   range_fault offset len r AreTooMany refusal answers may err same =
       let why = answers.too_many.0 err in
       subst (λ (f : Refusal). Step m s (SetRange 0 0 1 offset len) (Refused f) s) (let e : TooManyRanges ≡ refusal = cc in e) (range_too_many m w s h tx is offset len why.0 why.1 why.2 why.3)
+  range_fault offset len r (IsReadOnly n) refusal answers may err same = absurd (answers.writable n err)
   range_fault offset len r NoMemory refusal answers may err same = absurd (let none : None ≡ Some refusal = same in cc)
   range_fault offset len r (IsBusy n) refusal answers may err same = absurd (true≢false (sym may))
   range_fault offset len r (IsNotHere n) refusal answers may err same = absurd (true≢false (sym may))
@@ -430,6 +448,7 @@ module _ (m : Setting) (w : Solo) (s : State) (h : Fits m w s) (tx : Tx) (is : w
   read_fault offset len r (IsSpent n) refusal answers may err same = absurd (true≢false (sym may))
   read_fault offset len r IsEmpty refusal answers may err same = absurd (true≢false (sym may))
   read_fault offset len r AreTooMany refusal answers may err same = absurd (true≢false (sym may))
+  read_fault offset len r (IsReadOnly n) refusal answers may err same = absurd (true≢false (sym may))
 
   pub read_done : {V : Type 0} (offset len : ℕ) (r : Result V TxFault) (v : V) (bytes : List ℕ) → ReadAnswers w.segment tx 1 offset len r → r ≡ Ok v
       → bytes ≡ take len (drop offset w.segment.image.bytes.items) → Step m s (Read 0 0 1 offset len) (Bytes bytes) s
@@ -453,19 +472,23 @@ by_refusal (Some refusal) res P same each = subst (λ (x : Result Reply AllocErr
 
 -- nothing is in the way of a transaction that begins
 pub begin_fault : (m : Setting) (w : Solo) (s : State) → Fits m w s → (segments : List ℕ) (r : Result Tx TxFault) (fault : TxFault) (refusal : Refusal) → w.running ≡ None
-    → is_known m.geometry (Begin 0 0 segments) ≡ true
-    → ((n : ℕ) → (r ≡ Err (IsNotHere n)) ↔ (IsFirstTaken the_images w.segment segments n × (the_images.number_of w.segment n ≡ None)))
-    → ((n : ℕ) → (r ≡ Err (IsBusy n)) ↔ (IsFirstTaken the_images w.segment segments n × IsHere the_images w.segment n))
+    → is_known m.geometry (Begin 0 0 segments []) ≡ true
+    → ((n : ℕ) → (r ≡ Err (IsNotHere n)) ↔ (IsFirstTaken the_images w.segment segments [] n × (the_images.number_of w.segment n ≡ None)))
+    → ((n : ℕ) → (r ≡ Err (IsBusy n)) ↔ (IsFirstTaken the_images w.segment segments [] n × IsHere the_images w.segment n))
     → is_of_begin fault ≡ true → r ≡ Err fault → refusal_of fault ≡ Some refusal → ⊥
 begin_fault m w s h segments r fault refusal none known not_here busy may err same = by_fault fault may err same
   where
     all : list_all (λ s. s == 1) segments ≡ true
-    all = sym (all_first m.geometry segments (only_one m w s h).segments) ∙ (and-both (is_seat m.geometry 0 0) (list_all (is_segment m.geometry) segments) known).1
+    all = sym (all_first m.geometry segments (only_one m w s h).segments) ∙ ap (list_all (is_segment m.geometry)) (sym (append-nil segments)) ∙ (seat_known m.geometry 0 0 (segments ++ []) known).2
 
-    never : (n : ℕ) → IsFirstTaken the_images w.segment segments n → ⊥
+    never : (n : ℕ) → IsFirstTaken the_images w.segment segments [] n → ⊥
     never n first =
-        let one : n ≡ 1 = member_first segments n all first.member in
-        first.taken (subst (λ (i : ℕ). IsFree the_images w.segment i) (sym one) (refl, (idle m w s h none).1))
+        let member : is_member n segments ≡ true = elim (or_cases (is_member n segments) false first.member) [ inl is ↦ is | inr other ↦ absurd (true≢false (sym other)) ] in
+        let one : n ≡ 1 = member_first segments n all member in
+        first.taken (record {
+          for_writing = λ is. subst (λ (i : ℕ). IsFree the_images w.segment i) (sym one) (refl, (idle m w s h none).1);
+          for_reading = λ other. absurd (true≢false (sym other));
+        })
 
     by_fault : (f : TxFault) → is_of_begin f ≡ true → r ≡ Err f → refusal_of f ≡ Some refusal → ⊥
     by_fault (IsBusy n) may err same = never n ((busy n).0 err).0
@@ -478,3 +501,4 @@ begin_fault m w s h segments r fault refusal none known not_here busy may err sa
     by_fault (IsSpent n) may err same = true≢false (sym may)
     by_fault IsEmpty may err same = true≢false (sym may)
     by_fault AreTooMany may err same = true≢false (sym may)
+    by_fault (IsReadOnly n) may err same = true≢false (sym may)

@@ -33,7 +33,7 @@ run_app =
     (option_rule (codes "nodes") (codes "1") (from_to 1 1)))
     (option_rule (codes "threads") (codes "1") (from_to 1 1)))
     (option_rule (codes "segments") (codes "1") (from_to 1 1)))
-    (option_rule (codes "pages") (codes "1") (from_to 1 64)))
+    (option_rule (codes "pages") (codes "1") (from_to 1 1024)))
     (option_rule (codes "words") (codes "64") (from_to 64 4096))
 
 -- the whole command line
@@ -73,7 +73,7 @@ pub record HasSizeAt (rows : List Row) : Type 0 where
   pub nodes : HasNumberIn (codes "nodes") 1 1 rows
   pub threads : HasNumberIn (codes "threads") 1 1 rows
   pub segments : HasNumberIn (codes "segments") 1 1 rows
-  pub pages : HasNumberIn (codes "pages") 1 64 rows
+  pub pages : HasNumberIn (codes "pages") 1 1024 rows
   pub words : HasNumberIn (codes "words") 64 4096 rows
 
 -- the options of the subcommand that the words name

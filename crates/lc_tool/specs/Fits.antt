@@ -1,5 +1,5 @@
 -- When a store of one node, one thread and one segment fits a state of the plain machine.
-use Rattle.std.specs.Prelude.{◌≡◌, ℕ, Bool, true, false, List, [], ◌∷◌, ◌++◌, ◌+◌, length, Option, Some, None, IsTrue}
+use Rattle.std.specs.Prelude.{◌≡◌, ℕ, Bool, true, false, ◌==◌, List, [], ◌∷◌, ◌++◌, ◌+◌, length, Option, Some, None, IsTrue}
 use Rattle.std.specs.List.{AllByRecursion}
 use Rattle.lc_disk.specs.MemArea.{memory_now, memory_dirty}
 use Rattle.lc_record.specs.Content.{Content}
@@ -8,18 +8,19 @@ use Rattle.lc_record.specs.declared.geometry.Geometry.{Geometry}
 use Rattle.lc_record.specs.declared.record.Record.{Record}
 use Rattle.lc_log.specs.LogText.{IsWhole, joined}
 use Rattle.lc_log.specs.NodeLog.{IsAtRest}
-use Rattle.lc_core.specs.History.{Entry, History, transactions, value}
-use Rattle.lc_core.specs.State.{Setting, State, Place, At, Flush, Phase, Up, is_by}
-use Rattle.lc_core.specs.Merging.{counted_all}
+use Rattle.lc_model.specs.History.{Entry, History, transactions, value}
+use Rattle.lc_model.specs.State.{Setting, State, Place, At, Flush, Phase, Up, is_by}
+use Rattle.lc_model.specs.Merging.{counted_all}
 use Rattle.lc_core.specs.Settled.{no_numbers, history_records}
 use Rattle.lc_tool.specs.Session.{zeros_of, Answers, AsksMemory, Finishes, Ends, Does}
 use Rattle.lc_tool.specs.declared.command.Command.{Command}
 use Rattle.lc_tool.specs.declared.command.Command.TheVariants.{Step as Asks}
 use Rattle.std.specs.Io.KnownBytes.{Appends}
-use Rattle.lc_core.specs.declared.event.Event.{Event}
-use Rattle.lc_core.specs.declared.event.Event.TheVariants.{Begin, SetRange, Write, Read, Abort, Reserve, FlushStep}
-use Rattle.lc_core.specs.declared.reply.Reply.{Reply}
+use Rattle.lc_model.specs.declared.event.Event.{Event}
+use Rattle.lc_model.specs.declared.event.Event.TheVariants.{Begin, SetRange, Write, Read, Abort, Reserve, FlushStep}
+use Rattle.lc_model.specs.declared.reply.Reply.{Reply}
 use Rattle.lc_tx.specs.StandsFor.{StandsFor}
+use Rattle.lc_tx.specs.declared.holders.Holders.TheVariants.{Free}
 use Rattle.lc_tx.specs.declared.tx.Tx.{Tx}
 use Rattle.lc_tx.specs.declared.one_segment.OneSegment.{OneSegment}
 use Rattle.lc_tx.specs.OneSegment.{the_images}
@@ -31,11 +32,11 @@ pub record IsOpen (segment : OneSegment) (tx : Tx) (content : Content) (t : Tran
   pub own : IsTrue (is_by 0 0 t)
   pub stands : StandsFor the_images segment tx content t
   pub image : effect t content ≡ segment.image.bytes.items ∷ []
-  pub free : is_member 1 tx.locked.items ≡ false → segment.image.holder ≡ None
+  pub free : is_member 1 tx.locked.items ≡ false → segment.image.holders ≡ Free
 
 -- the segment's bytes are the value of the history, with the writes of the open transaction on top
 abbrev pub FitsBytes : OneSegment → Option Tx → Content → List Transaction → Type 0
-FitsBytes segment None content running = (content ≡ segment.image.bytes.items ∷ []) × (segment.image.holder ≡ None) × (running ≡ [])
+FitsBytes segment None content running = (content ≡ segment.image.bytes.items ∷ []) × (segment.image.holders ≡ Free) × (running ≡ [])
 FitsBytes segment (Some tx) content running = (t : Transaction) × (running ≡ t ∷ []) × IsOpen segment tx content t
 
 -- reserved by the one thread, and closed
@@ -87,9 +88,9 @@ abbrev pub FollowsFlush : Solo → ℕ → Reply → Solo → Type 0
 FollowsFlush old node reply new =
     (m : Setting) (before : State) → Fits m old before → (after : State) × Finishes m before (FlushStep node) reply after × Fits m new after
 
--- the event is one that a line of a script stands for
+-- the event is one that a line of a script stands for; none asks for a lock for reading
 abbrev pub is_of_script : Event → Bool
-is_of_script (Begin node thread segments) = true
+is_of_script (Begin node thread segments reading) = length reading == 0
 is_of_script (SetRange node thread segment offset len) = true
 is_of_script (Write node thread segment offset bytes) = true
 is_of_script (Read node thread segment offset len) = true
@@ -115,7 +116,7 @@ pub record IsReleased (old new : Solo) : Type 0 where
   pub same_acked : new.acked ≡ old.acked
   pub same_records : new.segment.records ≡ old.segment.records
   pub same_bytes : new.segment.image.bytes.items ≡ old.segment.image.bytes.items
-  pub free : (tx : Tx) → old.running ≡ Some tx → (is_member 1 tx.locked.items ≡ false → old.segment.image.holder ≡ None) → new.segment.image.holder ≡ None
+  pub free : (tx : Tx) → old.running ≡ Some tx → (is_member 1 tx.locked.items ≡ false → old.segment.image.holders ≡ Free) → new.segment.image.holders ≡ Free
 
 -- the words of the open transaction's record are staged
 pub record IsLogged (old : Solo) (words : List ℕ) (new : Solo) : Type 0 where
@@ -126,7 +127,7 @@ pub record IsLogged (old : Solo) (words : List ℕ) (new : Solo) : Type 0 where
   pub same_acked : new.acked ≡ old.acked
   pub one_more : new.segment.records ≡ old.segment.records + 1
   pub same_bytes : new.segment.image.bytes.items ≡ old.segment.image.bytes.items
-  pub free : (tx : Tx) → old.running ≡ Some tx → (is_member 1 tx.locked.items ≡ false → old.segment.image.holder ≡ None) → new.segment.image.holder ≡ None
+  pub free : (tx : Tx) → old.running ≡ Some tx → (is_member 1 tx.locked.items ≡ false → old.segment.image.holders ≡ Free) → new.segment.image.holders ≡ Free
 
 -- the command asks for memory
 abbrev pub AsksFor : Solo → Command → Type 0

@@ -1,7 +1,7 @@
 -- What each line of a script says.
 use Rattle.std.specs.Prelude.{◌≡◌, ℕ, ◌+◌, ◌-◌, ◌*◌, ◌^◌, ◌==◌, nat_lt, nat_le, ◌&&◌, ◌||◌, Bool, true, false, if◌then◌else◌, List, [], ◌∷◌, length, codes, bytes_eq, filter, Option, Some, None, option_and_then, option_map}
 use Rattle.std.specs.List.{slice_split, list_all}
-use Rattle.lc_core.specs.declared.event.Event.TheVariants.{Begin, SetRange, Write, Read, Abort}
+use Rattle.lc_model.specs.declared.event.Event.TheVariants.{Begin, SetRange, Write, Read, Abort}
 use Rattle.lc_tool.specs.declared.command.Command.{Command}
 use Rattle.lc_tool.specs.declared.command.Command.TheVariants.{Step, End, Flush, Log, Inspect, Show}
 use Rattle.lc_tool.specs.declared.command.Line.{Line}
@@ -113,7 +113,7 @@ unfoldable pub begin_of : List (List ℕ) → Option Command
 begin_of fields = do
   who ← thread_of fields
   segments ← all_numbers who.1
-  Some (Step (Begin who.0.0 who.0.1 segments))
+  Some (Step (Begin who.0.0 who.0.1 segments []))
 
 unfoldable pub range_of : List (List ℕ) → Option Command
 range_of fields = do

@@ -1,7 +1,7 @@
 -- What a line did, and what it printed.
 use Rattle.std.specs.Prelude.{◌≡◌, ◌⊎◌, ℕ, Bool, false, List, [], Option}
 use Rattle.std.specs.Io.KnownBytes.{Appends}
-use Rattle.lc_core.specs.State.{Setting, State}
+use Rattle.lc_model.specs.State.{Setting, State}
 use Rattle.lc_tool.specs.Line.{line_of}
 use Rattle.lc_tool.specs.Text.{not_understood_text}
 use Rattle.lc_tool.specs.Session.{Does, LineAsksMemory, NoMemory, Runs, script_lines}

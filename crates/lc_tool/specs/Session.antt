@@ -9,16 +9,16 @@ use Rattle.lc_record.specs.Geometry.{segment_len}
 use Rattle.lc_record.specs.Record.{spelling}
 use Rattle.lc_record.specs.declared.geometry.Geometry.{Geometry}
 use Rattle.lc_log.specs.LogText.{placed}
-use Rattle.lc_core.specs.History.{is_of, value}
-use Rattle.lc_core.specs.State.{Up, State, Setting, fresh, running_of}
-use Rattle.lc_core.specs.Refusals.{is_node, is_segment}
-use Rattle.lc_core.specs.Machine.{Step, Run}
+use Rattle.lc_model.specs.History.{is_of, value}
+use Rattle.lc_model.specs.State.{Up, State, Setting, fresh, running_of}
+use Rattle.lc_model.specs.Refusals.{is_node, is_segment}
+use Rattle.lc_model.specs.Machine.{Step, Run}
 use Rattle.lc_core.specs.Settled.{Settled, stable_records}
-use Rattle.lc_core.specs.declared.event.Event.{Event}
-use Rattle.lc_core.specs.declared.event.Event.TheVariants.{SetRange, Read, Reserve, Close, FlushStep}
-use Rattle.lc_core.specs.declared.refusal.Refusal.TheVariants.{Unknown}
-use Rattle.lc_core.specs.declared.reply.Reply.{Reply}
-use Rattle.lc_core.specs.declared.reply.Reply.TheVariants.{Ok as Accepted, Bytes, Reserved, Stepped, Refused}
+use Rattle.lc_model.specs.declared.event.Event.{Event}
+use Rattle.lc_model.specs.declared.event.Event.TheVariants.{SetRange, Read, Reserve, Close, FlushStep}
+use Rattle.lc_model.specs.declared.refusal.Refusal.TheVariants.{Unknown}
+use Rattle.lc_model.specs.declared.reply.Reply.{Reply}
+use Rattle.lc_model.specs.declared.reply.Reply.TheVariants.{Ok as Accepted, Bytes, Reserved, Stepped, Refused}
 use Rattle.lc_tool.specs.declared.command.Command.{Command}
 use Rattle.lc_tool.specs.declared.command.Command.TheVariants.{Step as Asks, End, Flush, Log, Inspect, Show}
 use Rattle.lc_tool.specs.declared.command.Line.{Line}

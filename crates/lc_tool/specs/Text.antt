@@ -7,10 +7,10 @@ use Rattle.lc_record.specs.Record.{record_len}
 use Rattle.lc_record.specs.declared.record.Record.{Record}
 use Rattle.lc_record.specs.declared.record.Lock.{Lock}
 use Rattle.lc_record.specs.declared.record.RangeData.{RangeData}
-use Rattle.lc_core.specs.declared.refusal.Refusal.{Refusal}
-use Rattle.lc_core.specs.declared.refusal.Refusal.TheVariants.{Down, Unknown, Halted, OutOfTurn, Busy, NotHere, NotLocked, EmptyRange, OutOfSegment, NoRange, TooManyRanges, SequenceSpent, TooLong, Sealed, Full, Held, Writing, Unflushed, Behind, Uncommitted, NotNewer, Unclean, RoundsSpent, DeviceFault, BadGeometry, Twice, Gap}
-use Rattle.lc_core.specs.declared.reply.Reply.{Reply}
-use Rattle.lc_core.specs.declared.reply.Reply.TheVariants.{Ok as Accepted, Bytes, Reserved, Ended, Stepped, Acked, Nothing, Applied, HeldBack, Ignored, Trimmed, Recovered, Refused}
+use Rattle.lc_model.specs.declared.refusal.Refusal.{Refusal}
+use Rattle.lc_model.specs.declared.refusal.Refusal.TheVariants.{Down as IsDown, Unknown, Halted, OutOfTurn, Busy, NotHere, NotLocked, EmptyRange, OutOfSegment, NoRange, TooManyRanges, SequenceSpent, TooLong, Sealed, Full, Held, Writing, Unflushed, Behind, Uncommitted, NotNewer, Unclean, RoundsSpent, DeviceFault, BadGeometry, Twice, Gap, ReadOnly}
+use Rattle.lc_model.specs.declared.reply.Reply.{Reply}
+use Rattle.lc_model.specs.declared.reply.Reply.TheVariants.{Ok as Accepted, Bytes, Reserved, Ended, Stepped, Acked, Nothing, Applied, HeldBack, Ignored, Trimmed, Written, Reset, Down, Recovered, Refused}
 
 -- a number behind a space
 abbrev pub number_text : ℕ → List ℕ
@@ -30,7 +30,7 @@ hex_text = flat_map byte_text
 -- Replies
 
 abbrev pub refusal_text : Refusal → List ℕ
-refusal_text Down = line (codes "refused Down") []
+refusal_text IsDown = line (codes "refused Down") []
 refusal_text Unknown = line (codes "refused Unknown") []
 refusal_text Halted = line (codes "refused Halted") []
 refusal_text OutOfTurn = line (codes "refused OutOfTurn") []
@@ -58,6 +58,7 @@ refusal_text DeviceFault = line (codes "device fault") []
 refusal_text (BadGeometry area) = line (codes "refused BadGeometry") (area ∷ [])
 refusal_text (Twice segment seq) = line (codes "refused Twice") (segment ∷ seq ∷ [])
 refusal_text (Gap segment seq) = line (codes "refused Gap") (segment ∷ seq ∷ [])
+refusal_text (ReadOnly segment) = line (codes "refused ReadOnly") (segment ∷ [])
 
 -- `bytes`, and where there are some a space and their digits
 abbrev pub bytes_text : List ℕ → List ℕ
@@ -76,6 +77,9 @@ reply_text (Applied seq) = line (codes "applied") (seq ∷ [])
 reply_text HeldBack = line (codes "held back") []
 reply_text Ignored = line (codes "ignored") []
 reply_text (Trimmed count) = line (codes "trimmed") (count ∷ [])
+reply_text (Written number) = line (codes "written") (number ∷ [])
+reply_text Reset = line (codes "reset") []
+reply_text Down = line (codes "down") []
 reply_text Recovered = line (codes "recovered") []
 reply_text (Refused refusal) = refusal_text refusal
 

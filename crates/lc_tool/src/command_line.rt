@@ -47,11 +47,11 @@ fn program<'a>(alloc: Global) -> Result<Command<'a>, AllocError>
     let threads = option(alloc, "threads", "Threads of each node: 1", "1", one);
     let one = value_parser!(u32).range(1..=1);
     let segments = option(alloc, "segments", "Segments of the store: 1", "1", one);
-    let some = value_parser!(u32).range(1..=64);
+    let some = value_parser!(u32).range(1..=1024);
     let pages = option(
         alloc,
         "pages",
-        "Pages of each segment, of 256 bytes each: 1 to 64",
+        "Pages of each segment, of 256 bytes each: 1 to 1024",
         "1",
         some,
     );

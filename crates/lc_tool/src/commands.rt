@@ -37,6 +37,7 @@ impl Solo {
                 node,
                 thread,
                 segments,
+                ..
             } => self.begin(alloc, *node, *thread, segments.as_slice()),
             Event::SetRange {
                 node,
@@ -44,7 +45,7 @@ impl Solo {
                 segment,
                 offset,
                 len,
-            } => self.set_range(alloc, *node, *thread, *segment, *offset, *len),
+            } => self.set_range(*node, *thread, *segment, *offset, *len),
             Event::Write {
                 node,
                 thread,

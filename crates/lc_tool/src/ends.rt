@@ -1,6 +1,6 @@
 //! How a transaction of the store ends, and how its records become stable.
 ghost use Rattle.std.specs.Prelude.{◌≡◌, ◌+◌, ◌≤◌, ◌++◌, length, IfOk, OnErr};
-ghost use Rattle.lc_core.specs.declared.reply.Reply.TheVariants.{Reserved};
+ghost use Rattle.lc_model.specs.declared.reply.Reply.TheVariants.{Reserved};
 
 use crate::solo::Solo;
 use crate::steps::refusal_of;

@@ -1,6 +1,6 @@
 //! How a store begins.
 ghost use Rattle.std.specs.Prelude.{[], IfOk};
-ghost use Rattle.lc_core.specs.State.{Up, fresh};
+ghost use Rattle.lc_model.specs.State.{Up, fresh};
 ghost use Rattle.lc_tool.specs.Areas.{AreZeros};
 ghost use Rattle.lc_tool.specs.OneNode.{IsOne};
 ghost use Rattle.lc_tool.specs.Session.{setting_of};

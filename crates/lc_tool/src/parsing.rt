@@ -44,6 +44,7 @@ fn begin(alloc: Global, mut fields: Fields) -> Result<Option<Command>, AllocErro
         node,
         thread,
         segments: Items::new(segments),
+        reading: Items::new(Vec::new(alloc)),
     })))
 }
 

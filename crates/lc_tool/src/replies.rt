@@ -28,6 +28,9 @@ pub fn write_reply<W: io::Write>(writer: &mut W, reply: &Reply) -> io::Result<()
         Reply::HeldBack => write_line(writer, b"held back", &[]),
         Reply::Ignored => write_line(writer, b"ignored", &[]),
         Reply::Trimmed(count) => write_line(writer, b"trimmed", &[*count]),
+        Reply::Written(number) => write_line(writer, b"written", &[*number]),
+        Reply::Reset => write_line(writer, b"reset", &[]),
+        Reply::Down => write_line(writer, b"down", &[]),
         Reply::Recovered => write_line(writer, b"recovered", &[]),
         Reply::Refused(refusal) => write_refusal(writer, refusal),
     }
@@ -113,6 +116,11 @@ fn write_refusal<W: io::Write>(writer: &mut W, refusal: &Refusal) -> io::Result<
             writer,
             b"refused Gap",
             &[u64::from(*segment), *seq],
+        ),
+        Refusal::ReadOnly { segment } => write_line(
+            writer,
+            b"refused ReadOnly",
+            &[u64::from(*segment)],
         ),
     }
 }

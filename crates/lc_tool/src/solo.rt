@@ -1,5 +1,5 @@
 //! A store of one node, one thread and one segment, in memory.
-ghost use Rattle.std.specs.Prelude.{◌≡◌, ◌+◌, ◌*◌, ◌≤◌, ◌<◌, ◌^◌, length};
+ghost use Rattle.std.specs.Prelude.{[], ◌≡◌, ◌+◌, ◌*◌, ◌≤◌, ◌<◌, ◌^◌, length};
 ghost use Rattle.std.specs.Option.{ForSome};
 ghost use Rattle.lc_disk.specs.MemArea.{memory_now};
 ghost use Rattle.lc_tx.specs.Tx.{RunsOn};
@@ -29,4 +29,5 @@ pub(crate) struct Solo {
     ghost fits: { log.end + length staged.words ≤ geometry.words },
     ghost few: { segment.records ≤ log.end + length staged.words },
     ghost runs: { ForSome running (λ tx. RunsOn the_images segment tx) },
+    ghost reads_none: { ForSome running (λ tx. tx.reading.items ≡ []) },
 }

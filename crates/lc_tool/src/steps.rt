@@ -1,10 +1,10 @@
 //! The steps of the store.
-ghost use Rattle.std.specs.Prelude.{◌≡◌, ◌≢◌, ◌==◌, IfOk, IsErr, OnErr, Ok, Some, MatchOption};
+ghost use Rattle.std.specs.Prelude.{[], ◌≡◌, ◌≢◌, ◌==◌, IfOk, IsErr, OnErr, Ok, Some, MatchOption};
 ghost use Rattle.std.specs.List.{list_all};
-ghost use Rattle.lc_core.specs.declared.event.Event.TheVariants.{Begin, SetRange, Write, Read, Abort};
-ghost use Rattle.lc_core.specs.declared.reply.Reply.TheVariants.{Refused};
+ghost use Rattle.lc_model.specs.declared.event.Event.TheVariants.{Begin, SetRange, Write, Read, Abort};
+ghost use Rattle.lc_model.specs.declared.reply.Reply.TheVariants.{Refused};
 ghost use Rattle.lc_record.specs.declared.geometry.Geometry.{Geometry};
-ghost use Rattle.lc_core.specs.Refusals.{is_known as is_known_in};
+ghost use Rattle.lc_model.specs.Refusals.{is_known as is_known_in};
 ghost use Rattle.lc_tool.specs.OneNode.{IsOne};
 ghost use Rattle.lc_tool.specs.Refused.{refusal_of};
 
@@ -26,8 +26,8 @@ impl Solo {
         thread: u16,
         segments: &[u32],
     ) -> Result<Reply, AllocError>
-        ensures follows { IfOk result (λ reply. Follows self.old (Begin node thread segments.now) reply self.new) }
-        ensures memory { OnErr result (AsksFor self.old (Step (Begin node thread segments.now))) }
+        ensures follows { IfOk result (λ reply. Follows self.old (Begin node thread segments.now []) reply self.new) }
+        ensures memory { OnErr result (AsksFor self.old (Step (Begin node thread segments.now []))) }
     {
         if !is_known(node, thread, segments) {
             return Ok(Reply::Refused(Refusal::Unknown));
@@ -35,7 +35,7 @@ impl Solo {
         if self.running.is_some() {
             return Ok(Reply::Refused(Refusal::OutOfTurn));
         }
-        match Tx::begin(alloc, &mut self.segment, thread, segments) {
+        match Tx::begin(alloc, &mut self.segment, thread, segments, &[]) {
             Ok(tx) => {
                 self.running = Some(tx);
                 Ok(Reply::Ok)
@@ -47,7 +47,6 @@ impl Solo {
     /// It sets a range.
     pub(crate) fn set_range(
         &mut self,
-        alloc: Global,
         node: u16,
         thread: u16,
         segment: u32,
@@ -63,7 +62,7 @@ impl Solo {
         let Some(tx) = &mut self.running else {
             return Ok(Reply::Refused(Refusal::OutOfTurn));
         };
-        match tx.set_range(alloc, &mut self.segment, segment, offset, len) {
+        match tx.set_range(&mut self.segment, segment, offset, len) {
             Ok(()) => Ok(Reply::Ok),
             Err(fault) => refused(fault),
         }
@@ -134,7 +133,7 @@ impl Solo {
 
 // Whether these are the one thread and the one segment.
 fn is_known(node: u16, thread: u16, segments: &[u32]) -> bool
-    ensures { (g : Geometry) → IsOne g → result ≡ is_known_in g (Begin node thread segments.now) }
+    ensures { (g : Geometry) → IsOne g → result ≡ is_known_in g (Begin node thread segments.now []) }
 {
     node == 0 && thread == 0 && are_first(segments)
 }
@@ -162,6 +161,7 @@ pub(crate) fn refusal_of(fault: TxFault) -> Refusal
         TxFault::SequenceSpent { segment } => Refusal::SequenceSpent { segment },
         TxFault::EmptyRange => Refusal::EmptyRange,
         TxFault::TooManyRanges => Refusal::TooManyRanges,
+        TxFault::ReadOnly { segment } => Refusal::ReadOnly { segment },
     }
 }
 

@@ -41,6 +41,9 @@ fn replies(rt: HostRuntime) -> Result<(), Fail> {
         (Reply::HeldBack, "held back\n"),
         (Reply::Ignored, "ignored\n"),
         (Reply::Trimmed(5), "trimmed 5\n"),
+        (Reply::Written(3), "written 3\n"),
+        (Reply::Reset, "reset\n"),
+        (Reply::Down, "down\n"),
         (Reply::Recovered, "recovered\n"),
     ] {
         check_reply(&rt, &reply, want)?;
@@ -78,6 +81,7 @@ fn refusals_with_numbers(rt: HostRuntime) -> Result<(), Fail> {
     for (refusal, want) in [
         (Refusal::Busy { segment: 2 }, "refused Busy 2\n"),
         (Refusal::NotHere { segment: 16 }, "refused NotHere 16\n"),
+        (Refusal::ReadOnly { segment: 1 }, "refused ReadOnly 1\n"),
         (
             Refusal::OutOfSegment { area: None },
             "refused OutOfSegment\n",
@@ -201,11 +205,11 @@ fn commands(rt: HostRuntime) -> Result<(), Fail> {
     for (line, want) in [
         (
             "begin 0 1",
-            "Command(Step(Begin { node: 0, thread: 1, segments: Items { items: [] } }))",
+            "Command(Step(Begin { node: 0, thread: 1, segments: Items { items: [] }, reading: Items { items: [] } }))",
         ),
         (
             "begin 7 15 2 1 2",
-            "Command(Step(Begin { node: 7, thread: 15, segments: Items { items: [2, 1, 2] } }))",
+            "Command(Step(Begin { node: 7, thread: 15, segments: Items { items: [2, 1, 2] }, reading: Items { items: [] } }))",
         ),
         (
             "range 0 1 2 3 4",

@@ -27,9 +27,10 @@ fn defaults(rt: HostRuntime) -> Result<(), AllocError> {
 fn bounds_of_pages(rt: HostRuntime) -> Result<(), AllocError> {
     let alloc = rt.alloc();
     assert!(rt; size_of(alloc, &["lcrvm", "run", "--pages", "1"])? == Some((1, 64)));
-    assert!(rt; size_of(alloc, &["lcrvm", "run", "--pages=64"])? == Some((64, 64)));
+    assert!(rt; size_of(alloc, &["lcrvm", "run", "--pages", "65"])? == Some((65, 64)));
+    assert!(rt; size_of(alloc, &["lcrvm", "run", "--pages=1024"])? == Some((1024, 64)));
     assert!(rt; is_refused(alloc, &["lcrvm", "run", "--pages", "0"])?);
-    assert!(rt; is_refused(alloc, &["lcrvm", "run", "--pages", "65"])?);
+    assert!(rt; is_refused(alloc, &["lcrvm", "run", "--pages", "1025"])?);
     Ok(())
 }
 

@@ -112,6 +112,23 @@ fn ranges_and_their_bounds(rt: HostRuntime) -> Result<(), Fail> {
 }
 
 #[test]
+fn a_range_that_ends_above_64_pages(rt: HostRuntime) -> Result<(), Fail> {
+    let script =
+        b"begin 0 0 1\nrange 0 0 1 16380 8\nwrite 0 0 1 16380 6c63\nend 0 0\nflush 0\ninspect 0\n";
+    let want = "ok\nok\nok\nclosed 0 9\nacked 1\n0 9 node 0 locks 1:1 ranges 1:16380+8\n";
+    check_run(&rt, 65, 64, script, want, 0)
+}
+
+#[test]
+fn the_last_bytes_of_the_longest_segment(rt: HostRuntime) -> Result<(), Fail> {
+    let script =
+        b"begin 0 0 1\nrange 0 0 1 262137 8\nrange 0 0 1 262136 8\nwrite 0 0 1 262136 0102030405060708\nend 0 0\nflush 0\ninspect 0\nbegin 0 0 1\nread 0 0 1 262142 2\nread 0 0 1 262143 2\nshow 0 1 1024\n";
+    let want =
+        "ok\nrefused OutOfSegment\nok\nok\nclosed 0 9\nacked 1\n0 9 node 0 locks 1:1 ranges 1:262136+8\nok\nbytes 0708\nrefused OutOfSegment\nrefused Unknown\n";
+    check_run(&rt, 1024, 64, script, want, 1)
+}
+
+#[test]
 fn an_abort_gives_the_old_bytes_back(rt: HostRuntime) -> Result<(), Fail> {
     let script =
         b"begin 0 0 1\nrange 0 0 1 0 6\nwrite 0 0 1 0 616263646566\nend 0 0\nbegin 0 0 1\nrange 0 0 1 0 4\nwrite 0 0 1 0 01020304\nrange 0 0 1 2 4\nwrite 0 0 1 2 0a0b0c0d\nread 0 0 1 0 6\nabort 0 0\nbegin 0 0 1\nread 0 0 1 0 6\n";

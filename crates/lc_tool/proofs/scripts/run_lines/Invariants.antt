@@ -1,5 +1,5 @@
 use Rattle.std.proofs.Common.{◌+◌, ◌≤◌, length}
-use Rattle.lc_core.specs.State.{Setting, State}
+use Rattle.lc_model.specs.State.{Setting, State}
 use Rattle.lc_tool.specs.Fits.{Fits}
 use Rattle.lc_tool.proofs.ScriptLemmas.{SoFar}
 use Rattle.lc_tool.proofs.scripts.run_lines.Given as goal

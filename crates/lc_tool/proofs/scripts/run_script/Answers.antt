@@ -1,6 +1,6 @@
 use Rattle.std.proofs.Common.{◌≡◌, ℕ, false, List, [], refl, inr, arith, ◌∙◌, subst}
 use Rattle.std.proofs.lemmas.Result.{IfOk-weaker}
-use Rattle.lc_core.specs.State.{fresh, Up}
+use Rattle.lc_model.specs.State.{fresh, Up}
 use Rattle.lc_tool.specs.Session.{setting_of, Runs, script_lines}
 use Rattle.lc_tool.specs.Text.{too_long_text}
 use Rattle.lc_tool.proofs.ScriptLemmas.{some_weaker, whole_script, long_script}

@@ -1,6 +1,6 @@
 use Rattle.std.proofs.Common.{◌≡◌, ℕ, ◌≤◌, ◌+◌, None, Some, Option, length, sym, ◌∙◌, subst}
-use Rattle.lc_core.specs.History.{value}
-use Rattle.lc_core.specs.Machine.{dropped}
+use Rattle.lc_model.specs.History.{value}
+use Rattle.lc_model.specs.Machine.{dropped}
 use Rattle.lc_tx.specs.declared.tx.Tx.{Tx}
 use Rattle.lc_tool.specs.Fits.{FitsBytes}
 use Rattle.lc_tool.proofs.OneNodeLemmas.{same_records, restored_length}
@@ -15,12 +15,13 @@ invariant_of-self-2 c =
       one_node = w.one_node;
       one_thread = w.one_thread;
       one_segment = w.one_segment;
-      image_len = restored_length _ _ w.segment c.abort.new.images c.abort.ensures ∙ w.image_len;
+      image_len = restored_length _ _ _ _ w.segment c.abort.new.images (w.reads_none c.in-Some.tx (sym c.take.ensures.value ∙ c.in-Some.is)) c.abort.ensures ∙ w.image_len;
       area_len = w.area_len;
       room = w.room;
       fits = w.fits;
-      few = subst (λ (n : ℕ). n ≤ w.log.end + length w.staged.words) (sym (same_records _ w.segment c.abort.new.images c.abort.ensures.same)) w.few;
+      few = subst (λ (n : ℕ). n ≤ w.log.end + length w.staged.words) (sym (same_records _ w.segment c.abort.new.images c.abort.ensures.freed.same)) w.few;
       runs = λ x e. absurd (let none : None ≡ Some x = sym c.take.ensures.after ∙ e in cc);
+      reads_none = λ x e. absurd (let none : None ≡ Some x = sym c.take.ensures.after ∙ e in cc);
     }
 
 pub returns : goal.returns
@@ -34,7 +35,7 @@ returns c = λ m s h.
       record {
         still = h.still;
         bytes = subst (λ (o : Option Tx). FitsBytes c.abort.new.images o (value m.start s.earlier s.history) (dropped s 0 0).running) (sym c.take.ensures.after) row.1;
-        records = records_with m w s h c.abort.new.images.records (same_records _ w.segment c.abort.new.images c.abort.ensures.same);
+        records = records_with m w s h c.abort.new.images.records (same_records _ w.segment c.abort.new.images c.abort.ensures.freed.same);
         acked = h.acked;
       },
     )

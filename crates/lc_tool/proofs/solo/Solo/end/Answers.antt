@@ -1,8 +1,8 @@
 use Rattle.std.proofs.Common.{◌≡◌, ℕ, ◌≤◌, ◌<◌, ◌+◌, List, [], Option, Some, Ok, length, refl, sym, ◌∙◌, ap, subst, arith}
 use Rattle.std.specs.Prelude.{◌↔◌, Result}
 use Rattle.lc_record.specs.Record.{IsRecord, record_len}
-use Rattle.lc_core.specs.Machine.{dropped}
-use Rattle.lc_core.specs.State.{State}
+use Rattle.lc_model.specs.Machine.{dropped}
+use Rattle.lc_model.specs.State.{State}
 use Rattle.lc_tx.specs.Tx.{RunsOn}
 use Rattle.lc_tx.specs.Prepared.{AreSmall, IsLoggable, final_record}
 use Rattle.lc_tx.specs.declared.tx_fault.TxFault.{TxFault}
@@ -97,6 +97,7 @@ invariant_of-self-2 c =
       fits = w.fits;
       few = subst (λ (seg : OneSegment). seg.records ≤ w.log.end + length w.staged.words) (sym same) w.few;
       runs = λ x e. subst (λ (seg : OneSegment). RunsOn the_images seg x) (sym same) (w.runs x e);
+      reads_none = w.reads_none;
     }
 
 pub log_record-requires-clause-some : goal.log_record-requires-clause-some

@@ -1,8 +1,8 @@
 use Rattle.std.proofs.Common.{◌≡◌, ℕ, Some, Err, refl, sym, ◌∙◌, ap, subst, arith}
 use Rattle.lc_range.specs.RangeSet.{MissesSome, NeedsRunsAbove}
 use Rattle.lc_record.specs.Marks.{marked}
-use Rattle.lc_core.specs.History.{value}
-use Rattle.lc_core.specs.Machine.{changed}
+use Rattle.lc_model.specs.History.{value}
+use Rattle.lc_model.specs.Machine.{changed}
 use Rattle.lc_tx.specs.Tx.{Locked, RunsOn, SetsRange}
 use Rattle.lc_tx.specs.declared.tx_fault.TxFault.{TxFault}
 use Rattle.lc_tool.proofs.MemoryLemmas.{by_want, range_asks}
@@ -23,7 +23,7 @@ returns-in-Ok-clause-follows c = λ m s h.
     let after : RunsOn the_images w.segment c.set_range.new.self = subst (λ (seg : OneSegment). RunsOn the_images seg c.set_range.new.self) same c.set_range.ensures.runs in
     let answers : RangeAnswers w.segment tx 1 c.args.offset c.args.len c.set_range.result = subst (λ (n : ℕ). RangeAnswers w.segment tx n c.args.offset c.args.len c.set_range.result) c.if-segment-ne1.false
     (range_answers w.segment tx c.args.segment c.args.offset c.args.len c.set_range.result (omega (arith, w.image_len, w.geometry.few_pages))
-    c.set_range.ensures.not_locked c.set_range.ensures.empty c.set_range.ensures.outside c.set_range.ensures.too_many) in
+    (w.reads_none tx c.in-Some.is) c.set_range.ensures.read_only c.set_range.ensures.not_locked c.set_range.ensures.empty c.set_range.ensures.outside c.set_range.ensures.too_many) in
     let sets : SetsRange the_images w.segment tx 1 c.args.offset c.args.len c.set_range.new.self =
     subst (λ (n : ℕ). SetsRange the_images w.segment tx n c.args.offset c.args.len c.set_range.new.self) c.if-segment-ne1.false c.in-Ok.ensures.sets in
     let row = range_done m w s h tx c.in-Some.is c.args.offset c.args.len c.set_range.result c.set_range.new.self answers c.in-Ok.is (w.runs tx c.in-Some.is) after sets in
@@ -45,7 +45,7 @@ returns-in-Err-clause-follows c = by_refusal _ c.refused.result _ c.refused.ensu
     let same : c.set_range.new.images ≡ w.segment = same_segment w.segment c.set_range.new.images c.set_range.ensures.images in
     let answers : RangeAnswers w.segment tx 1 c.args.offset c.args.len c.set_range.result = subst (λ (n : ℕ). RangeAnswers w.segment tx n c.args.offset c.args.len c.set_range.result) c.if-segment-ne1.false
     (range_answers w.segment tx c.args.segment c.args.offset c.args.len c.set_range.result (omega (arith, w.image_len, w.geometry.few_pages))
-    c.set_range.ensures.not_locked c.set_range.ensures.empty c.set_range.ensures.outside c.set_range.ensures.too_many) in
+    (w.reads_none tx c.in-Some.is) c.set_range.ensures.read_only c.set_range.ensures.not_locked c.set_range.ensures.empty c.set_range.ensures.outside c.set_range.ensures.too_many) in
     let step = range_fault m w s h tx c.in-Some.is c.args.offset c.args.len c.set_range.result c.in-Err.fault refusal answers c.in-Err.ensures.faults c.in-Err.is named in
     rw (c.if-node-ne0.false, c.if-thread-ne0.false, c.if-segment-ne1.false)
     (s, (step, tt), same_fits m w s h _ refl refl refl same (ap (λ (x : Tx). Some x) c.in-Err.ensures.err ∙ sym c.in-Some.is) refl))

@@ -1,14 +1,18 @@
-use Rattle.std.proofs.Common.{◌≡◌, sym, ◌∙◌, ap, subst, IfOk}
+use Rattle.std.proofs.Common.{◌≡◌, ℕ, ◌==◌, true, List, [], length, sym, ◌∙◌, ap, ap₂, subst, eqb-true, IfOk}
+use Rattle.std.proofs.lemmas.List.{nil_from_length}
 use Rattle.std.specs.Prelude.{OnErr}
-use Rattle.lc_core.specs.declared.event.Event.{Event}
-use Rattle.lc_core.specs.declared.event.Event.TheVariants.{Begin, Write}
+use Rattle.lc_model.specs.declared.event.Event.{Event}
+use Rattle.lc_model.specs.declared.event.Event.TheVariants.{Begin, Write}
 use Rattle.lc_tool.specs.declared.command.Command.TheVariants.{Step}
-use Rattle.lc_tool.specs.Fits.{AsksFor, Follows}
+use Rattle.lc_tool.specs.Fits.{AsksFor, Follows, is_of_script}
 use Rattle.lc_tool.proofs.solo.Solo.step.Goals as goal
 
 pub returns-in-Begin : goal.returns-in-Begin
 returns-in-Begin c =
-    let event : Begin c.in-Begin.node c.in-Begin.thread c.as_slice.result.now ≡ c.args.event.now = ap (Begin c.in-Begin.node c.in-Begin.thread) c.as_slice.ensures ∙ sym c.in-Begin.is in
+    let of_script : (length c.in-Begin.reading == 0) ≡ true = ap is_of_script (sym c.in-Begin.is) ∙ c.requires in
+    let none : c.in-Begin.reading ≡ [] = nil_from_length c.in-Begin.reading (eqb-true (length c.in-Begin.reading) 0 of_script) in
+    let event : Begin c.in-Begin.node c.in-Begin.thread c.as_slice.result.now [] ≡ c.args.event.now =
+    ap₂ (λ (xs ys : List ℕ). Begin c.in-Begin.node c.in-Begin.thread xs ys) c.as_slice.ensures (sym none) ∙ sym c.in-Begin.is in
     record {
       follows = subst (λ (e : Event). IfOk c.begin.result (λ reply. Follows c.args.self.now e reply c.begin.new.self)) event c.begin.ensures.follows;
       memory = subst (λ (e : Event). OnErr c.begin.result (AsksFor c.args.self.now (Step e))) event c.begin.ensures.memory;
