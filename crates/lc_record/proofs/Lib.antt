@@ -6,6 +6,7 @@ pub mod ReadingLemmas
 pub mod OrderLemmas
 pub mod LoopLemmas
 pub mod RecordLemmas
+pub mod ViewLemmas
 pub mod GroupLemmas
 pub mod SegmentLemmas
 pub mod LockLemmas

@@ -128,7 +128,7 @@ lock_takes (a ∷ b ∷ rest) x e =
     let taken = cond_some (ltb a (2 ^ 32)) made x e in
     subst (λ (y : Lock × List ℕ). a ∷ b ∷ rest ≡ lock_words y.0 ++ y.1) taken.1 refl
 
-lock_again : (lock : Lock) (rest : List ℕ) → lock.segment < 2 ^ 32 → lock_at (lock_words lock ++ rest) ≡ Some (lock, rest)
+pub lock_again : (lock : Lock) (rest : List ℕ) → lock.segment < 2 ^ 32 → lock_at (lock_words lock ++ rest) ≡ Some (lock, rest)
 unfolding lock_at
 lock_again lock rest small = let t : ltb lock.segment (2 ^ 32) ≡ true = lt-ltb _ _ small in rw t refl
 

@@ -3,7 +3,7 @@ use Rattle.std.proofs.Common.{◌≡◌, ◌≢◌, ℕ, ◌+◌, ◌/◌, ◌<�
 use Rattle.std.specs.Prelude.{IsTrue, ◌↔◌, IfSome, IfNone}
 use Rattle.std.specs.List.{flat_map, AllByRecursion}
 use Rattle.std.proofs.lemmas.Bool.{and_parts, and_from, eqb-true, eq-eqb}
-use Rattle.std.proofs.lemmas.List.{take_at, length-take-le}
+use Rattle.std.proofs.lemmas.List.{append-nil, take_at, length-take-le}
 use Rattle.std.proofs.lemmas.Option.{cond_some, none-some, same_Some}
 use Rattle.lc_record.specs.Words.{AreWords}
 use Rattle.lc_record.specs.GrammarVersion.{number}
@@ -255,6 +255,9 @@ module _ (r : Record) (is : IsCanonical r) (short : record_len r ≤ 4096) (rest
 pub none_begins : (words : List ℕ) → len_at words ≡ None → BeginsNoRecord words
 none_begins words none r front rest is e =
     none-some (record_len r) (sym none ∙ ap len_at e ∙ ap (λ (l : List ℕ). len_at (l ++ rest)) is.spelled ∙ len_again r is.canonical is.short rest)
+
+pub record_is : (r : Record) (words : List ℕ) → IsRecord r words → record_at words ≡ Some r
+record_is r words is = ap record_at (is.spelled ∙ sym (append-nil (spelling r))) ∙ record_again r is.canonical is.short []
 
 -- no record is a prefix of another
 pub one_reading : (r q : Record) (a b x y : List ℕ) → IsRecord r a → IsRecord q b → a ++ x ≡ b ++ y → (r ≡ q) × (a ≡ b)

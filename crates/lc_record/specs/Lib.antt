@@ -13,6 +13,7 @@ pub mod Content
 pub mod Transaction
 pub mod Reading
 pub mod Part
+pub mod View
 pub mod Marks
 pub mod Recorded
 pub mod Newest

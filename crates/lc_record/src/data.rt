@@ -1,5 +1,5 @@
 //! The bytes of a range as whole words, the last of them filled up with zeros.
-ghost use Rattle.std.specs.Prelude.{◌≡◌, ◌==◌, ◌+◌, ◌-◌, ◌<◌, ◌≤◌, [], ◌∷◌, ◌++◌, length, replicate, take, vec_len, vec_capacity, IfOk};
+ghost use Rattle.std.specs.Prelude.{◌≡◌, ◌==◌, ◌+◌, ◌-◌, ◌<◌, ◌≤◌, [], ◌∷◌, ◌++◌, length, replicate, slice_get, take, vec_len, vec_capacity, IfOk};
 ghost use Rattle.std.specs.List.{list_all};
 ghost use Rattle.std.specs.Int.{w64, from_le_bytes};
 ghost use Rattle.lc_record.specs.Words.{bytes_of};
@@ -62,6 +62,17 @@ pub fn read_data(alloc: Global, len: usize, words: &[u64]) -> Result<Vec<u8>, Al
         bytes.extend_from_slice(&word.to_le_bytes()[..missing.min(WORD)])?;
     }
     Ok(bytes)
+}
+
+/// The byte at this place, of so many of the bytes of these words, the first.
+pub fn read_byte(len: usize, words: &[u64], place: usize) -> Option<u8>
+    ensures { result ≡ slice_get (take len (bytes_of words.now)) place }
+{
+    if place >= len {
+        return None;
+    }
+    let word = words.get(place / WORD)?;
+    Some(word.to_le_bytes()[place % WORD])
 }
 
 /// Whether nothing but zeros stands behind so many of the bytes of these words.

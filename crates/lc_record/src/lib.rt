@@ -19,6 +19,7 @@ mod parts;
 mod record;
 mod span;
 mod spelling;
+mod view;
 mod walk;
 
 pub use decoding::{check, decode};
@@ -34,7 +35,9 @@ pub use layout::Layout;
 pub use limits::{MAX_SEQ, MAX_WORDS};
 pub use part::Part;
 pub use record::{Lock, RangeData, Record};
+pub use span::Span;
 pub use spelling::Spelling;
+pub use view::View;
 
 #[cfg(test)]
 mod tests;

@@ -26,3 +26,5 @@ pub const SECOND_END: u64 = 1 << 32;
 pub const RECORD_WORDS: usize = 3;
 /// The words of a lock.
 pub const LOCK_WORDS: usize = 2;
+/// The words of a record before its locks.
+pub const HEAD_WORDS: usize = 2;

@@ -1,5 +1,6 @@
 //! Where the parts of a record stand in its words.
-ghost use Rattle.std.specs.Prelude.{◌≡◌, ◌*◌, ◌/◌, ◌%◌, ◌^◌, ◌≤◌, IfSome, length, take};
+ghost use Rattle.std.specs.Prelude.{◌≡◌, ◌*◌, ◌/◌, ◌%◌, ◌^◌, ◌≤◌, ℕ, IfSome, List, Some, length, slice_get, take};
+ghost use Rattle.lc_record.specs.declared.record.RangeData.{RangeData};
 ghost use Rattle.lc_record.specs.Reading.{Gives, apart_at, front, front_at, has_room, head_at, is_closed, is_first, is_second, len_at, lock_at, locks_at, packed_at, place_at, range_at, range_of, ranges_at, start, walked};
 
 use crate::canonical::ascend;
@@ -71,8 +72,9 @@ fn head_of(words: &[u64]) -> Option<(Head, &[u64])>
     Some((head, rest))
 }
 
+/// The lock at the front, and the words behind it.
 #[tactic(auto, unfolding(crate::specs::Reading::lock_at))]
-fn lock_of(words: &[u64]) -> Option<(Lock, &[u64])>
+pub fn lock_of(words: &[u64]) -> Option<(Lock, &[u64])>
     ensures { Gives (λ x. (x.0, x.1.now)) result (lock_at words.now) }
 {
     let [segment, seq, rest @ ..] = words else {
@@ -185,6 +187,25 @@ pub fn range_of(version: GrammarVersion, words: &[u64]) -> Option<(RangeWords<'_
         return None;
     }
     Some((RangeWords { span, data }, behind))
+}
+
+/// Of the ranges that stand here, the one at this index.
+pub fn nth_range(head: Head, index: usize, words: &[u64]) -> Option<RangeWords<'_>>
+    ensures read { (ranges : List RangeData) (rest : List ℕ) → ranges_at head.version head.ranges words.now ≡ Some (ranges, rest) →
+        Gives (λ x. range_of x.span x.data.now) result (slice_get ranges index) }
+    ensures short { IfSome result (λ x. x.span.len ≤ 262144) }
+    ensures whole { IfSome result (λ x. x.span.len ≤ 8 * length x.data.now) }
+{
+    if index >= head.ranges as usize {
+        return None;
+    }
+    let mut rest = words;
+    for _ in 0..index {
+        let (_, behind) = range_of(head.version, rest)?;
+        rest = behind;
+    }
+    let (range, _) = range_of(head.version, rest)?;
+    Some(range)
 }
 
 // The words behind the ranges, which follow on these locks and are of the version that the head has.

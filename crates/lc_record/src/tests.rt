@@ -388,3 +388,61 @@ fn faults_say_what_they_are(rt: HostRuntime) -> Result<(), Fail> {
     );
     Ok(())
 }
+
+// The record of node 0 under lock 1:1 begins at this place, with the bytes "hello" at 3 in segment 1.
+fn is_hello(rt: &impl Abort, words: &[u64], place: usize) -> Result<(), Fail> {
+    let view = View::at(words, place).ok_or("a record begins here")?;
+    assert_eq!(rt; view.len(), 8);
+    assert_eq!(rt; view.words(), hello_words().as_slice());
+    assert_eq!(rt; view.node(), 0);
+    assert_eq!(rt; view.lock_count(), 1);
+    assert_eq!(rt; view.lock(0), Some(Lock { segment: 1, seq: 1 }));
+    assert_eq!(rt; view.lock(1), None);
+    assert_eq!(rt; view.range_count(), 1);
+    let span = Span {
+        segment: 1,
+        offset: 3,
+        len: 5,
+    };
+    assert_eq!(rt; view.range(0), Some(span));
+    assert_eq!(rt; view.range(1), None);
+    for (place, byte) in b"hello".iter().enumerate() {
+        assert_eq!(rt; view.byte(0, place), Some(*byte));
+    }
+    assert_eq!(rt; view.byte(0, 5), None);
+    assert_eq!(rt; view.byte(1, 0), None);
+    Ok(())
+}
+
+#[test]
+fn a_record_is_read_in_place(rt: HostRuntime) -> Result<(), Fail> {
+    is_hello(&rt, &hello_words(), 0)?;
+    let mut words = Vec::from_slice(rt.alloc(), &letters_words())?;
+    words.extend_from_slice(&hello_words())?;
+    is_hello(&rt, &words, 17)?;
+    for place in [1, 16, 18, 25, 26] {
+        assert!(rt; View::at(&words, place).is_none());
+    }
+    let letters = View::at(&words, 0).ok_or("a record begins here")?;
+    assert_eq!(rt; letters.len(), 17);
+    assert_eq!(rt; letters.node(), 7);
+    assert_eq!(rt; letters.lock(1), Some(Lock { segment: 3, seq: 1 }));
+    let span = Span {
+        segment: 3,
+        offset: 100,
+        len: 9,
+    };
+    assert_eq!(rt; letters.range(2), Some(span));
+    assert_eq!(rt; letters.byte(1, 0), Some(b'i'));
+    assert_eq!(rt; letters.byte(2, 8), Some(b'r'));
+    let far_words = far_twice_words();
+    let far = View::at(&far_words, 0).ok_or("a record begins here")?;
+    let span = Span {
+        segment: 1,
+        offset: 16389,
+        len: 8,
+    };
+    assert_eq!(rt; far.range(1), Some(span));
+    assert_eq!(rt; far.byte(1, 0), Some(b'l'));
+    Ok(())
+}

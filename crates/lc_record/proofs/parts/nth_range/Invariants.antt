@@ -1,0 +1,10 @@
+use Rattle.std.proofs.Common.{◌≡◌, ◌-◌, List, length}
+use Rattle.lc_record.specs.Reading.{ranges_at}
+use Rattle.lc_record.specs.declared.record.RangeData.{RangeData}
+use Rattle.lc_record.proofs.LoopLemmas.{with_front}
+use Rattle.lc_record.proofs.parts.nth_range.Given as goal
+
+abbrev pub invariant-loop : goal.invariant-loop
+invariant-loop l =
+    (front : List RangeData) × (length front ≡ l.counter)
+    × (with_front front (ranges_at l.head.version (l.head.ranges - l.counter) l.rest) ≡ ranges_at l.head.version l.head.ranges l.words)

@@ -1,0 +1,121 @@
+//! A record that is read where its words stand.
+ghost use Rattle.std.specs.Prelude.{◌≡◌, ◌*◌, ◌≤◌, length, drop, option_map, slice_get, IfSome, IfNone};
+ghost use Rattle.lc_record.specs.Codec.{BeginsWith, BeginsNoRecord};
+ghost use Rattle.lc_record.specs.Record.{record_len, span_of, IsRecord};
+ghost use Rattle.lc_record.specs.Reading.{Gives, range_of};
+ghost use Rattle.lc_record.specs.View.{byte_at};
+
+use crate::Lock;
+use crate::data::read_byte;
+use crate::fields::{lock_count, node, range_count};
+use crate::limits::{HEAD_WORDS, LOCK_WORDS};
+use crate::parts::{RangeWords, front_of, len_of, lock_of, nth_range};
+use crate::span::Span;
+use std::marker::Model;
+
+/// The words of one record, which stay where they are: it is read without memory, and no word is copied. This project's
+/// own.
+#[derive(Drop)]
+pub struct View<'a> {
+    words: &'a [u64],
+}
+
+impl<'a> Model for View<'a> {
+    ghost use Rattle.lc_record.specs.declared.record.Record.{Record as Spelled};
+
+    ghost Value = { Spelled };
+
+    ghost use Rattle.lc_record.specs.View.{view_record, IsView};
+
+    ghost view = { view_record };
+
+    ghost invariant = { IsView };
+}
+
+impl<'a> View<'a> {
+    /// The record that begins at a place of these words, from 0; None exactly where none begins there, as behind the
+    /// last word. It takes no memory.
+    pub fn at(words: &'a [u64], place: usize) -> Option<View<'a>>
+        ensures found { IfSome result (λ r. BeginsWith (drop place words.now) r (record_len r)) }
+        ensures none { IfNone result (BeginsNoRecord (drop place words.now)) }
+    {
+        let rest = words.get(place..)?;
+        let len = len_of(rest)?;
+        Some(View {
+            words: &rest[..len],
+        })
+    }
+
+    /// How many words the record takes.
+    pub fn len(&self) -> usize
+        ensures { result ≡ record_len self.now }
+    {
+        self.words.len()
+    }
+
+    /// The words of the record, and no others.
+    pub fn words(&self) -> &'a [u64]
+        ensures { IsRecord self.now result.now }
+    {
+        self.words
+    }
+
+    /// The node that committed the record.
+    pub fn node(&self) -> u16
+        ensures { result ≡ self.now.node }
+    {
+        node(self.words[1])
+    }
+
+    /// How many locks the record has.
+    pub fn lock_count(&self) -> usize
+        ensures { result ≡ length self.now.locks }
+    {
+        lock_count(self.words[1]) as usize
+    }
+
+    /// How many ranges the record has.
+    pub fn range_count(&self) -> usize
+        ensures { result ≡ length self.now.ranges }
+    {
+        range_count(self.words[0]) as usize
+    }
+
+    /// The lock at this index, from 0; None exactly where the record has none there.
+    pub fn lock(&self, index: usize) -> Option<Lock>
+        ensures { result ≡ slice_get self.now.locks index }
+    {
+        if index >= self.lock_count() {
+            return None;
+        }
+        let (lock, _) = lock_of(&self.words[HEAD_WORDS + LOCK_WORDS * index..])?;
+        Some(lock)
+    }
+
+    /// Where the range at this index, from 0, stands; None exactly where the record has none there. It goes over the
+    /// ranges before it.
+    pub fn range(&self, index: usize) -> Option<Span>
+        ensures { result ≡ option_map span_of (slice_get self.now.ranges index) }
+    {
+        let range = self.range_words(index)?;
+        Some(range.span)
+    }
+
+    /// The byte at this place, from 0, of the range at this index; None exactly where there is none. It goes over the
+    /// ranges before it.
+    pub fn byte(&self, index: usize, place: usize) -> Option<u8>
+        ensures { result ≡ byte_at self.now index place }
+    {
+        let range = self.range_words(index)?;
+        read_byte(range.span.len as usize, range.data, place)
+    }
+
+    fn range_words(&self, index: usize) -> Option<RangeWords<'a>>
+        ensures read { Gives (λ x. range_of x.span x.data.now) result (slice_get self.now.ranges index) }
+        ensures short { IfSome result (λ x. x.span.len ≤ 262144) }
+        ensures whole { IfSome result (λ x. x.span.len ≤ 8 * length x.data.now) }
+    {
+        let (head, _, rest) = front_of(self.words)?;
+        nth_range(head, index, rest)
+    }
+}
