@@ -2,3 +2,4 @@ pub mod WalkLemmas
 pub mod LogLemmas
 pub mod StateLemmas
 pub mod ResetLemmas
+pub mod InPlaceLemmas

@@ -1,11 +1,16 @@
 -- How the first gate is closed over whatever stands behind it.
-use Rattle.std.proofs.Common.{◌≡◌, ◌≢◌, ◌↔◌, ℕ, zero, suc, ◌<◌, ◌%◌, Bool, true, false, IsTrue, if◌then◌else◌, List, [], ◌∷◌, ◌++◌, length, slice_index, slice_index_or, drop, refl, sym, ◌∙◌, ap, subst, inl, inr, arith}
+use Rattle.std.proofs.Common.{◌≡◌, ◌≢◌, ◌↔◌, ℕ, zero, suc, ◌<◌, ◌%◌, Bool, true, false, IsTrue, if◌then◌else◌, List, [], ◌∷◌, ◌++◌, ◌≤◌, length, slice_index, slice_index_or, slice_get, Option, Some, None, ◌+◌, drop, refl, sym, ◌∙◌, ap, subst, inl, inr, arith}
+use Rattle.std.specs.Prelude.{Result, Ok, Err, OnOk}
+use Rattle.std.specs.Option.{unwrap_or}
+use Rattle.std.proofs.lemmas.Option.{none-some}
 use Rattle.std.proofs.lemmas.Bool.{cases_eq, false≢true}
 use Rattle.lc_disk.specs.Area.{IsImage, IsSameOutside, BecomeDirty, IsClean, overlaid}
 use Rattle.lc_disk.proofs.Images.{image_kept}
 use Rattle.lc_disk.proofs.Outside.{same_after}
 use Rattle.lc_record.specs.Words.{words_of, bytes_of}
 use Rattle.lc_record.specs.declared.record.Record.{Record}
+use Rattle.lc_record.proofs.WordLemmas.{low_byte, words_of-eight}
+use Rattle.std.specs.Int.{w64, from_le_bytes}
 use Rattle.lc_log.specs.LogText.{IsLogText, joined}
 use Rattle.lc_log.specs.NodeLog.{IsAtRest, IsShut, EachImage, IsWithOrWithout}
 use Rattle.lc_log.proofs.LogLemmas.{closed_text}
@@ -121,3 +126,37 @@ module _ (now : List ℕ) (dirty : ℕ → Bool) (end : ℕ) (stable : List Reco
   pub gate_reads : (is_open : Bool) → IsTrue is_open ↔ (end ≢ 0) → IsTrue is_open ↔ (slice_index now 0 ≡ 165)
   gate_reads is_open full =
       ((λ yes. gate_of_some (omega (arith, full.0 yes))), λ opens. full.1 (λ empty. gate_of_none empty opens))
+
+-- the low byte of the first word is the first byte
+pub first_word : (bytes ws : List ℕ) → ((k : ℕ) → slice_index_or bytes k 0 < 256) → 8 ≤ length bytes → ws ≡ words_of bytes → (0 < length ws) × (slice_index ws 0 % 256 ≡ slice_index bytes 0)
+first_word (a ∷ b ∷ c ∷ d ∷ e ∷ f ∷ g ∷ h ∷ rest) ws fits long is =
+    let first : a < 256 = fits 0 in
+    let eight : words_of (a ∷ b ∷ c ∷ d ∷ e ∷ f ∷ g ∷ h ∷ rest) ≡ from_le_bytes w64 (a ∷ b ∷ c ∷ d ∷ e ∷ f ∷ g ∷ h ∷ []) ∷ words_of rest = words_of-eight (a ∷ b ∷ c ∷ d ∷ e ∷ f ∷ g ∷ h ∷ []) rest refl in
+    let some_words : 0 < length (from_le_bytes w64 (a ∷ b ∷ c ∷ d ∷ e ∷ f ∷ g ∷ h ∷ []) ∷ words_of rest) = omega arith in
+    subst (λ (l : List ℕ). (0 < length l) × (slice_index l 0 % 256 ≡ a)) (sym (is ∙ eight)) (some_words, low_byte a b c d e f g h first)
+first_word [] ws fits long is = absurd (omega (arith, long))
+first_word (a ∷ []) ws fits long is = absurd (omega (arith, long))
+first_word (a ∷ b ∷ []) ws fits long is = absurd (omega (arith, long))
+first_word (a ∷ b ∷ c ∷ []) ws fits long is = absurd (omega (arith, long))
+first_word (a ∷ b ∷ c ∷ d ∷ []) ws fits long is = absurd (omega (arith, long))
+first_word (a ∷ b ∷ c ∷ d ∷ e ∷ []) ws fits long is = absurd (omega (arith, long))
+first_word (a ∷ b ∷ c ∷ d ∷ e ∷ f ∷ []) ws fits long is = absurd (omega (arith, long))
+first_word (a ∷ b ∷ c ∷ d ∷ e ∷ f ∷ g ∷ []) ws fits long is = absurd (omega (arith, long))
+
+-- what follows from what holds on success holds on success
+pub on_ok : {A B P Q : Type 0} (r : Result A B) → OnOk r P → (P → Q) → OnOk r Q
+on_ok (Ok x) given so = so given
+on_ok (Err e) given so = tt
+
+pub front_some : (ws : List ℕ) (w : ℕ) → 0 < length ws → slice_get ws 0 ≡ Some w → slice_index ws 0 ≡ w
+front_some [] w long is = absurd (omega (arith, long))
+front_some (x ∷ xs) w long is = ap (λ (o : Option ℕ). unwrap_or o x) is
+
+pub front_none : (ws : List ℕ) → 0 < length ws → slice_get ws 0 ≡ None → ⊥
+front_none [] long is = omega (arith, long)
+front_none (x ∷ xs) long is = none-some x (sym is)
+
+-- the words of an area that begins with a closed gate have no record
+pub closed_words : (now : List ℕ) → 8 ≤ length now → slice_index now 0 % 256 ≢ 165 → IsLogText (words_of now) []
+closed_words [] long closed = absurd (omega (arith, long))
+closed_words (gate ∷ behind) long closed = closed_none gate behind closed

@@ -1,2 +1,3 @@
 pub mod LogText
 pub mod NodeLog
+pub mod InPlace

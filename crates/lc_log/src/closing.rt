@@ -1,10 +1,9 @@
 //! A log whose first gate was closed.
 ghost use Rattle.std.specs.Prelude.{◌≡◌, ◌≢◌, ℕ, ◌+◌, ◌<◌, ◌≤◌, ◌^◌, List, [], ◌∷◌, true, false, length, IfOk, IfErr, if◌then◌else◌};
 
+use crate::first_gate::{close_first_gate, settle_first_gate};
 use crate::{Failed, Idle};
 use lc_disk::Area;
-
-const CLOSED_GATE: u8 = 0;
 
 /// A log with a closed first gate, which may be torn. This project's own.
 #[derive(Drop)]
@@ -49,7 +48,7 @@ impl<D: Area> Closing<D> {
         // Its length is below 2^64.
         let _len = area.len();
         let mut area = area;
-        match area.write_at(0, closing_bytes(is_open)) {
+        match close_first_gate(&mut area, is_open) {
             Ok(()) => Ok(Closing { area }),
             Err(_) => Err(Failed { area }),
         }
@@ -80,16 +79,9 @@ impl<D: Area> Closing<D> {
         ensures cause { IfErr result (λ failed. D.failures failed.area ≡ D.failures self.area + 1) }
     {
         let Closing { mut area } = self;
-        match area.sync() {
+        match settle_first_gate(&mut area) {
             Ok(()) => Ok(Idle { area, end: 0 }),
             Err(_) => Err(Failed { area }),
         }
     }
-}
-
-// What is written over a gate to close it: nothing where it reads closed.
-fn closing_bytes(is_open: bool) -> &'static [u8]
-    ensures { result.now ≡ (if is_open then 0 ∷ [] else []) }
-{
-    if is_open { &[CLOSED_GATE] } else { &[] }
 }

@@ -3,8 +3,10 @@
 
 mod closing;
 mod failed;
+mod first_gate;
 mod found;
 mod idle;
+mod in_place;
 mod laws;
 mod opened;
 mod synced;
@@ -13,9 +15,13 @@ mod written;
 
 pub use closing::Closing;
 pub use failed::Failed;
+pub use first_gate::{begins_open, close_first_gate, settle_first_gate};
 pub use found::Walk;
 pub use idle::Idle;
-pub use laws::{begins_at_rest, images_at_gate, images_at_rest, one_text};
+pub use in_place::{RecordsInPlace, walk_in_place};
+pub use laws::{
+    begins_at_rest, each_span, images_at_gate, images_at_rest, one_text, same_spans, some_text,
+};
 pub use opened::Opened;
 pub use synced::Synced;
 pub use walking::{walk, words_in};

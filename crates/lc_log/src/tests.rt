@@ -1,10 +1,13 @@
-ghost use Rattle.std.specs.Prelude.{◌≡◌, ◌+◌, ◌≤◌, length, IfOk};
+ghost use Rattle.std.specs.Prelude.{◌≡◌, ◌+◌, ◌≤◌, List, length, IfOk};
 ghost use Rattle.lc_disk.specs.When.{IsCountable};
+ghost use Rattle.lc_record.specs.declared.record.Record.{Record};
+ghost use Rattle.lc_log.specs.LogText.{IsLogText};
+ghost use Rattle.lc_log.specs.InPlace.{spans_from};
 
 use super::*;
 use lc_disk::{Area, Choice, Fuse, MemArea, Stoppable, When};
 use lc_record::{Group, encode};
-use std::alloc::Global;
+use std::alloc::{AllocError, Global};
 use std::process::Abort;
 use std::test::*;
 
@@ -80,6 +83,65 @@ fn the_last_word_must_be_there(rt: HostRuntime) -> Result<(), Fail> {
     finds(&rt, rt.alloc(), &HELLO[..64], 1)?;
     finds(&rt, rt.alloc(), &HELLO[..63], 0)?;
     finds(&rt, rt.alloc(), &HELLO[..56], 0)
+}
+
+// Each record's place and how many words it takes, as a walk in place gives them.
+fn spans(alloc: Global, words: &[u64]) -> Result<Vec<(usize, usize)>, AllocError>
+    ensures { IfOk result (λ spans. (records : List Record) → IsLogText words.now records → spans.items ≡ spans_from 0 records) }
+{
+    let mut spans = Vec::new(alloc);
+    for (place, len) in walk_in_place(words) {
+        spans.push((place, len))?;
+    }
+    Ok(spans)
+}
+
+#[test]
+fn records_are_walked_in_place(rt: HostRuntime) -> Result<(), Fail> {
+    let alloc = rt.alloc();
+    let mut bytes = Vec::from_slice(alloc, &HELLO[..64])?;
+    bytes.extend_from_slice(&HELLO)?;
+    let mut words = words_in(alloc, bytes.as_slice())?;
+    assert_eq!(rt;
+        spans(alloc, words.as_slice())?.as_slice(),
+        [(0, 8), (8, 8)].as_slice()
+    );
+    // The second record's last word.
+    let last = words
+        .get_mut(15)
+        .ok_or("the second record has a last word")?;
+    *last = 9;
+    assert_eq!(rt;
+        spans(alloc, words.as_slice())?.as_slice(),
+        [(0, 8)].as_slice()
+    );
+    // The first record's gate.
+    let first = words.get_mut(0).ok_or("there is a first word")?;
+    *first = 0;
+    assert_eq!(rt; spans(alloc, words.as_slice())?.len(), 0);
+    assert_eq!(rt; spans(alloc, &[])?.len(), 0);
+    Ok(())
+}
+
+#[test]
+fn records_of_two_lengths_are_walked_in_place(rt: HostRuntime) -> Result<(), Fail> {
+    let alloc = rt.alloc();
+    let words = words_in(alloc, full(alloc)?.as_slice())?;
+    let found = spans(alloc, words.as_slice())?;
+    assert_eq!(rt;
+        found.as_slice(),
+        [
+            (0, 11),
+            (11, 11),
+            (22, 11),
+            (33, 8),
+            (41, 8),
+            (49, 8),
+            (57, 8)
+        ]
+        .as_slice()
+    );
+    Ok(())
 }
 
 // The bytes of a log of 64 words, which has a word more.

@@ -1,0 +1,18 @@
+use Rattle.std.proofs.Common.{◌≡◌, ◌∙◌, ◌<◌, length, true, sym, arith}
+use Rattle.lc_log.proofs.ResetLemmas.{reset_torn, reset_written, on_ok}
+use Rattle.lc_log.proofs.first_gate.close_first_gate.Goals as goal
+
+pub returns-clause-closing : goal.returns-clause-closing
+returns-clause-closing g c =
+    on_ok c.write_at.result c.write_at.ensures.written (λ written records reads holds honest.
+    let was : g.D.Area.honest c.args.area.now ≡ true = sym c.write_at.ensures.honest ∙ honest in
+    let h = c.write_at.ensures in
+    let long : 0 < length (g.D.Area.now c.args.area.now) = omega (arith, c.requires.room) in
+    reset_written _ _ _ _ records (holds was) long c.args.is_open (reads was) _ c.closing_bytes.ensures (h.torn was) (h.dirtied was) (h.fits was) (written was))
+
+pub returns-clause-images : goal.returns-clause-images
+returns-clause-images g c records reads holds honest =
+    let was : g.D.Area.honest c.args.area.now ≡ true = sym c.write_at.ensures.honest ∙ honest in
+    let h = c.write_at.ensures in
+    let long : 0 < length (g.D.Area.now c.args.area.now) = omega (arith, c.requires.room) in
+    reset_torn _ _ _ _ records (holds was) long c.args.is_open (reads was) _ c.closing_bytes.ensures (h.torn was) (h.dirtied was)
