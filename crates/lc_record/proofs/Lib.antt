@@ -10,3 +10,4 @@ pub mod ViewLemmas
 pub mod GroupLemmas
 pub mod SegmentLemmas
 pub mod LockLemmas
+pub mod PuttingLemmas

@@ -16,6 +16,7 @@ mod layout;
 mod limits;
 mod part;
 mod parts;
+mod putting;
 mod record;
 mod span;
 mod spelling;

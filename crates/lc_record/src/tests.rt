@@ -446,3 +446,24 @@ fn a_record_is_read_in_place(rt: HostRuntime) -> Result<(), Fail> {
     assert_eq!(rt; far.byte(1, 0), Some(b'l'));
     Ok(())
 }
+
+#[test]
+fn a_record_is_put_on_bytes(rt: HostRuntime) -> Result<(), Fail> {
+    let words = letters_words();
+    let letters = View::at(&words, 0).ok_or("a record begins here")?;
+    for (segment, offset, want) in [
+        (1, 0, b"abcdefgh.i.."),
+        (1, 3, b"defgh.i....."),
+        (1, 10, b"............"),
+        (2, 0, b"............"),
+        (3, 0, b"............"),
+        (3, 96, b"....jklmnopq"),
+        (3, 104, b"nopqr......."),
+        (3, usize::MAX, b"............"),
+    ] {
+        let mut bytes = [b'.'; 12];
+        letters.put_on(segment, offset, &mut bytes);
+        assert_eq!(rt; &bytes, want, "at {offset} of segment {segment}");
+    }
+    Ok(())
+}

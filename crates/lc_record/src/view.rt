@@ -1,5 +1,7 @@
 //! A record that is read where its words stand.
-ghost use Rattle.std.specs.Prelude.{◌≡◌, ◌*◌, ◌≤◌, length, drop, option_map, slice_get, IfSome, IfNone};
+ghost use Rattle.std.specs.Prelude.{◌≡◌, ◌+◌, ◌*◌, ◌<◌, ◌≤◌, ℕ, length, drop, option_map, slice_get, IfSome, IfNone};
+ghost use Rattle.std.specs.Option.{option_or};
+ghost use Rattle.lc_record.specs.Newest.{byte_of};
 ghost use Rattle.lc_record.specs.Codec.{BeginsWith, BeginsNoRecord};
 ghost use Rattle.lc_record.specs.Record.{record_len, span_of, IsRecord};
 ghost use Rattle.lc_record.specs.Reading.{Gives, range_of};
@@ -10,6 +12,7 @@ use crate::data::read_byte;
 use crate::fields::{lock_count, node, range_count};
 use crate::limits::{HEAD_WORDS, LOCK_WORDS};
 use crate::parts::{RangeWords, front_of, len_of, lock_of, nth_range};
+use crate::putting::put_ranges;
 use crate::span::Span;
 use std::marker::Model;
 
@@ -108,6 +111,18 @@ impl<'a> View<'a> {
     {
         let range = self.range_words(index)?;
         read_byte(range.span.len as usize, range.data, place)
+    }
+
+    /// Puts the record's bytes of a segment over those that begin at an offset of it: where both have a byte, the
+    /// record's stands. It goes over the ranges once, and takes no memory.
+    pub fn put_on(&self, segment: u32, offset: usize, bytes: &mut [u8])
+        ensures len { length bytes.new ≡ length bytes.old }
+        ensures put { (k : ℕ) → k < length bytes.old →
+            slice_get bytes.new k ≡ option_or (byte_of segment (offset + k) self.now.ranges) (slice_get bytes.old k) }
+    {
+        if let Some((head, _, rest)) = front_of(self.words) {
+            put_ranges(head, rest, segment, offset, bytes);
+        }
     }
 
     fn range_words(&self, index: usize) -> Option<RangeWords<'a>>
