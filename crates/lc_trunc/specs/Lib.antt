@@ -1,0 +1,4 @@
+pub mod Dirty
+pub mod KnownClean
+pub mod Reset
+pub mod Clean

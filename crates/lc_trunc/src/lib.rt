@@ -1,0 +1,17 @@
+//! Truncation: a log may be reset only where the pages have all that its records say.
+#![tactic(auto)]
+
+mod dirty;
+mod known_clean;
+mod laws;
+mod reset;
+mod unclean;
+
+pub use dirty::dirty_pages;
+pub use known_clean::KnownClean;
+pub use laws::{clean_pages, known_is_clean, known_numbers};
+pub use reset::may_reset;
+pub use unclean::Unclean;
+
+#[cfg(test)]
+mod tests;
