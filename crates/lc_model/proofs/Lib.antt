@@ -21,14 +21,14 @@ mod Pages
 pub mod Shown
 mod Result
 pub mod Moves
-mod One
-mod Outcome
+pub mod One
+pub mod Outcome
 mod Decided
-mod SomeOutcome
-mod Unrefused
+pub mod SomeOutcome
+pub mod Unrefused
 mod Steps
 mod Recovered
-mod Within
+pub mod Within
 mod Zeros
 mod Tells
 mod Told

@@ -36,7 +36,7 @@ get_or-any (x ∷ xs) (suc k) d e within =
     let behind : k < length xs = omega arith in
     get_or-any xs k d e behind
 
-only-one : (p : Record → Bool) (rs : List Record) (r q : Record) → (2 ≤ length (filter p rs) → ⊥) → Contains rs r → Contains rs q → p r ≡ true → p q ≡ true → r ≡ q
+pub only-one : (p : Record → Bool) (rs : List Record) (r q : Record) → (2 ≤ length (filter p rs) → ⊥) → Contains rs r → Contains rs q → p r ≡ true → p q ≡ true → r ≡ q
 only-one p rs r q once r_in q_in r_passes q_passes =
     elim (cases_lt r_in.0 q_in.0) [
       | inl before ↦ absurd (once (two-pass p rs r_in.0 q_in.0 r q before q_in.1 r_in.2 q_in.2 r_passes q_passes))

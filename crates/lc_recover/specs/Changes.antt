@@ -1,0 +1,74 @@
+-- Which records are to be put on which pages, while the records are walked.
+use Rattle.std.specs.Prelude.{◌≡◌, ◌⊎◌, ℕ, ◌+◌, ◌*◌, ◌<◌, List, [], ◌∷◌, ◌++◌, length, map, Contains, Some, IsTrue, slice_get}
+use Rattle.lc_record.specs.Content.{segment_of}
+use Rattle.lc_record.specs.GrammarVersion.{end_of}
+use Rattle.lc_record.specs.Newest.{number_or_zero, has_byte}
+use Rattle.lc_record.specs.declared.record.Record.{Record}
+use Rattle.lc_record.specs.declared.span.Span.{Span}
+use Rattle.lc_page.specs.PageVector.{entry_at}
+use Rattle.lc_page.specs.declared.entry.Entry.{Entry}
+use Rattle.lc_model.specs.Merge.{Page}
+use Rattle.lc_recover.specs.Reading.{placed_in}
+use Rattle.lc_recover.specs.declared.change.Change.{Change}
+
+-- a record that stands at a place of a log
+pub record Seat : Type 0 where
+  pub log : ℕ
+  pub place : ℕ
+  pub its : Record
+
+abbrev pub seat : ℕ → ℕ → Record → Seat
+seat log place r = record { log = log; place = place; its = r }
+
+-- the records of a log
+abbrev pub seats_of : ℕ → List ℕ → List Seat
+seats_of log words = map (λ (x : ℕ × Record). seat log x.0 x.1) (placed_in words)
+
+-- those of these logs, the first of which has this number
+abbrev pub seats_from : ℕ → List (List ℕ) → List Seat
+seats_from log [] = []
+seats_from log (words ∷ logs) = seats_of log words ++ seats_from (log + 1) logs
+
+-- the range has a byte on the page
+abbrev pub Touches : Span → ℕ → Type 0
+Touches span page = (span.offset < (page + 1) * 256) × (page * 256 < end_of span)
+
+-- the change on this page
+abbrev pub on_page : Change → ℕ → Change
+on_page change page = record change { page = page }
+
+-- what is there stays, and what is new is such
+pub record Adds (Such : Change → Type 0) (before after : List Change) : Type 0 where
+  pub kept : (c : Change) → Contains before c → Contains after c
+  pub only : (c : Change) → Contains after c → Contains before c ⊎ Such c
+
+-- the record is to be put on the page, which the range has a byte on
+pub record IsOnRange (change : Change) (span : Span) (texts : List Entry) (c : Change) : Type 0 where
+  pub number : ℕ
+  pub is : c ≡ on_page change number
+  pub within : number < length texts
+  pub touches : Touches span number
+  pub newer : (entry_at texts number).stable < change.seq
+
+-- the record of the seat is to be put on the page of the change
+pub record IsOf (pages : List (List Page)) (s : Seat) (c : Change) : Type 0 where
+  pub log : c.log ≡ s.log
+  pub place : c.place ≡ s.place
+  pub number : number_or_zero c.segment s.its.locks ≡ c.seq
+  pub text : Page
+  pub page : slice_get (segment_of c.segment pages) c.page ≡ Some text
+  pub offset : ℕ
+  pub on_page : offset < 256
+  pub has : IsTrue (has_byte c.segment (c.page * 256 + offset) text.sequence s.its)
+
+-- all pages that the record of the seat is to be put on are among these
+abbrev pub Covers : List (List Page) → Seat → List Change → Type 0
+Covers pages s changes =
+    (segment page offset : ℕ) (text : Page) → slice_get (segment_of segment pages) page ≡ Some text → offset < 256 →
+    IsTrue (has_byte segment (page * 256 + offset) text.sequence s.its) →
+    (c : Change) × Contains changes c × (c.segment ≡ segment) × (c.page ≡ page) × (c.seq ≡ number_or_zero segment s.its.locks)
+
+-- these are the changes of these records
+pub record AreOf (pages : List (List Page)) (seats : List Seat) (changes : List Change) : Type 0 where
+  pub sound : (c : Change) → Contains changes c → (s : Seat) × Contains seats s × IsOf pages s c
+  pub whole : (s : Seat) → Contains seats s → Covers pages s changes

@@ -1,0 +1,68 @@
+-- The store that the kept words and pages stand for, and which records are to be put on which pages.
+use Rattle.std.specs.Prelude.{ℕ, ◌≡◌, ◌+◌, ◌-◌, ◌*◌, ◌<◌, ◌≤◌, ◌⊎◌, max, List, [], ◌∷◌, length, map, drop, All, Contains, Some, IsTrue, slice_get, slice_index_or}
+use Rattle.lc_record.specs.Codec.{BeginsWith}
+use Rattle.lc_record.specs.Content.{segment_of}
+use Rattle.lc_record.specs.Newest.{number_or_zero, has_byte}
+use Rattle.lc_record.specs.Record.{record_len}
+use Rattle.lc_record.specs.declared.record.Record.{Record}
+use Rattle.lc_log.specs.LogText.{IsLogText}
+use Rattle.lc_model.specs.Merge.{Page, Store, all_records, page_number, record_number, AreOwn, AreWithin, AreOnce, HasGap}
+use Rattle.lc_recover.specs.Pages.{kept_pages}
+use Rattle.lc_recover.specs.declared.change.Change.{Change}
+use Rattle.lc_recover.specs.declared.merged.Merged.{Merged}
+use Rattle.lc_recover.specs.declared.segment_pages.SegmentPages.{SegmentPages}
+
+-- the words of the logs and the pages of the segments are those of this store
+pub record IsKept (logs : List (List ℕ)) (segments : List SegmentPages) (store : Store) : Type 0 where
+  pub count : length store.logs ≡ length logs
+  pub texts : (log : ℕ) → log < length logs → IsLogText (slice_index_or logs log []) (slice_index_or store.logs log [])
+  pub pages : store.pages ≡ map kept_pages segments
+
+-- this record stands at a place of a log
+pub record StandsAt (logs : List (List ℕ)) (log place : ℕ) (r : Record) : Type 0 where
+  pub within : log < length logs
+  pub begins : BeginsWith (drop place (slice_index_or logs log [])) r (record_len r)
+
+-- it is a record of its log, which stands at its place, has this number, and has a byte on its page, whose sequence is
+-- below the number
+pub record IsChange (logs : List (List ℕ)) (store : Store) (c : Change) : Type 0 where
+  pub changing : Record
+  pub among : Contains (slice_index_or store.logs c.log []) changing
+  pub stands : StandsAt logs c.log c.place changing
+  pub number : number_or_zero c.segment changing.locks ≡ c.seq
+  pub text : Page
+  pub page : slice_get (segment_of c.segment store.pages) c.page ≡ Some text
+  pub offset : ℕ
+  pub on_page : offset < 256
+  pub has : IsTrue (has_byte c.segment (c.page * 256 + offset) text.sequence changing)
+
+-- the first stands before the second: of a lower segment, or page, or number
+abbrev pub IsBefore : Change → Change → Type 0
+IsBefore c d =
+    (c.segment < d.segment)
+    ⊎ ((c.segment ≡ d.segment) × ((c.page < d.page) ⊎ ((c.page ≡ d.page) × (c.seq < d.seq))))
+
+-- each stands before all behind it
+abbrev pub AreAscending : List Change → Type 0
+AreAscending [] = Unit {0}
+AreAscending (c ∷ cs) = All (IsBefore c) cs × AreAscending cs
+
+-- the changes are just those that are to be made, in order
+pub record IsIndex (logs : List (List ℕ)) (store : Store) (changes : List Change) : Type 0 where
+  pub sound : All (IsChange logs store) changes
+  pub whole : (segment page offset : ℕ) (text : Page) (r : Record) →
+      slice_get (segment_of segment store.pages) page ≡ Some text → Contains (all_records store) r → offset < 256 →
+      IsTrue (has_byte segment (page * 256 + offset) text.sequence r) →
+      (c : Change) × Contains changes c × (c.segment ≡ segment) × (c.page ≡ page) × (c.seq ≡ number_or_zero segment r.locks)
+  pub ascending : AreAscending changes
+
+-- the store is not refused, these are its numbers, and these the changes of its pages
+pub record IsMerging (logs : List (List ℕ)) (store : Store) (merged : Merged) : Type 0 where
+  pub own : AreOwn store
+  pub lying_within : AreWithin store
+  pub once : AreOnce store
+  pub no_gap : (segment seq : ℕ) → HasGap store segment seq → ⊥
+  pub count : length merged.numbers.items ≡ length store.pages
+  pub numbers : (segment : ℕ) → 1 ≤ segment → segment ≤ length store.pages →
+      slice_get merged.numbers.items (segment - 1) ≡ Some (max (page_number segment store) (record_number segment store))
+  pub index : IsIndex logs store merged.changes.items

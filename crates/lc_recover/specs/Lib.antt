@@ -1,0 +1,14 @@
+pub mod Fault
+pub mod Pages
+pub mod Kept
+pub mod KeptAreas
+pub mod Reads
+pub mod Position
+pub mod Stage
+pub mod Shows
+pub mod Page
+pub mod Steps
+pub mod Reading
+pub mod Locks
+pub mod Changes
+pub mod Merging

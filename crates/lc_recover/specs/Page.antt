@@ -1,0 +1,104 @@
+-- The changes of one page, and the records that are put on it.
+use Rattle.std.specs.Prelude.{◌≡◌, ◌≢◌, ◌↔◌, ℕ, ◌+◌, ◌*◌, ◌<◌, ◌≤◌, Bool, not, ◌&&◌, ◌==◌, List, [], ◌∷◌, ◌++◌, length, filter, drop, Option, Some, All, Contains, slice_get}
+use Rattle.std.specs.List.{flat_map}
+use Rattle.std.specs.Option.{option_or}
+use Rattle.lc_record.specs.Content.{segment_of}
+use Rattle.lc_record.specs.Newest.{byte_of, IsByNumber}
+use Rattle.lc_record.specs.declared.record.Record.{Record}
+use Rattle.lc_record.specs.declared.record.RangeData.{RangeData}
+use Rattle.lc_model.specs.Merge.{Page, Store, all_records, AreOnce}
+use Rattle.lc_recover.specs.Kept.{StandsAt, AreAscending, IsIndex}
+use Rattle.lc_recover.specs.declared.change.Change.{Change}
+
+-- it is of this page of a segment
+abbrev pub IsOf : ℕ → ℕ → Change → Type 0
+IsOf segment page c = (c.segment ≡ segment) × (c.page ≡ page)
+
+-- and it is of another one
+abbrev pub IsOfAnother : ℕ → ℕ → Change → Type 0
+IsOfAnother segment page c = IsOf segment page c → ⊥
+
+-- at the place of each change stands the record
+abbrev pub AreAt : List (List ℕ) → List Change → List Record → Type 0
+AreAt logs [] [] = Unit {0}
+AreAt logs [] (r ∷ rs) = ⊥
+AreAt logs (c ∷ cs) [] = ⊥
+AreAt logs (c ∷ cs) (r ∷ rs) = StandsAt logs c.log c.place r × AreAt logs cs rs
+
+-- the ranges of these records, one after another
+abbrev pub all_ranges : List Record → List RangeData
+all_ranges records = flat_map (λ (r : Record). r.ranges) records
+
+-- the byte of a page with these records put on it, one after another
+abbrev pub byte_with : ℕ → ℕ → List Record → List ℕ → ℕ → Option ℕ
+byte_with segment page records bytes offset = option_or (byte_of segment (page * 256 + offset) (all_ranges records)) (slice_get bytes offset)
+
+-- the changes in front are all of the first one's page, and in an ascending list none behind them is
+pub record IsFirstPage (changes front : List Change) : Type 0 where
+  pub rest : List Change
+  pub whole : changes ≡ front ++ rest
+  pub some : 1 ≤ length changes → 1 ≤ length front
+  pub of_first : (first : Change) → slice_get changes 0 ≡ Some first → All (IsOf first.segment first.page) front
+  pub no_more : (first : Change) → slice_get changes 0 ≡ Some first → AreAscending changes → All (IsOfAnother first.segment first.page) rest
+
+-- these are the changes of one page, among all
+pub record AreOfPage (changes : List Change) (segment page : ℕ) (here : List Change) : Type 0 where
+  pub before : List Change
+  pub behind : List Change
+  pub whole : changes ≡ before ++ (here ++ behind)
+  pub of_page : All (IsOf segment page) here
+  pub none_before : All (IsOfAnother segment page) before
+  pub none_behind : All (IsOfAnother segment page) behind
+
+-- the records of a page's changes, put on its bytes one after another, make of each byte that of the record with the
+-- greatest number
+abbrev pub PagesMerge : Type 0
+PagesMerge = (logs : List (List ℕ)) (store : Store) (changes here : List Change) (segment page : ℕ) (text : Page) (records : List Record)
+    → IsIndex logs store changes → AreOnce store → AreOfPage changes segment page here
+    → slice_get (segment_of segment store.pages) page ≡ Some text → AreAt logs here records
+    → (offset : ℕ) → offset < 256
+    → IsByNumber segment (page * 256 + offset) text.sequence (all_records store) (slice_get text.bytes offset) (byte_with segment page records text.bytes offset)
+
+-- where the changes are those to be made, some records stand at the places of the page's
+abbrev pub RecordsStand : Type 0
+RecordsStand = (logs : List (List ℕ)) (store : Store) (changes here : List Change) (segment page : ℕ)
+    → IsIndex logs store changes → AreOfPage changes segment page here → (records : List Record) × AreAt logs here records
+
+-- no two of these, one of each list, are of the same page
+abbrev pub AreApart : List Change → List Change → Type 0
+AreApart cs ds = All (λ (c : Change). All (IsOfAnother c.segment c.page) ds) cs
+
+-- where whole pages were taken from the front of an ascending list, the first page of the rest is whole again
+abbrev pub TakenPageByPage : Type 0
+TakenPageByPage = (changes taken rest front : List Change) (first : Change)
+    → changes ≡ taken ++ rest → AreAscending changes → AreApart taken rest → IsFirstPage rest front → slice_get rest 0 ≡ Some first
+    → AreOfPage changes first.segment first.page front × AreApart (taken ++ front) (drop (length front) rest)
+
+-- The pages of a list of changes
+
+-- a segment and a page
+abbrev pub page_of : Change → ℕ × ℕ
+page_of c = (c.segment, c.page)
+
+-- not the same
+abbrev pub is_another : ℕ × ℕ → ℕ × ℕ → Bool
+is_another p q = not ((p.0 == q.0) && (p.1 == q.1))
+
+-- the pages that these changes are of, each once, in order
+abbrev pub pages_of : List Change → List (ℕ × ℕ)
+pages_of [] = []
+pages_of (c ∷ cs) = page_of c ∷ filter (is_another (page_of c)) (pages_of cs)
+
+-- a page is among them exactly where some change is of it
+abbrev pub AreListed : List Change → Type 0
+AreListed changes = (segment page : ℕ) → Contains (pages_of changes) (segment, page) ↔ ((c : Change) × Contains changes c × IsOf segment page c)
+
+-- no page stands twice
+abbrev pub AreDifferent : List (ℕ × ℕ) → Type 0
+AreDifferent [] = Unit {0}
+AreDifferent (p ∷ ps) = All (λ q. p ≢ q) ps × AreDifferent ps
+
+-- those of an ascending list: the first one's page, and those of what is behind its changes
+abbrev pub BeginWithTheFirst : List Change → Type 0
+BeginWithTheFirst changes = (front : List Change) (first : Change) → IsFirstPage changes front → slice_get changes 0 ≡ Some first → AreAscending changes →
+    pages_of changes ≡ page_of first ∷ pages_of (drop (length front) changes)

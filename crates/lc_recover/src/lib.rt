@@ -1,0 +1,37 @@
+//! What all logs and all pages of a store say together, and the recovery that brings it onto the pages: the same result
+//! from every image, at every step.
+#![tactic(auto)]
+
+mod areas;
+mod change;
+mod fault;
+mod finished;
+mod index;
+mod kept;
+mod lock_number;
+mod locks;
+mod log_resets;
+mod merge;
+mod merged;
+mod merging;
+mod numbers;
+mod own;
+mod page;
+mod page_count;
+mod page_laws;
+mod page_writes;
+mod progress;
+mod records;
+mod reset_steps;
+mod segment_pages;
+mod stage;
+mod syncing;
+mod within;
+
+pub use fault::RecoverFault;
+pub use progress::Progress;
+
+#[cfg(test)]
+mod page_tests;
+#[cfg(test)]
+mod tests;

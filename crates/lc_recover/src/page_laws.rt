@@ -1,0 +1,25 @@
+//! What the bytes of a page are made of.
+ghost use Rattle.std.specs.Prelude.{List};
+ghost use Rattle.lc_recover.specs.declared.change.Change.{Change};
+ghost use Rattle.lc_recover.specs.Page.{PagesMerge, RecordsStand, TakenPageByPage, pages_of, AreListed, AreDifferent, BeginWithTheFirst};
+
+/// The records of a page's changes, put on its bytes one after another, make of each byte that of the record with the
+/// greatest number among those that cover it and are newer than the page, or the page's where there is none; and there
+/// are such records.
+pub(crate) fn page_merged()
+    ensures merged { PagesMerge }
+    ensures stand { RecordsStand }
+{}
+
+/// Where the first page is taken from the front again and again, each has all the changes of its page.
+pub(crate) fn pages_are_whole()
+    ensures { TakenPageByPage }
+{}
+
+/// The pages of a list of changes are those that some change is of, each once; and in an ascending list those of the
+/// changes behind its first page are all others.
+pub(crate) fn pages_listed()
+    ensures listed { (changes : List Change) → AreListed changes }
+    ensures once { (changes : List Change) → AreDifferent (pages_of changes) }
+    ensures first { (changes : List Change) → BeginWithTheFirst changes }
+{}
