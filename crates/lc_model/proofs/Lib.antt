@@ -16,7 +16,7 @@ pub mod Seats
 mod Choices
 pub mod Downs
 pub mod Visible
-mod Numbers
+pub mod Numbers
 mod Pages
 pub mod Shown
 mod Result

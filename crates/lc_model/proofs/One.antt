@@ -49,7 +49,7 @@ only-one p rs r q once r_in q_in r_passes q_passes =
           ])
     ]
 
-by_number-one : (segment place floor : ℕ) (rs : List Record) (before one two : Option ℕ) → ((seq : ℕ) → 0 < seq → 2 ≤ length (filter (has_number segment seq) rs) → ⊥) → IsByNumber segment place floor rs before one → IsByNumber segment place floor rs before two → one ≡ two
+pub by_number-one : (segment place floor : ℕ) (rs : List Record) (before one two : Option ℕ) → ((seq : ℕ) → 0 < seq → 2 ≤ length (filter (has_number segment seq) rs) → ⊥) → IsByNumber segment place floor rs before one → IsByNumber segment place floor rs before two → one ≡ two
 by_number-one segment place floor rs before one two once first second =
     elim first [
       | inl none ↦
@@ -81,7 +81,7 @@ shape-length (x ∷ xs) (y ∷ ys) same =
     let others : map length xs ≡ map length ys = cc in
     ap suc (shape-length xs ys others)
 
-part-times : (segment : ℕ) (content : Content) (pages : List (List Page)) → map length content ≡ map (λ (ps : List Page). length ps * 256) pages → length (segment_of segment content) ≡ length (segment_of segment pages) * 256
+pub part-times : (segment : ℕ) (content : Content) (pages : List (List Page)) → map length content ≡ map (λ (ps : List Page). length ps * 256) pages → length (segment_of segment content) ≡ length (segment_of segment pages) * 256
 part-times segment [] [] same = omega arith
 part-times segment [] (y ∷ ys) same = absurd cc
 part-times segment (x ∷ xs) [] same = absurd cc

@@ -14,5 +14,9 @@ pub mod Meanings
 pub mod Images
 pub mod Bridge
 pub mod Showing
+pub mod Writes
+pub mod Begins
+pub mod Settles
 pub mod MergeRead
 pub mod WholePages
+pub mod Keeping

@@ -1,21 +1,33 @@
 -- What is kept of areas that were read stands for the store that they read as, and what its merge makes of it.
-use Rattle.std.proofs.Common.{◌≡◌, ℕ, zero, suc, ◌+◌, ◌-◌, ◌*◌, ◌<◌, ◌≤◌, Some, None, List, [], ◌∷◌, map, length, take, drop, refl, sym, ◌∙◌, ap, subst, arith, inl, inr}
+use Rattle.std.proofs.Common.{◌≡◌, ℕ, zero, suc, ◌+◌, ◌-◌, ◌*◌, ◌^◌, ◌<◌, ◌≤◌, ◌==◌, Option, Some, None, List, [], ◌∷◌, map, length, take, drop, Contains, refl, sym, ◌∙◌, ap, subst, arith, inl, inr}
 use Rattle.std.specs.Prelude.{slice_get, slice_index_or}
+use Rattle.std.specs.List.{AllByRecursion}
+use Rattle.std.proofs.Math.Nat.{max-le}
+use Rattle.std.proofs.lemmas.Bool.{cases_Bool}
 use Rattle.std.proofs.lemmas.List.{length-map, length-take-le, length-drop}
+use Rattle.std.proofs.lemmas.List.Elements.{All-contains, All-from_recursion}
 use Rattle.std.proofs.lemmas.Option.{get_or_from_slice_get, slice_get_within, none-some}
 use Rattle.lc_record.specs.Content.{Content, segment_of}
 use Rattle.lc_record.specs.Marks.{counting}
+use Rattle.lc_record.specs.Newest.{number_or_zero}
+use Rattle.lc_record.specs.Record.{IsCanonical, IsLock}
 use Rattle.lc_record.specs.Words.{words_of}
 use Rattle.lc_record.specs.declared.geometry.Geometry.{Geometry}
+use Rattle.lc_record.specs.declared.record.Lock.{Lock}
 use Rattle.lc_record.specs.declared.record.Record.{Record}
 use Rattle.lc_log.specs.InPlace.{records_in}
-use Rattle.lc_log.specs.LogText.{IsLogText}
+use Rattle.lc_log.specs.LogText.{IsLogText, IsWhole}
 use Rattle.lc_log.proofs.InPlaceLemmas.{records_text}
-use Rattle.lc_page.specs.Page.{page_in}
+use Rattle.lc_page.specs.Page.{page_in, page_at, present_slot, slot_bytes}
 use Rattle.lc_page.specs.PageVector.{entry_at}
 use Rattle.lc_page.specs.declared.entry.Entry.{Entry}
-use Rattle.lc_model.specs.Merge.{Page, Store, MergesTo, MergeFault, Refuses, BadGeometry, OutOfSegment, Twice, Gap}
+use Rattle.lc_page.specs.declared.slot.Slot.{Slot}
+use Rattle.lc_page.specs.declared.slot.Slot.TheVariants.{First, Second}
+use Rattle.lc_page.proofs.PageLemmas.{first_small, second_small}
+use Rattle.lc_model.specs.Merge.{Page, Store, all_records, page_number, record_number, MergesTo, MergeFault, Refuses, BadGeometry, OutOfSegment, Twice, Gap}
+use Rattle.lc_model.proofs.Numbers.{greatest-all, greatest-at_most}
 use Rattle.lc_model.proofs.SomeOutcome.{some-outcome}
+use Rattle.lc_model.proofs.Visible.{log-of, log-known}
 use Rattle.lc_recover.specs.Kept.{IsKept, IsMerging}
 use Rattle.lc_recover.specs.KeptAreas.{IsRead}
 use Rattle.lc_recover.specs.Pages.{AreKept, page_read, pages_read, kept_page, kept_pages, bytes_of_page}
@@ -27,6 +39,7 @@ use Rattle.lc_recover.specs.declared.page_writes.PageWrites.{PageWrites}
 use Rattle.lc_recover.specs.declared.segment_pages.SegmentPages.{SegmentPages}
 use Rattle.lc_recover.proofs.Images.{get-some, get-map, from-map, get-segment, in-segment, length-pages_read, get-pages_read}
 use Rattle.lc_recover.proofs.AreaLemmas.{one_item}
+use Rattle.lc_recover.proofs.Counts.{all-from}
 
 same-list : {A : Type 0} (xs ys : List A) → length xs ≡ length ys → ((k : ℕ) (x y : A) → slice_get xs k ≡ Some x → slice_get ys k ≡ Some y → x ≡ y) → xs ≡ ys
 same-list [] [] same each = refl
@@ -137,7 +150,46 @@ merged-result logs store merged is long =
       | inr result ↦ result
     ]
 
-module _ (g : Geometry) (read : List (List ℕ)) (w : PageWrites) (is : IsRead g read w.kept) (count : length read ≡ area_count g) (merging : IsMerging w.kept.logs.items (store_of g read) w.merged) (next : w.next ≡ 0) (none : w.current ≡ None) where
+-- Numbers of at most 2^60
+
+-- a page that is read
+page-small : (slots : Slot → List ℕ) (present : Option Slot) → present_slot slots ≡ present → (page_at slots present).sequence ≤ 2 ^ 60
+page-small slots None is = omega arith
+page-small slots (Some First) is = first_small (slots First) (slots Second) _ is
+page-small slots (Some Second) is = second_small (slots First) (slots Second) _ is
+
+-- a record's lock
+lock-small : (segment : ℕ) (locks : List Lock) → AllByRecursion IsLock locks → number_or_zero segment locks ≤ 2 ^ 60
+lock-small segment [] each = omega arith
+lock-small segment (lock ∷ locks) each =
+    elim (cases_Bool (lock.segment == segment)) [
+      | inl own ↦ rw own (each.0.3)
+      | inr other ↦ rw other (lock-small segment locks each.1)
+    ]
+
+-- what areas read as
+module _ (g : Geometry) (read : List (List ℕ)) where
+  pages-small : (segment : ℕ) → page_number segment (store_of g read) ≤ 2 ^ 60
+  pages-small segment =
+      greatest-at_most (λ (p : Page). p.sequence) (2 ^ 60) (segment_of segment (store_of g read).pages) (λ page text text_is.
+      let at = in-segment segment page (store_of g read).pages text text_is in
+      let area = from-map (pages_read g.pages) (drop g.nodes read) at.before at.part at.part_is in
+      let its = from-map (page_read area.0) (counting 0 g.pages) page text (ap (λ (l : List Page). slice_get l page) area.2 ∙ at.item_is) in
+      subst (λ (t : Page). t.sequence ≤ 2 ^ 60) its.2 (page-small (slot_bytes area.0 its.0) (present_slot (slot_bytes area.0 its.0)) refl))
+
+  module _ (logs : List (List ℕ)) (texts : AreTexts g logs (store_of g read)) where
+    each-canonical : (r : Record) → Contains (all_records (store_of g read)) r → IsCanonical r
+    each-canonical r has =
+        let at = log-of (store_of g read).logs r has in
+        let less : at.0 < g.nodes = omega (arith, log-known (store_of g read).logs at.0 r at.1, texts.same_count) in
+        (All-contains IsWhole (slice_index_or (store_of g read).logs at.0 []) r (All-from_recursion IsWhole (slice_index_or (store_of g read).logs at.0 []) (texts.texts at.0 less).whole) at.1).canonical
+
+    records-small : (segment : ℕ) → record_number segment (store_of g read) ≤ 2 ^ 60
+    records-small segment =
+        greatest-all (λ (r : Record). number_or_zero segment r.locks) (2 ^ 60) (all_records (store_of g read))
+        (all-from (λ (r : Record). number_or_zero segment r.locks ≤ 2 ^ 60) (all_records (store_of g read)) (λ r has. lock-small segment r.locks (each-canonical r has).each_lock))
+
+module _ (g : Geometry) (read : List (List ℕ)) (w : PageWrites) (is : IsRead g read w.kept) (count : length read ≡ area_count g) (merging : IsMerging w.kept.logs.items (store_of g read) w.merged) (next : w.next ≡ 0) (written : w.written ≡ 0) (none : w.current ≡ None) where
   pub long : (segment page : ℕ) (text : Page) → slice_get (segment_of segment (store_of g read).pages) page ≡ Some text → length text.bytes ≡ 256
   long segment page text text_is =
       let at = in-segment segment page (store_of g read).pages text text_is in
@@ -165,6 +217,11 @@ module _ (g : Geometry) (read : List (List ℕ)) (w : PageWrites) (is : IsRead g
         let last : s + 1 ≤ length (store_of g read).pages = omega (arith, less, store_count) in
         let here : s + 1 - 1 ≡ s = omega arith in
         ap (slice_get w.merged.numbers.items) (sym here) ∙ merging.numbers (s + 1) first last ∙ ap Some (sym (result.2.2.counted (s + 1) first last));
+    small = λ s less.
+        let first : 1 ≤ s + 1 = omega arith in
+        let last : s + 1 ≤ length (store_of g read).pages = omega (arith, less, store_count) in
+        subst (λ (n : ℕ). n ≤ 2 ^ 60) (sym (result.2.2.counted (s + 1) first last))
+        (max-le (pages-small g read (s + 1)) (records-small g read w.kept.logs.items (kept-texts g read w.kept is count) (s + 1)));
   }
 
   pub all_old : EachPage g (store_of g read) w.kept.segments.items (AsFarAs [] result.0 result.1)
@@ -200,6 +257,7 @@ module _ (g : Geometry) (read : List (List ℕ)) (w : PageWrites) (is : IsRead g
     merging = merging;
     result = is_result;
     between = record { front = []; back = w.merged.changes.items; all = refl; count = sym next; apart = λ segment page has other. omega (arith, has.1.1) };
+    few = omega (arith, written);
     pages = all_old;
     drafts = λ write write_is. absurd (none-some write (sym none ∙ write_is));
   }

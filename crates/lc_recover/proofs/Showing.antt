@@ -79,7 +79,7 @@ module _ {D : Type 0} (a : Ghosts D) (g : Geometry) where
   hold-bytes stage areas fits honest = λ area device is. (fits.each area device is).bytes (honest area device is)
 
   -- an image of a page that rests has it as it is kept
-  rests-as : (pages : SegmentPages) (area : D) (page : ℕ) → RestsAt a pages area page → (image : List ℕ) → IsImage (a.now area) (a.dirty area) image → page_read image page ≡ kept_page pages page
+  pub rests-as : (pages : SegmentPages) (area : D) (page : ℕ) → RestsAt a pages area page → (image : List ℕ) → IsImage (a.now area) (a.dirty area) image → page_read image page ≡ kept_page pages page
   rests-as pages area page rests image of =
       let both = settled_images (a.now area) (a.dirty area) page (entry_text (entry_at pages.texts page)) rests.settled image of in
       kept-as image pages page (ap (λ (t : PageText). t.seq) both.0) (ap (λ (p : AreaPage). p.content) both.1 ∙ rests.content)
@@ -105,7 +105,7 @@ module _ {D : Type 0} (a : Ghosts D) (g : Geometry) where
 
   module _ (w : PageWrites) (areas : List D) (fits : AreasFit a g (WritingPages w) areas) (honest : AreHonest a areas) (i : IsWriting g w) where
     -- a page as it is kept is as it was read, or new
-    kept-or_new : (s page : ℕ) (pages : SegmentPages) (text : Page) → slice_get w.kept.segments.items s ≡ Some pages → slice_get (segment_of (s + 1) i.store.pages) page ≡ Some text
+    pub kept-or_new : (s page : ℕ) (pages : SegmentPages) (text : Page) → slice_get w.kept.segments.items s ≡ Some pages → slice_get (segment_of (s + 1) i.store.pages) page ≡ Some text
         → (read : Page) → read ≡ kept_page pages page → (read ≡ text) ⊎ (read ≡ new_page i.content i.numbers (s + 1) page)
     kept-or_new s page pages text pages_is text_is read as_kept =
         elim (i.pages.each s page pages text pages_is text_is) [

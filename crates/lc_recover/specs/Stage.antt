@@ -1,5 +1,5 @@
 -- What a recovery knows in each of its parts, of what it keeps and of the areas.
-use Rattle.std.specs.Prelude.{◌≡◌, ◌≢◌, ℕ, ◌+◌, ◌-◌, ◌*◌, ◌%◌, ◌<◌, ◌≤◌, ◌⊎◌, Bool, true, false, List, [], length, Some, None, slice_get, slice_index, slice_index_or, slice_set, if◌then◌else◌}
+use Rattle.std.specs.Prelude.{◌≡◌, ◌≢◌, ℕ, ◌+◌, ◌-◌, ◌*◌, ◌^◌, ◌%◌, ◌<◌, ◌≤◌, ◌⊎◌, Bool, true, false, List, [], length, Some, None, slice_get, slice_index, slice_index_or, slice_set, if◌then◌else◌}
 use Rattle.lc_disk.specs.Area.{IsClean, overlaid}
 use Rattle.lc_disk.specs.declared.area.Area.{Ghosts}
 use Rattle.lc_record.specs.Content.{Content, segment_of}
@@ -60,12 +60,14 @@ pub record AreTexts (g : Geometry) (logs : List (List ℕ)) (store : Store) : Ty
   pub same_count : length store.logs ≡ g.nodes
   pub texts : (log : ℕ) → log < g.nodes → IsLogText (slice_index_or logs log []) (slice_index_or store.logs log [])
 
--- the store that was read merges to this, each of its pages has 256 bytes, and these are the numbers of its segments
+-- the store that was read merges to this, each of its pages has 256 bytes, and these are the numbers of its segments,
+-- each at most 2^60
 pub record IsResult (g : Geometry) (store : Store) (content : Content) (numbers : ℕ → ℕ) (known : List ℕ) : Type 0 where
   pub merges : MergesTo store content numbers
   pub long : (segment page : ℕ) (text : Page) → slice_get (segment_of segment store.pages) page ≡ Some text → length text.bytes ≡ 256
   pub count : length known ≡ g.segments
   pub numbers_are : (s : ℕ) → s < g.segments → slice_get known s ≡ Some (numbers (s + 1))
+  pub small : (s : ℕ) → s < g.segments → numbers (s + 1) ≤ 2 ^ 60
 
 -- The parts
 
@@ -90,6 +92,7 @@ pub record IsWriting (g : Geometry) (w : PageWrites) : Type 0 where
   pub merging : IsMerging w.kept.logs.items store w.merged
   pub result : IsResult g store content numbers w.merged.numbers.items
   pub between : IsBetween w.merged.changes.items w.next
+  pub few : w.written ≤ w.next
   pub pages : EachPage g store w.kept.segments.items (AsFarAs between.front content numbers)
   pub drafts : (write : Writing) → w.current ≡ Some write →
       (c : Change) × (slice_get w.merged.changes.items w.next ≡ Some c) × IsDraft content numbers c (draft_of write)

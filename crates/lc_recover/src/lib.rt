@@ -2,6 +2,7 @@
 //! from every image, at every step.
 #![tactic(auto)]
 
+mod advance;
 mod areas;
 mod change;
 mod fault;
@@ -19,6 +20,7 @@ mod own;
 mod page;
 mod page_count;
 mod page_laws;
+mod page_steps;
 mod page_writes;
 mod progress;
 mod records;

@@ -45,7 +45,7 @@ returns-in-Ok-clause-merged c =
     let w : PageWrites = record { kept = c.in_ok-kept.kept; merged = c.in-Ok.merged; next = 0; written = 0; current = None } in
     record {
       kept = c.in_ok-kept.ensures;
-      sound = merged-writing c.args.geometry.now c.args.read.now w c.in_ok-kept.ensures c.requires.count (merging c) refl refl;
+      sound = merged-writing c.args.geometry.now c.args.read.now w c.in_ok-kept.ensures c.requires.count (merging c) refl refl refl;
       same_store = refl;
       next = refl;
       written = refl;

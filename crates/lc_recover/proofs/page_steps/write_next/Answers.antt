@@ -1,0 +1,50 @@
+use Rattle.std.proofs.Common.{◌∙◌, sym, subst, arith, Option}
+use Rattle.lc_page.specs.declared.writing.Writing.{Writing}
+use Rattle.lc_recover.proofs.Writes.{next-of}
+use Rattle.lc_recover.specs.Reads.{AreHonest}
+use Rattle.lc_recover.specs.Shows.{ShowPages}
+use Rattle.lc_recover.specs.Stage.{Fits, IsWriting}
+use Rattle.lc_recover.specs.declared.stage.Stage.TheVariants.{Writing as WritingPages}
+use Rattle.lc_recover.proofs.page_steps.write_next.Goals as goal
+
+pub begin_next-requires-clause-within : goal.begin_next-requires-clause-within
+begin_next-requires-clause-within g c =
+    let n = next-of c.args.geometry.now c.args.writes.now c.requires.fits.1 c.requires.left in
+    omega (arith, c.place_of-place.ensures n.its n.pages n.is, n.known, n.is.segment, c.requires.fits.0.count)
+
+pub go_on_next-requires-clause-fits : goal.go_on_next-requires-clause-fits
+go_on_next-requires-clause-fits g c =
+    subst (λ (o : Option Writing). Fits g.D.Area c.args.geometry.now (WritingPages (record c.args.writes.now { current = o })) c.args.areas.now) (sym c.take.ensures.value ∙ c.in-Some.is) c.requires.fits
+
+pub go_on_next-requires-clause-within : goal.go_on_next-requires-clause-within
+go_on_next-requires-clause-within g c =
+    let n = next-of c.args.geometry.now c.args.writes.now c.requires.fits.1 c.requires.left in
+    omega (arith, c.place_of-place.ensures n.its n.pages n.is, n.known, n.is.segment, c.requires.fits.0.count)
+
+pub go_on_next-requires-clause-here : goal.go_on_next-requires-clause-here
+go_on_next-requires-clause-here g c = λ its pages is.
+    c.place_of-place.ensures its pages (record { change = is.change; segment = is.segment; kept = is.kept })
+
+pub returns-in_err-begin_next-in-None-clause-shows : goal.returns-in_err-begin_next-in-None-clause-shows
+returns-in_err-begin_next-in-None-clause-shows g c =
+    subst (λ (o : Option Writing). (i : IsWriting c.args.geometry.now (record c.args.writes.now { current = o })) → AreHonest g.D.Area c.begin_next.new.areas
+    → ShowPages g.D.Area c.args.geometry.now c.begin_next.new.areas i.store i.content i.numbers)
+    (c.take.ensures.after ∙ sym c.in-None.is ∙ c.take.ensures.value) c.begin_next.ensures.shows
+
+pub returns-in_ok-begin_next-in-None-clause-shows : goal.returns-in_ok-begin_next-in-None-clause-shows
+returns-in_ok-begin_next-in-None-clause-shows g c =
+    subst (λ (o : Option Writing). (i : IsWriting c.args.geometry.now (record c.args.writes.now { current = o })) → AreHonest g.D.Area c.begin_next.new.areas
+    → ShowPages g.D.Area c.args.geometry.now c.begin_next.new.areas i.store i.content i.numbers)
+    (c.take.ensures.after ∙ sym c.in-None.is ∙ c.take.ensures.value) c.begin_next.ensures.shows
+
+pub returns-in_err-go_on_next-in-Some-clause-shows : goal.returns-in_err-go_on_next-in-Some-clause-shows
+returns-in_err-go_on_next-in-Some-clause-shows g c =
+    subst (λ (o : Option Writing). (i : IsWriting c.args.geometry.now (record c.args.writes.now { current = o })) → AreHonest g.D.Area c.go_on_next.new.areas
+    → ShowPages g.D.Area c.args.geometry.now c.go_on_next.new.areas i.store i.content i.numbers)
+    (sym c.in-Some.is ∙ c.take.ensures.value) c.go_on_next.ensures.shows
+
+pub returns-in_ok-go_on_next-in-Some-clause-shows : goal.returns-in_ok-go_on_next-in-Some-clause-shows
+returns-in_ok-go_on_next-in-Some-clause-shows g c =
+    subst (λ (o : Option Writing). (i : IsWriting c.args.geometry.now (record c.args.writes.now { current = o })) → AreHonest g.D.Area c.go_on_next.new.areas
+    → ShowPages g.D.Area c.args.geometry.now c.go_on_next.new.areas i.store i.content i.numbers)
+    (sym c.in-Some.is ∙ c.take.ensures.value) c.go_on_next.ensures.shows
