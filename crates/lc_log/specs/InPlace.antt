@@ -4,7 +4,7 @@ use Rattle.std.specs.Option.{option_map_or}
 use Rattle.lc_record.specs.Record.{record_len}
 use Rattle.lc_record.specs.Reading.{◌>>=◌, len_at, record_at}
 use Rattle.lc_record.specs.declared.record.Record.{Record}
-use Rattle.lc_log.specs.declared.in_place.RecordsInPlace.{RecordsInPlace}
+use Rattle.lc_log.specs.declared.in_place.RecordPlaces.{RecordPlaces}
 
 -- the place of each record and how many words it takes, the first at this place
 abbrev pub spans_from : ℕ → List Record → List (ℕ × ℕ)
@@ -36,5 +36,5 @@ abbrev pub spans_in : List ℕ → List (ℕ × ℕ)
 spans_in words = spans_from 0 (records_in words)
 
 -- the places of the records that are still to come
-unfoldable pub left_of : RecordsInPlace → List (ℕ × ℕ)
+unfoldable pub left_of : RecordPlaces → List (ℕ × ℕ)
 left_of it = spans_from it.place (records_in (drop it.place it.words.now))

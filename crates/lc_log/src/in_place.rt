@@ -10,20 +10,20 @@ use lc_record::View;
 /// The records of a log's words that are still to come, each as its place, in words from the log's front, and how many
 /// words it takes. This project's own.
 #[derive(Drop)]
-pub struct RecordsInPlace<'a> {
+pub struct RecordPlaces<'a> {
     words: &'a [u64],
     place: usize,
 }
 
 /// The places of the records of a log's words, one behind another, up to the first place where none begins. It is safe
 /// on any words: a rest that begins no record ends it. It takes no memory.
-pub fn walk_in_place(words: &[u64]) -> RecordsInPlace<'_>
+pub fn walk_in_place(words: &[u64]) -> RecordPlaces<'_>
     ensures { (records : List Record) → IsLogText words.now records → left_of result ≡ spans_from 0 records }
 {
-    RecordsInPlace { words, place: 0 }
+    RecordPlaces { words, place: 0 }
 }
 
-impl<'a> Iterator for RecordsInPlace<'a> {
+impl<'a> Iterator for RecordPlaces<'a> {
     type Item = (usize, usize);
 
     ghost next_gives = { YieldsFirst left_of };

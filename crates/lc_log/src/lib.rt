@@ -18,7 +18,7 @@ pub use failed::Failed;
 pub use first_gate::{begins_open, close_first_gate, settle_first_gate};
 pub use found::Walk;
 pub use idle::Idle;
-pub use in_place::{RecordsInPlace, walk_in_place};
+pub use in_place::{RecordPlaces, walk_in_place};
 pub use laws::{
     begins_at_rest, each_span, images_at_gate, images_at_rest, one_text, same_spans, some_text,
 };

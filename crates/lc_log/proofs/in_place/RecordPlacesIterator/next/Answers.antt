@@ -1,7 +1,7 @@
 use Rattle.std.proofs.Common.{◌≡◌, List, [], length, ℕ, arith, ap}
 use Rattle.lc_log.specs.InPlace.{left_of}
 use Rattle.lc_log.proofs.InPlaceLemmas.{yields_first, yields_none}
-use Rattle.lc_log.proofs.in_place.RecordsInPlaceIterator.next.Goals as goal
+use Rattle.lc_log.proofs.in_place.RecordPlacesIterator.next.Goals as goal
 
 pub returns-in_err-at-clause-steps : goal.returns-in_err-at-clause-steps
 returns-in_err-at-clause-steps c =
