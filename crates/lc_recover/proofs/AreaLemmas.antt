@@ -107,8 +107,8 @@ module _ {D : Type 0} (a : Ghosts D) (g : Geometry) where
               ];
         })
 
-    pub one-call : (ok : Bool) → a.honest new ≡ a.honest old → a.failures new ≡ (if ok then a.failures old else a.failures old + 1) → OneCall a areas (slice_set areas k new) ok
-    one-call ok honest counted = record { at = k; old = old; new = new; was = was; is = refl; honest = honest; counted = counted }
+    pub one-call : (ok : Bool) → a.honest new ≡ a.honest old → a.failures new ≡ (if ok then a.failures old else a.failures old + 1) → OneCall a k areas (slice_set areas k new) ok
+    one-call ok honest counted = record { old = old; new = new; was = was; is = refl; honest = honest; counted = counted }
 
 -- one more area is read
 module _ {D : Type 0} (a : Ghosts D) (read : List (List ℕ)) (bytes : List ℕ) where

@@ -17,16 +17,16 @@ use Rattle.lc_recover.proofs.Bridge.{show_logs-merge, show_pages-merge}
 use Rattle.lc_recover.proofs.Images.{same-result}
 use Rattle.lc_recover.proofs.Showing.{have-lengths, hold-bytes, resetting-merges, writing-merges}
 
-module _ {D : Type 0} (a : Ghosts D) (g : Geometry) (olds news : List D) (ok : Bool) (call : OneCall a olds news ok) where
+module _ {D : Type 0} (a : Ghosts D) (g : Geometry) (olds news : List D) (ok : Bool) (at : ℕ) (call : OneCall a at olds news ok) where
   -- areas that are honest after a call were honest before it
   pub were-honest : AreHonest a news → AreHonest a olds
   were-honest honest j area is =
-      elim (cases_eq j call.at) [
+      elim (cases_eq j at) [
         | inl here ↦
             let same : area ≡ call.old = one_item area call.old (sym is ∙ ap (slice_get olds) here ∙ call.was) in
-            let there : slice_get news call.at ≡ Some call.new = ap (λ (l : List D). slice_get l call.at) call.is ∙ set-get olds call.at call.new call.old call.was in
-            subst (λ (x : D). a.honest x ≡ true) (sym same) (sym call.honest ∙ honest call.at call.new there)
-        | inr differ ↦ honest j area (ap (λ (l : List D). slice_get l j) call.is ∙ set-others olds call.at call.new j area differ is)
+            let there : slice_get news at ≡ Some call.new = ap (λ (l : List D). slice_get l at) call.is ∙ set-get olds at call.new call.old call.was in
+            subst (λ (x : D). a.honest x ≡ true) (sym same) (sym call.honest ∙ honest at call.new there)
+        | inr differ ↦ honest j area (ap (λ (l : List D). slice_get l j) call.is ∙ set-others olds at call.new j area differ is)
       ]
 
   pub resets-keep : (r : LogResets) (i : IsResetting g r) → AreasFit a g (Resetting r) olds → AreasFit a g (Syncing 0) news → AreHonest a news → ShowLogs a g news i.store r.segments.items →

@@ -20,3 +20,13 @@ pub mod Settles
 pub mod MergeRead
 pub mod WholePages
 pub mod Keeping
+pub mod Going
+pub mod SameArea
+pub mod PagesBehind
+pub mod Readable
+pub mod StoppedFits
+pub mod PageEnd
+pub mod MergedFits
+pub mod FinishedStore
+pub mod Calling
+pub mod Renewing

@@ -2,7 +2,7 @@
 use Rattle.std.proofs.Common.{◌≡◌, ◌≢◌, ◌⊎◌, ℕ, zero, suc, ◌+◌, ◌-◌, ◌*◌, ◌<◌, ◌≤◌, List, [], ◌∷◌, ◌++◌, length, get_or, take, drop, Some, None, Contains, refl, sym, ◌∙◌, ap, subst, arith, inl, inr, append_assoc}
 use Rattle.std.specs.Prelude.{slice_get, slice_set}
 use Rattle.std.proofs.lemmas.Bool.{cases_lt}
-use Rattle.std.proofs.lemmas.List.{drop_at, take_at, length-take, length-take-le, length-drop, length-append, length-set}
+use Rattle.std.proofs.lemmas.List.{drop_at, drop-drop, take_at, length-take, length-take-le, length-drop, length-append, length-set}
 use Rattle.std.proofs.lemmas.List.Elements.{All-contains, Contains-append_left, Contains-append_right, Contains-append_cases}
 use Rattle.std.proofs.lemmas.Option.{none-some, slice_get_within, slice_get_past, slice_get-get_or, get_or_from_slice_get}
 use Rattle.lc_disk.specs.Area.{overlaid}
@@ -18,11 +18,13 @@ use Rattle.lc_recover.proofs.AreaLemmas.{get-set, set-get, set-others}
 use Rattle.lc_recover.proofs.Begins.{ComesNext, contains_at, its_segment, its_page, one_more, still_old, back_is, back_ascends, there}
 use Rattle.lc_recover.proofs.Images.{get-take, get-drop}
 use Rattle.lc_recover.proofs.KeptLemmas.{get-append}
+use Rattle.lc_recover.proofs.PagesOf.{begin_with_the_first, one_page_more}
 use Rattle.lc_recover.specs.Kept.{IsMerging}
-use Rattle.lc_recover.specs.Page.{IsOf, IsOfAnother}
+use Rattle.lc_recover.specs.Page.{IsOf, IsOfAnother, page_of, pages_of}
 use Rattle.lc_recover.specs.Pages.{bytes_of_page}
 use Rattle.lc_recover.specs.Position.{HasChange, IsBetween}
 use Rattle.lc_recover.specs.Stage.{AreTexts, AsFarAs, EachPage, IsDraft, IsNew, IsResult, IsWriting}
+use Rattle.lc_recover.specs.Steps.{all_pages}
 use Rattle.lc_recover.specs.declared.change.Change.{Change}
 use Rattle.lc_recover.specs.declared.merged.Merged.{Merged}
 use Rattle.lc_recover.specs.declared.page_writes.PageWrites.{PageWrites}
@@ -260,3 +262,23 @@ module _ (g : Geometry) (w : PageWrites) (i : IsWriting g w) (c : Change) (here 
     pages = subst (λ (l : List SegmentPages). EachPage g i.store l (AsFarAs (i.between.front ++ here) i.content i.numbers)) (sym segments) each_page;
     drafts = λ write is. absurd (none-some write (sym none ∙ is));
   }
+
+-- The pages that are left, where one more is written
+
+-- the page that is written was the first of those that were left
+pub left_renewed : (g : Geometry) (w : PageWrites) (i : IsWriting g w) (c : Change) (here : List Change) → ComesNext w.merged.changes.items w.next here c
+    → pages_of (drop w.next w.merged.changes.items) ≡ page_of c ∷ pages_of (drop (w.next + length here) w.merged.changes.items)
+left_renewed g w i c here next =
+    begin_with_the_first (drop w.next w.merged.changes.items) here c next.first (there g w i c next.at) (back_ascends g w i c next.at)
+    ∙ ap (λ (l : List Change). page_of c ∷ pages_of l) (drop-drop (length here) w.next w.merged.changes.items)
+
+pub pages_stay : (g : Geometry) (w : PageWrites) (i : IsWriting g w) (c : Change) (here : List Change) → ComesNext w.merged.changes.items w.next here c
+    → w.written + 1 + length (pages_of (drop (w.next + length here) w.merged.changes.items)) ≡ all_pages w
+pages_stay g w i c here next =
+    let left : List Change = drop w.next w.merged.changes.items in
+    let some : 1 ≤ length (drop w.next w.merged.changes.items) = (let less : 0 < length left = slice_get_within left 0 c (there g w i c next.at) in omega (arith, less)) in
+    let more : length (pages_of (drop w.next w.merged.changes.items)) ≡ 1 + length (pages_of (drop (length here) (drop w.next w.merged.changes.items))) =
+    one_page_more left here next.first some (back_ascends g w i c next.at) in
+    let same : length (pages_of (drop (length here) (drop w.next w.merged.changes.items))) ≡ length (pages_of (drop (w.next + length here) w.merged.changes.items)) =
+    ap (λ (l : List Change). length (pages_of l)) (drop-drop (length here) w.next w.merged.changes.items) in
+    omega (arith, more, same)

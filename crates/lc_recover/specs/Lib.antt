@@ -8,7 +8,10 @@ pub mod Stage
 pub mod Shows
 pub mod Page
 pub mod Steps
+pub mod Recovery
 pub mod Reading
 pub mod Locks
 pub mod Changes
 pub mod Merging
+pub mod Stopped
+pub mod Recovered

@@ -1,5 +1,5 @@
 -- The store that the bytes of areas read as, and what a merge of all of it gives.
-use Rattle.std.specs.Prelude.{◌≡◌, ℕ, ◌+◌, ◌*◌, nat_lt, true, List, [], map, length, take, drop, Option, Some, None, if◌then◌else◌, slice_get, slice_index_or}
+use Rattle.std.specs.Prelude.{◌≡◌, ℕ, ◌+◌, ◌*◌, ◌<◌, nat_lt, true, List, [], map, length, take, drop, Option, Some, None, if◌then◌else◌, slice_get, slice_index_or}
 use Rattle.lc_disk.specs.Area.{IsImage}
 use Rattle.lc_disk.specs.declared.area.Area.{Ghosts}
 use Rattle.lc_record.specs.Content.{Content}
@@ -41,6 +41,11 @@ module _ {D : Type 0} (a : Ghosts D) where
   -- each of them keeps to the model of a disk
   abbrev pub AreHonest : List D → Type 0
   AreHonest areas = (area : ℕ) (device : D) → slice_get areas area ≡ Some device → a.honest device ≡ true
+
+  -- what they hold are bytes, while they are honest
+  abbrev pub AreOfBytes : List D → Type 0
+  AreOfBytes areas = (k : ℕ) (device : D) → slice_get areas k ≡ Some device → a.honest device ≡ true →
+      (at : ℕ) → slice_index_or (a.now device) at 0 < 256
 
   -- whatever a stop leaves of them merges, without a refusal, to this result
   abbrev pub AllMergeTo : Geometry → List D → Content → (ℕ → ℕ) → Type 0

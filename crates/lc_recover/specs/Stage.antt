@@ -226,9 +226,8 @@ module _ {D : Type 0} (a : Ghosts D) where
     pub same : a.honest old ≡ true → a.now new ≡ a.now old
     pub clean : a.honest old ≡ true → (k : ℕ) → a.dirty old k ≡ false → a.dirty new k ≡ false
 
-  -- one call of one of the areas, which failed or not; nothing else has changed
-  pub record OneCall (olds news : List D) (ok : Bool) : Type 0 where
-    pub at : ℕ
+  -- one call of this area, which failed or not; nothing else has changed
+  pub record OneCall (at : ℕ) (olds news : List D) (ok : Bool) : Type 0 where
     pub old : D
     pub new : D
     pub was : slice_get olds at ≡ Some old

@@ -1,8 +1,11 @@
 -- How many steps of a recovery are done, and how many are left of its parts.
-use Rattle.std.specs.Prelude.{ℕ, ◌+◌, ◌*◌, if◌then◌else◌, length, Option, Some, None}
+use Rattle.std.specs.Prelude.{ℕ, ◌+◌, ◌*◌, ◌<◌, if◌then◌else◌, List, [], length, map, drop, Option, Some, None}
 use Rattle.lc_record.specs.declared.geometry.Geometry.{Geometry}
 use Rattle.lc_page.specs.Writing.{calls_of}
 use Rattle.lc_page.specs.declared.writing.Writing.{Writing}
+use Rattle.lc_model.specs.Merge.{Page}
+use Rattle.lc_recover.specs.Page.{pages_of}
+use Rattle.lc_recover.specs.Pages.{kept_pages}
 use Rattle.lc_recover.specs.Reads.{area_count}
 use Rattle.lc_recover.specs.declared.log_resets.LogResets.{LogResets}
 use Rattle.lc_recover.specs.declared.page_writes.PageWrites.{PageWrites}
@@ -34,7 +37,46 @@ steps_of g (WritingPages w) = first_steps g + writes_done w
 steps_of g (Resetting r) = first_steps g + 6 * r.written + resets_done r
 steps_of g (Done f) = first_steps g + 6 * f.written + 2 * g.nodes
 
--- it is done
-abbrev pub IsDone : Stage → Type 0
-IsDone (Done f) = Unit {0}
-IsDone other = ⊥
+-- the pages that are written, and those of the changes that are left
+abbrev pub all_pages : PageWrites → ℕ
+all_pages w = w.written + length (pages_of (drop w.next w.merged.changes.items))
+
+-- how many pages are to be written in all, once all is merged
+abbrev pub pages_in : Stage → Option ℕ
+pages_in (Syncing synced) = None
+pages_in (Reading read) = None
+pages_in (WritingPages w) = Some (all_pages w)
+pages_in (Resetting r) = Some r.written
+pages_in (Done f) = Some f.written
+
+-- the pages that are still to be written, in order
+abbrev pub pages_left : Stage → List (ℕ × ℕ)
+pages_left (Syncing synced) = []
+pages_left (Reading read) = []
+pages_left (WritingPages w) = pages_of (drop w.next w.merged.changes.items)
+pages_left (Resetting r) = []
+pages_left (Done f) = []
+
+-- the pages of each segment as they are kept, once all is merged
+abbrev pub pages_kept : Stage → List (List Page)
+pages_kept (Syncing synced) = []
+pages_kept (Reading read) = []
+pages_kept (WritingPages w) = map kept_pages w.kept.segments.items
+pages_kept (Resetting r) = map kept_pages r.segments.items
+pages_kept (Done f) = map kept_pages f.segments.items
+
+-- while logs are emptied one is left
+abbrev pub HasNext : Geometry → Stage → Type 0
+HasNext g (Syncing synced) = Unit {0}
+HasNext g (Reading read) = Unit {0}
+HasNext g (WritingPages w) = Unit {0}
+HasNext g (Resetting r) = r.next < g.nodes
+HasNext g (Done f) = Unit {0}
+
+-- no step is left
+abbrev pub IsOver : Stage → Type 0
+IsOver (Syncing synced) = ⊥
+IsOver (Reading read) = ⊥
+IsOver (WritingPages w) = ⊥
+IsOver (Resetting r) = ⊥
+IsOver (Done f) = Unit {0}

@@ -1,17 +1,200 @@
 //! From one step of a recovery to the next.
-ghost use Rattle.std.specs.Prelude.{◌≡◌, ◌+◌, ◌<◌, ℕ, IfOk, is_ok};
+ghost use Rattle.std.specs.Prelude.{◌≡◌, ◌≢◌, ◌+◌, ◌*◌, ◌<◌, ◌≤◌, ◌⊎◌, ℕ, Some, None, false, true, length, map, IfOk, IfErr, OnOk, is_ok};
 ghost use Rattle.lc_record.specs.Content.{Content};
-ghost use Rattle.lc_recover.specs.Reads.{AreHonest, AllMergeTo};
-ghost use Rattle.lc_recover.specs.Stage.{AreasFit, Fits, OneCall};
-ghost use Rattle.lc_recover.specs.Steps.{steps_of};
+ghost use Rattle.lc_recover.specs.Fault.{IsRefusal};
+ghost use Rattle.lc_recover.specs.Merging.{IsMergedStage};
+ghost use Rattle.lc_recover.specs.Reads.{AreHonest, AllMergeTo, store_of};
+ghost use Rattle.lc_recover.specs.Recovery.{begun, recovering, Renews, IsGoing, IsMerged, IsMergeNext, MakesItsCall, TakesMemory};
+ghost use Rattle.lc_recover.specs.Stopped.{IsStopped};
+ghost use Rattle.lc_recover.specs.Stage.{AreasFit, Fits};
+ghost use Rattle.lc_recover.specs.Steps.{steps_of, all_pages, pages_in, HasNext, IsOver};
+ghost use Rattle.lc_recover.specs.declared.fault.RecoverFault.TheVariants.{NoMemory, DeviceFault as Failed};
 ghost use Rattle.lc_recover.specs.declared.stage.Stage.{Stage};
 
 use crate::finished::Finished;
 use crate::log_resets::LogResets;
+use crate::merging::merge_read;
+use crate::page_steps::write_next;
+use crate::page_writes::PageWrites;
 use crate::reset_steps::reset_next;
 use crate::stage::Stage;
+use crate::stopped::Stopped;
+use crate::syncing::{read_area, sync_area};
 use lc_disk::{Area, DeviceFault};
-use lc_record::Geometry;
+use lc_record::{Geometry, Items};
+use std::alloc::Global;
+
+/// Makes the next step.
+pub(crate) fn advance<D: Area>(
+    alloc: Global,
+    geometry: &Geometry,
+    areas: &mut [D],
+    stage: Stage,
+) -> Result<Stage, Stopped>
+    requires going { IsGoing D.Area geometry.now stage areas.old }
+    requires left { IsOver stage → ⊥ }
+    ensures going { IfOk result (λ next. IsGoing D.Area geometry.now next areas.new) }
+    ensures stopped { IfErr result (λ stopped. IsGoing D.Area geometry.now stopped.stage areas.new) }
+    ensures steps { IfOk result (λ next. steps_of geometry.now next ≡ steps_of geometry.now stage + 1) }
+    ensures pages { IfOk result (λ next. (pages : ℕ) → pages_in stage ≡ Some pages → pages_in next ≡ Some pages) }
+    ensures keeps { IfOk result (λ next. (IsMergeNext (recovering geometry.now areas.old stage) → ⊥) → AreHonest D.Area areas.new
+        → Renews D.Area (recovering geometry.now areas.old stage) (recovering geometry.now areas.new next)) }
+    ensures no_memory { IfErr result (λ stopped. stopped.fault ≡ NoMemory
+        → TakesMemory (recovering geometry.now areas.old stage)
+        × (recovering geometry.now areas.new stopped.stage ≡ recovering geometry.now areas.old stage)) }
+    ensures again { IfErr result (λ stopped. (stopped.fault ≡ NoMemory → ⊥)
+        → recovering geometry.now areas.new stopped.stage ≡ begun geometry.now areas.new) }
+    ensures called { OnOk result ((IsMergeNext (recovering geometry.now areas.old stage) → ⊥)
+        → MakesItsCall D.Area (recovering geometry.now areas.old stage) areas.new true) }
+    ensures failed { IfErr result (λ stopped. (IsMergeNext (recovering geometry.now areas.old stage) → ⊥)
+        → (stopped.fault ≡ NoMemory) ⊎ ((stopped.fault ≡ Failed) × MakesItsCall D.Area (recovering geometry.now areas.old stage) areas.new false)) }
+    ensures no_call { IsMergeNext (recovering geometry.now areas.old stage) → areas.new ≡ areas.old }
+    ensures merged { IfOk result (λ next. IsMergeNext (recovering geometry.now areas.old stage) → AreHonest D.Area areas.old
+        → IsMerged D.Area (recovering geometry.now areas.old next)) }
+    ensures refused { IfErr result (λ stopped. IsMergeNext (recovering geometry.now areas.old stage) → AreHonest D.Area areas.old
+        → IsRefusal (store_of geometry.now (map D.now areas.old)) stopped.fault) }
+    ensures merge_fault { IfErr result (λ stopped. IsMergeNext (recovering geometry.now areas.old stage) → stopped.fault ≢ Failed) }
+    ensures merges { (content : Content) (numbers : ℕ → ℕ) → AreHonest D.Area areas.new
+        → AllMergeTo D.Area geometry.now areas.old content numbers → AllMergeTo D.Area geometry.now areas.new content numbers }
+{
+    match stage {
+        Stage::Syncing(synced) => Ok(sync_step(alloc, geometry, areas, synced)?),
+        Stage::Reading(read) => {
+            if read.len() < areas.len() {
+                return read_step(alloc, geometry, areas, read);
+            }
+            merge_step(alloc, geometry, areas, read)
+        }
+        Stage::Writing(writes) => Ok(write_step(geometry, areas, writes)?),
+        Stage::Resetting(resets) => Ok(reset_step(geometry, areas, resets)?),
+        Stage::Done(finished) => Ok(Stage::Done(finished)),
+    }
+}
+
+/// Syncs the next area.
+pub(crate) fn sync_step<D: Area>(
+    alloc: Global,
+    geometry: &Geometry,
+    areas: &mut [D],
+    synced: usize,
+) -> Result<Stage, DeviceFault>
+    requires fits { Fits D.Area geometry.now (Stage.Syncing synced) areas.old }
+    ensures fits { IfOk result (λ stage. Fits D.Area geometry.now stage areas.new) }
+    ensures next { IfOk result (HasNext geometry.now) }
+    ensures steps { IfOk result (λ stage. steps_of geometry.now stage ≡ synced + 1) }
+    ensures pages { IfOk result (λ stage. pages_in stage ≡ None) }
+    ensures keeps { IfOk result (λ next. AreHonest D.Area areas.new
+        → Renews D.Area (recovering geometry.now areas.old (Stage.Syncing synced)) (recovering geometry.now areas.new next)) }
+    ensures areas { AreasFit D.Area geometry.now (Stage.Syncing 0) areas.new }
+    ensures call { MakesItsCall D.Area (recovering geometry.now areas.old (Stage.Syncing synced)) areas.new (is_ok result) }
+    ensures merges { (content : Content) (numbers : ℕ → ℕ) → AreHonest D.Area areas.new
+        → AllMergeTo D.Area geometry.now areas.old content numbers → AllMergeTo D.Area geometry.now areas.new content numbers }
+{
+    sync_area(geometry, areas, synced)?;
+    if synced + 1 < areas.len() {
+        return Ok(Stage::Syncing(synced + 1));
+    }
+    Ok(Stage::Reading(Vec::new(alloc)))
+}
+
+/// Reads the next area. Where there is no memory nothing has changed.
+pub(crate) fn read_step<D: Area>(
+    alloc: Global,
+    geometry: &Geometry,
+    areas: &mut [D],
+    read: Vec<Items<u8>>,
+) -> Result<Stage, Stopped>
+    requires fits { Fits D.Area geometry.now (Stage.Reading read) areas.old }
+    requires left { length read.items < length areas.old }
+    ensures fits { IfOk result (λ stage. Fits D.Area geometry.now stage areas.new) }
+    ensures next { IfOk result (HasNext geometry.now) }
+    ensures steps { IfOk result (λ stage. steps_of geometry.now stage ≡ steps_of geometry.now (Stage.Reading read) + 1) }
+    ensures pages { IfOk result (λ stage. pages_in stage ≡ None) }
+    ensures keeps { IfOk result (λ next. AreHonest D.Area areas.new
+        → Renews D.Area (recovering geometry.now areas.old (Stage.Reading read)) (recovering geometry.now areas.new next)) }
+    ensures stopped { IfErr result (IsStopped D.Area geometry.now (Stage.Reading read) areas.old areas.new) }
+    ensures call { IfOk result (λ stage. MakesItsCall D.Area (recovering geometry.now areas.old (Stage.Reading read)) areas.new true) }
+    ensures fault { IfErr result (λ stopped. (stopped.fault ≡ NoMemory)
+        ⊎ ((stopped.fault ≡ Failed) × MakesItsCall D.Area (recovering geometry.now areas.old (Stage.Reading read)) areas.new false)) }
+    ensures merges { (content : Content) (numbers : ℕ → ℕ) → AreHonest D.Area areas.new
+        → AllMergeTo D.Area geometry.now areas.old content numbers → AllMergeTo D.Area geometry.now areas.new content numbers }
+{
+    let mut read = read;
+    match read_area(alloc, geometry, areas, &mut read) {
+        Ok(()) => Ok(Stage::Reading(read)),
+        Err(fault) => Err(Stopped::new(read, fault)),
+    }
+}
+
+/// Merges what was read of all areas. Where there is no memory nothing has changed.
+pub(crate) fn merge_step<D: Area>(
+    alloc: Global,
+    geometry: &Geometry,
+    areas: &[D],
+    read: Vec<Items<u8>>,
+) -> Result<Stage, Stopped>
+    requires fits { Fits D.Area geometry.now (Stage.Reading read) areas.now }
+    requires all { length read.items ≡ length areas.now }
+    ensures fits { IfOk result (λ stage. Fits D.Area geometry.now stage areas.now) }
+    ensures next { IfOk result (HasNext geometry.now) }
+    ensures steps { IfOk result (λ stage. steps_of geometry.now stage ≡ steps_of geometry.now (Stage.Reading read) + 1) }
+    ensures merged { IfOk result (IsMergedStage geometry.now read.items) }
+    ensures few { IfOk result (λ stage. (pages : ℕ) → pages_in stage ≡ Some pages → pages ≤ geometry.now.segments * geometry.now.pages) }
+    ensures stopped { IfErr result (IsStopped D.Area geometry.now (Stage.Reading read) areas.now areas.now) }
+    ensures refused { IfErr result (λ stopped. IsRefusal (store_of geometry.now read.items) stopped.fault) }
+{
+    match merge_read(alloc, geometry, read.as_slice()) {
+        Ok(writes) => Ok(Stage::Writing(writes)),
+        Err(fault) => Err(Stopped::new(read, fault)),
+    }
+}
+
+/// Makes the next call of the page writes. Behind the last one, the first of the resets.
+pub(crate) fn write_step<D: Area>(
+    geometry: &Geometry,
+    areas: &mut [D],
+    writes: PageWrites,
+) -> Result<Stage, DeviceFault>
+    requires fits { Fits D.Area geometry.now (Stage.Writing writes) areas.old }
+    ensures fits { IfOk result (λ stage. Fits D.Area geometry.now stage areas.new) }
+    ensures next { IfOk result (HasNext geometry.now) }
+    ensures steps { IfOk result (λ stage. steps_of geometry.now stage ≡ steps_of geometry.now (Stage.Writing writes) + 1) }
+    ensures pages { IfOk result (λ stage. pages_in stage ≡ Some (all_pages writes)) }
+    ensures keeps { IfOk result (λ next. AreHonest D.Area areas.new
+        → Renews D.Area (recovering geometry.now areas.old (Stage.Writing writes)) (recovering geometry.now areas.new next)) }
+    ensures areas { AreasFit D.Area geometry.now (Stage.Syncing 0) areas.new }
+    ensures call { MakesItsCall D.Area (recovering geometry.now areas.old (Stage.Writing writes)) areas.new (is_ok result) }
+    ensures merges { (content : Content) (numbers : ℕ → ℕ) → AreHonest D.Area areas.new
+        → AllMergeTo D.Area geometry.now areas.old content numbers → AllMergeTo D.Area geometry.now areas.new content numbers }
+{
+    let mut writes = writes;
+    if writes.next == writes.merged.changes.len() {
+        return reset_step(geometry, areas, resets_of(writes));
+    }
+    write_next(geometry, areas, &mut writes)?;
+    Ok(Stage::Writing(writes))
+}
+
+// All pages are written: the logs are to be emptied.
+fn resets_of(writes: PageWrites) -> LogResets
+    ensures logs { result.logs ≡ writes.kept.logs }
+    ensures segments { result.segments ≡ writes.kept.segments }
+    ensures numbers { result.numbers ≡ writes.merged.numbers }
+    ensures written { result.written ≡ writes.written }
+    ensures next { result.next ≡ 0 }
+    ensures at_rest { result.is_closing ≡ false }
+{
+    let kept = writes.kept;
+    let merged = writes.merged;
+    LogResets {
+        logs: kept.logs,
+        segments: kept.segments,
+        numbers: merged.numbers,
+        written: writes.written,
+        next: 0,
+        is_closing: false,
+    }
+}
 
 /// Makes the next call of the resets. Behind the last one, all is done.
 pub(crate) fn reset_step<D: Area>(
@@ -22,9 +205,13 @@ pub(crate) fn reset_step<D: Area>(
     requires fits { Fits D.Area geometry.now (Stage.Resetting resets) areas.old }
     requires left { resets.next < geometry.now.nodes }
     ensures fits { IfOk result (λ stage. Fits D.Area geometry.now stage areas.new) }
+    ensures next { IfOk result (HasNext geometry.now) }
     ensures steps { IfOk result (λ stage. steps_of geometry.now stage ≡ steps_of geometry.now (Stage.Resetting resets) + 1) }
+    ensures pages { IfOk result (λ stage. pages_in stage ≡ Some resets.written) }
+    ensures keeps { IfOk result (λ next. AreHonest D.Area areas.new
+        → Renews D.Area (recovering geometry.now areas.old (Stage.Resetting resets)) (recovering geometry.now areas.new next)) }
     ensures areas { AreasFit D.Area geometry.now (Stage.Syncing 0) areas.new }
-    ensures call { OneCall D.Area areas.old areas.new (is_ok result) }
+    ensures call { MakesItsCall D.Area (recovering geometry.now areas.old (Stage.Resetting resets)) areas.new (is_ok result) }
     ensures merges { (content : Content) (numbers : ℕ → ℕ) → AreHonest D.Area areas.new
         → AllMergeTo D.Area geometry.now areas.old content numbers → AllMergeTo D.Area geometry.now areas.new content numbers }
 {

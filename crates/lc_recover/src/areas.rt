@@ -1,7 +1,7 @@
 //! How long the areas of a store are.
-ghost use Rattle.std.specs.Prelude.{◌≡◌, ◌≢◌, length, map, slice_get, IfSome, IfNone, ℕ};
+ghost use Rattle.std.specs.Prelude.{◌≡◌, ◌≢◌, ◌≤◌, length, map, slice_get, IfSome, IfNone, ℕ};
 ghost use Rattle.lc_model.specs.Merge.{IsLeast};
-ghost use Rattle.lc_recover.specs.Reads.{area_count, area_len, HaveLengths};
+ghost use Rattle.lc_recover.specs.Reads.{area_count, area_len, HaveLengths, AreOfBytes};
 
 use lc_disk::Area;
 use lc_page::SLOT_BYTES;
@@ -32,7 +32,9 @@ pub(crate) fn area_len(geometry: &Geometry, area: usize) -> Option<usize>
 /// The least index at which there is no area of the right length, or one where there should be none.
 pub(crate) fn first_wrong<D: Area>(geometry: &Geometry, areas: &[D]) -> Option<usize>
     ensures wrong { IfSome result (IsLeast (λ area. slice_get (map (λ d. length (D.now d)) areas.now) area ≢ area_len geometry.now area)) }
+    ensures few { IfSome result (λ area. area ≤ area_count geometry.now) }
     ensures right { IfNone result (HaveLengths D.Area geometry.now areas.now) }
+    ensures bytes { IfNone result (AreOfBytes D.Area areas.now) }
 {
     for (place, area) in areas.iter().enumerate() {
         if area_len(geometry, place) != Some(area.len()) {

@@ -24,16 +24,25 @@ mod page_steps;
 mod page_writes;
 mod progress;
 mod records;
+mod recovered;
+mod recovery;
 mod reset_steps;
 mod segment_pages;
 mod stage;
+mod stopped;
 mod syncing;
 mod within;
 
 pub use fault::RecoverFault;
 pub use progress::Progress;
+pub use recovered::Recovered;
+pub use recovery::Recovery;
 
 #[cfg(test)]
 mod page_tests;
+#[cfg(test)]
+mod recovery_tests;
+#[cfg(test)]
+mod store_tests;
 #[cfg(test)]
 mod tests;

@@ -1,14 +1,16 @@
 //! The steps that write pages.
-ghost use Rattle.std.specs.Prelude.{◌≡◌, ◌≢◌, ◌+◌, ◌*◌, ◌<◌, ◌≤◌, ℕ, Some, None, IfOk, OnOk, length, is_ok, true, false, slice_get, slice_index_or};
+ghost use Rattle.std.specs.Prelude.{◌≡◌, ◌≢◌, ◌∷◌, drop, ◌+◌, ◌*◌, ◌<◌, ◌≤◌, ℕ, Some, None, IfOk, OnOk, length, is_ok, true, false, slice_get, slice_index_or};
 ghost use Rattle.lc_page.specs.Page.{Page, page_in};
 ghost use Rattle.lc_page.specs.PageVector.{entry_at, entry_text};
 ghost use Rattle.lc_page.specs.PageWrite.{Continues, SettledIn, HasPage, KeepsPage, IsEither, drafted};
 ghost use Rattle.lc_page.specs.declared.page_text.PageText.{PageText};
 ghost use Rattle.lc_page.specs.Writing.{calls_of, draft_of, IsNextOf, IsUnderWay, GoesOn};
+ghost use Rattle.lc_recover.specs.Page.{page_of, pages_of};
 ghost use Rattle.lc_recover.specs.Reads.{AreHonest};
+ghost use Rattle.lc_recover.specs.Recovery.{recovering, Renews};
 ghost use Rattle.lc_recover.specs.Shows.{ShowPages};
 ghost use Rattle.lc_recover.specs.Stage.{AreasFit, Fits, OneCall, IsWriting, IsDraft, IsNext, IsSettledPage};
-ghost use Rattle.lc_recover.specs.Steps.{writes_done};
+ghost use Rattle.lc_recover.specs.Steps.{writes_done, all_pages};
 ghost use Rattle.lc_recover.specs.declared.change.Change.{Change};
 ghost use Rattle.lc_recover.specs.declared.segment_pages.SegmentPages.{SegmentPages};
 ghost use Rattle.lc_recover.specs.declared.stage.Stage.{Stage};
@@ -30,11 +32,14 @@ pub(crate) fn write_next<D: Area>(
     requires left { writes.old.next < length writes.old.merged.changes.items }
     ensures fits { OnOk result (Fits D.Area geometry.now (Stage.Writing writes.new) areas.new) }
     ensures areas { AreasFit D.Area geometry.now (Stage.Syncing 0) areas.new }
-    ensures call { OneCall D.Area areas.old areas.new (is_ok result) }
+    ensures call { (place : ℕ) × (geometry.now.nodes ≤ place) × OneCall D.Area place areas.old areas.new (is_ok result) }
     // After a fault too.
     ensures shows { (i : IsWriting geometry.now writes.old) → AreHonest D.Area areas.new
         → ShowPages D.Area geometry.now areas.new i.store i.content i.numbers }
     ensures steps { OnOk result (writes_done writes.new ≡ writes_done writes.old + 1) }
+    ensures pages { OnOk result (all_pages writes.new ≡ all_pages writes.old) }
+    ensures keeps { OnOk result (AreHonest D.Area areas.new
+        → Renews D.Area (recovering geometry.now areas.old (Stage.Writing writes.old)) (recovering geometry.now areas.new (Stage.Writing writes.new))) }
 {
     let place = place_of(geometry, writes);
     match writes.current.take() {
@@ -59,7 +64,7 @@ fn begin_next<D: Area>(
     ensures fits { IfOk result (λ write. Fits D.Area geometry.now (Stage.Writing (record writes.now { current = Some write })) areas.new) }
     ensures first { IfOk result (λ write. calls_of write ≡ 1) }
     ensures areas { AreasFit D.Area geometry.now (Stage.Syncing 0) areas.new }
-    ensures call { OneCall D.Area areas.old areas.new (is_ok result) }
+    ensures call { OneCall D.Area place areas.old areas.new (is_ok result) }
     // After a fault too.
     ensures shows { (i : IsWriting geometry.now writes.now) → AreHonest D.Area areas.new
         → ShowPages D.Area geometry.now areas.new i.store i.content i.numbers }
@@ -82,11 +87,14 @@ fn go_on_next<D: Area>(
     requires here { (c : Change) (pages : SegmentPages) → IsNext writes.old c pages → place + 1 ≡ geometry.now.nodes + c.segment }
     ensures fits { OnOk result (Fits D.Area geometry.now (Stage.Writing writes.new) areas.new) }
     ensures areas { AreasFit D.Area geometry.now (Stage.Syncing 0) areas.new }
-    ensures call { OneCall D.Area areas.old areas.new (is_ok result) }
+    ensures call { OneCall D.Area place areas.old areas.new (is_ok result) }
     // After a fault too.
     ensures shows { (i : IsWriting geometry.now (record writes.old { current = Some write })) → AreHonest D.Area areas.new
         → ShowPages D.Area geometry.now areas.new i.store i.content i.numbers }
     ensures steps { OnOk result (writes_done writes.new ≡ 6 * writes.old.written + calls_of write + 1) }
+    ensures pages { OnOk result (all_pages writes.new ≡ all_pages writes.old) }
+    ensures keeps { OnOk result (AreHonest D.Area areas.new
+        → Renews D.Area (recovering geometry.now areas.old (Stage.Writing writes.old)) (recovering geometry.now areas.new (Stage.Writing writes.new))) }
 {
     let draft = *write.draft();
     writes.current = go_on(write, &mut areas[place])?;
@@ -174,6 +182,9 @@ fn settle_page(geometry: &Geometry, writes: &mut PageWrites, draft: &Draft)
         × ((c : Change) (pages : SegmentPages) → IsNext writes.old c pages → IsDraft i.content i.numbers c draft.now) }
     ensures sound { IsWriting geometry.now writes.new }
     ensures settled { IsSettledPage writes.old writes.new draft.now }
+    ensures pages { all_pages writes.new ≡ all_pages writes.old }
+    ensures left { (c : Change) → slice_get writes.old.merged.changes.items writes.old.next ≡ Some c
+        → pages_of (drop writes.old.next writes.old.merged.changes.items) ≡ page_of c ∷ pages_of (drop writes.new.next writes.new.merged.changes.items) }
 {
     let changes = first_page(&writes.merged.changes[writes.next..]);
     let segment = changes[0].segment as usize - 1;

@@ -23,7 +23,7 @@ pub(crate) fn reset_next<D: Area>(
     requires left { resets.old.next < geometry.now.nodes }
     ensures fits { OnOk result (Fits D.Area geometry.now (Stage.Resetting resets.new) areas.new) }
     ensures areas { AreasFit D.Area geometry.now (Stage.Syncing 0) areas.new }
-    ensures call { OneCall D.Area areas.old areas.new (is_ok result) }
+    ensures call { OneCall D.Area resets.old.next areas.old areas.new (is_ok result) }
     ensures shows { (i : IsResetting geometry.now resets.old) → AreHonest D.Area areas.new
         → ShowLogs D.Area geometry.now areas.new i.store resets.old.segments.items }
     ensures steps { OnOk result (resets_done resets.new ≡ resets_done resets.old + 1) }
@@ -52,7 +52,7 @@ fn close_next<D: Area>(
     requires at_rest { resets.now.is_closing ≡ false }
     ensures fits { OnOk result (AreasFit D.Area geometry.now (Stage.Resetting (record resets.now { is_closing = true })) areas.new) }
     ensures areas { AreasFit D.Area geometry.now (Stage.Syncing 0) areas.new }
-    ensures call { OneCall D.Area areas.old areas.new (is_ok result) }
+    ensures call { OneCall D.Area resets.now.next areas.old areas.new (is_ok result) }
     ensures shows { (i : IsResetting geometry.now resets.now) → AreHonest D.Area areas.new
         → ShowLogs D.Area geometry.now areas.new i.store resets.now.segments.items }
 {
@@ -71,7 +71,7 @@ fn settle_next<D: Area>(
     requires closing { resets.now.is_closing ≡ true }
     ensures fits { OnOk result (AreasFit D.Area geometry.now (Stage.Resetting (record resets.now { next = resets.now.next + 1; is_closing = false })) areas.new) }
     ensures areas { AreasFit D.Area geometry.now (Stage.Syncing 0) areas.new }
-    ensures call { OneCall D.Area areas.old areas.new (is_ok result) }
+    ensures call { OneCall D.Area resets.now.next areas.old areas.new (is_ok result) }
     ensures shows { (i : IsResetting geometry.now resets.now) → AreHonest D.Area areas.new
         → ShowLogs D.Area geometry.now areas.new i.store resets.now.segments.items }
 {

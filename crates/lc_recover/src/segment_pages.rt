@@ -1,10 +1,10 @@
 //! The pages of a segment, as they were read.
 ghost use Rattle.std.specs.Prelude.{◌≡◌, ◌+◌, ◌*◌, ◌<◌, ◌≤◌, length, take, drop, slice_set, IfOk};
 ghost use Rattle.lc_disk.specs.Area.{overlaid};
-ghost use Rattle.lc_page.specs.PageVector.{entry_at, settled};
+ghost use Rattle.lc_page.specs.PageVector.{entry_at, entry_text, settled};
 ghost use Rattle.lc_recover.specs.Pages.{AreKept, bytes_of_page};
 
-use lc_page::{PAGE_BYTES, PageVector, page_bytes, read_page};
+use lc_page::{PAGE_BYTES, PageText, PageVector, page_bytes, read_page};
 use std::alloc::{AllocError, Global};
 
 /// The pages of a segment: what the disk says of each, and their bytes one after another, 256 of each.
@@ -40,6 +40,14 @@ impl SegmentPages {
     {
         let start = page as usize * PAGE_BYTES;
         &self.bytes[start..start + PAGE_BYTES]
+    }
+
+    /// What the area says of a page.
+    pub(crate) fn text(&self, page: u32) -> PageText
+        requires { page < length self.now.texts }
+        ensures { result ≡ entry_text (entry_at self.now.texts page) }
+    {
+        self.texts.entry(page).text()
     }
 
     /// Puts a page that was written under a number in the place of the one before.

@@ -20,7 +20,7 @@ pub(crate) fn sync_area<D: Area>(
     requires { Fits D.Area geometry.now (Stage.Syncing synced) areas.old }
     ensures fits { OnOk result (AreasFit D.Area geometry.now (Stage.Syncing (synced + 1)) areas.new) }
     ensures areas { AreasFit D.Area geometry.now (Stage.Syncing 0) areas.new }
-    ensures call { OneCall D.Area areas.old areas.new (is_ok result) }
+    ensures call { OneCall D.Area synced areas.old areas.new (is_ok result) }
     ensures merges { (content : Content) (numbers : ℕ → ℕ) → AreHonest D.Area areas.new
         → AllMergeTo D.Area geometry.now areas.old content numbers → AllMergeTo D.Area geometry.now areas.new content numbers }
 {
@@ -40,7 +40,7 @@ pub(crate) fn read_area<D: Area>(
     ensures next { OnOk result (length read.new.items ≡ length read.old.items + 1) }
     ensures no_memory { result ≡ Err NoMemory → (areas.new ≡ areas.old) × (read.new.items ≡ read.old.items) }
     ensures areas { AreasFit D.Area geometry.now (Stage.Syncing 0) areas.new }
-    ensures call { (result ≡ Err NoMemory → ⊥) → OneCall D.Area areas.old areas.new (is_ok result) }
+    ensures call { (result ≡ Err NoMemory → ⊥) → OneCall D.Area (length read.old.items) areas.old areas.new (is_ok result) }
     ensures merges { (content : Content) (numbers : ℕ → ℕ) → AreHonest D.Area areas.new
         → AllMergeTo D.Area geometry.now areas.old content numbers → AllMergeTo D.Area geometry.now areas.new content numbers }
     ensures fault { IfErr result (λ fault. (fault ≡ NoMemory) ⊎ (fault ≡ Failed)) }

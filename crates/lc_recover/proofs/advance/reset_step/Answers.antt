@@ -1,14 +1,17 @@
-use Rattle.std.proofs.Common.{refl}
+use Rattle.std.proofs.Common.{refl, subst, Bool}
+use Rattle.lc_recover.proofs.AreaLemmas.{not_ok}
+use Rattle.lc_recover.proofs.Calling.{resetting-calls}
 use Rattle.lc_recover.proofs.Keeping.{resets-keep, resets-end}
+use Rattle.lc_recover.specs.Stage.{OneCall}
 use Rattle.lc_recover.proofs.advance.reset_step.Goals as goal
 
 pub returns-in_err-reset_next-clause-merges : goal.returns-in_err-reset_next-clause-merges
 returns-in_err-reset_next-clause-merges g c content numbers honest merges =
-    resets-keep g.D.Area c.args.geometry.now c.args.areas.now c.reset_next.new.areas _ c.reset_next.ensures.call c.args.resets c.requires.fits.1 c.requires.fits.0 c.reset_next.ensures.areas honest (c.reset_next.ensures.shows c.requires.fits.1 honest) content numbers merges
+    resets-keep g.D.Area c.args.geometry.now c.args.areas.now c.reset_next.new.areas _ _ c.reset_next.ensures.call c.args.resets c.requires.fits.1 c.requires.fits.0 c.reset_next.ensures.areas honest (c.reset_next.ensures.shows c.requires.fits.1 honest) content numbers merges
 
 pub returns-then-resets-geometry-clause-merges : goal.returns-then-resets-geometry-clause-merges
 returns-then-resets-geometry-clause-merges g c content numbers honest merges =
-    resets-keep g.D.Area c.args.geometry.now c.args.areas.now c.reset_next.new.areas _ c.reset_next.ensures.call c.args.resets c.requires.fits.1 c.requires.fits.0 c.reset_next.ensures.areas honest (c.reset_next.ensures.shows c.requires.fits.1 honest) content numbers merges
+    resets-keep g.D.Area c.args.geometry.now c.args.areas.now c.reset_next.new.areas _ _ c.reset_next.ensures.call c.args.resets c.requires.fits.1 c.requires.fits.0 c.reset_next.ensures.areas honest (c.reset_next.ensures.shows c.requires.fits.1 honest) content numbers merges
 
 pub returns-clause-fits : goal.returns-clause-fits
 returns-clause-fits g c =
@@ -20,4 +23,17 @@ returns-clause-fits g c =
 
 pub returns-clause-merges : goal.returns-clause-merges
 returns-clause-merges g c content numbers honest merges =
-    resets-keep g.D.Area c.args.geometry.now c.args.areas.now c.reset_next.new.areas _ c.reset_next.ensures.call c.args.resets c.requires.fits.1 c.requires.fits.0 c.reset_next.ensures.areas honest (c.reset_next.ensures.shows c.requires.fits.1 honest) content numbers merges
+    resets-keep g.D.Area c.args.geometry.now c.args.areas.now c.reset_next.new.areas _ _ c.reset_next.ensures.call c.args.resets c.requires.fits.1 c.requires.fits.0 c.reset_next.ensures.areas honest (c.reset_next.ensures.shows c.requires.fits.1 honest) content numbers merges
+
+pub returns-in_err-reset_next-clause-call : goal.returns-in_err-reset_next-clause-call
+returns-in_err-reset_next-clause-call g c = (
+  c.args.resets.next,
+  resetting-calls c.args.geometry.now c.args.areas.now c.args.resets,
+  subst (λ (ok : Bool). OneCall g.D.Area c.args.resets.next c.args.areas.now c.reset_next.new.areas ok) (not_ok c.from_residual.result c.from_residual.ensures.0) c.in_err-reset_next.ensures.call,
+)
+
+pub returns-then-resets-geometry-clause-call : goal.returns-then-resets-geometry-clause-call
+returns-then-resets-geometry-clause-call g c = (c.args.resets.next, resetting-calls c.args.geometry.now c.args.areas.now c.args.resets, c.in_ok-reset_next.ensures.call)
+
+pub returns-clause-call : goal.returns-clause-call
+returns-clause-call g c = (c.args.resets.next, resetting-calls c.args.geometry.now c.args.areas.now c.args.resets, c.in_ok-reset_next.ensures.call)

@@ -1,4 +1,9 @@
-use Rattle.std.proofs.Common.{◌≡◌, ◌∙◌, ◌+◌, ◌-◌, ◌*◌, ℕ, List, refl, sym, ap, subst, arith, Bool, true, length, get_or, Option, Some, None}
+use Rattle.lc_recover.proofs.Keeping.{were-honest}
+use Rattle.lc_recover.proofs.Renewing.{renewed-kept}
+use Rattle.lc_recover.proofs.Showing.{writing-merges}
+use Rattle.lc_recover.specs.Pages.{kept_pages}
+use Rattle.lc_recover.specs.declared.segment_pages.SegmentPages.{SegmentPages}
+use Rattle.std.proofs.Common.{◌≡◌, ◌∙◌, ◌+◌, ◌-◌, ◌*◌, ℕ, List, refl, sym, ap, subst, arith, inr, Bool, true, map, length, get_or, Option, Some, None}
 use Rattle.std.specs.Prelude.{slice_get, slice_set, if◌then◌else◌}
 use Rattle.std.proofs.lemmas.Option.{slice_get-get_or}
 use Rattle.lc_disk.specs.Area.{overlaid}
@@ -176,3 +181,31 @@ returns-else-is_none-clause-shows g c = λ i alive.
     goes-on-shows g.D.Area c.args.geometry.now w c.args.areas.now c.args.place old c.go_on.new.area was c.requires.fits.0 c.go_on.ensures.device.honest c.go_on.ensures.device.same_length c.go_on.ensures.bytes
     i n.its n.pages n.is (c.requires.here n.its n.pages (record { change = n.is.change; segment = n.is.segment; kept = n.is.kept })) alive
     c.args.write refl c.go_on.ensures.others c.go_on.ensures.page
+
+pub returns-then-is_none-clause-keeps : goal.returns-then-is_none-clause-keeps
+returns-then-is_none-clause-keeps g c honest =
+    let w : PageWrites = record c.args.writes.now { current = Some c.args.write } in
+    let i = c.requires.fits.1 in
+    let n = next-of c.args.geometry.now w i c.requires.left in
+    let d = i.drafts c.args.write refl in
+    let draft : IsDraft i.content i.numbers n.its (draft_of c.args.write) =
+    subst (λ (x : Change). IsDraft i.content i.numbers x (draft_of c.args.write)) (one_item d.0 n.its (sym d.1 ∙ n.is.change)) d.2 in
+    let its = c.settle_page.ensures.settled.segments n.its n.pages (record { change = n.is.change; segment = n.is.segment; kept = n.is.kept }) in
+    let entries = i.pages.entries (n.its.segment - 1) n.pages n.is.kept in
+    let bytes = i.pages.bytes (n.its.segment - 1) n.pages n.is.kept in
+    inr (record {
+      segment = n.its.segment;
+      page = n.its.page;
+      was_next = c.settle_page.ensures.left n.its n.is.change;
+      content = i.content;
+      numbers = i.numbers;
+      merges = writing-merges g.D.Area c.args.geometry.now w c.args.areas.now c.requires.fits.0
+          (were-honest g.D.Area c.args.geometry.now c.args.areas.now (slice_set c.args.areas.now c.args.place c.go_on.new.area) true c.args.place (returns-then-is_none-clause-call g c) honest) i;
+      kept = ap (λ (l : List SegmentPages). map kept_pages l) its.1
+          ∙ renewed-kept c.args.writes.now.kept.segments.items i.content i.numbers n.its n.pages its.0 (draft_of c.args.write) n.is.segment n.is.kept draft
+          (omega (arith, n.within, entries))
+          (ap (λ (l : List ℕ). length l) draft.bytes ∙ long_page c.args.geometry.now w i n.its n.is.change)
+          (omega (arith, n.within, bytes))
+          (subst (λ (x : Draft). its.0.texts ≡ slice_set n.pages.texts x.page (settled (entry_at n.pages.texts x.page) x.seq)) c.draft.ensures its.2)
+          (subst (λ (x : Draft). its.0.bytes.items ≡ overlaid n.pages.bytes.items (x.page * 256) x.bytes) c.draft.ensures its.3);
+    })

@@ -3,11 +3,13 @@ use Rattle.lc_page.specs.PageVector.{entry_at}
 use Rattle.lc_recover.specs.Stage.{IsDraft, IsNext}
 use Rattle.lc_recover.specs.declared.change.Change.{Change}
 use Rattle.lc_recover.specs.declared.segment_pages.SegmentPages.{SegmentPages}
-use Rattle.std.proofs.Common.{refl, ◌∙◌, ap, subst, arith, get_or}
+use Rattle.std.proofs.Common.{◌+◌, ◌∷◌, drop, refl, sym, ◌∙◌, ap, subst, arith, get_or}
+use Rattle.lc_recover.proofs.AreaLemmas.{one_item}
+use Rattle.lc_recover.specs.Page.{page_of, pages_of}
 use Rattle.lc_disk.specs.Area.{overlaid}
 use Rattle.lc_page.specs.PageVector.{settled}
 use Rattle.lc_recover.proofs.Begins.{ComesNext, nearest, some_there, lies_within, is_next, only_next, its_page, long_page}
-use Rattle.lc_recover.proofs.Settles.{still_writing}
+use Rattle.lc_recover.proofs.Settles.{still_writing, left_renewed, pages_stay}
 use Rattle.lc_recover.proofs.page_steps.settle_page.Goals as goal
 
 -- src/page_steps.rt:132:19
@@ -82,3 +84,12 @@ returns-clause-settled c = record {
         subst (λ (p : SegmentPages). c.renew.new.self.bytes.items ≡ overlaid p.bytes.items (c.args.draft.now.page * 256) c.args.draft.now.bytes) same.1 c.renew.ensures.bytes,
       );
 }
+
+pub returns-clause-pages : goal.returns-clause-pages
+returns-clause-pages c = pages_stay c.args.geometry.now c.args.writes.now c.requires.drafted.0 (settling c) c.first_page-changes.result.now (coming c)
+
+pub returns-clause-left : goal.returns-clause-left
+returns-clause-left c d is =
+    subst (λ (e : Change). pages_of (drop c.args.writes.now.next c.args.writes.now.merged.changes.items) ≡ page_of e ∷ pages_of (drop (c.args.writes.now.next + length c.first_page-changes.result.now) c.args.writes.now.merged.changes.items))
+    (one_item (settling c) d (sym (coming c).at ∙ is))
+    (left_renewed c.args.geometry.now c.args.writes.now c.requires.drafted.0 (settling c) c.first_page-changes.result.now (coming c))

@@ -1,4 +1,4 @@
-use Rattle.std.proofs.Common.{◌≡◌, ◌≢◌, ◌∙◌, ◌<◌, ◌≤◌, ◌+◌, ◌-◌, ◌++◌, ◌∷◌, [], ℕ, List, sym, ap, subst, arith, Bool, true, false, length, get_or, Some}
+use Rattle.std.proofs.Common.{is_ok, ◌≡◌, ◌≢◌, ◌∙◌, ◌<◌, ◌≤◌, ◌+◌, ◌-◌, ◌++◌, ◌∷◌, [], ℕ, List, sym, ap, subst, arith, Bool, true, false, length, get_or, Some}
 use Rattle.std.specs.Prelude.{slice_get, slice_set}
 use Rattle.std.proofs.lemmas.List.{length-append}
 use Rattle.std.proofs.lemmas.Option.{slice_get-get_or}
@@ -37,8 +37,9 @@ returns-in_err-read_whole-clause-areas g c = f_begins g c
 
 pub returns-in_err-read_whole-clause-call : goal.returns-in_err-read_whole-clause-call
 returns-in_err-read_whole-clause-call g c some =
-    subst (λ (ok : Bool). OneCall g.D.Area c.args.areas.now (slice_set c.args.areas.now c.len-place.result c.read_whole.new.area) ok) (not_ok c.from_residual-in_err-read_whole.result c.from_residual-in_err-read_whole.ensures.0)
-    (one-call g.D.Area c.args.geometry.now c.args.areas.now c.len-place.result (f_old g c) c.read_whole.new.area (f_was g c) false c.in_err-read_whole.ensures.quiet.honest c.in_err-read_whole.ensures.counted)
+    subst (λ (k : ℕ). OneCall g.D.Area k c.args.areas.now (slice_set c.args.areas.now c.len-place.result c.read_whole.new.area) (is_ok c.from_residual-in_err-read_whole.result)) (omega (arith, c.len-place.ensures))
+    (subst (λ (ok : Bool). OneCall g.D.Area c.len-place.result c.args.areas.now (slice_set c.args.areas.now c.len-place.result c.read_whole.new.area) ok) (not_ok c.from_residual-in_err-read_whole.result c.from_residual-in_err-read_whole.ensures.0)
+    (one-call g.D.Area c.args.geometry.now c.args.areas.now c.len-place.result (f_old g c) c.read_whole.new.area (f_was g c) false c.in_err-read_whole.ensures.quiet.honest c.in_err-read_whole.ensures.counted))
 
 pub returns-in_err-read_whole-clause-merges : goal.returns-in_err-read_whole-clause-merges
 returns-in_err-read_whole-clause-merges g c content numbers = quiet-merges g.D.Area c.args.geometry.now c.args.areas.now c.len-place.result (f_old g c) c.read_whole.new.area (f_was g c) content numbers (f_quiet g c)
@@ -119,7 +120,9 @@ pub returns-clause-areas : goal.returns-clause-areas
 returns-clause-areas g c = begins g c
 
 pub returns-clause-call : goal.returns-clause-call
-returns-clause-call g c some = one-call g.D.Area c.args.geometry.now c.args.areas.now c.len-place.result (old g c) c.read_whole.new.area (was g c) true c.in_ok-read_whole.ensures.quiet.honest c.in_ok-read_whole.ensures.counted
+returns-clause-call g c some =
+    subst (λ (k : ℕ). OneCall g.D.Area k c.args.areas.now (slice_set c.args.areas.now c.len-place.result c.read_whole.new.area) true) (omega (arith, c.len-place.ensures))
+    (one-call g.D.Area c.args.geometry.now c.args.areas.now c.len-place.result (old g c) c.read_whole.new.area (was g c) true c.in_ok-read_whole.ensures.quiet.honest c.in_ok-read_whole.ensures.counted)
 
 pub returns-clause-merges : goal.returns-clause-merges
 returns-clause-merges g c content numbers = quiet-merges g.D.Area c.args.geometry.now c.args.areas.now c.len-place.result (old g c) c.read_whole.new.area (was g c) content numbers (quiet g c)

@@ -1,0 +1,111 @@
+-- What stands behind a step that was not made.
+use Rattle.std.proofs.Common.{◌≡◌, ◌⊎◌, ℕ, ◌+◌, ◌-◌, ◌<◌, ◌≤◌, List, [], length, Some, None, refl, sym, ◌∙◌, ap, subst, arith, inl, inr}
+use Rattle.std.specs.Global.{Vec}
+use Rattle.std.specs.Prelude.{slice_get}
+use Rattle.std.proofs.lemmas.Option.{slice_get_within}
+use Rattle.lc_disk.specs.declared.area.Area.{Ghosts}
+use Rattle.lc_record.specs.declared.geometry.Geometry.{Geometry}
+use Rattle.lc_recover.specs.Reads.{area_count, area_len}
+use Rattle.lc_recover.specs.Stage.{AreasFit, Fits, ReadsSo}
+use Rattle.lc_recover.specs.Steps.{steps_of, pages_in, pages_left, pages_kept, HasNext}
+use Rattle.lc_recover.specs.Stopped.{IsStopped}
+use Rattle.lc_recover.specs.declared.fault.RecoverFault.{RecoverFault}
+use Rattle.lc_recover.specs.declared.fault.RecoverFault.TheVariants.{BadGeometry, Gap, Twice, OutOfSegment, DeviceFault, NoMemory}
+use Rattle.lc_recover.specs.declared.stage.Stage.{Stage}
+use Rattle.lc_recover.specs.declared.stage.Stage.TheVariants.{Syncing, Reading}
+use Rattle.lc_recover.specs.declared.stopped.Stopped.{Stopped}
+
+wants_memory : RecoverFault → ℕ
+wants_memory (BadGeometry area) = 0
+wants_memory (Gap segment seq) = 0
+wants_memory (Twice segment seq) = 0
+wants_memory (OutOfSegment area) = 0
+wants_memory DeviceFault = 0
+wants_memory NoMemory = 1
+
+other : (fault : RecoverFault) → wants_memory fault ≡ 0 → fault ≡ NoMemory → ⊥
+unfolding wants_memory
+other fault none same =
+    let one : wants_memory fault ≡ 1 = ap wants_memory same in
+    omega (arith, none, one)
+
+pub is_no_memory : (fault : RecoverFault) → (fault ≡ NoMemory) ⊎ (fault ≡ NoMemory → ⊥)
+unfolding wants_memory
+is_no_memory (BadGeometry area) = inr (other (BadGeometry area) refl)
+is_no_memory (Gap segment seq) = inr (other (Gap segment seq) refl)
+is_no_memory (Twice segment seq) = inr (other (Twice segment seq) refl)
+is_no_memory (OutOfSegment area) = inr (other (OutOfSegment area) refl)
+is_no_memory DeviceFault = inr (other DeviceFault refl)
+is_no_memory NoMemory = inl refl
+
+module _ {D : Type 0} (a : Ghosts D) (g : Geometry) where
+  -- the first sync is next
+  pub first-fits : (areas : List D) → AreasFit a g (Syncing 0) areas → Fits a g (Syncing 0) areas
+  first-fits areas fits = (fits, omega (arith, g.some_nodes))
+
+  -- what is known rests on what was read alone
+  pub same-read : (areas : List D) (read other : Vec (List ℕ)) → other.items ≡ read.items → Fits a g (Reading read) areas → Fits a g (Reading other) areas
+  same-read areas read other same fits = (
+    record {
+      count = fits.0.count;
+      each = λ k area is.
+          let its = fits.0.each k area is in
+          record {
+            len = its.len;
+            bytes = its.bytes;
+            log = λ honest less. subst (λ (items : List (List ℕ)). ReadsSo a items k area) (sym same) (its.log honest less);
+            segment = λ honest more. subst (λ (items : List (List ℕ)). ReadsSo a items (g.nodes + (k - g.nodes)) area) (sym same) (its.segment honest more);
+          };
+    },
+    subst (λ (items : List (List ℕ)). (length items ≤ area_count g) × ((k : ℕ) (bytes : List ℕ) → slice_get items k ≡ Some bytes → Some (length bytes) ≡ area_len g k)) (sym same) fits.1,
+  )
+
+  -- all areas are synced, and none is read
+  pub synced-fits : (areas : List D) (synced : ℕ) (read : Vec (List ℕ)) → read.items ≡ [] → length areas ≤ synced → AreasFit a g (Syncing synced) areas → Fits a g (Reading read) areas
+  synced-fits areas synced read none all fits =
+      let empty : length read.items ≡ 0 = ap length none in (
+        record {
+          count = fits.count;
+          each = λ k area is.
+              let its = fits.each k area is in
+              let within : k < length areas = slice_get_within areas k area is in
+              record {
+                len = its.len;
+                bytes = its.bytes;
+                log = λ honest less. (its.log honest less (omega (arith, within, all)), λ before. absurd (omega (arith, before, empty)));
+                segment = λ honest more. (its.segment honest more (omega (arith, within, all, more)), λ before. absurd (omega (arith, before, empty)));
+              };
+        },
+        (omega (arith, empty), λ k bytes is. absurd (omega (arith, slice_get_within read.items k bytes is, empty))),
+      )
+
+  -- where memory was wanted the recovery stays in a part like the one before
+  pub stopped-fits : (olds news : List D) (stage stay : Stage) (stopped : Stopped) → AreasFit a g (Syncing 0) news →
+      (stopped.fault ≡ NoMemory → (news ≡ olds) × Fits a g stay news) → HasNext g stay → pages_in stay ≡ None → pages_kept stay ≡ [] → pages_left stay ≡ [] → (stopped.fault ≡ NoMemory → steps_of g stay ≡ steps_of g stage) →
+      (stopped.fault ≡ NoMemory → stopped.stage ≡ stay) → ((stopped.fault ≡ NoMemory → ⊥) → stopped.stage ≡ Syncing 0) →
+      IsStopped a g stage olds news stopped
+  stopped-fits olds news stage stay stopped first same next pages none_kept none_left steps kept again =
+      elim (is_no_memory stopped.fault) [
+        | inl wants ↦
+            let is : stopped.stage ≡ stay = kept wants in
+            record {
+              fits = subst (λ (s : Stage). Fits a g s news) (sym is) (same wants).1;
+              next = subst (λ (s : Stage). HasNext g s) (sym is) next;
+              pages = ap pages_in is ∙ pages;
+              kept = ap pages_kept is ∙ none_kept;
+              left = ap pages_left is ∙ none_left;
+              same = λ fault. ((same wants).0, ap (steps_of g) is ∙ steps wants);
+              again = λ fault. absurd (fault wants);
+            }
+        | inr not ↦
+            let is : stopped.stage ≡ Syncing 0 = again not in
+            record {
+              fits = subst (λ (s : Stage). Fits a g s news) (sym is) (first-fits news first);
+              next = subst (λ (s : Stage). HasNext g s) (sym is) tt;
+              pages = ap pages_in is;
+              kept = ap pages_kept is;
+              left = ap pages_left is;
+              same = λ fault. absurd (not fault);
+              again = λ fault. ap (steps_of g) is;
+            }
+      ]

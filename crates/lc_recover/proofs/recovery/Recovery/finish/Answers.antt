@@ -1,0 +1,33 @@
+use Rattle.std.proofs.Common.{map, sym, ◌∙◌, ap, subst}
+use Rattle.lc_recover.specs.Reads.{AreHonest}
+use Rattle.lc_recover.specs.Recovery.{Recovering, IsDone}
+use Rattle.lc_recover.specs.Recovered.{RecoveredStore, page_read}
+use Rattle.lc_recover.specs.Stage.{Fits}
+use Rattle.lc_recover.specs.Steps.{pages_kept}
+use Rattle.lc_recover.specs.declared.stage.Stage.{Stage}
+use Rattle.lc_recover.specs.declared.stage.Stage.TheVariants.{Done}
+use Rattle.lc_recover.proofs.FinishedStore.{finished}
+use Rattle.lc_recover.proofs.Going.{not_over-done, not_done}
+use Rattle.lc_recover.proofs.Renewing.{handed-out}
+use Rattle.lc_recover.proofs.recovery.Recovery.finish.Goals as goal
+
+pub unreachable-requires : goal.unreachable-requires
+unreachable-requires g c =
+    not_over-done g.D.Area c.self.inside.geometry c.self.inside.areas.items c.self.inside.stage c.self.invariant
+    (not_done g.D.Area c.self.inside.geometry c.self.inside.areas.items c.self.inside.stage c.in_default.not-Done)
+    (subst (λ (r : Recovering g.row.D.Denot). IsDone r) (sym c.self.view_is) c.requires)
+
+pub returns-clause-finished : goal.returns-clause-finished
+returns-clause-finished g c honest =
+    let inside = c.self.inside in
+    let fits : Fits g.D.Area inside.geometry (Done c.in-Done.finished) inside.areas.items =
+    subst (λ (s : Stage). Fits g.D.Area inside.geometry s inside.areas.items) c.in-Done.is c.self.invariant.fits in
+    let own : AreHonest g.D.Area inside.areas.items = subst (λ (r : Recovering g.row.D.Denot). AreHonest g.D.Area r.areas) (sym c.self.view_is) honest in
+    finished g.D.Area inside.geometry c.in-Done.finished inside.areas.items fits.0 own fits.1.1 fits.1.0 fits.1.2 fits.1.3 c.new.result c.new.ensures
+
+pub returns-clause-kept : goal.returns-clause-kept
+returns-clause-kept g c =
+    ap (λ (r : RecoveredStore g.row.D.Denot). map (map page_read) r.pages) c.new.ensures
+    ∙ handed-out c.in-Done.finished.segments.items
+    ∙ sym (ap pages_kept c.in-Done.is)
+    ∙ ap (λ (r : Recovering g.row.D.Denot). r.kept) c.self.view_is

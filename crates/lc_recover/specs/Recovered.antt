@@ -1,0 +1,80 @@
+-- What a recovery has made of a store.
+use Rattle.std.specs.Prelude.{◌≡◌, ◌≢◌, ℕ, ◌+◌, ◌-◌, ◌*◌, ◌%◌, ◌^◌, ◌<◌, ◌≤◌, false, List, [], ◌∷◌, length, map, None, Some, slice_get, slice_index, slice_index_or}
+use Rattle.std.specs.Option.{unwrap_or}
+use Rattle.lc_disk.specs.Area.{IsClean}
+use Rattle.lc_disk.specs.declared.area.Area.{Ghosts}
+use Rattle.lc_record.specs.Content.{Content, segment_of}
+use Rattle.lc_record.specs.Marks.{counting}
+use Rattle.lc_record.specs.declared.geometry.Geometry.{Geometry}
+use Rattle.lc_page.specs.Page.{page_in, text_in}
+use Rattle.lc_page.specs.PageVector.{entry_at, entry_text}
+use Rattle.lc_page.specs.declared.page_text.PageText.{PageText}
+use Rattle.lc_model.specs.Merge.{Page, Store, MergesTo}
+use Rattle.lc_model.specs.Recovered.{AreRenewed, IsReadable}
+use Rattle.lc_recover.specs.Pages.{bytes_of_page}
+use Rattle.lc_recover.specs.Reads.{AllMergeTo}
+use Rattle.lc_recover.specs.declared.segment_pages.SegmentPages.{SegmentPages}
+
+-- a page: what its area says of it, and its bytes
+pub record RecoveredPage : Type 0 where
+  pub text : PageText
+  pub bytes : List ℕ
+
+-- a store with empty logs: its areas, the number of each segment from segment 1 on, and the pages of each
+pub record RecoveredStore (D : Type 0) : Type 0 where
+  pub geometry : Geometry
+  pub areas : List D
+  pub sequences : List ℕ
+  pub pages : List (List RecoveredPage)
+
+-- the pages that are kept of a segment
+abbrev pub recovered_pages : SegmentPages → List RecoveredPage
+recovered_pages s = map (λ page. record { text = entry_text (entry_at s.texts page); bytes = bytes_of_page s page }) (counting 0 (length s.texts))
+
+-- its sequence and bytes
+abbrev pub page_read : RecoveredPage → Page
+page_read p = record { sequence = p.text.seq; bytes = p.bytes }
+
+-- a page of no store
+abbrev pub no_page : RecoveredPage
+no_page = record { text = record { seq = 0; slot = None; gates = false ∷ false ∷ [] }; bytes = [] }
+
+module _ {D : Type 0} where
+  -- the number of a segment
+  abbrev pub sequence_of : RecoveredStore D → ℕ → ℕ
+  sequence_of r segment = slice_index_or r.sequences (segment - 1) 0
+
+  -- a page of a segment
+  abbrev pub page_of : RecoveredStore D → ℕ → ℕ → RecoveredPage
+  page_of r segment page = unwrap_or (slice_get (segment_of segment r.pages) page) no_page
+
+  -- its sequence and bytes
+  abbrev pub page_read_of : RecoveredStore D → ℕ → ℕ → Page
+  page_read_of r segment page = page_read (page_of r segment page)
+
+-- the number of each segment is there, and as many pages of 256 bytes as the geometry says
+pub record HasPages (g : Geometry) (segments : List SegmentPages) (numbers : List ℕ) : Type 0 where
+  pub count : length segments ≡ g.segments
+  pub numbers_count : length numbers ≡ g.segments
+  pub entries : (s : ℕ) (pages : SegmentPages) → slice_get segments s ≡ Some pages → length pages.texts ≡ g.pages
+  pub bytes : (s : ℕ) (pages : SegmentPages) → slice_get segments s ≡ Some pages → length pages.bytes.items ≡ g.pages * 256
+
+module _ {D : Type 0} (a : Ghosts D) where
+  -- The areas are the whole of a store that was merged: each page on which some record is newer has its part of the result,
+  -- under its segment's number, and any other is as it was read; the logs are empty, and no position is dirty.
+  pub record IsFinished (r : RecoveredStore D) : Type 0 where
+    pub store : Store
+    pub content : Content
+    pub numbers : ℕ → ℕ
+    pub merges : MergesTo store content numbers
+    pub readable : IsReadable r.geometry store
+    pub all : AllMergeTo a r.geometry r.areas content numbers
+    pub sequences : (segment : ℕ) → 1 ≤ segment → segment ≤ r.geometry.segments → sequence_of r segment ≡ numbers segment
+    pub small : (segment : ℕ) → 1 ≤ segment → segment ≤ r.geometry.segments → numbers segment ≤ 2 ^ 60
+    pub renewed : AreRenewed store content numbers (page_read_of r)
+    pub clean : (k : ℕ) (area : D) → slice_get r.areas k ≡ Some area → IsClean (a.dirty area)
+    pub closed : (log : ℕ) (area : D) → log < r.geometry.nodes → slice_get r.areas log ≡ Some area → slice_index (a.now area) 0 % 256 ≢ 165
+    pub texts : (s page : ℕ) (area : D) → slice_get r.areas (r.geometry.nodes + s) ≡ Some area → page < r.geometry.pages →
+        text_in (a.now area) page ≡ (page_of r (s + 1) page).text
+    pub reads : (s page : ℕ) (area : D) → slice_get r.areas (r.geometry.nodes + s) ≡ Some area → page < r.geometry.pages →
+        page_in (a.now area) page ≡ record { sequence = (page_of r (s + 1) page).text.seq; content = (page_of r (s + 1) page).bytes }

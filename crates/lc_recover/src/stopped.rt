@@ -1,0 +1,42 @@
+//! A step of a recovery that was not made.
+ghost use Rattle.std.specs.Prelude.{◌≡◌};
+ghost use Rattle.lc_recover.specs.declared.fault.RecoverFault.TheVariants.{NoMemory, DeviceFault as Failed};
+ghost use Rattle.lc_recover.specs.declared.stage.Stage.{Stage};
+
+use crate::RecoverFault;
+use crate::stage::Stage;
+use lc_disk::DeviceFault;
+use lc_record::Items;
+
+/// A step of a recovery that was not made: why, and where to go on.
+#[derive(Debug, Drop)]
+pub(crate) struct Stopped {
+    pub(crate) stage: Stage,
+    pub(crate) fault: RecoverFault,
+}
+
+impl From<DeviceFault> for Stopped {
+    ghost from_gives = { λ _ stopped. stopped ≡ record { stage = Stage.Syncing 0; fault = Failed } };
+
+    fn from(_error: DeviceFault) -> Stopped {
+        Stopped {
+            stage: Stage::Syncing(0),
+            fault: RecoverFault::DeviceFault,
+        }
+    }
+}
+
+impl Stopped {
+    /// Where memory was wanted the same step may be tried again, else the first sync is next.
+    pub(crate) fn new(read: Vec<Items<u8>>, fault: RecoverFault) -> Stopped
+        ensures fault { result.fault ≡ fault }
+        ensures kept { fault ≡ NoMemory → result.stage ≡ Stage.Reading read }
+        ensures again { (fault ≡ NoMemory → ⊥) → result.stage ≡ Stage.Syncing 0 }
+    {
+        let stage = match fault {
+            RecoverFault::NoMemory => Stage::Reading(read),
+            _ => Stage::Syncing(0),
+        };
+        Stopped { stage, fault }
+    }
+}
