@@ -3,6 +3,7 @@
 #![tactic(auto)]
 
 mod measurement;
+mod recoveries;
 mod timing;
 mod transactions;
 

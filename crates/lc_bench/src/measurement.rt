@@ -1,5 +1,5 @@
 //! What can be measured.
-use crate::transactions;
+use crate::{recoveries, transactions};
 use std::io;
 use std::rt::Clock;
 
@@ -10,17 +10,28 @@ pub(crate) enum Measurement {
     OneRange,
     /// A transaction of 64 ranges.
     ManyRanges,
+    /// A recovery of segments of 64 pages.
+    FewPages,
+    /// A recovery of segments of 1024 pages.
+    ManyPages,
 }
 
 impl Measurement {
     /// All that there are.
-    pub(crate) const ALL: [Measurement; 2] = [Measurement::OneRange, Measurement::ManyRanges];
+    pub(crate) const ALL: [Measurement; 4] = [
+        Measurement::OneRange,
+        Measurement::ManyRanges,
+        Measurement::FewPages,
+        Measurement::ManyPages,
+    ];
 
     /// The word that asks for it.
     pub(crate) fn name(self) -> &'static str {
         match self {
             Measurement::OneRange => "one-range",
             Measurement::ManyRanges => "64-ranges",
+            Measurement::FewPages => "recovery-64-pages",
+            Measurement::ManyPages => "recovery-1024-pages",
         }
     }
 
@@ -37,6 +48,8 @@ impl Measurement {
         match self {
             Measurement::OneRange => transactions::measure(rt, 1),
             Measurement::ManyRanges => transactions::measure(rt, 64),
+            Measurement::FewPages => recoveries::measure(rt, 64),
+            Measurement::ManyPages => recoveries::measure(rt, 1024),
         }
     }
 }

@@ -1,7 +1,11 @@
 pub mod Records
+pub mod Rows
+pub mod Flushed
+pub mod Latest
 pub mod Counting
 pub mod Keeps
 pub mod Takes
+pub mod Turning
 pub mod Parts
 pub mod Calls
 pub mod Idleness

@@ -1,14 +1,13 @@
 -- What a clause says of a seat.
-use Rattle.std.specs.Prelude.{◌≡◌, ◌≢◌, ◌⊎◌, ℕ, List, [], ◌∷◌, ◌++◌, All, length}
-use Rattle.std.specs.List.{concat}
+use Rattle.std.specs.Prelude.{◌≡◌, ◌<◌, ◌⊎◌, ℕ, true, List, [], ◌∷◌, ◌++◌, length}
 use Rattle.lc_stage.specs.declared.view.View.{View}
 use Rattle.lc_stage.specs.declared.view.Load.{Load}
-use Rattle.lc_stage.specs.Staging.{saw, reserved, load, open_count, end_of, IsOneRecord}
+use Rattle.lc_stage.specs.Staging.{hears, saw, offset_of, reserved, load, open_count, end_of}
 use Rattle.lc_stage.specs.declared.seats.CommitSeat.{CommitSeat}
 use Rattle.lc_stage.specs.declared.seats.FlushSeat.{FlushSeat}
 use Rattle.lc_stage.specs.declared.stage.Stage.{Stage}
 use Rattle.lc_stage.specs.declared.fault.StageFault.{StageFault}
-use Rattle.lc_stage.specs.declared.fault.StageFault.TheVariants.{Moved, Full}
+use Rattle.lc_stage.specs.declared.fault.StageFault.TheVariants.{Moved, Full, Sealed, RoundsSpent}
 
 abbrev pub commit_view : CommitSeat → View
 commit_view c = c.seat.me.0
@@ -23,9 +22,22 @@ abbrev pub IsFlusherOf : Stage → FlushSeat → Type 0
 IsFlusherOf t f = f.seat.table_id ≡ t.table.shared.table_id
 
 -- what a refusal leaves: after Moved the seat has seen another tail than `at`, and after Full its view is as before
-abbrev pub IsRefused : ℕ → View → View → StageFault → Type 0
-IsRefused at v w (Moved seen) = (seen ≢ at) × (w ≡ saw seen v)
-IsRefused at v w (Full tail need) = w ≡ v
+abbrev pub IsRefused : ℕ → ℕ → View → View → StageFault → Type 0
+IsRefused at n v w (Moved seen) = (at < seen) × (w ≡ saw seen v)
+IsRefused at n v w (Full tail need) = (tail ≡ offset_of at) × (need ≡ n) × (w ≡ v)
+IsRefused at n v w Sealed = w ≡ v
+IsRefused at n v w RoundsSpent = ⊥
+
+-- what a refusal to seal leaves: after Moved the flusher knows the tail that was found, which is above `at`
+abbrev pub IsUnsealed : ℕ → View → View → StageFault → Type 0
+IsUnsealed at v w (Moved seen) = (at < seen) × (w ≡ hears seen v)
+IsUnsealed at v w (Full tail need) = ⊥
+IsUnsealed at v w Sealed = w ≡ v
+IsUnsealed at v w RoundsSpent = ⊥
+
+-- the flusher's round is sealed, and all its records are taken and durable
+abbrev pub IsSettled : View → Type 0
+IsSettled v = (v.sealed ≡ true) × (length v.taken ≡ v.sealed_at) × (v.published ≡ end_of v)
 
 -- no reservation of the seat is open
 abbrev pub IsIdle : View → Type 0
@@ -37,10 +49,6 @@ IsFresh n v = (at : ℕ) × (u : View) × (v ≡ reserved at n u)
 
 abbrev pub publishing : View → View
 publishing v = record v { published = end_of v }
-
--- the words are those of whole records, one after another
-abbrev pub AreRecords : List ℕ → Type 0
-AreRecords ws = (rs : List (List ℕ)) × All IsOneRecord rs × (ws ≡ concat rs)
 
 -- the seat has only made loads
 abbrev pub OnlyLoads : View → View → Type 0

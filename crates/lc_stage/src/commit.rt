@@ -1,20 +1,22 @@
 //! The calls of a committer.
-ghost use Rattle.std.specs.Prelude.{◌≡◌, ℕ, ◌+◌, ◌<◌, ◌≤◌, ◌↔◌, false, length, slice_set, IfOk, IfErr, Err};
-ghost use Rattle.lc_stage.specs.Staging.{saw, reserved, filled, shut_with, newest, offset_of, IsOneRecord, Holds};
+ghost use Rattle.std.specs.Prelude.{◌≡◌, ℕ, ◌+◌, ◌<◌, ◌≤◌, ◌↔◌, false, length, slice_set, IfOk, IfErr, IfSome, IfNone, Err};
+ghost use Rattle.lc_stage.specs.Staging.{latest, HasReached, learns_durable, with_receipt, saw, reserved, filled, shut_with, newest, offset_of, seal_of, IsOneRecord, Holds};
+ghost use Rattle.lc_stage.specs.Receipts.{IsReceiptOf};
 ghost use Rattle.lc_stage.specs.Seats.{commit_view, IsSeatOf, IsRefused, IsIdle};
-ghost use Rattle.lc_stage.specs.declared.fault.StageFault.TheVariants.{Full};
+ghost use Rattle.lc_stage.specs.declared.fault.StageFault.TheVariants.{Full, Sealed};
 
-use crate::plays::{Exchange, Look, Put, Shut};
+use crate::plays::{Exchange, Learn, Look, Put, Shut};
 use crate::seats::CommitSeat;
-use crate::{Stage, StageFault};
+use crate::{Receipt, Stage, StageFault};
 
-// The words in front of the places: the tail and the durable end.
 const TAIL: usize = 0;
 
-const PLACES: usize = 2;
+const DURABLE: usize = 1;
 
 // A tail's offset lies below this.
 const OFFSETS: u64 = 32768;
+
+const ROUNDS: u64 = 65536;
 
 impl Stage {
     /// The tail, in one load: the place behind the last reservation.
@@ -22,6 +24,7 @@ impl Stage {
         requires { IsSeatOf self.now seat.old }
         ensures same { IsSeatOf self.now seat.new }
         ensures seen { commit_view seat.new ≡ saw result (commit_view seat.old) }
+        ensures grows { (commit_view seat.old).seen ≤ result }
     {
         self.table.shared.load::<Look>(&mut seat.seat, TAIL)
     }
@@ -36,9 +39,13 @@ impl Stage {
         requires some { 0 < n }
         ensures same { IsSeatOf self.now seat.new }
         ensures ok { IfOk result (λ place. (place ≡ offset_of at) × (commit_view seat.new ≡ reserved at n (commit_view seat.old)) × Holds (commit_view seat.new)) }
-        ensures full { (result ≡ Err (Full (offset_of at) n)) ↔ (self.now.room < offset_of at + n) }
-        ensures refused { IfErr result (IsRefused at (commit_view seat.old) (commit_view seat.new)) }
+        ensures sealed { (result ≡ Err Sealed) ↔ (seal_of at ≡ 1) }
+        ensures full { (result ≡ Err (Full (offset_of at) n)) ↔ (seal_of at ≡ 0) × (self.now.room < offset_of at + n) }
+        ensures refused { IfErr result (IsRefused at n (commit_view seat.old) (commit_view seat.new)) }
     {
+        if at / OFFSETS % 2 == 1 {
+            return Err(StageFault::Sealed);
+        }
         let place = (at % OFFSETS) as u32;
         if n > self.room - place {
             return Err(StageFault::Full {
@@ -53,7 +60,9 @@ impl Stage {
         if found != at {
             return Err(StageFault::Moved { seen: found });
         }
+        seat.round = at / ROUNDS;
         seat.place = place;
+        seat.words = n;
         Ok(place)
     }
 
@@ -65,9 +74,8 @@ impl Stage {
         ensures same { IsSeatOf self.now seat.new }
         ensures filled { commit_view seat.new ≡ filled i word (commit_view seat.old) }
     {
-        self.table
-            .shared
-            .store::<Put>(&mut seat.seat, (seat.place + i) as usize + PLACES, word);
+        let at = self.word_of(seat.round, seat.place + i);
+        self.table.shared.store::<Put>(&mut seat.seat, at, word);
     }
 
     /// Stores the header, which closes the open reservation. Behind this header its words are one record. One store.
@@ -76,11 +84,32 @@ impl Stage {
         requires is_open { (newest (commit_view seat.old).mine).closed ≡ false }
         requires whole { IsOneRecord (slice_set (newest (commit_view seat.old).mine).words 0 header) }
         ensures same { IsSeatOf self.now seat.new }
-        ensures closed { commit_view seat.new ≡ shut_with header (commit_view seat.old) }
+        ensures closed { (after : ℕ) × (commit_view seat.new ≡ shut_with header after (commit_view seat.old)) }
         ensures idle { IsIdle (commit_view seat.new) }
     {
-        self.table
-            .shared
-            .store::<Shut>(&mut seat.seat, seat.place as usize + PLACES, header);
+        let at = self.word_of(seat.round, seat.place);
+        self.table.shared.store::<Shut>(&mut seat.seat, at, header);
+        let closed = Receipt {
+            round: seat.round,
+            place: seat.place,
+            words: seat.words,
+        };
+        seat.last = closed.or_later(seat.last);
+    }
+
+    /// A receipt of the seat's last closed record, by round and place, exactly where the durable end has reached its
+    /// end. One load.
+    pub fn durable(&self, seat: &mut CommitSeat) -> Option<Receipt>
+        requires { IsSeatOf self.now seat.old }
+        ensures same { IsSeatOf self.now seat.new }
+        ensures grows { (commit_view seat.old).durable ≤ (commit_view seat.new).durable }
+        ensures some { IfSome result (λ receipt. HasReached (commit_view seat.new).durable (commit_view seat.old) × IsReceiptOf (latest (commit_view seat.old).mine) receipt × (commit_view seat.new ≡ with_receipt (learns_durable (commit_view seat.new).durable (commit_view seat.old)))) }
+        ensures none { IfNone result (¬ HasReached (commit_view seat.new).durable (commit_view seat.old) × (commit_view seat.new ≡ learns_durable (commit_view seat.new).durable (commit_view seat.old))) }
+    {
+        let stable = self.table.shared.load::<Learn>(&mut seat.seat, DURABLE);
+        if seat.last.words == 0 || stable < seat.last.end() {
+            return None;
+        }
+        Some(seat.last)
     }
 }

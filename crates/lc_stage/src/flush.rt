@@ -1,17 +1,19 @@
 //! The calls of the flusher.
 ghost use Rattle.std.specs.Prelude.{◌≡◌, ◌≢◌, List, ℕ, ◌+◌, ◌<◌, ◌≤◌, ◌++◌, length, slice_index, take as list_take};
-ghost use Rattle.lc_stage.specs.Staging.{loaded, taking, IsOneRecord, RaisesDurable};
-ghost use Rattle.lc_stage.specs.Seats.{flush_view, IsFlusherOf, AreRecords, OnlyLoads, OnlyTakes, EndsAt, publishing};
+ghost use Rattle.lc_stage.specs.Staging.{loaded, taking, IsOneRecord, AreRecords, RaisesDurable};
+ghost use Rattle.lc_stage.specs.Publishing.{HoldsTaken};
+ghost use Rattle.lc_stage.specs.Seats.{flush_view, IsFlusherOf, OnlyLoads, OnlyTakes, EndsAt, publishing};
 
 use crate::Stage;
 use crate::plays::{Copied, Header, Publish};
 use crate::seats::FlushSeat;
+use lc_disk::Area;
+use lc_log::NodeLog;
 use lc_record::{Group, length};
 
-// The words in front of the places: the tail and the durable end.
 const DURABLE: usize = 1;
 
-const PLACES: usize = 2;
+const ROUNDS: u64 = 65536;
 
 impl Stage {
     /// Empties the group, which has room for all words of the log, and puts into it the closed records behind
@@ -42,14 +44,16 @@ impl Stage {
         flusher.end - first
     }
 
-    /// Stores the end of what was taken as the durable end, which is never above it and so never falls.
-    pub fn publish(&self, flusher: &mut FlushSeat)
-        requires { IsFlusherOf self.now flusher.old }
+    /// Stores the end of what was taken in this round as the durable end, which does not fall. All of it is stable in
+    /// the log. One store.
+    pub fn publish<D: Area>(&self, flusher: &mut FlushSeat, log: &NodeLog<D>)
+        requires own { IsFlusherOf self.now flusher.old }
+        requires stable { HoldsTaken D.Area log.now.area log.now.end (flush_view flusher.old).taken }
         ensures same { IsFlusherOf self.now flusher.new }
         ensures published { flush_view flusher.new ≡ publishing (flush_view flusher.old) }
         ensures durable { RaisesDurable (flush_view flusher.old) (flush_view flusher.new) }
     {
-        let end = flusher.end as u64;
+        let end = flusher.round * ROUNDS + log.end as u64;
         self.table
             .shared
             .store::<Publish>(&mut flusher.seat, DURABLE, end);
@@ -61,12 +65,10 @@ impl Stage {
         requires room { length (flush_view flusher.old).taken < self.now.room }
         ensures same { IsFlusherOf self.now flusher.new }
         ensures none { result ≡ 0 → flush_view flusher.new ≡ loaded (length (flush_view flusher.old).taken) 0 (flush_view flusher.old) }
-        ensures record { result ≢ 0 → (ws : List ℕ) × (flush_view flusher.new ≡ taking ws (loaded (length (flush_view flusher.old).taken) result (flush_view flusher.old))) × IsOneRecord ws × (slice_index ws 0 ≡ result) }
+        ensures record { result ≢ 0 → (ws : List ℕ) × (flush_view flusher.new ≡ taking ws (loaded (length (flush_view flusher.old).taken) result (flush_view flusher.old))) × IsOneRecord ws × (slice_index ws 0 ≡ result) × ((flush_view flusher.old).cleared ≡ 0) }
     {
-        let found = self
-            .table
-            .shared
-            .load::<Header>(&mut flusher.seat, flusher.end as usize + PLACES);
+        let at = self.word_of(flusher.round, flusher.end);
+        let found = self.table.shared.load::<Header>(&mut flusher.seat, at);
         if found != 0 {
             flusher.end += length(found);
         }
@@ -77,19 +79,20 @@ impl Stage {
     fn copy(&self, flusher: &mut FlushSeat, place: u32) -> u64
         requires own { IsFlusherOf self.now flusher.old }
         requires taken { place < length (flush_view flusher.old).taken }
+        requires uncleared { (flush_view flusher.old).cleared ≡ 0 }
         ensures same { IsFlusherOf self.now flusher.new }
         ensures load { flush_view flusher.new ≡ loaded place result (flush_view flusher.old) }
         ensures word { result ≡ slice_index (flush_view flusher.old).taken place }
     {
-        self.table
-            .shared
-            .load::<Copied>(&mut flusher.seat, place as usize + PLACES)
+        let at = self.word_of(flusher.round, place);
+        self.table.shared.load::<Copied>(&mut flusher.seat, at)
     }
 
     // Adds to the group the words of the places from start to end, which were taken.
     fn copy_range(&self, flusher: &mut FlushSeat, start: u32, end: u32, group: &mut Group)
         requires own { IsFlusherOf self.now flusher.old }
         requires taken { (start ≤ end) × (end ≤ length (flush_view flusher.old).taken) }
+        requires uncleared { (flush_view flusher.old).cleared ≡ 0 }
         requires room { length group.old.words + end ≤ group.old.room + start }
         ensures same { IsFlusherOf self.now flusher.new × (group.new.room ≡ group.old.room) }
         ensures loads { OnlyLoads (flush_view flusher.old) (flush_view flusher.new) }

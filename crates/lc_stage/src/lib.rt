@@ -6,16 +6,21 @@ mod fault;
 mod flush;
 mod laws;
 mod plays;
+mod receipt;
+mod rounds;
 mod seating;
 mod seats;
 mod stage;
 mod view;
 
 pub use fault::StageFault;
-pub use laws::reservations_are_apart;
+pub use laws::{flushed_holds_taken, reservations_are_apart, taken_is_a_group};
+pub use receipt::Receipt;
 pub use seats::{CommitSeat, FlushSeat};
 pub use stage::Stage;
 pub use view::{Load, Reservation, Staging, View};
 
+#[cfg(test)]
+mod round_tests;
 #[cfg(test)]
 mod tests;

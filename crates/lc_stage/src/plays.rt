@@ -1,6 +1,6 @@
 //! What each step on the table tells.
-ghost use Rattle.lc_stage.specs.Staging.{looked, exchanged, put, closed, headed, copied, published, agreed, newcomer, with_commit, no_commit, only_commit};
-ghost use Rattle.std.specs.Prelude.{◌++◌};
+ghost use Rattle.lc_stage.specs.Staging.{knew_durable, joining, seals, clears_one, clears_ended, reopens, hears, note_of, looked, exchanged, put, closed, headed, copied, published, agreed, newcomer, with_commit, no_commit, only_commit};
+ghost use Rattle.std.specs.Prelude.{max};
 
 use crate::view::View;
 use atomic_table::{Join, Play, Split};
@@ -66,7 +66,22 @@ impl Split<View> for Cut {
 pub(crate) struct Glue;
 
 impl Join<View> for Glue {
-    ghost both = { λ v w. record v { mine = v.mine ++ w.mine } };
+    ghost both = { joining };
+
+    ghost spent = { newcomer 0 };
+}
+
+// The flusher is told which tail a committer saw last.
+pub(crate) struct Note;
+
+impl Split<View> for Note {
+    ghost left = { λ v. v };
+
+    ghost right = { note_of };
+}
+
+impl Join<View> for Note {
+    ghost both = { λ v w. hears (max v.heard w.seen) v };
 
     ghost spent = { newcomer 0 };
 }
@@ -84,4 +99,34 @@ impl Split<View> for Meeting {
     ghost left = { no_commit };
 
     ghost right = { only_commit };
+}
+
+pub(crate) struct Learn;
+
+impl Play<(), View> for Learn {
+    ghost then = { knew_durable };
+}
+
+pub(crate) struct Seal;
+
+impl Play<(), View> for Seal {
+    ghost then = { seals };
+}
+
+pub(crate) struct Clear;
+
+impl Play<(), View> for Clear {
+    ghost then = { clears_one };
+}
+
+pub(crate) struct ClearEnded;
+
+impl Play<(), View> for ClearEnded {
+    ghost then = { clears_ended };
+}
+
+pub(crate) struct Reopen;
+
+impl Play<(), View> for Reopen {
+    ghost then = { reopens };
 }

@@ -1,10 +1,11 @@
 //! The stage at the start, and its seats.
 ghost use Rattle.std.specs.Prelude.{◌≡◌, ℕ, ◌<◌, ◌++◌, IfOk};
-ghost use Rattle.lc_stage.specs.Staging.{flusher, newcomer, Agree};
+ghost use Rattle.lc_stage.specs.Staging.{flusher, newcomer, joining, Agree};
 ghost use Rattle.lc_stage.specs.Seats.{commit_view, flush_view, IsSeatOf, IsFlusherOf, IsIdle};
 
 use crate::Stage;
 use crate::plays::{Agreed, Cut, Glue, Meeting};
+use crate::receipt::NONE;
 use crate::seats::{CommitSeat, FlushSeat};
 use atomic_table::Table;
 use std::alloc::{AllocError, Global};
@@ -18,16 +19,26 @@ impl Stage {
         ensures seats { IfOk result (λ s. IsFlusherOf s.0 s.1 × IsSeatOf s.0 s.2) }
         ensures views { IfOk result (λ s. (flush_view s.1 ≡ flusher words) × (commit_view s.2 ≡ newcomer words)) }
     {
-        let zeros = vec![in alloc; 0; words as usize + 2]?;
+        let zeros = vec![in alloc; 0; 2 * words as usize + 2]?;
         let (table, mut seat) = Table::of_words(alloc, zeros.as_slice(), &(words as u64))?;
         let other = table.shared.split_seat::<Cut>(&mut seat);
         let stage = Stage { table, room: words };
         Ok((
             stage,
-            FlushSeat { seat, end: 0 },
+            FlushSeat {
+                seat,
+                round: 0,
+                end: 0,
+                cleared: 0,
+                ended: 0,
+                ended_cleared: 0,
+            },
             CommitSeat {
                 seat: other,
+                round: 0,
                 place: 0,
+                words: 0,
+                last: NONE,
             },
         ))
     }
@@ -49,27 +60,34 @@ impl Stage {
         let other = self.table.shared.split_seat::<Cut>(&mut seat.seat);
         CommitSeat {
             seat: other,
+            round: 0,
             place: 0,
+            words: 0,
+            last: NONE,
         }
     }
 
-    /// The seat takes over the reservations of another. Neither has an open one.
+    /// The seat takes over the reservations and receipts of another. Neither has an open reservation.
     pub fn join(&self, seat: &mut CommitSeat, other: CommitSeat)
         requires own { IsSeatOf self.now seat.old × IsSeatOf self.now other }
         requires idle { IsIdle (commit_view seat.old) × IsIdle (commit_view other) }
         ensures same { IsSeatOf self.now seat.new }
-        ensures both { commit_view seat.new ≡ record (commit_view seat.old) { mine = (commit_view seat.old).mine ++ (commit_view other).mine } }
+        ensures both { commit_view seat.new ≡ joining (commit_view seat.old) (commit_view other) }
         ensures idle { IsIdle (commit_view seat.new) }
     {
         let CommitSeat {
             seat: theirs,
+            round: _,
             place: _,
+            words: _,
+            last,
         } = other;
+        seat.last = seat.last.or_later(last);
         self.table.shared.join_seat::<Glue>(&mut seat.seat, theirs);
     }
 
     /// Both views are as before, and agree: what was taken holds the words of the committer's records as it
-    /// filled them. The committer has no open reservation.
+    /// filled them, and each record of which it has a receipt. The committer has no open reservation.
     pub fn meet(&self, flusher: &mut FlushSeat, other: CommitSeat) -> CommitSeat
         requires own { IsFlusherOf self.now flusher.old × IsSeatOf self.now other }
         requires idle { IsIdle (commit_view other) }
@@ -79,12 +97,21 @@ impl Stage {
     {
         let CommitSeat {
             seat: theirs,
+            round,
             place,
+            words,
+            last,
         } = other;
         let shared = &self.table.shared;
         shared.join_seat::<Meeting>(&mut flusher.seat, theirs);
         shared.load::<Agreed>(&mut flusher.seat, 0);
         let seat = shared.split_seat::<Meeting>(&mut flusher.seat);
-        CommitSeat { seat, place }
+        CommitSeat {
+            seat,
+            round,
+            place,
+            words,
+            last,
+        }
     }
 }

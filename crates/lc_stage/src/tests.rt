@@ -1,19 +1,22 @@
-ghost use Rattle.std.specs.Prelude.{◌≡◌, ℕ, ◌+◌, ◌*◌, ◌<◌, ◌≤◌, ◌^◌};
-ghost use Rattle.lc_stage.specs.Seats.{commit_view, IsSeatOf, IsIdle, IsFresh};
+ghost use Rattle.std.specs.Prelude.{◌≡◌, ◌≢◌, ℕ, ◌+◌, ◌*◌, ◌%◌, ◌<◌, ◌≤◌, ◌^◌, true, false, [], length, slice_index, IfSome};
+ghost use Rattle.lc_stage.specs.Seats.{commit_view, flush_view, IsSeatOf, IsFlusherOf, IsIdle, IsFresh, IsSettled};
+ghost use Rattle.lc_stage.specs.Publishing.{HoldsTaken, HasPublished};
 
-use crate::{CommitSeat, Stage, StageFault};
+use crate::{CommitSeat, FlushSeat, Stage, StageFault};
+use lc_disk::{Area, MemArea};
+use lc_log::NodeLog;
 use lc_record::Group;
 use std::alloc::{AllocError, Global};
 use std::sync::Wait;
 use std::test::Fail;
-use std::thread::map_vec;
+use std::thread::{join, map_vec, yield_now};
 
 const EIGHT: u64 = 0x8_0001_01a5;
 
 const ELEVEN: u64 = 0xb_0002_01a5;
 
 // Fills and closes a record of one range of one byte in segment 1.
-fn close_eight(stage: &Stage, seat: &mut CommitSeat, seq: u64)
+pub(crate) fn close_eight(stage: &Stage, seat: &mut CommitSeat, seq: u64)
     requires own { IsSeatOf stage.now seat.old }
     requires fresh { IsFresh 8 (commit_view seat.old) }
     requires seq { (1 ≤ seq) × (seq ≤ 2 ^ 60) }
@@ -52,7 +55,7 @@ fn close_eleven(stage: &Stage, seat: &mut CommitSeat, seq: u64)
 }
 
 // The low byte of a word of the group.
-fn low_byte(group: &Group, word: usize) -> u8
+pub(crate) fn low_byte(group: &Group, word: usize) -> u8
     requires { word < 4096 }
 {
     match group.bytes().get(8 * word) {
@@ -61,10 +64,83 @@ fn low_byte(group: &Group, word: usize) -> u8
     }
 }
 
+// The log of an area that begins with no open gate holds nothing.
+pub(crate) fn begun<D: Area>(area: D) -> NodeLog<D>
+    requires room { 8 ≤ length (D.now area) }
+    requires closed { D.honest area ≡ true → slice_index (D.now area) 0 % 256 ≢ 165 }
+    requires clean { D.honest area ≡ true → D.dirty area 0 ≡ false }
+    ensures area { result.area ≡ area }
+    ensures empty { HoldsTaken D.Area result.area result.end [] }
+{
+    NodeLog::new(area)
+}
+
+// Takes what is closed, makes it stable in the log, and publishes it.
+pub(crate) fn settle<D: Area + Drop>(
+    stage: &Stage,
+    flusher: &mut FlushSeat,
+    group: &mut Group,
+    log: NodeLog<D>,
+) -> Option<NodeLog<D>>
+    requires own { IsFlusherOf stage.now flusher.old × (stage.now.room ≤ group.old.room) }
+    requires log { HoldsTaken D.Area log.area log.end (flush_view flusher.old).taken × (8 * stage.now.room + 8 ≤ length (D.now log.area)) }
+    ensures own { IsFlusherOf stage.now flusher.new × (group.new.room ≡ group.old.room) }
+    ensures log { IfSome result (λ l. HoldsTaken D.Area l.area l.end (flush_view flusher.new).taken × (8 * stage.now.room + 8 ≤ length (D.now l.area))) }
+    ensures published { IfSome result (λ _. HasPublished (flush_view flusher.old) (flush_view flusher.new)) }
+{
+    let words = stage.take(flusher, group);
+    if words == 0 {
+        stage.publish(flusher, &log);
+        return Some(log);
+    }
+    match log.flush(group) {
+        Ok(log) => {
+            stage.publish(flusher, &log);
+            Some(log)
+        }
+        Err(_) => None,
+    }
+}
+
+// Reserves 8 and 11 words, and closes the 11 first.
+fn nineteen(stage: &Stage, first: &mut CommitSeat, second: &mut CommitSeat) -> bool
+    requires own { IsSeatOf stage.now first.old × IsSeatOf stage.now second.old }
+    requires idle { IsIdle (commit_view first.old) × IsIdle (commit_view second.old) }
+    ensures own { IsSeatOf stage.now first.new × IsSeatOf stage.now second.new }
+    ensures idle { result ≡ true → IsIdle (commit_view first.new) × IsIdle (commit_view second.new) }
+{
+    let at = stage.tail(first);
+    let Ok(low) = stage.reserve(first, at, 8) else {
+        return false;
+    };
+    let at = stage.tail(second);
+    let Ok(high) = stage.reserve(second, at, 11) else {
+        return false;
+    };
+    close_eleven(stage, second, 2);
+    close_eight(stage, first, 1);
+    low == 0 && high == 8
+}
+
+// Seals the tail at this offset.
+fn seal_at(stage: &Stage, flusher: &mut FlushSeat, seat: &mut CommitSeat, offset: u64) -> bool
+    requires own { IsFlusherOf stage.now flusher.old × IsSeatOf stage.now seat.old }
+    ensures own { IsFlusherOf stage.now flusher.new × IsSeatOf stage.now seat.new }
+    ensures idle { IsIdle (commit_view seat.old) → IsIdle (commit_view seat.new) }
+    ensures sealed { result ≡ true → ((flush_view flusher.new).sealed ≡ true) × ((flush_view flusher.new).sealed_at ≡ offset) }
+    ensures taken { ((flush_view flusher.new).taken ≡ (flush_view flusher.old).taken) × ((flush_view flusher.new).cleared ≡ (flush_view flusher.old).cleared) }
+    ensures before { ((flush_view flusher.new).ended ≡ (flush_view flusher.old).ended) × ((flush_view flusher.new).ended_cleared ≡ (flush_view flusher.old).ended_cleared) }
+{
+    let at = stage.tail(seat);
+    stage.note(flusher, seat);
+    stage.seal(flusher, at).is_ok() && at % 32768 == offset
+}
+
 #[test]
 fn two_seats(rt: HostRuntime) -> Result<(), Fail> {
     let (stage, mut flusher, mut first) = Stage::new(rt.alloc(), 64)?;
     let mut group = Group::new(rt.alloc(), 64)?;
+    let log = begun(MemArea::new(rt.alloc(), 520)?);
     let mut second = stage.split(&mut first);
     let at = stage.tail(&mut first);
     let also_at = stage.tail(&mut second);
@@ -89,14 +165,21 @@ fn two_seats(rt: HostRuntime) -> Result<(), Fail> {
     assert!(rt; stage.take(&mut flusher, &mut group) == 0);
     assert!(rt; group.is_empty());
     close_eight(&stage, &mut first, 1);
-    assert!(rt; stage.take(&mut flusher, &mut group) == 19);
+    let Some(log) = settle(&stage, &mut flusher, &mut group, log) else {
+        assert!(rt; false);
+        return Ok(());
+    };
     assert!(rt; group.len() == 19);
     assert!(rt; low_byte(&group, 3) == 1 && low_byte(&group, 7) == 8);
     assert!(rt;
         low_byte(&group, 8) == 0xa5 && low_byte(&group, 11) == 2 && low_byte(&group, 18) == 11
     );
-    stage.publish(&mut flusher);
-    let first = stage.meet(&mut flusher, first);
+    let mut first = stage.meet(&mut flusher, first);
+    let Some(receipt) = stage.durable(&mut first) else {
+        assert!(rt; false);
+        return Ok(());
+    };
+    assert!(rt; receipt.round() == 0 && receipt.place() == 0 && receipt.words() == 8);
     assert!(rt; stage.take(&mut flusher, &mut group) == 0);
     Ok(())
 }
@@ -131,6 +214,7 @@ fn codes(rt: HostRuntime) -> Result<(), Fail> {
     let moved = StageFault::Moved { seen: 8 };
     let full = StageFault::Full { tail: 8, need: 9 };
     assert!(rt; moved.code() == 1 && full.code() == 2);
+    assert!(rt; StageFault::Sealed.code() == 3 && StageFault::RoundsSpent.code() == 4);
     Ok(())
 }
 
@@ -153,22 +237,22 @@ fn close_three<R: Wait>(rt: &R, stage: &Stage, seat: &mut CommitSeat, id: u64) -
                 done += 1;
             }
             Err(StageFault::Moved { .. }) => {}
-            Err(StageFault::Full { .. }) => return false,
+            Err(_) => return false,
         }
     }
     unreachable!()
 }
 
 #[derive(Drop)]
-struct Worker<'a> {
-    stage: &'a Stage,
-    seat: CommitSeat,
-    id: u64,
+pub(crate) struct Worker<'a> {
+    pub(crate) stage: &'a Stage,
+    pub(crate) seat: CommitSeat,
+    pub(crate) id: u64,
     ghost own: { (seat.seat.table_id ≡ stage.now.table.shared.table_id) × (id < 65536) },
     ghost idle: { IsIdle (commit_view seat) },
 }
 
-fn workers<'a>(
+pub(crate) fn workers<'a>(
     alloc: Global,
     stage: &'a Stage,
     first: &mut CommitSeat,
@@ -212,5 +296,161 @@ fn sixteen_threads(rt: HostRuntime) -> Result<(), Fail> {
         }
         assert!(rt; times == 1);
     }
+    Ok(())
+}
+
+// Ends a round of 19 words, which are stable then.
+fn end_nineteen<D: Area + Drop>(
+    stage: &Stage,
+    flusher: &mut FlushSeat,
+    seat: &mut CommitSeat,
+    group: &mut Group,
+    log: NodeLog<D>,
+) -> bool
+    requires own { IsFlusherOf stage.now flusher.old × IsSeatOf stage.now seat.old × (stage.now.room ≤ group.old.room) }
+    requires log { HoldsTaken D.Area log.area log.end (flush_view flusher.old).taken × (8 * stage.now.room + 8 ≤ length (D.now log.area)) }
+    ensures own { IsFlusherOf stage.now flusher.new × IsSeatOf stage.now seat.new × (group.new.room ≡ group.old.room) }
+    ensures idle { IsIdle (commit_view seat.old) → IsIdle (commit_view seat.new) }
+    ensures settled { result ≡ true → IsSettled (flush_view flusher.new) × ((flush_view flusher.new).sealed_at ≡ 19) }
+    ensures uncleared { result ≡ true → (flush_view flusher.new).cleared ≡ (flush_view flusher.old).cleared }
+    ensures before { result ≡ true → ((flush_view flusher.new).ended ≡ (flush_view flusher.old).ended) × ((flush_view flusher.new).ended_cleared ≡ (flush_view flusher.old).ended_cleared) }
+{
+    if !seal_at(stage, flusher, seat, 19) {
+        return false;
+    }
+    match settle(stage, flusher, group, log) {
+        Some(log) => log.end == 19,
+        None => false,
+    }
+}
+
+#[test]
+fn a_round_is_cleared_and_the_next_opened(rt: HostRuntime) -> Result<(), Fail> {
+    let (stage, mut flusher, mut first) = Stage::new(rt.alloc(), 64)?;
+    let mut group = Group::new(rt.alloc(), 64)?;
+    let log = begun(MemArea::new(rt.alloc(), 520)?);
+    let mut second = stage.split(&mut first);
+    let mut third = stage.split(&mut first);
+    assert!(rt; nineteen(&stage, &mut first, &mut second));
+    assert!(rt; end_nineteen(&stage, &mut flusher, &mut third, &mut group, log));
+    let sealed = stage.tail(&mut third);
+    assert!(rt; sealed == 32787);
+    assert!(rt; stage.reserve(&mut third, sealed, 8) == Err(StageFault::Sealed));
+    stage.clear(&mut flusher);
+    assert!(rt; stage.reopen(&mut flusher).is_ok());
+    assert!(rt; stage.tail(&mut third) == 65536);
+    Ok(())
+}
+
+#[test]
+fn a_round_is_opened_before_the_ended_one_is_clear(rt: HostRuntime) -> Result<(), Fail> {
+    let (stage, mut flusher, mut first) = Stage::new(rt.alloc(), 64)?;
+    let mut group = Group::new(rt.alloc(), 64)?;
+    let log = begun(MemArea::new(rt.alloc(), 520)?);
+    let mut second = stage.split(&mut first);
+    let mut third = stage.split(&mut first);
+    assert!(rt; nineteen(&stage, &mut first, &mut second));
+    assert!(rt; end_nineteen(&stage, &mut flusher, &mut third, &mut group, log));
+    let Ok(()) = stage.reopen(&mut flusher) else {
+        assert!(rt; false);
+        return Ok(());
+    };
+    let at = stage.tail(&mut third);
+    assert!(rt; at == 65536);
+    let Ok(place) = stage.reserve(&mut third, at, 8) else {
+        assert!(rt; false);
+        return Ok(());
+    };
+    assert!(rt; place == 0);
+    close_eight(&stage, &mut third, 3);
+    stage.clear(&mut flusher);
+    assert!(rt; stage.take(&mut flusher, &mut group) == 8);
+    assert!(rt; low_byte(&group, 0) == 0xa5 && low_byte(&group, 3) == 3);
+    Ok(())
+}
+
+pub(crate) const TURNS: u32 = 1_000_000;
+
+// Reserves the first 8 words, and closes them once 8 more are reserved behind them.
+fn close_late(stage: &Stage, mut seat: CommitSeat) -> Option<CommitSeat>
+    requires own { IsSeatOf stage.now seat }
+    requires idle { IsIdle (commit_view seat) }
+    ensures { IfSome result (λ s. IsSeatOf stage.now s × IsIdle (commit_view s)) }
+{
+    let at = stage.tail(&mut seat);
+    let Ok(_) = stage.reserve(&mut seat, at, 8) else {
+        return None;
+    };
+    for _ in 0..TURNS {
+        if stage.tail(&mut seat) == 16 {
+            close_eight(stage, &mut seat, 1);
+            return Some(seat);
+        }
+        yield_now();
+    }
+    None
+}
+
+// Reserves 8 words behind the first 8, and closes them.
+fn close_behind(stage: &Stage, mut seat: CommitSeat) -> Option<CommitSeat>
+    requires own { IsSeatOf stage.now seat }
+    requires idle { IsIdle (commit_view seat) }
+    ensures { IfSome result (λ s. IsSeatOf stage.now s × IsIdle (commit_view s)) }
+{
+    for _ in 0..TURNS {
+        let at = stage.tail(&mut seat);
+        if at == 8 {
+            let Ok(_) = stage.reserve(&mut seat, at, 8) else {
+                return None;
+            };
+            close_eight(stage, &mut seat, 2);
+            return Some(seat);
+        }
+        yield_now();
+    }
+    None
+}
+
+#[test]
+fn one_thread_reserves_while_another_is_held(rt: HostRuntime) -> Result<(), Fail> {
+    let (stage, mut flusher, mut first) = Stage::new(rt.alloc(), 64)?;
+    let mut group = Group::new(rt.alloc(), 64)?;
+    let log = begun(MemArea::new(rt.alloc(), 520)?);
+    let second = stage.split(&mut first);
+    let shared = &stage;
+    let (first, second) = join(
+        &rt,
+        || -> Option<CommitSeat>
+            requires { IsSeatOf shared.now first × IsIdle (commit_view first) }
+            ensures { IfSome result (λ s. IsSeatOf shared.entry.now s × IsIdle (commit_view s)) }
+        { close_late(shared, first) },
+        || -> Option<CommitSeat>
+            requires { IsSeatOf shared.now second × IsIdle (commit_view second) }
+            ensures { IfSome result (λ s. IsSeatOf shared.entry.now s × IsIdle (commit_view s)) }
+        { close_behind(shared, second) },
+    );
+    let Some(mut first) = first else {
+        assert!(rt; false);
+        return Ok(());
+    };
+    let Some(mut second) = second else {
+        assert!(rt; false);
+        return Ok(());
+    };
+    let Some(_) = settle(&stage, &mut flusher, &mut group, log) else {
+        assert!(rt; false);
+        return Ok(());
+    };
+    assert!(rt; group.len() == 16);
+    let Some(early) = stage.durable(&mut first) else {
+        assert!(rt; false);
+        return Ok(());
+    };
+    assert!(rt; early.round() == 0 && early.place() == 0 && early.words() == 8);
+    let Some(late) = stage.durable(&mut second) else {
+        assert!(rt; false);
+        return Ok(());
+    };
+    assert!(rt; late.round() == 0 && late.place() == 8 && late.words() == 8);
     Ok(())
 }
