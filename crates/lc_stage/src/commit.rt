@@ -5,18 +5,10 @@ ghost use Rattle.lc_stage.specs.Receipts.{IsReceiptOf};
 ghost use Rattle.lc_stage.specs.Seats.{commit_view, IsSeatOf, IsRefused, IsIdle};
 ghost use Rattle.lc_stage.specs.declared.fault.StageFault.TheVariants.{Full, Sealed};
 
+use crate::layout::{DURABLE, OFFSETS, ROUNDS, TAIL};
 use crate::plays::{Exchange, Learn, Look, Put, Shut};
 use crate::seats::CommitSeat;
 use crate::{Receipt, Stage, StageFault};
-
-const TAIL: usize = 0;
-
-const DURABLE: usize = 1;
-
-// A tail's offset lies below this.
-const OFFSETS: u64 = 32768;
-
-const ROUNDS: u64 = 65536;
 
 impl Stage {
     /// The tail, in one load: the place behind the last reservation.

@@ -5,15 +5,12 @@ ghost use Rattle.lc_stage.specs.Publishing.{HoldsTaken};
 ghost use Rattle.lc_stage.specs.Seats.{flush_view, IsFlusherOf, OnlyLoads, OnlyTakes, EndsAt, publishing};
 
 use crate::Stage;
+use crate::layout::{DURABLE, ROUNDS};
 use crate::plays::{Copied, Header, Publish};
 use crate::seats::FlushSeat;
 use lc_disk::Area;
 use lc_log::NodeLog;
 use lc_record::{Group, length};
-
-const DURABLE: usize = 1;
-
-const ROUNDS: u64 = 65536;
 
 impl Stage {
     /// Empties the group, which has room for all words of the log, and puts into it the closed records behind

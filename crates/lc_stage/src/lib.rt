@@ -5,6 +5,7 @@ mod commit;
 mod fault;
 mod flush;
 mod laws;
+mod layout;
 mod plays;
 mod receipt;
 mod rounds;

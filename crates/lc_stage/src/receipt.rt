@@ -1,5 +1,5 @@
 //! What tells that a record is durable.
-const ROUNDS: u64 = 65536;
+use crate::layout::ROUNDS;
 
 /// A record that is durable: its round, its place and how many words it has. `durable` alone makes one.
 #[derive(Clone, Copy, Debug, PartialEq, Eq)]

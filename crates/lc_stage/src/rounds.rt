@@ -4,18 +4,10 @@ ghost use Rattle.lc_stage.specs.Staging.{sealing, clearing, clearing_ended, reop
 ghost use Rattle.lc_stage.specs.Seats.{commit_view, flush_view, IsSeatOf, IsFlusherOf, IsUnsealed, IsSettled};
 ghost use Rattle.lc_stage.specs.declared.fault.StageFault.TheVariants.{Sealed, RoundsSpent};
 
+use crate::layout::{LAST_ROUND, OFFSETS, ROUNDS, TAIL};
 use crate::plays::{Clear, ClearEnded, Note, Reopen, Seal};
 use crate::seats::{CommitSeat, FlushSeat};
 use crate::{Stage, StageFault};
-
-const TAIL: usize = 0;
-
-// A tail's offset lies below this, which a sealed tail has more.
-const OFFSETS: u64 = 32768;
-
-const ROUNDS: u64 = 65536;
-
-const LAST_ROUND: u64 = 0xffff_ffff_ffff;
 
 impl Stage {
     /// Tells the flusher which tail a committer saw last.
