@@ -4,6 +4,7 @@
 
 mod measurement;
 mod recoveries;
+mod staging;
 mod timing;
 mod transactions;
 
