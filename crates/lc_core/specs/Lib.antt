@@ -1,1 +1,16 @@
+pub mod Numbers
 pub mod Settled
+pub mod Turns
+pub mod Places
+pub mod Here
+pub mod Seat
+pub mod Seats
+pub mod Desk
+pub mod Log
+pub mod Records
+pub mod Journal
+pub mod Follows
+pub mod FollowsDesk
+pub mod Refused
+pub mod Reserves
+pub mod Beside

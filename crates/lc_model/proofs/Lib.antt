@@ -13,13 +13,13 @@ pub mod Bytes
 pub mod RecordBytes
 pub mod Merging
 pub mod Seats
-mod Choices
+pub mod Choices
 pub mod Downs
 pub mod Visible
 pub mod Numbers
 mod Pages
 pub mod Shown
-mod Result
+pub mod Result
 pub mod Moves
 pub mod One
 pub mod Outcome

@@ -5,7 +5,7 @@ use Rattle.lc_disk.specs.MemArea.{memory_now, memory_dirty}
 use Rattle.lc_record.specs.declared.geometry.Geometry.{Geometry}
 use Rattle.lc_model.specs.History.{value}
 use Rattle.lc_model.specs.State.{Setting, State}
-use Rattle.lc_core.specs.Settled.{history_records}
+use Rattle.lc_tool.specs.Settled.{history_records}
 use Rattle.lc_model.specs.Machine.{appended, dropped}
 use Rattle.lc_model.specs.declared.event.Event.TheVariants.{Reserve}
 use Rattle.lc_model.specs.declared.refusal.Refusal.{Refusal}

@@ -19,7 +19,7 @@ use Rattle.lc_model.specs.State.{Setting, State, is_by, is_unclosed, without}
 use Rattle.lc_record.specs.Marks.{is_empty, stretches}
 use Rattle.lc_record.specs.Recorded.{is_set, record_of, counted, records_from}
 use Rattle.lc_model.specs.Merging.{counted_all}
-use Rattle.lc_core.specs.Settled.{no_numbers, history_records, node_records, log_end, next_record, first_spent, record_refusal, refusal_or, reserve_reply, Settled}
+use Rattle.lc_tool.specs.Settled.{no_numbers, history_records, node_records, log_end, next_record, first_spent, record_refusal, refusal_or, reserve_reply, Settled}
 use Rattle.lc_model.specs.Refusals.{refuse_if, are_known, by_thread, is_up}
 use Rattle.lc_record.specs.declared.geometry.Geometry.{Geometry}
 use Rattle.lc_model.specs.declared.refusal.Refusal.{Refusal}

@@ -10,7 +10,7 @@ use Rattle.lc_model.specs.History.{Entry, History, transactions, entries_of, fro
 use Rattle.lc_model.specs.State.{Setting, State}
 use Rattle.lc_record.specs.Recorded.{records_from}
 use Rattle.lc_model.specs.Refusals.{is_up, is_known}
-use Rattle.lc_core.specs.Settled.{no_numbers, history_records}
+use Rattle.lc_tool.specs.Settled.{no_numbers, history_records}
 use Rattle.lc_model.specs.Machine.{Step, flushed_to, acknowledged}
 use Rattle.lc_model.specs.declared.event.Event.TheVariants.{FlushStep}
 use Rattle.lc_model.specs.declared.reply.Reply.TheVariants.{Stepped, Acked, Nothing}

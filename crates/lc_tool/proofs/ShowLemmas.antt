@@ -16,7 +16,7 @@ use Rattle.lc_log.proofs.LogLemmas.{joined_words, text_at_rest, one_text-by}
 use Rattle.lc_model.specs.History.{is_of, value}
 use Rattle.lc_model.specs.State.{Setting, State}
 use Rattle.lc_model.specs.Refusals.{is_node, is_segment}
-use Rattle.lc_core.specs.Settled.{stable_records}
+use Rattle.lc_tool.specs.Settled.{stable_records}
 use Rattle.lc_model.proofs.Rows.{and-both}
 use Rattle.lc_tool.specs.Text.{records_text}
 use Rattle.lc_tool.specs.Inspector.{Inspects}

@@ -11,7 +11,7 @@ use Rattle.lc_log.specs.NodeLog.{IsAtRest}
 use Rattle.lc_model.specs.History.{Entry, History, transactions, value}
 use Rattle.lc_model.specs.State.{Setting, State, Place, At, Flush, Phase, Up, is_by}
 use Rattle.lc_model.specs.Merging.{counted_all}
-use Rattle.lc_core.specs.Settled.{no_numbers, history_records}
+use Rattle.lc_tool.specs.Settled.{no_numbers, history_records}
 use Rattle.lc_tool.specs.Session.{zeros_of, Answers, AsksMemory, Finishes, Ends, Does}
 use Rattle.lc_tool.specs.declared.command.Command.{Command}
 use Rattle.lc_tool.specs.declared.command.Command.TheVariants.{Step as Asks}

@@ -9,3 +9,4 @@ pub mod Fits
 pub mod Outcome
 pub mod CommandLine
 pub mod Refused
+pub mod Settled

@@ -13,7 +13,7 @@ use Rattle.lc_model.specs.History.{is_of, value}
 use Rattle.lc_model.specs.State.{Up, State, Setting, fresh, running_of}
 use Rattle.lc_model.specs.Refusals.{is_node, is_segment}
 use Rattle.lc_model.specs.Machine.{Step, Run}
-use Rattle.lc_core.specs.Settled.{Settled, stable_records}
+use Rattle.lc_tool.specs.Settled.{Settled, stable_records}
 use Rattle.lc_model.specs.declared.event.Event.{Event}
 use Rattle.lc_model.specs.declared.event.Event.TheVariants.{SetRange, Read, Reserve, Close, FlushStep}
 use Rattle.lc_model.specs.declared.refusal.Refusal.TheVariants.{Unknown}

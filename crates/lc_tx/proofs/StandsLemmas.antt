@@ -145,7 +145,7 @@ shape-writes (w ∷ ws) content =
     shape-writes ws (on_segment w.segment (put w.offset w.bytes) content) ∙ shape-on_segment w.segment (put w.offset w.bytes) content (length-put w.offset w.bytes)
 
 -- what is not written has the content's bytes
-unwritten : (locked : List ℕ) (s : ℕ) (ws : List Written) (content : Content) → All (λ w. IsTrue (is_member w.segment locked)) ws → is_member s locked ≡ false
+pub unwritten : (locked : List ℕ) (s : ℕ) (ws : List Written) (content : Content) → All (λ w. IsTrue (is_member w.segment locked)) ws → is_member s locked ≡ false
     → segment_of s (writes_on ws content) ≡ segment_of s content
 unwritten locked s [] content all none = refl
 unwritten locked s (w ∷ ws) content all none =

@@ -2,7 +2,7 @@ use Rattle.std.proofs.Common.{◌≡◌, ℕ, ◌<◌, true, false, List, [], le
 use Rattle.lc_disk.specs.MemArea.{memory_now, memory_dirty}
 use Rattle.lc_record.specs.GroupView.{GroupView}
 use Rattle.lc_model.specs.State.{State}
-use Rattle.lc_core.specs.Settled.{history_records}
+use Rattle.lc_tool.specs.Settled.{history_records}
 use Rattle.lc_tool.specs.Fits.{FitsRecords}
 use Rattle.lc_tool.proofs.FlushLemmas.{nothing_row, acked_row, flushed, records_flushed, acked_is, some_pending}
 use Rattle.lc_tool.proofs.solo.Solo.flush.Goals as goal

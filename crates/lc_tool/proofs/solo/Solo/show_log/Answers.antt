@@ -3,7 +3,7 @@ use Rattle.std.proofs.lemmas.List.{length-take}
 use Rattle.std.specs.List.{flat_map}
 use Rattle.std.specs.Io.KnownBytes.{Appends}
 use Rattle.lc_record.specs.Record.{spelling}
-use Rattle.lc_core.specs.Settled.{stable_records}
+use Rattle.lc_tool.specs.Settled.{stable_records}
 use Rattle.lc_tool.specs.Text.{words_text}
 use Rattle.lc_tool.proofs.MemoryLemmas.{log_asks}
 use Rattle.lc_tool.proofs.ShowLemmas.{log_words_are, node_known, shows}

@@ -1,7 +1,7 @@
 use Rattle.std.proofs.Common.{ℕ, List, refl, subst}
 use Rattle.lc_record.specs.Words.{words_of}
 use Rattle.lc_log.specs.LogText.{placed}
-use Rattle.lc_core.specs.Settled.{stable_records}
+use Rattle.lc_tool.specs.Settled.{stable_records}
 use Rattle.lc_tool.specs.Text.{records_text}
 use Rattle.lc_tool.specs.Inspector.{Inspects}
 use Rattle.lc_tool.proofs.ShowLemmas.{inspected, node_known, shows}

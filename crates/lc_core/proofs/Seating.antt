@@ -1,0 +1,70 @@
+-- The seats of a node's threads.
+use Rattle.std.proofs.Common.{◌≡◌, ◌≢◌, ℕ, zero, suc, ◌<◌, List, [], ◌∷◌, length, Option, Some, None, refl, sym, ap, ◌∙◌, inl, inr, arith}
+use Rattle.std.specs.Prelude.{slice_get, slice_set, replicate, ◌⊎◌}
+use Rattle.std.proofs.lemmas.Bool.{cases_eq}
+use Rattle.lc_tx.specs.declared.tx.Tx.{Tx}
+use Rattle.lc_core.specs.Places.{get_set_same, get_set_other, same_some}
+use Rattle.lc_core.specs.Desk.{Sits}
+use Rattle.lc_core.specs.Seats.{AllRun}
+use Rattle.lc_core.specs.declared.here.Here.{Here}
+use Rattle.lc_core.specs.Seat.{open_of, closed_of, reserved_of, freed_of, holder_of}
+use Rattle.lc_core.specs.declared.seat.Seat.{Seat}
+use Rattle.lc_core.specs.declared.seat.Seat.TheVariants.{Free, Open, Reserved}
+
+pub set_same : {A : Type 0} (xs : List A) (k : ℕ) (x : A) → slice_get xs k ≡ Some x → slice_set xs k x ≡ xs
+set_same [] k x is = refl
+set_same (z ∷ xs) zero x is = ap (λ y. y ∷ xs) (sym (same_some z x is))
+set_same (z ∷ xs) (suc k) x is = ap (λ ys. z ∷ ys) (set_same xs k x is)
+
+-- each place of a list has an element
+pub some_at : {A : Type 0} (xs : List A) (k : ℕ) → k < length xs → (x : A) × (slice_get xs k ≡ Some x)
+some_at [] k below = absurd (omega (arith, below))
+some_at (x ∷ xs) zero below = (x, refl)
+some_at (x ∷ xs) (suc k) below = (let less : k < length xs = omega (arith, below) in some_at xs k less)
+
+pub not_open : (seat : Seat) → open_of seat ≡ None → closed_of seat ≡ seat
+not_open Free is = refl
+not_open (Open tx) is = absurd cc
+not_open (Reserved tx number) is = refl
+
+pub is_open : (seat : Seat) (tx : Tx) → open_of seat ≡ Some tx → seat ≡ Open tx
+is_open Free tx is = absurd cc
+is_open (Open other) tx is = ap (λ x. Open x) (same_some other tx is)
+is_open (Reserved other number) tx is = absurd cc
+
+pub same_open : (tx other : Tx) → Open tx ≡ Open other → tx ≡ other
+same_open tx other same = cc
+
+pub not_reserved : (seat : Seat) → reserved_of seat ≡ None → freed_of seat ≡ seat
+not_reserved Free is = refl
+not_reserved (Open tx) is = refl
+not_reserved (Reserved tx number) is = absurd cc
+
+pub is_reserved : (seat : Seat) (tx : Tx) → reserved_of seat ≡ Some tx → (number : ℕ) × (seat ≡ Reserved tx number)
+is_reserved Free tx is = absurd cc
+is_reserved (Open other) tx is = absurd cc
+is_reserved (Reserved other number) tx is = (number, ap (λ x. Reserved x number) (same_some other tx is))
+
+-- what is at a place after a write to one
+pub at_place : (seats : List Seat) (i j : ℕ) (seat new other : Seat) → slice_get seats i ≡ Some seat → slice_get (slice_set seats i new) j ≡ Some other
+    → ((j ≡ i) × (other ≡ new)) ⊎ ((j ≢ i) × (slice_get seats j ≡ Some other))
+at_place seats i j seat new other at got = elim (cases_eq j i) [
+  | inl same ↦ inl (same, same_some other new (sym got ∙ ap (slice_get (slice_set seats i new)) same ∙ get_set_same seats i seat new at))
+  | inr differ ↦ inr (differ, sym (get_set_other seats i j new differ) ∙ got)
+]
+
+-- a thread that has a transaction has a seat
+pub seat_of : (seats : List Seat) (j : ℕ) (tx : Tx) → Sits seats j tx → (seat : Seat) × (slice_get seats j ≡ Some seat) × (holder_of (Some seat) ≡ Some tx)
+seat_of seats j tx has = elim (slice_get seats j) as (λ (o : Option Seat). slice_get seats j ≡ o → holder_of o ≡ Some tx → (seat : Seat) × (slice_get seats j ≡ Some seat) × (holder_of (Some seat) ≡ Some tx)) [
+  | None ↦ λ e h. absurd cc
+  | Some seat ↦ λ e h. (seat, e, h)
+] refl has
+
+-- where each thread's seat is free, no transaction runs
+pub nobody_runs : (here : Here) (n : ℕ) → AllRun here (replicate n Free)
+nobody_runs here n thread tx has = absurd (nobody n thread tx has)
+  where
+    nobody : (n thread : ℕ) (tx : Tx) → Sits (replicate n Free) thread tx → ⊥
+    nobody zero thread tx has = let no : None ≡ Some tx = has in cc
+    nobody (suc n) zero tx has = let no : None ≡ Some tx = has in cc
+    nobody (suc n) (suc thread) tx has = nobody n thread tx has

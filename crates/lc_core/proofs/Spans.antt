@@ -1,0 +1,332 @@
+-- Records as one list of words with places: what each change leaves of them.
+use Rattle.std.proofs.Common.{◌≡◌, ℕ, zero, suc, ◌+◌, ◌-◌, ◌<◌, ◌≤◌, ◌^◌, Bool, true, false, List, [], ◌∷◌, ◌++◌, map, length, take, drop, slice_set, slice_index_or, slice_get, Some, get_or, refl, sym, ap, ◌∙◌, arith}
+use Rattle.std.proofs.lemmas.List.{length-append, take_at, drop_at, take-append-drop, append-nil, length-map, drop-map, map-append, map-set, length-drop, drop-drop}
+use Rattle.std.proofs.lemmas.List.Concat.{flat_map-append}
+use Rattle.lc_model.specs.History.{leading}
+use Rattle.lc_core.specs.Places.{same_some}
+use Rattle.lc_core.specs.declared.place.Place.{Place}
+use Rattle.lc_core.specs.Records.{Spelled, Kept, all_words, marks_of, count_of, span_of, closing, spelled, places_of, shifted, AreKept}
+
+-- the fields of what contracts see so
+pub record Holds (before : ℕ) (words : List ℕ) (places : List Place) (front : ℕ) (k : Kept) : Type 0 where
+  pub before_is : before ≡ k.before
+  pub words_are : words ≡ all_words k.records
+  pub places_are : places ≡ places_of 0 k.records
+  pub front_is : front ≡ leading (marks_of k.records)
+  pub few : count_of k < 2 ^ 63
+
+pub length-places_of : (start : ℕ) (rs : List Spelled) → length (places_of start rs) ≡ length rs
+length-places_of start [] = refl
+length-places_of start (r ∷ rs) = ap suc (length-places_of (start + length r.words) rs)
+
+pub marks-places_of : (start : ℕ) (rs : List Spelled) → map (λ (p : Place). p.closed) (places_of start rs) ≡ marks_of rs
+marks-places_of start [] = refl
+marks-places_of start (r ∷ rs) = ap (λ (bs : List Bool). r.closed ∷ bs) (marks-places_of (start + length r.words) rs)
+
+pub spelled_again : (start : ℕ) (rs : List Spelled) → spelled start (all_words rs) (places_of start rs) ≡ rs
+spelled_again start [] = refl
+spelled_again start (r ∷ rs) =
+    let end : ℕ = start + length r.words in
+    let size : length r.words ≡ end - start = omega arith in
+    ap (λ (ws : List ℕ). record { words = ws; closed = r.closed } ∷ spelled end (drop (end - start) (all_words (r ∷ rs))) (places_of end rs)) (take_at r.words (all_words rs) (end - start) size)
+    ∙ ap (λ (ws : List ℕ). r ∷ spelled end ws (places_of end rs)) (drop_at r.words (all_words rs) (end - start) size)
+    ∙ ap (λ (l : List Spelled). r ∷ l) (spelled_again end rs)
+
+pub held : (before : ℕ) (words : List ℕ) (places : List Place) (front : ℕ) (k : Kept) → AreKept before words places front
+    → record { before = before; records = spelled 0 words places } ≡ k → Holds before words places front k
+held before words places front k h is =
+    let rs : spelled 0 words places ≡ k.records = ap (λ (k : Kept). k.records) is in
+    let count : length places ≡ length k.records = ap length h.places_are ∙ length-places_of 0 (spelled 0 words places) ∙ ap length rs in
+    let before_is : before ≡ k.before = ap (λ (k : Kept). k.before) is in
+    record {
+      before_is = before_is;
+      words_are = h.words_are ∙ ap all_words rs;
+      places_are = h.places_are ∙ ap (places_of 0) rs;
+      front_is = h.front_is ∙ ap (λ (l : List Spelled). leading (marks_of l)) rs;
+      few = omega (arith, h.few, count, before_is);
+    }
+
+pub seen_so : (before : ℕ) (words : List ℕ) (places : List Place) (front : ℕ) (k : Kept) → Holds before words places front k
+    → record { before = before; records = spelled 0 words places } ≡ k
+seen_so before words places front k h =
+    let rs : spelled 0 words places ≡ k.records = rw (h.words_are, h.places_are) (spelled_again 0 k.records) in
+    rw (rs, h.before_is) refl
+
+pub kept_so : (before : ℕ) (words : List ℕ) (places : List Place) (front : ℕ) (k : Kept) → Holds before words places front k
+    → AreKept before words places front
+kept_so before words places front k h =
+    let rs : spelled 0 words places ≡ k.records = ap (λ (k : Kept). k.records) (seen_so before words places front k h) in
+    record {
+      words_are = h.words_are ∙ ap all_words (sym rs);
+      places_are = h.places_are ∙ ap (places_of 0) (sym rs);
+      front_is = h.front_is ∙ ap (λ (l : List Spelled). leading (marks_of l)) (sym rs);
+      few = omega (arith, h.few, h.before_is, ap length h.places_are, length-places_of 0 k.records);
+    }
+
+pub holds_as : (before : ℕ) (words words' : List ℕ) (places places' : List Place) (front : ℕ) (k : Kept)
+    → words ≡ words' → places ≡ places' → Holds before words' places' front k → Holds before words places front k
+holds_as before words words' places places' front k same same_places h = record {
+  before_is = h.before_is;
+  words_are = same ∙ h.words_are;
+  places_are = same_places ∙ h.places_are;
+  front_is = h.front_is;
+  few = h.few;
+}
+
+-- a record more
+
+pub words_more : (rs : List Spelled) (r : Spelled) → all_words (rs ++ r ∷ []) ≡ all_words rs ++ r.words
+words_more rs r = flat_map-append (λ (r : Spelled). r.words) rs (r ∷ []) ∙ ap (λ (l : List ℕ). all_words rs ++ l) (append-nil r.words)
+
+pub places_more : (start : ℕ) (rs : List Spelled) (r : Spelled) (end : ℕ) → end ≡ start + length (all_words rs) + length r.words
+    → places_of start (rs ++ r ∷ []) ≡ places_of start rs ++ record { end = end; closed = r.closed } ∷ []
+places_more start [] r end is =
+    let same : start + length r.words ≡ end = omega (arith, is) in
+    ap (λ (n : ℕ). record { end = n; closed = r.closed } ∷ []) same
+places_more start (x ∷ rs) r end is =
+    let next : ℕ = start + length x.words in
+    ap (λ (ps : List Place). record { end = next; closed = x.closed } ∷ ps)
+    (places_more next rs r end (omega (arith, is, length-append x.words (all_words rs))))
+
+pub leading_more : (ms : List Bool) → leading (ms ++ false ∷ []) ≡ leading ms
+leading_more [] = refl
+leading_more (true ∷ ms) = ap (λ (n : ℕ). 1 + n) (leading_more ms)
+leading_more (false ∷ ms) = refl
+
+-- where a record begins
+
+pub end_at : (start : ℕ) (rs : List Spelled) (place : ℕ) (d : Place) → place < length rs
+    → (get_or (places_of start rs) place d).end ≡ start + length (all_words (take (suc place) rs))
+end_at start [] place d within = absurd (omega (arith, within))
+end_at start (r ∷ rs) zero d within = ap (λ (n : ℕ). start + n) (sym (ap length (append-nil r.words)))
+end_at start (r ∷ rs) (suc place) d within =
+    end_at (start + length r.words) rs place d (omega (arith, within))
+    ∙ omega (arith, length-append r.words (all_words (take (suc place) rs)))
+
+pub words_split : (place : ℕ) (rs : List Spelled) → all_words rs ≡ all_words (take place rs) ++ all_words (drop place rs)
+words_split place rs = ap all_words (sym (take-append-drop place rs)) ∙ flat_map-append (λ (r : Spelled). r.words) (take place rs) (drop place rs)
+
+pub start_within : (place : ℕ) (rs : List Spelled) → length (all_words (take place rs)) ≤ length (all_words rs)
+start_within place rs = omega (arith, ap length (words_split place rs), length-append (all_words (take place rs)) (all_words (drop place rs)))
+
+pub words_from : (place : ℕ) (rs : List Spelled) → drop (length (all_words (take place rs))) (all_words rs) ≡ all_words (drop place rs)
+words_from place rs =
+    ap (drop (length (all_words (take place rs)))) (words_split place rs)
+    ∙ drop_at (all_words (take place rs)) (all_words (drop place rs)) (length (all_words (take place rs))) refl
+
+none_of : (n : ℕ) → take {A = Spelled} n [] ≡ []
+none_of zero = refl
+none_of (suc n) = refl
+
+pub take_two : (place more : ℕ) (rs : List Spelled) → take (place + more) rs ≡ take place rs ++ take more (drop place rs)
+take_two zero more rs = let same : 0 + more ≡ more = omega arith in ap (λ (n : ℕ). take n rs) same
+take_two (suc place) more [] = none_of (suc place + more) ∙ sym (none_of more)
+take_two (suc place) more (r ∷ rs) =
+    let same : suc place + more ≡ suc (place + more) = omega arith in
+    ap (λ (n : ℕ). take n (r ∷ rs)) same ∙ ap (λ (l : List Spelled). r ∷ l) (take_two place more rs)
+
+pub words_two : (from more : ℕ) (rs : List Spelled) → all_words (take (from + more) rs) ≡ all_words (take from rs) ++ all_words (take more (drop from rs))
+words_two from more rs = ap all_words (take_two from more rs) ∙ flat_map-append (λ (r : Spelled). r.words) (take from rs) (take more (drop from rs))
+
+-- the words of the records between two places
+pub span_words : (from more : ℕ) (rs : List Spelled)
+    → take (length (all_words (take (from + more) rs)) - length (all_words (take from rs))) (drop (length (all_words (take from rs))) (all_words rs))
+    ≡ all_words (take more (drop from rs))
+span_words from more rs =
+    let front : ℕ = length (all_words (take from rs)) in
+    let between : List ℕ = all_words (take more (drop from rs)) in
+    let both : length (all_words (take (from + more) rs)) ≡ front + length between = ap length (words_two from more rs) ∙ length-append (all_words (take from rs)) between in
+    let count : ℕ = length (all_words (take (from + more) rs)) - front in
+    let size : length between ≡ count = omega (arith, both) in
+    ap (λ (ws : List ℕ). take count ws) (words_from from rs ∙ words_split more (drop from rs))
+    ∙ take_at between (all_words (drop more (drop from rs))) count size
+
+pub start_order : (from more : ℕ) (rs : List Spelled) → length (all_words (take from rs)) ≤ length (all_words (take (from + more) rs))
+start_order from more rs =
+    omega (arith, ap length (words_two from more rs), length-append (all_words (take from rs)) (all_words (take more (drop from rs))))
+
+-- a record that is closed
+
+pub closing_words : (place : ℕ) (rs : List Spelled) → all_words (closing place rs) ≡ all_words rs
+closing_words place [] = refl
+closing_words zero (r ∷ rs) = refl
+closing_words (suc place) (r ∷ rs) = ap (λ (l : List ℕ). r.words ++ l) (closing_words place rs)
+
+pub closing_count : (place : ℕ) (rs : List Spelled) → length (closing place rs) ≡ length rs
+closing_count place [] = refl
+closing_count zero (r ∷ rs) = refl
+closing_count (suc place) (r ∷ rs) = ap suc (closing_count place rs)
+
+pub closing_places : (start place : ℕ) (rs : List Spelled) (d : Place)
+    → places_of start (closing place rs) ≡ slice_set (places_of start rs) place (record { end = (slice_index_or (places_of start rs) place d).end; closed = true })
+closing_places start place [] d = refl
+closing_places start zero (r ∷ rs) d = refl
+closing_places start (suc place) (r ∷ rs) d =
+    ap (λ (ps : List Place). record { end = start + length r.words; closed = r.closed } ∷ ps) (closing_places (start + length r.words) place rs d)
+
+pub closing_marks : (place : ℕ) (rs : List Spelled) → marks_of (closing place rs) ≡ slice_set (marks_of rs) place true
+closing_marks place [] = refl
+closing_marks zero (r ∷ rs) = refl
+closing_marks (suc place) (r ∷ rs) = ap (λ (bs : List Bool). r.closed ∷ bs) (closing_marks place rs)
+
+pub open_within : (place : ℕ) (rs : List Spelled) (b : Bool) → slice_get (marks_of rs) place ≡ Some b → place < length rs
+open_within place [] b is = absurd cc
+open_within zero (r ∷ rs) b is = omega arith
+open_within (suc place) (r ∷ rs) b is = omega (arith, open_within place rs b is)
+
+-- how many marks stand in front
+
+pub leading_few : (ms : List Bool) → leading ms ≤ length ms
+leading_few [] = omega arith
+leading_few (true ∷ ms) = omega (arith, leading_few ms)
+leading_few (false ∷ ms) = omega arith
+
+pub leading_le : (rs : List Spelled) → leading (marks_of rs) ≤ length rs
+leading_le rs = omega (arith, leading_few (marks_of rs), length-map rs (λ (r : Spelled). r.closed))
+
+leading_step : (n : ℕ) (ms : List Bool) → n + leading (drop n ms) ≡ leading ms → (1 + n) + leading (drop (1 + n) (true ∷ ms)) ≡ 1 + leading ms
+leading_step n ms is =
+    let one : 1 + n ≡ suc n = omega arith in
+    let next : drop (1 + n) (true ∷ ms) ≡ drop n ms = ap (λ (k : ℕ). drop k (true ∷ ms)) one in
+    omega (arith, is, ap leading next)
+
+pub leading_drop : (k : ℕ) (ms : List Bool) → k ≤ leading ms → k + leading (drop k ms) ≡ leading ms
+leading_drop zero ms few = omega arith
+leading_drop (suc k) [] few = absurd (omega (arith, few))
+leading_drop (suc k) (true ∷ ms) few = omega (arith, leading_drop k ms (omega (arith, few)))
+leading_drop (suc k) (false ∷ ms) few = absurd (omega (arith, few))
+
+pub leading_set : (ms : List Bool) (place : ℕ) → leading ms + leading (drop (leading ms) (slice_set ms place true)) ≡ leading (slice_set ms place true)
+leading_set [] place = refl
+leading_set (true ∷ ms) zero = leading_step (leading ms) ms (leading_drop (leading ms) ms (omega arith))
+leading_set (true ∷ ms) (suc place) = leading_step (leading ms) (slice_set ms place true) (leading_set ms place)
+leading_set (false ∷ ms) zero = omega arith
+leading_set (false ∷ ms) (suc place) = omega arith
+
+pub closed_next : (ps : List Place) (place : ℕ) (d : Place) → place < length ps → (slice_index_or ps place d).closed ≡ true
+    → leading (drop place (map (λ (p : Place). p.closed) ps)) ≡ 1 + leading (drop (suc place) (map (λ (p : Place). p.closed) ps))
+closed_next [] place d within is = absurd (omega (arith, within))
+closed_next (p ∷ ps) zero d within is = rw is refl
+closed_next (p ∷ ps) (suc place) d within is = closed_next ps place d (omega (arith, within)) is
+
+pub open_next : (ps : List Place) (place : ℕ) (d : Place) → place < length ps → (slice_index_or ps place d).closed ≡ false
+    → leading (drop place (map (λ (p : Place). p.closed) ps)) ≡ 0
+open_next [] place d within is = absurd (omega (arith, within))
+open_next (p ∷ ps) zero d within is = rw is refl
+open_next (p ∷ ps) (suc place) d within is = open_next ps place d (omega (arith, within)) is
+
+pub none_next : (ms : List Bool) (place : ℕ) → length ms ≤ place → leading (drop place ms) ≡ 0
+none_next [] zero beyond = refl
+none_next [] (suc place) beyond = refl
+none_next (m ∷ ms) zero beyond = absurd (omega (arith, beyond))
+none_next (m ∷ ms) (suc place) beyond = none_next ms place (omega (arith, beyond))
+
+-- those in front dropped
+
+pub places_from : (place start : ℕ) (rs : List Spelled) → drop place (places_of start rs) ≡ places_of (start + length (all_words (take place rs))) (drop place rs)
+places_from zero start rs = let same : start ≡ start + 0 = omega arith in ap (λ (n : ℕ). places_of n rs) same
+places_from (suc place) start [] = refl
+places_from (suc place) start (r ∷ rs) =
+    let same : (start + length r.words) + length (all_words (take place rs)) ≡ start + length (all_words (r ∷ take place rs)) = omega (arith, length-append r.words (all_words (take place rs))) in
+    places_from place (start + length r.words) rs ∙ ap (λ (n : ℕ). places_of n (drop place rs)) same
+
+pub places_shifted : (cut start end : ℕ) (rs : List Spelled) → end ≡ start + cut → map (shifted cut) (places_of end rs) ≡ places_of start rs
+places_shifted cut start end [] is = refl
+places_shifted cut start end (r ∷ rs) is =
+    let next : (end + length r.words) - cut ≡ start + length r.words = omega (arith, is) in
+    let beyond : end + length r.words ≡ (start + length r.words) + cut = omega (arith, is) in
+    ap (λ (n : ℕ). record { end = n; closed = r.closed } ∷ map (shifted cut) (places_of (end + length r.words) rs)) next
+    ∙ ap (λ (ps : List Place). record { end = start + length r.words; closed = r.closed } ∷ ps)
+    (places_shifted cut (start + length r.words) (end + length r.words) rs beyond)
+
+pub ends_beyond : (cut end : ℕ) (rs : List Spelled) → cut ≤ end → (k : ℕ) (d : Place) → k < length (places_of end rs)
+    → cut ≤ (slice_index_or (places_of end rs) k d).end
+ends_beyond cut end [] beyond k d within = absurd (omega (arith, within))
+ends_beyond cut end (r ∷ rs) beyond zero d within = omega (arith, beyond)
+ends_beyond cut end (r ∷ rs) beyond (suc k) d within = ends_beyond cut (end + length r.words) rs (omega (arith, beyond)) k d (omega (arith, within))
+
+pub drop_marks : (k : ℕ) (rs : List Spelled) → drop k (marks_of rs) ≡ marks_of (drop k rs)
+drop_marks k rs = drop-map (λ (r : Spelled). r.closed) k rs
+
+pub one_word : (rs : List Spelled) (place : ℕ) (r : Spelled) → slice_get rs place ≡ Some r → all_words (take 1 (drop place rs)) ≡ r.words
+one_word [] place r is = absurd cc
+one_word (x ∷ rs) zero r is = append-nil x.words ∙ ap (λ (r : Spelled). r.words) (same_some x r is)
+one_word (x ∷ rs) (suc place) r is = one_word rs place r is
+
+-- the fields behind each change
+
+module _ (before : ℕ) (words : List ℕ) (places : List Place) (front : ℕ) (k : Kept) (h : Holds before words places front k) where
+  pub grown_so : (more : List ℕ) (end : ℕ) → end ≡ length (words ++ more) → count_of k + 1 < 2 ^ 63
+      → Holds before (words ++ more) (places ++ record { end = end; closed = false } ∷ []) front (record k { records = k.records ++ record { words = more; closed = false } ∷ [] })
+  grown_so more end is few =
+      let r : Spelled = record { words = more; closed = false } in
+      let size : end ≡ 0 + length (all_words k.records) + length more = omega (arith, is, length-append words more, ap length h.words_are) in
+      record {
+        before_is = h.before_is;
+        words_are = ap (λ (ws : List ℕ). ws ++ more) h.words_are ∙ sym (words_more k.records r);
+        places_are = ap (λ (ps : List Place). ps ++ record { end = end; closed = false } ∷ []) h.places_are ∙ sym (places_more 0 k.records r end size);
+        front_is = h.front_is ∙ sym (ap leading (map-append (λ (r : Spelled). r.closed) k.records (r ∷ [])) ∙ leading_more (marks_of k.records));
+        few = omega (arith, few, length-append k.records (r ∷ []));
+      }
+
+  pub closed_so : (place end now : ℕ) (d : Place) → end ≡ (slice_index_or places place d).end
+      → now ≡ leading (map (λ (p : Place). p.closed) (slice_set places place (record { end = end; closed = true })))
+      → Holds before words (slice_set places place (record { end = end; closed = true })) now (record k { records = closing place k.records })
+  closed_so place end now d is count =
+      let same : end ≡ (slice_index_or (places_of 0 k.records) place d).end = is ∙ ap (λ (ps : List Place). (slice_index_or ps place d).end) h.places_are in
+      let are : slice_set places place (record { end = end; closed = true }) ≡ places_of 0 (closing place k.records) =
+      ap (λ (ps : List Place). slice_set ps place (record { end = end; closed = true })) h.places_are
+      ∙ ap (λ (n : ℕ). slice_set (places_of 0 k.records) place (record { end = n; closed = true })) same
+      ∙ sym (closing_places 0 place k.records d) in
+      record {
+        before_is = h.before_is;
+        words_are = h.words_are ∙ sym (closing_words place k.records);
+        places_are = are;
+        front_is = count ∙ ap (λ (ps : List Place). leading (map (λ (p : Place). p.closed) ps)) are ∙ ap leading (marks-places_of 0 (closing place k.records));
+        few = omega (arith, h.few, closing_count place k.records);
+      }
+
+  -- from the marks that stood in front, the others are counted
+  pub known_so : (place end : ℕ) → front + leading (drop front (map (λ (p : Place). p.closed) (slice_set places place (record { end = end; closed = true }))))
+      ≡ leading (map (λ (p : Place). p.closed) (slice_set places place (record { end = end; closed = true })))
+  known_so place end =
+      let marks : map (λ (p : Place). p.closed) places ≡ marks_of k.records = ap (map (λ (p : Place). p.closed)) h.places_are ∙ marks-places_of 0 k.records in
+      let set : map (λ (p : Place). p.closed) (slice_set places place (record { end = end; closed = true })) ≡ slice_set (marks_of k.records) place true =
+      map-set (λ (p : Place). p.closed) places place (record { end = end; closed = true }) ∙ ap (λ (ms : List Bool). slice_set ms place true) marks in
+      rw (set, h.front_is) (leading_set (marks_of k.records) place)
+
+  pub dropped_so : (number count cut : ℕ) → k.before ≤ number → count ≡ number - k.before → count ≤ front → cut ≡ length (all_words (take count k.records))
+      → Holds number (drop cut words) (map (shifted cut) (drop count places)) (front - count) (record { before = number; records = drop count k.records })
+  dropped_so number count cut kept counted few size =
+      let less : count ≤ leading (marks_of k.records) = omega (arith, few, h.front_is) in
+      let left : leading (marks_of (drop count k.records)) ≡ leading (drop count (marks_of k.records)) = ap leading (sym (drop_marks count k.records)) in
+      let start : 0 + length (all_words (take count k.records)) ≡ 0 + cut = omega (arith, size) in
+      record {
+        before_is = refl;
+        words_are = ap (drop cut) h.words_are ∙ ap (λ (n : ℕ). drop n (all_words k.records)) size ∙ words_from count k.records;
+        places_are =
+            ap (λ (ps : List Place). map (shifted cut) (drop count ps)) h.places_are
+            ∙ ap (map (shifted cut)) (places_from count 0 k.records)
+            ∙ places_shifted cut 0 (0 + length (all_words (take count k.records))) (drop count k.records) start;
+        front_is = omega (arith, left, leading_drop count (marks_of k.records) less, h.front_is);
+        few = omega (arith, h.few, length-drop count k.records, leading_le k.records, less, counted, kept);
+      }
+
+-- spans
+
+pub span_adjacent : (k : Kept) (from mid to : ℕ) → k.before ≤ from → from ≤ mid → mid ≤ to → span_of k from to ≡ span_of k from mid ++ span_of k mid to
+span_adjacent k from mid to kept first second =
+    let rest : List Spelled = drop (from - k.before) k.records in
+    let all : to - from ≡ (mid - from) + (to - mid) = omega (arith, first, second) in
+    let place : (from - k.before) + (mid - from) ≡ mid - k.before = omega (arith, kept, first) in
+    ap (λ (n : ℕ). all_words (take n rest)) all
+    ∙ words_two (mid - from) (to - mid) rest
+    ∙ ap (λ (l : List Spelled). all_words (take (mid - from) rest) ++ all_words (take (to - mid) l))
+    (drop-drop (mid - from) (from - k.before) k.records ∙ ap (λ (n : ℕ). drop n k.records) place)
+
+pub length-span : (k : Kept) (from mid to : ℕ) → k.before ≤ from → from ≤ mid → mid ≤ to → length (span_of k from to) ≡ length (span_of k from mid) + length (span_of k mid to)
+length-span k from mid to kept first second =
+    ap length (span_adjacent k from mid to kept first second) ∙ length-append (span_of k from mid) (span_of k mid to)
+
+pub span_empty : (k : Kept) (at : ℕ) → span_of k at at ≡ []
+span_empty k at = let none : at - at ≡ 0 = omega arith in ap (λ (n : ℕ). all_words (take n (drop (at - k.before) k.records))) none

@@ -1,0 +1,48 @@
+use Rattle.std.proofs.Common.{◌≡◌, ◌≤◌, ℕ, false, arith, length, ap, sym, refl, subst}
+use Rattle.lc_core.specs.Log.{HasRoom, MovesOn, CallsOnce, taken_by, is_failed}
+use Rattle.lc_core.specs.Records.{count_of, front_of, span_of}
+use Rattle.lc_core.proofs.Spans.{leading_le, length-span}
+use Rattle.lc_core.proofs.Rooms.{room_for, size_kept, ends_by, end_is, way_is, acked_between}
+use Rattle.lc_core.proofs.journal.Journal.advance.Goals as goal
+
+pub flush_step-requires : goal.flush_step-requires
+flush_step-requires g c =
+    let w = c.args.self.now in
+    let k = w.records in
+    let front : front_of k ≤ count_of k = omega (arith, leading_le k.records) in
+    let first = length-span k w.dropped w.acked (count_of k) w.kept w.dropped_acked (omega (arith, w.acked_taken, w.taken_closed, front)) in
+    let second = length-span k w.acked w.taken (count_of k) (omega (arith, w.kept, w.dropped_acked)) w.acked_taken (omega (arith, w.taken_closed, front)) in
+    record {
+      room =
+          subst (λ log. HasRoom g.D.Area log (taken_by g.D.Area log (length w.group.words))) (sym c.replace-log.ensures.value)
+          (room_for g.D.Area w.log (length (span_of k w.dropped w.acked)) (length (span_of k w.acked w.taken)) (length (span_of k w.dropped (count_of k))) (length w.group.words)
+          (omega (arith, first, second)) w.fits w.end w.under_way (λ idle. ap length (c.requires.words idle)));
+    }
+
+pub invariant_of-self : goal.invariant_of-self
+invariant_of-self g c =
+    let w = c.args.self.now in
+    let k = w.records in
+    let new = c.flush_step.result in
+    let moves : MovesOn g.D.Area w.log (length w.group.words) new = subst (λ log. MovesOn g.D.Area log (length w.group.words) new) c.replace-log.ensures.value c.flush_step.ensures.ends in
+    let calls : CallsOnce g.D.Area w.log new = subst (λ log. CallsOnce g.D.Area log new) c.replace-log.ensures.value c.flush_step.ensures.device in
+    let between = acked_between g.D.Area new w.taken w.acked w.acked_taken in
+    let both = length-span k w.dropped w.acked w.taken w.kept w.dropped_acked w.acked_taken in
+    let by = λ (up : is_failed g.D.Area new ≡ false).
+    let was = (size_kept g.D.Area w.log new calls up).0 in
+    ends_by g.D.Area w.log new (length (span_of k w.dropped w.acked)) (length (span_of k w.acked w.taken)) (length w.group.words) up was moves (w.end was) (w.under_way was)
+    (λ idle. ap length (c.requires.words idle)) in
+    record {
+      kept = w.kept;
+      kept_for_peers = w.kept_for_peers;
+      dropped_acked = omega (arith, w.dropped_acked, between.0, c.acked_after-self.ensures);
+      trimmed_acked = omega (arith, w.trimmed_acked, between.0, c.acked_after-self.ensures);
+      acked_taken = omega (arith, between.1, c.acked_after-self.ensures);
+      taken_closed = w.taken_closed;
+      room = w.room;
+      fits = λ up. let same = size_kept g.D.Area w.log new calls up in omega (arith, w.fits same.0, same.1);
+      end = λ up. rw c.acked_after-self.ensures
+          (end_is g.D.Area new (length (span_of k w.dropped w.acked)) (length (span_of k w.acked w.taken)) w.taken w.acked (λ (n : ℕ). length (span_of k w.dropped n)) up (by up) refl both);
+      under_way = λ up busy. rw c.acked_after-self.ensures
+          (way_is g.D.Area new (length (span_of k w.dropped w.acked)) (length (span_of k w.acked w.taken)) w.taken w.acked (λ (n : ℕ). length (span_of k n w.taken)) up busy (by up) refl);
+    }

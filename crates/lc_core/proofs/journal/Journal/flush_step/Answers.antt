@@ -1,0 +1,45 @@
+use Rattle.std.proofs.Common.{◌≤◌, ◌<◌, refl, sym, ap, ◌∙◌, arith}
+use Rattle.lc_core.specs.Records.{front_of, span_of}
+use Rattle.lc_core.proofs.Flushing.{some_reply, nothing_row, first_call, later_call, same_itself}
+use Rattle.lc_core.proofs.journal.Journal.flush_step.Goals.{then-is_idle+else-front-self, else-is_idle}
+use Rattle.lc_core.proofs.journal.Journal.flush_step.Goals as goal
+
+pub returns-then-front-self : goal.returns-then-front-self
+returns-then-front-self g c = record {
+  follows = λ node m s x h.
+      let w = c.args.self.now in (
+        s,
+        nothing_row g.D.Area m node s x w.records w.dropped w.trimmed w.acked w.log w.taken h (sym c.is_idle.ensures ∙ c.if-is_idle.true) (sym c.front.ensures ∙ c.if-front-self.true),
+        same_itself g.D.Area m node s x w.records w.dropped w.trimmed w.acked,
+        h,
+      );
+  nothing = λ is. refl;
+  device = λ some. absurd (some refl);
+}
+
+pub returns : goal.returns
+returns g c = record {
+  follows = λ node m s x h.
+      let w = c.args.self.now in
+      let k = w.records in
+      rw (c.advance.ensures.reply, c.advance.ensures.acked, c.advance.ensures.records, c.advance.ensures.dropped, c.advance.ensures.trimmed, c.advance.ensures.taken)
+      (elim c.if-is_idle.branch [
+        | then-is_idle+else-front-self b ↦
+            let t = b.take_closed.ensures in
+            let kept : k.before ≤ w.acked = omega (arith, w.kept, w.dropped_acked) in
+            let some : w.acked < front_of k = omega (arith, w.acked_taken, w.taken_closed, b.front.ensures, b.if-front-self.false) in
+            rw (b.self-is, t.records, t.dropped, t.trimmed, t.acked, t.taken)
+            (first_call g.D.Area m node s x k w.dropped w.trimmed w.acked w.log c.advance.new.self.log b.take_closed.new.self.group.words w.taken h
+            (sym c.is_idle.ensures ∙ b.if-is_idle.true) kept some (t.words ∙ ap (λ n. span_of k w.acked n) t.taken)
+            (rw (b.self-is, t.log) at c.advance.ensures.steps))
+        | else-is_idle b ↦
+            rw b.self-is
+            (later_call g.D.Area m node s x k w.dropped w.trimmed w.acked w.log c.advance.new.self.log w.group.words w.taken h c.requires.up
+            (sym c.is_idle.ensures ∙ b.if-is_idle.false) w.dropped_acked w.acked_taken (rw b.self-is at c.advance.ensures.steps))
+      ]);
+  nothing = λ is. absurd (some_reply g.D.Area c.advance.new.self.log c.if-is_idle.self.taken (sym c.advance.ensures.reply ∙ is));
+  device = λ some. elim c.if-is_idle.branch [
+    | then-is_idle+else-front-self b ↦ rw (b.self-is, b.take_closed.ensures.log) at c.advance.ensures.device
+    | else-is_idle b ↦ rw b.self-is at c.advance.ensures.device
+  ];
+}

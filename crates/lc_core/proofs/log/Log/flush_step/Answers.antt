@@ -1,0 +1,26 @@
+use Rattle.std.proofs.Common.{refl, inl, inr, arith}
+use Rattle.lc_core.proofs.log.Log.flush_step.Goals as goal
+
+pub returns-in-Ok : goal.returns-in-Ok
+returns-in-Ok g c = rw c.in-Idle.is (record {
+  steps = λ stable records idle group. (refl, c.in-Ok.ensures.written stable records idle group);
+  room = λ more fits up. omega (arith, fits refl, c.in-Ok.ensures.end, c.in-Ok.ensures.words, c.in-Ok.ensures.device.same_length);
+  ends = λ up. (refl, c.in-Ok.ensures.end, c.in-Ok.ensures.words);
+  device = record { after = _; there = refl; device = c.in-Ok.ensures.device; failures = c.in-Ok.ensures.no_cause };
+})
+
+pub returns-in-Ok-sync_gate : goal.returns-in-Ok-sync_gate
+returns-in-Ok-sync_gate g c = rw c.in-Opened.is (record {
+  steps = λ stable group opened. inl (refl, (refl, refl, c.in-Ok-sync_gate.ensures.flushed stable group opened));
+  room = λ more fits up. omega (arith, fits refl, c.in-Ok-sync_gate.ensures.end, c.in-Ok-sync_gate.ensures.device.same_length);
+  ends = λ up. (refl, c.in-Ok-sync_gate.ensures.end, refl);
+  device = record { after = _; there = refl; device = c.in-Ok-sync_gate.ensures.device; failures = c.in-Ok-sync_gate.ensures.no_cause };
+})
+
+pub returns-in-Err-sync_gate : goal.returns-in-Err-sync_gate
+returns-in-Err-sync_gate g c = rw c.in-Opened.is (record {
+  steps = λ stable group opened. inr (refl, c.in-Err-sync_gate.ensures.failed stable group opened);
+  room = λ more fits up. absurd cc;
+  ends = λ up. absurd cc;
+  device = record { after = _; there = refl; device = c.in-Err-sync_gate.ensures.failed_device; failures = c.in-Err-sync_gate.ensures.cause };
+})

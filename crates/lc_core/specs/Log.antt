@@ -1,0 +1,134 @@
+-- A node's log between two steps, and what a step makes of it.
+use Rattle.std.specs.Prelude.{◌≡◌, ◌⊎◌, ℕ, ◌+◌, ◌*◌, ◌≤◌, Bool, true, false, List, [], ◌++◌, length, Option, Some, None, if◌then◌else◌}
+use Rattle.lc_disk.specs.declared.area.Area.{Ghosts}
+use Rattle.lc_record.specs.declared.record.Record.{Record}
+use Rattle.lc_log.specs.NodeLog.{IsIdle, IsWritten, IsSynced, IsOpened, IsGroup, IsWithOrWithout, LeavesOnly, Continues}
+use Rattle.lc_core.specs.declared.log.Log.{Log}
+use Rattle.lc_core.specs.declared.log.Log.TheVariants.{Idle, Written, Synced, Opened, Failed, Taken}
+
+module _ {D : Type 0} (a : Ghosts D) where
+  -- so many steps of a flush are done: the records are stable, and the group is on its way
+  abbrev pub Stands : Log D a → ℕ → List Record → List Record → Type 0
+  Stands (Idle log) steps stable group = (steps ≡ 0) × (group ≡ []) × IsIdle a log.area log.end stable
+  Stands (Written log) steps stable group = (steps ≡ 1) × IsWritten a log.area log.end log.words stable group
+  Stands (Synced log) steps stable group = (steps ≡ 2) × IsSynced a log.area log.end log.words stable group
+  Stands (Opened log) steps stable group = (steps ≡ 3) × IsOpened a log.area log.end log.words stable group
+  Stands (Failed log) steps stable group = LeavesOnly a log.area (IsWithOrWithout stable group)
+  Stands Taken steps stable group = ⊥
+
+  abbrev pub is_idle : Log D a → Bool
+  is_idle (Idle log) = true
+  is_idle (Written log) = false
+  is_idle (Synced log) = false
+  is_idle (Opened log) = false
+  is_idle (Failed log) = false
+  is_idle Taken = false
+
+  abbrev pub is_failed : Log D a → Bool
+  is_failed (Idle log) = false
+  is_failed (Written log) = false
+  is_failed (Synced log) = false
+  is_failed (Opened log) = false
+  is_failed (Failed log) = true
+  is_failed Taken = true
+
+  abbrev pub area_of : Log D a → Option D
+  area_of (Idle log) = Some log.area
+  area_of (Written log) = Some log.area
+  area_of (Synced log) = Some log.area
+  area_of (Opened log) = Some log.area
+  area_of (Failed log) = Some log.area
+  area_of Taken = None
+
+  -- one call of the device: it is made, or has failed in its place
+  abbrev pub StepsTo : Log D a → List ℕ → Log D a → Type 0
+  StepsTo (Idle log) words new =
+      (stable records : List Record) → IsIdle a log.area log.end stable → IsGroup words records → Stands new 1 stable records
+  StepsTo (Written log) words new = (stable group : List Record) → IsWritten a log.area log.end log.words stable group → Stands new 2 stable group
+  StepsTo (Synced log) words new = (stable group : List Record) → IsSynced a log.area log.end log.words stable group → Stands new 3 stable group
+  StepsTo (Opened log) words new =
+      (stable group : List Record) → IsOpened a log.area log.end log.words stable group
+      → ((is_idle new ≡ true) × Stands new 0 (stable ++ group) []) ⊎ ((is_failed new ≡ true) × Stands new 4 stable group)
+  StepsTo (Failed log) words new = new ≡ Failed log
+  StepsTo Taken words new = new ≡ Taken
+
+  -- the end of the stable records, in words
+  abbrev pub end_of : Log D a → ℕ
+  end_of (Idle log) = log.end
+  end_of (Written log) = log.end
+  end_of (Synced log) = log.end
+  end_of (Opened log) = log.end
+  end_of (Failed log) = 0
+  end_of Taken = 0
+
+  -- the words of the group that is under way
+  abbrev pub under_way : Log D a → ℕ
+  under_way (Idle log) = 0
+  under_way (Written log) = log.words
+  under_way (Synced log) = log.words
+  under_way (Opened log) = log.words
+  under_way (Failed log) = 0
+  under_way Taken = 0
+
+  -- the bytes of its area
+  abbrev pub size : Log D a → ℕ
+  size (Idle log) = length (a.now log.area)
+  size (Written log) = length (a.now log.area)
+  size (Synced log) = length (a.now log.area)
+  size (Opened log) = length (a.now log.area)
+  size (Failed log) = length (a.now log.area)
+  size Taken = 0
+
+  -- so many words fit behind what the log has and is about to have
+  abbrev pub HasRoom : Log D a → ℕ → Type 0
+  HasRoom log words = is_failed log ≡ false → 8 * (end_of log + under_way log + words) + 8 ≤ size log
+
+  -- of the words that wait, how many the next step takes
+  abbrev pub taken_by : Log D a → ℕ → ℕ
+  taken_by (Idle log) words = words
+  taken_by (Written log) words = 0
+  taken_by (Synced log) words = 0
+  taken_by (Opened log) words = 0
+  taken_by (Failed log) words = 0
+  taken_by Taken words = 0
+
+  abbrev pub KeepsRoom : Log D a → ℕ → Log D a → Type 0
+  KeepsRoom old words new = (more : ℕ) → HasRoom old (taken_by old words + more) → HasRoom new more
+
+  -- how many steps of a flush are done
+  abbrev pub steps_of : Log D a → ℕ
+  steps_of (Idle log) = 0
+  steps_of (Written log) = 1
+  steps_of (Synced log) = 2
+  steps_of (Opened log) = 3
+  steps_of (Failed log) = 0
+  steps_of Taken = 0
+
+  -- so many steps are done then, and there the records and the group end
+  abbrev pub Comes : Log D a → ℕ → ℕ → ℕ → Type 0
+  Comes new steps end words = is_failed new ≡ false → (steps_of new ≡ steps) × (end_of new ≡ end) × (under_way new ≡ words)
+
+  -- the first step takes a group of so many words under way, and the last puts it behind the records
+  abbrev pub MovesOn : Log D a → ℕ → Log D a → Type 0
+  MovesOn (Idle log) words new = Comes new 1 log.end words
+  MovesOn (Written log) words new = Comes new 2 log.end log.words
+  MovesOn (Synced log) words new = Comes new 3 log.end log.words
+  MovesOn (Opened log) words new = Comes new 0 (log.end + log.words) 0
+  MovesOn (Failed log) words new = new ≡ Failed log
+  MovesOn Taken words new = new ≡ Taken
+
+  -- the device of a log that had this area, after one call: it has failed once more just where the log has
+  pub record IsCalled (area : D) (new : Log D a) : Type 0 where
+    pub after : D
+    pub there : area_of new ≡ Some after
+    pub device : Continues a area after
+    pub failures : a.failures after ≡ (if is_failed new then a.failures area + 1 else a.failures area)
+
+  -- at most one call is made
+  abbrev pub CallsOnce : Log D a → Log D a → Type 0
+  CallsOnce (Idle log) new = IsCalled log.area new
+  CallsOnce (Written log) new = IsCalled log.area new
+  CallsOnce (Synced log) new = IsCalled log.area new
+  CallsOnce (Opened log) new = IsCalled log.area new
+  CallsOnce (Failed log) new = new ≡ Failed log
+  CallsOnce Taken new = new ≡ Taken

@@ -1,0 +1,65 @@
+-- The records that a node reserved, as contracts see them, and how they are kept: all words in one list, with places.
+use Rattle.std.specs.Prelude.{◌≡◌, ℕ, zero, suc, ◌+◌, ◌-◌, ◌<◌, ◌^◌, Bool, true, List, [], ◌∷◌, map, length, take, drop}
+use Rattle.std.specs.List.{flat_map}
+use Rattle.lc_model.specs.History.{leading}
+use Rattle.lc_core.specs.declared.place.Place.{Place}
+
+-- a record's words, and whether it is closed
+pub record Spelled : Type 0 where
+  pub words : List ℕ
+  pub closed : Bool
+
+-- how many were dropped, and those behind them
+pub record Kept : Type 0 where
+  pub before : ℕ
+  pub records : List Spelled
+
+-- the words of these records, one after another
+abbrev pub all_words : List Spelled → List ℕ
+all_words records = flat_map (λ r. r.words) records
+
+abbrev pub marks_of : List Spelled → List Bool
+marks_of records = map (λ r. r.closed) records
+
+-- how many were reserved
+abbrev pub count_of : Kept → ℕ
+count_of k = k.before + length k.records
+
+-- how many stand in front of the first that is not closed
+abbrev pub front_of : Kept → ℕ
+front_of k = k.before + leading (marks_of k.records)
+
+-- the words of the records from one number up to another
+abbrev pub span_of : Kept → ℕ → ℕ → List ℕ
+span_of k from to = all_words (take (to - from) (drop (from - k.before) k.records))
+
+-- the record at this place is closed
+abbrev pub closing : ℕ → List Spelled → List Spelled
+closing place [] = []
+closing zero (r ∷ rs) = record r { closed = true } ∷ rs
+closing (suc place) (r ∷ rs) = r ∷ closing place rs
+
+-- How they are kept
+
+-- the records with these places, of which the first begins with the first of these words, behind so many
+abbrev pub spelled : ℕ → List ℕ → List Place → List Spelled
+spelled start words [] = []
+spelled start words (p ∷ ps) =
+    record { words = take (p.end - start) words; closed = p.closed } ∷ spelled p.end (drop (p.end - start) words) ps
+
+-- the places of these records, behind so many words
+abbrev pub places_of : ℕ → List Spelled → List Place
+places_of start [] = []
+places_of start (r ∷ rs) =
+    record { end = start + length r.words; closed = r.closed } ∷ places_of (start + length r.words) rs
+
+-- the place, so many words further in front
+abbrev pub shifted : ℕ → Place → Place
+shifted cut p = record p { end = p.end - cut }
+
+-- the words are those of the records that are kept, and the places are theirs
+pub record AreKept (before : ℕ) (words : List ℕ) (places : List Place) (front : ℕ) : Type 0 where
+  pub words_are : words ≡ all_words (spelled 0 words places)
+  pub places_are : places ≡ places_of 0 (spelled 0 words places)
+  pub front_is : front ≡ leading (marks_of (spelled 0 words places))
+  pub few : before + length places < 2 ^ 63

@@ -1,0 +1,16 @@
+-- The transactions of a node on its images.
+use Rattle.std.specs.Prelude.{◌≡◌, ℕ, List, Some, slice_get}
+use Rattle.lc_tx.specs.declared.tx.Tx.{Tx}
+use Rattle.lc_tx.specs.Tx.{RunsOn}
+use Rattle.lc_core.specs.declared.here.Here.{Here}
+use Rattle.lc_core.specs.declared.seat.Seat.{Seat}
+use Rattle.lc_core.specs.Here.{the_images}
+use Rattle.lc_core.specs.Seat.{holder_of}
+
+-- a thread's own transaction, on these images
+pub record Runs (here : Here) (thread : ℕ) (tx : Tx) : Type 0 where
+  pub own : tx.thread ≡ thread
+  pub runs : RunsOn the_images here tx
+
+abbrev pub AllRun : Here → List Seat → Type 0
+AllRun here seats = (thread : ℕ) (tx : Tx) → holder_of (slice_get seats thread) ≡ Some tx → Runs here thread tx

@@ -1,0 +1,40 @@
+//! How a thread begins.
+ghost use Rattle.std.specs.Prelude.{◌≡◌, ◌<◌, ℕ, vec_len, IfOk, OnErr};
+ghost use Rattle.lc_model.specs.declared.event.Event.TheVariants.{Begin};
+ghost use Rattle.lc_core.specs.FollowsDesk.{FollowsOpen, StillFits};
+ghost use Rattle.lc_core.specs.Here.{the_images};
+
+use crate::desk::Desk;
+use crate::refused::refused;
+use crate::seat::Seat;
+use crate::{Refusal, Reply};
+use lc_tx::Tx;
+use std::alloc::{AllocError, Global};
+
+impl Desk {
+    /// A thread begins a transaction: it locks `segments` for writing and `reading` for reading.
+    pub(crate) fn begin(
+        &mut self,
+        alloc: Global,
+        thread: u16,
+        segments: &[u32],
+        reading: &[u32],
+    ) -> Result<Reply, AllocError>
+        requires seat { thread < vec_len self.old.seats }
+        ensures follows { IfOk result (λ reply. (node : ℕ) → FollowsOpen node self.old (Begin node thread segments.now reading.now) reply self.new) }
+        ensures beside { the_images.IsSameBeside self.old.here self.new.here }
+        ensures err { OnErr result (StillFits self.old self.new) }
+        ensures seats { vec_len self.new.seats ≡ vec_len self.old.seats }
+    {
+        if !self.seats[thread as usize].is_free() {
+            return Ok(Reply::Refused(Refusal::OutOfTurn));
+        }
+        match Tx::begin(alloc, &mut self.here, thread, segments, reading) {
+            Ok(tx) => {
+                self.seats[thread as usize] = Seat::Open(tx);
+                Ok(Reply::Ok)
+            }
+            Err(fault) => refused(fault),
+        }
+    }
+}

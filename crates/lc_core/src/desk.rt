@@ -1,0 +1,53 @@
+//! The images of a node, and the transactions of its threads on them.
+ghost use Rattle.std.specs.Prelude.{◌≡◌, ◌<◌, ◌≤◌, ℕ, vec_len, replicate, IfOk, OnErr};
+ghost use Rattle.lc_model.specs.declared.event.Event.TheVariants.{Abort};
+ghost use Rattle.lc_core.specs.Here.{the_images};
+ghost use Rattle.lc_core.specs.Seats.{AllRun};
+ghost use Rattle.lc_core.specs.declared.seat.Seat.TheVariants.{Free};
+
+use crate::here::Here;
+use crate::seat::Seat;
+use crate::{Refusal, Reply};
+use std::alloc::{AllocError, Global};
+
+/// The segments at a node, and what each of its threads is doing.
+#[derive(Drop)]
+pub(crate) struct Desk {
+    pub(crate) here: Here,
+    pub(crate) seats: Vec<Seat>,
+    ghost runs: { AllRun here seats.items },
+    ghost few: { vec_len seats ≤ 16 },
+}
+
+impl Desk {
+    ghost use Rattle.lc_core.specs.FollowsDesk.{FollowsOpen};
+
+    /// The desk of so many threads, from 1 to 16, none of which has a transaction.
+    pub(crate) fn new(alloc: Global, here: Here, threads: u16) -> Result<Desk, AllocError>
+        requires few { threads ≤ 16 }
+        ensures here { IfOk result (λ desk. desk.here ≡ here) }
+        ensures seats { IfOk result (λ desk. desk.seats.items ≡ replicate threads Free) }
+        ensures threads { IfOk result (λ desk. vec_len desk.seats ≡ threads) }
+        ensures no_memory { OnErr result (0 < threads) }
+    {
+        let mut seats = Vec::with_capacity(alloc, threads as usize)?;
+        for _ in 0..threads {
+            seats.push(Seat::Free)?;
+        }
+        Ok(Desk { here, seats })
+    }
+
+    /// A thread drops its open transaction: the images have the bytes that they had, and its locks are free.
+    pub(crate) fn abort(&mut self, thread: u16) -> Reply
+        requires seat { thread < vec_len self.old.seats }
+        ensures follows { (node : ℕ) → FollowsOpen node self.old (Abort node thread) result self.new }
+        ensures beside { the_images.IsSameBeside self.old.here self.new.here }
+        ensures seats { vec_len self.new.seats ≡ vec_len self.old.seats }
+    {
+        let Some(tx) = self.seats[thread as usize].take_open() else {
+            return Reply::Refused(Refusal::OutOfTurn);
+        };
+        tx.abort(&mut self.here);
+        Reply::Ok
+    }
+}

@@ -1,0 +1,72 @@
+//! The laws of the answers that the machine leaves open, each the contract of a function with nothing to do.
+ghost use Rattle.std.specs.Prelude.{◌≡◌, ◌≢◌, ◌⊎◌, ℕ, List, Some};
+ghost use Rattle.lc_record.specs.Transaction.{Transaction};
+ghost use Rattle.lc_model.specs.Choices.{AtLeastOne};
+ghost use Rattle.lc_model.specs.Machine.{Step, appended, closed_by, placed};
+ghost use Rattle.lc_model.specs.Sound.{Sound};
+ghost use Rattle.lc_model.specs.State.{Place, At, Travelling, State, Setting, running_of};
+ghost use Rattle.lc_core.specs.Beside.{Beside, BesideLogs};
+ghost use Rattle.lc_core.specs.Desk.{FitsDesk};
+ghost use Rattle.lc_core.specs.Follows.{SameButLog};
+ghost use Rattle.lc_core.specs.FollowsDesk.{SameButOpen};
+ghost use Rattle.lc_core.specs.Numbers.{Numbers};
+ghost use Rattle.lc_core.specs.Settled.{Settled};
+ghost use Rattle.lc_core.specs.Journal.{FitsLog};
+ghost use Rattle.lc_core.specs.Records.{Kept};
+ghost use Rattle.lc_core.specs.Seats.{AllRun};
+ghost use Rattle.lc_core.specs.declared.log.Log.{Log as Between};
+ghost use Rattle.lc_core.specs.Turns.{Turns};
+ghost use Rattle.lc_core.specs.declared.here.Here.{Here as Slots};
+ghost use Rattle.lc_core.specs.declared.seat.Seat.{Seat as Sitting};
+
+use crate::{Event, Refusal, Reply};
+use lc_disk::Area;
+
+/// In every sound state, with any numbers, each event has an answer that is settled and that the machine allows: and,
+/// but for faults of devices and for the step at which a recovery ends, one such reply. But for that step the reply
+/// determines the next numbers.
+pub fn settled_answers()
+    ensures some { (m : Setting) (s : State) (x : Numbers) (event : Event) → Sound m.geometry s →
+        AtLeastOne (λ reply new. Step m s event reply new × Settled m s x event reply) }
+    ensures one { (m : Setting) (s new next : State) (x : Numbers) (event : Event) (reply other : Reply) →
+        Step m s event reply new → Settled m s x event reply → Step m s event other next → Settled m s x event other →
+        reply ≢ Reply.Refused Refusal.DeviceFault → other ≢ Reply.Refused Refusal.DeviceFault →
+        event ≢ Event.RecoverStep → reply ≡ other }
+    ensures some_numbers { (m : Setting) (s : State) (x : Numbers) (event : Event) (reply : Reply) →
+        (next : Numbers) × Turns m s x event reply next }
+    ensures one_numbers { (m : Setting) (s : State) (x next others : Numbers) (event : Event) (reply : Reply) →
+        Turns m s x event reply next → Turns m s x event reply others → reply ≢ Reply.Recovered → next ≡ others }
+{}
+
+/// What one node does leaves the desks of the others fitting the machine: what becomes of its open transactions and of its
+/// log, a transaction that gets its place, one that is closed, and a token that leaves or arrives.
+pub(crate) fn other_desks()
+    ensures stays { (m : Setting) (node other : ℕ) (s after : State) (here : Slots) (seats : List Sitting) →
+        (other ≡ node → ⊥) → Beside m node s after → AllRun here seats → FitsDesk m other here seats s →
+        FitsDesk m other here seats after }
+    ensures open { (m : Setting) (node : ℕ) (s after : State) → SameButOpen node s after → Beside m node s after }
+    ensures logged { (m : Setting) (node : ℕ) (s after : State) → SameButLog node s after → Beside m node s after }
+    ensures reserved { (m : Setting) (node thread : ℕ) (s : State) (t : Transaction) → Sound m.geometry s →
+        running_of node thread s ≡ Some t → Beside m node s (appended s t) }
+    ensures closed { (m : Setting) (node thread : ℕ) (s : State) →
+        Beside m node s (record s { history = closed_by node thread s.history }) }
+    ensures placed { (m : Setting) (node segment : ℕ) (place : Place) (s : State) →
+        (s.place segment ≡ At node) ⊎ (s.place segment ≡ Travelling) → (place ≡ At node) ⊎ (place ≡ Travelling) →
+        Beside m node s (placed s segment place) }
+{}
+
+/// And their journals.
+pub(crate) fn other_journals<D: Area>()
+    ensures stays { (m : Setting) (node other : ℕ) (s : State) (x : Numbers) (after : State) (y : Numbers) (log : Between D D.Area)
+        (kept : Kept) (dropped trimmed taken acked : ℕ) → (other ≡ node → ⊥) → BesideLogs m node s x after y →
+        FitsLog D.Area m other log kept dropped trimmed taken acked s x →
+        FitsLog D.Area m other log kept dropped trimmed taken acked after y }
+    ensures open { (m : Setting) (node : ℕ) (s after : State) (x : Numbers) → SameButOpen node s after →
+        BesideLogs m node s x after x }
+    ensures logged { (m : Setting) (node : ℕ) (s after : State) (x : Numbers) → SameButLog node s after →
+        BesideLogs m node s x after x }
+    ensures reserved { (m : Setting) (node thread : ℕ) (s : State) (x : Numbers) (t : Transaction) →
+        running_of node thread s ≡ Some t → BesideLogs m node s x (appended s t) x }
+    ensures closed { (m : Setting) (node thread : ℕ) (s : State) (x : Numbers) →
+        BesideLogs m node s x (record s { history = closed_by node thread s.history }) x }
+{}

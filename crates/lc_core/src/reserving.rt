@@ -1,0 +1,49 @@
+//! How a thread's transaction gets its place in the log, and how its locks are free again.
+ghost use Rattle.std.specs.Prelude.{◌≡◌, ◌<◌, vec_len};
+ghost use Rattle.lc_core.specs.Here.{the_images};
+ghost use Rattle.lc_core.specs.Reserves.{Reserves, Closes, EndsEmpty};
+
+use crate::desk::Desk;
+use crate::seat::Seat;
+
+impl Desk {
+    /// The thread's open transaction is the node's record of this number, from 0, and is not closed yet. Where the thread
+    /// has none, nothing changes. It takes no memory.
+    pub(crate) fn reserve(&mut self, thread: u16, number: u64)
+        requires seat { thread < vec_len self.old.seats }
+        ensures reserves { Reserves thread number self.old self.new }
+        ensures here { self.new.here ≡ self.old.here }
+        ensures seats { vec_len self.new.seats ≡ vec_len self.old.seats }
+    {
+        let seat = &mut self.seats[thread as usize];
+        if let Some(tx) = seat.take_open() {
+            *seat = Seat::Reserved { tx, number };
+        }
+    }
+
+    /// The thread's reservation is closed: its locks are free. Where the thread has none, nothing changes. It takes no
+    /// memory.
+    pub(crate) fn close(&mut self, thread: u16)
+        requires seat { thread < vec_len self.old.seats }
+        ensures closes { Closes thread self.old self.new }
+        ensures beside { the_images.IsSameBeside self.old.here self.new.here }
+        ensures seats { vec_len self.new.seats ≡ vec_len self.old.seats }
+    {
+        if let Some(tx) = self.seats[thread as usize].take_reserved() {
+            tx.release(&mut self.here);
+        }
+    }
+
+    /// The thread's open transaction, which set nothing, is over: its locks are free. Where the thread has none, nothing
+    /// changes. It takes no memory.
+    pub(crate) fn end_empty(&mut self, thread: u16)
+        requires seat { thread < vec_len self.old.seats }
+        ensures ends { EndsEmpty thread self.old self.new }
+        ensures beside { the_images.IsSameBeside self.old.here self.new.here }
+        ensures seats { vec_len self.new.seats ≡ vec_len self.old.seats }
+    {
+        if let Some(tx) = self.seats[thread as usize].take_open() {
+            tx.release(&mut self.here);
+        }
+    }
+}
