@@ -5,10 +5,11 @@ use Rattle.std.proofs.lemmas.List.{length-map, length-drop, length-take-le, take
 use Rattle.std.specs.List.{AllByRecursion}
 use Rattle.lc_disk.specs.declared.area.Area.{Ghosts}
 use Rattle.lc_record.specs.Record.{spelling}
+use Rattle.lc_record.specs.Transaction.{Transaction}
 use Rattle.lc_record.specs.declared.record.Record.{Record}
 use Rattle.lc_log.specs.LogText.{IsWhole, joined}
 use Rattle.lc_model.specs.History.{front, entries_of, leading}
-use Rattle.lc_model.specs.State.{Setting, State, Flush}
+use Rattle.lc_model.specs.State.{Setting, State, Flush, Up, fresh}
 use Rattle.lc_model.specs.Stored.{records_of}
 use Rattle.lc_model.specs.Machine.{FlushRow, Moves, flushed_to, halting, acknowledged}
 use Rattle.lc_model.specs.declared.refusal.Refusal.TheVariants.{DeviceFault}
@@ -36,7 +37,7 @@ same_words (r ∷ rs) (q ∷ qs) is =
     let rest : map (λ (r : Spelled). r.words) rs ≡ map spelling qs = cc in
     ap (λ (ws : List ℕ). ws ++ all_words rs) first ∙ ap (λ (ws : List ℕ). spelling q ++ ws) (same_words rs qs rest)
 
-part_of : {A B : Type 0} (f : A → B) (n place : ℕ) (xs : List A) → map f (take n (drop place xs)) ≡ take n (drop place (map f xs))
+pub part_of : {A B : Type 0} (f : A → B) (n place : ℕ) (xs : List A) → map f (take n (drop place xs)) ≡ take n (drop place (map f xs))
 part_of f n place xs = sym (take-map f n (drop place xs)) ∙ ap (take n) (sym (drop-map f place xs))
 
 pub span_joined : (records : List Record) (k : Kept) (from to : ℕ) → map (λ (r : Spelled). r.words) k.records ≡ map spelling (drop k.before records)
@@ -108,6 +109,22 @@ module _ {D : Type 0} (a : Ghosts D) where
   idle_stands (Opened log) steps stable group is h = absurd cc
   idle_stands (Failed log) steps stable group is h = absurd cc
   idle_stands Taken steps stable group is h = absurd cc
+
+  -- nothing is reserved behind a recovery
+  pub begins_so : (m : Setting) (node : ℕ) (earlier : List Transaction) (x : Numbers) (log : Log D a) → Stands a log 0 [] [] → is_failed a log ≡ false
+      → x.disks.dropped node ≡ 0 → x.trimmed node ≡ 0 → FitsLog a m node log (record { before = 0; records = [] }) 0 0 0 0 (fresh m.geometry earlier Up) x
+  begins_so m node earlier x log stands up dropped trimmed = record {
+    words = refl;
+    marks = refl;
+    all_closed = omega arith;
+    whole = tt;
+    stands = stands;
+    halted = sym up;
+    dropped_is = sym dropped;
+    trimmed_is = sym trimmed;
+    acked_is = refl;
+    taken_is = λ some. absurd (omega (arith, some));
+  }
 
   -- a call answers something
   pub some_reply : (log : Log D a) (taken : ℕ) → reply_of a log taken ≡ Nothing → ⊥

@@ -77,7 +77,7 @@ one-holds : (p : Transaction → Bool) (s : State) (node i : ℕ) (t : Transacti
 one-holds p s node i t found its = true_from_ne_false (some_holder p s) (λ none.
     true≢false (sym its ∙ found-all (is_by node i) (λ u. p u ≡ false) (holders s) t found (no_holder p s none)))
 
-holders-proper : (m : Setting) (s : State) → Sound m.geometry s → All (IsProper m.geometry) (holders s)
+pub holders-proper : (m : Setting) (s : State) → Sound m.geometry s → All (IsProper m.geometry) (holders s)
 holders-proper m s sound =
     All-append (IsProper m.geometry) s.running (unclosed s.history) sound.running_proper
     (All-map (IsProper m.geometry) (λ (e : Entry). e.transaction) (filter (λ e. not e.closed) s.history)

@@ -17,3 +17,12 @@ pub mod Rooms
 pub mod Flushing
 pub mod Others
 pub mod OtherLogs
+pub mod Moved
+pub mod Left
+pub mod Arrived
+pub mod Shortness
+pub mod Readied
+pub mod OneOpen
+pub mod Logged
+pub mod Parts
+pub mod Reserved

@@ -3,6 +3,9 @@ use Rattle.std.proofs.Common.{◌≡◌, ℕ, ◌<◌, false, nat_le, Option, So
 use Rattle.std.specs.Prelude.{Result, Ok, Err, IfOk, OnErr, IsErr, MatchOption}
 use Rattle.std.specs.declared.alloc.AllocError.{AllocError}
 use Rattle.std.proofs.lemmas.Bool.Decides.{nat_tests}
+use Rattle.lc_tx.specs.declared.tx_fault.TxFault.{TxFault}
+use Rattle.lc_tx.specs.declared.tx_fault.TxFault.TheVariants.{Busy as IsBusy, NotHere as IsNotHere, NoRange as HasNoRange, OutOfSegment as IsOutside, NotLocked as IsNotLocked, NoMemory, TooLong as IsTooLong, SequenceSpent as IsSpent, EmptyRange as IsEmpty, TooManyRanges as AreTooMany, ReadOnly as IsReadOnly}
+use Rattle.lc_core.specs.Refused.{refusal_of}
 use Rattle.lc_model.specs.declared.refusal.Refusal.{Refusal}
 use Rattle.lc_model.specs.declared.reply.Reply.{Reply}
 use Rattle.lc_model.specs.declared.reply.Reply.TheVariants.{Refused}
@@ -20,3 +23,17 @@ on_err (Err e) P p = p
 
 pub le-false : (x y : ℕ) → y < x → nat_le x y ≡ false
 le-false x y less = grind (arith, nat_tests)
+
+-- where there is no reply, the fault is want of memory
+pub memory_wanted : (fault : TxFault) (res : Result Reply AllocError) (P : Type 0) → MatchOption (refusal_of fault) (IsErr res) (λ refusal. res ≡ Ok (Refused refusal)) → (fault ≡ NoMemory → P) → OnErr res P
+memory_wanted NoMemory res P said wants = on_err res P (wants refl)
+memory_wanted (IsBusy x) res P said wants = rw said tt
+memory_wanted (IsNotHere x) res P said wants = rw said tt
+memory_wanted HasNoRange res P said wants = rw said tt
+memory_wanted IsOutside res P said wants = rw said tt
+memory_wanted IsNotLocked res P said wants = rw said tt
+memory_wanted (IsTooLong x) res P said wants = rw said tt
+memory_wanted (IsSpent x) res P said wants = rw said tt
+memory_wanted IsEmpty res P said wants = rw said tt
+memory_wanted AreTooMany res P said wants = rw said tt
+memory_wanted (IsReadOnly x) res P said wants = rw said tt

@@ -93,7 +93,7 @@ reset-may m s x node (suc (suc (suc steps))) =
 -- Reservations, tokens
 
 -- a refusal, if there is one, is such
-abbrev may_all : (Refusal → Bool) → Option Refusal → Bool
+abbrev pub may_all : (Refusal → Bool) → Option Refusal → Bool
 may_all may None = true
 may_all may (Some refusal) = may refusal
 
@@ -110,7 +110,7 @@ spent-may [] next may = may
 spent-may (lock ∷ locks) next may =
     if-all may_refuse_reserve (nat_lt (2 ^ 60) lock.seq) (Some (SequenceSpent lock.segment)) (first_spent locks next) refl (spent-may locks next may)
 
-refusal-may : (words end : ℕ) (sealed : Bool) (r : Record) → IsTrue (may_all may_refuse_reserve (record_refusal words end sealed r))
+pub refusal-may : (words end : ℕ) (sealed : Bool) (r : Record) → IsTrue (may_all may_refuse_reserve (record_refusal words end sealed r))
 refusal-may words end sealed r =
     spent-may r.locks _
     (refused-all may_refuse_reserve (nat_lt 4096 (record_len r)) (TooLong (record_len r)) _ refl

@@ -14,3 +14,9 @@ pub mod FollowsDesk
 pub mod Refused
 pub mod Reserves
 pub mod Beside
+pub mod TokenRefused
+pub mod Leaves
+pub mod Arrives
+pub mod Prepares
+pub mod Logging
+pub mod Node

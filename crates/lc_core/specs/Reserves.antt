@@ -1,5 +1,5 @@
 -- What a reservation, its end and the end of a transaction that set nothing make of a desk.
-use Rattle.std.specs.Prelude.{◌≡◌, ℕ, true, [], Some, slice_get}
+use Rattle.std.specs.Prelude.{◌≡◌, ℕ, true, Some, slice_get}
 use Rattle.lc_record.specs.Transaction.{Transaction}
 use Rattle.lc_tx.specs.declared.tx.Tx.{Tx}
 use Rattle.lc_model.specs.History.{reserved}
@@ -23,9 +23,9 @@ Closes thread old new =
     (m : Setting) (node : ℕ) (s : State) → FitsDesk m node old.here old.seats.items s → has_unclosed node thread s ≡ true
     → FitsDesk m node new.here new.seats.items (record s { history = closed_by node thread s.history })
 
--- where the thread's transaction set nothing, the desk fits the machine without it
+-- the desk fits the machine without the thread's open transaction
 abbrev pub EndsEmpty : ℕ → Desk → Desk → Type 0
 EndsEmpty thread old new =
     (m : Setting) (node : ℕ) (s : State) (tx : Tx) → FitsDesk m node old.here old.seats.items s
-    → slice_get old.seats.items thread ≡ Some (Open tx) → tx.set ≡ []
+    → slice_get old.seats.items thread ≡ Some (Open tx)
     → FitsDesk m node new.here new.seats.items (dropped s node thread)

@@ -1,6 +1,7 @@
 -- The transactions of a node on its images.
-use Rattle.std.specs.Prelude.{◌≡◌, ℕ, List, Some, slice_get}
+use Rattle.std.specs.Prelude.{◌≡◌, ℕ, ◌≤◌, List, length, Some, slice_get}
 use Rattle.lc_tx.specs.declared.tx.Tx.{Tx}
+use Rattle.lc_tx.specs.Images.{bytes_of}
 use Rattle.lc_tx.specs.Tx.{RunsOn}
 use Rattle.lc_core.specs.declared.here.Here.{Here}
 use Rattle.lc_core.specs.declared.seat.Seat.{Seat}
@@ -14,3 +15,7 @@ pub record Runs (here : Here) (thread : ℕ) (tx : Tx) : Type 0 where
 
 abbrev pub AllRun : Here → List Seat → Type 0
 AllRun here seats = (thread : ℕ) (tx : Tx) → holder_of (slice_get seats thread) ≡ Some tx → Runs here thread tx
+
+-- no segment has more bytes than a record can name
+abbrev pub AreShort : Here → Type 0
+AreShort here = (segment : ℕ) → length (bytes_of the_images here segment) ≤ 262144

@@ -1,5 +1,6 @@
 //! How a thread begins.
-ghost use Rattle.std.specs.Prelude.{◌≡◌, ◌<◌, ℕ, vec_len, IfOk, OnErr};
+ghost use Rattle.std.specs.Prelude.{◌≡◌, ◌<◌, ◌⊎◌, ℕ, List, length, vec_len, IfOk, OnErr};
+ghost use Rattle.lc_tx.specs.Tx.{IsSetOf, none_of};
 ghost use Rattle.lc_model.specs.declared.event.Event.TheVariants.{Begin};
 ghost use Rattle.lc_core.specs.FollowsDesk.{FollowsOpen, StillFits};
 ghost use Rattle.lc_core.specs.Here.{the_images};
@@ -12,7 +13,8 @@ use lc_tx::Tx;
 use std::alloc::{AllocError, Global};
 
 impl Desk {
-    /// A thread begins a transaction: it locks `segments` for writing and `reading` for reading.
+    /// A thread begins a transaction: it locks `segments` for writing and `reading` for reading. It takes memory only for
+    /// more than 16 of one kind, and only where all can be locked.
     pub(crate) fn begin(
         &mut self,
         alloc: Global,
@@ -24,6 +26,8 @@ impl Desk {
         ensures follows { IfOk result (λ reply. (node : ℕ) → FollowsOpen node self.old (Begin node thread segments.now reading.now) reply self.new) }
         ensures beside { the_images.IsSameBeside self.old.here self.new.here }
         ensures err { OnErr result (StillFits self.old self.new) }
+        ensures memory { OnErr result (((set : List ℕ) × IsSetOf segments.now set × (16 < length set))
+            ⊎ ((set : List ℕ) × IsSetOf (none_of segments.now reading.now) set × (16 < length set))) }
         ensures seats { vec_len self.new.seats ≡ vec_len self.old.seats }
     {
         if !self.seats[thread as usize].is_free() {

@@ -2,7 +2,7 @@
 ghost use Rattle.std.specs.Prelude.{◌≡◌, ◌<◌, ◌≤◌, ℕ, vec_len, replicate, IfOk, OnErr};
 ghost use Rattle.lc_model.specs.declared.event.Event.TheVariants.{Abort};
 ghost use Rattle.lc_core.specs.Here.{the_images};
-ghost use Rattle.lc_core.specs.Seats.{AllRun};
+ghost use Rattle.lc_core.specs.Seats.{AllRun, AreShort};
 ghost use Rattle.lc_core.specs.declared.seat.Seat.TheVariants.{Free};
 
 use crate::here::Here;
@@ -10,13 +10,15 @@ use crate::seat::Seat;
 use crate::{Refusal, Reply};
 use std::alloc::{AllocError, Global};
 
-/// The segments at a node, and what each of its threads is doing.
+/// The segments at a node, at most 16, and what each of its threads is doing.
 #[derive(Drop)]
 pub(crate) struct Desk {
     pub(crate) here: Here,
     pub(crate) seats: Vec<Seat>,
     ghost runs: { AllRun here seats.items },
     ghost few: { vec_len seats ≤ 16 },
+    ghost few_slots: { vec_len here.slots ≤ 16 },
+    ghost short: { AreShort here },
 }
 
 impl Desk {
@@ -25,6 +27,8 @@ impl Desk {
     /// The desk of so many threads, from 1 to 16, none of which has a transaction.
     pub(crate) fn new(alloc: Global, here: Here, threads: u16) -> Result<Desk, AllocError>
         requires few { threads ≤ 16 }
+        requires few_slots { vec_len here.slots ≤ 16 }
+        requires short { AreShort here }
         ensures here { IfOk result (λ desk. desk.here ≡ here) }
         ensures seats { IfOk result (λ desk. desk.seats.items ≡ replicate threads Free) }
         ensures threads { IfOk result (λ desk. vec_len desk.seats ≡ threads) }

@@ -1,5 +1,5 @@
 //! A node's log, and the records that wait for it.
-ghost use Rattle.std.specs.Prelude.{◌≡◌, ◌+◌, ◌*◌, ◌≤◌, true, false, ℕ, length, take};
+ghost use Rattle.std.specs.Prelude.{◌≡◌, ◌+◌, ◌*◌, ◌<◌, ◌≤◌, ◌^◌, true, false, ℕ, length, take};
 ghost use Rattle.lc_model.specs.declared.event.Event.TheVariants.{FlushStep};
 ghost use Rattle.lc_model.specs.declared.reply.Reply.TheVariants.{Nothing};
 ghost use Rattle.lc_core.specs.Log.{StepsTo, CallsOnce, end_of, under_way, size, is_idle, is_failed};
@@ -14,11 +14,12 @@ use lc_record::Group;
 use std::mem;
 
 /// The log of a node, its records, and how many of these its resets have dropped, no peer wants any more, a flush has
-/// taken, and are acknowledged. The group has room for all that the log has room for.
+/// taken, and are acknowledged. The log and the group have room for `words` words.
 #[derive(Drop)]
 pub(crate) struct Journal<D: Area> {
     pub(crate) log: Log<D>,
     pub(crate) group: Group,
+    pub(crate) words: u32,
     pub(crate) records: Records,
     pub(crate) dropped: u64,
     pub(crate) trimmed: u64,
@@ -30,8 +31,10 @@ pub(crate) struct Journal<D: Area> {
     ghost trimmed_acked: { trimmed ≤ acked },
     ghost acked_taken: { acked ≤ taken },
     ghost taken_closed: { taken ≤ front_of records },
+    ghost group_room: { group.room ≡ words },
+    ghost short: { group.room < 2 ^ 32 },
+    ghost log_room: { is_failed D.Area log ≡ false → 8 * group.room + 8 ≤ size D.Area log },
     ghost room: { length (span_of records dropped (count_of records)) ≤ group.room },
-    ghost fits: { is_failed D.Area log ≡ false → 8 * length (span_of records dropped (count_of records)) + 8 ≤ size D.Area log },
     ghost end: { is_failed D.Area log ≡ false → end_of D.Area log ≡ length (span_of records dropped acked) },
     ghost under_way: { is_failed D.Area log ≡ false → is_idle D.Area log ≡ false → under_way D.Area log ≡ length (span_of records acked taken) },
 }

@@ -24,6 +24,7 @@ impl Desk {
         ensures follows { IfOk result (λ reply. (node : ℕ) → FollowsOpen node self.old (Read node thread segment offset len) reply self.new) }
         ensures beside { the_images.IsSameBeside self.old.here self.new.here }
         ensures err { OnErr result (StillFits self.old self.new) }
+        ensures memory { OnErr result (0 < len) }
         ensures seats { vec_len self.new.seats ≡ vec_len self.old.seats }
     {
         let Some(tx) = self.seats[thread as usize].open() else {

@@ -1,6 +1,10 @@
 //! How a thread's transaction gets its place in the log, and how its locks are free again.
-ghost use Rattle.std.specs.Prelude.{◌≡◌, ◌<◌, vec_len};
+ghost use Rattle.std.specs.Prelude.{◌≡◌, ◌<◌, [], None, Some, slice_get, vec_len};
+ghost use Rattle.lc_tx.specs.declared.tx.Tx.{Tx as Kept};
 ghost use Rattle.lc_core.specs.Here.{the_images};
+ghost use Rattle.lc_core.specs.Seat.{open_of, reserved_of};
+ghost use Rattle.lc_core.specs.declared.seat.Seat.{Seat as Sitting};
+ghost use Rattle.lc_core.specs.declared.seat.Seat.TheVariants.{Open};
 ghost use Rattle.lc_core.specs.Reserves.{Reserves, Closes, EndsEmpty};
 
 use crate::desk::Desk;
@@ -12,6 +16,7 @@ impl Desk {
     pub(crate) fn reserve(&mut self, thread: u16, number: u64)
         requires seat { thread < vec_len self.old.seats }
         ensures reserves { Reserves thread number self.old self.new }
+        ensures none { (seat : Sitting) → slice_get self.old.seats.items thread ≡ Some seat → open_of seat ≡ None → self.new.seats.items ≡ self.old.seats.items }
         ensures here { self.new.here ≡ self.old.here }
         ensures seats { vec_len self.new.seats ≡ vec_len self.old.seats }
     {
@@ -26,6 +31,8 @@ impl Desk {
     pub(crate) fn close(&mut self, thread: u16)
         requires seat { thread < vec_len self.old.seats }
         ensures closes { Closes thread self.old self.new }
+        ensures none { (seat : Sitting) → slice_get self.old.seats.items thread ≡ Some seat → reserved_of seat ≡ None
+            → (self.new.here ≡ self.old.here) × (self.new.seats.items ≡ self.old.seats.items) }
         ensures beside { the_images.IsSameBeside self.old.here self.new.here }
         ensures seats { vec_len self.new.seats ≡ vec_len self.old.seats }
     {
@@ -34,11 +41,14 @@ impl Desk {
         }
     }
 
-    /// The thread's open transaction, which set nothing, is over: its locks are free. Where the thread has none, nothing
+    /// The thread's open transaction, which has set nothing, is over: its locks are free. Where the thread has none, nothing
     /// changes. It takes no memory.
     pub(crate) fn end_empty(&mut self, thread: u16)
         requires seat { thread < vec_len self.old.seats }
+        requires empty { (tx : Kept) → slice_get self.old.seats.items thread ≡ Some (Open tx) → tx.set ≡ [] }
         ensures ends { EndsEmpty thread self.old self.new }
+        ensures none { (seat : Sitting) → slice_get self.old.seats.items thread ≡ Some seat → open_of seat ≡ None
+            → (self.new.here ≡ self.old.here) × (self.new.seats.items ≡ self.old.seats.items) }
         ensures beside { the_images.IsSameBeside self.old.here self.new.here }
         ensures seats { vec_len self.new.seats ≡ vec_len self.old.seats }
     {

@@ -1,5 +1,8 @@
 //! The ranges that a thread sets.
-ghost use Rattle.std.specs.Prelude.{◌≡◌, ◌<◌, ℕ, vec_len, IfOk, OnErr};
+ghost use Rattle.std.specs.Prelude.{◌≡◌, ◌<◌, ℕ, vec_len, Some, slice_get, IfOk, OnErr};
+ghost use Rattle.lc_range.specs.RangeSet.{MissesSome};
+ghost use Rattle.lc_tx.specs.declared.tx.Tx.{Tx as Kept};
+ghost use Rattle.lc_core.specs.declared.seat.Seat.TheVariants.{Open};
 ghost use Rattle.lc_model.specs.declared.event.Event.TheVariants.{SetRange};
 ghost use Rattle.lc_core.specs.Here.{the_images};
 
@@ -12,7 +15,8 @@ use std::alloc::AllocError;
 impl Desk {
     ghost use Rattle.lc_core.specs.FollowsDesk.{FollowsOpen, StillFits};
 
-    /// A thread is about to change `len` bytes of a segment from `offset` on, in its open transaction.
+    /// A thread is about to change `len` bytes of a segment from `offset` on, in its open transaction. It takes memory only
+    /// where a position is not set yet.
     pub(crate) fn set_range(
         &mut self,
         thread: u16,
@@ -24,6 +28,7 @@ impl Desk {
         ensures follows { IfOk result (λ reply. (node : ℕ) → FollowsOpen node self.old (SetRange node thread segment offset len) reply self.new) }
         ensures beside { the_images.IsSameBeside self.old.here self.new.here }
         ensures err { OnErr result (StillFits self.old self.new) }
+        ensures memory { OnErr result ((tx : Kept) → slice_get self.old.seats.items thread ≡ Some (Open tx) → MissesSome tx.set segment offset len) }
         ensures seats { vec_len self.new.seats ≡ vec_len self.old.seats }
     {
         let Seat::Open(tx) = &mut self.seats[thread as usize] else {

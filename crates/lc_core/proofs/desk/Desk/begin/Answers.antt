@@ -4,6 +4,10 @@ use Rattle.lc_model.specs.Machine.{begun}
 use Rattle.lc_core.proofs.Dropping.{still, runs_same, desk_seen}
 use Rattle.lc_core.proofs.Refusing.{by_refusal, on_err}
 use Rattle.lc_core.proofs.Begun.{free_seat, not_free, begin_fault, begin_row, begun_but, desk_begun, runs_begun}
+use Rattle.std.specs.Prelude.{Err}
+use Rattle.lc_core.proofs.Refusing.{memory_wanted}
+use Rattle.std.proofs.Common.{length, ap}
+use Rattle.lc_core.proofs.Shortness.{few_slots, short_same, short_locked}
 use Rattle.lc_core.proofs.desk.Desk.begin.Goals as goal
 
 pub returns-then-not-is_free-clause-follows : goal.returns-then-not-is_free-clause-follows
@@ -21,7 +25,7 @@ invariant_of-self-clause-runs c =
     runs_begun c.args.thread w.here c.begin.new.images c.args.segments.now c.args.reading.now c.in-Ok.tx c.in-Ok.ensures.begins c.in-Ok.ensures.free w.seats.items at c.in-Ok.ensures.runs w.runs
 
 pub invariant_of-self-in-Err-1 : goal.invariant_of-self-in-Err-1
-invariant_of-self-in-Err-1 c = record { runs = runs_same c.args.self.now.here c.begin.new.images c.args.self.now.seats.items c.args.self.now.runs c.in-Err.ensures.err; few = c.args.self.now.few }
+invariant_of-self-in-Err-1 c = record { runs = runs_same c.args.self.now.here c.begin.new.images c.args.self.now.seats.items c.args.self.now.runs c.in-Err.ensures.err; few = c.args.self.now.few; few_slots = few_slots c.args.self.now.here c.begin.new.images c.in-Err.ensures.err.beside c.args.self.now.few_slots; short = short_same c.args.self.now.here c.begin.new.images c.in-Err.ensures.err c.args.self.now.short }
 
 pub returns-in-Ok-clause-follows : goal.returns-in-Ok-clause-follows
 returns-in-Ok-clause-follows c = λ node m s known sound h.
@@ -49,3 +53,12 @@ pub returns-in-Err-clause-err : goal.returns-in-Err-clause-err
 returns-in-Err-clause-err c =
     let w = c.args.self.now in
     on_err c.refused.result _ (λ m node s h. desk_seen m node w.here c.begin.new.images w.seats.items s w.runs c.in-Err.ensures.err h)
+
+pub returns-in-Err-clause-memory : goal.returns-in-Err-clause-memory
+returns-in-Err-clause-memory c = memory_wanted c.in-Err.fault c.refused.result _ c.refused.ensures (λ none. (c.begin.ensures.no_memory (c.in-Err.is ∙ ap (λ f. Err f) none)).1)
+
+pub invariant_of-self-clause-few_slots : goal.invariant_of-self-clause-few_slots
+invariant_of-self-clause-few_slots c = few_slots c.args.self.now.here c.begin.new.images c.in-Ok.ensures.begins.held.same.beside c.args.self.now.few_slots
+
+pub invariant_of-self-clause-short : goal.invariant_of-self-clause-short
+invariant_of-self-clause-short c = short_locked c.args.thread c.in-Ok.tx.locked.items c.in-Ok.tx.reading.items c.args.self.now.here c.begin.new.images c.in-Ok.ensures.begins.held c.args.self.now.short

@@ -4,6 +4,8 @@ use Rattle.lc_core.specs.Seat.{holder_of, freed_of}
 use Rattle.lc_core.proofs.Seating.{not_reserved, is_reserved, set_same}
 use Rattle.lc_core.proofs.Freeing.{own_runs, runs_freed}
 use Rattle.lc_core.proofs.Closes.{desk_closed, not_unclosed}
+use Rattle.std.proofs.Common.{length, ap}
+use Rattle.lc_core.proofs.Shortness.{few_slots, short_freed}
 use Rattle.lc_core.proofs.desk.Desk.close.Goals as goal
 
 pub release-requires : goal.release-requires
@@ -43,3 +45,9 @@ returns-in_default-clause-closes c = λ m node s h unclosed.
     let seat = c.index_mut.result.now in
     let at = slice_get_read w.seats.items w.seats.len c.args.thread seat w.seats.ok.0 c.requires.seat c.index_mut.ensures.value in
     absurd (true≢false (sym unclosed ∙ not_unclosed w.here node c.args.thread _ s seat (h.threads c.args.thread seat at) (sym c.take_reserved.ensures.value ∙ c.in_default.is)))
+
+pub invariant_of-self-clause-few_slots : goal.invariant_of-self-clause-few_slots
+invariant_of-self-clause-few_slots c = few_slots c.args.self.now.here c.release.new.images c.release.ensures.freed.same.beside c.args.self.now.few_slots
+
+pub invariant_of-self-clause-short : goal.invariant_of-self-clause-short
+invariant_of-self-clause-short c = short_freed c.in-Some.tx.thread c.in-Some.tx.locked.items c.in-Some.tx.reading.items c.args.self.now.here c.release.new.images c.release.ensures.freed (λ segment lock. ap length (c.release.ensures.same_bytes segment lock)) c.args.self.now.short

@@ -4,6 +4,11 @@ use Rattle.lc_model.proofs.Rows.{read-no_turn}
 use Rattle.lc_core.proofs.Dropping.{own_open_runs, still, no_turn, runs_same, desk_seen, open_fits}
 use Rattle.lc_core.proofs.Seen.{read_fault, read_done}
 use Rattle.lc_core.proofs.Refusing.{by_refusal, on_err}
+use Rattle.std.proofs.Common.{ap}
+use Rattle.std.specs.Prelude.{Err}
+use Rattle.lc_core.proofs.Refusing.{memory_wanted}
+use Rattle.std.proofs.Common.{length, ap}
+use Rattle.lc_core.proofs.Shortness.{few_slots, short_same}
 use Rattle.lc_core.proofs.desk.Desk.read.Goals as goal
 
 pub returns-in_default-clause-follows : goal.returns-in_default-clause-follows
@@ -55,3 +60,12 @@ pub returns-in-Err-clause-err : goal.returns-in-Err-clause-err
 returns-in-Err-clause-err c =
     let w = c.args.self.now in
     on_err c.refused.result _ (λ m node s h. desk_seen m node w.here c.read.new.images w.seats.items s w.runs c.read.ensures.images h)
+
+pub returns-in-Err-clause-memory : goal.returns-in-Err-clause-memory
+returns-in-Err-clause-memory c = memory_wanted c.in-Err.fault c.refused.result _ c.refused.ensures (λ none. (c.read.ensures.no_memory (c.in-Err.is ∙ ap (λ f. Err f) none)).1)
+
+pub invariant_of-self-2-clause-few_slots : goal.invariant_of-self-2-clause-few_slots
+invariant_of-self-2-clause-few_slots c = few_slots c.args.self.now.here c.read.new.images c.read.ensures.images.beside c.args.self.now.few_slots
+
+pub invariant_of-self-2-clause-short : goal.invariant_of-self-2-clause-short
+invariant_of-self-2-clause-short c = short_same c.args.self.now.here c.read.new.images c.read.ensures.images c.args.self.now.short

@@ -1,4 +1,4 @@
-use Rattle.std.proofs.Common.{List, Some, refl, sym, ap, subst, ◌∙◌}
+use Rattle.std.proofs.Common.{◌≡◌, List, Some, refl, sym, ap, subst, ◌∙◌}
 use Rattle.std.proofs.lemmas.Option.{slice_get_read}
 use Rattle.lc_record.specs.Marks.{marked}
 use Rattle.lc_model.specs.Machine.{changed}
@@ -18,6 +18,13 @@ use Rattle.lc_core.proofs.Dropping.{own_open_runs, open_fits, no_turn, still, de
 use Rattle.lc_core.proofs.Changing.{unopened, seen_held, seen_keeps, changed_own, changed_but, runs_next, desk_next}
 use Rattle.lc_core.proofs.RangeRows.{RangeAnswers, same_thread, range_fault, range_lock, range_done}
 use Rattle.lc_core.proofs.Refusing.{by_refusal, on_err}
+use Rattle.std.specs.Prelude.{Err}
+use Rattle.lc_range.specs.RangeSet.{MissesSome}
+use Rattle.lc_core.specs.Places.{same_some}
+use Rattle.lc_core.proofs.Refusing.{memory_wanted}
+use Rattle.lc_core.proofs.Seating.{same_open}
+use Rattle.std.proofs.Common.{length, ap}
+use Rattle.lc_core.proofs.Shortness.{few_slots, short_same}
 use Rattle.lc_core.proofs.desk.Desk.set_range.Goals as goal
 
 pub invariant_of-self-clause-runs : goal.invariant_of-self-clause-runs
@@ -41,6 +48,7 @@ returns-in_default c =
       );
       beside = (refl, refl);
       err = tt;
+      memory = tt;
       seats = refl;
     }
 
@@ -128,3 +136,17 @@ returns-in-Err-clause-err c =
     let back = set_same w.seats.items c.args.thread (Open c.set_range.new.self) (at ∙ ap (λ x. Some x) (c.in-Open.is ∙ ap (λ x. Open x) (sym c.in-Err.ensures.err))) in
     on_err c.refused.result _ (λ m node s h.
     subst (λ (l : List Seat). FitsDesk m node c.set_range.new.images l s) (sym back) (desk_seen m node w.here c.set_range.new.images w.seats.items s w.runs c.set_range.ensures.images h))
+
+pub returns-in-Err-clause-memory : goal.returns-in-Err-clause-memory
+returns-in-Err-clause-memory c = memory_wanted c.in-Err.fault c.refused.result _ c.refused.ensures (λ none tx sits.
+    let w = c.args.self.now in
+    let seat = c.index_mut.result.now in
+    let at = slice_get_read w.seats.items w.seats.len c.args.thread seat w.seats.ok.0 c.requires.seat c.index_mut.ensures.value in
+    let same : c.in-Open.tx ≡ tx = same_open c.in-Open.tx tx (same_some (Open c.in-Open.tx) (Open tx) (ap (λ x. Some x) (sym c.in-Open.is) ∙ sym at ∙ sits)) in
+    subst (λ (x : Tx). MissesSome x.set c.args.segment c.args.offset c.args.len) same (c.set_range.ensures.no_memory (c.in-Err.is ∙ ap (λ f. Err f) none)).4)
+
+pub invariant_of-self-2-clause-few_slots : goal.invariant_of-self-2-clause-few_slots
+invariant_of-self-2-clause-few_slots c = few_slots c.args.self.now.here c.set_range.new.images c.set_range.ensures.images.beside c.args.self.now.few_slots
+
+pub invariant_of-self-2-clause-short : goal.invariant_of-self-2-clause-short
+invariant_of-self-2-clause-short c = short_same c.args.self.now.here c.set_range.new.images c.set_range.ensures.images c.args.self.now.short

@@ -16,7 +16,7 @@ flush_step-requires g c =
       room =
           subst (λ log. HasRoom g.D.Area log (taken_by g.D.Area log (length w.group.words))) (sym c.replace-log.ensures.value)
           (room_for g.D.Area w.log (length (span_of k w.dropped w.acked)) (length (span_of k w.acked w.taken)) (length (span_of k w.dropped (count_of k))) (length w.group.words)
-          (omega (arith, first, second)) w.fits w.end w.under_way (λ idle. ap length (c.requires.words idle)));
+          (omega (arith, first, second)) (λ up. omega (arith, w.room, w.log_room up)) w.end w.under_way (λ idle. ap length (c.requires.words idle)));
     }
 
 pub invariant_of-self : goal.invariant_of-self
@@ -39,8 +39,10 @@ invariant_of-self g c =
       trimmed_acked = omega (arith, w.trimmed_acked, between.0, c.acked_after-self.ensures);
       acked_taken = omega (arith, between.1, c.acked_after-self.ensures);
       taken_closed = w.taken_closed;
+      group_room = w.group_room;
+      short = w.short;
+      log_room = λ up. let same = size_kept g.D.Area w.log new calls up in omega (arith, w.log_room same.0, same.1);
       room = w.room;
-      fits = λ up. let same = size_kept g.D.Area w.log new calls up in omega (arith, w.fits same.0, same.1);
       end = λ up. rw c.acked_after-self.ensures
           (end_is g.D.Area new (length (span_of k w.dropped w.acked)) (length (span_of k w.acked w.taken)) w.taken w.acked (λ (n : ℕ). length (span_of k w.dropped n)) up (by up) refl both);
       under_way = λ up busy. rw c.acked_after-self.ensures

@@ -1,0 +1,114 @@
+use Rattle.std.proofs.Common.{◌≡◌, ℕ, false, length, Some, refl, sym, ap, subst, ◌∙◌, inl, inr}
+use Rattle.std.specs.Prelude.{Ok}
+use Rattle.lc_model.specs.Machine.{dropped, appended}
+use Rattle.lc_model.specs.State.{running_of, is_by}
+use Rattle.lc_model.specs.declared.reply.Reply.TheVariants.{Reserved}
+use Rattle.lc_model.proofs.Holders.{is_by-both}
+use Rattle.lc_model.proofs.Lists.{found-passes}
+use Rattle.lc_model.proofs.Rows.{reserve-done}
+use Rattle.lc_core.specs.Numbers.{next_record}
+use Rattle.lc_core.specs.Places.{same_some}
+use Rattle.lc_core.specs.Prepares.{EndsAt, Ends, Keeps}
+use Rattle.lc_core.specs.Settled.{reserve_open}
+use Rattle.lc_core.specs.declared.ending.Ending.{Ending}
+use Rattle.lc_core.specs.declared.log_end.LogEnd.{LogEnd}
+use Rattle.lc_core.proofs.Logged.{count_same, end_same}
+use Rattle.lc_core.proofs.Refusing.{on_err}
+use Rattle.lc_core.proofs.Reserved.{numbers_kept, closed_appended, own_record, ended_open, ends_at, journal_dropped}
+use Rattle.lc_core.proofs.node.Node.reserve.Goals as goal
+
+pub returns-in_err-refusal-clause-err : goal.returns-in_err-refusal-clause-err
+returns-in_err-refusal-clause-err g c = on_err c.from_residual.result _ (λ m n s x h.
+    let w = c.args.self.now in
+    record {
+      desk = c.in_err-refusal.ensures.err m n s h.desk;
+      numbers = numbers_kept w.desk.here c.prepare.new.self.here s s x c.prepare.ensures.beside refl h.numbers;
+      journal = h.journal;
+      room = h.room;
+    })
+
+pub returns-in_err-number-in-Record-clause-err : goal.returns-in_err-number-in-Record-clause-err
+returns-in_err-number-in-Record-clause-err g c = on_err c.from_residual-in_err-number-in-Record.result _ (λ m n s x h.
+    let w = c.args.self.now in
+    let same = c.in_err-number-in-Record.ensures.err in
+    let kept = subst (λ (ending : Ending). Keeps w.desk ending c.prepare.new.self) c.in-Record.is c.in_ok-refusal.ensures.still in
+    record {
+      desk = kept m n s h.desk;
+      numbers = numbers_kept w.desk.here c.prepare.new.self.here s s x c.prepare.ensures.beside refl h.numbers;
+      journal = rw same h.journal;
+      room = rw same h.room;
+    })
+
+pub returns-in-Refused-clause-follows : goal.returns-in-Refused-clause-follows
+returns-in-Refused-clause-follows g c = λ m s x sound h sealed.
+    let w = c.args.self.now in
+    let log : LogEnd = record { end = c.end.result; room = w.journal.words; sealed = c.args.sealed } in
+    let ends = ends_at g.D.Area m c.args.node s x w c.end.result c.args.sealed h c.end.ensures sealed in
+    let all = c.in_ok-refusal.ensures.prepares m s x sound h.desk h.numbers ends in
+    let mine = subst (λ (ending : Ending). Ends m c.args.node c.args.thread s x log ending c.prepare.new.self) c.in-Refused.is all in (
+      mine.1,
+      (
+        s,
+        mine.0,
+        inl refl,
+        record {
+          desk = mine.2;
+          numbers = numbers_kept w.desk.here c.prepare.new.self.here s s x c.prepare.ensures.beside refl h.numbers;
+          journal = h.journal;
+          room = h.room;
+        },
+      ),
+    )
+
+pub returns-in-Empty-clause-follows : goal.returns-in-Empty-clause-follows
+returns-in-Empty-clause-follows g c = λ m s x sound h sealed.
+    let w = c.args.self.now in
+    let log : LogEnd = record { end = c.end.result; room = w.journal.words; sealed = c.args.sealed } in
+    let ends = ends_at g.D.Area m c.args.node s x w c.end.result c.args.sealed h c.end.ensures sealed in
+    let all = c.in_ok-refusal.ensures.prepares m s x sound h.desk h.numbers ends in
+    let mine = subst (λ (ending : Ending). Ends m c.args.node c.args.thread s x log ending c.prepare.new.self) c.in-Empty.is all in (
+      ended_open m s (dropped s c.args.node c.args.thread) x (running_of c.args.node c.args.thread s) mine.0,
+      (
+        dropped s c.args.node c.args.thread,
+        mine.0,
+        inr (inl refl),
+        record {
+          desk = mine.1;
+          numbers = numbers_kept w.desk.here c.prepare.new.self.here s s x c.prepare.ensures.beside refl h.numbers;
+          journal = journal_dropped g.D.Area m c.args.node c.args.thread w.journal s x h.journal;
+          room = h.room;
+        },
+      ),
+    )
+
+pub returns-in_ok-number-in-Record-clause-follows : goal.returns-in_ok-number-in-Record-clause-follows
+returns-in_ok-number-in-Record-clause-follows g c = λ m s x sound h sealed.
+    let w = c.args.self.now in
+    let log : LogEnd = record { end = c.end.result; room = w.journal.words; sealed = c.args.sealed } in
+    let ends = ends_at g.D.Area m c.args.node s x w c.end.result c.args.sealed h c.end.ensures sealed in
+    let all = c.in_ok-refusal.ensures.prepares m s x sound h.desk h.numbers ends in
+    let mine = subst (λ (ending : Ending). Ends m c.args.node c.args.thread s x log ending c.prepare.new.self) c.in-Record.is all in
+    let ready = mine.0 in
+    let t = ready.transaction in
+    let own : t.node ≡ c.args.node = (is_by-both c.args.node c.args.thread t (found-passes (is_by c.args.node c.args.thread) s.running t ready.running)).0 in
+    let words = c.as_slice.result.now in
+    let spelled : words ≡ c.in-Record.words = c.as_slice.ensures in
+    let again : length c.in-Record.words ≡ length c.as_slice-in-Record.result.now = ap length (sym c.as_slice-in-Record.ensures) in
+    let logged = c.in_ok-number-in-Record.ensures.logs m c.args.node s x t (next_record m s x t) h.journal own
+    (own_record m c.args.node c.args.thread s x t ready.running) (sym (spelled ∙ ready.record_is.spelled))
+    (record { canonical = ready.record_is.canonical; short = ready.record_is.short }) in
+    let answer : reserve_open m s x (running_of c.args.node c.args.thread s) ≡ Some (Reserved c.end.result (length c.as_slice-in-Record.result.now)) =
+    rw (ready.running, ready.set) (ap Some (ready.answer ∙ ap (λ (n : ℕ). Reserved c.end.result n) again)) in (
+      λ reply is. same_some _ _ (sym answer ∙ is),
+      (
+        appended s t,
+        reserve-done m s c.args.node c.args.thread t c.end.result (length c.as_slice-in-Record.result.now) ready.running ready.set,
+        inr (inr (t, ready.running, refl)),
+        record {
+          desk = c.reserve-in-Record.ensures.reserves m c.args.node s t mine.1 ready.running logged.0;
+          numbers = numbers_kept w.desk.here c.reserve-in-Record.new.self.here s (appended s t) x (rw c.reserve-in-Record.ensures.here c.prepare.ensures.beside) (closed_appended s t) h.numbers;
+          journal = logged.1;
+          room = rw c.in_ok-number-in-Record.ensures.group h.room;
+        },
+      ),
+    )

@@ -1,0 +1,66 @@
+-- What becomes of a transaction that is to get its place in the log.
+use Rattle.std.specs.Prelude.{◌≡◌, ℕ, ◌+◌, ◌≤◌, false, nat_lt, List, length, Some}
+use Rattle.std.specs.Option.{ForSome}
+use Rattle.lc_record.specs.Marks.{is_empty}
+use Rattle.lc_record.specs.Record.{IsRecord}
+use Rattle.lc_record.specs.Transaction.{Transaction}
+use Rattle.lc_model.specs.Machine.{Row, dropped}
+use Rattle.lc_model.specs.Sound.{Sound}
+use Rattle.lc_model.specs.State.{Setting, State, running_of}
+use Rattle.lc_model.specs.declared.event.Event.TheVariants.{Reserve}
+use Rattle.lc_model.specs.declared.reply.Reply.TheVariants.{Reserved, Ended, Refused}
+use Rattle.lc_tx.specs.Images.{IsHere}
+use Rattle.lc_core.specs.Desk.{FitsDesk}
+use Rattle.lc_core.specs.FollowsDesk.{StillFits}
+use Rattle.lc_core.specs.Here.{the_images}
+use Rattle.lc_core.specs.Numbers.{Numbers, token_number, next_record, log_end}
+use Rattle.lc_core.specs.Settled.{reserve_answer, reserve_open}
+use Rattle.lc_core.specs.declared.desk.Desk.{Desk}
+use Rattle.lc_core.specs.declared.ending.Ending.{Ending}
+use Rattle.lc_core.specs.declared.ending.Ending.TheVariants.{Refused as IsRefused, Empty, Record}
+use Rattle.lc_core.specs.declared.here.Here.{Here}
+use Rattle.lc_core.specs.declared.log_end.LogEnd.{LogEnd}
+
+-- the tokens that are here have the numbers of the closed records
+abbrev pub FitsNumbers : Here → State → Numbers → Type 0
+FitsNumbers here s x = (segment : ℕ) → IsHere the_images here segment → the_images.number_of here segment ≡ Some (token_number s x segment)
+
+-- the log of this node ends so
+pub record EndsAt (m : Setting) (node : ℕ) (s : State) (x : Numbers) (log : LogEnd) : Type 0 where
+  pub end : log.end ≡ log_end m s x node
+  pub room : log.room ≡ m.geometry.words
+  pub sealed : log.sealed ≡ nat_lt 0 (x.reset node)
+
+-- the record of the thread's transaction, with its place and its words
+pub record IsPrepared (m : Setting) (node thread : ℕ) (s : State) (x : Numbers) (log : LogEnd) (words : List ℕ) : Type 0 where
+  pub transaction : Transaction
+  pub running : running_of node thread s ≡ Some transaction
+  pub set : is_empty transaction.marks ≡ false
+  pub record_is : IsRecord (next_record m s x transaction) words
+  pub answer : reserve_answer m s x transaction ≡ Reserved log.end (length words)
+
+-- a refusal is the one that is settled and that the machine allows; one that set nothing has ended; else the record is ready
+abbrev pub Ends : Setting → ℕ → ℕ → State → Numbers → LogEnd → Ending → Desk → Type 0
+Ends m node thread s x log (IsRefused refusal) new =
+    Row m s (Reserve node thread) (Refused refusal) s × ForSome (reserve_open m s x (running_of node thread s)) (λ answer. Refused refusal ≡ answer)
+    × FitsDesk m node new.here new.seats.items s
+Ends m node thread s x log Empty new =
+    Row m s (Reserve node thread) Ended (dropped s node thread) × FitsDesk m node new.here new.seats.items (dropped s node thread)
+Ends m node thread s x log (Record words) new = IsPrepared m node thread s x log words × FitsDesk m node new.here new.seats.items s
+
+-- but where it has ended, whatever the desk fitted it still fits
+abbrev pub Keeps : Desk → Ending → Desk → Type 0
+Keeps old (IsRefused refusal) new = StillFits old new
+Keeps old Empty new = Unit {0}
+Keeps old (Record words) new = StillFits old new
+
+-- a record that is ready has room
+abbrev pub HasRoom : LogEnd → Ending → Type 0
+HasRoom log (IsRefused refusal) = Unit {0}
+HasRoom log Empty = Unit {0}
+HasRoom log (Record words) = log.end + length words ≤ log.room
+
+abbrev pub Prepares : ℕ → ℕ → LogEnd → Desk → Ending → Desk → Type 0
+Prepares node thread log old ending new =
+    (m : Setting) (s : State) (x : Numbers) → Sound m.geometry s → FitsDesk m node old.here old.seats.items s → FitsNumbers old.here s x
+    → EndsAt m node s x log → Ends m node thread s x log ending new

@@ -1,0 +1,61 @@
+//! How a thread's transaction becomes a record.
+ghost use Rattle.std.specs.Prelude.{◌≡◌, ◌<◌, ◌≤◌, vec_len, IfOk, OnErr};
+ghost use Rattle.lc_core.specs.FollowsDesk.{StillFits};
+ghost use Rattle.lc_core.specs.Here.{the_images};
+ghost use Rattle.lc_core.specs.Prepares.{HasRoom, Keeps, Prepares};
+
+use crate::Refusal;
+use crate::desk::Desk;
+use crate::ending::Ending;
+use crate::log_end::LogEnd;
+use crate::refused::refusal_of;
+use lc_tx::Prepared;
+use std::alloc::{AllocError, Global};
+
+impl Desk {
+    /// The record of a thread's open transaction at the end of the node's log, if there is room for it. It takes memory only
+    /// for the record's words.
+    pub(crate) fn prepare(
+        &mut self,
+        alloc: Global,
+        node: u16,
+        thread: u16,
+        log: LogEnd,
+    ) -> Result<Ending, AllocError>
+        requires seat { thread < vec_len self.old.seats }
+        requires node { node ≤ 7 }
+        requires end { log.end ≤ log.room }
+        ensures prepares { IfOk result (λ ending. Prepares node thread log self.old ending self.new) }
+        ensures still { IfOk result (λ ending. Keeps self.old ending self.new) }
+        ensures room { IfOk result (λ ending. HasRoom log ending) }
+        ensures beside { the_images.IsSameBeside self.old.here self.new.here }
+        ensures err { OnErr result (StillFits self.old self.new) }
+        ensures seats { vec_len self.new.seats ≡ vec_len self.old.seats }
+    {
+        let Some(tx) = self.seats[thread as usize].open() else {
+            return Ok(Ending::Refused(Refusal::OutOfTurn));
+        };
+        let need = match tx.end_needs(&self.here) {
+            Ok(Some(words)) => words,
+            Ok(None) => {
+                self.end_empty(thread);
+                return Ok(Ending::Empty);
+            }
+            Err(fault) => return Ok(Ending::Refused(refusal_of(fault))),
+        };
+        if log.sealed {
+            return Ok(Ending::Refused(Refusal::Sealed));
+        }
+        if need > log.room - log.end {
+            return Ok(Ending::Refused(Refusal::Full {
+                tail: log.end,
+                need,
+            }));
+        }
+        match tx.prepare_end(alloc, &mut self.here, node) {
+            Ok(Prepared::Record(words)) => Ok(Ending::Record(words)),
+            Ok(Prepared::Empty) => unreachable!(),
+            Err(_) => Err(AllocError),
+        }
+    }
+}
