@@ -1,13 +1,12 @@
 -- The journals of the other nodes stay.
-use Rattle.std.proofs.Common.{◌≡◌, ◌≢◌, ℕ, ◌≤◌, Bool, true, false, Some, eqb-true, List, [], ◌∷◌, ◌++◌, map, filter, refl, sym, ap, ◌∙◌}
+use Rattle.std.proofs.Common.{◌≡◌, ◌≢◌, ℕ, Bool, true, false, Some, eqb-true, List, [], ◌∷◌, ◌++◌, map, filter, refl, sym, ap, ◌∙◌}
 use Rattle.std.specs.Prelude.{if◌then◌else◌}
 use Rattle.std.proofs.lemmas.Bool.{ne_eqb}
 use Rattle.std.proofs.lemmas.List.{append-nil}
 use Rattle.lc_disk.specs.declared.area.Area.{Ghosts}
 use Rattle.lc_record.specs.Transaction.{Transaction, effects}
 use Rattle.lc_record.specs.Recorded.{record_of, records_from}
-use Rattle.lc_record.specs.declared.record.Record.{Record}
-use Rattle.lc_model.specs.History.{Entry, transactions, entries_of, front, is_of, leading}
+use Rattle.lc_model.specs.History.{Entry, transactions, entries_of, is_of}
 use Rattle.lc_model.specs.Machine.{appended, closed_by}
 use Rattle.lc_model.specs.Merging.{counted_all, is_from}
 use Rattle.lc_model.specs.State.{Setting, State, running_of, is_by}

@@ -1,12 +1,12 @@
 -- The desks of the other nodes stay.
-use Rattle.std.proofs.Common.{◌≡◌, ◌≢◌, ℕ, true, false, List, [], ◌∷◌, ◌++◌, map, find, length, Option, Some, None, refl, sym, ap, ◌∙◌, inl, inr}
+use Rattle.std.proofs.Common.{◌≡◌, ◌≢◌, ℕ, true, false, List, [], ◌∷◌, map, find, length, Some, refl, sym, ap, ◌∙◌, inl, inr}
 use Rattle.std.specs.Prelude.{slice_get, if◌then◌else◌, ◌⊎◌}
 use Rattle.std.proofs.lemmas.Bool.{cases_eq, false_from_ne_true, ne_eqb}
 use Rattle.lc_record.specs.Content.{segment_of}
-use Rattle.lc_record.specs.Transaction.{Transaction, is_member, locks, holds, effect}
+use Rattle.lc_record.specs.Transaction.{Transaction, is_member}
 use Rattle.lc_record.proofs.LockLemmas.{lock_holds}
-use Rattle.lc_model.specs.History.{Entry, History, entries_of, is_of}
-use Rattle.lc_model.specs.State.{Place, At, Travelling, Setting, State, running_of, has_unclosed, is_by, update}
+use Rattle.lc_model.specs.History.{Entry, entries_of, is_of}
+use Rattle.lc_model.specs.State.{Place, At, Travelling, Setting, State, running_of, is_by, update}
 use Rattle.lc_model.specs.Machine.{appended, closed_by, placed}
 use Rattle.lc_model.specs.Refusals.{is_at}
 use Rattle.lc_model.specs.Sound.{Sound, IsHere, IsProper, unclosed}
@@ -15,14 +15,13 @@ use Rattle.lc_model.proofs.Holders.{is_by-both}
 use Rattle.lc_model.proofs.Lists.{All-left, found-all, found-passes}
 use Rattle.lc_model.proofs.Result.{shape-effects}
 use Rattle.lc_model.proofs.Seats.{is_by-other, running-dropped_other, unclosed-appended_other, unclosed-closed_other, value-appended, value-closed, update-own, update-other}
-use Rattle.lc_tx.specs.Images.{IsHere as StandsHere, bytes_of}
 use Rattle.lc_tx.specs.Tx.{Holds, RunsOn}
 use Rattle.lc_tx.specs.declared.tx.Tx.{Tx}
 use Rattle.lc_tx.proofs.BesideLemmas.{stands_beside}
 use Rattle.lc_tx.proofs.HoldsLemmas.{held_cases}
 use Rattle.lc_tx.proofs.StandsLemmas.{unwritten}
 use Rattle.lc_core.specs.Beside.{Beside, content_of}
-use Rattle.lc_core.specs.Desk.{IsOpen, IsReserved, FitsSeat, FitsDesk}
+use Rattle.lc_core.specs.Desk.{FitsSeat, FitsDesk}
 use Rattle.lc_core.specs.Follows.{SameButLog}
 use Rattle.lc_core.specs.FollowsDesk.{SameButOpen}
 use Rattle.lc_core.specs.Here.{the_images}

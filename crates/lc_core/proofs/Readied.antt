@@ -1,18 +1,17 @@
 -- A transaction at a node's desk as a record: its numbers, and what refuses it.
-use Rattle.std.proofs.Common.{◌≡◌, ◌≢◌, ℕ, zero, suc, ◌+◌, ◌<◌, ◌≤◌, Bool, true, false, nat_lt, List, [], ◌∷◌, ◌++◌, map, filter, find, length, get_or, All, Option, Some, None, refl, sym, ap, subst, ◌∙◌, inl, inr, arith, true≢false}
-use Rattle.std.specs.Prelude.{◌↔◌, ◌^◌, ◌⊎◌, MatchResult, slice_get, Result, Ok, Err, IsSome, vec_len, if◌then◌else◌}
+use Rattle.std.proofs.Common.{◌≡◌, ℕ, zero, suc, ◌+◌, ◌<◌, ◌≤◌, Bool, true, false, nat_lt, List, [], ◌∷◌, filter, length, get_or, All, Option, Some, None, refl, sym, ap, subst, ◌∙◌, inl, inr, arith, true≢false}
+use Rattle.std.specs.Prelude.{◌↔◌, ◌^◌, MatchResult, slice_get, Result, Ok, Err, IsSome, vec_len, if◌then◌else◌}
 use Rattle.std.specs.Option.{ForSome}
-use Rattle.std.proofs.lemmas.Bool.{cases_Bool, false_from_ne_true, lt-ltb, le-ltb}
+use Rattle.std.proofs.lemmas.Bool.{false_from_ne_true, lt-ltb, le-ltb}
 use Rattle.std.proofs.lemmas.List.Elements.{All-head, All-tail}
 use Rattle.lc_record.specs.Marks.{is_empty}
 use Rattle.lc_record.specs.Record.{record_len, IsRecord}
-use Rattle.lc_record.specs.Recorded.{record_of}
 use Rattle.lc_record.specs.Transaction.{Transaction, is_member, locks}
 use Rattle.lc_record.specs.declared.record.Record.{Record}
 use Rattle.lc_record.specs.declared.record.Lock.{Lock}
 use Rattle.lc_record.proofs.LockLemmas.{meet_locks}
 use Rattle.lc_range.specs.RangeSet.{IsCanonical}
-use Rattle.lc_model.specs.History.{Entry, History, transactions, value}
+use Rattle.lc_model.specs.History.{History, transactions, value}
 use Rattle.lc_model.specs.Machine.{Row, dropped, may_refuse_reserve}
 use Rattle.lc_model.specs.Merging.{sets, counted_all}
 use Rattle.lc_model.specs.Refusals.{refuse_if}
@@ -44,7 +43,6 @@ use Rattle.lc_tx.proofs.StandsLemmas.{empty_set, record_stands}
 use Rattle.lc_core.specs.Desk.{IsOpen, FitsDesk}
 use Rattle.lc_core.specs.Here.{the_images, number_at}
 use Rattle.lc_core.specs.Numbers.{Numbers, token_number, next_record, log_end}
-use Rattle.lc_core.specs.Places.{same_some}
 use Rattle.lc_core.specs.Prepares.{FitsNumbers, EndsAt}
 use Rattle.lc_core.specs.Refused.{refusal_of}
 use Rattle.lc_core.specs.Seats.{AreShort}

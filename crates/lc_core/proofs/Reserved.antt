@@ -1,5 +1,5 @@
 -- A node's desk and journal together, at a reservation.
-use Rattle.std.proofs.Common.{◌≡◌, ◌≢◌, ℕ, zero, suc, Bool, true, false, List, [], ◌∷◌, ◌++◌, map, filter, find, length, Option, Some, None, refl, sym, ap, subst, ◌∙◌, inl, inr, arith}
+use Rattle.std.proofs.Common.{◌≡◌, ℕ, zero, suc, Bool, true, false, List, [], ◌∷◌, ◌++◌, map, filter, Option, Some, None, refl, sym, ap, subst, ◌∙◌, inl, inr, arith}
 use Rattle.std.specs.Prelude.{◌⊎◌, ◌≤◌, nat_lt, MatchBool, slice_get, IsSome, if◌then◌else◌}
 use Rattle.std.proofs.lemmas.Bool.{eq-eqb}
 use Rattle.std.proofs.lemmas.List.{append-nil}
@@ -8,10 +8,9 @@ use Rattle.lc_record.specs.Content.{Content}
 use Rattle.lc_record.specs.Marks.{is_empty}
 use Rattle.lc_record.specs.Recorded.{record_of, records_from}
 use Rattle.lc_record.specs.Transaction.{Transaction, effect, effects}
-use Rattle.lc_record.specs.declared.record.Record.{Record}
 use Rattle.lc_token.specs.Backlog.{Backlog}
 use Rattle.lc_token.specs.Standing.{Standing}
-use Rattle.lc_model.specs.History.{Entry, History, transactions, value}
+use Rattle.lc_model.specs.History.{Entry, History, transactions}
 use Rattle.lc_model.specs.Machine.{ReserveRow, MayRefuse, may_refuse_reserve, appended, dropped}
 use Rattle.lc_model.specs.Merging.{counted_all, is_from}
 use Rattle.lc_model.specs.Refusals.{OfRunning}
@@ -24,10 +23,9 @@ use Rattle.lc_model.proofs.Holders.{is_by-both}
 use Rattle.lc_model.proofs.Lists.{found-passes}
 use Rattle.lc_model.proofs.Merging.{records_from-append}
 use Rattle.lc_trunc.specs.Clean.{closed_of}
-use Rattle.lc_tx.specs.Images.{IsHere}
 use Rattle.lc_tx.specs.declared.image.Image.{Image as Picture}
 use Rattle.lc_core.specs.Here.{the_images, number_in, number_at, beside}
-use Rattle.lc_core.specs.Numbers.{Numbers, token_number, next_record}
+use Rattle.lc_core.specs.Numbers.{Numbers, next_record}
 use Rattle.lc_core.specs.Follows.{FitsJournal}
 use Rattle.lc_core.specs.Logging.{end_of_records}
 use Rattle.lc_core.specs.Node.{FitsNode}

@@ -11,7 +11,7 @@ use Rattle.lc_token.specs.Standing.{Standing}
 use Rattle.lc_tx.specs.Images.{IsSameBut, IsSame, IsWritten, AreLocked, AreFreed, bytes_of}
 use Rattle.lc_tx.specs.declared.image.Image.{Image as Picture}
 use Rattle.lc_tx.proofs.MemberLemmas.{member_both}
-use Rattle.lc_core.specs.Here.{the_images, number_in, number_at, image_at, number_of, beside, hidden}
+use Rattle.lc_core.specs.Here.{the_images, number_in, number_at, image_at, beside, hidden}
 use Rattle.lc_core.specs.Places.{get_set_same, get_set_other, same_some}
 use Rattle.lc_core.specs.Seats.{AreShort}
 use Rattle.lc_core.specs.declared.here.Here.{Here}

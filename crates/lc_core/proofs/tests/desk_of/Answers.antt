@@ -1,4 +1,4 @@
-use Rattle.std.proofs.Common.{◌≡◌, ℕ, zero, suc, ◌≤◌, List, [], ◌∷◌, length, arith, ap}
+use Rattle.std.proofs.Common.{◌≡◌, ℕ, zero, suc, ◌≤◌, List, [], ◌∷◌, length, arith}
 use Rattle.lc_tx.specs.declared.image.Image.{Image as Picture}
 use Rattle.lc_core.specs.Here.{image_of}
 use Rattle.lc_core.specs.declared.slot.Slot.{Slot}

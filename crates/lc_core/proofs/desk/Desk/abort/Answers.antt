@@ -7,7 +7,6 @@ use Rattle.lc_tx.proofs.StandsLemmas.{content_back}
 use Rattle.lc_core.specs.Here.{the_images}
 use Rattle.lc_core.proofs.Seating.{not_open, set_same}
 use Rattle.lc_core.proofs.Dropping.{runs_closed, own_open_runs, runs_after, the_open, dropped_but, desk_dropped, still, no_turn}
-use Rattle.std.proofs.Common.{length, ap}
 use Rattle.lc_core.proofs.Shortness.{few_slots, short_freed}
 use Rattle.lc_core.proofs.desk.Desk.abort.Goals as goal
 

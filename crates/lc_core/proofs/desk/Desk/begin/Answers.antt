@@ -6,7 +6,7 @@ use Rattle.lc_core.proofs.Refusing.{by_refusal, on_err}
 use Rattle.lc_core.proofs.Begun.{free_seat, not_free, begin_fault, begin_row, begun_but, desk_begun, runs_begun}
 use Rattle.std.specs.Prelude.{Err}
 use Rattle.lc_core.proofs.Refusing.{memory_wanted}
-use Rattle.std.proofs.Common.{length, ap}
+use Rattle.std.proofs.Common.{ap}
 use Rattle.lc_core.proofs.Shortness.{few_slots, short_same, short_locked}
 use Rattle.lc_core.proofs.desk.Desk.begin.Goals as goal
 

@@ -2,7 +2,6 @@ use Rattle.std.proofs.Common.{◌≡◌, None, Some, length, sym, ap, ◌∙◌}
 use Rattle.std.proofs.lemmas.Option.{slice_get_read}
 use Rattle.lc_record.specs.Content.{segment_of}
 use Rattle.lc_model.specs.History.{value}
-use Rattle.lc_tx.specs.declared.tx.Tx.{Tx}
 use Rattle.lc_tx.proofs.HoldsLemmas.{locked_holds}
 use Rattle.lc_core.specs.Places.{same_some}
 use Rattle.lc_core.specs.Seat.{open_of}

@@ -7,7 +7,7 @@ use Rattle.lc_core.proofs.Refusing.{by_refusal, on_err}
 use Rattle.std.proofs.Common.{ap}
 use Rattle.std.specs.Prelude.{Err}
 use Rattle.lc_core.proofs.Refusing.{memory_wanted}
-use Rattle.std.proofs.Common.{length, ap}
+use Rattle.std.proofs.Common.{ap}
 use Rattle.lc_core.proofs.Shortness.{few_slots, short_same}
 use Rattle.lc_core.proofs.desk.Desk.read.Goals as goal
 

@@ -23,7 +23,7 @@ use Rattle.lc_range.specs.RangeSet.{MissesSome}
 use Rattle.lc_core.specs.Places.{same_some}
 use Rattle.lc_core.proofs.Refusing.{memory_wanted}
 use Rattle.lc_core.proofs.Seating.{same_open}
-use Rattle.std.proofs.Common.{length, ap}
+use Rattle.std.proofs.Common.{ap}
 use Rattle.lc_core.proofs.Shortness.{few_slots, short_same}
 use Rattle.lc_core.proofs.desk.Desk.set_range.Goals as goal
 

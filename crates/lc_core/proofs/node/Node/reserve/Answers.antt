@@ -1,5 +1,4 @@
-use Rattle.std.proofs.Common.{◌≡◌, ℕ, false, length, Some, refl, sym, ap, subst, ◌∙◌, inl, inr}
-use Rattle.std.specs.Prelude.{Ok}
+use Rattle.std.proofs.Common.{◌≡◌, ℕ, length, Some, refl, sym, ap, subst, ◌∙◌, inl, inr}
 use Rattle.lc_model.specs.Machine.{dropped, appended}
 use Rattle.lc_model.specs.State.{running_of, is_by}
 use Rattle.lc_model.specs.declared.reply.Reply.TheVariants.{Reserved}
@@ -8,11 +7,10 @@ use Rattle.lc_model.proofs.Lists.{found-passes}
 use Rattle.lc_model.proofs.Rows.{reserve-done}
 use Rattle.lc_core.specs.Numbers.{next_record}
 use Rattle.lc_core.specs.Places.{same_some}
-use Rattle.lc_core.specs.Prepares.{EndsAt, Ends, Keeps}
+use Rattle.lc_core.specs.Prepares.{Ends, Keeps}
 use Rattle.lc_core.specs.Settled.{reserve_open}
 use Rattle.lc_core.specs.declared.ending.Ending.{Ending}
 use Rattle.lc_core.specs.declared.log_end.LogEnd.{LogEnd}
-use Rattle.lc_core.proofs.Logged.{count_same, end_same}
 use Rattle.lc_core.proofs.Refusing.{on_err}
 use Rattle.lc_core.proofs.Reserved.{numbers_kept, closed_appended, own_record, ended_open, ends_at, journal_dropped}
 use Rattle.lc_core.proofs.node.Node.reserve.Goals as goal
