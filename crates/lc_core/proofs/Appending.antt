@@ -151,6 +151,7 @@ module _ (i : ℕ) (here : Here) (seats : List Seat) (tx : Tx) (at : slice_get s
           ∙ ap (λ b. if b then Some t else None) (is_by-same node i t by.0 by.1);
       locked_are = stands.locked_are;
       reading_are = stands.reading_are;
+      set_is = stands.set_is;
       numbered = ap (λ l. slice_get l number) entries_are ∙ ap (slice_get (entries_of node s.history ++ entry t false ∷ [])) counts ∙ get-end (entries_of node s.history) (entry t false);
       shown = λ segment held. stands.shown segment held ∙ ap (segment_of segment) (sym next_is);
     }
@@ -175,6 +176,7 @@ module _ (i : ℕ) (here : Here) (seats : List Seat) (tx : Tx) (at : slice_get s
           found = ap (find (is_by node j)) unclosed_is ∙ find-left (is_by node j) (unclosed s.history) (t ∷ []) fits.transaction fits.found;
           locked_are = fits.locked_are;
           reading_are = fits.reading_are;
+          set_is = fits.set_is;
           numbered = ap (λ l. slice_get l count) entries_are ∙ get-before (entries_of node s.history) (entry t false ∷ []) count (entry fits.transaction false) fits.numbered;
           shown = λ segment held. fits.shown segment held
               ∙ sym (other_bytes segment (apart_at here tx other own_runs.runs theirs.runs (λ e. differ (sym theirs.own ∙ sym e ∙ own_runs.own)) segment held));

@@ -35,6 +35,10 @@ pub record ArriveAnswers (standing next : Standing) (applied : ℕ) (token : Tok
   pub placed_is : OnOk result (next ≡ record standing { token = Some token })
   pub err : OnErr result (next ≡ standing)
 
+pub same_came : (standing next : Standing) (token : Token) (result : Answer) → OnOk result (next ≡ record standing { token = Some token }) → OnErr result (next ≡ standing) → next.segment ≡ standing.segment
+same_came standing next token (Ok done) came err = ap (λ (p : Standing). p.segment) came
+same_came standing next token (Err fault) came err = ap (λ (p : Standing). p.segment) err
+
 -- no transaction has a segment whose token is elsewhere
 pub runs_came : (here : Here) (k : ℕ) (slot : Slot) (seats : List Seat) (next : Standing) (applied : ℕ) (token : Token) (result : Answer)
     → slice_get here.slots.items k ≡ Some slot → slot.token.token ≡ None → ArriveAnswers slot.token next applied token result → AllRun here seats

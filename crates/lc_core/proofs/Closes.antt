@@ -74,6 +74,7 @@ seat_closed old new node i j content next s (Reserved tx number) differ same fit
       ∙ running-dropped_other (record s { running = unclosed s.history }) node i node j (λ _ threads. differ (sym threads)) ∙ fits.found;
   locked_are = fits.locked_are;
   reading_are = fits.reading_are;
+  set_is = fits.set_is;
   numbered = ap (λ l. slice_get l number) (entries_shut node node i s.history)
       ∙ get-map (shut node i) (entries_of node s.history) number (entry fits.transaction false) fits.numbered
       ∙ ap (λ b. Some (if b then entry fits.transaction true else entry fits.transaction false)) not_mine;

@@ -52,6 +52,7 @@ seat_beside old new node j content s after (Reserved tx number) fits running his
   found = rw history fits.found;
   locked_are = fits.locked_are;
   reading_are = fits.reading_are;
+  set_is = fits.set_is;
   numbered = rw history fits.numbered;
   shown = λ segment held. keeps_bytes old new tx (keeps tx refl).1 segment held ∙ fits.shown segment held;
 }
@@ -106,6 +107,18 @@ desk_seen m node old new seats s runs same h = record {
 
 -- The end of an open transaction
 
+pub only_dropped : (s : State) (node i : ℕ) → SameButOpen node s (dropped s node i)
+only_dropped s node i = record {
+  earlier = refl;
+  history = refl;
+  place = refl;
+  phase = refl;
+  ack = refl;
+  halted = refl;
+  flush = refl;
+  running = λ other thread differ. running-dropped_other s node i other thread (λ same _. differ (sym same));
+}
+
 module _ (old new : Here) (seats : List Seat) (i : ℕ) (seat : Seat) (tx : Tx) (at : slice_get seats i ≡ Some seat) (is : open_of seat ≡ Some tx) (runs : AllRun old seats) where
   sits : holder_of (Some seat) ≡ Some tx
   sits = ap (λ x. holder_of (Some x)) (is_open seat tx is)
@@ -128,16 +141,7 @@ module _ (old new : Here) (seats : List Seat) (i : ℕ) (seat : Seat) (tx : Tx) 
       the_open = open_fits old node i seats seat tx m s h at is
 
       pub dropped_but : SameButOpen node s (dropped s node i)
-      dropped_but = record {
-        earlier = refl;
-        history = refl;
-        place = refl;
-        phase = refl;
-        ack = refl;
-        halted = refl;
-        flush = refl;
-        running = λ other thread differ. running-dropped_other s node i other thread (λ same _. differ (sym same));
-      }
+      dropped_but = only_dropped s node i
 
       threads_after : (j : ℕ) (other : Seat) → slice_get (slice_set seats i Free) j ≡ Some other → FitsSeat new node j content (dropped s node i) other
       threads_after j other got = elim (at_place seats i j seat Free other at got) [

@@ -1,15 +1,18 @@
 -- A token that leaves a node's desk, or stays.
 use Rattle.std.proofs.Common.{◌≡◌, ℕ, suc, ◌<◌, ◌≤◌, ◌-◌, Bool, true, false, not, List, map, Option, Some, None, refl, sym, ap, subst, ◌∙◌, inl, inr, arith, true≢false}
-use Rattle.std.specs.Prelude.{slice_get, slice_set, ◌↔◌, IsSome, IsOk, IfOk, OnOk, OnErr, Result, Ok, Err}
+use Rattle.std.specs.Prelude.{slice_get, slice_set, ◌↔◌, IsSome, is_some, if◌then◌else◌, IsOk, IfOk, OnOk, OnErr, Result, Ok, Err}
+use Rattle.std.specs.Option.{ForSome}
 use Rattle.std.specs.Vec.{with_item}
-use Rattle.std.proofs.lemmas.Bool.{eq-eqb, cases_lt}
+use Rattle.std.proofs.lemmas.Bool.{eq-eqb, cases_lt, lt-ltb, le-ltb}
 use Rattle.lc_model.specs.Machine.{Row, placed}
+use Rattle.lc_model.specs.History.{reserved}
 use Rattle.lc_model.specs.Refusals.{is_at, leave_refusal}
 use Rattle.lc_model.specs.Sound.{Sound}
 use Rattle.lc_model.specs.State.{Travelling, Setting, State}
 use Rattle.lc_model.specs.declared.event.Event.TheVariants.{Leave}
-use Rattle.lc_model.specs.declared.refusal.Refusal.TheVariants.{NotHere as AwayFrom, Held as KeptBy}
-use Rattle.lc_model.specs.declared.reply.Reply.TheVariants.{Refused}
+use Rattle.lc_model.specs.declared.refusal.Refusal.{Refusal}
+use Rattle.lc_model.specs.declared.refusal.Refusal.TheVariants.{NotHere as AwayFrom, Held as KeptBy, Writing as IsWriting, Unflushed as IsUnflushed}
+use Rattle.lc_model.specs.declared.reply.Reply.TheVariants.{Ok as Accepted, Refused}
 use Rattle.lc_model.proofs.Keeps.{acked-reserved}
 use Rattle.lc_model.proofs.Rows.{leave-refused, leave-not_here, leave-held, leave-free, leave-done, leave-unflushed, leave-writing}
 use Rattle.lc_token.specs.Standing.{Standing}
@@ -23,6 +26,9 @@ use Rattle.lc_tx.specs.declared.image.Image.{Image as Picture}
 use Rattle.lc_core.specs.Here.{the_images, number_in, number_at, number_of, image_at, image_of, beside}
 use Rattle.lc_core.specs.Seats.{AllRun}
 use Rattle.lc_core.specs.Desk.{FitsDesk}
+use Rattle.lc_core.specs.Numbers.{Numbers}
+use Rattle.lc_core.specs.Places.{same_some}
+use Rattle.lc_core.specs.Settled.{is_writing, leave_answer, open_answer}
 use Rattle.lc_core.specs.Leaves.{with_token, IsAsBefore, Leaves, MayLeave}
 use Rattle.lc_core.specs.declared.desk.Desk.{Desk}
 use Rattle.lc_core.specs.declared.here.Here.{Here}
@@ -44,7 +50,7 @@ pub record LeaveAnswers (standing next : Standing) (holds writes : Bool) (count 
   pub empty : OnOk result (next ≡ record standing { token = None })
   pub err : OnErr result (next ≡ standing)
 
-same_items : (old new : Here) → new.slots.items ≡ old.slots.items → new.spare ≡ old.spare → IsSame the_images old new
+pub same_items : (old new : Here) → new.slots.items ≡ old.slots.items → new.spare ≡ old.spare → IsSame the_images old new
 same_items old new slots spare = record {
   numbers = λ segment. ap (λ (l : List Slot). number_of l segment) slots;
   others = λ segment here other. ap (λ (l : List Slot). image_of new.spare l segment) slots ∙ ap (λ (p : Picture). image_of p old.slots.items segment) spare;
@@ -84,6 +90,10 @@ is_held_by b false is held_is = refl
 
 image_held : (here : Here) (k : ℕ) (slot : Slot) → slice_get here.slots.items k ≡ Some slot → holders_of the_images here (suc k) ≡ slot.image.holders
 image_held here k slot at = ap (λ o. (image_at here.spare o).holders) at
+
+pub same_left : (standing next : Standing) (result : Result Token TokenFault) → OnOk result (next ≡ record standing { token = None }) → OnErr result (next ≡ standing) → next.segment ≡ standing.segment
+same_left standing next (Ok token) empty err = ap (λ (p : Standing). p.segment) empty
+same_left standing next (Err fault) empty err = ap (λ (p : Standing). p.segment) err
 
 -- when it leaves
 pub may_leave : (slot : Slot) (next : Standing) (holds writes : Bool) (count stable : ℕ) (result : Result Token TokenFault)
@@ -139,10 +149,13 @@ module _ (old new : Desk) (segment : ℕ) (first : 1 ≤ segment) (slot : Slot) 
     away none = subst (λ (n : ℕ). Row m s (Leave node segment) (Refused (AwayFrom n)) s) (sym its)
         (leave-refused m s node segment (AwayFrom segment) (leave-not_here s node segment (h.elsewhere segment (number_is ∙ ap number_in none))))
 
-    kept : (token : Token) → slot.token.token ≡ Some token → holds ≡ true → Row m s (Leave node segment) (Refused KeptBy) s
-    kept token stands held_is = leave-refused m s node segment KeptBy (leave-held s node segment (at_node token stands)
+    kept_refusal : (token : Token) → slot.token.token ≡ Some token → holds ≡ true → leave_refusal s node segment ≡ Some KeptBy
+    kept_refusal token stands held_is = leave-held s node segment (at_node token stands)
         (not_free-held m node old.here old.seats.items s h segment (here_now token stands)
-        (λ free. not-free slot.image.holders (is_held_by holds (is_free slot.image.holders) holds_is held_is) (sym holders_are ∙ free))))
+        (λ free. not-free slot.image.holders (is_held_by holds (is_free slot.image.holders) holds_is held_is) (sym holders_are ∙ free)))
+
+    kept : (token : Token) → slot.token.token ≡ Some token → holds ≡ true → Row m s (Leave node segment) (Refused KeptBy) s
+    kept token stands held_is = leave-refused m s node segment KeptBy (kept_refusal token stands held_is)
 
     moved : (token : Token) → slot.token.token ≡ Some token → holds ≡ false → next ≡ record slot.token { token = None } → FitsDesk m node new.here new.seats.items (placed s segment Travelling)
     moved token stands unheld_is gone =
@@ -154,7 +167,20 @@ module _ (old new : Desk) (segment : ℕ) (first : 1 ≤ segment) (slot : Slot) 
         (λ j tx on held. unheld-free old.here (suc (segment - 1)) j tx (image_held old.here (segment - 1) slot at ∙ free) on held)
         m node s h Travelling (λ some. absurd cc) (λ none. refl)))
 
-  left : (r : Result Token TokenFault) → result ≡ r → IsOk r → Leaves segment count stable old r new
+  accepted : (m : Setting) (node : ℕ) (s : State) (x : Numbers) → is_writing m x segment ≡ false → s.ack node ≡ reserved node s.history → leave_answer m s x node segment ≡ Accepted
+  accepted m node s x idle all = rw (idle, le-ltb (s.ack node) (reserved node s.history) (omega (arith, all))) refl
+
+  -- where the machine refuses at once nothing is open
+  none_open : (m : Setting) (node : ℕ) (s : State) (x : Numbers) (refusal : Refusal) → leave_refusal s node segment ≡ Some refusal
+      → ForSome (open_answer m s x (Leave node segment)) (λ answer. Refused refusal ≡ answer)
+  none_open m node s x refusal is answer other = (let none : None ≡ Some answer = ap (λ o. if is_some o then None else Some (leave_answer m s x node segment)) (sym is) ∙ other in absurd cc)
+
+  one_open : (m : Setting) (node : ℕ) (s : State) (x : Numbers) (refusal : Refusal) → leave_refusal s node segment ≡ None → leave_answer m s x node segment ≡ Refused refusal
+      → ForSome (open_answer m s x (Leave node segment)) (λ answer. Refused refusal ≡ answer)
+  one_open m node s x refusal free is answer other =
+      same_some _ _ (ap Some (sym is) ∙ sym (ap (λ o. if is_some o then None else Some (leave_answer m s x node segment)) free) ∙ other)
+
+  left : (r : Result Token TokenFault) → result ≡ r → IsOk r → Leaves segment writes count stable old r new
   left (Err fault) same ok = absurd cc
   left (Ok token) same ok =
       let b = subst (λ (r : Result Token TokenFault). LeaveAnswers slot.token next holds writes count stable r) same a in
@@ -171,27 +197,51 @@ module _ (old new : Desk) (segment : ℕ) (first : 1 ≤ segment) (slot : Slot) 
         λ m node s sound h counts stables. (
           leave-done m s node segment (unheld m node s sound h token b.token done.1) (let most = acked-reserved m.geometry s node sound in let least = done.3 in omega (arith, most, least, counts, stables)),
           moved m node s sound h token b.token done.1 b.empty,
+          λ x told. accepted m node s x (sym told ∙ done.2) (let most = acked-reserved m.geometry s node sound in let least = done.3 in omega (arith, most, least, counts, stables)),
         ),
       )
 
-  decided : (o : Option Token) (b w : Bool) → slot.token.token ≡ o → holds ≡ b → writes ≡ w → Leaves segment count stable old result new
+  decided : (o : Option Token) (b w : Bool) → slot.token.token ≡ o → holds ≡ b → writes ≡ w → Leaves segment writes count stable old result new
   decided None b w none held writing =
       let same = a.not_here.1 none in
-      subst (λ (r : Result Token TokenFault). Leaves segment count stable old r new) (sym same) (stays (NotHere slot.token.segment) same, λ m node s sound h counts stables. away m node s sound h none)
+      subst (λ (r : Result Token TokenFault). Leaves segment writes count stable old r new) (sym same) (
+        stays (NotHere slot.token.segment) same,
+        λ m node s sound h counts stables. (
+          away m node s sound h none,
+          λ x told. none_open m node s x (AwayFrom slot.token.segment) (rw its (leave-not_here s node segment (h.elsewhere segment (number_is ∙ ap number_in none)))),
+        ),
+      )
   decided (Some token) true w stands held writing =
       let same = a.held.1 (some_now token stands, held) in
-      subst (λ (r : Result Token TokenFault). Leaves segment count stable old r new) (sym same) (stays Held same, λ m node s sound h counts stables. kept m node s sound h token stands held)
+      subst (λ (r : Result Token TokenFault). Leaves segment writes count stable old r new) (sym same) (
+        stays Held same,
+        λ m node s sound h counts stables. (
+          kept m node s sound h token stands held,
+          λ x told. none_open m node s x KeptBy (kept_refusal m node s sound h token stands held),
+        ),
+      )
   decided (Some token) false true stands held writing =
       let same = a.writing.1 (some_now token stands, held, writing) in
-      subst (λ (r : Result Token TokenFault). Leaves segment count stable old r new) (sym same)
-      (stays Writing same, λ m node s sound h counts stables. leave-writing m s node segment (unheld m node s sound h token stands held))
+      subst (λ (r : Result Token TokenFault). Leaves segment writes count stable old r new) (sym same) (
+        stays Writing same,
+        λ m node s sound h counts stables. (
+          leave-writing m s node segment (unheld m node s sound h token stands held),
+          λ x told. one_open m node s x IsWriting (unheld m node s sound h token stands held) (rw (sym told, writing) refl),
+        ),
+      )
   decided (Some token) false false stands held writing = elim (cases_lt stable count) [
     | inl below ↦
         let same = a.unflushed.1 (some_now token stands, held, writing, below) in
-        subst (λ (r : Result Token TokenFault). Leaves segment count stable old r new) (sym same)
-        (stays Unflushed same, λ m node s sound h counts stables. leave-unflushed m s node segment (unheld m node s sound h token stands held) (omega (arith, below, counts, stables)))
-    | inr enough ↦ subst (λ (r : Result Token TokenFault). Leaves segment count stable old r new) refl (left result refl (a.done.1 (some_now token stands, held, writing, enough)))
+        subst (λ (r : Result Token TokenFault). Leaves segment writes count stable old r new) (sym same) (
+          stays Unflushed same,
+          λ m node s sound h counts stables. (
+            leave-unflushed m s node segment (unheld m node s sound h token stands held) (omega (arith, below, counts, stables)),
+            λ x told. one_open m node s x IsUnflushed (unheld m node s sound h token stands held)
+                (rw (sym told, writing, lt-ltb (s.ack node) (reserved node s.history) (omega (arith, below, counts, stables))) refl),
+          ),
+        )
+    | inr enough ↦ subst (λ (r : Result Token TokenFault). Leaves segment writes count stable old r new) refl (left result refl (a.done.1 (some_now token stands, held, writing, enough)))
   ]
 
-  pub leaves : Leaves segment count stable old result new
+  pub leaves : Leaves segment writes count stable old result new
   leaves = decided slot.token.token holds writes refl refl refl

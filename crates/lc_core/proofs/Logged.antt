@@ -1,6 +1,6 @@
 -- A record more, and a record that is closed, among those that a journal keeps.
 use Rattle.std.proofs.Common.{◌≡◌, ◌⊎◌, ℕ, zero, suc, ◌+◌, ◌-◌, ◌≤◌, Bool, true, false, List, [], ◌∷◌, ◌++◌, map, length, take, drop, Some, slice_get, slice_set, refl, sym, ap, subst, ◌∙◌, arith, inl, inr, le_trans, eq-eqb}
-use Rattle.std.specs.Prelude.{Result, Ok, Err, IfOk, OnErr, filter, find, sum_by, if◌then◌else◌}
+use Rattle.std.specs.Prelude.{Result, Ok, Err, IfOk, OnErr, filter, find, nat_lt, sum_by, if◌then◌else◌}
 use Rattle.std.specs.List.{AllByRecursion}
 use Rattle.std.proofs.lemmas.List.{length-append, length-map, length-drop, map-append, take_all, take-append-le, drop-append-le}
 use Rattle.std.proofs.lemmas.List.Sums.{sum_by-cons}
@@ -22,14 +22,14 @@ use Rattle.lc_model.proofs.Fronts.{entry, front-closed, front-push, front-reserv
 use Rattle.lc_model.proofs.Lists.{found-passes}
 use Rattle.lc_model.proofs.Moves.{reserved-count}
 use Rattle.lc_core.specs.Numbers.{Numbers, round_records, log_end}
-use Rattle.lc_core.specs.Records.{Spelled, Kept, all_words, count_of, front_of, span_of, marks_of, closing}
+use Rattle.lc_core.specs.Records.{Spelled, Kept, all_words, count_of, front_of, span_of, marks_of, closing, closed_at}
 use Rattle.lc_core.specs.declared.log.Log.{Log}
 use Rattle.lc_core.specs.Log.{Stands}
 use Rattle.lc_core.specs.Journal.{FitsLog}
 use Rattle.lc_core.proofs.Appending.{filter-end}
-use Rattle.lc_core.proofs.Closes.{entries_shut}
+use Rattle.lc_core.proofs.Closes.{entries_shut, get-map}
 use Rattle.lc_core.proofs.Flushing.{part_of, span_joined}
-use Rattle.lc_core.proofs.Spans.{words_more, leading_more, leading_le, leading_set, closing_count, closing_marks}
+use Rattle.lc_core.proofs.Spans.{closed_in, words_more, leading_more, leading_le, leading_set, closing_count, closing_marks}
 use Rattle.lc_core.proofs.OneOpen.{shut_marks, one_open}
 
 -- Answers
@@ -86,6 +86,13 @@ span_all : (k : Kept) (from : ℕ) → k.before ≤ from → span_of k from (cou
 span_all k from kept =
     ap all_words (take_all (count_of k - from) (drop (from - k.before) k.records) (omega (arith, kept, length-drop (from - k.before) k.records)))
 
+-- a mark that is not set stands behind those that lead
+open_behind : (ms : List Bool) (n : ℕ) → slice_get ms n ≡ Some false → leading ms ≤ n
+open_behind [] n is = omega arith
+open_behind (false ∷ ms) n is = omega arith
+open_behind (true ∷ ms) zero is = absurd cc
+open_behind (true ∷ ms) (suc n) is = omega (arith, open_behind ms n is)
+
 -- these are those, and what a journal's facts ask of them
 pub record Extends (k later : Kept) (dropped acked taken : ℕ) (more : ℕ) : Type 0 where
   pub before_is : later.before ≡ k.before
@@ -97,9 +104,6 @@ pub record Extends (k later : Kept) (dropped acked taken : ℕ) (more : ℕ) : T
 module _ (k : Kept) (dropped acked taken : ℕ) (kept : k.before ≤ dropped) (first : dropped ≤ acked) (second : acked ≤ taken) (few : taken ≤ front_of k) where
   pub same_extends : Extends k k dropped acked taken 0
   same_extends = record { before_is = refl; front = omega arith; stable = refl; on_its_way = refl; end = omega arith }
-
-  pub more_of : List ℕ → Kept
-  more_of words = record k { records = k.records ++ record { words = words; closed = false } ∷ [] }
 
   front_more : (r : Spelled) → r.closed ≡ false → leading (marks_of (k.records ++ r ∷ [])) ≡ leading (marks_of k.records)
   front_more r open_still =
@@ -133,7 +137,7 @@ module _ (k : Kept) (dropped acked taken : ℕ) (kept : k.before ≤ dropped) (f
       ∙ ap (λ (l : List (List ℕ)). take n (drop at l)) (closing_each place k.records)
       ∙ sym (part_of (λ (r : Spelled). r.words) n at k.records))
 
-  pub closing_extends : (place : ℕ) → Extends k (record k { records = closing place k.records }) dropped acked taken 0
+  closing_extends : (place : ℕ) → Extends k (record k { records = closing place k.records }) dropped acked taken 0
   closing_extends place = record {
     before_is = refl;
     front = omega (arith, leading_set (marks_of k.records) place, ap leading (closing_marks place k.records));
@@ -145,6 +149,13 @@ module _ (k : Kept) (dropped acked taken : ℕ) (kept : k.before ≤ dropped) (f
       ap (λ (n : ℕ). length (span_of k dropped (k.before + n))) (closing_count place k.records),
     );
   }
+
+  pub closed_extends : (number : ℕ) → Extends k (closed_at number k) dropped acked taken 0
+  closed_extends number = closed_or (nat_lt number k.before) refl
+    where
+      closed_or : (b : Bool) → nat_lt number k.before ≡ b → Extends k (if b then k else record k { records = closing (number - k.before) k.records }) dropped acked taken 0
+      closed_or true is = same_extends
+      closed_or false is = closing_extends (number - k.before)
 
 -- as many records as transactions of a node
 length-records : (numbers : ℕ → ℕ) (content : Content) (node : ℕ) (ts : List Transaction) → length (filter (is_from node) (records_from numbers content ts)) ≡ length (filter (is_of node) ts)
@@ -232,7 +243,7 @@ module _ {D : Type 0} (a : Ghosts D) (m : Setting) (node : ℕ) (s : State) (x :
         taken_is = h.taken_is;
       }
 
-  pub fits_shut : (thread number : ℕ) (t : Transaction) → Sound m.geometry s → k.before ≤ number → find (is_by node thread) (unclosed s.history) ≡ Some t
+  fits_shut : (thread number : ℕ) (t : Transaction) → Sound m.geometry s → k.before ≤ number → find (is_by node thread) (unclosed s.history) ≡ Some t
       → slice_get (entries_of node s.history) number ≡ Some (entry t false)
       → FitsLog a m node log (record k { records = closing (number - k.before) k.records }) dropped trimmed taken acked (record s { history = closed_by node thread s.history }) x
   fits_shut thread number t sound kept found there =
@@ -257,3 +268,13 @@ module _ {D : Type 0} (a : Ghosts D) (m : Setting) (node : ℕ) (s : State) (x :
         acked_is = h.acked_is;
         taken_is = h.taken_is;
       }
+
+  -- what is not closed stands behind all that is dropped
+  pub fits_closed : (thread number : ℕ) (t : Transaction) → Sound m.geometry s → find (is_by node thread) (unclosed s.history) ≡ Some t
+      → slice_get (entries_of node s.history) number ≡ Some (entry t false)
+      → FitsLog a m node log (closed_at number k) dropped trimmed taken acked (record s { history = closed_by node thread s.history }) x
+  fits_closed thread number t sound found there =
+      let behind = open_behind marks number (get-map (λ (e : Entry). e.closed) (entries_of node s.history) number (entry t false) there) in
+      let kept : k.before ≤ number = le_trans h.all_closed behind in
+      subst (λ (l : Kept). FitsLog a m node log l dropped trimmed taken acked (record s { history = closed_by node thread s.history }) x) (sym (closed_in number k kept))
+      (fits_shut thread number t sound kept found there)

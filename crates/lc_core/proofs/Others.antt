@@ -55,6 +55,7 @@ module _ (m : Setting) (node other : ℕ) (s after : State) (differ : other ≢ 
     found = beside.found other j fits.transaction differ fits.found;
     locked_are = fits.locked_are;
     reading_are = fits.reading_are;
+    set_is = fits.set_is;
     numbered = beside.numbered other j number fits.transaction differ fits.found fits.numbered;
     shown = λ segment held. fits.shown segment held ∙ sym (beside.content other segment differ (held_place tx on segment held));
   })

@@ -4,6 +4,7 @@ use Rattle.std.specs.Prelude.{◌↔◌, ◌^◌, MatchResult, slice_get, Result
 use Rattle.std.specs.Option.{ForSome}
 use Rattle.std.proofs.lemmas.Bool.{false_from_ne_true, lt-ltb, le-ltb}
 use Rattle.std.proofs.lemmas.List.Elements.{All-head, All-tail}
+use Rattle.std.proofs.lemmas.Option.{slice_get_read}
 use Rattle.lc_record.specs.Marks.{is_empty}
 use Rattle.lc_record.specs.Record.{record_len, IsRecord}
 use Rattle.lc_record.specs.Transaction.{Transaction, is_member, locks}
@@ -45,13 +46,18 @@ use Rattle.lc_core.specs.Here.{the_images, number_at}
 use Rattle.lc_core.specs.Numbers.{Numbers, token_number, next_record, log_end}
 use Rattle.lc_core.specs.Prepares.{FitsNumbers, EndsAt}
 use Rattle.lc_core.specs.Refused.{refusal_of}
+use Rattle.lc_core.specs.Seat.{open_of}
 use Rattle.lc_core.specs.Seats.{AreShort}
 use Rattle.lc_core.specs.Settled.{refusal_or, first_spent, record_refusal, reserve_answer, reserve_open}
+use Rattle.lc_core.specs.declared.desk.Desk.{Desk}
 use Rattle.lc_core.specs.declared.here.Here.{Here}
 use Rattle.lc_core.specs.declared.log_end.LogEnd.{LogEnd}
 use Rattle.lc_core.specs.declared.seat.Seat.{Seat}
+use Rattle.lc_core.specs.declared.seat.Seat.TheVariants.{Open}
 use Rattle.lc_core.specs.declared.slot.Slot.{Slot}
+use Rattle.lc_core.proofs.Dropping.{own_open_runs, open_fits}
 use Rattle.lc_core.proofs.Holding.{holders-proper}
+use Rattle.lc_core.proofs.Seating.{is_open}
 use Rattle.lc_core.proofs.Settling.{may_all, refusal-may}
 
 -- What it locked is small
@@ -125,36 +131,73 @@ unspent_is [] next low = refl
 unspent_is (lock ∷ locks) next low =
     ap (λ b. if b then Some (SequenceSpent lock.segment) else first_spent locks next) (le-ltb (2 ^ 60) lock.seq low.0) ∙ unspent_is locks next low.1
 
-module _ (m : Setting) (node i : ℕ) (here : Here) (seats : List Seat) (s : State) (x : Numbers) (sound : Sound m.geometry s) (h : FitsDesk m node here seats s) (numbers : FitsNumbers here s x)
-    (tx : Tx) (one : IsOpen here node i tx (value m.start s.earlier s.history) s) (runs : RunsOn the_images here tx) (canonical : IsCanonical tx.set) where
+-- The open transaction of a thread at a desk
+
+pub record IsSeated (desk : Desk) (i : ℕ) (tx : Tx) : Type 0 where
+  pub at : slice_get desk.seats.items i ≡ Some (Open tx)
+  pub runs : RunsOn the_images desk.here tx
+  pub small : AreSmall the_images desk.here tx.locked.items
+
+pub seated : (desk : Desk) (i : ℕ) (seat : Seat) (tx : Tx) → i < vec_len desk.seats → seat ≡ get_or desk.seats.items i seat → Some tx ≡ open_of seat → IsSeated desk i tx
+seated desk i seat tx within got is = record {
+  at = at ∙ ap (λ y. Some y) (is_open seat tx (sym is));
+  runs = runs;
+  small = small_here desk.here tx runs desk.few_slots desk.short;
+}
+  where
+    at : slice_get desk.seats.items i ≡ Some seat
+    at = slice_get_read desk.seats.items desk.seats.len i seat desk.seats.ok.0 within got
+
+    runs : RunsOn the_images desk.here tx
+    runs = (own_open_runs desk.here desk.here desk.seats.items i seat tx at (sym is) desk.runs).runs
+
+-- and beside the machine's
+pub record IsReady (m : Setting) (node i : ℕ) (here : Here) (s : State) (x : Numbers) (tx : Tx) : Type 0 where
+  pub sound : Sound m.geometry s
+  pub numbers : FitsNumbers here s x
+  pub one : IsOpen here node i tx (value m.start s.earlier s.history) s
+  pub runs : RunsOn the_images here tx
+  pub canonical : IsCanonical tx.set
+
+pub ready : (desk : Desk) (i : ℕ) (tx : Tx) → IsSeated desk i tx → (m : Setting) (node : ℕ) (s : State) (x : Numbers) → Sound m.geometry s → FitsDesk m node desk.here desk.seats.items s
+    → FitsNumbers desk.here s x → IsCanonical tx.set → IsReady m node i desk.here s x tx
+ready desk i tx its m node s x sound h numbers canonical = record {
+  sound = sound;
+  numbers = numbers;
+  one = open_fits desk.here node i desk.seats.items (Open tx) tx m s h its.at refl;
+  runs = its.runs;
+  canonical = canonical;
+}
+
+module _ {m : Setting} {node i : ℕ} {here : Here} {s : State} {x : Numbers} {tx : Tx} (its : IsReady m node i here s x tx) where
   abbrev t : Transaction
-  t = one.transaction
+  t = its.one.transaction
 
   by : (t.node ≡ node) × (t.thread ≡ i)
-  by = is_by-both node i t (found-passes (is_by node i) s.running t one.running)
+  by = is_by-both node i t (found-passes (is_by node i) s.running t its.one.running)
 
   abbrev final : Record
   final = final_record the_images here tx node
 
   are : AreNumbers the_images here tx (counted_all x.disks.numbers (transactions s.history))
-  are segment lock = numbers segment (runs.here segment lock)
-      ∙ ap (λ n. Some n) (token_now m s x node i t segment sound one.running (ap (λ l. is_member segment l) one.stands.locked_are ∙ lock))
+  are segment lock = its.numbers segment (its.runs.here segment lock)
+      ∙ ap (λ n. Some n) (token_now m s x node i t segment its.sound its.one.running (ap (λ l. is_member segment l) its.one.stands.locked_are ∙ lock))
 
   pub record_is : final ≡ next_record m s x t
   record_is = ap (final_record the_images here tx) (sym by.0)
-      ∙ record_stands the_images here tx (counted_all x.disks.numbers (transactions s.history)) (value m.start s.earlier s.history) t canonical one.stands are
+      ∙ record_stands the_images here tx (counted_all x.disks.numbers (transactions s.history)) (value m.start s.earlier s.history) t its.canonical its.one.stands are
 
   pub set_some : (tx.set ≡ [] → ⊥) → is_empty t.marks ≡ false
-  set_some some = false_from_ne_true (is_empty t.marks) (λ e. some ((empty_set the_images here tx (value m.start s.earlier s.history) t canonical one.stands).1 e))
+  set_some some = false_from_ne_true (is_empty t.marks) (λ e. some ((empty_set the_images here tx (value m.start s.earlier s.history) t its.canonical its.one.stands).1 e))
 
   pub set_none : tx.set ≡ [] → is_empty t.marks ≡ true
-  set_none none = (empty_set the_images here tx (value m.start s.earlier s.history) t canonical one.stands).0 none
+  set_none none = (empty_set the_images here tx (value m.start s.earlier s.history) t its.canonical its.one.stands).0 none
 
   pub ended_row : tx.set ≡ [] → Row m s (Reserve node i) Ended (dropped s node i)
   ended_row none = subst (λ (n : ℕ). Row m s (Reserve node i) Ended (dropped s n i)) by.0
-      (subst (λ (k : ℕ). Row m s (Reserve node i) Ended (dropped s t.node k)) by.1 (reserve-ended m s node i t one.running (set_none none)))
+      (subst (λ (k : ℕ). Row m s (Reserve node i) Ended (dropped s t.node k)) by.1 (reserve-ended m s node i t its.one.running (set_none none)))
 
-  module _ (log : LogEnd) (ends : EndsAt m node s x log) where
+  module _ {log : LogEnd} (ends : EndsAt m node s x log) where
     abbrev answer : ℕ → ℕ → Bool → Record → Reply
     answer words end sealed r = refusal_or (record_refusal words end sealed r) (Reserved end (record_len r))
 
@@ -171,14 +214,14 @@ module _ (m : Setting) (node i : ℕ) (here : Here) (seats : List Seat) (s : Sta
 
     settled_open : (a : Reply) → is_empty t.marks ≡ false → reserve_open m s x (running_of node i s) ≡ Some a → reserve_answer m s x t ≡ a
     settled_open a set is = same_reply (reserve_answer m s x t) a
-        (sym (ap (λ b. if b then None else Some (reserve_answer m s x t)) set) ∙ sym (ap (reserve_open m s x) one.running) ∙ is)
+        (sym (ap (λ b. if b then None else Some (reserve_answer m s x t)) set) ∙ sym (ap (reserve_open m s x) its.one.running) ∙ is)
       where
         same_reply : (r q : Reply) → Some r ≡ Some q → r ≡ q
         same_reply r q e = cc
 
     pub refused_with : (refusal : Refusal) → record_refusal log.room log.end log.sealed final ≡ Some refusal → (tx.set ≡ [] → ⊥) → IsSettled refusal
     refused_with refusal is some = (
-      reserve-refused m s node i t refusal one.running (set_some some) (subst (λ o. may_all may_refuse_reserve o ≡ true) is (refusal-may log.room log.end log.sealed final)),
+      reserve-refused m s node i t refusal its.one.running (set_some some) (subst (λ o. may_all may_refuse_reserve o ≡ true) is (refusal-may log.room log.end log.sealed final)),
       λ a open_is. sym (ap (λ o. refusal_or o (Reserved log.end (record_len final))) is) ∙ sym answer_is ∙ settled_open a (set_some some) open_is,
     )
 

@@ -1,6 +1,6 @@
 -- A node's desk and journal together, at a reservation.
-use Rattle.std.proofs.Common.{◌≡◌, ℕ, zero, suc, Bool, true, false, List, [], ◌∷◌, ◌++◌, map, filter, Option, Some, None, refl, sym, ap, subst, ◌∙◌, inl, inr, arith}
-use Rattle.std.specs.Prelude.{◌⊎◌, ◌≤◌, nat_lt, MatchBool, slice_get, IsSome, if◌then◌else◌}
+use Rattle.std.proofs.Common.{◌≡◌, ℕ, Bool, true, false, List, [], ◌∷◌, ◌++◌, map, filter, Option, Some, None, refl, sym, ap, ◌∙◌, inl, inr, arith}
+use Rattle.std.specs.Prelude.{◌⊎◌, ◌≤◌, nat_lt, MatchBool, if◌then◌else◌}
 use Rattle.std.proofs.lemmas.Bool.{eq-eqb}
 use Rattle.std.proofs.lemmas.List.{append-nil}
 use Rattle.lc_disk.specs.declared.area.Area.{Ghosts}
@@ -8,8 +8,6 @@ use Rattle.lc_record.specs.Content.{Content}
 use Rattle.lc_record.specs.Marks.{is_empty}
 use Rattle.lc_record.specs.Recorded.{record_of, records_from}
 use Rattle.lc_record.specs.Transaction.{Transaction, effect, effects}
-use Rattle.lc_token.specs.Backlog.{Backlog}
-use Rattle.lc_token.specs.Standing.{Standing}
 use Rattle.lc_model.specs.History.{Entry, History, transactions}
 use Rattle.lc_model.specs.Machine.{ReserveRow, MayRefuse, may_refuse_reserve, appended, dropped}
 use Rattle.lc_model.specs.Merging.{counted_all, is_from}
@@ -23,42 +21,18 @@ use Rattle.lc_model.proofs.Holders.{is_by-both}
 use Rattle.lc_model.proofs.Lists.{found-passes}
 use Rattle.lc_model.proofs.Merging.{records_from-append}
 use Rattle.lc_trunc.specs.Clean.{closed_of}
-use Rattle.lc_tx.specs.declared.image.Image.{Image as Picture}
-use Rattle.lc_core.specs.Here.{the_images, number_in, number_at, beside}
 use Rattle.lc_core.specs.Numbers.{Numbers, next_record}
-use Rattle.lc_core.specs.Follows.{FitsJournal}
 use Rattle.lc_core.specs.Logging.{end_of_records}
 use Rattle.lc_core.specs.Node.{FitsNode}
-use Rattle.lc_core.specs.Prepares.{FitsNumbers, EndsAt}
+use Rattle.lc_core.specs.Prepares.{EndsAt}
 use Rattle.lc_core.specs.Records.{count_of, front_of}
 use Rattle.lc_core.specs.Settled.{reserve_answer, reserve_open}
-use Rattle.lc_core.specs.declared.here.Here.{Here}
-use Rattle.lc_core.specs.declared.journal.Journal.{Journal}
 use Rattle.lc_core.specs.declared.node.Node.{Node}
-use Rattle.lc_core.specs.declared.slot.Slot.{Slot}
 use Rattle.lc_core.proofs.Appending.{filter-end}
 use Rattle.lc_core.proofs.Logged.{end_same}
 use Rattle.lc_core.proofs.Spans.{leading_le}
 
 -- The numbers of tokens
-
-number_beside : (new old : List Slot) (k : ℕ) → map beside new ≡ map beside old → number_at (slice_get new k) ≡ number_at (slice_get old k)
-number_beside [] [] k same = refl
-number_beside [] (y ∷ ys) k same = absurd cc
-number_beside (x ∷ xs) [] k same = absurd cc
-number_beside (x ∷ xs) (y ∷ ys) zero same = (let one : beside x ≡ beside y = cc in ap (λ (b : Standing × Backlog × Option Picture). number_in b.0.token) one)
-number_beside (x ∷ xs) (y ∷ ys) (suc k) same = (let rest : map beside xs ≡ map beside ys = cc in number_beside xs ys k rest)
-
-number_is : (old new : Here) (segment : ℕ) → the_images.IsSameBeside old new → the_images.number_of new segment ≡ the_images.number_of old segment
-number_is old new zero same = refl
-number_is old new (suc k) same = number_beside new.slots.items old.slots.items k same.1
-
--- where the closed records stay
-pub numbers_kept : (old new : Here) (s after : State) (x : Numbers) → the_images.IsSameBeside old new → closed_of after.history ≡ closed_of s.history → FitsNumbers old s x → FitsNumbers new after x
-numbers_kept old new s after x same closed numbers segment here =
-    number_is old new segment same
-    ∙ numbers segment (subst (λ (o : Option ℕ). IsSome o) (number_is old new segment same) here)
-    ∙ ap (λ ts. Some (counted_all x.disks.numbers ts segment)) (sym closed)
 
 pub closed_appended : (s : State) (t : Transaction) → closed_of (appended s t).history ≡ closed_of s.history
 closed_appended s t = ap (map (λ (e : Entry). e.transaction)) (filter-end (λ (e : Entry). e.closed) s.history (entry t false)
@@ -114,18 +88,3 @@ module _ {D : Type 0} (a : Ghosts D) where
         room = sym w.journal.group_room ∙ h.room;
         sealed = same;
       }
-
-  -- a transaction that is not reserved is not the journal's
-  pub journal_dropped : (m : Setting) (n thread : ℕ) (w : Journal D a) (s : State) (x : Numbers) → FitsJournal a m n w s x → FitsJournal a m n w (dropped s n thread) x
-  journal_dropped m n thread w s x h = record {
-    words = h.words;
-    marks = h.marks;
-    all_closed = h.all_closed;
-    whole = h.whole;
-    stands = h.stands;
-    halted = h.halted;
-    dropped_is = h.dropped_is;
-    trimmed_is = h.trimmed_is;
-    acked_is = h.acked_is;
-    taken_is = h.taken_is;
-  }

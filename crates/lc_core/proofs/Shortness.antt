@@ -14,11 +14,18 @@ use Rattle.lc_tx.proofs.MemberLemmas.{member_both}
 use Rattle.lc_core.specs.Here.{the_images, number_in, number_at, image_at, beside, hidden}
 use Rattle.lc_core.specs.Places.{get_set_same, get_set_other, same_some}
 use Rattle.lc_core.specs.Seats.{AreShort}
+use Rattle.lc_core.specs.Slots.{AreInPlace, Besides, besides_of}
 use Rattle.lc_core.specs.declared.here.Here.{Here}
 use Rattle.lc_core.specs.declared.slot.Slot.{Slot}
 
 same_slots : (old new : Here) → the_images.IsSameBeside old new → length new.slots.items ≡ length old.slots.items
 same_slots old new same = sym (length-map new.slots.items beside) ∙ ap length same.1 ∙ length-map old.slots.items beside
+
+pub same_count : (old new : Here) → the_images.IsSameBeside old new → vec_len new.slots ≡ vec_len old.slots
+same_count old new same = (let are = same_slots old new same in let then_is = old.slots.ok.0 in let now_is = new.slots.ok.0 in omega (arith, are, then_is, now_is))
+
+pub same_len : (old new : Here) → new.slots.items ≡ old.slots.items → vec_len new.slots ≡ vec_len old.slots
+same_len old new same = (let are = ap length same in let then_is = old.slots.ok.0 in let now_is = new.slots.ok.0 in omega (arith, are, then_is, now_is))
 
 pub few_slots : (old new : Here) → the_images.IsSameBeside old new → vec_len old.slots ≤ 16 → vec_len new.slots ≤ 16
 few_slots old new same few = omega (arith, same_slots old new same, few, old.slots.ok.0, new.slots.ok.0)
@@ -40,6 +47,31 @@ away_image spare (x ∷ xs) (y ∷ ys) (suc k) same none = (let rest : map besid
 away_is : (old new : Here) (segment : ℕ) → the_images.IsSameBeside old new → the_images.number_of old segment ≡ None → the_images.image_of new segment ≡ the_images.image_of old segment
 away_is old new zero same none = same.0
 away_is old new (suc k) same none = ap (λ p. image_at p (slice_get new.slots.items k)) same.0 ∙ away_image old.spare new.slots.items old.slots.items k same.1 none
+
+-- and what stands in the slots stays in its place
+pub in_place_same : (old new : Here) → the_images.IsSameBeside old new → AreInPlace (besides_of old) → AreInPlace (besides_of new)
+in_place_same old new same = subst AreInPlace (sym same.1)
+
+same_slot : (slots : List Slot) (k : ℕ) (slot new : Slot) → slice_get slots k ≡ Some slot → new.token.segment ≡ slot.token.segment → new.parts ≡ slot.parts
+    → (j : ℕ) (b : Besides) → slice_get (map beside (slice_set slots k new)) j ≡ Some b
+    → (c : Besides) × (slice_get (map beside slots) j ≡ Some c) × (b.0.segment ≡ c.0.segment) × (b.1 ≡ c.1)
+same_slot [] k slot new is segment parts j b there = absurd cc
+same_slot (z ∷ slots) zero slot new is segment parts zero b there =
+    (let own : z ≡ slot = same_some z slot is in
+    let got : beside new ≡ b = same_some (beside new) b there in (beside z, refl, rw (sym got, own) segment, rw (sym got, own) parts))
+same_slot (z ∷ slots) zero slot new is segment parts (suc j) b there = (b, there, refl, refl)
+same_slot (z ∷ slots) (suc k) slot new is segment parts zero b there = (b, there, refl, refl)
+same_slot (z ∷ slots) (suc k) slot new is segment parts (suc j) b there = same_slot slots k slot new is segment parts j b there
+
+pub in_place_moved : (here : Here) (k : ℕ) (slot : Slot) (standing : Standing) → slice_get here.slots.items k ≡ Some slot → standing.segment ≡ slot.token.segment
+    → AreInPlace (besides_of here) → AreInPlace (besides_of (record here { slots = with_item here.slots k (record slot { token = standing }) }))
+in_place_moved here k slot standing at segment placed j b there =
+    let old = same_slot here.slots.items k slot (record slot { token = standing }) at segment refl j b there in
+    let its = placed j old.0 old.1 in (old.2 ∙ its.0, rw old.3 its.1, rw old.3 its.2)
+
+pub in_place_written : {V E : Type 0} (result : Result V E) (old new : Here) (segment offset : ℕ) (bytes : List ℕ) → OnOk result (IsWritten the_images old segment offset bytes new) → OnErr result (IsSame the_images old new) → AreInPlace (besides_of old) → AreInPlace (besides_of new)
+in_place_written (Ok v) old new segment offset bytes written same placed = in_place_same old new written.same.beside placed
+in_place_written (Err e) old new segment offset bytes written same placed = in_place_same old new same.beside placed
 
 pub short_kept : (old new : Here) (segments : List ℕ) → IsSameBut the_images segments old new
     → ((segment : ℕ) → is_member segment segments ≡ true → length (bytes_of the_images new segment) ≡ length (bytes_of the_images old segment)) → AreShort old → AreShort new

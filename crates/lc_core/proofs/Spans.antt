@@ -1,11 +1,13 @@
 -- Records as one list of words with places: what each change leaves of them.
 use Rattle.std.proofs.Common.{◌≡◌, ℕ, zero, suc, ◌+◌, ◌-◌, ◌<◌, ◌≤◌, ◌^◌, Bool, true, false, List, [], ◌∷◌, ◌++◌, map, length, take, drop, slice_set, slice_index_or, slice_get, Some, get_or, refl, sym, ap, ◌∙◌, arith}
+use Rattle.std.specs.Prelude.{if◌then◌else◌}
+use Rattle.std.proofs.lemmas.Bool.{lt-ltb, le-ltb}
 use Rattle.std.proofs.lemmas.List.{length-append, take_at, drop_at, take-append-drop, append-nil, length-map, drop-map, map-append, map-set, length-drop, drop-drop}
 use Rattle.std.proofs.lemmas.List.Concat.{flat_map-append}
 use Rattle.lc_model.specs.History.{leading}
 use Rattle.lc_core.specs.Places.{same_some}
 use Rattle.lc_core.specs.declared.place.Place.{Place}
-use Rattle.lc_core.specs.Records.{Spelled, Kept, all_words, marks_of, count_of, span_of, closing, spelled, places_of, shifted, AreKept}
+use Rattle.lc_core.specs.Records.{Spelled, Kept, all_words, marks_of, count_of, span_of, closing, closed_at, spelled, places_of, shifted, AreKept}
 
 -- the fields of what contracts see so
 pub record Holds (before : ℕ) (words : List ℕ) (places : List Place) (front : ℕ) (k : Kept) : Type 0 where
@@ -169,10 +171,22 @@ closing_marks place [] = refl
 closing_marks zero (r ∷ rs) = refl
 closing_marks (suc place) (r ∷ rs) = ap (λ (bs : List Bool). r.closed ∷ bs) (closing_marks place rs)
 
-pub open_within : (place : ℕ) (rs : List Spelled) (b : Bool) → slice_get (marks_of rs) place ≡ Some b → place < length rs
-open_within place [] b is = absurd cc
-open_within zero (r ∷ rs) b is = omega arith
-open_within (suc place) (r ∷ rs) b is = omega (arith, open_within place rs b is)
+-- behind the last record nothing is closed
+closing_beyond : (place : ℕ) (rs : List Spelled) → length rs ≤ place → closing place rs ≡ rs
+closing_beyond place [] past = refl
+closing_beyond zero (r ∷ rs) past = absurd (omega (arith, past))
+closing_beyond (suc place) (r ∷ rs) past = ap (λ (xs : List Spelled). r ∷ xs) (closing_beyond place rs (omega (arith, past)))
+
+pub closed_below : (number : ℕ) (k : Kept) → number < k.before → closed_at number k ≡ k
+closed_below number k below = ap (λ b. if b then k else record k { records = closing (number - k.before) k.records }) (lt-ltb number k.before below)
+
+pub closed_in : (number : ℕ) (k : Kept) → k.before ≤ number → closed_at number k ≡ record k { records = closing (number - k.before) k.records }
+closed_in number k within = ap (λ b. if b then k else record k { records = closing (number - k.before) k.records }) (le-ltb number k.before within)
+
+pub closed_beyond : (number : ℕ) (k : Kept) → count_of k ≤ number → closed_at number k ≡ k
+closed_beyond number k past =
+    closed_in number k (omega (arith, past))
+    ∙ ap (λ rs. record k { records = rs }) (closing_beyond (number - k.before) k.records (omega (arith, past)))
 
 -- how many marks stand in front
 
@@ -327,6 +341,3 @@ span_adjacent k from mid to kept first second =
 pub length-span : (k : Kept) (from mid to : ℕ) → k.before ≤ from → from ≤ mid → mid ≤ to → length (span_of k from to) ≡ length (span_of k from mid) + length (span_of k mid to)
 length-span k from mid to kept first second =
     ap length (span_adjacent k from mid to kept first second) ∙ length-append (span_of k from mid) (span_of k mid to)
-
-pub span_empty : (k : Kept) (at : ℕ) → span_of k at at ≡ []
-span_empty k at = let none : at - at ≡ 0 = omega arith in ap (λ (n : ℕ). all_words (take n (drop (at - k.before) k.records))) none

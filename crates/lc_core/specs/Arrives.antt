@@ -1,5 +1,5 @@
 -- What it makes of a desk that a token comes to.
-use Rattle.std.specs.Prelude.{◌≡◌, ◌≤◌, ◌<◌, ℕ, [], Some, None, length, Result, Ok, Err}
+use Rattle.std.specs.Prelude.{◌≡◌, ◌≤◌, ◌<◌, ℕ, Some, length, Result, Ok, Err}
 use Rattle.lc_record.specs.Content.{segment_of}
 use Rattle.lc_record.specs.Geometry.{segment_len}
 use Rattle.lc_token.specs.declared.token.Token.{Token}
@@ -16,13 +16,6 @@ use Rattle.lc_core.specs.declared.desk.Desk.{Desk}
 use Rattle.lc_core.specs.declared.slot.Slot.{Slot}
 use Rattle.lc_core.specs.Desk.{FitsDesk}
 use Rattle.lc_core.specs.Leaves.{HasToken, IsAsBefore}
-
--- this slot takes this token: it is of the segment, with no token, and no part waits
-pub record Takes (token : Token) (slot : Slot) : Type 0 where
-  pub token_segment : slot.token.segment ≡ token.segment
-  pub parts_segment : slot.parts.segment ≡ token.segment
-  pub empty : slot.token.token ≡ None
-  pub none_due : slot.parts.due ≡ []
 
 -- the slot of a segment whose token is on its way: no transaction has it, and where the node has applied all that the token
 -- has seen, its image shows the content

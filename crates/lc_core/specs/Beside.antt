@@ -1,13 +1,16 @@
 -- What the other nodes need to know of a step of one node.
-use Rattle.std.specs.Prelude.{◌≡◌, ℕ, false, map, length, find, Some, slice_get}
+use Rattle.std.specs.Prelude.{◌≡◌, ◌≤◌, ℕ, false, map, length, find, Some, slice_get}
 use Rattle.lc_record.specs.Content.{Content, segment_of}
 use Rattle.lc_record.specs.Transaction.{Transaction}
+use Rattle.lc_record.specs.declared.part.Part.{Part}
+use Rattle.lc_token.specs.declared.token.Token.{Token}
 use Rattle.lc_model.specs.History.{value, entries_of}
 use Rattle.lc_model.specs.State.{At, Setting, State, running_of, has_unclosed, is_by}
 use Rattle.lc_model.specs.Sound.{unclosed}
 use Rattle.lc_model.specs.Refusals.{is_at}
 use Rattle.lc_model.specs.Stored.{records_of}
-use Rattle.lc_core.specs.Numbers.{Numbers}
+use Rattle.lc_core.specs.Numbers.{Numbers, token_number}
+use Rattle.lc_core.specs.Slots.{Awaits, FitsToken, segment_to}
 
 -- the content that the history makes
 abbrev pub content_of : Setting → State → Content
@@ -39,3 +42,20 @@ pub record BesideLogs (m : Setting) (node : ℕ) (old : State) (x : Numbers) (ne
   pub ack : (other : ℕ) → (other ≡ node → ⊥) → new.ack other ≡ old.ack other
   pub dropped : (other : ℕ) → (other ≡ node → ⊥) → y.disks.dropped other ≡ x.disks.dropped other
   pub trimmed : (other : ℕ) → (other ≡ node → ⊥) → y.trimmed other ≡ x.trimmed other
+
+-- of each other node's slots: what it has applied and what waits there; the records that waiting parts are of, and what a
+-- segment is up to its numbers, which may grow; and of the tokens that are elsewhere, also of those on their way, all
+pub record BesideSlots (m : Setting) (node : ℕ) (old : State) (x : Numbers) (new : State) (y : Numbers) : Type 0 where
+  pub applied : (other segment : ℕ) → (other ≡ node → ⊥) → y.applied other segment ≡ x.applied other segment
+  pub waiting : (other segment : ℕ) → (other ≡ node → ⊥) → y.waiting other segment ≡ x.waiting other segment
+  pub rises : (segment : ℕ) → token_number old x segment ≤ token_number new y segment
+  pub parts : (segment : ℕ) (part : Part) → Awaits m old x segment part → Awaits m new y segment part
+  pub shown : (segment number : ℕ) → number ≤ token_number old x segment → segment_to m new y.disks segment number ≡ segment_to m old x.disks segment number
+  pub number : (segment : ℕ) → (old.place segment ≡ At node → ⊥) → token_number new y segment ≡ token_number old x segment
+  pub tokens : (segment : ℕ) (token : Token) → (old.place segment ≡ At node → ⊥) → FitsToken m segment token old x → FitsToken m segment token new y
+
+-- what another node sees of a step of one node
+pub record BesideNode (m : Setting) (node : ℕ) (old : State) (x : Numbers) (new : State) (y : Numbers) : Type 0 where
+  pub desks : Beside m node old new
+  pub logs : BesideLogs m node old x new y
+  pub slots : BesideSlots m node old x new y

@@ -1,9 +1,10 @@
 -- The images of a node and its open transactions, against those of the machine.
-use Rattle.std.specs.Prelude.{◌≡◌, ℕ, true, false, List, map, length, replicate, find, None, Some, slice_get}
+use Rattle.std.specs.Prelude.{◌≡◌, ◌↔◌, IsTrue, ℕ, true, false, List, map, length, replicate, find, None, Some, slice_get}
 use Rattle.lc_tx.specs.Tx.{Holds, Locked, Reads}
 use Rattle.lc_core.specs.Seat.{holder_of}
 use Rattle.lc_record.specs.Content.{Content, segment_of}
-use Rattle.lc_record.specs.Transaction.{Transaction}
+use Rattle.lc_range.specs.RangeSet.{Has}
+use Rattle.lc_record.specs.Transaction.{Transaction, all_set}
 use Rattle.lc_record.specs.Geometry.{segment_len}
 use Rattle.lc_model.specs.History.{value, entries_of}
 use Rattle.lc_model.specs.State.{Setting, State, At, running_of, has_unclosed, is_by}
@@ -33,6 +34,7 @@ pub record IsReserved (here : Here) (node thread : ℕ) (tx : Tx) (number : ℕ)
   pub found : find (is_by node thread) (unclosed s.history) ≡ Some transaction
   pub locked_are : transaction.locked ≡ tx.locked.items
   pub reading_are : transaction.reading ≡ tx.reading.items
+  pub set_is : (segment k : ℕ) → Has tx.set segment k ↔ IsTrue (all_set k 1 (segment_of segment transaction.marks))
   -- which of the node's it is
   pub numbered : slice_get (entries_of node s.history) number ≡ Some (record { transaction = transaction; closed = false })
   pub shown : (segment : ℕ) → Holds tx segment → bytes_of the_images here segment ≡ segment_of segment content

@@ -1,5 +1,6 @@
 -- What it makes of a desk that a token leaves.
 use Rattle.std.specs.Prelude.{◌≡◌, ◌≤◌, ℕ, ◌-◌, Bool, false, Option, Some, None, IsSome, MatchOption, Result, Ok, Err, slice_get}
+use Rattle.std.specs.Option.{ForSome}
 use Rattle.std.specs.Vec.{with_item}
 use Rattle.lc_token.specs.declared.token.Token.{Token}
 use Rattle.lc_token.specs.declared.fault.TokenFault.{TokenFault}
@@ -14,6 +15,8 @@ use Rattle.lc_core.specs.declared.desk.Desk.{Desk}
 use Rattle.lc_core.specs.declared.slot.Slot.{Slot}
 use Rattle.lc_core.specs.Desk.{FitsDesk}
 use Rattle.lc_core.specs.FollowsDesk.{StillFits}
+use Rattle.lc_core.specs.Numbers.{Numbers}
+use Rattle.lc_core.specs.Settled.{is_writing, leave_answer, open_answer}
 use Rattle.lc_core.specs.TokenRefused.{token_refusal}
 
 -- a slot with this in its token's place
@@ -39,14 +42,17 @@ abbrev pub MayLeave : Bool → ℕ → ℕ → Slot → Type 0
 MayLeave writing count stable slot = IsSome slot.token.token × (slot.image.holders ≡ Free) × (writing ≡ false) × (count ≤ stable)
 
 -- the token that stood in the slot is away, and the desk fits the machine with it on its way; or the machine may refuse with
--- the refusal of the same name
-abbrev pub Leaves : ℕ → ℕ → ℕ → Desk → Result Token TokenFault → Desk → Type 0
-Leaves segment count stable old (Ok token) new =
+-- the refusal of the same name. Either answer is the one that is settled
+abbrev pub Leaves : ℕ → Bool → ℕ → ℕ → Desk → Result Token TokenFault → Desk → Type 0
+Leaves segment writing count stable old (Ok token) new =
     ((slot : Slot) × (slot.token.token ≡ Some token) × HasToken segment slot None old new)
     × ((m : Setting) (node : ℕ) (s : State) → Sound m.geometry s → FitsDesk m node old.here old.seats.items s
     → count ≡ reserved node s.history → stable ≡ s.ack node
-    → Row m s (Leave node segment) Accepted (placed s segment Travelling) × FitsDesk m node new.here new.seats.items (placed s segment Travelling))
-Leaves segment count stable old (Err fault) new =
+    → Row m s (Leave node segment) Accepted (placed s segment Travelling) × FitsDesk m node new.here new.seats.items (placed s segment Travelling)
+    × ((x : Numbers) → writing ≡ is_writing m x segment → leave_answer m s x node segment ≡ Accepted))
+Leaves segment writing count stable old (Err fault) new =
     IsAsBefore old new
     × MatchOption (token_refusal fault) ⊥ (λ refusal. (m : Setting) (node : ℕ) (s : State) → Sound m.geometry s → FitsDesk m node old.here old.seats.items s
-    → count ≡ reserved node s.history → stable ≡ s.ack node → Row m s (Leave node segment) (Refused refusal) s)
+    → count ≡ reserved node s.history → stable ≡ s.ack node
+    → Row m s (Leave node segment) (Refused refusal) s
+    × ((x : Numbers) → writing ≡ is_writing m x segment → ForSome (open_answer m s x (Leave node segment)) (λ answer. Refused refusal ≡ answer)))

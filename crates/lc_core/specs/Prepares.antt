@@ -64,3 +64,17 @@ abbrev pub Prepares : ℕ → ℕ → LogEnd → Desk → Ending → Desk → Ty
 Prepares node thread log old ending new =
     (m : Setting) (s : State) (x : Numbers) → Sound m.geometry s → FitsDesk m node old.here old.seats.items s → FitsNumbers old.here s x
     → EndsAt m node s x log → Ends m node thread s x log ending new
+
+-- the thread's transaction gets its place in the log
+pub record GetsPlace (m : Setting) (node thread : ℕ) (s : State) (x : Numbers) (place : ℕ) : Type 0 where
+  pub transaction : Transaction
+  pub running : running_of node thread s ≡ Some transaction
+  pub set : is_empty transaction.marks ≡ false
+  pub words : ℕ
+  pub answer : reserve_answer m s x transaction ≡ Reserved place words
+
+-- it does so in each state that this fits
+abbrev pub WantsRecord : ℕ → ℕ → LogEnd → Desk → Type 0
+WantsRecord node thread log old =
+    (m : Setting) (s : State) (x : Numbers) → Sound m.geometry s → FitsDesk m node old.here old.seats.items s → FitsNumbers old.here s x
+    → EndsAt m node s x log → GetsPlace m node thread s x log.end

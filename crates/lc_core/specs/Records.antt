@@ -1,5 +1,5 @@
 -- The records that a node reserved, as contracts see them, and how they are kept: all words in one list, with places.
-use Rattle.std.specs.Prelude.{◌≡◌, ℕ, zero, suc, ◌+◌, ◌-◌, ◌<◌, ◌^◌, Bool, true, List, [], ◌∷◌, map, length, take, drop}
+use Rattle.std.specs.Prelude.{◌≡◌, ℕ, zero, suc, ◌+◌, ◌-◌, ◌<◌, ◌^◌, nat_lt, if◌then◌else◌, Bool, true, List, [], ◌∷◌, map, length, take, drop}
 use Rattle.std.specs.List.{flat_map}
 use Rattle.lc_model.specs.History.{leading}
 use Rattle.lc_core.specs.declared.place.Place.{Place}
@@ -38,6 +38,10 @@ abbrev pub closing : ℕ → List Spelled → List Spelled
 closing place [] = []
 closing zero (r ∷ rs) = record r { closed = true } ∷ rs
 closing (suc place) (r ∷ rs) = r ∷ closing place rs
+
+-- the record of this number is closed, where it is kept
+abbrev pub closed_at : ℕ → Kept → Kept
+closed_at number k = if nat_lt number k.before then k else record k { records = closing (number - k.before) k.records }
 
 -- How they are kept
 

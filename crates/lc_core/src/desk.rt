@@ -3,6 +3,7 @@ ghost use Rattle.std.specs.Prelude.{◌≡◌, ◌<◌, ◌≤◌, ℕ, vec_len,
 ghost use Rattle.lc_model.specs.declared.event.Event.TheVariants.{Abort};
 ghost use Rattle.lc_core.specs.Here.{the_images};
 ghost use Rattle.lc_core.specs.Seats.{AllRun, AreShort};
+ghost use Rattle.lc_core.specs.Slots.{AreInPlace, besides_of};
 ghost use Rattle.lc_core.specs.declared.seat.Seat.TheVariants.{Free};
 
 use crate::here::Here;
@@ -19,6 +20,7 @@ pub(crate) struct Desk {
     ghost few: { vec_len seats ≤ 16 },
     ghost few_slots: { vec_len here.slots ≤ 16 },
     ghost short: { AreShort here },
+    ghost in_place: { AreInPlace (besides_of here) },
 }
 
 impl Desk {
@@ -29,6 +31,7 @@ impl Desk {
         requires few { threads ≤ 16 }
         requires few_slots { vec_len here.slots ≤ 16 }
         requires short { AreShort here }
+        requires in_place { AreInPlace (besides_of here) }
         ensures here { IfOk result (λ desk. desk.here ≡ here) }
         ensures seats { IfOk result (λ desk. desk.seats.items ≡ replicate threads Free) }
         ensures threads { IfOk result (λ desk. vec_len desk.seats ≡ threads) }

@@ -47,6 +47,7 @@ impl<D: Area + Drop> Journal<D> {
         requires up { is_failed D.Area self.old.log ≡ false }
         ensures follows { (node : ℕ) → FollowsLog D.Area node self.old (FlushStep node) result self.new }
         ensures nothing { result ≡ Nothing → self.new ≡ self.old }
+        ensures words { self.new.words ≡ self.old.words }
 
         // One call of the device, or none.
         ensures device { (result ≡ Nothing → ⊥) → CallsOnce D.Area self.old.log self.new.log }
@@ -65,6 +66,7 @@ impl<D: Area + Drop> Journal<D> {
         requires idle { is_idle D.Area self.old.log ≡ true }
         ensures words { self.new.group.words ≡ span_of self.old.records self.old.acked self.new.taken }
         ensures taken { self.new.taken ≡ front_of self.old.records }
+        ensures room { self.new.words ≡ self.old.words }
         ensures log { self.new.log ≡ self.old.log }
         ensures records { self.new.records ≡ self.old.records }
         ensures dropped { self.new.dropped ≡ self.old.dropped }
@@ -82,6 +84,7 @@ impl<D: Area + Drop> Journal<D> {
         ensures steps { StepsTo D.Area self.old.log self.old.group.words self.new.log }
         ensures device { CallsOnce D.Area self.old.log self.new.log }
         ensures reply { result ≡ reply_of D.Area self.new.log self.old.taken }
+        ensures room { self.new.words ≡ self.old.words }
         ensures acked { self.new.acked ≡ acked_after D.Area self.new.log self.old.taken self.old.acked }
         ensures records { self.new.records ≡ self.old.records }
         ensures dropped { self.new.dropped ≡ self.old.dropped }

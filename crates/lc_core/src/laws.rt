@@ -2,7 +2,7 @@
 ghost use Rattle.std.specs.Prelude.{◌≡◌, ◌≢◌, ◌⊎◌, ℕ, List, Some};
 ghost use Rattle.lc_record.specs.Transaction.{Transaction};
 ghost use Rattle.lc_model.specs.Choices.{AtLeastOne};
-ghost use Rattle.lc_model.specs.Machine.{Step, appended, closed_by, placed};
+ghost use Rattle.lc_model.specs.Machine.{Step, Run, appended, closed_by, placed};
 ghost use Rattle.lc_model.specs.Sound.{Sound};
 ghost use Rattle.lc_model.specs.State.{Place, At, Travelling, State, Setting, running_of};
 ghost use Rattle.lc_core.specs.Beside.{Beside, BesideLogs};
@@ -10,6 +10,7 @@ ghost use Rattle.lc_core.specs.Desk.{FitsDesk};
 ghost use Rattle.lc_core.specs.Follows.{SameButLog};
 ghost use Rattle.lc_core.specs.FollowsDesk.{SameButOpen};
 ghost use Rattle.lc_core.specs.Numbers.{Numbers};
+ghost use Rattle.lc_core.specs.Runs.{RunsOn};
 ghost use Rattle.lc_core.specs.Settled.{Settled};
 ghost use Rattle.lc_core.specs.Journal.{FitsLog};
 ghost use Rattle.lc_core.specs.Records.{Kept};
@@ -36,6 +37,12 @@ pub fn settled_answers()
         (next : Numbers) × Turns m s x event reply next }
     ensures one_numbers { (m : Setting) (s : State) (x next others : Numbers) (event : Event) (reply : Reply) →
         Turns m s x event reply next → Turns m s x event reply others → reply ≢ Reply.Recovered → next ≡ others }
+{}
+
+/// A run whose replies are all settled is a run of the plain machine.
+pub fn settled_runs()
+    ensures { (m : Setting) (s : State) (x : Numbers) (events : List Event) (replies : List Reply) (after : State)
+        (next : Numbers) → RunsOn m s x events replies after next → Run m s events replies after }
 {}
 
 /// What one node does leaves the desks of the others fitting the machine: what becomes of its open transactions and of its

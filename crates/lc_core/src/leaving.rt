@@ -1,5 +1,5 @@
 //! How a token leaves a node.
-ghost use Rattle.std.specs.Prelude.{◌≡◌, ◌≤◌, ◌-◌, ◌↔◌, true, false, vec_len, slice_get, IsOk, Err};
+ghost use Rattle.std.specs.Prelude.{◌≡◌, ◌≤◌, ◌-◌, ◌↔◌, true, false, vec_len, slice_get, IsOk, IfOk, Err};
 ghost use Rattle.std.specs.Option.{ForSome};
 ghost use Rattle.lc_core.specs.Leaves.{Leaves, MayLeave};
 
@@ -24,12 +24,12 @@ impl Desk {
     ) -> Result<Token, TokenFault>
         requires first { 1 ≤ segment }
         requires slot { segment ≤ vec_len self.old.here.slots }
-        requires its { ForSome (slice_get self.old.here.slots.items (segment - 1)) (λ slot. slot.token.segment ≡ segment) }
         ensures done { ForSome (slice_get self.old.here.slots.items (segment - 1)) (λ slot.
             IsOk result ↔ MayLeave writing reserved stable slot) }
         ensures writing { (result ≡ Err TokenFault.Writing) → (writing ≡ true) }
         ensures unflushed { (result ≡ Err TokenFault.Unflushed) → (writing ≡ false) }
-        ensures leaves { Leaves segment reserved stable self.old result self.new }
+        ensures segment { IfOk result (λ token. token.segment ≡ segment) }
+        ensures leaves { Leaves segment writing reserved stable self.old result self.new }
     {
         let slot = &mut self.here.slots[segment as usize - 1];
         let held = !slot.image.holders().is_free();

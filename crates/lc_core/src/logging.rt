@@ -1,6 +1,5 @@
 //! What a node's log is to take: a record that is reserved, and one that is closed; and what no peer wants any more.
-ghost use Rattle.std.specs.Prelude.{◌≡◌, ◌↔◌, ◌+◌, ◌-◌, ◌<◌, ◌≤◌, ◌^◌, length, false, Some, IfOk, OnErr, IsTrue, slice_get};
-ghost use Rattle.lc_core.specs.Records.{count_of, marks_of};
+ghost use Rattle.std.specs.Prelude.{◌≡◌, ◌↔◌, ◌+◌, ◌-◌, ◌<◌, ◌≤◌, ◌^◌, length, IfOk, OnErr, IsTrue};
 ghost use Rattle.lc_core.specs.Logging.{end_of_records, Logs, Shuts, Trims};
 
 use crate::journal::Journal;
@@ -25,7 +24,6 @@ impl<D: Area + Drop> Journal<D> {
     /// Adds a record of these words, which is not closed, and answers its number. Where memory is wanted nothing has
     /// changed.
     pub(crate) fn reserve(&mut self, words: &[u64]) -> Result<u64, AllocError>
-        requires few { count_of self.old.records + 1 < 2 ^ 63 }
         requires room { end_of_records D.Area self.old + length words.now ≤ self.old.group.room }
         ensures logs { IfOk result (λ number. Logs D.Area self.old words.now number self.new) }
         ensures end { IfOk result (λ _. end_of_records D.Area self.new ≡ end_of_records D.Area self.old + length words.now) }
@@ -36,13 +34,12 @@ impl<D: Area + Drop> Journal<D> {
         self.records.reserve(words)
     }
 
-    /// Closes a record that is not closed. It takes no memory.
+    /// Closes the record of this number, where it is kept. It takes no memory.
     pub(crate) fn close(&mut self, number: u64)
-        requires kept { self.old.records.before ≤ number }
-        requires open { slice_get (marks_of self.old.records.records) (number - self.old.records.before) ≡ Some false }
         ensures shuts { Shuts D.Area self.old number self.new }
         ensures end { end_of_records D.Area self.new ≡ end_of_records D.Area self.old }
         ensures log { self.new.log ≡ self.old.log }
+        ensures group { self.new.group ≡ self.old.group }
     {
         self.records.close(number);
     }
@@ -53,6 +50,7 @@ impl<D: Area + Drop> Journal<D> {
         ensures trims { Trims D.Area self.old count self.new }
         ensures end { end_of_records D.Area self.new ≡ end_of_records D.Area self.old }
         ensures log { self.new.log ≡ self.old.log }
+        ensures group { self.new.group ≡ self.old.group }
     {
         self.trimmed += count;
     }

@@ -1,13 +1,17 @@
 //! One node.
-ghost use Rattle.std.specs.Prelude.{◌≡◌, ◌+◌, ◌<◌, ◌≤◌, ◌^◌, vec_len, IfOk, OnErr};
-ghost use Rattle.lc_core.specs.Records.{count_of};
+ghost use Rattle.std.specs.Prelude.{◌≡◌, ◌-◌, ◌+◌, ◌<◌, ◌≤◌, ◌^◌, ℕ, false, vec_len, slice_get, Some, IsSome, Err, IfOk, OnErr};
+ghost use Rattle.lc_core.specs.Log.{is_failed};
+ghost use Rattle.lc_core.specs.declared.slot.Slot.{Slot};
+ghost use Rattle.lc_model.specs.declared.event.Event.TheVariants.{Close, FlushStep};
 
-use crate::Reply;
 use crate::desk::Desk;
 use crate::ending::Ending;
 use crate::journal::Journal;
 use crate::log_end::LogEnd;
+use crate::token_refused::token_refusal;
+use crate::{Refusal, Reply};
 use lc_disk::Area;
+use lc_token::Token;
 use std::alloc::{AllocError, Global};
 
 /// What a node's threads do, and its log.
@@ -18,7 +22,7 @@ pub(crate) struct Node<D: Area> {
 }
 
 impl<D: Area + Drop> Node<D> {
-    ghost use Rattle.lc_core.specs.Node.{FollowsReserve, StillFitsNode};
+    ghost use Rattle.lc_core.specs.Node.{FollowsArrive, FollowsLeave, FollowsNode, FollowsReserve, HasSameRoom, StillFitsNode, WantsPlace};
 
     /// A thread's open transaction gets its place in the log of this node, which a reset may have sealed; one that set
     /// nothing is over. It takes memory only for a record for which there is room.
@@ -31,9 +35,10 @@ impl<D: Area + Drop> Node<D> {
     ) -> Result<Reply, AllocError>
         requires seat { thread < vec_len self.old.desk.seats }
         requires node { node ≤ 7 }
-        requires few { count_of self.old.journal.records + 1 < 2 ^ 63 }
         ensures follows { IfOk result (λ reply. FollowsReserve D.Area node thread sealed self.old reply self.new) }
+        ensures memory { OnErr result (WantsPlace D.Area node thread sealed self.old) }
         ensures err { OnErr result (StillFitsNode D.Area self.old self.new) }
+        ensures whole { HasSameRoom D.Area self.old self.new }
     {
         let log = LogEnd {
             end: self.journal.end(),
@@ -51,6 +56,80 @@ impl<D: Area + Drop> Node<D> {
                     words: words.as_slice().len() as u32,
                 })
             }
+        }
+    }
+
+    /// A thread's reservation is closed: its record is counted, may be flushed, and its locks are free. It takes no memory.
+    pub(crate) fn close(&mut self, thread: u16) -> Reply
+        requires seat { thread < vec_len self.old.desk.seats }
+        ensures follows { (node : ℕ) → FollowsNode D.Area node (Close node thread) self.old result self.new }
+        ensures whole { HasSameRoom D.Area self.old self.new }
+    {
+        let Some(number) = self.desk.count(thread) else {
+            return Reply::Refused(Refusal::OutOfTurn);
+        };
+        self.desk.close(thread);
+        self.journal.close(number);
+        Reply::Ok
+    }
+
+    /// One of the four device calls of a flush of the node's log.
+    pub(crate) fn flush_step(&mut self) -> Reply
+        requires up { is_failed D.Area self.old.journal.log ≡ false }
+        ensures follows { (node : ℕ) → FollowsNode D.Area node (FlushStep node) self.old result self.new }
+        ensures whole { HasSameRoom D.Area self.old self.new }
+    {
+        self.journal.flush_step()
+    }
+
+    /// The token of a segment, from 1, is taken away to be sent; `writing` says whether a page of the segment is being
+    /// written. It takes no memory.
+    ///
+    /// # Errors
+    ///
+    /// In this order: `NotHere`, `Held`, `Writing`, `Unflushed`. Nothing has changed then.
+    pub(crate) fn leave(&mut self, segment: u32, writing: bool) -> Result<Token, Refusal>
+        requires first { 1 ≤ segment }
+        requires slot { segment ≤ vec_len self.old.desk.here.slots }
+        ensures follows { FollowsLeave D.Area segment writing self.old result self.new }
+        ensures segment { IfOk result (λ token. token.segment ≡ segment) }
+        ensures whole { HasSameRoom D.Area self.old self.new }
+    {
+        let reserved = self.journal.records.count();
+        let stable = self.journal.acked;
+        match self.desk.leave(segment, writing, reserved, stable) {
+            Ok(token) => Ok(token),
+            Err(fault) => match token_refusal(fault) {
+                Some(refusal) => Err(refusal),
+                None => unreachable!(),
+            },
+        }
+    }
+
+    /// A token that was sent here is placed. It takes no memory.
+    ///
+    /// # Errors
+    ///
+    /// `OutOfTurn` where a token of the segment stands here; `Behind` where the node has not applied all that the token has
+    /// seen. The token is handed back, and nothing has changed.
+    pub(crate) fn arrive(&mut self, token: Token) -> Result<(), (Token, Refusal)>
+        requires first { 1 ≤ token.segment }
+        requires slot { token.segment ≤ vec_len self.old.desk.here.slots }
+        ensures follows { FollowsArrive D.Area token self.old result self.new }
+        ensures whole { HasSameRoom D.Area self.old self.new }
+        ensures stands { (slot : Slot) → slice_get self.old.desk.here.slots.items (token.segment - 1) ≡ Some slot → IsSome slot.token.token
+            → (result ≡ Err (token, Refusal.OutOfTurn)) × (self.new ≡ self.old) }
+    {
+        let slot = &self.desk.here.slots[token.segment as usize - 1];
+        if !slot.token.is_empty() {
+            return Err((token, Refusal::OutOfTurn));
+        }
+        match self.desk.arrive(token) {
+            Ok(()) => Ok(()),
+            Err((token, fault)) => match token_refusal(fault) {
+                Some(refusal) => Err((token, refusal)),
+                None => unreachable!(),
+            },
         }
     }
 }

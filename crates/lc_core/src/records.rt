@@ -1,11 +1,14 @@
 //! The records that a node reserved, in the order of their reservations.
 ghost use Rattle.std.specs.Prelude.{◌≡◌, ◌+◌, ◌-◌, ◌<◌, ◌≤◌, ◌^◌, ℕ, [], ◌∷◌, ◌++◌, map, length, take, drop, false, Some, IfOk, OnErr, All, slice_get};
 ghost use Rattle.lc_model.specs.History.{leading};
-ghost use Rattle.lc_core.specs.Records.{Spelled, all_words, count_of, front_of, span_of, marks_of, shifted, closing};
+ghost use Rattle.lc_core.specs.Records.{Spelled, all_words, count_of, front_of, span_of, marks_of, shifted, closed_at};
 
 use crate::place::Place;
 use std::alloc::{AllocError, Global};
 use std::marker::Model;
+
+// The number of the last record, and one.
+const MOST_RECORDS: u64 = (1 << 63) - 1;
 
 /// The records of a node since the last recovery, as one list of words, with the place of each. Those in front may
 /// have been dropped; a record keeps its number, which counts all that were reserved before it.
@@ -56,10 +59,9 @@ impl Records {
         self.before + self.leading as u64
     }
 
-    /// Adds a record of these words, which is not closed, and answers its number. Where memory is wanted nothing has
-    /// changed.
+    /// Adds a record of these words, which is not closed, and answers its number. It takes memory for each, and where memory
+    /// is wanted, as behind the last number, 2^63 - 2, nothing has changed.
     pub(crate) fn reserve(&mut self, words: &[u64]) -> Result<u64, AllocError>
-        requires { count_of self.old + 1 < 2 ^ 63 }
         ensures number { IfOk result (λ number. number ≡ count_of self.old) }
         ensures added { IfOk result (λ _. self.new ≡ record self.old {
           records = self.old.records ++ record { words = words.now; closed = false } ∷ [];
@@ -67,6 +69,9 @@ impl Records {
         ensures err { OnErr result (self.new ≡ self.old) }
     {
         let number = self.count();
+        if number >= MOST_RECORDS {
+            return Err(AllocError);
+        }
         self.places.reserve(1)?;
         self.words.extend_from_slice(words)?;
         let place = Place {
@@ -77,12 +82,13 @@ impl Records {
         Ok(number)
     }
 
-    /// Closes a record that is not closed.
+    /// Closes the record of this number, where it is kept.
     pub(crate) fn close(&mut self, number: u64)
-        requires kept { self.old.before ≤ number }
-        requires open { slice_get (marks_of self.old.records) (number - self.old.before) ≡ Some false }
-        ensures { self.new ≡ record self.old { records = closing (number - self.old.before) self.old.records } }
+        ensures { self.new ≡ closed_at number self.old }
     {
+        if number < self.before || number >= self.count() {
+            return;
+        }
         let place = (number - self.before) as usize;
         self.places[place].closed = true;
         self.leading = leading_from(self.places.as_slice(), self.leading);

@@ -5,6 +5,7 @@ ghost use Rattle.lc_core.specs.Here.{the_images};
 ghost use Rattle.lc_core.specs.Seat.{open_of, reserved_of};
 ghost use Rattle.lc_core.specs.declared.seat.Seat.{Seat as Sitting};
 ghost use Rattle.lc_core.specs.declared.seat.Seat.TheVariants.{Open};
+ghost use Rattle.lc_core.specs.Counts.{CountsSeat};
 ghost use Rattle.lc_core.specs.Reserves.{Reserves, Closes, EndsEmpty};
 
 use crate::desk::Desk;
@@ -24,6 +25,19 @@ impl Desk {
         if let Some(tx) = seat.take_open() {
             *seat = Seat::Reserved { tx, number };
         }
+    }
+
+    /// The record of the thread's reservation, whose number is answered, is counted by the tokens of its segments, under whose
+    /// next numbers its pages are changed; where the thread has none, nothing changes. It takes no memory.
+    pub(crate) fn count(&mut self, thread: u16) -> Option<u64>
+        requires seat { thread < vec_len self.old.seats }
+        ensures counts { CountsSeat thread self.old result self.new }
+    {
+        let Seat::Reserved { tx, number } = &self.seats[thread as usize] else {
+            return None;
+        };
+        self.here.count(tx.ranges());
+        Some(*number)
     }
 
     /// The thread's reservation is closed: its locks are free. Where the thread has none, nothing changes. It takes no

@@ -12,7 +12,7 @@ use std::alloc::{AllocError, Global};
 use std::test::Fail;
 
 // The desk of so many threads with segment 1, which has 256 zeros.
-fn desk_of(alloc: Global, threads: u16) -> Result<Desk, AllocError>
+pub(crate) fn desk_of(alloc: Global, threads: u16) -> Result<Desk, AllocError>
     requires few { threads ≤ 16 }
     ensures seats { IfOk result (λ desk. vec_len desk.seats ≡ threads) }
 {

@@ -26,7 +26,7 @@ pub mod Outcome
 mod Decided
 pub mod SomeOutcome
 pub mod Unrefused
-mod Steps
+pub mod Steps
 mod Recovered
 pub mod Within
 mod Zeros

@@ -62,6 +62,13 @@ impl HoldBack {
         self.applied
     }
 
+    /// Whether a number was applied, or is kept. It takes no memory.
+    pub fn knows(&self, seq: u64) -> bool
+        ensures { result ≡ is_known self.now seq }
+    {
+        seq <= self.applied || self.kept.contains(seq)
+    }
+
     /// Whether a part is due, which `next` hands out.
     pub fn has_due(&self) -> bool
         ensures some { IsTrue result ↔ (0 < length self.now.due) }
@@ -96,7 +103,7 @@ impl HoldBack {
         ensures err { OnErr result (self.new ≡ self.old) }
     {
         let seq = Part::number_in(record, self.segment).unwrap();
-        if self.is_known(seq) {
+        if self.knows(seq) {
             return Ok(Received::Ignored);
         }
         let part = Part::of(alloc, record, self.segment)?.unwrap();
@@ -124,13 +131,6 @@ impl HoldBack {
     {
         let _ = self.kept.take_next(self.applied);
         self.applied = seq;
-    }
-
-    // Whether a number was applied, or is kept.
-    fn is_known(&self, seq: u64) -> bool
-        ensures { result ≡ is_known self.now seq }
-    {
-        seq <= self.applied || self.kept.contains(seq)
     }
 
     // Keeps a part behind a hole.

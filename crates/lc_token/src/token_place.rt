@@ -1,5 +1,5 @@
 //! The place of a segment's token at a node.
-ghost use Rattle.std.specs.Prelude.{◌≡◌, ◌+◌, ◌<◌, ◌≤◌, ◌^◌, ◌↔◌, true, false, [], length, IfOk, IsOk, IsSome, IsSomeAnd, IsTrue, OnOk, OnErr};
+ghost use Rattle.std.specs.Prelude.{◌≡◌, ◌+◌, ◌<◌, ◌≤◌, ◌^◌, ◌↔◌, true, false, [], length, slice_set, IfOk, IsOk, IsSome, IsSomeAnd, IsTrue, OnOk, OnErr};
 ghost use Rattle.std.specs.Option.{ForSome, option_copied, option_copied_mut};
 ghost use Rattle.std.specs.Borrow.{sem};
 
@@ -28,6 +28,7 @@ impl Model for TokenPlace {
 }
 
 impl TokenPlace {
+    ghost use Rattle.lc_page.specs.PageVector.{entry_at, touched_at};
     ghost use Rattle.lc_token.specs.Token.{IsWritten};
     ghost use Rattle.lc_token.specs.Lending.{LendsPages};
 
@@ -73,6 +74,18 @@ impl TokenPlace {
     {
         if let Some(token) = &mut self.token {
             token.seq += 1;
+        }
+    }
+
+    /// Notes that a page of the segment is changed under the token's number. A token stands here. It takes no memory.
+    pub fn touch(&mut self, page: u32)
+        requires { IsSomeAnd self.old.token (λ t. page < length t.pages) }
+        ensures { ForSome self.old.token (λ t. self.new ≡ record self.old {
+          token = Some (record t { pages = slice_set t.pages page (touched_at (entry_at t.pages page) t.seq) });
+        }) }
+    {
+        if let Some(token) = &mut self.token {
+            token.pages.touch(page, token.seq);
         }
     }
 

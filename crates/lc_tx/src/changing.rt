@@ -1,6 +1,6 @@
 //! The changes of a transaction.
 ghost use Rattle.std.specs.Prelude.{◌≡◌, ◌≢◌, ◌↔◌, ◌+◌, ◌-◌, ◌^◌, ◌<◌, ◌≤◌, ℕ, IsTrue, IsOk, length, take, drop, min, slice_index, Some, None, IfOk, OnOk, OnErr, IfErr};
-ghost use Rattle.lc_range.specs.RangeSet.{AddsPositions, MissesSome, NeedsRunsAbove};
+ghost use Rattle.lc_range.specs.RangeSet.{AddsPositions, EndWithin, IsCanonical, MissesSome, NeedsRunsAbove};
 ghost use Rattle.lc_range.specs.Undo.{KeepsOld, LiesBelow};
 ghost use Rattle.lc_tx.specs.Images.{IsSame, IsWritten, bytes_of};
 ghost use Rattle.lc_tx.specs.Fault.{is_of_lock, is_of_set_range, is_of_read};
@@ -9,7 +9,7 @@ ghost use Rattle.lc_tx.specs.Tx.{AreSet, Holds, Locked, Reads, RunsOn, SetsRange
 use crate::image::lay;
 use crate::lock_mode::LockMode;
 use crate::{Images, Tx, TxFault};
-use lc_range::{RangeFault, RangeSet};
+use lc_range::{Range, RangeFault, RangeSet};
 use std::alloc::Global;
 
 // Whether so many bytes from an offset on lie among these.
@@ -64,6 +64,16 @@ impl Tx {
         ensures { result.now ≡ self.now.set }
     {
         &self.set
+    }
+
+    /// The ranges that are set, ascending by segment and offset, each at least one byte long, at most 64.
+    pub fn ranges(&self) -> &[Range]
+        ensures ranges { result.now ≡ self.now.set }
+        ensures canonical { IsCanonical self.now.set }
+        ensures few { length self.now.set ≤ 64 }
+        ensures ends { EndWithin self.now.set (2 ^ 32 - 1) }
+    {
+        self.set.ranges()
     }
 
     // How it locked a segment, if it did.

@@ -7,7 +7,7 @@ use Rattle.lc_tx.proofs.StandsLemmas.{content_back}
 use Rattle.lc_core.specs.Here.{the_images}
 use Rattle.lc_core.proofs.Seating.{not_open, set_same}
 use Rattle.lc_core.proofs.Dropping.{runs_closed, own_open_runs, runs_after, the_open, dropped_but, desk_dropped, still, no_turn}
-use Rattle.lc_core.proofs.Shortness.{few_slots, short_freed}
+use Rattle.lc_core.proofs.Shortness.{few_slots, in_place_same, short_freed}
 use Rattle.lc_core.proofs.desk.Desk.abort.Goals as goal
 
 pub invariant_of-self-clause-runs : goal.invariant_of-self-clause-runs
@@ -58,6 +58,9 @@ returns-clause-follows c = λ node m s known sound h.
 
 pub invariant_of-self-2-clause-few_slots : goal.invariant_of-self-2-clause-few_slots
 invariant_of-self-2-clause-few_slots c = few_slots c.args.self.now.here c.abort.new.images c.abort.ensures.freed.same.beside c.args.self.now.few_slots
+
+pub invariant_of-self-2-clause-in_place : goal.invariant_of-self-2-clause-in_place
+invariant_of-self-2-clause-in_place c = in_place_same c.args.self.now.here c.abort.new.images c.abort.ensures.freed.same.beside c.args.self.now.in_place
 
 pub invariant_of-self-2-clause-short : goal.invariant_of-self-2-clause-short
 invariant_of-self-2-clause-short c = short_freed c.in-Some.tx.thread c.in-Some.tx.locked.items c.in-Some.tx.reading.items c.args.self.now.here c.abort.new.images c.abort.ensures.freed c.abort.ensures.same_length c.args.self.now.short

@@ -1,8 +1,29 @@
-use Rattle.std.proofs.Common.{◌-◌, ◌<◌, refl, arith}
+use Rattle.std.proofs.Common.{◌≡◌, ◌-◌, ◌<◌, [], refl, sym, ◌∙◌, arith}
 use Rattle.std.proofs.lemmas.Option.{slice_get_read}
-use Rattle.lc_core.proofs.Arrived.{arrives, runs_came}
-use Rattle.lc_core.proofs.Shortness.{short_moved}
+use Rattle.lc_core.specs.Here.{beside}
+use Rattle.lc_core.proofs.Closes.{get-map}
+use Rattle.lc_core.proofs.Arrived.{arrives, runs_came, same_came}
+use Rattle.lc_core.proofs.Shortness.{in_place_moved, short_moved}
 use Rattle.lc_core.proofs.desk.Desk.arrive.Goals as goal
+
+module _ (c : goal.After-arrive-arg-2-1) where
+  its : (c.index_mut-slot.result.now.token.segment ≡ c.args.token.segment) × (c.index_mut-slot.result.now.parts.segment ≡ c.args.token.segment) × (c.index_mut-slot.result.now.parts.due ≡ [])
+  its =
+      let w = c.args.self.now in
+      let slot = c.index_mut-slot.result.now in
+      let within : c.args.token.segment - 1 < w.here.slots.len = omega (arith, c.requires.first, c.requires.slot) in
+      let at = slice_get_read w.here.slots.items w.here.slots.len (c.args.token.segment - 1) slot w.here.slots.ok.0 within c.index_mut-slot.ensures.value in
+      let place = w.in_place (c.args.token.segment - 1) (beside slot) (get-map beside w.here.slots.items (c.args.token.segment - 1) slot at) in
+      (omega (arith, place.0, c.requires.first), omega (arith, place.1, c.requires.first), place.2)
+
+pub arrive-requires-clause-none_due : goal.arrive-requires-clause-none_due
+arrive-requires-clause-none_due c = (its c).2
+
+pub arrive-requires-clause-same_token : goal.arrive-requires-clause-same_token
+arrive-requires-clause-same_token c = sym (its c).0
+
+pub arrive-requires-clause-same_hold_back : goal.arrive-requires-clause-same_hold_back
+arrive-requires-clause-same_hold_back c = (its c).1 ∙ sym (its c).0
 
 pub invariant_of-self-clause-runs : goal.invariant_of-self-clause-runs
 invariant_of-self-clause-runs c =
@@ -10,8 +31,7 @@ invariant_of-self-clause-runs c =
     let slot = c.index_mut-slot.result.now in
     let within : c.args.token.segment - 1 < w.here.slots.len = omega (arith, c.requires.first, c.requires.slot) in
     let at = slice_get_read w.here.slots.items w.here.slots.len (c.args.token.segment - 1) slot w.here.slots.ok.0 within c.index_mut-slot.ensures.value in
-    let takes = c.requires.takes slot at in
-    runs_came w.here (c.args.token.segment - 1) slot w.seats.items c.arrive.new.self slot.parts.applied c.args.token c.arrive.result at takes.empty
+    runs_came w.here (c.args.token.segment - 1) slot w.seats.items c.arrive.new.self slot.parts.applied c.args.token c.arrive.result at (c.requires.empty slot at)
     (record {
       behind = c.arrive.ensures.behind;
       done = c.arrive.ensures.done;
@@ -26,9 +46,8 @@ returns c =
     let slot = c.index_mut-slot.result.now in
     let within : c.args.token.segment - 1 < w.here.slots.len = omega (arith, c.requires.first, c.requires.slot) in
     let at = slice_get_read w.here.slots.items w.here.slots.len (c.args.token.segment - 1) slot w.here.slots.ok.0 within c.index_mut-slot.ensures.value in
-    let takes = c.requires.takes slot at in
     record {
-      arrives = arrives w _ c.args.token c.requires.first slot at takes.empty c.arrive.new.self c.arrive.result
+      arrives = arrives w _ c.args.token c.requires.first slot at (c.requires.empty slot at) c.arrive.new.self c.arrive.result
           (record {
             behind = c.arrive.ensures.behind;
             done = c.arrive.ensures.done;
@@ -37,6 +56,14 @@ returns c =
           })
           refl refl;
     }
+
+pub invariant_of-self-clause-in_place : goal.invariant_of-self-clause-in_place
+invariant_of-self-clause-in_place c =
+    let w = c.args.self.now in
+    let slot = c.index_mut-slot.result.now in
+    let within : c.args.token.segment - 1 < w.here.slots.len = omega (arith, c.requires.first, c.requires.slot) in
+    let at = slice_get_read w.here.slots.items w.here.slots.len (c.args.token.segment - 1) slot w.here.slots.ok.0 within c.index_mut-slot.ensures.value in
+    in_place_moved w.here (c.args.token.segment - 1) slot c.arrive.new.self at (same_came slot.token c.arrive.new.self c.args.token c.arrive.result c.arrive.ensures.placed c.arrive.ensures.err) w.in_place
 
 pub invariant_of-self-clause-short : goal.invariant_of-self-clause-short
 invariant_of-self-clause-short c =

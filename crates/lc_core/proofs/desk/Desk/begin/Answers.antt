@@ -7,7 +7,7 @@ use Rattle.lc_core.proofs.Begun.{free_seat, not_free, begin_fault, begin_row, be
 use Rattle.std.specs.Prelude.{Err}
 use Rattle.lc_core.proofs.Refusing.{memory_wanted}
 use Rattle.std.proofs.Common.{ap}
-use Rattle.lc_core.proofs.Shortness.{few_slots, short_same, short_locked}
+use Rattle.lc_core.proofs.Shortness.{few_slots, in_place_same, short_same, short_locked}
 use Rattle.lc_core.proofs.desk.Desk.begin.Goals as goal
 
 pub returns-then-not-is_free-clause-follows : goal.returns-then-not-is_free-clause-follows
@@ -25,7 +25,7 @@ invariant_of-self-clause-runs c =
     runs_begun c.args.thread w.here c.begin.new.images c.args.segments.now c.args.reading.now c.in-Ok.tx c.in-Ok.ensures.begins c.in-Ok.ensures.free w.seats.items at c.in-Ok.ensures.runs w.runs
 
 pub invariant_of-self-in-Err-1 : goal.invariant_of-self-in-Err-1
-invariant_of-self-in-Err-1 c = record { runs = runs_same c.args.self.now.here c.begin.new.images c.args.self.now.seats.items c.args.self.now.runs c.in-Err.ensures.err; few = c.args.self.now.few; few_slots = few_slots c.args.self.now.here c.begin.new.images c.in-Err.ensures.err.beside c.args.self.now.few_slots; short = short_same c.args.self.now.here c.begin.new.images c.in-Err.ensures.err c.args.self.now.short }
+invariant_of-self-in-Err-1 c = record { runs = runs_same c.args.self.now.here c.begin.new.images c.args.self.now.seats.items c.args.self.now.runs c.in-Err.ensures.err; few = c.args.self.now.few; few_slots = few_slots c.args.self.now.here c.begin.new.images c.in-Err.ensures.err.beside c.args.self.now.few_slots; short = short_same c.args.self.now.here c.begin.new.images c.in-Err.ensures.err c.args.self.now.short; in_place = in_place_same c.args.self.now.here c.begin.new.images c.in-Err.ensures.err.beside c.args.self.now.in_place }
 
 pub returns-in-Ok-clause-follows : goal.returns-in-Ok-clause-follows
 returns-in-Ok-clause-follows c = λ node m s known sound h.
@@ -59,6 +59,9 @@ returns-in-Err-clause-memory c = memory_wanted c.in-Err.fault c.refused.result _
 
 pub invariant_of-self-clause-few_slots : goal.invariant_of-self-clause-few_slots
 invariant_of-self-clause-few_slots c = few_slots c.args.self.now.here c.begin.new.images c.in-Ok.ensures.begins.held.same.beside c.args.self.now.few_slots
+
+pub invariant_of-self-clause-in_place : goal.invariant_of-self-clause-in_place
+invariant_of-self-clause-in_place c = in_place_same c.args.self.now.here c.begin.new.images c.in-Ok.ensures.begins.held.same.beside c.args.self.now.in_place
 
 pub invariant_of-self-clause-short : goal.invariant_of-self-clause-short
 invariant_of-self-clause-short c = short_locked c.args.thread c.in-Ok.tx.locked.items c.in-Ok.tx.reading.items c.args.self.now.here c.begin.new.images c.in-Ok.ensures.begins.held c.args.self.now.short

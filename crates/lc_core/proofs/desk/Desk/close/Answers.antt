@@ -5,7 +5,7 @@ use Rattle.lc_core.proofs.Seating.{not_reserved, is_reserved, set_same}
 use Rattle.lc_core.proofs.Freeing.{own_runs, runs_freed}
 use Rattle.lc_core.proofs.Closes.{desk_closed, not_unclosed}
 use Rattle.std.proofs.Common.{length, ap}
-use Rattle.lc_core.proofs.Shortness.{few_slots, short_freed}
+use Rattle.lc_core.proofs.Shortness.{few_slots, in_place_same, short_freed}
 use Rattle.lc_core.proofs.desk.Desk.close.Goals as goal
 
 pub release-requires : goal.release-requires
@@ -48,6 +48,9 @@ returns-in_default-clause-closes c = λ m node s h unclosed.
 
 pub invariant_of-self-clause-few_slots : goal.invariant_of-self-clause-few_slots
 invariant_of-self-clause-few_slots c = few_slots c.args.self.now.here c.release.new.images c.release.ensures.freed.same.beside c.args.self.now.few_slots
+
+pub invariant_of-self-clause-in_place : goal.invariant_of-self-clause-in_place
+invariant_of-self-clause-in_place c = in_place_same c.args.self.now.here c.release.new.images c.release.ensures.freed.same.beside c.args.self.now.in_place
 
 pub invariant_of-self-clause-short : goal.invariant_of-self-clause-short
 invariant_of-self-clause-short c = short_freed c.in-Some.tx.thread c.in-Some.tx.locked.items c.in-Some.tx.reading.items c.args.self.now.here c.release.new.images c.release.ensures.freed (λ segment lock. ap length (c.release.ensures.same_bytes segment lock)) c.args.self.now.short

@@ -1,12 +1,15 @@
 use Rattle.std.proofs.Common.{◌-◌, not, ◌<◌, sym, ap, refl, subst, ◌∙◌, ◌≡◌, arith}
 use Rattle.std.proofs.lemmas.Option.{slice_get_read}
+use Rattle.std.proofs.lemmas.Result.{IfOk-weaker}
 use Rattle.std.specs.Prelude.{◌↔◌, IsOk}
 use Rattle.lc_tx.specs.Holders.{is_free}
+use Rattle.lc_core.specs.Here.{beside}
 use Rattle.lc_core.specs.Leaves.{MayLeave}
 use Rattle.lc_core.specs.Places.{same_some}
 use Rattle.lc_core.specs.declared.slot.Slot.{Slot}
-use Rattle.lc_core.proofs.Left.{LeaveAnswers, leaves, may_leave, runs_left}
-use Rattle.lc_core.proofs.Shortness.{short_moved}
+use Rattle.lc_core.proofs.Closes.{get-map}
+use Rattle.lc_core.proofs.Left.{LeaveAnswers, leaves, may_leave, runs_left, same_left}
+use Rattle.lc_core.proofs.Shortness.{in_place_moved, short_moved}
 use Rattle.lc_core.proofs.desk.Desk.leave.Goals as goal
 
 pub invariant_of-self-clause-runs : goal.invariant_of-self-clause-runs
@@ -35,6 +38,8 @@ returns c =
     let slot = c.index_mut-slot.result.now in
     let within : c.args.segment - 1 < w.here.slots.len = omega (arith, c.requires.first, c.requires.slot) in
     let at = slice_get_read w.here.slots.items w.here.slots.len (c.args.segment - 1) slot w.here.slots.ok.0 within c.index_mut-slot.ensures.value in
+    let place = w.in_place (c.args.segment - 1) (beside slot) (get-map beside w.here.slots.items (c.args.segment - 1) slot at) in
+    let its : slot.token.segment ≡ c.args.segment = omega (arith, place.0, c.requires.first) in
     let holds_is : c.is_free-held.result ≡ is_free slot.image.holders = c.is_free-held.ensures ∙ ap is_free c.holders.ensures in
     let answers : LeaveAnswers slot.token c.leave.new.self (not c.is_free-held.result) c.args.writing c.args.reserved c.args.stable c.leave.result = record {
       not_here = c.leave.ensures.not_here;
@@ -51,9 +56,18 @@ returns c =
           (may_leave slot c.leave.new.self (not c.is_free-held.result) c.args.writing c.args.reserved c.args.stable c.leave.result (ap not holds_is) answers);
       writing = λ same. (c.leave.ensures.writing.0 same).2;
       unflushed = λ same. (c.leave.ensures.unflushed.0 same).2;
-      leaves = leaves w _ c.args.segment c.requires.first slot at (c.requires.its slot at) c.leave.new.self (not c.is_free-held.result) c.args.writing
+      segment = IfOk-weaker c.leave.result _ _ (λ token same. same ∙ its) c.leave.ensures.segment;
+      leaves = leaves w _ c.args.segment c.requires.first slot at its c.leave.new.self (not c.is_free-held.result) c.args.writing
           (ap not holds_is) c.args.reserved c.args.stable c.leave.result answers refl refl;
     }
+
+pub invariant_of-self-clause-in_place : goal.invariant_of-self-clause-in_place
+invariant_of-self-clause-in_place c =
+    let w = c.args.self.now in
+    let slot = c.index_mut-slot.result.now in
+    let within : c.args.segment - 1 < w.here.slots.len = omega (arith, c.requires.first, c.requires.slot) in
+    let at = slice_get_read w.here.slots.items w.here.slots.len (c.args.segment - 1) slot w.here.slots.ok.0 within c.index_mut-slot.ensures.value in
+    in_place_moved w.here (c.args.segment - 1) slot c.leave.new.self at (same_left slot.token c.leave.new.self c.leave.result c.leave.ensures.empty c.leave.ensures.err) w.in_place
 
 pub invariant_of-self-clause-short : goal.invariant_of-self-clause-short
 invariant_of-self-clause-short c =

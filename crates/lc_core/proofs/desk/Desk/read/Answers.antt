@@ -8,7 +8,7 @@ use Rattle.std.proofs.Common.{ap}
 use Rattle.std.specs.Prelude.{Err}
 use Rattle.lc_core.proofs.Refusing.{memory_wanted}
 use Rattle.std.proofs.Common.{ap}
-use Rattle.lc_core.proofs.Shortness.{few_slots, short_same}
+use Rattle.lc_core.proofs.Shortness.{in_place_same, few_slots, short_same}
 use Rattle.lc_core.proofs.desk.Desk.read.Goals as goal
 
 pub returns-in_default-clause-follows : goal.returns-in_default-clause-follows
@@ -66,6 +66,9 @@ returns-in-Err-clause-memory c = memory_wanted c.in-Err.fault c.refused.result _
 
 pub invariant_of-self-2-clause-few_slots : goal.invariant_of-self-2-clause-few_slots
 invariant_of-self-2-clause-few_slots c = few_slots c.args.self.now.here c.read.new.images c.read.ensures.images.beside c.args.self.now.few_slots
+
+pub invariant_of-self-2-clause-in_place : goal.invariant_of-self-2-clause-in_place
+invariant_of-self-2-clause-in_place c = in_place_same c.args.self.now.here c.read.new.images c.read.ensures.images.beside c.args.self.now.in_place
 
 pub invariant_of-self-2-clause-short : goal.invariant_of-self-2-clause-short
 invariant_of-self-2-clause-short c = short_same c.args.self.now.here c.read.new.images c.read.ensures.images c.args.self.now.short

@@ -24,7 +24,7 @@ use Rattle.lc_core.specs.Places.{same_some}
 use Rattle.lc_core.proofs.Refusing.{memory_wanted}
 use Rattle.lc_core.proofs.Seating.{same_open}
 use Rattle.std.proofs.Common.{ap}
-use Rattle.lc_core.proofs.Shortness.{few_slots, short_same}
+use Rattle.lc_core.proofs.Shortness.{few_slots, in_place_same, short_same}
 use Rattle.lc_core.proofs.desk.Desk.set_range.Goals as goal
 
 pub invariant_of-self-clause-runs : goal.invariant_of-self-clause-runs
@@ -147,6 +147,9 @@ returns-in-Err-clause-memory c = memory_wanted c.in-Err.fault c.refused.result _
 
 pub invariant_of-self-2-clause-few_slots : goal.invariant_of-self-2-clause-few_slots
 invariant_of-self-2-clause-few_slots c = few_slots c.args.self.now.here c.set_range.new.images c.set_range.ensures.images.beside c.args.self.now.few_slots
+
+pub invariant_of-self-2-clause-in_place : goal.invariant_of-self-2-clause-in_place
+invariant_of-self-2-clause-in_place c = in_place_same c.args.self.now.here c.set_range.new.images c.set_range.ensures.images.beside c.args.self.now.in_place
 
 pub invariant_of-self-2-clause-short : goal.invariant_of-self-2-clause-short
 invariant_of-self-2-clause-short c = short_same c.args.self.now.here c.set_range.new.images c.set_range.ensures.images c.args.self.now.short

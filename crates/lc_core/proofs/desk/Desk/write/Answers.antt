@@ -20,7 +20,7 @@ use Rattle.lc_core.proofs.Dropping.{own_open_runs, open_fits, no_turn, still, de
 use Rattle.lc_core.proofs.Changing.{unopened, written_held, changed_own, changed_but, runs_next, desk_next}
 use Rattle.lc_core.proofs.WriteRows.{WriteAnswers, write_leaves, write_fault, write_lock, write_done}
 use Rattle.std.proofs.Common.{length, ap}
-use Rattle.lc_core.proofs.Shortness.{short_written}
+use Rattle.lc_core.proofs.Shortness.{in_place_written, short_written}
 use Rattle.lc_core.proofs.desk.Desk.write.Goals as goal
 
 pub returns-in_default : goal.returns-in_default
@@ -117,6 +117,9 @@ returns-in-Err-clause-follows c = λ node m s known sound h.
       still node s,
       desk_seen m node w.here c.write.new.images w.seats.items s w.runs c.in-Err.ensures.err h,
     )
+
+pub invariant_of-self-2-clause-in_place : goal.invariant_of-self-2-clause-in_place
+invariant_of-self-2-clause-in_place c = in_place_written c.write.result c.args.self.now.here c.write.new.images c.args.segment c.args.offset c.args.bytes.now c.write.ensures.written c.write.ensures.err c.args.self.now.in_place
 
 pub invariant_of-self-2-clause-short : goal.invariant_of-self-2-clause-short
 invariant_of-self-2-clause-short c = short_written c.write.result c.args.self.now.here c.write.new.images c.args.segment c.args.offset c.args.bytes.now c.write.ensures.written c.write.ensures.err c.args.self.now.short

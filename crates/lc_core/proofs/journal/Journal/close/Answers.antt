@@ -1,8 +1,8 @@
-use Rattle.std.proofs.Common.{◌-◌, arith, length, ap, sym, subst, ◌∙◌}
+use Rattle.std.proofs.Common.{arith, length, ap, sym, subst, ◌∙◌}
 use Rattle.lc_model.specs.Machine.{closed_by}
 use Rattle.lc_core.specs.Records.{Kept, count_of, span_of}
 use Rattle.lc_core.specs.Journal.{FitsLog}
-use Rattle.lc_core.proofs.Logged.{Extends, closing_extends, fits_shut}
+use Rattle.lc_core.proofs.Logged.{Extends, closed_extends, fits_closed}
 use Rattle.lc_core.proofs.journal.Journal.close.Given.{Over}
 use Rattle.lc_core.proofs.journal.Journal.close.Goals as goal
 
@@ -11,7 +11,7 @@ module _ (g : Over) (c : goal.After-close g) where
   extends =
       let w = c.args.self.now in
       subst (λ (k : Kept). Extends w.records k w.dropped w.acked w.taken 0) (sym c.close.ensures)
-      (closing_extends w.records w.dropped w.acked w.taken w.kept w.dropped_acked w.acked_taken w.taken_closed (c.args.number - w.records.before))
+      (closed_extends w.records w.dropped w.acked w.taken w.kept w.dropped_acked w.acked_taken w.taken_closed c.args.number)
 
 pub invariant_of-self : goal.invariant_of-self
 invariant_of-self g c =
@@ -36,7 +36,7 @@ pub returns-clause-shuts : goal.returns-clause-shuts
 returns-clause-shuts g c m node thread s x t sound h found there =
     let w = c.args.self.now in
     subst (λ (k : Kept). FitsLog g.D.Area m node w.log k w.dropped w.trimmed w.taken w.acked (record s { history = closed_by node thread s.history }) x) (sym c.close.ensures)
-    (fits_shut g.D.Area m node s x w.log w.records w.dropped w.trimmed w.taken w.acked h thread c.args.number t sound c.requires.kept found there)
+    (fits_closed g.D.Area m node s x w.log w.records w.dropped w.trimmed w.taken w.acked h thread c.args.number t sound found there)
 
 pub returns-clause-end : goal.returns-clause-end
 returns-clause-end g c =
@@ -44,5 +44,5 @@ returns-clause-end g c =
     omega (
       arith,
       ap (λ (k : Kept). length (span_of k w.dropped (count_of k))) c.close.ensures,
-      (closing_extends w.records w.dropped w.acked w.taken w.kept w.dropped_acked w.acked_taken w.taken_closed (c.args.number - w.records.before)).end,
+      (closed_extends w.records w.dropped w.acked w.taken w.kept w.dropped_acked w.acked_taken w.taken_closed c.args.number).end,
     )

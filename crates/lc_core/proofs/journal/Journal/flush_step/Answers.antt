@@ -14,6 +14,7 @@ returns-then-front-self g c = record {
         h,
       );
   nothing = λ is. refl;
+  words = refl;
   device = λ some. absurd (some refl);
 }
 
@@ -38,6 +39,10 @@ returns g c = record {
             (sym c.is_idle.ensures ∙ b.if-is_idle.false) w.dropped_acked w.acked_taken (rw b.self-is at c.advance.ensures.steps))
       ]);
   nothing = λ is. absurd (some_reply g.D.Area c.advance.new.self.log c.if-is_idle.self.taken (sym c.advance.ensures.reply ∙ is));
+  words = c.advance.ensures.room ∙ (elim c.if-is_idle.branch [
+    | then-is_idle+else-front-self b ↦ rw b.self-is b.take_closed.ensures.room
+    | else-is_idle b ↦ rw b.self-is refl
+  ]);
   device = λ some. elim c.if-is_idle.branch [
     | then-is_idle+else-front-self b ↦ rw (b.self-is, b.take_closed.ensures.log) at c.advance.ensures.device
     | else-is_idle b ↦ rw b.self-is at c.advance.ensures.device

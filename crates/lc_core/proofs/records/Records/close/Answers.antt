@@ -1,16 +1,16 @@
-use Rattle.std.proofs.Common.{◌≡◌, ◌-◌, ℕ, List, arith, length, map, ap, ◌∙◌, subst, slice_set, slice_index_or, true, false}
+use Rattle.std.proofs.Common.{◌≡◌, ◌-◌, ℕ, List, arith, length, map, ap, sym, ◌∙◌, subst, slice_set, slice_index_or, true}
 use Rattle.std.proofs.lemmas.List.{length-set}
 use Rattle.lc_model.specs.History.{leading}
 use Rattle.lc_core.specs.declared.place.Place.{Place}
 use Rattle.lc_core.specs.Records.{Kept, closing}
-use Rattle.lc_core.proofs.Spans.{Holds, held, kept_so, seen_so, closed_so, known_so, open_within, length-places_of, leading_le}
+use Rattle.lc_core.proofs.Spans.{Holds, held, kept_so, seen_so, closed_so, closed_below, closed_beyond, closed_in, known_so, length-places_of, leading_le}
+use Rattle.lc_core.proofs.records.Records.close.Goals.{then-number-self-via-then-number-self, then-number-self-via-else-number-self+then-number-count}
 use Rattle.lc_core.proofs.records.Records.close.Goals as goal
 
 pub index_mut-requires : goal.index_mut-requires
 index_mut-requires c =
     let h = held _ _ _ _ _ c.self.invariant c.self.view_is in
-    let within = open_within (c.args.number - c.args.self.now.before) c.args.self.now.records false c.requires.open in
-    omega (arith, within, h.before_is, ap length h.places_are, length-places_of 0 c.args.self.now.records)
+    omega (arith, c.if-number-self.false, c.if-number-count.false, c.count.ensures, h.before_is, ap length h.places_are, length-places_of 0 c.args.self.now.records)
 
 pub leading_from-self-inside-requires-clause-within : goal.leading_from-self-inside-requires-clause-within
 leading_from-self-inside-requires-clause-within c =
@@ -55,4 +55,14 @@ pub invariant_of-self : goal.invariant_of-self
 invariant_of-self c = kept_so _ _ _ _ (new c) (closed c)
 
 pub returns : goal.returns
-returns c = seen_so _ _ _ _ (new c) (closed c)
+returns c =
+    let h = held _ _ _ _ _ c.self.invariant c.self.view_is in
+    seen_so _ _ _ _ (new c) (closed c) ∙ sym (closed_in c.args.number c.args.self.now (omega (arith, c.if-number-self.false, h.before_is)))
+
+pub returns-then-number-self : goal.returns-then-number-self
+returns-then-number-self c =
+    let h = held _ _ _ _ _ c.self.invariant c.self.view_is in
+    sym (elim c.then-number-self.branch [
+      | then-number-self-via-then-number-self w ↦ closed_below c.args.number c.args.self.now (omega (arith, w.if-number-self, h.before_is))
+      | then-number-self-via-else-number-self+then-number-count w ↦ closed_beyond c.args.number c.args.self.now (omega (arith, w.if-number-count, w.count.ensures))
+    ])

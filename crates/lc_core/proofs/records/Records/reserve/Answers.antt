@@ -15,7 +15,7 @@ module _ (c : goal.After-unwrap) where
       let pushed : is_ok c.push.result ≡ true = c.push.ensures.succeeds (omega (arith, c.in_ok-reserve.ensures.ok)) in
       let places : c.push.new.self.items ≡ c.self.inside.places.items ++ record { end = c.len.result; closed = false } ∷ [] = rw (pushed, c.in_ok-reserve.ensures.items) at c.push.ensures.items in
       let end : c.len.result ≡ length (c.self.inside.words.items ++ c.args.words.now) = omega (arith, c.len.ensures, ap length words) in
-      rw (words, places) (grown_so _ _ _ _ _ h c.args.words.now c.len.result end c.requires)
+      rw (words, places) (grown_so _ _ _ _ _ h c.args.words.now c.len.result end (omega (arith, c.if-number-ge-MOST_RECORDS.false, c.count-number.ensures)))
 
 pub invariant_of-self-2 : goal.invariant_of-self-2
 invariant_of-self-2 c = kept_so _ _ _ _ (new c) (grown c)

@@ -1,0 +1,62 @@
+-- A run of several events: with a step behind it, and as a run of the plain machine.
+use Rattle.std.proofs.Common.{◌≡◌, ℕ, ◌+◌, ◌<◌, List, [], ◌∷◌, ◌++◌, length, get_or, take, refl, sym, ◌∙◌, ap, subst}
+use Rattle.std.proofs.lemmas.List.{take_more}
+use Rattle.lc_disk.specs.declared.area.Area.{Ghosts}
+use Rattle.lc_model.specs.Machine.{Step, Run}
+use Rattle.lc_model.specs.State.{Setting, State}
+use Rattle.lc_model.specs.declared.event.Event.{Event}
+use Rattle.lc_model.specs.declared.reply.Reply.{Reply}
+use Rattle.lc_core.specs.Numbers.{Numbers}
+use Rattle.lc_core.specs.Running.{FitsRunning}
+use Rattle.lc_core.specs.Runs.{RunsOn, FollowsRun}
+use Rattle.lc_core.specs.Settled.{Settled}
+use Rattle.lc_core.specs.Stepping.{FollowsStep}
+use Rattle.lc_core.specs.Turns.{Turns}
+use Rattle.lc_core.specs.declared.running.Running.{Running}
+
+runs_on_more : (m : Setting) (s : State) (x : Numbers) (events : List Event) (replies : List Reply) (mid : State) (between : Numbers) (event : Event) (reply : Reply) (after : State) (next : Numbers) → RunsOn m s x events replies mid between → Step m mid event reply after → Settled m mid between event reply → Turns m mid between event reply next → RunsOn m s x (events ++ event ∷ []) (replies ++ reply ∷ []) after next
+runs_on_more m s x [] [] mid between event reply after next run step settled turns = (
+  after,
+  next,
+  subst (λ (v : State). Step m v event reply after) run.0 step,
+  subst (λ (y : Numbers). Settled m s y event reply) run.1 (subst (λ (v : State). Settled m v between event reply) run.0 settled),
+  subst (λ (y : Numbers). Turns m s y event reply next) run.1 (subst (λ (v : State). Turns m v between event reply next) run.0 turns),
+  (refl, refl),
+)
+runs_on_more m s x [] (r ∷ replies) mid between event reply after next run step settled turns = absurd run
+runs_on_more m s x (e ∷ events) [] mid between event reply after next run step settled turns = absurd run
+runs_on_more m s x (e ∷ events) (r ∷ replies) mid between event reply after next run step settled turns = (
+  run.0,
+  run.1,
+  run.2,
+  run.3,
+  run.4,
+  runs_on_more m run.0 run.1 events replies mid between event reply after next run.5 step settled turns,
+)
+
+-- the replies are those of a run of the plain machine
+pub run_of : (m : Setting) (s : State) (x : Numbers) (events : List Event) (replies : List Reply) (after : State) (next : Numbers) → RunsOn m s x events replies after next → Run m s events replies after
+run_of m s x [] [] after next run = run.0
+run_of m s x [] (reply ∷ replies) after next run = absurd run
+run_of m s x (event ∷ events) [] after next run = absurd run
+run_of m s x (event ∷ events) (reply ∷ replies) after next run = (run.0, run.2, run_of m run.0 run.1 events replies after next run.5)
+
+module _ {D : Type 0} (a : Ghosts D) where
+  pub run_start : (w : Running D a) → FollowsRun a w [] [] w
+  run_start w m s x h = (s, x, (refl, refl), h)
+
+  -- behind the first `count` events, the next one
+  pub run_more : (old mid new : Running D a) (events : List Event) (count : ℕ) (event : Event) (replies : List Reply) (reply : Reply) → count < length events → event ≡ get_or events count event → FollowsRun a old (take count events) replies mid → FollowsStep a mid event reply new → FollowsRun a old (take (count + 1) events) (replies ++ reply ∷ []) new
+  run_more old mid new events count event replies reply below is run step =
+      subst (λ (es : List Event). FollowsRun a old es (replies ++ reply ∷ []) new)
+      (sym (take_more events count event below ∙ ap (λ e. take count events ++ e ∷ []) (sym is)))
+      (λ m s x h.
+      (let so_far = run m s x h in
+      let on = step m so_far.0 so_far.1 so_far.3 in
+      (on.after, on.next, runs_on_more m s x (take count events) replies so_far.0 so_far.1 event reply on.after on.next so_far.2 on.step on.settled on.turns, on.fits)))
+
+  -- where it still fits
+  pub run_still : (old mid new : Running D a) (events : List Event) (replies : List Reply) → FollowsRun a old events replies mid → ((m : Setting) (s : State) (x : Numbers) → FitsRunning a m mid s x → FitsRunning a m new s x) → FollowsRun a old events replies new
+  run_still old mid new events replies run still m s x h =
+      let so_far = run m s x h in
+      (so_far.0, so_far.1, so_far.2, still m so_far.0 so_far.1 so_far.3)

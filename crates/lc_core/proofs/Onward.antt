@@ -1,0 +1,142 @@
+-- A node goes on, and so do all nodes.
+use Rattle.std.proofs.Common.{◌≡◌, ℕ, ◌+◌, List, Option, Some, None, sym, ap, subst, ◌∙◌, inl, inr}
+use Rattle.std.proofs.lemmas.Bool.{cases_eq}
+use Rattle.std.specs.Prelude.{slice_get, slice_set, vec_len}
+use Rattle.lc_disk.specs.declared.area.Area.{Ghosts}
+use Rattle.lc_record.specs.declared.geometry.Geometry.{Geometry}
+use Rattle.lc_token.specs.declared.token.Token.{Token}
+use Rattle.lc_model.specs.Machine.{Row}
+use Rattle.lc_model.specs.Refusals.{Unless, common_refusal}
+use Rattle.lc_model.specs.Stored.{Fits as FitsDisks}
+use Rattle.lc_model.specs.declared.refusal.Refusal.{Refusal}
+use Rattle.lc_model.proofs.Steps.{step-keeps}
+use Rattle.lc_model.specs.State.{At, Travelling, Setting, State}
+use Rattle.lc_model.specs.declared.event.Event.{Event}
+use Rattle.lc_model.specs.declared.event.Event.TheVariants.{RecoverStep}
+use Rattle.lc_model.specs.declared.reply.Reply.{Reply}
+use Rattle.lc_model.proofs.Keeps.{sound-row}
+use Rattle.lc_model.proofs.Rows.{known}
+use Rattle.lc_core.specs.Beside.{BesideNode}
+use Rattle.lc_core.specs.FollowsDesk.{FollowsOpen, StillFits}
+use Rattle.lc_core.specs.Here.{the_images}
+use Rattle.lc_core.specs.Settled.{open_answer}
+use Rattle.lc_core.specs.Turns.{Turns}
+use Rattle.lc_core.specs.declared.desk.Desk.{Desk}
+use Rattle.lc_core.specs.Node.{FitsNode, GoesOn, moved_by}
+use Rattle.lc_core.specs.Numbers.{Numbers}
+use Rattle.lc_core.specs.Places.{get_set_other, get_set_same, same_some}
+use Rattle.lc_core.specs.Nodes.{IsWhole, AreWhole}
+use Rattle.lc_core.specs.Running.{FitsAll, FitsTravelling, Onward}
+use Rattle.lc_core.specs.Slots.{besides_of}
+use Rattle.lc_core.specs.declared.node.Node.{Node}
+use Rattle.lc_core.proofs.Going.{by_desk, settled_by, slots_alike}
+use Rattle.lc_core.proofs.OtherLogs.{log_beside}
+use Rattle.lc_core.proofs.Others.{desk_beside}
+use Rattle.lc_core.proofs.Slotted.{places_at, slots_beside}
+
+module _ {D : Type 0} (a : Ghosts D) where
+  -- what a write to one place leaves of a fact on each
+  pub each_set : {P Q : ℕ → Node D a → Type 0} (nodes : List (Node D a)) (n : ℕ) (old new : Node D a) → slice_get nodes n ≡ Some old
+      → ((k : ℕ) (node : Node D a) → slice_get nodes k ≡ Some node → P k node) → Q n new → ((k : ℕ) (node : Node D a) → (k ≡ n → ⊥) → P k node → Q k node)
+      → (k : ℕ) (node : Node D a) → slice_get (slice_set nodes n new) k ≡ Some node → Q k node
+  each_set {P} {Q} nodes n old new at all own others k node got = elim (cases_eq k n) [
+    | inl is ↦
+        subst (λ (i : ℕ). Q i node) (sym is)
+        (subst (λ (w : Node D a). Q n w) (same_some new node (sym (get_set_same nodes n old new at) ∙ sym (ap (slice_get (slice_set nodes n new)) is) ∙ got)) own)
+    | inr differ ↦ others k node differ (all k node (sym (get_set_other nodes n k new differ) ∙ got))
+  ]
+
+  -- another node fits as before
+  pub node_beside : (m : Setting) (n k : ℕ) (s : State) (x : Numbers) (after : State) (next : Numbers) (node : Node D a) → (k ≡ n → ⊥) → BesideNode m n s x after next
+      → FitsNode a m k node s x → FitsNode a m k node after next
+  node_beside m n k s x after next node differ aside h = record {
+    desk = desk_beside m n k s after differ aside.desks node.desk.here node.desk.seats.items h.desk node.desk.runs;
+    slots = slots_beside m n k (besides_of node.desk.here) s x after next aside.slots differ (places_at m k node.desk.here node.desk.seats.items s h.desk) h.slots;
+    journal = let w = node.journal in log_beside a m n k s x after next differ aside.logs w.log w.records w.dropped w.trimmed w.taken w.acked h.journal;
+    room = h.room;
+  }
+
+  pub whole_set : (g : Geometry) (nodes : List (Node D a)) (n : ℕ) (old new : Node D a) → slice_get nodes n ≡ Some old → AreWhole a g nodes
+      → vec_len new.desk.seats ≡ vec_len old.desk.seats → vec_len new.desk.here.slots ≡ vec_len old.desk.here.slots → AreWhole a g (slice_set nodes n new)
+  whole_set g nodes n old new at all seats slots =
+      let its = all n old at in
+      each_set {P = λ k node. IsWhole a g node} {Q = λ k node. IsWhole a g node} nodes n old new at all (record { seats = seats ∙ its.seats; slots = slots ∙ its.slots }) (λ k node differ whole. whole)
+
+  module _ (m : Setting) (n : ℕ) (event : Event) (s : State) (x : Numbers) (reply : Reply) (geometry : Geometry) (nodes : List (Node D a)) (travelling : List (Option Token))
+      (h : FitsAll a m geometry nodes travelling s x) (common : common_refusal m.geometry s event ≡ None) (old : Node D a) (at : slice_get nodes n ≡ Some old) (new : Node D a)
+      (goes : GoesOn a m n event s x reply new) where
+    pub onward : (late : List (Option Token)) → FitsTravelling m late goes.after goes.next → Onward a m event s x reply geometry (slice_set nodes n new) late
+    onward late on_the_way = record {
+      after = goes.after;
+      next = goes.next;
+      row = goes.row;
+      settled = goes.settled;
+      turns = goes.turns;
+      fits = record {
+        geometry_is = h.geometry_is;
+        up = goes.phase ∙ h.up;
+        sound = sound-row m s event reply goes.after h.sound (known m.geometry s event common) (inl h.up) goes.row;
+        stored = subst (FitsDisks m goes.after) (sym goes.disks)
+            (step-keeps m s x.disks event reply goes.after h.stored h.up (λ node thread place words is same. h.open_logs node)
+            (subst (λ (c : Option Refusal). Unless c s reply goes.after (Row m s event reply goes.after)) (sym common) goes.row));
+        open_logs = λ node. ap (λ d. d.resetting node) goes.disks ∙ h.open_logs node;
+        each = each_set {P = λ k node. FitsNode a m k node s x} {Q = λ k node. FitsNode a m k node goes.after goes.next} nodes n old new at h.each goes.fits
+            (λ k node differ fits. node_beside m n k s x goes.after goes.next node differ goes.aside fits);
+        on_the_way = on_the_way;
+        resets = λ node. ap (λ f. f node) goes.resets ∙ h.resets node;
+        writes = λ segment page. ap (λ f. f segment page) goes.writes ∙ h.writes segment page;
+      };
+    }
+
+    travels_not : (k : ℕ) → s.place (k + 1) ≡ Travelling → s.place (k + 1) ≡ At n → ⊥
+    travels_not k travels there = (let both : Travelling ≡ At n = sym travels ∙ there in cc)
+
+    -- the tokens that are on their way stay there
+    pub travel_on : ((k : ℕ) → k + 1 ≡ moved_by event reply → ⊥) → FitsTravelling m travelling goes.after goes.next
+    travel_on others = record {
+      count = h.on_the_way.count;
+      some = λ k token got.
+          let its = h.on_the_way.some k token got in
+          (goes.places (k + 1) (others k) ∙ its.0, goes.aside.slots.tokens (k + 1) token (travels_not k its.0) its.1);
+      none = λ k got travels. h.on_the_way.none k got (sym (goes.places (k + 1) (others k)) ∙ travels);
+    }
+
+    pub stays_onward : ((k : ℕ) → k + 1 ≡ moved_by event reply → ⊥) → Onward a m event s x reply geometry (slice_set nodes n new) travelling
+    stays_onward others = onward travelling (travel_on others)
+
+  -- a change of the transactions of one node
+  module _ (m : Setting) (n : ℕ) (event : Event) (s : State) (x : Numbers) (reply : Reply) (geometry : Geometry) (nodes : List (Node D a)) (travelling : List (Option Token))
+      (h : FitsAll a m geometry nodes travelling s x) (common : common_refusal m.geometry s event ≡ None) (old : Node D a) (at : slice_get nodes n ≡ Some old) (new : Desk)
+      (follows : FollowsOpen n old.desk event reply new) (beside : the_images.IsSameBeside old.desk.here new.here) where
+    pub desk_onward : (event ≡ RecoverStep → ⊥) → open_answer m s x event ≡ None → Turns m s x event reply x → ((k : ℕ) → k + 1 ≡ moved_by event reply → ⊥)
+        → Onward a m event s x reply geometry (slice_set nodes n (record { desk = new; journal = old.journal })) travelling
+    desk_onward other none turns others =
+        let fits = h.each n old at in
+        let step = follows m s (known m.geometry s event common) h.sound fits.desk in
+        stays_onward m n event s x reply geometry nodes travelling h common old at (record { desk = new; journal = old.journal })
+        (by_desk a m n event s x reply step.0 step.1 (settled_by m s x event reply other (λ answer is. (let no : None ≡ Some answer = sym none ∙ is in absurd cc))) turns old fits new step.2 beside step.3)
+        others
+
+  -- want of memory
+  pub still_onward : (m : Setting) (n : ℕ) (s : State) (x : Numbers) (geometry : Geometry) (nodes : List (Node D a)) (travelling : List (Option Token)) (old new : Node D a) → slice_get nodes n ≡ Some old
+      → (FitsNode a m n old s x → FitsNode a m n new s x) → FitsAll a m geometry nodes travelling s x → FitsAll a m geometry (slice_set nodes n new) travelling s x
+  still_onward m n s x geometry nodes travelling old new at still h = record {
+    geometry_is = h.geometry_is;
+    up = h.up;
+    sound = h.sound;
+    stored = h.stored;
+    open_logs = h.open_logs;
+    each = each_set {P = λ k node. FitsNode a m k node s x} {Q = λ k node. FitsNode a m k node s x} nodes n old new at h.each (still (h.each n old at)) (λ k node differ fits. fits);
+    on_the_way = h.on_the_way;
+    resets = h.resets;
+    writes = h.writes;
+  }
+
+  pub desk_still : (m : Setting) (n : ℕ) (s : State) (x : Numbers) (old : Node D a) (new : Desk) → StillFits old.desk new → the_images.IsSameBeside old.desk.here new.here
+      → FitsNode a m n old s x → FitsNode a m n (record { desk = new; journal = old.journal }) s x
+  desk_still m n s x old new still beside h = record {
+    desk = still m n s h.desk;
+    slots = slots_alike m n old.desk.here new.here s x beside h.slots;
+    journal = h.journal;
+    room = h.room;
+  }

@@ -1,0 +1,67 @@
+-- What a running store does is a step of the machine.
+use Rattle.std.proofs.Common.{◌≡◌, true, Option, Some, None, refl, sym, ap, subst, ◌∙◌}
+use Rattle.std.specs.Prelude.{is_some, if◌then◌else◌}
+use Rattle.lc_disk.specs.declared.area.Area.{Ghosts}
+use Rattle.lc_model.specs.Machine.{Row}
+use Rattle.lc_model.specs.Refusals.{Unless, common_refusal}
+use Rattle.lc_model.specs.State.{Setting, State}
+use Rattle.lc_model.specs.declared.event.Event.{Event}
+use Rattle.lc_model.specs.declared.event.Event.TheVariants.{Begin, SetRange, Write, Read, Abort, Reserve, Close, FlushStep, Leave, Arrive, Deliver, Trim, PageStep, ResetStep, Stop, RecoverStep}
+use Rattle.lc_model.specs.declared.refusal.Refusal.{Refusal}
+use Rattle.lc_model.specs.declared.reply.Reply.{Reply}
+use Rattle.lc_model.specs.declared.reply.Reply.TheVariants.{Refused}
+use Rattle.lc_core.specs.Numbers.{Numbers}
+use Rattle.lc_core.specs.Refuses.{Refuses}
+use Rattle.lc_core.specs.Running.{FollowsRow, Onward}
+use Rattle.lc_core.specs.Settled.{open_answer}
+use Rattle.lc_core.specs.Stepping.{FollowsStep, is_plain}
+use Rattle.lc_core.specs.Turns.{Turns}
+use Rattle.lc_core.specs.declared.running.Running.{Running}
+
+-- a refusal leaves the numbers as they are
+turns_refused : (m : Setting) (s : State) (x : Numbers) (event : Event) (refusal : Refusal) → is_plain event ≡ true → Turns m s x event (Refused refusal) x
+turns_refused m s x (Begin node thread segments reading) refusal plain = refl
+turns_refused m s x (SetRange node thread segment offset len) refusal plain = refl
+turns_refused m s x (Write node thread segment offset bytes) refusal plain = refl
+turns_refused m s x (Read node thread segment offset len) refusal plain = refl
+turns_refused m s x (Abort node thread) refusal plain = refl
+turns_refused m s x (Reserve node thread) refusal plain = refl
+turns_refused m s x (Close node thread) refusal plain = refl
+turns_refused m s x (FlushStep node) refusal plain = refl
+turns_refused m s x (Leave node segment) refusal plain = refl
+turns_refused m s x (Arrive node segment) refusal plain = refl
+turns_refused m s x (Deliver sender number segment to) refusal plain = refl
+turns_refused m s x (Trim node) refusal plain = refl
+turns_refused m s x (PageStep node segment page) refusal plain = absurd cc
+turns_refused m s x (ResetStep node) refusal plain = absurd cc
+turns_refused m s x (Stop choices) refusal plain = absurd cc
+turns_refused m s x RecoverStep refusal plain = absurd cc
+
+module _ {D : Type 0} (a : Ghosts D) (old : Running D a) (event : Event) (o : Option Refusal) (refuses : Refuses a old event o) where
+  pub follows_step : (e : Event) (reply : Reply) (new : Running D a) → o ≡ None → event ≡ e → FollowsRow a old e reply new → FollowsStep a old event reply new
+  follows_step e reply new none is follows m s x h =
+      let common : common_refusal m.geometry s event ≡ None = sym (refuses m s x h) ∙ none in
+      let on = subst (λ (v : Event). Onward a m v s x reply new.geometry new.nodes.items new.travelling.items) (sym is) (follows m s x h (ap (common_refusal m.geometry s) (sym is) ∙ common)) in
+      record {
+        after = on.after;
+        next = on.next;
+        step = subst (λ (c : Option Refusal). Unless c s reply on.after (Row m s event reply on.after)) (sym common) on.row;
+        settled = on.settled;
+        turns = on.turns;
+        fits = on.fits;
+      }
+
+  pub refused_step : (refusal : Refusal) → o ≡ Some refusal → is_plain event ≡ true → FollowsStep a old event (Refused refusal) old
+  refused_step refusal some plain m s x h =
+      let common : common_refusal m.geometry s event ≡ Some refusal = sym (refuses m s x h) ∙ some in
+      record {
+        after = s;
+        next = x;
+        step = subst (λ (c : Option Refusal). Unless c s (Refused refusal) s (Row m s event (Refused refusal) s)) (sym common) (refl, refl);
+        settled = (
+          λ answer is. (let none : None ≡ Some answer = sym (ap (λ (c : Option Refusal). if is_some c then None else open_answer m s x event) common) ∙ is in absurd cc),
+          λ recovers steps same. absurd cc,
+        );
+        turns = turns_refused m s x event refusal plain;
+        fits = h;
+      }

@@ -1,0 +1,112 @@
+-- The tokens that are on their way.
+use Rattle.std.proofs.Common.{◌≡◌, ◌⊎◌, ℕ, zero, suc, ◌+◌, List, [], ◌∷◌, true, false, ◌≤◌, leb-true, Option, Some, None, refl, sym, ap, subst, ◌∙◌, inl, inr, arith}
+use Rattle.std.specs.Prelude.{slice_get, slice_set, nat_le, nat_lt, ◌&&◌, ◌||◌}
+use Rattle.std.specs.List.{list_any}
+use Rattle.std.specs.Option.{ForSome}
+use Rattle.std.proofs.lemmas.Bool.{cases_eq}
+use Rattle.std.proofs.lemmas.List.{length-set}
+use Rattle.lc_disk.specs.declared.area.Area.{Ghosts}
+use Rattle.lc_record.specs.Marks.{counting}
+use Rattle.lc_record.specs.declared.geometry.Geometry.{Geometry}
+use Rattle.lc_token.specs.declared.token.Token.{Token}
+use Rattle.lc_model.specs.State.{Place, At, Travelling, Setting, State}
+use Rattle.lc_model.specs.declared.event.Event.{Event}
+use Rattle.lc_model.specs.declared.event.Event.TheVariants.{Arrive}
+use Rattle.lc_model.specs.declared.refusal.Refusal.TheVariants.{OutOfTurn}
+use Rattle.lc_model.specs.declared.reply.Reply.{Reply}
+use Rattle.lc_model.specs.declared.reply.Reply.TheVariants.{Refused}
+use Rattle.lc_model.specs.Refusals.{are_known, by_node, is_node, is_segment}
+use Rattle.lc_model.proofs.Rows.{and-both, arrive-no_turn}
+use Rattle.lc_core.specs.Node.{GoesOn, moved_by}
+use Rattle.lc_core.specs.Nodes.{AreNamed}
+use Rattle.lc_core.specs.Numbers.{Numbers}
+use Rattle.lc_core.specs.Places.{get_set_other, get_set_same, same_some}
+use Rattle.lc_core.specs.Running.{FitsAll, FitsTravelling, Onward}
+use Rattle.lc_core.specs.Settled.{arrive_answer, is_writing}
+use Rattle.lc_core.specs.Slots.{FitsToken}
+use Rattle.lc_core.specs.declared.node.Node.{Node}
+use Rattle.lc_core.proofs.Going.{settled_by}
+
+-- what is at a place after a write to one
+at_either : (tokens : List (Option Token)) (k j : ℕ) (was late got : Option Token) → slice_get tokens k ≡ Some was → slice_get (slice_set tokens k late) j ≡ Some got
+    → ((j ≡ k) × (late ≡ got)) ⊎ ((j ≡ k → ⊥) × (slice_get tokens j ≡ Some got))
+at_either tokens k j was late got at there = elim (cases_eq j k) [
+  | inl same ↦ inl (same, same_some late got (sym (get_set_same tokens k was late at) ∙ sym (ap (slice_get (slice_set tokens k late)) same) ∙ there))
+  | inr differ ↦ inr (differ, sym (get_set_other tokens k j late differ) ∙ there)
+]
+
+pub named_set : (tokens : List (Option Token)) (k : ℕ) (was late : Option Token) → slice_get tokens k ≡ Some was → ForSome late (λ token. token.segment ≡ k + 1) → AreNamed tokens → AreNamed (slice_set tokens k late)
+named_set tokens k was late at its all j token there = elim (at_either tokens k j was late (Some token) at there) [
+  | inl here ↦ its token here.1 ∙ ap (λ i. i + 1) (sym here.0)
+  | inr other ↦ all j token other.1
+]
+
+-- a token put back where it was taken
+pub set_back : {A : Type 0} (xs : List A) (k : ℕ) (was late again : A) → slice_get xs k ≡ Some was → again ≡ was → slice_set (slice_set xs k late) k again ≡ xs
+set_back [] k was late again at same = absurd cc
+set_back (x ∷ xs) zero was late again at same = ap (λ y. y ∷ xs) (same ∙ sym (same_some x was at))
+set_back (x ∷ xs) (suc k) was late again at same = ap (λ ys. x ∷ ys) (set_back xs k was late again at same)
+
+module _ {D : Type 0} (a : Ghosts D) (m : Setting) (n : ℕ) (event : Event) (s : State) (x : Numbers) (reply : Reply) (geometry : Geometry) (nodes : List (Node D a)) (travelling : List (Option Token))
+    (h : FitsAll a m geometry nodes travelling s x) (new : Node D a) (goes : GoesOn a m n event s x reply new) where
+  -- a token that leaves comes among them, and one that arrives goes from them
+  pub travel_moved : (k : ℕ) (was late : Option Token) → moved_by event reply ≡ k + 1 → slice_get travelling k ≡ Some was
+      → ((token : Token) → late ≡ Some token → (goes.after.place (k + 1) ≡ Travelling) × FitsToken m (k + 1) token goes.after goes.next)
+      → (late ≡ None → goes.after.place (k + 1) ≡ Travelling → ⊥) → FitsTravelling m (slice_set travelling k late) goes.after goes.next
+  travel_moved k was late moved at some none = record {
+    count = length-set travelling k late ∙ h.on_the_way.count;
+    some = λ j token there. elim (at_either travelling k j was late (Some token) at there) [
+      | inl here ↦ subst (λ i. (goes.after.place (i + 1) ≡ Travelling) × FitsToken m (i + 1) token goes.after goes.next) (sym here.0) (some token here.1)
+      | inr other ↦
+          let its = h.on_the_way.some j token other.1 in
+          let apart : j + 1 ≡ moved_by event reply → ⊥ = λ e. other.0 (omega (arith, e, moved)) in
+          (goes.places (j + 1) apart ∙ its.0, goes.aside.slots.tokens (j + 1) token (travels_not j its.0) its.1)
+    ];
+    none = λ j there travels. elim (at_either travelling k j was late None at there) [
+      | inl here ↦ none here.1 (subst (λ i. goes.after.place (i + 1) ≡ Travelling) here.0 travels)
+      | inr other ↦
+          let apart : j + 1 ≡ moved_by event reply → ⊥ = λ e. other.0 (omega (arith, e, moved)) in
+          h.on_the_way.none j other.1 (sym (goes.places (j + 1) apart) ∙ travels)
+    ];
+  }
+    where
+      travels_not : (j : ℕ) → s.place (j + 1) ≡ Travelling → s.place (j + 1) ≡ At n → ⊥
+      travels_not j travels there = (let both : Travelling ≡ At n = sym travels ∙ there in cc)
+
+-- where no token is on its way, none arrives
+pub none_arrives : {D : Type 0} (a : Ghosts D) (m : Setting) (n segment : ℕ) (s : State) (x : Numbers) (geometry : Geometry) (nodes : List (Node D a)) (travelling : List (Option Token))
+    → FitsAll a m geometry nodes travelling s x → (s.place segment ≡ Travelling → ⊥) → Onward a m (Arrive n segment) s x (Refused OutOfTurn) geometry nodes travelling
+none_arrives a m n segment s x geometry nodes travelling h stays = by_place (s.place segment) refl
+  where
+    by_place : (p : Place) → s.place segment ≡ p → Onward a m (Arrive n segment) s x (Refused OutOfTurn) geometry nodes travelling
+    by_place Travelling is = absurd (stays is)
+    by_place (At other) is = record {
+      after = s;
+      next = x;
+      row = arrive-no_turn m s n segment other is;
+      settled = settled_by m s x (Arrive n segment) (Refused OutOfTurn) (λ e. absurd cc) (λ answer open_is. (let none : None ≡ Some answer = sym (ap (λ p. arrive_answer p s x n segment) is) ∙ open_is in absurd cc));
+      turns = refl;
+      fits = h;
+    }
+
+-- the segment that an event of a node names
+pub segment_known : (g : Geometry) (node segment : ℕ) → are_known g (by_node node (segment ∷ []) []) ≡ true → (1 ≤ segment) × (segment ≤ g.segments)
+segment_known g node segment h =
+    let a = and-both (is_node g node && true && true && (is_segment g segment && true)) true h in
+    let b = and-both (is_node g node && true && true) (is_segment g segment && true) a.0 in
+    let c = and-both (is_segment g segment) true b.1 in
+    let d = and-both (nat_le 1 segment) (nat_le segment g.segments) c.0 in
+    (leb-true 1 segment d.0, leb-true segment g.segments d.1)
+
+-- no page of any segment is being written
+pub not_writing : (g : Geometry) (m : Setting) (s : State) (x : Numbers) (segment : ℕ) → ((segment page : ℕ) → x.calls segment page ≡ 0) → false ≡ is_writing m x segment
+not_writing g m s x segment none = sym (over (counting 0 m.geometry.pages))
+  where
+    over : (pages : List ℕ) → list_any (λ page. nat_lt 0 (x.calls segment page)) pages ≡ false
+    over [] = refl
+    over (page ∷ pages) = ap (λ n. nat_lt 0 n || list_any (λ page. nat_lt 0 (x.calls segment page)) pages) (none segment page) ∙ over pages
+
+pub set_it : {A : Type 0} (xs : List A) (k : ℕ) (was again : A) → slice_get xs k ≡ Some was → again ≡ was → slice_set xs k again ≡ xs
+set_it [] k was again at same = refl
+set_it (x ∷ xs) zero was again at same = ap (λ y. y ∷ xs) (same ∙ sym (same_some x was at))
+set_it (x ∷ xs) (suc k) was again at same = ap (λ ys. x ∷ ys) (set_it xs k was again at same)

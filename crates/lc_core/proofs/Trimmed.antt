@@ -1,0 +1,194 @@
+-- The published records that every node has applied are counted, and trimmed.
+use Rattle.std.proofs.Common.{◌≡◌, ℕ, zero, suc, ◌+◌, ◌-◌, ◌<◌, ◌≤◌, Bool, true, false, List, [], ◌∷◌, map, length, take, All, Some, slice_get, refl, sym, ap, subst, ◌∙◌, inl, inr, arith, below_more}
+use Rattle.std.specs.Prelude.{not, ◌&&◌, if◌then◌else◌}
+use Rattle.std.specs.List.{list_all}
+use Rattle.std.proofs.lemmas.List.{length-map, length-drop, length-replicate, length-take-le}
+use Rattle.std.proofs.lemmas.List.Elements.{All-nil, All-cons, All-head, All-tail, All-weaker}
+use Rattle.std.proofs.lemmas.Option.{get_or_from_slice_get, slice_get_within}
+use Rattle.lc_disk.specs.declared.area.Area.{Ghosts}
+use Rattle.lc_record.specs.Content.{Content}
+use Rattle.lc_record.specs.Geometry.{segment_len}
+use Rattle.lc_record.specs.Marks.{counting}
+use Rattle.lc_record.specs.Recorded.{is_set, locks_of, record_of, records_from, counted}
+use Rattle.lc_record.specs.Transaction.{Marks, Transaction, effect}
+use Rattle.lc_record.specs.declared.record.Record.{Record}
+use Rattle.lc_record.proofs.PuttingLemmas.{at_drop}
+use Rattle.lc_model.specs.History.{leading, transactions}
+use Rattle.lc_model.specs.Merging.{is_from}
+use Rattle.lc_model.specs.Sound.{Sound, IsProper}
+use Rattle.lc_model.specs.State.{Setting, State}
+use Rattle.lc_model.specs.Stored.{base, records_of}
+use Rattle.lc_model.proofs.Lists.{All-filter_if}
+use Rattle.lc_model.proofs.Moves.{acked-records}
+use Rattle.lc_core.specs.Follows.{FitsJournal}
+use Rattle.lc_core.specs.Numbers.{Numbers, published}
+use Rattle.lc_core.specs.Places.{same_some}
+use Rattle.lc_core.specs.Published.{Finds, IsFound}
+use Rattle.lc_core.specs.Trimming.{is_done, IsKnown, AreKnown, AllFit, TellsWanted, Counts}
+use Rattle.lc_core.specs.declared.journal.Journal.{Journal}
+use Rattle.lc_core.specs.declared.node.Node.{Node}
+use Rattle.lc_core.specs.declared.publishing.Published.{Published}
+use Rattle.lc_core.specs.declared.publishing.Published.TheVariants.{Unknown, Trimmed, Record as Found}
+
+-- Lists
+
+and_false : (b : Bool) → (b && false) ≡ false
+and_false true = refl
+and_false false = refl
+
+pub not_not : (b : Bool) → not (not b) ≡ b
+not_not true = refl
+not_not false = refl
+
+pub all_pass : {A : Type 0} (p : A → Bool) (xs : List A) → ((k : ℕ) (x : A) → slice_get xs k ≡ Some x → p x ≡ true) → list_all p xs ≡ true
+all_pass p [] each = refl
+all_pass p (x ∷ xs) each = ap (λ b. b && list_all p xs) (each 0 x refl) ∙ all_pass p xs (λ k y is. each (suc k) y is)
+
+pub one_fails : {A : Type 0} (p : A → Bool) (xs : List A) (k : ℕ) (x : A) → slice_get xs k ≡ Some x → p x ≡ false → list_all p xs ≡ false
+one_fails p [] k x is fails = absurd cc
+one_fails p (y ∷ xs) zero x is fails = ap (λ b. b && list_all p xs) (ap p (same_some y x is) ∙ fails)
+one_fails p (y ∷ xs) (suc k) x is fails = ap (λ b. p y && b) (one_fails p xs k x is fails) ∙ and_false (p y)
+
+pub all_counted : (p : ℕ → Bool) (from count : ℕ) → ((k : ℕ) → k < count → p (from + k) ≡ true) → list_all p (counting from count) ≡ true
+all_counted p from zero each = refl
+all_counted p from (suc count) each =
+    let first : from + 0 ≡ from = omega arith in
+    let some : 0 < suc count = omega arith in
+    ap (λ b. b && list_all p (counting (from + 1) count)) (ap p (sym first) ∙ each 0 some)
+    ∙ all_counted p (from + 1) count (λ k below.
+    let next : (from + 1) + k ≡ from + suc k = omega arith in
+    let less : suc k < suc count = omega (arith, below) in
+    ap p next ∙ each (suc k) less)
+
+pub one_counted : (p : ℕ → Bool) (from count k : ℕ) → k < count → p (from + k) ≡ false → list_all p (counting from count) ≡ false
+one_counted p from zero k below fails = absurd (omega (arith, below))
+one_counted p from (suc count) zero below fails =
+    let first : from ≡ from + 0 = omega arith in
+    ap (λ b. b && list_all p (counting (from + 1) count)) (ap p first ∙ fails)
+one_counted p from (suc count) (suc k) below fails =
+    let next : (from + 1) + k ≡ from + suc k = omega arith in
+    let less : k < count = omega (arith, below) in
+    ap (λ b. p from && b) (one_counted p (from + 1) count k less (ap p next ∙ fails)) ∙ and_false (p from)
+
+leads_all : {A : Type 0} (p : A → Bool) (xs : List A) → ((k : ℕ) (x : A) → slice_get xs k ≡ Some x → p x ≡ true) → leading (map p xs) ≡ length xs
+leads_all p [] each = refl
+leads_all p (x ∷ xs) each =
+    let rest = leads_all p xs (λ k y is. each (suc k) y is) in
+    ap (λ b. leading (b ∷ map p xs)) (each 0 x refl) ∙ omega (arith, rest)
+
+leads_to : {A : Type 0} (p : A → Bool) (xs : List A) (count : ℕ) (x : A) → slice_get xs count ≡ Some x → p x ≡ false
+    → ((k : ℕ) (x : A) → k < count → slice_get xs k ≡ Some x → p x ≡ true) → leading (map p xs) ≡ count
+leads_to p [] count x is fails each = absurd cc
+leads_to p (y ∷ xs) zero x is fails each = ap (λ b. leading (b ∷ map p xs)) (ap p (same_some y x is) ∙ fails)
+leads_to p (y ∷ xs) (suc count) x is fails each =
+    let some : 0 < suc count = omega arith in
+    let rest = leads_to p xs count x is fails (λ k z below at. (let less : suc k < suc count = omega (arith, below) in each (suc k) z less at)) in
+    ap (λ b. leading (b ∷ map p xs)) (each 0 y some refl) ∙ omega (arith, rest)
+
+get_take : {A : Type 0} (n k : ℕ) (xs : List A) → k < n → slice_get (take n xs) k ≡ slice_get xs k
+get_take zero k xs within = absurd (omega (arith, within))
+get_take (suc n) k [] within = refl
+get_take (suc n) zero (x ∷ xs) within = refl
+get_take (suc n) (suc k) (x ∷ xs) within = (let less : k < n = omega (arith, within) in get_take n k xs less)
+
+got : {A : Type 0} (P : A → Type 0) (xs : List A) (k : ℕ) (x : A) → All P xs → slice_get xs k ≡ Some x → P x
+got P xs k x all is = subst P (get_or_from_slice_get xs k x x is) (all k x (slice_get_within xs k x is))
+
+-- What a record has locks on
+
+locks_known : (m : Setting) (numbers : ℕ → ℕ) (first : ℕ) (marks : Marks) → 1 ≤ first → first + length marks ≤ suc m.geometry.segments → All (IsKnown m) (locks_of numbers first marks)
+locks_known m numbers first [] some few = All-nil (IsKnown m)
+locks_known m numbers first (marks ∷ segments) some few =
+    let here : first ≤ m.geometry.segments = omega (arith, few) in
+    let above : 1 ≤ first + 1 = omega arith in
+    let fewer : (first + 1) + length segments ≤ suc m.geometry.segments = omega (arith, few) in
+    let next : All (IsKnown m) (locks_of numbers (first + 1) segments) = locks_known m numbers (first + 1) segments above fewer in
+    elim (is_set marks) as (λ b. All (IsKnown m) (if b then record { segment = first; seq = numbers first + 1 } ∷ locks_of numbers (first + 1) segments else locks_of numbers (first + 1) segments)) [
+      | true ↦ All-cons (IsKnown m) (record { segment = first; seq = numbers first + 1 }) (locks_of numbers (first + 1) segments) (some, here) next
+      | false ↦ next
+    ]
+
+abbrev LocksKnown : Setting → Record → Type 0
+LocksKnown m r = All (IsKnown m) r.locks
+
+records_known : (m : Setting) (numbers : ℕ → ℕ) (content : Content) (ts : List Transaction) → All (IsProper m.geometry) ts → All (LocksKnown m) (records_from numbers content ts)
+records_known m numbers content [] proper = All-nil (LocksKnown m)
+records_known m numbers content (t ∷ ts) proper =
+    let shaped = (All-head (IsProper m.geometry) t ts proper).shaped in
+    let long : length t.marks ≡ m.geometry.segments =
+    sym (length-map t.marks length) ∙ ap length shaped ∙ length-replicate m.geometry.segments (segment_len m.geometry) in
+    let few : 1 + length t.marks ≤ suc m.geometry.segments = omega (arith, long) in
+    let one : 1 ≤ 1 = omega arith in
+    All-cons (LocksKnown m) (record_of numbers content t) (records_from (counted numbers t) (effect t content) ts)
+    (locks_known m numbers 1 t.marks one few)
+    (records_known m (counted numbers t) (effect t content) ts (All-tail (IsProper m.geometry) t ts proper))
+
+known_at : (m : Setting) (n : ℕ) (s : State) (x : Numbers) (place : ℕ) (r : Record) → Sound m.geometry s → slice_get (records_of m s x.disks n) place ≡ Some r → AreKnown m r.locks
+known_at m n s x place r sound is k lock at =
+    let all : List Record = records_from x.disks.numbers (base m s) (transactions s.history) in
+    let known : All (LocksKnown m) all = records_known m x.disks.numbers (base m s) (transactions s.history) sound.history_proper in
+    let its : All (LocksKnown m) (records_of m s x.disks n) =
+    All-filter_if (is_from n) (LocksKnown m) all (All-weaker (LocksKnown m) (λ q. is_from n q ≡ true → LocksKnown m q) (λ q holds passes. holds) all known) in
+    got (IsKnown m) r.locks k lock (got (LocksKnown m) (records_of m s x.disks n) place r its is) at
+
+-- The records in front
+
+published_at : (m : Setting) (n : ℕ) (s : State) (x : Numbers) (k : ℕ) → x.trimmed n + k < s.ack n
+    → slice_get (published m s x n) k ≡ slice_get (records_of m s x.disks n) (x.trimmed n + k)
+published_at m n s x k below =
+    at_drop (x.trimmed n) k (take (s.ack n) (records_of m s x.disks n)) ∙ get_take (s.ack n) (x.trimmed n + k) (records_of m s x.disks n) below
+
+published_count : (m : Setting) (n : ℕ) (s : State) (x : Numbers) → Sound m.geometry s → length (published m s x n) ≡ s.ack n - x.trimmed n
+published_count m n s x sound =
+    let records : List Record = records_of m s x.disks n in
+    let few = acked-records m s x.disks n sound in
+    length-drop (x.trimmed n) (take (s.ack n) records) ∙ ap (λ (k : ℕ). k - x.trimmed n) (length-take-le (s.ack n) records few)
+
+module _ {D : Type 0} (a : Ghosts D) where
+  -- so many of the records that a journal has published, from the first, are applied at all of these nodes
+  abbrev pub AreDone : List (Node D a) → Journal D a → ℕ → Type 0
+  AreDone nodes w count =
+      (m : Setting) (n : ℕ) (s : State) (x : Numbers) → Sound m.geometry s → FitsJournal a m n w s x → AllFit a m nodes s x
+      → (k : ℕ) (r : Record) → k < count → slice_get (published m s x n) k ≡ Some r → is_done m x r ≡ true
+
+  pub all_done : (nodes : List (Node D a)) (w : Journal D a) → AreDone nodes w (w.acked - w.trimmed) → Counts a nodes w (w.acked - w.trimmed)
+  all_done nodes w done m n s x sound journal slots =
+      let count = published_count m n s x sound in
+      let same : w.acked - w.trimmed ≡ length (published m s x n) = omega (arith, count, journal.acked_is, journal.trimmed_is) in
+      same ∙ sym (leads_all (is_done m x) (published m s x n) (λ k r at.
+      let within = slice_get_within (published m s x n) k r at in
+      let below : k < w.acked - w.trimmed = omega (arith, within, same) in
+      done m n s x sound journal slots k r below at))
+
+  module _ (nodes : List (Node D a)) (w : Journal D a) (number : ℕ) (kept : w.trimmed ≤ number) (below : number < w.acked) (found : Published)
+      (finds : Finds a w (number + 1) found) where
+    -- what was found is the record of the number
+    looked_at : (answer : Bool) → TellsWanted a nodes found answer → (m : Setting) (n : ℕ) (s : State) (x : Numbers) → Sound m.geometry s → FitsJournal a m n w s x → AllFit a m nodes s x
+        → (r : Record) × (slice_get (published m s x n) (number - w.trimmed) ≡ Some r) × (not answer ≡ is_done m x r)
+    looked_at answer tells m n s x sound journal slots = looked found (finds m n s x journal) tells
+      where
+        looked : (found : Published) → IsFound m n s x (number + 1) found → TellsWanted a nodes found answer
+            → (r : Record) × (slice_get (published m s x n) (number - w.trimmed) ≡ Some r) × (not answer ≡ is_done m x r)
+        looked Unknown (inl none) tells = absurd (omega (arith, none))
+        looked Unknown (inr above) tells = absurd (omega (arith, above, below, journal.acked_is))
+        looked Trimmed is tells = absurd (omega (arith, is.2, kept, journal.trimmed_is))
+        looked (Found r) is tells =
+            let there : x.trimmed n + (number - w.trimmed) ≡ (number + 1) - 1 = omega (arith, kept, journal.trimmed_is) in
+            let within : x.trimmed n + (number - w.trimmed) < s.ack n = omega (arith, there, below, journal.acked_is) in (
+              r,
+              published_at m n s x (number - w.trimmed) within ∙ ap (slice_get (records_of m s x.disks n)) there ∙ is.3,
+              tells m s x slots (known_at m n s x ((number + 1) - 1) r sound is.3),
+            )
+
+    pub stops_at : AreDone nodes w (number - w.trimmed) → TellsWanted a nodes found true → Counts a nodes w (number - w.trimmed)
+    stops_at done tells m n s x sound journal slots =
+        let one = looked_at true tells m n s x sound journal slots in
+        sym (leads_to (is_done m x) (published m s x n) (number - w.trimmed) one.0 one.1 (sym one.2) (done m n s x sound journal slots))
+
+    pub one_more : AreDone nodes w (number - w.trimmed) → TellsWanted a nodes found false → AreDone nodes w ((number + 1) - w.trimmed)
+    one_more done tells m n s x sound journal slots k r less at =
+        let one = looked_at false tells m n s x sound journal slots in
+        below_more (λ (k : ℕ). (r : Record) → slice_get (published m s x n) k ≡ Some r → is_done m x r ≡ true) (number - w.trimmed)
+        (λ k before r at. done m n s x sound journal slots k r before at)
+        (λ r at. (let same : r ≡ one.0 = same_some r one.0 (sym at ∙ one.1) in ap (is_done m x) same ∙ sym one.2))
+        k (omega (arith, less, kept)) r at

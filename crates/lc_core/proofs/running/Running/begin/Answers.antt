@@ -1,0 +1,44 @@
+use Rattle.std.proofs.Common.{◌<◌, ◌++◌, refl, arith}
+use Rattle.std.proofs.lemmas.Option.{slice_get_read}
+use Rattle.std.proofs.lemmas.Result.{IfOk-weaker}
+use Rattle.lc_model.proofs.Rows.{seat_known}
+use Rattle.lc_core.proofs.Logged.{err_then}
+use Rattle.lc_core.proofs.Shortness.{same_count}
+use Rattle.lc_model.specs.declared.event.Event.TheVariants.{Begin}
+use Rattle.lc_core.proofs.Onward.{desk_onward, desk_still, still_onward, whole_set}
+use Rattle.lc_core.proofs.running.Running.begin.Goals as goal
+
+pub invariant_of-self : goal.invariant_of-self
+invariant_of-self g c =
+    let w = c.args.self.now in
+    let node = c.index_mut.result.now in
+    let within : c.args.node < w.nodes.len = omega (arith, w.all_nodes, (seat_known w.geometry c.args.node c.args.thread (c.args.segments.now ++ c.args.reading.now) c.requires.known).0) in
+    let at = slice_get_read w.nodes.items w.nodes.len c.args.node node w.nodes.ok.0 within c.index_mut.ensures.value in
+    record {
+      few = w.few;
+      all_nodes = w.all_nodes;
+      all_places = w.all_places;
+      named = w.named;
+      whole = whole_set g.D.Area w.geometry w.nodes.items c.args.node node (record { desk = c.begin.new.self; journal = node.journal }) at w.whole c.begin.ensures.seats
+          (same_count node.desk.here c.begin.new.self.here c.begin.ensures.beside);
+    }
+
+pub returns-clause-follows : goal.returns-clause-follows
+returns-clause-follows g c =
+    let w = c.args.self.now in
+    let node = c.index_mut.result.now in
+    let within : c.args.node < w.nodes.len = omega (arith, w.all_nodes, (seat_known w.geometry c.args.node c.args.thread (c.args.segments.now ++ c.args.reading.now) c.requires.known).0) in
+    let at = slice_get_read w.nodes.items w.nodes.len c.args.node node w.nodes.ok.0 within c.index_mut.ensures.value in
+    IfOk-weaker c.begin.result _ _ (λ reply follows m s x h common.
+    desk_onward g.D.Area m c.args.node (Begin c.args.node c.args.thread c.args.segments.now c.args.reading.now) s x reply w.geometry w.nodes.items w.travelling.items h common node at c.begin.new.self (follows c.args.node) c.begin.ensures.beside
+    (λ e. absurd cc) refl refl (λ k e. absurd (omega (arith, e)))) c.begin.ensures.follows
+
+pub returns-clause-err : goal.returns-clause-err
+returns-clause-err g c =
+    let w = c.args.self.now in
+    let node = c.index_mut.result.now in
+    let within : c.args.node < w.nodes.len = omega (arith, w.all_nodes, (seat_known w.geometry c.args.node c.args.thread (c.args.segments.now ++ c.args.reading.now) c.requires.known).0) in
+    let at = slice_get_read w.nodes.items w.nodes.len c.args.node node w.nodes.ok.0 within c.index_mut.ensures.value in
+    err_then c.begin.result c.begin.ensures.err (λ still m s x h.
+    still_onward g.D.Area m c.args.node s x w.geometry w.nodes.items w.travelling.items node (record { desk = c.begin.new.self; journal = node.journal }) at
+    (desk_still g.D.Area m c.args.node s x node c.begin.new.self still c.begin.ensures.beside) h)

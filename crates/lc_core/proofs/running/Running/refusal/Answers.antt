@@ -1,0 +1,18 @@
+use Rattle.std.proofs.Common.{sym, ◌∙◌}
+use Rattle.lc_core.proofs.AtOnce.{halted_at_once, none_at_once, acts_running}
+use Rattle.lc_core.proofs.running.Running.refusal.Goals as goal
+
+pub returns-then-is_failed-clause-refused : goal.returns-then-is_failed-clause-refused
+returns-then-is_failed-clause-refused g c =
+    let known = sym c.is_known.ensures ∙ c.if-not-is_known.false in
+    halted_at_once g.D.Area c.args.self.now c.args.event.now known c.in_ok-node.node c.in_ok-node.ensures c.index.result.now c.index.ensures (sym c.is_failed.ensures ∙ c.if-is_failed.true)
+
+pub returns-else-is_failed-clause-refused : goal.returns-else-is_failed-clause-refused
+returns-else-is_failed-clause-refused g c =
+    let known = sym c.is_known.ensures ∙ c.if-not-is_known.false in
+    none_at_once g.D.Area c.args.self.now c.args.event.now known c.in_ok-node.node c.in_ok-node.ensures c.index.result.now c.index.ensures (sym c.is_failed.ensures ∙ c.if-is_failed.false)
+
+pub returns-else-is_failed-clause-running : goal.returns-else-is_failed-clause-running
+returns-else-is_failed-clause-running g c = λ none.
+    let known = sym c.is_known.ensures ∙ c.if-not-is_known.false in
+    acts_running g.D.Area c.args.self.now c.args.event.now known c.in_ok-node.node c.in_ok-node.ensures c.index.result.now c.index.ensures (sym c.is_failed.ensures ∙ c.if-is_failed.false)

@@ -1,0 +1,33 @@
+use Rattle.std.proofs.Common.{◌<◌, [], ◌∷◌, refl, arith}
+use Rattle.std.proofs.lemmas.Option.{slice_get_read}
+use Rattle.lc_model.proofs.Rows.{seat_known}
+use Rattle.lc_core.proofs.Shortness.{same_count}
+use Rattle.lc_model.specs.declared.event.Event.TheVariants.{Write}
+use Rattle.lc_core.proofs.Onward.{desk_onward, whole_set}
+use Rattle.lc_core.proofs.running.Running.write.Goals as goal
+
+pub invariant_of-self : goal.invariant_of-self
+invariant_of-self g c =
+    let w = c.args.self.now in
+    let node = c.index_mut.result.now in
+    let within : c.args.node < w.nodes.len = omega (arith, w.all_nodes, (seat_known w.geometry c.args.node c.args.thread (c.args.segment ∷ []) c.requires.known).0) in
+    let at = slice_get_read w.nodes.items w.nodes.len c.args.node node w.nodes.ok.0 within c.index_mut.ensures.value in
+    record {
+      few = w.few;
+      all_nodes = w.all_nodes;
+      all_places = w.all_places;
+      named = w.named;
+      whole = whole_set g.D.Area w.geometry w.nodes.items c.args.node node (record { desk = c.write.new.self; journal = node.journal }) at w.whole c.write.ensures.seats
+          (same_count node.desk.here c.write.new.self.here c.write.ensures.beside);
+    }
+
+pub returns : goal.returns
+returns g c = record {
+  follows = λ m s x h common.
+      let w = c.args.self.now in
+      let node = c.index_mut.result.now in
+      let within : c.args.node < w.nodes.len = omega (arith, w.all_nodes, (seat_known w.geometry c.args.node c.args.thread (c.args.segment ∷ []) c.requires.known).0) in
+      let at = slice_get_read w.nodes.items w.nodes.len c.args.node node w.nodes.ok.0 within c.index_mut.ensures.value in
+      desk_onward g.D.Area m c.args.node (Write c.args.node c.args.thread c.args.segment c.args.offset c.args.bytes.now) s x c.write.result w.geometry w.nodes.items w.travelling.items h common node at c.write.new.self (c.write.ensures.follows c.args.node) c.write.ensures.beside
+      (λ e. absurd cc) refl refl (λ k e. absurd (omega (arith, e)));
+}

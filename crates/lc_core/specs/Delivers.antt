@@ -1,0 +1,41 @@
+-- What a record that a node has published brings to the node that it comes to.
+use Rattle.std.specs.Prelude.{◌≡◌, ◌≤◌, ◌<◌, ℕ, ◌-◌, false, ◌||◌, nat_le, Some, slice_get, IsSome}
+use Rattle.lc_disk.specs.declared.area.Area.{Ghosts}
+use Rattle.lc_record.specs.Part.{number_in, part_of}
+use Rattle.lc_record.specs.Transaction.{is_member}
+use Rattle.lc_record.specs.declared.record.Record.{Record}
+use Rattle.lc_model.specs.State.{Setting, State}
+use Rattle.lc_model.specs.Stored.{records_of}
+use Rattle.lc_model.specs.declared.refusal.Refusal.TheVariants.{Unknown as IsUnknown}
+use Rattle.lc_model.specs.declared.reply.Reply.TheVariants.{Ignored, Refused}
+use Rattle.lc_core.specs.Numbers.{Numbers}
+use Rattle.lc_core.specs.Running.{FitsRunning}
+use Rattle.lc_core.specs.Settled.{deliver_answer}
+use Rattle.lc_core.specs.declared.delivering.Delivery.{Delivery}
+use Rattle.lc_core.specs.declared.delivering.Delivery.TheVariants.{Unknown, Known, New}
+use Rattle.lc_core.specs.declared.running.Running.{Running}
+
+-- the sender has published the record under this number, and its part of the segment is neither applied nor kept at the receiver
+pub record HasNewPart (m : Setting) (s : State) (x : Numbers) (sender number segment to : ℕ) (r : Record) : Type 0 where
+  pub first : 1 ≤ number
+  pub acked : number ≤ s.ack sender
+  pub kept : x.trimmed sender < number
+  pub found : slice_get (records_of m s x.disks sender) (number - 1) ≡ Some r
+  pub own : ℕ
+  pub lock : number_in segment r.locks ≡ Some own
+  pub unknown : (nat_le own (x.applied to segment) || is_member own (x.waiting to segment)) ≡ false
+
+module _ {D : Type 0} (a : Ghosts D) where
+  -- there is such a record, in each state and with the numbers that this fits
+  abbrev pub WantsPart : ℕ → ℕ → ℕ → ℕ → Running D a → Type 0
+  WantsPart sender number segment to w =
+      (m : Setting) (s : State) (x : Numbers) → FitsRunning a m w s x → (r : Record) × HasNewPart m s x sender number segment to r
+
+  -- where nothing is new, the answer is the one that is settled
+  abbrev pub Brings : ℕ → ℕ → ℕ → ℕ → Running D a → Delivery → Type 0
+  Brings sender number segment to w Unknown =
+      (m : Setting) (s : State) (x : Numbers) → FitsRunning a m w s x → deliver_answer m s x sender number segment to ≡ Refused IsUnknown
+  Brings sender number segment to w Known =
+      (m : Setting) (s : State) (x : Numbers) → FitsRunning a m w s x → deliver_answer m s x sender number segment to ≡ Ignored
+  Brings sender number segment to w (New r) =
+      IsSome (part_of segment r) × ((m : Setting) (s : State) (x : Numbers) → FitsRunning a m w s x → HasNewPart m s x sender number segment to r)

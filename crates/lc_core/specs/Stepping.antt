@@ -1,0 +1,51 @@
+-- What it is that a running store follows the machine and the numbers, step by step.
+use Rattle.std.specs.Prelude.{◌<◌, ◌⊎◌, ℕ, Bool, true, false, List, length, Option}
+use Rattle.lc_disk.specs.declared.area.Area.{Ghosts}
+use Rattle.lc_record.specs.declared.geometry.Geometry.{Geometry}
+use Rattle.lc_token.specs.declared.token.Token.{Token}
+use Rattle.lc_tx.specs.Tx.{IsSetOf, none_of}
+use Rattle.lc_model.specs.Machine.{Step}
+use Rattle.lc_model.specs.State.{Setting, State}
+use Rattle.lc_model.specs.declared.event.Event.{Event}
+use Rattle.lc_model.specs.declared.event.Event.TheVariants.{Begin, SetRange, Read, Reserve, Deliver, PageStep, ResetStep, Stop, RecoverStep}
+use Rattle.lc_model.specs.declared.reply.Reply.{Reply}
+use Rattle.lc_core.specs.Delivers.{WantsPart}
+use Rattle.lc_core.specs.Numbers.{Numbers}
+use Rattle.lc_core.specs.Running.{FitsAll, FitsRunning, WantsPlaceAt, WantsRange}
+use Rattle.lc_core.specs.Settled.{Settled}
+use Rattle.lc_core.specs.Turns.{Turns}
+use Rattle.lc_core.specs.declared.node.Node.{Node}
+use Rattle.lc_core.specs.declared.running.Running.{Running}
+
+-- the events of a running store but those of pages and resets
+abbrev pub is_plain : Event → Bool
+is_plain (PageStep node segment page) = false
+is_plain (ResetStep node) = false
+is_plain (Stop choices) = false
+is_plain RecoverStep = false
+is_plain event = true
+
+module _ {D : Type 0} (a : Ghosts D) where
+  -- a step of the machine under this reply, which is settled, and the numbers behind it
+  pub record StepsOn (m : Setting) (event : Event) (s : State) (x : Numbers) (reply : Reply) (geometry : Geometry) (nodes : List (Node D a)) (travelling : List (Option Token)) : Type 0 where
+    pub after : State
+    pub next : Numbers
+    pub step : Step m s event reply after
+    pub settled : Settled m s x event reply
+    pub turns : Turns m s x event reply next
+    pub fits : FitsAll a m geometry nodes travelling after next
+
+  -- whatever state and numbers it fits
+  abbrev pub FollowsStep : Running D a → Event → Reply → Running D a → Type 0
+  FollowsStep old event reply new =
+      (m : Setting) (s : State) (x : Numbers) → FitsRunning a m old s x → StepsOn m event s x reply new.geometry new.nodes.items new.travelling.items
+
+  -- when an event may want memory
+  abbrev pub AsksMemory : Running D a → Event → Type 0
+  AsksMemory w (Begin node thread segments reading) =
+      ((set : List ℕ) × IsSetOf segments set × (16 < length set)) ⊎ ((set : List ℕ) × IsSetOf (none_of segments reading) set × (16 < length set))
+  AsksMemory w (SetRange node thread segment offset len) = WantsRange a node thread segment offset len w
+  AsksMemory w (Read node thread segment offset len) = 0 < len
+  AsksMemory w (Reserve node thread) = WantsPlaceAt a node thread w
+  AsksMemory w (Deliver sender number segment to) = WantsPart a sender number segment to w
+  AsksMemory w event = ⊥

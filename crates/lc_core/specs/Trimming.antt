@@ -1,0 +1,62 @@
+-- What it is that records are counted which every node has applied.
+use Rattle.std.specs.Prelude.{◌≡◌, ℕ, ◌≤◌, Bool, true, not, List, map, nat_le, length, Some, slice_get}
+use Rattle.std.specs.List.{list_all}
+use Rattle.lc_disk.specs.declared.area.Area.{Ghosts}
+use Rattle.lc_record.specs.declared.record.Lock.{Lock}
+use Rattle.lc_record.specs.declared.record.Record.{Record as Spelled}
+use Rattle.lc_model.specs.History.{leading}
+use Rattle.lc_model.specs.Sound.{Sound}
+use Rattle.lc_model.specs.State.{Setting, State}
+use Rattle.lc_core.specs.Follows.{FitsJournal}
+use Rattle.lc_core.specs.Numbers.{Numbers, is_applied, published}
+use Rattle.lc_core.specs.Slots.{FitsSlots, besides_of}
+use Rattle.lc_core.specs.declared.journal.Journal.{Journal}
+use Rattle.lc_core.specs.declared.node.Node.{Node}
+use Rattle.lc_core.specs.declared.publishing.Published.{Published}
+use Rattle.lc_core.specs.declared.publishing.Published.TheVariants.{Unknown, Trimmed, Record}
+
+-- every node has applied what the record locks
+abbrev pub is_done : Setting → Numbers → Spelled → Bool
+is_done m x r = list_all (is_applied m.geometry x) r.locks
+
+-- a lock on a segment of the geometry
+abbrev pub IsKnown : Setting → Lock → Type 0
+IsKnown m lock = (1 ≤ lock.segment) × (lock.segment ≤ m.geometry.segments)
+
+-- each of these is
+abbrev pub AreKnown : Setting → List Lock → Type 0
+AreKnown m locks = (k : ℕ) (lock : Lock) → slice_get locks k ≡ Some lock → IsKnown m lock
+
+module _ {D : Type 0} (a : Ghosts D) where
+  -- these are the nodes, in their order, and what stands in the slots of each fits
+  pub record AllFit (m : Setting) (nodes : List (Node D a)) (s : State) (x : Numbers) : Type 0 where
+    pub all : m.geometry.nodes ≡ length nodes
+    pub each : (k : ℕ) (node : Node D a) → slice_get nodes k ≡ Some node → FitsSlots m k (besides_of node.desk.here) s x
+
+  -- the answer is that the node has applied the lock's segment up to its number
+  abbrev pub TellsAppliedAt : Node D a → Lock → Bool → Type 0
+  TellsAppliedAt node lock answer =
+      (m : Setting) (k : ℕ) (s : State) (x : Numbers) → FitsSlots m k (besides_of node.desk.here) s x → IsKnown m lock
+      → answer ≡ nat_le lock.seq (x.applied k lock.segment)
+
+  -- that all of them have
+  abbrev pub TellsApplied : List (Node D a) → Lock → Bool → Type 0
+  TellsApplied nodes lock answer =
+      (m : Setting) (s : State) (x : Numbers) → AllFit m nodes s x → IsKnown m lock → answer ≡ is_applied m.geometry x lock
+
+  -- that they have for each of these locks
+  abbrev pub TellsLocks : List (Node D a) → List Lock → Bool → Type 0
+  TellsLocks nodes locks answer =
+      (m : Setting) (s : State) (x : Numbers) → AllFit m nodes s x → AreKnown m locks → answer ≡ list_all (is_applied m.geometry x) locks
+
+  -- that some of them has not applied what was found; where there is no record that is so too
+  abbrev pub TellsWanted : List (Node D a) → Published → Bool → Type 0
+  TellsWanted nodes Unknown answer = answer ≡ true
+  TellsWanted nodes Trimmed answer = answer ≡ true
+  TellsWanted nodes (Record r) answer = TellsLocks nodes r.locks (not answer)
+
+  -- so many of the records that a journal has published are applied everywhere, from the first
+  abbrev pub Counts : List (Node D a) → Journal D a → ℕ → Type 0
+  Counts nodes w count =
+      (m : Setting) (n : ℕ) (s : State) (x : Numbers) → Sound m.geometry s → FitsJournal a m n w s x → AllFit m nodes s x
+      → count ≡ leading (map (is_done m x) (published m s x n))

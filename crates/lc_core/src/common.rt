@@ -1,0 +1,29 @@
+//! What a store that is up refuses before any row is asked.
+ghost use Rattle.std.specs.Prelude.{◌≡◌, true, None};
+ghost use Rattle.lc_model.specs.Refusals.{is_known, named};
+ghost use Rattle.lc_core.specs.Refuses.{Refuses, ActsRunning};
+
+use crate::named::{acting_node, is_known};
+use crate::running::Running;
+use crate::{Event, Refusal};
+use lc_disk::Area;
+
+impl<D: Area + Drop> Running<D> {
+    /// Why an event is refused at once, whatever it asks for: what it names is unknown, or its node is halted.
+    pub(crate) fn refusal(&self, event: &Event) -> Option<Refusal>
+        ensures refused { Refuses D.Area self.now event.now result }
+        ensures known { result ≡ None → is_known self.now.geometry event.now ≡ true }
+        ensures running { result ≡ None → ActsRunning D.Area (named event.now) self.now.nodes.items }
+    {
+        if !is_known(&self.geometry, event) {
+            return Some(Refusal::Unknown);
+        }
+        let node = acting_node(event)?;
+        let log = &self.nodes[node as usize].journal.log;
+        if log.is_failed() {
+            Some(Refusal::Halted)
+        } else {
+            None
+        }
+    }
+}

@@ -1,0 +1,121 @@
+//! What an event names.
+ghost use Rattle.std.specs.Prelude.{◌≡◌, ◌&&◌, option_map};
+ghost use Rattle.std.specs.List.{list_all};
+ghost use Rattle.lc_model.specs.Refusals.{is_known, is_node, is_thread, is_segment, named};
+
+use crate::Event;
+use lc_record::Geometry;
+
+/// Whether all that the event names lies in the geometry.
+pub(crate) fn is_known(geometry: &Geometry, event: &Event) -> bool
+    ensures { result ≡ is_known geometry.now event.now }
+{
+    match event {
+        Event::Begin {
+            node,
+            thread,
+            segments,
+            reading,
+        } => {
+            is_seat(geometry, *node, *thread)
+                && are_segments(geometry, segments.as_slice())
+                && are_segments(geometry, reading.as_slice())
+        }
+        Event::SetRange {
+            node,
+            thread,
+            segment,
+            ..
+        }
+        | Event::Write {
+            node,
+            thread,
+            segment,
+            ..
+        }
+        | Event::Read {
+            node,
+            thread,
+            segment,
+            ..
+        } => is_seat(geometry, *node, *thread) && is_segment(geometry, *segment),
+        Event::Abort { node, thread }
+        | Event::Reserve { node, thread }
+        | Event::Close { node, thread } => is_seat(geometry, *node, *thread),
+        Event::Leave { node, segment } | Event::Arrive { node, segment } => {
+            is_node(geometry, *node) && is_segment(geometry, *segment)
+        }
+        Event::Deliver {
+            sender,
+            segment,
+            to,
+            ..
+        } => {
+            is_node(geometry, *to) && is_node(geometry, *sender) && is_segment(geometry, *segment)
+        }
+        Event::PageStep {
+            node,
+            segment,
+            page,
+        } => {
+            is_node(geometry, *node) && is_segment(geometry, *segment) && *page < geometry.pages
+        }
+        Event::FlushStep { node } | Event::Trim { node } | Event::ResetStep { node } => {
+            is_node(geometry, *node)
+        }
+        Event::Stop { .. } | Event::RecoverStep => true,
+    }
+}
+
+/// The node that the event acts at, of a delivery the receiver; an event of the whole store acts at none.
+pub(crate) fn acting_node(event: &Event) -> Option<u16>
+    ensures { result ≡ option_map (λ n. n.node) (named event.now) }
+{
+    match event {
+        Event::Begin { node, .. }
+        | Event::SetRange { node, .. }
+        | Event::Write { node, .. }
+        | Event::Read { node, .. }
+        | Event::Abort { node, .. }
+        | Event::Reserve { node, .. }
+        | Event::Close { node, .. }
+        | Event::FlushStep { node }
+        | Event::Leave { node, .. }
+        | Event::Arrive { node, .. }
+        | Event::Deliver { to: node, .. }
+        | Event::Trim { node }
+        | Event::PageStep { node, .. }
+        | Event::ResetStep { node } => Some(*node),
+        Event::Stop { .. } | Event::RecoverStep => None,
+    }
+}
+
+// Whether the geometry has this node, and each node this thread.
+fn is_seat(geometry: &Geometry, node: u16, thread: u16) -> bool
+    ensures { result ≡ (is_node geometry.now node && is_thread geometry.now thread) }
+{
+    is_node(geometry, node) && thread < geometry.threads
+}
+
+// Whether the geometry has this node.
+fn is_node(geometry: &Geometry, node: u16) -> bool
+    ensures { result ≡ is_node geometry.now node }
+{
+    node < geometry.nodes
+}
+
+// Whether the geometry has this segment.
+fn is_segment(geometry: &Geometry, segment: u32) -> bool
+    ensures { result ≡ is_segment geometry.now segment }
+{
+    1 <= segment && segment <= geometry.segments
+}
+
+// Whether the geometry has each of these segments.
+fn are_segments(geometry: &Geometry, segments: &[u32]) -> bool
+    ensures { result ≡ list_all (is_segment geometry.now) segments.now }
+{
+    segments
+        .iter()
+        .all(|segment| is_segment(geometry, *segment))
+}

@@ -1,0 +1,11 @@
+//! What a run of several events comes to.
+use crate::Reply;
+
+/// What became of a list of events.
+#[derive(Drop)]
+pub(crate) struct RunResult {
+    /// Of the events that were answered, in their order.
+    pub(crate) replies: Vec<Reply>,
+    /// Whether the event behind them was given up for want of memory.
+    pub(crate) out_of_memory: bool,
+}

@@ -1,0 +1,76 @@
+//! What a running store does.
+ghost use Rattle.std.specs.Prelude.{◌≡◌, true, IfOk, OnErr};
+ghost use Rattle.lc_core.specs.Running.{StillFitsAll};
+ghost use Rattle.lc_core.specs.Stepping.{AsksMemory, FollowsStep, is_plain};
+
+use crate::running::Running;
+use crate::{Event, Reply};
+use lc_disk::Area;
+use std::alloc::{AllocError, Global};
+
+impl<D: Area + Drop> Running<D> {
+    /// An event that is no step of a page write or of a reset, no stop and no step of a recovery. Where memory is wanted
+    /// nothing has changed.
+    pub(crate) fn step(&mut self, alloc: Global, event: &Event) -> Result<Reply, AllocError>
+        requires plain { is_plain event.now ≡ true }
+        ensures follows { IfOk result (λ reply. FollowsStep D.Area self.old event.now reply self.new) }
+        ensures memory { OnErr result (AsksMemory D.Area self.old event.now) }
+        ensures err { OnErr result (StillFitsAll D.Area self.old self.new) }
+    {
+        if let Some(refusal) = self.refusal(event) {
+            return Ok(Reply::Refused(refusal));
+        }
+        match event {
+            Event::Begin {
+                node,
+                thread,
+                segments,
+                reading,
+            } => self.begin(
+                alloc,
+                *node,
+                *thread,
+                segments.as_slice(),
+                reading.as_slice(),
+            ),
+            Event::SetRange {
+                node,
+                thread,
+                segment,
+                offset,
+                len,
+            } => self.set_range(*node, *thread, *segment, *offset, *len),
+            Event::Write {
+                node,
+                thread,
+                segment,
+                offset,
+                bytes,
+            } => Ok(self.write(*node, *thread, *segment, *offset, bytes.as_slice())),
+            Event::Read {
+                node,
+                thread,
+                segment,
+                offset,
+                len,
+            } => self.read(alloc, *node, *thread, *segment, *offset, *len),
+            Event::Abort { node, thread } => Ok(self.abort(*node, *thread)),
+            Event::Reserve { node, thread } => self.reserve(alloc, *node, *thread),
+            Event::Close { node, thread } => Ok(self.close(*node, *thread)),
+            Event::FlushStep { node } => Ok(self.flush_step(*node)),
+            Event::Leave { node, segment } => Ok(self.leave(*node, *segment)),
+            Event::Arrive { node, segment } => Ok(self.arrive(*node, *segment)),
+            Event::Deliver {
+                sender,
+                number,
+                segment,
+                to,
+            } => self.deliver(alloc, *sender, *number, *segment, *to),
+            Event::Trim { node } => Ok(self.trim(*node)),
+            Event::PageStep { .. }
+            | Event::ResetStep { .. }
+            | Event::Stop { .. }
+            | Event::RecoverStep => unreachable!(),
+        }
+    }
+}
