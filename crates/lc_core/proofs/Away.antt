@@ -158,5 +158,5 @@ module _ (here : Here) (k : ℕ) (slot next : Slot) (at : slice_get here.slots.i
       writer = λ other thread is writes. h.writer other thread (was_here other is) (ap (λ (p : Picture). writer_of p.holders) (sym (picture_is other (was_here other is))) ∙ writes);
       readers = λ other thread is reader. h.readers other thread (was_here other is) (ap (λ (p : Picture). reads p.holders thread) (sym (picture_is other (was_here other is))) ∙ reader);
       places = λ other is. h.places other (was_here other is);
-      elsewhere = λ other none. h.elsewhere other (sym (number_is other) ∙ none);
+      elsewhere = λ other first last none. h.elsewhere other first last (sym (number_is other) ∙ none);
     }

@@ -204,8 +204,9 @@ module _ (m : Setting) (node i : ℕ) (old : Here) (seats : List Seat) (s : Stat
         ∙ ap (λ b. refuse_if b (Busy x) next) (busy_at x why.1 why.0.taken)))
     begin_fault r (IsNotHere x) refusal not_here busy may err same =
         let why = (not_here x).0 err in
+        let bounds = asked_known x (member_both x segments reading ∙ why.0.member) in
         subst (λ (f : Refusal). Row m s (Begin node i segments reading) (Refused f) s) (same_some (NotHere x) refusal same)
-        (refused_at x (NotHere x) why.0 (λ next. rw (h.elsewhere x why.1) refl))
+        (refused_at x (NotHere x) why.0 (λ next. rw (h.elsewhere x bounds.0 bounds.1 why.1) refl))
     begin_fault r NoMemory refusal not_here busy may err same = absurd (let none : None ≡ Some refusal = same in cc)
     begin_fault r IsNotLocked refusal not_here busy may err same = absurd (false≢true may)
     begin_fault r IsOutside refusal not_here busy may err same = absurd (false≢true may)
@@ -334,5 +335,5 @@ module _ (m : Setting) (node i : ℕ) (old : Here) (seats : List Seat) (s : Stat
             let theirs = h.readers n k (was_here n here) (ap (λ (p : Picture). reads p.holders k) (sym (same_image n here other)) ∙ is) in
             (theirs.0, still_sits k theirs.0 theirs.1, theirs.2));
         places = λ n here. h.places n (was_here n here);
-        elsewhere = λ n none. h.elsewhere n (sym (begins.held.same.numbers n) ∙ none);
+        elsewhere = λ n first last none. h.elsewhere n first last (sym (begins.held.same.numbers n) ∙ none);
       }

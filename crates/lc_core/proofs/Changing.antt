@@ -186,5 +186,5 @@ module _ (old new : Here) (seats : List Seat) (i : ℕ) (seat : Seat) (tx next :
       writer = writer_after;
       readers = readers_after;
       places = λ segment here. h.places segment (was segment here);
-      elsewhere = λ segment none. h.elsewhere segment (sym (held.numbers segment) ∙ none);
+      elsewhere = λ segment first last none. h.elsewhere segment first last (sym (held.numbers segment) ∙ none);
     }

@@ -481,19 +481,19 @@ module _ (m : Setting) (n i : ℕ) (s : State) (x : Numbers) (t : Transaction) (
 
   -- The slots of the other nodes
 
-  -- the token of what it set is at its node
-  pub set_here : (segment : ℕ) → sets segment t ≡ true → s.place segment ≡ At n
-  set_here segment set = its_place segment (lock_holds t segment (sets-locks t segment well set)) ∙ ap At (is_by-both n i t (found-passes (is_by n i) (unclosed s.history) t found)).0
+  its_proper : IsProper m.geometry t
+  its_proper = found-all (is_by n i) (IsProper m.geometry) (unclosed s.history) t found (proper_unclosed s.history sound.history_proper)
     where
       proper_unclosed : (history : History) → All (IsProper m.geometry) (transactions history) → All (IsProper m.geometry) (unclosed history)
       proper_unclosed history proper = All-map (IsProper m.geometry) (λ (e : HistoryEntry). e.transaction) (filter (λ (e : HistoryEntry). not e.closed) history)
           (All-filter (λ (e : HistoryEntry). not e.closed) (λ (e : HistoryEntry). IsProper m.geometry e.transaction) history (All-from_map (IsProper m.geometry) (λ (e : HistoryEntry). e.transaction) history proper))
 
+  -- the token of what it set is at its node
+  pub set_here : (segment : ℕ) → sets segment t ≡ true → s.place segment ≡ At n
+  set_here segment set = its_place segment (lock_holds t segment (sets-locks t segment its_proper.well set)) ∙ ap At (is_by-both n i t (found-passes (is_by n i) (unclosed s.history) t found)).0
+    where
       its_place : HasItsPlaces s.place t
       its_place = found-all (is_by n i) (HasItsPlaces s.place) (unclosed s.history) t found (All-right (HasItsPlaces s.place) s.running (unclosed s.history) sound.holders_here)
-
-      well : IsWellFormed t
-      well = (found-all (is_by n i) (IsProper m.geometry) (unclosed s.history) t found (proper_unclosed s.history sound.history_proper)).well
 
   unset_away : (segment : ℕ) → (s.place segment ≡ At n → ⊥) → sets segment t ≡ false
   unset_away segment away = false_from_ne_true (sets segment t) (λ set. away (set_here segment set))
@@ -501,8 +501,9 @@ module _ (m : Setting) (n i : ℕ) (s : State) (x : Numbers) (t : Transaction) (
   -- and so it is among the images of the node's desk
   pub set_at_desk : (here : Here) (seats : List Seat) → FitsDesk m n here seats s → (segment : ℕ) → sets segment t ≡ true → IsHere the_images here segment
   set_at_desk here seats h segment set =
+      let bounds = its_proper.segments_known segment (lock_holds t segment (sets-locks t segment its_proper.well set)) in
       elim (the_images.number_of here segment) as (λ o. the_images.number_of here segment ≡ o → IsSome o) [
-        | None ↦ λ none. absurd (true≢false (sym (ap (is_at n) (set_here segment set) ∙ eq-eqb n n refl) ∙ h.elsewhere segment none))
+        | None ↦ λ none. absurd (true≢false (sym (ap (is_at n) (set_here segment set) ∙ eq-eqb n n refl) ∙ h.elsewhere segment bounds.0 bounds.1 none))
         | Some number ↦ λ some. refl
       ] refl
 

@@ -162,5 +162,5 @@ module _ (ranges : List Range) (old new : Here) (counts : CountsAll ranges old.s
     writer = λ segment thread here is. h.writer segment thread (was_here segment here) (ap (λ (p : Picture). writer_of p.holders) (sym (counted_image segment)) ∙ is);
     readers = λ segment thread here is. h.readers segment thread (was_here segment here) (ap (λ (p : Picture). reads p.holders thread) (sym (counted_image segment)) ∙ is);
     places = λ segment here. h.places segment (was_here segment here);
-    elsewhere = λ segment none. h.elsewhere segment (was_away segment none);
+    elsewhere = λ segment first last none. h.elsewhere segment first last (was_away segment none);
   }

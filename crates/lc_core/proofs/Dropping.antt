@@ -102,7 +102,7 @@ desk_seen m node old new seats s runs same h = record {
   writer = λ segment k here is. h.writer segment k (was old new [] same segment here) (ap (λ (p : Picture). writer_of p.holders) (sym (image_is old new [] same segment here refl)) ∙ is);
   readers = λ segment k here is. h.readers segment k (was old new [] same segment here) (ap (λ (p : Picture). reads p.holders k) (sym (image_is old new [] same segment here refl)) ∙ is);
   places = λ segment here. h.places segment (was old new [] same segment here);
-  elsewhere = λ segment none. h.elsewhere segment (sym (same.numbers segment) ∙ none);
+  elsewhere = λ segment first last none. h.elsewhere segment first last (sym (same.numbers segment) ∙ none);
 }
 
 -- The end of an open transaction

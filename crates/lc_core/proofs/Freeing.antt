@@ -140,5 +140,5 @@ module _ (old new : Here) (seats : List Seat) (i : ℕ) (seat : Seat) (at : slic
         writer = writer_after;
         readers = readers_after;
         places = λ segment here. ap (λ f. f segment) place ∙ h.places segment (was_here segment here);
-        elsewhere = λ segment none. rw place (h.elsewhere segment (sym (freed.same.numbers segment) ∙ none));
+        elsewhere = λ segment first last none. rw place (h.elsewhere segment first last (sym (freed.same.numbers segment) ∙ none));
       }

@@ -145,9 +145,9 @@ module _ (old new : Desk) (segment : ℕ) (first : 1 ≤ segment) (slot : Slot) 
         (free-unheld m node old.here old.seats.items s h sound old.runs segment (here_now token stands)
         (holders_are ∙ free-is slot.image.holders (not_held holds (is_free slot.image.holders) holds_is unheld_is)))
 
-    away : slot.token.token ≡ None → Row m s (Leave node segment) (Refused (AwayFrom slot.token.segment)) s
-    away none = subst (λ (n : ℕ). Row m s (Leave node segment) (Refused (AwayFrom n)) s) (sym its)
-        (leave-refused m s node segment (AwayFrom segment) (leave-not_here s node segment (h.elsewhere segment (number_is ∙ ap number_in none))))
+    away : segment ≤ m.geometry.segments → slot.token.token ≡ None → Row m s (Leave node segment) (Refused (AwayFrom slot.token.segment)) s
+    away last none = subst (λ (n : ℕ). Row m s (Leave node segment) (Refused (AwayFrom n)) s) (sym its)
+        (leave-refused m s node segment (AwayFrom segment) (leave-not_here s node segment (h.elsewhere segment first last (number_is ∙ ap number_in none))))
 
     kept_refusal : (token : Token) → slot.token.token ≡ Some token → holds ≡ true → leave_refusal s node segment ≡ Some KeptBy
     kept_refusal token stands held_is = leave-held s node segment (at_node token stands)
@@ -194,7 +194,7 @@ module _ (old new : Desk) (segment : ℕ) (first : 1 ≤ segment) (slot : Slot) 
             seats = seats_is;
           },
         ),
-        λ m node s sound h counts stables. (
+        λ m node s sound last h counts stables. (
           leave-done m s node segment (unheld m node s sound h token b.token done.1) (let most = acked-reserved m.geometry s node sound in let least = done.3 in omega (arith, most, least, counts, stables)),
           moved m node s sound h token b.token done.1 b.empty,
           λ x told. accepted m node s x (sym told ∙ done.2) (let most = acked-reserved m.geometry s node sound in let least = done.3 in omega (arith, most, least, counts, stables)),
@@ -206,16 +206,16 @@ module _ (old new : Desk) (segment : ℕ) (first : 1 ≤ segment) (slot : Slot) 
       let same = a.not_here.1 none in
       subst (λ (r : Result Token TokenFault). Leaves segment writes count stable old r new) (sym same) (
         stays (NotHere slot.token.segment) same,
-        λ m node s sound h counts stables. (
-          away m node s sound h none,
-          λ x told. none_open m node s x (AwayFrom slot.token.segment) (rw its (leave-not_here s node segment (h.elsewhere segment (number_is ∙ ap number_in none)))),
+        λ m node s sound last h counts stables. (
+          away m node s sound h last none,
+          λ x told. none_open m node s x (AwayFrom slot.token.segment) (rw its (leave-not_here s node segment (h.elsewhere segment first last (number_is ∙ ap number_in none)))),
         ),
       )
   decided (Some token) true w stands held writing =
       let same = a.held.1 (some_now token stands, held) in
       subst (λ (r : Result Token TokenFault). Leaves segment writes count stable old r new) (sym same) (
         stays Held same,
-        λ m node s sound h counts stables. (
+        λ m node s sound last h counts stables. (
           kept m node s sound h token stands held,
           λ x told. none_open m node s x KeptBy (kept_refusal m node s sound h token stands held),
         ),
@@ -224,7 +224,7 @@ module _ (old new : Desk) (segment : ℕ) (first : 1 ≤ segment) (slot : Slot) 
       let same = a.writing.1 (some_now token stands, held, writing) in
       subst (λ (r : Result Token TokenFault). Leaves segment writes count stable old r new) (sym same) (
         stays Writing same,
-        λ m node s sound h counts stables. (
+        λ m node s sound last h counts stables. (
           leave-writing m s node segment (unheld m node s sound h token stands held),
           λ x told. one_open m node s x IsWriting (unheld m node s sound h token stands held) (rw (sym told, writing) refl),
         ),
@@ -234,7 +234,7 @@ module _ (old new : Desk) (segment : ℕ) (first : 1 ≤ segment) (slot : Slot) 
         let same = a.unflushed.1 (some_now token stands, held, writing, below) in
         subst (λ (r : Result Token TokenFault). Leaves segment writes count stable old r new) (sym same) (
           stays Unflushed same,
-          λ m node s sound h counts stables. (
+          λ m node s sound last h counts stables. (
             leave-unflushed m s node segment (unheld m node s sound h token stands held) (omega (arith, below, counts, stables)),
             λ x told. one_open m node s x IsUnflushed (unheld m node s sound h token stands held)
                 (rw (sym told, writing, lt-ltb (s.ack node) (reserved node s.history) (omega (arith, below, counts, stables))) refl),

@@ -51,3 +51,7 @@ pub mod Travels
 pub mod Arrivals
 pub mod Ordinary
 pub mod OneMore
+pub mod Rising
+pub mod Recoveries
+pub mod Furnishing
+pub mod Opening

@@ -144,9 +144,9 @@ module _ (here : Here) (k : ℕ) (slot : Slot) (at : slice_get here.slots.items 
           places = λ other. by_place (λ n. IsHere the_images there n → update s.place (suc k) to n ≡ At node) other
               (λ is. update_own s.place (suc k) to ∙ (own_comes is).placed_here)
               (λ differ is. update_other s.place (suc k) other to differ ∙ h.places other (was_here other differ is));
-          elsewhere = λ other. by_place (λ n. the_images.number_of there n ≡ None → is_at node (update s.place (suc k) to n) ≡ false) other
+          elsewhere = λ other first last. by_place (λ n. the_images.number_of there n ≡ None → is_at node (update s.place (suc k) to n) ≡ false) other
               (λ none. ap (is_at node) (update_own s.place (suc k) to) ∙ away (sym number_own ∙ none))
-              (λ differ none. ap (is_at node) (update_other s.place (suc k) other to differ) ∙ h.elsewhere other (sym (number_other other differ) ∙ none));
+              (λ differ none. ap (is_at node) (update_other s.place (suc k) other to differ) ∙ h.elsewhere other first last (sym (number_other other differ) ∙ none));
         }
 
 -- a free segment is no seat's transaction's

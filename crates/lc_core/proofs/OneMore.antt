@@ -7,12 +7,11 @@ use Rattle.lc_model.specs.State.{Setting, State}
 use Rattle.lc_model.specs.declared.event.Event.{Event}
 use Rattle.lc_model.specs.declared.reply.Reply.{Reply}
 use Rattle.lc_core.specs.Numbers.{Numbers}
-use Rattle.lc_core.specs.Running.{FitsRunning}
 use Rattle.lc_core.specs.Runs.{RunsOn, FollowsRun}
 use Rattle.lc_core.specs.Settled.{Settled}
-use Rattle.lc_core.specs.Stepping.{FollowsStep}
+use Rattle.lc_core.specs.World.{FitsWorld, FollowsWorld}
 use Rattle.lc_core.specs.Turns.{Turns}
-use Rattle.lc_core.specs.declared.running.Running.{Running}
+use Rattle.lc_core.specs.declared.world.World.{World}
 
 runs_on_more : (m : Setting) (s : State) (x : Numbers) (events : List Event) (replies : List Reply) (mid : State) (between : Numbers) (event : Event) (reply : Reply) (after : State) (next : Numbers) → RunsOn m s x events replies mid between → Step m mid event reply after → Settled m mid between event reply → Turns m mid between event reply next → RunsOn m s x (events ++ event ∷ []) (replies ++ reply ∷ []) after next
 runs_on_more m s x [] [] mid between event reply after next run step settled turns = (
@@ -42,11 +41,11 @@ run_of m s x (event ∷ events) [] after next run = absurd run
 run_of m s x (event ∷ events) (reply ∷ replies) after next run = (run.0, run.2, run_of m run.0 run.1 events replies after next run.5)
 
 module _ {D : Type 0} (a : Ghosts D) where
-  pub run_start : (w : Running D a) → FollowsRun a w [] [] w
+  pub run_start : (w : World D a) → FollowsRun a w [] [] w
   run_start w m s x h = (s, x, (refl, refl), h)
 
   -- behind the first `count` events, the next one
-  pub run_more : (old mid new : Running D a) (events : List Event) (count : ℕ) (event : Event) (replies : List Reply) (reply : Reply) → count < length events → event ≡ get_or events count event → FollowsRun a old (take count events) replies mid → FollowsStep a mid event reply new → FollowsRun a old (take (count + 1) events) (replies ++ reply ∷ []) new
+  pub run_more : (old mid new : World D a) (events : List Event) (count : ℕ) (event : Event) (replies : List Reply) (reply : Reply) → count < length events → event ≡ get_or events count event → FollowsRun a old (take count events) replies mid → FollowsWorld a mid event reply new → FollowsRun a old (take (count + 1) events) (replies ++ reply ∷ []) new
   run_more old mid new events count event replies reply below is run step =
       subst (λ (es : List Event). FollowsRun a old es (replies ++ reply ∷ []) new)
       (sym (take_more events count event below ∙ ap (λ e. take count events ++ e ∷ []) (sym is)))
@@ -56,7 +55,7 @@ module _ {D : Type 0} (a : Ghosts D) where
       (on.after, on.next, runs_on_more m s x (take count events) replies so_far.0 so_far.1 event reply on.after on.next so_far.2 on.step on.settled on.turns, on.fits)))
 
   -- where it still fits
-  pub run_still : (old mid new : Running D a) (events : List Event) (replies : List Reply) → FollowsRun a old events replies mid → ((m : Setting) (s : State) (x : Numbers) → FitsRunning a m mid s x → FitsRunning a m new s x) → FollowsRun a old events replies new
+  pub run_still : (old mid new : World D a) (events : List Event) (replies : List Reply) → FollowsRun a old events replies mid → ((m : Setting) (s : State) (x : Numbers) → FitsWorld a m mid s x → FitsWorld a m new s x) → FollowsRun a old events replies new
   run_still old mid new events replies run still m s x h =
       let so_far = run m s x h in
       (so_far.0, so_far.1, so_far.2, still m so_far.0 so_far.1 so_far.3)

@@ -19,7 +19,7 @@ use Rattle.lc_core.specs.Turns.{Turns}
 use Rattle.lc_core.specs.declared.running.Running.{Running}
 
 -- a refusal leaves the numbers as they are
-turns_refused : (m : Setting) (s : State) (x : Numbers) (event : Event) (refusal : Refusal) → is_plain event ≡ true → Turns m s x event (Refused refusal) x
+pub turns_refused : (m : Setting) (s : State) (x : Numbers) (event : Event) (refusal : Refusal) → is_plain event ≡ true → Turns m s x event (Refused refusal) x
 turns_refused m s x (Begin node thread segments reading) refusal plain = refl
 turns_refused m s x (SetRange node thread segment offset len) refusal plain = refl
 turns_refused m s x (Write node thread segment offset bytes) refusal plain = refl

@@ -70,7 +70,7 @@ module _ (m : Setting) (node other : ℕ) (s after : State) (differ : other ≢ 
     writer = h.writer;
     readers = h.readers;
     places = λ segment is. beside.here other segment differ (h.places segment is);
-    elsewhere = λ segment none. beside.away other segment differ (h.elsewhere segment none);
+    elsewhere = λ segment first last none. beside.away other segment differ (h.elsewhere segment first last none);
   }
 
 -- What is beside the others

@@ -93,7 +93,7 @@ module _ {D : Type 0} (a : Ghosts D) where
 
   module _ (m : Setting) (n : ℕ) (s : State) (x : Numbers) (sound : Sound m.geometry s) (old : Node D a) (h : FitsNode a m n old s x) (new : Desk) where
     -- a token leaves
-    module _ (segment : ℕ) (first : 1 ≤ segment) (writing : Bool) (count stable : ℕ) (counts : count ≡ reserved n s.history) (stables : stable ≡ s.ack n) (told : writing ≡ is_writing m x segment) where
+    module _ (segment : ℕ) (first : 1 ≤ segment) (last : segment ≤ m.geometry.segments) (writing : Bool) (count stable : ℕ) (counts : count ≡ reserved n s.history) (stables : stable ≡ s.ack n) (told : writing ≡ is_writing m x segment) where
       leave_settled : leave_answer m s x n segment ≡ Accepted → ForSome (open_answer m s x (Leave n segment)) (λ answer. Accepted ≡ answer)
       leave_settled is answer open_is = behind (leave_refusal s n segment) open_is
         where
@@ -117,7 +117,7 @@ module _ {D : Type 0} (a : Ghosts D) where
           let unheld = free-unheld m n old.desk.here old.desk.seats.items s h.desk sound old.desk.runs segment here holders in
           let shown : slot.image.bytes.items ≡ segment_of segment (value m.start s.earlier s.history) =
           ap (λ p. p.bytes.items) (sym at_place.1) ∙ h.desk.shown segment here (ap writer_of holders) in
-          let step = left.1 m n s sound h.desk counts stables in
+          let step = left.1 m n s sound last h.desk counts stables in
           let gone = slots_left m n old.desk.here (segment - 1) slot moved.at s x h.slots token stands sound
           (none_held m s ((segment - 1) + 1) sound (ap (λ i. is_held i s) is ∙ unheld)) free (shown ∙ ap (λ i. segment_of i (value m.start s.earlier s.history)) (sym is)) in (
             record {
@@ -151,10 +151,10 @@ module _ {D : Type 0} (a : Ghosts D) where
       pub token_stays : (fault : TokenFault) (refusal : Refusal) → token_refusal fault ≡ Some refusal → Leaves segment writing count stable old.desk (Err fault) new
           → GoesOn a m n (Leave n segment) s x (Refused refusal) (record { desk = new; journal = old.journal })
       token_stays fault refusal is left =
-          let step = subst (λ (o : Option Refusal). MatchOption o ⊥ (λ refusal. (m : Setting) (node : ℕ) (s : State) → Sound m.geometry s → FitsDesk m node old.desk.here old.desk.seats.items s
+          let step = subst (λ (o : Option Refusal). MatchOption o ⊥ (λ refusal. (m : Setting) (node : ℕ) (s : State) → Sound m.geometry s → segment ≤ m.geometry.segments → FitsDesk m node old.desk.here old.desk.seats.items s
           → count ≡ reserved node s.history → stable ≡ s.ack node → Row m s (Leave node segment) (Refused refusal) s
           × ((x : Numbers) → writing ≡ is_writing m x segment → ForSome (open_answer m s x (Leave node segment)) (λ answer. Refused refusal ≡ answer)))) is left.1 in
-          let now = step m n s sound h.desk counts stables in
+          let now = step m n s sound last h.desk counts stables in
           stays_so a m n (Leave n segment) s x (Refused refusal) now.0 (settled_by m s x (Leave n segment) (Refused refusal) (λ e. absurd cc) (now.1 x told)) refl
           (same_goes m n s x old new left.0.slots (left.0.fits m n s h.desk) h)
 

@@ -1,5 +1,5 @@
 -- The images of a node and its open transactions, against those of the machine.
-use Rattle.std.specs.Prelude.{◌≡◌, ◌↔◌, IsTrue, ℕ, true, false, List, map, length, replicate, find, None, Some, slice_get}
+use Rattle.std.specs.Prelude.{◌≡◌, ◌≤◌, ◌↔◌, IsTrue, ℕ, true, false, List, map, length, replicate, find, None, Some, slice_get}
 use Rattle.lc_tx.specs.Tx.{Holds, Locked, Reads}
 use Rattle.lc_core.specs.Seat.{holder_of}
 use Rattle.lc_record.specs.Content.{Content, segment_of}
@@ -64,4 +64,5 @@ pub record FitsDesk (m : Setting) (node : ℕ) (here : Here) (seats : List Seat)
       → (tx : Tx) × Sits seats thread tx × Reads tx segment
   -- the tokens that are here, are here
   pub places : (segment : ℕ) → IsHere the_images here segment → s.place segment ≡ At node
-  pub elsewhere : (segment : ℕ) → the_images.number_of here segment ≡ None → is_at node (s.place segment) ≡ false
+  pub elsewhere : (segment : ℕ) → 1 ≤ segment → segment ≤ m.geometry.segments → the_images.number_of here segment ≡ None
+      → is_at node (s.place segment) ≡ false

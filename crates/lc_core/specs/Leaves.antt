@@ -46,13 +46,13 @@ MayLeave writing count stable slot = IsSome slot.token.token × (slot.image.hold
 abbrev pub Leaves : ℕ → Bool → ℕ → ℕ → Desk → Result Token TokenFault → Desk → Type 0
 Leaves segment writing count stable old (Ok token) new =
     ((slot : Slot) × (slot.token.token ≡ Some token) × HasToken segment slot None old new)
-    × ((m : Setting) (node : ℕ) (s : State) → Sound m.geometry s → FitsDesk m node old.here old.seats.items s
-    → count ≡ reserved node s.history → stable ≡ s.ack node
+    × ((m : Setting) (node : ℕ) (s : State) → Sound m.geometry s → segment ≤ m.geometry.segments
+    → FitsDesk m node old.here old.seats.items s → count ≡ reserved node s.history → stable ≡ s.ack node
     → Row m s (Leave node segment) Accepted (placed s segment Travelling) × FitsDesk m node new.here new.seats.items (placed s segment Travelling)
     × ((x : Numbers) → writing ≡ is_writing m x segment → leave_answer m s x node segment ≡ Accepted))
 Leaves segment writing count stable old (Err fault) new =
     IsAsBefore old new
-    × MatchOption (token_refusal fault) ⊥ (λ refusal. (m : Setting) (node : ℕ) (s : State) → Sound m.geometry s → FitsDesk m node old.here old.seats.items s
-    → count ≡ reserved node s.history → stable ≡ s.ack node
+    × MatchOption (token_refusal fault) ⊥ (λ refusal. (m : Setting) (node : ℕ) (s : State) → Sound m.geometry s → segment ≤ m.geometry.segments
+    → FitsDesk m node old.here old.seats.items s → count ≡ reserved node s.history → stable ≡ s.ack node
     → Row m s (Leave node segment) (Refused refusal) s
     × ((x : Numbers) → writing ≡ is_writing m x segment → ForSome (open_answer m s x (Leave node segment)) (λ answer. Refused refusal ≡ answer)))

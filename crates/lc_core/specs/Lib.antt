@@ -31,3 +31,7 @@ pub mod Receives
 pub mod Delivers
 pub mod Stepping
 pub mod Runs
+pub mod World
+pub mod Recovering
+pub mod Fresh
+pub mod Blank

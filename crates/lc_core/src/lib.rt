@@ -2,12 +2,15 @@
 //! is a run of it, and the types of the machine are handed on.
 #![tactic(auto)]
 
+mod answering;
 mod arriving;
 mod beginning;
+mod blank;
 mod common;
 mod delivering;
 mod desk;
 mod ending;
+mod filling;
 mod here;
 mod journal;
 mod laws;
@@ -18,28 +21,37 @@ mod logging;
 mod moving;
 mod named;
 mod node;
+mod phase;
 mod place;
 mod preparing;
 mod publishing;
 mod reading;
 mod receiving;
 mod records;
+mod recovered_reply;
+mod recovering;
 mod refused;
 mod reserving;
+mod room;
 mod run;
 mod run_result;
 mod running;
 mod seat;
 mod setting;
 mod slot;
+mod starting;
 mod step;
 mod stepping;
 mod token_refused;
 mod trimming;
+mod up;
+mod world;
 mod writing;
 
 pub use laws::{settled_answers, settled_runs};
 pub use lc_model::{Event, Refusal, Reply};
+pub use run_result::RunResult;
+pub use world::World;
 
 #[cfg(test)]
 mod journal_tests;
@@ -55,3 +67,5 @@ mod records_tests;
 mod running_tests;
 #[cfg(test)]
 mod tests;
+#[cfg(test)]
+mod world_tests;

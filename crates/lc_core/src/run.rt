@@ -1,19 +1,18 @@
-//! What a running store does with a list of events.
+//! What a store does with a list of events.
 ghost use Rattle.std.specs.Prelude.{◌≡◌, ◌<◌, All, length, take, true, false};
 ghost use Rattle.lc_core.specs.Runs.{FollowsRun};
-ghost use Rattle.lc_core.specs.Stepping.{is_plain};
+ghost use Rattle.lc_core.specs.World.{is_common};
 
-use crate::Event;
-use crate::run_result::RunResult;
-use crate::running::Running;
+use crate::world::World;
+use crate::{Event, RunResult};
 use lc_disk::Area;
 use std::alloc::{AllocError, Global};
 
-impl<D: Area + Drop> Running<D> {
+impl<D: Area + Drop> World<D> {
     /// These events, one after another, as far as there is memory: a reply's room is taken before its event. The store
     /// stands behind the events that were answered.
-    pub(crate) fn run(&mut self, alloc: Global, events: &[Event]) -> RunResult
-        requires plain { All (λ event. is_plain event ≡ true) events.now }
+    pub fn run(&mut self, alloc: Global, events: &[Event]) -> RunResult
+        requires common { All (λ event. is_common event ≡ true) events.now }
         ensures follows { FollowsRun D.Area self.old (take (length result.replies.items) events.now) result.replies.items self.new }
         ensures all { result.out_of_memory ≡ false → length result.replies.items ≡ length events.now }
         ensures some { result.out_of_memory ≡ true → length result.replies.items < length events.now }

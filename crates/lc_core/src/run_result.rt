@@ -3,9 +3,9 @@ use crate::Reply;
 
 /// What became of a list of events.
 #[derive(Drop)]
-pub(crate) struct RunResult {
+pub struct RunResult {
     /// Of the events that were answered, in their order.
-    pub(crate) replies: Vec<Reply>,
+    pub replies: Vec<Reply>,
     /// Whether the event behind them was given up for want of memory.
-    pub(crate) out_of_memory: bool,
+    pub out_of_memory: bool,
 }

@@ -27,7 +27,7 @@ mod Decided
 pub mod SomeOutcome
 pub mod Unrefused
 pub mod Steps
-mod Recovered
+pub mod Recovered
 pub mod Within
 mod Zeros
 mod Tells

@@ -153,6 +153,14 @@ impl PageVector {
         self.put(page, entry);
     }
 
+    /// The entry of a page is made anew: it is read like this.
+    pub fn renew(&mut self, page: u32, text: PageText)
+        requires { page < length self.old }
+        ensures { self.new ≡ slice_set self.old page (new_entry text) }
+    {
+        self.put(page, Entry::new(text));
+    }
+
     // Puts an entry in the place of one.
     fn put(&mut self, page: u32, entry: Entry)
         requires { page < length self.old }

@@ -23,7 +23,7 @@ use Rattle.lc_model.specs.Merge.{MergesTo}
 use Rattle.std.specs.Global.{Vec}
 use Rattle.lc_recover.specs.Recovery.{Recovering, recovering, AreBehind, IsDone, IsLast, IsGoing, IsMerged, MakesItsCall}
 use Rattle.lc_recover.specs.Stage.{AreasFit, Fits, IsWriting}
-use Rattle.lc_recover.specs.Steps.{all_pages, pages_left, calls_done, writes_done, resets_done, first_steps, steps_of, IsOver}
+use Rattle.lc_recover.specs.Steps.{pages_in, all_pages, pages_left, calls_done, writes_done, resets_done, first_steps, steps_of, IsOver}
 use Rattle.lc_recover.specs.declared.change.Change.{Change}
 use Rattle.lc_recover.specs.declared.finished.Finished.{Finished}
 use Rattle.lc_recover.specs.declared.log_resets.LogResets.{LogResets}
@@ -122,6 +122,21 @@ module _ {D : Type 0} (a : Ghosts D) (g : Geometry) (areas : List D) where
       let pages : r.written ≡ done.0 = one_item r.written done.0 done.1 in
       omega (arith, pages, done.2, few-resets g r going.next)
   not_over-done (Done f) going more done = more tt
+
+  -- a step behind which all is done is the last
+  pub done-last : (stage next : Stage) (news : List D) → IsGoing a g stage areas → ((pages : ℕ) → pages_in stage ≡ Some pages → pages_in next ≡ Some pages) → steps_of g next ≡ steps_of g stage + 1
+      → IsDone (recovering g news next) → IsLast (recovering g areas stage)
+  done-last (Syncing synced) next news going pages step done = absurd (omega (arith, going.fits.1, step, done.2, g.some_nodes))
+  done-last (Reading read) next news going pages step done = absurd (omega (arith, going.fits.1.0, step, done.2, g.some_nodes))
+  done-last (WritingPages w) next news going pages step done =
+      let same : all_pages w ≡ done.0 = one_item (all_pages w) done.0 (sym (pages (all_pages w) refl) ∙ done.1) in
+      (all_pages w, refl, omega (arith, same, step, done.2))
+  done-last (Resetting r) next news going pages step done =
+      let same : r.written ≡ done.0 = one_item r.written done.0 (sym (pages r.written refl) ∙ done.1) in
+      (r.written, refl, omega (arith, same, step, done.2))
+  done-last (Done f) next news going pages step done =
+      let same : f.written ≡ done.0 = one_item f.written done.0 (sym (pages f.written refl) ∙ done.1) in
+      (f.written, refl, omega (arith, same, step, done.2))
 
   -- the gate of the last log is written
   pub closing-last : (r : LogResets) → r.is_closing ≡ true → r.next + 1 ≡ g.nodes → IsLast (recovering g areas (Resetting r))

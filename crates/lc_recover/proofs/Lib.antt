@@ -30,3 +30,5 @@ pub mod MergedFits
 pub mod FinishedStore
 pub mod Calling
 pub mod Renewing
+pub mod Exclusive
+pub mod StillHonest

@@ -3,7 +3,7 @@ ghost use Rattle.std.specs.Prelude.{[], ◌≡◌, ◌≢◌, ◌+◌, ◌<◌, 
 ghost use Rattle.lc_model.specs.Merge.{IsLeast};
 ghost use Rattle.lc_record.specs.Content.{Content};
 ghost use Rattle.lc_recover.specs.Fault.{IsRefusal};
-ghost use Rattle.lc_recover.specs.Reads.{area_count, area_len, AreHonest, AllMergeTo, HaveLengths, store_of};
+ghost use Rattle.lc_recover.specs.Reads.{area_count, area_len, AreHonest, AreOfBytes, AllMergeTo, HaveLengths, store_of};
 ghost use Rattle.lc_recover.specs.Steps.{first_steps};
 ghost use Rattle.lc_recover.specs.declared.fault.RecoverFault.TheVariants.{BadGeometry, NoMemory, DeviceFault as Failed};
 
@@ -51,6 +51,7 @@ impl<D: Area> Recovery<D> {
     pub fn new(geometry: Geometry, areas: Vec<D>) -> Result<Recovery<D>, (Vec<D>, RecoverFault)>
         ensures begun { IfOk result (λ r. r ≡ begun geometry areas.items) }
         ensures right { OnOk result (HaveLengths D.Area geometry areas.items) }
+        ensures bytes { OnOk result (AreOfBytes D.Area areas.items) }
         ensures back { IfErr result (λ back. back.0.items ≡ areas.items) }
         ensures wrong { IfErr result (λ back. (area : ℕ) × (back.1 ≡ BadGeometry area)
             × IsLeast (λ k. slice_get (map (λ d. length (D.now d)) areas.items) k ≢ area_len geometry k) area) }
@@ -78,8 +79,12 @@ impl<D: Area> Recovery<D> {
 
         ensures geometry { self.new.geometry ≡ self.old.geometry }
         ensures lengths { HaveLengths D.Area self.new.geometry self.new.areas }
+        ensures bytes { AreOfBytes D.Area self.new.areas }
+        ensures honest { AreHonest D.Area self.old.areas → AreHonest D.Area self.new.areas }
+        ensures honest_before { AreHonest D.Area self.new.areas → AreHonest D.Area self.old.areas }
         ensures progress { IfOk result (λ progress. Tells progress self.new) }
         ensures steps { OnOk result (self.new.steps ≡ self.old.steps + 1) }
+        ensures last { IfOk result (λ progress. IsDone self.new → IsLast self.old) }
         ensures no_memory { result ≡ Err NoMemory → TakesMemory self.old × (self.new ≡ self.old) }
         ensures again { IfErr result (λ fault. (fault ≡ NoMemory → ⊥) → self.new ≡ begun self.old.geometry self.new.areas) }
 
@@ -95,6 +100,9 @@ impl<D: Area> Recovery<D> {
         ensures refused { IfErr result (λ fault. IsMergeNext self.old → AreHonest D.Area self.old.areas
             → IsRefusal (store_of self.old.geometry (map D.now self.old.areas)) fault) }
         ensures merge_fault { IfErr result (λ fault. IsMergeNext self.old → fault ≢ Failed) }
+        ensures accepted { (content : Content) (numbers : ℕ → ℕ) → AreHonest D.Area self.old.areas
+            → AllMergeTo D.Area self.old.geometry self.old.areas content numbers
+            → IfErr result (λ fault. (fault ≡ NoMemory) ⊎ (fault ≡ Failed)) }
         ensures pages { OnOk result ((pages : ℕ) → self.old.pages ≡ Some pages → self.new.pages ≡ Some pages) }
 
         // The pages that are left are written one after another, and no other changes.
@@ -131,6 +139,13 @@ impl<D: Area> Recovery<D> {
             return Progress::Recovered;
         }
         Progress::Stepped(self.steps())
+    }
+
+    /// How many there are of each thing in the store.
+    pub fn geometry(&self) -> Geometry
+        ensures { result ≡ self.now.geometry }
+    {
+        self.geometry
     }
 
     /// How many steps are done since the last fault but want of memory.

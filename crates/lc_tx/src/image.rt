@@ -41,6 +41,14 @@ impl Image {
         self.holders
     }
 
+    /// Puts these bytes over its own from an offset on, as far as it reaches. It takes no memory.
+    pub fn set(&mut self, offset: u32, bytes: &[u8])
+        ensures bytes { self.new.bytes.items ≡ put offset bytes.now self.old.bytes.items }
+        ensures holders { self.new.holders ≡ self.old.holders }
+    {
+        lay(self.bytes.as_mut_slice(), offset, bytes);
+    }
+
     /// Lays the bytes of a record's part over its own, the first range first. What reaches past them is left out. It
     /// takes no memory. Idea: a peer applies the ranges that another node committed (Feeley et al., OSDI 1994).
     pub fn put(&mut self, part: &Part)

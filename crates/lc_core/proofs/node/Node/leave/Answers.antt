@@ -1,9 +1,12 @@
 use Rattle.std.proofs.Common.{refl, sym, ap, ◌∙◌}
 use Rattle.std.specs.Prelude.{vec_len}
+use Rattle.lc_model.proofs.Rows.{known}
+use Rattle.lc_model.specs.declared.event.Event.TheVariants.{Leave}
 use Rattle.lc_core.specs.declared.here.Here.{Here}
 use Rattle.lc_core.proofs.Shortness.{same_len}
 use Rattle.lc_core.proofs.Logged.{count_same}
 use Rattle.lc_core.proofs.Tokens.{token_leaves, token_stays}
+use Rattle.lc_core.proofs.Travels.{segment_known}
 use Rattle.lc_core.proofs.node.Node.leave.Goals as goal
 
 pub returns-in-Ok : goal.returns-in-Ok
@@ -11,7 +14,7 @@ returns-in-Ok g c = record {
   follows = λ m n s x sound common h told.
       let w = c.args.self.now in
       let j = w.journal in
-      token_leaves g.D.Area m n s x sound w h c.leave.new.self c.args.segment c.requires.first c.args.writing c.count-reserved.result j.acked
+      token_leaves g.D.Area m n s x sound w h c.leave.new.self c.args.segment c.requires.first (segment_known m.geometry n c.args.segment (known m.geometry s (Leave n c.args.segment) common)).1 c.args.writing c.count-reserved.result j.acked
       (c.count-reserved.ensures ∙ count_same g.D.Area m n s x j.log j.records j.dropped j.trimmed j.taken j.acked h.journal)
       h.journal.acked_is told c.in-Ok.token c.in-Ok.ensures.leaves (λ slot at. (c.in-Ok.ensures.done slot at).0 refl);
   segment = c.in-Ok.ensures.segment;
@@ -23,7 +26,7 @@ returns-in-Some g c = record {
   follows = λ m n s x sound common h told.
       let w = c.args.self.now in
       let j = w.journal in
-      token_stays g.D.Area m n s x sound w h c.leave.new.self c.args.segment c.requires.first c.args.writing c.count-reserved.result j.acked
+      token_stays g.D.Area m n s x sound w h c.leave.new.self c.args.segment c.requires.first (segment_known m.geometry n c.args.segment (known m.geometry s (Leave n c.args.segment) common)).1 c.args.writing c.count-reserved.result j.acked
       (c.count-reserved.ensures ∙ count_same g.D.Area m n s x j.log j.records j.dropped j.trimmed j.taken j.acked h.journal)
       h.journal.acked_is told c.in-Err.fault c.in-Some.refusal (sym c.token_refusal.ensures ∙ c.in-Some.is) c.in-Err.ensures.leaves;
   segment = tt;

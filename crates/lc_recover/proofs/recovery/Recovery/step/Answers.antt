@@ -1,8 +1,13 @@
-use Rattle.std.proofs.Common.{◌≡◌, ◌++◌, List, length, take, drop, ◌∙◌, sym, ap, subst, arith, inl, inr, true, false, Err}
-use Rattle.lc_recover.specs.Reads.{AreHonest, HaveLengths}
-use Rattle.lc_recover.proofs.Going.{over-done, started, merges-carried, written-back, call-carried, clean-so_far}
+use Rattle.std.proofs.Common.{◌≡◌, ◌+◌, ◌++◌, List, length, take, drop, ◌∙◌, sym, ap, subst, arith, inl, inr, true, false, Err}
+use Rattle.std.proofs.lemmas.Bool.{cases_eq}
+use Rattle.lc_recover.specs.Reads.{AreHonest, AreOfBytes, AllMergeTo, HaveLengths}
+use Rattle.lc_recover.specs.Steps.{first_steps}
+use Rattle.lc_recover.proofs.Exclusive.{merge-accepted}
+use Rattle.lc_recover.proofs.StillHonest.{AsHonest, step-honest}
+use Rattle.lc_recover.proofs.Going.{over-done, done-last, started, merges-carried, written-back, call-carried, clean-so_far}
 use Rattle.lc_recover.proofs.Showing.{have-lengths}
-use Rattle.lc_recover.specs.Recovery.{Recovering, recovering, IsDone, IsMergeNext, IsMerged, IsGoing, Renews}
+use Rattle.lc_recover.specs.Recovery.{Recovering, recovering, IsDone, IsLast, IsMergeNext, IsMerged, IsGoing, Renews}
+use Rattle.lc_recover.specs.declared.stage.Stage.{Stage}
 use Rattle.lc_recover.proofs.recovery.Recovery.step.Given.{Over}
 use Rattle.lc_recover.proofs.recovery.Recovery.step.Goals as goal
 
@@ -92,3 +97,71 @@ pub returns-in-Err-clause-lengths : goal.returns-in-Err-clause-lengths
 returns-in-Err-clause-lengths g c =
     subst (λ (l : List g.row.D.Denot). HaveLengths g.D.Area c.self.inside.geometry l) (sym (after-stopped g c))
     (have-lengths g.D.Area c.self.inside.geometry c.in-Err.stopped.stage c.advance.new.areas c.in-Err.ensures.stopped.fits.0)
+
+-- The areas hold bytes, and are as honest as they were
+
+pub returns-in-Ok-clause-bytes : goal.returns-in-Ok-clause-bytes
+returns-in-Ok-clause-bytes g c =
+    subst (λ (l : List g.row.D.Denot). AreOfBytes g.D.Area l) (sym (after g c)) (λ k device is. (c.in-Ok.ensures.going.fits.0.each k device is).bytes)
+
+pub returns-in-Err-clause-bytes : goal.returns-in-Err-clause-bytes
+returns-in-Err-clause-bytes g c =
+    subst (λ (l : List g.row.D.Denot). AreOfBytes g.D.Area l) (sym (after-stopped g c)) (λ k device is. (c.in-Err.ensures.stopped.fits.0.each k device is).bytes)
+
+module _ (g : Over) (c : goal.After-progress g) where
+  as_honest : AsHonest g.D.Area c.args.self.now.areas (take c.self.inside.areas.len (c.advance.new.areas ++ drop (length c.advance.new.areas) c.self.inside.areas.items))
+  as_honest =
+      subst (λ (l : List g.row.D.Denot). AsHonest g.D.Area c.args.self.now.areas l) (sym (after g c))
+      (subst (λ (r : Recovering g.row.D.Denot). AsHonest g.D.Area r.areas c.advance.new.areas) (start g c)
+      (step-honest g.D.Area (recovering c.self.inside.geometry c.as_mut_slice.result.now c.replace-stage.result) c.advance.new.areas
+      c.in-Ok.ensures.no_call (λ not_merge. inr (true, c.in-Ok.ensures.called not_merge))))
+
+module _ (g : Over) (c : goal.Joined-self-stopped g) where
+  as_honest-stopped : AsHonest g.D.Area c.args.self.now.areas (take c.self.inside.areas.len (c.advance.new.areas ++ drop (length c.advance.new.areas) c.self.inside.areas.items))
+  as_honest-stopped =
+      subst (λ (l : List g.row.D.Denot). AsHonest g.D.Area c.args.self.now.areas l) (sym (after-stopped g c))
+      (subst (λ (r : Recovering g.row.D.Denot). AsHonest g.D.Area r.areas c.advance.new.areas) (start-stopped g c)
+      (step-honest g.D.Area (recovering c.self.inside.geometry c.as_mut_slice.result.now c.replace-stage.result) c.advance.new.areas
+      c.in-Err.ensures.no_call (λ not_merge.
+      elim (c.in-Err.ensures.failed not_merge) [
+        | inl wants ↦ inl (ap (λ (r : Recovering g.row.D.Denot). r.areas) (c.in-Err.ensures.no_memory wants).1)
+        | inr failed ↦ inr (false, failed.1)
+      ])))
+
+pub returns-in-Ok-clause-honest : goal.returns-in-Ok-clause-honest
+returns-in-Ok-clause-honest g c = (as_honest g c).0
+
+pub returns-in-Ok-clause-honest_before : goal.returns-in-Ok-clause-honest_before
+returns-in-Ok-clause-honest_before g c = (as_honest g c).1
+
+pub returns-in-Err-clause-honest : goal.returns-in-Err-clause-honest
+returns-in-Err-clause-honest g c = (as_honest-stopped g c).0
+
+pub returns-in-Err-clause-honest_before : goal.returns-in-Err-clause-honest_before
+returns-in-Err-clause-honest_before g c = (as_honest-stopped g c).1
+
+-- Only memory is wanted of what merges, or the device fails
+
+pub returns-in-Err-clause-accepted : goal.returns-in-Err-clause-accepted
+returns-in-Err-clause-accepted g c content numbers honest merges =
+    let r : Recovering g.row.D.Denot = recovering c.self.inside.geometry c.as_mut_slice.result.now c.replace-stage.result in
+    elim (cases_eq (r.steps + 1) (first_steps r.geometry)) [
+      | inl next ↦
+          let own : AreHonest g.D.Area r.areas = subst (λ (v : Recovering g.row.D.Denot). AreHonest g.D.Area v.areas) (sym (start-stopped g c)) honest in
+          let hold : AreOfBytes g.D.Area r.areas = subst (λ (v : Recovering g.row.D.Denot). AreOfBytes g.D.Area v.areas) (c.self.view_is ∙ sym (start-stopped g c)) (λ k device is. (c.self.invariant.fits.0.each k device is).bytes) in
+          let merge : AllMergeTo g.D.Area r.geometry r.areas content numbers = subst (λ (v : Recovering g.row.D.Denot). AllMergeTo g.D.Area v.geometry v.areas content numbers) (sym (start-stopped g c)) merges in
+          inl (merge-accepted g.D.Area r.geometry r.areas c.in-Err.stopped.fault content numbers own hold merge (c.in-Err.ensures.refused next own))
+      | inr other ↦
+          (elim (c.in-Err.ensures.failed other) [
+            | inl wants ↦ inl wants
+            | inr failed ↦ inr failed.0
+          ])
+    ]
+
+pub returns-in-Ok-clause-last : goal.returns-in-Ok-clause-last
+returns-in-Ok-clause-last g c done =
+    subst (λ (r : Recovering g.row.D.Denot). IsLast r) (start g c)
+    (done-last g.D.Area c.self.inside.geometry c.as_mut_slice.result.now c.replace-stage.result c.in-Ok.stage c.advance.new.areas
+    (subst (λ (l : List g.row.D.Denot). IsGoing g.D.Area c.self.inside.geometry c.replace-stage.result l) (ap (λ (r : Recovering g.row.D.Denot). r.areas) (c.self.view_is ∙ sym (start g c)))
+    (subst (λ (stage : Stage). IsGoing g.D.Area c.self.inside.geometry stage c.self.inside.areas.items) (sym c.replace-stage.ensures.value) c.self.invariant))
+    c.in-Ok.ensures.pages c.in-Ok.ensures.steps done)

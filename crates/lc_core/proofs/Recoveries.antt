@@ -1,0 +1,429 @@
+-- How a store that is down follows the machine.
+use Rattle.std.proofs.Common.{◌≡◌, ℕ, ◌+◌, ◌*◌, ◌<◌, ◌≤◌, ◌⊎◌, inl, inr, true, ◌++◌, List, length, drop, Option, Some, None, refl, sym, ap, subst, ◌∙◌, arith}
+use Rattle.std.proofs.lemmas.Result.{IfOk-from_err}
+use Rattle.std.specs.Prelude.{◌-◌, Result, Ok, Err, IfOk, IfErr, OnOk, OnErr, find, is_some, if◌then◌else◌, slice_get, is_ok}
+use Rattle.lc_disk.specs.declared.area.Area.{Ghosts}
+use Rattle.lc_record.specs.Content.{Content}
+use Rattle.lc_record.specs.declared.geometry.Geometry.{Geometry}
+use Rattle.lc_record.specs.Transaction.{Transaction, effects}
+use Rattle.std.proofs.lemmas.List.{length-drop}
+use Rattle.lc_recover.specs.Reads.{AreHonest, AreOfBytes, AllMergeTo, area_count}
+use Rattle.lc_recover.specs.Recovered.{IsFinished, page_read_of}
+use Rattle.lc_recover.proofs.Images.{count-areas, get-drop}
+use Rattle.lc_core.proofs.Rising.{rises}
+use Rattle.lc_recover.specs.Recovery.{Recovering, begun, IsDone, TakesMemory, Tells}
+use Rattle.lc_recover.specs.declared.fault.RecoverFault.{RecoverFault}
+use Rattle.lc_recover.specs.declared.fault.RecoverFault.TheVariants.{BadGeometry, Gap, Twice, OutOfSegment, DeviceFault as Failed, NoMemory}
+use Rattle.lc_recover.specs.declared.progress.Progress.{Progress}
+use Rattle.lc_recover.specs.declared.progress.Progress.TheVariants.{Stepped as HasStepped, Recovered as HasRecovered}
+use Rattle.lc_model.specs.History.{Cut, Entry, kept}
+use Rattle.lc_model.specs.Machine.{Step, Row, RecoverRow}
+use Rattle.lc_model.specs.Refusals.{Unless, common_refusal}
+use Rattle.lc_model.specs.Sound.{Sound}
+use Rattle.lc_model.specs.State.{Phase as Condition, DownAt, Up as IsUpNow, Setting, State, fresh, is_unclosed}
+use Rattle.lc_model.specs.declared.event.Event.{Event}
+use Rattle.lc_model.specs.declared.event.Event.TheVariants.{Begin, SetRange, Write, Read, Abort, Reserve, Close, FlushStep, Leave, Arrive, Deliver, Trim, PageStep, ResetStep, Stop, RecoverStep}
+use Rattle.lc_model.specs.declared.refusal.Refusal.{Refusal}
+use Rattle.lc_model.specs.declared.refusal.Refusal.TheVariants.{Down as IsDownNow, OutOfTurn, DeviceFault}
+use Rattle.lc_model.specs.declared.reply.Reply.{Reply}
+use Rattle.lc_model.specs.declared.reply.Reply.TheVariants.{Ok as Accepted, Stepped, Applied, HeldBack, Trimmed, Recovered, Refused}
+use Rattle.lc_model.specs.Stored.{Disks, records_of}
+use Rattle.lc_model.proofs.Keeps.{sound-step}
+use Rattle.lc_core.specs.Numbers.{Numbers, recovered_numbers}
+use Rattle.lc_core.specs.Running.{FitsRunning, StillFitsAll}
+use Rattle.lc_core.specs.Settled.{Settled, CountsSteps, number_of, open_answer, settled_answer}
+use Rattle.lc_core.specs.Slots.{besides_of}
+use Rattle.lc_core.specs.Node.{FitsNode}
+use Rattle.lc_core.specs.Stepping.{FollowsStep, is_plain}
+use Rattle.lc_core.specs.Turns.{Turns, closed_with, held_back, kept_numbers, numbers_after}
+use Rattle.lc_core.specs.Recovering.{ComesUp, RepliesTo}
+use Rattle.lc_core.specs.World.{FitsDown, FitsPages, FitsPhase, Leads, is_common}
+use Rattle.lc_core.proofs.Refusing.{on_err}
+use Rattle.lc_core.specs.declared.phase.Phase.{Phase}
+use Rattle.lc_core.specs.declared.phase.Phase.TheVariants.{Down, Up, Taken}
+use Rattle.lc_core.specs.declared.up.Up.{Up as Rising}
+use Rattle.lc_core.specs.declared.node.Node.{Node}
+use Rattle.lc_core.specs.declared.running.Running.{Running}
+use Rattle.lc_core.proofs.Ordinary.{turns_refused}
+use Rattle.lc_core.proofs.Slotted.{Stays, slots_stay, stays_where}
+
+stepped_same : (a b : ℕ) → Stepped a ≡ Stepped b → a ≡ b
+stepped_same a b same = ap (λ (reply : Reply). elim reply as (λ (reply : Reply). ℕ) [ Stepped steps ↦ steps | _ ↦ a ]) same
+
+-- what is refused at once where it is down
+refused_down : (m : Setting) (s : State) (cut : Cut) (event : Event) → s.phase ≡ DownAt cut → is_plain event ≡ true → common_refusal m.geometry s event ≡ Some IsDownNow
+refused_down m s cut (Begin node thread segments reading) down plain = rw down refl
+refused_down m s cut (SetRange node thread segment offset len) down plain = rw down refl
+refused_down m s cut (Write node thread segment offset bytes) down plain = rw down refl
+refused_down m s cut (Read node thread segment offset len) down plain = rw down refl
+refused_down m s cut (Abort node thread) down plain = rw down refl
+refused_down m s cut (Reserve node thread) down plain = rw down refl
+refused_down m s cut (Close node thread) down plain = rw down refl
+refused_down m s cut (FlushStep node) down plain = rw down refl
+refused_down m s cut (Leave node segment) down plain = rw down refl
+refused_down m s cut (Arrive node segment) down plain = rw down refl
+refused_down m s cut (Deliver sender number segment to) down plain = rw down refl
+refused_down m s cut (Trim node) down plain = rw down refl
+refused_down m s cut (PageStep node segment page) down plain = absurd cc
+refused_down m s cut (ResetStep node) down plain = absurd cc
+refused_down m s cut (Stop choices) down plain = absurd cc
+refused_down m s cut RecoverStep down plain = absurd cc
+
+pub common_plain : (event : Event) → is_common event ≡ true → (event ≡ RecoverStep → ⊥) → is_plain event ≡ true
+common_plain (Begin node thread segments reading) common other = refl
+common_plain (SetRange node thread segment offset len) common other = refl
+common_plain (Write node thread segment offset bytes) common other = refl
+common_plain (Read node thread segment offset len) common other = refl
+common_plain (Abort node thread) common other = refl
+common_plain (Reserve node thread) common other = refl
+common_plain (Close node thread) common other = refl
+common_plain (FlushStep node) common other = refl
+common_plain (Leave node segment) common other = refl
+common_plain (Arrive node segment) common other = refl
+common_plain (Deliver sender number segment to) common other = refl
+common_plain (Trim node) common other = refl
+common_plain (PageStep node segment page) common other = absurd cc
+common_plain (ResetStep node) common other = absurd cc
+common_plain (Stop choices) common other = absurd cc
+common_plain RecoverStep common other = absurd (other refl)
+
+if_ok_at : {A E : Type 0} (res : Result A E) (x : A) (P : A → Type 0) → res ≡ Ok x → P x → IfOk res P
+if_ok_at res x P is p = subst (λ (r : Result _ _). IfOk r P) (sym is) p
+
+on_err_at : {A E : Type 0} (res : Result A E) (x : A) (P : Type 0) → res ≡ Ok x → OnErr res P
+on_err_at res x P is = subst (λ (r : Result _ _). OnErr r P) (sym is) tt
+
+-- no refusal is common to all for a step of a recovery
+none_common : (m : Setting) (s : State) → common_refusal m.geometry s RecoverStep ≡ None
+none_common m s = elim s.phase as (λ (p : Condition). common_refusal m.geometry (record s { phase = p }) RecoverStep ≡ None) [
+  | IsUpNow ↦ refl
+  | DownAt cut ↦ refl
+]
+
+module _ {D : Type 0} (a : Ghosts D) (m : Setting) (s : State) (x : Numbers) where
+  pub down_refuses : (r : Recovering D) (event : Event) → is_plain event ≡ true → FitsDown a m r s x → Leads a m event s x (Refused IsDownNow) (Down r)
+  down_refuses r event plain h =
+      let common : common_refusal m.geometry s event ≡ Some IsDownNow = refused_down m s h.cut event h.down plain in
+      record {
+        after = s;
+        next = x;
+        step = subst (λ (c : Option Refusal). Unless c s (Refused IsDownNow) s (Row m s event (Refused IsDownNow) s)) (sym common) (refl, refl);
+        settled = (
+          λ answer is. (let none : None ≡ Some answer = sym (ap (λ (c : Option Refusal). if is_some c then None else open_answer m s x event) common) ∙ is in absurd cc),
+          λ recovers steps same. absurd cc,
+        );
+        turns = turns_refused m s x event IsDownNow plain;
+        fits = h;
+      }
+
+  open_none : settled_answer m s x RecoverStep ≡ None
+  open_none = ap (λ (c : Option Refusal). if is_some c then None else None) (none_common m s)
+
+  -- the step of a recovery that the row allows
+  leads_by_row : (reply : Reply) (after : State) (next : Numbers) (new : Phase D a) → RecoverRow s.phase m.geometry s reply after → CountsSteps x reply → Turns m s x RecoverStep reply next → FitsPhase a m new after next
+      → Leads a m RecoverStep s x reply new
+  leads_by_row reply after next new row counts turns fits = record {
+    after = after;
+    next = next;
+    step = subst (λ (c : Option Refusal). Unless c s reply after (Row m s RecoverStep reply after)) (sym (none_common m s)) row;
+    settled = (λ answer is. (let none : None ≡ Some answer = sym open_none ∙ is in absurd cc), λ recovers. counts);
+    turns = turns;
+    fits = fits;
+  }
+
+  -- what a step of the recovery keeps
+  pub record Keeps (r new : Recovering D) : Type 0 where
+    pub geometry : new.geometry ≡ r.geometry
+    pub honest : AreHonest a new.areas
+    pub merges : (content : Content) (numbers : ℕ → ℕ) → AllMergeTo a r.geometry r.areas content numbers → AllMergeTo a r.geometry new.areas content numbers
+
+  module _ (r new : Recovering D) (h : FitsDown a m r s x) (keeps : Keeps r new) where
+    still_merges : AllMergeTo a m.geometry new.areas (effects (s.earlier ++ kept s.history h.cut) m.start) (kept_numbers (DownAt h.cut) s x)
+    still_merges = subst (λ (g : Geometry). AllMergeTo a g new.areas (effects (s.earlier ++ kept s.history h.cut) m.start) (kept_numbers (DownAt h.cut) s x)) h.geometry_is
+        (keeps.merges _ _ (subst (λ (g : Geometry). AllMergeTo a g r.areas (effects (s.earlier ++ kept s.history h.cut) m.start) (kept_numbers (DownAt h.cut) s x)) (sym h.geometry_is) h.merges))
+
+    goes_down : FitsDown a m new s (record x { steps = new.steps })
+    goes_down = record {
+      geometry_is = keeps.geometry ∙ h.geometry_is;
+      cut = h.cut;
+      down = h.down;
+      sound = h.sound;
+      honest = keeps.honest;
+      merges = still_merges;
+      steps_are = refl;
+    }
+
+    row_of : (reply : Reply) (after : State) → RecoverRow (DownAt h.cut) m.geometry s reply after → RecoverRow s.phase m.geometry s reply after
+    row_of reply after row = subst (λ (p : Condition). RecoverRow p m.geometry s reply after) (sym h.down) row
+
+    -- one step more
+    pub steps_down : new.steps ≡ r.steps + 1 → Leads a m RecoverStep s x (Stepped new.steps) (Down new)
+    steps_down more = leads_by_row (Stepped new.steps) s (record x { steps = new.steps }) (Down new) (row_of _ _ (inl (new.steps, refl, refl)))
+        (λ steps same. stepped_same _ _ (sym same) ∙ more ∙ ap (λ (n : ℕ). n + 1) (sym h.steps_are)) refl goes_down
+
+    -- a fault of the device
+    pub fails_down : new.steps ≡ 0 → Leads a m RecoverStep s x (Refused DeviceFault) (Down new)
+    fails_down none = leads_by_row (Refused DeviceFault) s (record x { steps = 0 }) (Down new) (row_of _ _ (inr (inl (refl, refl))))
+        (λ steps same. absurd cc) refl (subst (λ (n : ℕ). FitsDown a m new s (record x { steps = n })) none goes_down)
+
+  -- how many steps a recovery has made is nothing to what fits while it is up
+  steps_stay : Stays m s x s (record x { steps = 0 })
+  steps_stay = stays_where m s s x (record x { steps = 0 }) refl refl refl refl refl refl refl refl
+
+  log_stays : (n : ℕ) (w : Node D a) → FitsNode a m n w s x → FitsNode a m n w s (record x { steps = 0 })
+  log_stays n w h = record {
+    desk = h.desk;
+    slots = slots_stay m n (besides_of w.desk.here) s x s (record x { steps = 0 }) steps_stay h.slots;
+    journal = record {
+      words = h.journal.words;
+      marks = h.journal.marks;
+      all_closed = h.journal.all_closed;
+      whole = h.journal.whole;
+      stands = h.journal.stands;
+      halted = h.journal.halted;
+      dropped_is = h.journal.dropped_is;
+      trimmed_is = h.journal.trimmed_is;
+      acked_is = h.journal.acked_is;
+      taken_is = h.journal.taken_is;
+    };
+    room = h.room;
+  }
+
+  all_stay : (w : Running D a) → FitsRunning a m w s x → FitsRunning a m w s (record x { steps = 0 })
+  all_stay w h = record {
+    geometry_is = h.geometry_is;
+    up = h.up;
+    sound = h.sound;
+    stored = h.stored;
+    open_logs = h.open_logs;
+    each = λ n node got. log_stays n node (h.each n node got);
+    on_the_way = record {
+      count = h.on_the_way.count;
+      some = λ k token got. (let o = h.on_the_way.some k token got in (o.0, steps_stay.tokens (k + 1) token o.1));
+      none = h.on_the_way.none;
+    };
+    resets = h.resets;
+    writes = h.writes;
+  }
+
+  pages_stay : (areas : List D) (y : Numbers) → y.disks ≡ x.disks → FitsPages a m areas x → FitsPages a m areas y
+  pages_stay areas y same h = record {
+    count = h.count;
+    honest = h.honest;
+    clean = h.clean;
+    pages = λ k page area got within. h.pages k page area got within
+        ∙ ap (λ (d : Disks). record { sequence = (d.page (k + 1) page).sequence; content = (d.page (k + 1) page).bytes }) (sym same);
+  }
+
+  -- up: a step of a recovery is out of turn
+  pub up_refuses : (up : Rising D a) → FitsPhase a m (Up up) s x → Leads a m RecoverStep s x (Refused OutOfTurn) (Up up)
+  up_refuses up h = leads_by_row (Refused OutOfTurn) s (record x { steps = 0 }) (Up up)
+      (subst (λ (p : Condition). RecoverRow p m.geometry s (Refused OutOfTurn) s) (sym h.0.up) (refl, refl))
+      (λ steps same. absurd cc) refl (all_stay up.running h.0, pages_stay up.segments.items (record x { steps = 0 }) refl h.1)
+
+  -- no other event of a store that is up changes its pages
+  closed_disks : (node : ℕ) (e : Option Entry) → (closed_with s x node e).disks ≡ x.disks
+  closed_disks node None = refl
+  closed_disks node (Some e) = refl
+
+  held_disks : (to segment : ℕ) (number : Option ℕ) → (held_back x to segment number).disks ≡ x.disks
+  held_disks to segment None = refl
+  held_disks to segment (Some number) = refl
+
+  turned_disks : (event : Event) (reply : Reply) (next : Numbers) → is_plain event ≡ true → Turns m s x event reply next → next.disks ≡ x.disks
+  turned_disks (Begin node thread segments reading) reply next plain turns = ap (λ (y : Numbers). y.disks) turns
+  turned_disks (SetRange node thread segment offset len) reply next plain turns = ap (λ (y : Numbers). y.disks) turns
+  turned_disks (Write node thread segment offset bytes) reply next plain turns = ap (λ (y : Numbers). y.disks) turns
+  turned_disks (Read node thread segment offset len) reply next plain turns = ap (λ (y : Numbers). y.disks) turns
+  turned_disks (Abort node thread) reply next plain turns = ap (λ (y : Numbers). y.disks) turns
+  turned_disks (Reserve node thread) reply next plain turns = ap (λ (y : Numbers). y.disks) turns
+  turned_disks (Close node thread) reply next plain turns = ap (λ (y : Numbers). y.disks) turns ∙ elim reply as (λ (r : Reply). (numbers_after m s x (Close node thread) r).disks ≡ x.disks) [
+    | Accepted ↦ closed_disks node (find (is_unclosed node thread) s.history)
+    | _ ↦ refl
+  ]
+  turned_disks (FlushStep node) reply next plain turns = ap (λ (y : Numbers). y.disks) turns
+  turned_disks (Leave node segment) reply next plain turns = ap (λ (y : Numbers). y.disks) turns
+  turned_disks (Arrive node segment) reply next plain turns = ap (λ (y : Numbers). y.disks) turns ∙ elim reply as (λ (r : Reply). (numbers_after m s x (Arrive node segment) r).disks ≡ x.disks) [
+    | Accepted ↦ refl
+    | _ ↦ refl
+  ]
+  turned_disks (Deliver sender number segment to) reply next plain turns = ap (λ (y : Numbers). y.disks) turns ∙ elim reply as (λ (r : Reply). (numbers_after m s x (Deliver sender number segment to) r).disks ≡ x.disks) [
+    | Applied last ↦ refl
+    | HeldBack ↦ held_disks to segment (number_of segment (slice_get (records_of m s x.disks sender) (number - 1)))
+    | _ ↦ refl
+  ]
+  turned_disks (Trim node) reply next plain turns = ap (λ (y : Numbers). y.disks) turns ∙ elim reply as (λ (r : Reply). (numbers_after m s x (Trim node) r).disks ≡ x.disks) [
+    | Trimmed count ↦ refl
+    | _ ↦ refl
+  ]
+  turned_disks (PageStep node segment page) reply next plain turns = absurd cc
+  turned_disks (ResetStep node) reply next plain turns = absurd cc
+  turned_disks (Stop choices) reply next plain turns = absurd cc
+  turned_disks RecoverStep reply next plain turns = absurd cc
+
+  -- a step of a store that is up
+  pub runs_up : (up : Rising D a) (event : Event) (reply : Reply) (new : Running D a) → is_plain event ≡ true → FollowsStep a up.running event reply new
+      → FitsPhase a m (Up up) s x → Leads a m event s x reply (Up (record up { running = new }))
+  runs_up up event reply new plain follows h =
+      let on = follows m s x h.0 in
+      record {
+        after = on.after;
+        next = on.next;
+        step = on.step;
+        settled = on.settled;
+        turns = on.turns;
+        fits = (on.fits, pages_stay up.segments.items on.next (turned_disks event reply on.next plain on.turns) h.1);
+      }
+
+module _ {D : Type 0} (a : Ghosts D) where
+  -- whatever a phase fits
+  abbrev pub FollowsPhase : Phase D a → Event → Reply → Phase D a → Type 0
+  FollowsPhase old event reply new = (m : Setting) (s : State) (x : Numbers) → FitsPhase a m old s x → Leads a m event s x reply new
+
+  pub up_follows : (old : Phase D a) (up : Rising D a) (event : Event) (reply : Reply) (new : Running D a) → old ≡ Up up → is_plain event ≡ true → FollowsStep a up.running event reply new
+      → FollowsPhase old event reply (Up (record up { running = new }))
+  up_follows old up event reply new is plain follows m s x h = runs_up a m s x up event reply new plain follows (subst (λ (p : Phase D a). FitsPhase a m p s x) is h)
+
+  pub up_still : (old : Phase D a) (up : Rising D a) (new : Running D a) → old ≡ Up up → StillFitsAll a up.running new
+      → (m : Setting) (s : State) (x : Numbers) → FitsPhase a m old s x → FitsPhase a m (Up (record up { running = new })) s x
+  up_still old up new is still m s x h =
+      let fits = subst (λ (p : Phase D a). FitsPhase a m p s x) is h in
+      (still m s x fits.0, fits.1)
+
+  pub down_same : (r other : Recovering D) → ◌≡◌ {A = Phase D a} (Down r) (Down other) → r ≡ other
+  down_same r other same = ap (λ (p : Phase D a). elim p as (λ (p : Phase D a). Recovering D) [ Down it ↦ it | _ ↦ r ]) same
+
+  -- not up
+  pub not_up : (old : Phase D a) (event : Event) → ((up : Rising D a) → old ≡ Up up → ⊥) → is_plain event ≡ true → FollowsPhase old event (Refused IsDownNow) old
+  not_up (Down r) event not plain = λ m s x h. down_refuses a m s x r event plain h
+  not_up (Up up) event not plain = absurd (not up refl)
+  not_up Taken event not plain = λ m s x h. absurd h
+
+  -- not down
+  pub not_down : (old : Phase D a) → ((r : Recovering D) → old ≡ Down r → ⊥) → FollowsPhase old RecoverStep (Refused OutOfTurn) old
+  not_down (Down r) not = absurd (not r refl)
+  not_down (Up up) not = λ m s x h. up_refuses a m s x up h
+  not_down Taken not = λ m s x h. absurd h
+
+  -- what a step of a recovery leaves
+  pub record StepLeaves (r new : Recovering D) (result : Result Progress RecoverFault) : Type 0 where
+    pub geometry : new.geometry ≡ r.geometry
+    pub progress : IfOk result (λ progress. Tells progress new)
+    pub steps : OnOk result (new.steps ≡ r.steps + 1)
+    pub no_memory : result ≡ Err NoMemory → TakesMemory r × (new ≡ r)
+    pub again : IfErr result (λ fault. (fault ≡ NoMemory → ⊥) → new ≡ begun r.geometry new.areas)
+    pub honest : AreHonest a r.areas → AreHonest a new.areas
+    pub merges : (content : Content) (numbers : ℕ → ℕ) → AreHonest a new.areas → AllMergeTo a r.geometry r.areas content numbers → AllMergeTo a r.geometry new.areas content numbers
+    pub accepted : (content : Content) (numbers : ℕ → ℕ) → AreHonest a r.areas → AllMergeTo a r.geometry r.areas content numbers → IfErr result (λ fault. (fault ≡ NoMemory) ⊎ (fault ≡ Failed))
+
+  module _ (old : Phase D a) (r new : Recovering D) (is : old ≡ Down r) where
+    fits_down : (m : Setting) (s : State) (x : Numbers) → FitsPhase a m old s x → FitsDown a m r s x
+    fits_down m s x h = subst (λ (p : Phase D a). FitsPhase a m p s x) is h
+
+    keeps_of : {result : Result Progress RecoverFault} → StepLeaves r new result → (m : Setting) (s : State) (x : Numbers) → FitsDown a m r s x → Keeps a m s x r new
+    keeps_of leaves m s x h =
+        let honest : AreHonest a new.areas = leaves.honest h.honest in
+        record { geometry = leaves.geometry; honest = honest; merges = λ content numbers. leaves.merges content numbers honest }
+
+    -- what is refused in a merge is not refused where all images merge
+    only_fails : (fault : RecoverFault) → StepLeaves r new (Err fault) → (m : Setting) (s : State) (x : Numbers) → FitsDown a m r s x → (fault ≡ NoMemory) ⊎ (fault ≡ Failed)
+    only_fails fault leaves m s x h = leaves.accepted _ _ h.honest (subst (λ (g : Geometry). AllMergeTo a g r.areas (effects (s.earlier ++ kept s.history h.cut) m.start) (kept_numbers (DownAt h.cut) s x)) (sym h.geometry_is) h.merges)
+
+    refused_down_follows : {E : Type 0} (fault : RecoverFault) (answer : Result Reply E) → RepliesTo (Err fault) answer → StepLeaves r new (Err fault) → IfOk answer (λ reply. FollowsPhase old RecoverStep reply (Down new))
+    refused_down_follows (BadGeometry area) answer replies leaves = if_ok_at answer _ _ replies
+        (λ m s x h. elim (only_fails (BadGeometry area) leaves m s x (fits_down m s x h)) [ inl e ↦ absurd cc | inr e ↦ absurd cc ])
+    refused_down_follows (Gap segment seq) answer replies leaves = if_ok_at answer _ _ replies
+        (λ m s x h. elim (only_fails (Gap segment seq) leaves m s x (fits_down m s x h)) [ inl e ↦ absurd cc | inr e ↦ absurd cc ])
+    refused_down_follows (Twice segment seq) answer replies leaves = if_ok_at answer _ _ replies
+        (λ m s x h. elim (only_fails (Twice segment seq) leaves m s x (fits_down m s x h)) [ inl e ↦ absurd cc | inr e ↦ absurd cc ])
+    refused_down_follows (OutOfSegment area) answer replies leaves = if_ok_at answer _ _ replies
+        (λ m s x h. elim (only_fails (OutOfSegment area) leaves m s x (fits_down m s x h)) [ inl e ↦ absurd cc | inr e ↦ absurd cc ])
+    refused_down_follows Failed answer replies leaves = if_ok_at answer _ _ replies
+        (λ m s x h. (let fits = fits_down m s x h in
+        fails_down a m s x r new fits (keeps_of leaves m s x fits) (ap (λ (v : Recovering D). v.steps) (leaves.again (λ e. absurd cc)))))
+    refused_down_follows NoMemory answer replies leaves = IfOk-from_err answer _ replies
+
+    pub down_follows : {E : Type 0} (result : Result Progress RecoverFault) (answer : Result Reply E) → RepliesTo result answer → StepLeaves r new result → ((p : Progress) → result ≡ Ok p → IsDone new → ⊥)
+        → IfOk answer (λ reply. FollowsPhase old RecoverStep reply (Down new))
+    down_follows (Ok (HasStepped steps)) answer replies leaves going = if_ok_at answer _ _ (replies ∙ ap (λ (n : ℕ). Ok (Stepped n)) leaves.progress.0)
+        (λ m s x h. (let fits = fits_down m s x h in steps_down a m s x r new fits (keeps_of leaves m s x fits) leaves.steps))
+    down_follows (Ok HasRecovered) answer replies leaves going = absurd (going HasRecovered refl leaves.progress)
+    down_follows (Err fault) answer replies leaves going = refused_down_follows fault answer replies leaves
+
+    wants_memory : {E : Type 0} (fault : RecoverFault) (answer : Result Reply E) → RepliesTo (Err fault) answer → StepLeaves r new (Err fault) → OnErr answer (TakesMemory r × (new ≡ r))
+    wants_memory (BadGeometry area) answer replies leaves = on_err_at answer _ _ replies
+    wants_memory (Gap segment seq) answer replies leaves = on_err_at answer _ _ replies
+    wants_memory (Twice segment seq) answer replies leaves = on_err_at answer _ _ replies
+    wants_memory (OutOfSegment area) answer replies leaves = on_err_at answer _ _ replies
+    wants_memory Failed answer replies leaves = on_err_at answer _ _ replies
+    wants_memory NoMemory answer replies leaves = on_err answer _ (leaves.no_memory refl)
+
+    pub down_wants : {E : Type 0} (result : Result Progress RecoverFault) (answer : Result Reply E) → RepliesTo result answer → StepLeaves r new result → OnErr answer (TakesMemory r × (new ≡ r))
+    down_wants (Ok (HasStepped steps)) answer replies leaves = on_err_at answer _ _ replies
+    down_wants (Ok HasRecovered) answer replies leaves = on_err_at answer _ _ replies
+    down_wants (Err fault) answer replies leaves = wants_memory fault answer replies leaves
+
+    pub same_still : new ≡ r → (m : Setting) (s : State) (x : Numbers) → FitsPhase a m old s x → FitsPhase a m (Down new) s x
+    same_still same m s x h = subst (λ (v : Recovering D). FitsDown a m v s x) (sym same) (fits_down m s x h)
+
+    -- the last step: what has come up fits the state that the cut keeps
+    module _ (up : Rising D a) (risen : ComesUp a new up) (m : Setting) (s : State) (x : Numbers) (h : FitsDown a m r s x) (keeps : Keeps a m s x r new) where
+      abbrev kept_now : List Transaction
+      kept_now = s.earlier ++ kept s.history h.cut
+
+      same_geometry : m.geometry ≡ risen.store.geometry
+      same_geometry = sym (risen.geometry ∙ keeps.geometry ∙ h.geometry_is)
+
+      honest_store : AreHonest a risen.store.areas
+      honest_store = subst (λ (areas : List D). AreHonest a areas) (sym risen.areas) keeps.honest
+
+      finished : IsFinished a risen.store
+      finished = risen.finished keeps.honest
+
+      all_merge : AllMergeTo a m.geometry risen.store.areas (effects kept_now m.start) (kept_numbers (DownAt h.cut) s x)
+      all_merge = subst (λ (areas : List D). AllMergeTo a m.geometry areas (effects kept_now m.start) (kept_numbers (DownAt h.cut) s x)) (sym risen.areas) (still_merges a m s x r new h keeps)
+
+      abbrev up_now : State
+      up_now = fresh m.geometry kept_now IsUpNow
+
+      abbrev next_numbers : Numbers
+      next_numbers = recovered_numbers m.geometry (kept_numbers (DownAt h.cut) s x) (page_read_of risen.store)
+
+      up_row : RecoverRow s.phase m.geometry s Recovered up_now
+      up_row = row_of a m s x r new h keeps Recovered up_now (inr (inr (refl, refl)))
+
+      up_sound : Sound m.geometry up_now
+      up_sound = sound-step m s RecoverStep Recovered up_now h.sound (subst (λ (c : Option Refusal). Unless c s Recovered up_now (Row m s RecoverStep Recovered up_now)) (sym (none_common m s)) up_row)
+
+      -- the areas of the segments stand behind those of the logs
+      area_at : (k : ℕ) (area : D) → slice_get up.segments.items k ≡ Some area → slice_get risen.store.areas (risen.store.geometry.nodes + k) ≡ Some area
+      area_at k area got =
+          ap (λ (areas : List D). slice_get areas (risen.store.geometry.nodes + k)) risen.areas
+          ∙ ap (λ (g : Geometry). slice_get new.areas (g.nodes + k)) risen.geometry
+          ∙ sym (get-drop new.geometry.nodes k new.areas)
+          ∙ ap (λ (areas : List D). slice_get areas k) (sym risen.segments)
+          ∙ got
+
+      pages_up : FitsPages a m up.segments.items next_numbers
+      pages_up = record {
+        count = (let counted : length new.areas ≡ area_count new.geometry = count-areas a new.geometry new.areas risen.lengths in
+            ap length risen.segments ∙ length-drop new.geometry.nodes new.areas
+            ∙ omega (arith, counted, ap (λ (g : Geometry). g.segments) keeps.geometry, ap (λ (g : Geometry). g.segments) h.geometry_is));
+        honest = λ k area got. honest_store (risen.store.geometry.nodes + k) area (area_at k area got);
+        clean = λ k area got. finished.clean (risen.store.geometry.nodes + k) area (area_at k area got);
+        pages = λ k page area got within. finished.reads k page area (area_at k area got)
+            (subst (λ (g : Geometry). page < g.pages) same_geometry within);
+      }
+
+      comes_up_with : Leads a m RecoverStep s x Recovered (Up up)
+      comes_up_with = leads_by_row a m s x Recovered up_now next_numbers (Up up) up_row (λ steps same. absurd cc)
+          (page_read_of risen.store, ap (λ (p : Condition). recovered_numbers m.geometry (kept_numbers p s x) (page_read_of risen.store)) (sym h.down)) (
+            rises a m kept_now (kept_numbers (DownAt h.cut) s x) risen.store up.running same_geometry up_sound honest_store
+                (subst (λ (areas : List D). AreOfBytes a areas) (sym risen.areas) risen.bytes) finished all_merge (risen.fresh keeps.honest),
+            pages_up,
+          )
+
+    pub comes_up : {result : Result Progress RecoverFault} (up : Rising D a) → StepLeaves r new result → ComesUp a new up → FollowsPhase old RecoverStep Recovered (Up up)
+    comes_up up leaves risen m s x h =
+        let fits = fits_down m s x h in
+        comes_up_with up risen m s x fits (keeps_of leaves m s x fits)

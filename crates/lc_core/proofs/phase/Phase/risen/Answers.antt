@@ -1,0 +1,39 @@
+use Rattle.std.proofs.Common.{◌≡◌, drop, List, refl, sym, ap, subst, ◌∙◌}
+use Rattle.lc_record.specs.declared.geometry.Geometry.{Geometry}
+use Rattle.lc_recover.specs.Reads.{AreHonest, AreOfBytes, HaveLengths}
+use Rattle.lc_recover.specs.Recovery.{Recovering}
+use Rattle.lc_core.specs.Recovering.{HasComeUp}
+use Rattle.lc_core.specs.declared.phase.Phase.TheVariants.{Up}
+use Rattle.lc_core.proofs.Recoveries.{down_same}
+use Rattle.lc_core.proofs.phase.Phase.risen.Goals as goal
+
+pub furnish-running-requires-clause-lengths : goal.furnish-running-requires-clause-lengths
+furnish-running-requires-clause-lengths g c =
+    subst (λ (v : Geometry). HaveLengths g.D.Area v c.finish.result.areas) (sym c.finish.ensures.geometry)
+    (subst (λ (areas : List g.row.D.Denot). HaveLengths g.D.Area c.in-Down.recovery.geometry areas) (sym c.finish.ensures.areas)
+    (c.requires.lengths c.in-Down.recovery c.in-Down.is))
+
+pub furnish-running-requires-clause-finished : goal.furnish-running-requires-clause-finished
+furnish-running-requires-clause-finished g c honest =
+    c.finish.ensures.finished (subst (λ (areas : List g.row.D.Denot). AreHonest g.D.Area areas) c.finish.ensures.areas honest)
+
+pub returns : goal.returns
+returns g c r is =
+    let came : HasComeUp g.D.Area c.in-Down.recovery (Up (record { running = c.furnish-running.result.0; segments = c.furnish-running.result.1 })) = (
+      record { running = c.furnish-running.result.0; segments = c.furnish-running.result.1 },
+      refl,
+      record {
+        store = c.finish.result;
+        geometry = c.finish.ensures.geometry;
+        areas = c.finish.ensures.areas;
+        finished = c.finish.ensures.finished;
+        fresh = λ honest. c.furnish-running.ensures.fresh (subst (λ (areas : List g.row.D.Denot). AreHonest g.D.Area areas) (sym c.finish.ensures.areas) honest);
+        lengths = c.requires.lengths c.in-Down.recovery c.in-Down.is;
+        bytes = subst (λ (areas : List g.row.D.Denot). AreOfBytes g.D.Area areas) c.finish.ensures.areas c.furnish-running.ensures.bytes;
+        segments = c.furnish-running.ensures.areas
+            ∙ ap (λ (v : Geometry). drop v.nodes c.finish.result.areas) c.finish.ensures.geometry
+            ∙ ap (λ (areas : List g.row.D.Denot). drop c.in-Down.recovery.geometry.nodes areas) c.finish.ensures.areas;
+      },
+    ) in
+    subst (λ (v : Recovering g.row.D.Denot). HasComeUp g.D.Area v (Up (record { running = c.furnish-running.result.0; segments = c.furnish-running.result.1 })))
+    (down_same g.D.Area c.in-Down.recovery r (sym c.in-Down.is ∙ is)) came

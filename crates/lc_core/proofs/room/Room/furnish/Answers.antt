@@ -1,0 +1,37 @@
+use Rattle.std.proofs.Common.{length, None, sym, ap, subst, ◌∙◌, arith}
+use Rattle.std.specs.Prelude.{slice_get}
+use Rattle.std.proofs.lemmas.List.{length-replicate}
+use Rattle.lc_core.specs.Blank.{IsBlankNode, IsFilledNode}
+use Rattle.lc_core.proofs.Furnishing.{all_back, each_same, named_none}
+use Rattle.lc_core.proofs.Opening.{filled_fresh, filled_whole}
+use Rattle.lc_core.proofs.room.Room.furnish.Goals as goal
+
+pub fill_nodes-requires : goal.fill_nodes-requires
+fill_nodes-requires g c = λ n node got.
+    subst (λ h. IsBlankNode g.D.Area h n node) (sym c.requires.geometry)
+    (c.args.self.blank n node (ap (λ l. slice_get l n) (sym c.as_mut_slice.ensures.value) ∙ got))
+
+pub open_logs-areas-requires-clause-filled : goal.open_logs-areas-requires-clause-filled
+open_logs-areas-requires-clause-filled g c =
+    let are = all_back c.args.self.nodes.len c.fill_nodes.new.nodes _ (omega (arith, c.fill_nodes.auto.nodes, c.as_mut_slice.ensures.len)) in
+    each_same (λ n node. IsFilledNode g.D.Area c.args.recovered n node) c.fill_nodes.new.nodes _ (c.as_mut_slice-2.ensures.value ∙ are) c.fill_nodes.ensures
+
+pub invariant_of-running : goal.invariant_of-running
+invariant_of-running g c =
+    let are = all_back c.args.self.nodes.len c.open_logs-areas.new.nodes _ (omega (arith, c.open_logs-areas.auto.nodes, c.as_mut_slice-2.ensures.len)) in
+    let none = ap length c.args.self.none ∙ length-replicate c.args.self.geometry.segments None in
+    record {
+      few = c.args.self.geometry.few_nodes;
+      all_nodes = c.args.self.count;
+      all_places = omega (arith, none, c.args.self.travelling.ok.0);
+      whole = filled_whole g.D.Area c.args.recovered c.args.self.geometry _ c.requires.geometry
+          (each_same (λ n node. IsFilledNode g.D.Area c.args.recovered n node) c.open_logs-areas.new.nodes _ are c.open_logs-areas.ensures.filled);
+      named = named_none c.args.self.geometry.segments c.args.self.travelling.items c.args.self.none;
+    }
+
+pub returns-clause-fresh : goal.returns-clause-fresh
+returns-clause-fresh g c = λ honest.
+    let are = all_back c.args.self.nodes.len c.open_logs-areas.new.nodes _ (omega (arith, c.open_logs-areas.auto.nodes, c.as_mut_slice-2.ensures.len)) in
+    filled_fresh g.D.Area c.args.recovered _ c.open_logs-areas.new.nodes c.requires.geometry are c.open_logs-areas.ensures.filled c.open_logs-areas.ensures.log_areas
+    (λ n node got. (c.open_logs-areas.ensures.logs honest (c.requires.finished honest) n node got).0)
+    (λ n node got. (c.open_logs-areas.ensures.logs honest (c.requires.finished honest) n node got).1) c.args.self.none

@@ -1,0 +1,19 @@
+use Rattle.std.proofs.Common.{◌≡◌, ℕ, ◌<◌, false, [], drop, Some}
+use Rattle.std.specs.Prelude.{slice_get}
+use Rattle.lc_recover.specs.Reads.{AreHonest}
+use Rattle.lc_recover.specs.Recovered.{IsFinished}
+use Rattle.lc_core.specs.Blank.{AreFilledNodes}
+use Rattle.lc_core.specs.Log.{Stands, area_of, is_failed}
+use Rattle.lc_core.specs.declared.node.Node.{Node}
+use Rattle.lc_core.proofs.room.open_logs.Given as goal
+
+abbrev pub invariant-loop-node : goal.invariant-loop-node
+invariant-loop-node g l = record {
+  areas : l.areas.items ≡ drop l.node-index l.fn.recovered.areas;
+  filled : AreFilledNodes g.D.Area l.fn.recovered l.nodes;
+  log_areas : (n : ℕ) (node : Node g.row.D.Denot g.D.Area) → n < l.node-index → slice_get l.nodes n ≡ Some node
+      → area_of g.D.Area node.journal.log ≡ slice_get l.fn.recovered.areas n;
+  logs : (n : ℕ) (node : Node g.row.D.Denot g.D.Area) → n < l.node-index → slice_get l.nodes n ≡ Some node
+      → AreHonest g.D.Area l.fn.recovered.areas → IsFinished g.D.Area l.fn.recovered
+      → Stands g.D.Area node.journal.log 0 [] [] × (is_failed g.D.Area node.journal.log ≡ false);
+}

@@ -1,8 +1,0 @@
-use Rattle.std.proofs.Common.{◌≡◌, length, take}
-use Rattle.lc_core.specs.Runs.{FollowsRun}
-use Rattle.lc_core.proofs.running.Running.run.Given as goal
-
-abbrev pub invariant-loop-event : goal.invariant-loop-event
-invariant-loop-event g l =
-    (length l.replies.items ≡ l.event-index)
-    × FollowsRun g.D.Area l.initial.self (take l.event-index l.events) l.replies.items l.self

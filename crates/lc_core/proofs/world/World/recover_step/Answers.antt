@@ -1,0 +1,123 @@
+use Rattle.std.proofs.Common.{◌≡◌, Ok, Err, true, false, ap, sym, ◌∙◌, inl, inr, subst}
+use Rattle.std.proofs.lemmas.Result.{IfOk-at_ok}
+use Rattle.std.specs.Prelude.{Result, OnErr, Bool, IsTrue}
+use Rattle.lc_record.specs.declared.geometry.Geometry.{Geometry}
+use Rattle.lc_recover.specs.Recovery.{Recovering, IsLast, TakesMemory, all_steps}
+use Rattle.lc_core.specs.declared.phase.Phase.TheVariants.{Down, Up}
+use Rattle.lc_core.proofs.Refusing.{on_err}
+use Rattle.lc_recover.specs.declared.fault.RecoverFault.{RecoverFault}
+use Rattle.lc_core.proofs.Logged.{err_then}
+use Rattle.lc_core.specs.Recovering.{RepliesTo}
+use Rattle.lc_core.specs.World.{AsksIn}
+use Rattle.lc_core.specs.declared.phase.Phase.{Phase}
+use Rattle.lc_model.specs.declared.event.Event.TheVariants.{RecoverStep}
+use Rattle.lc_recover.specs.Recovery.{IsDone}
+use Rattle.lc_recover.specs.declared.progress.Progress.{Progress}
+use Rattle.lc_model.specs.declared.reply.Reply.TheVariants.{Recovered}
+use Rattle.lc_core.proofs.Recoveries.{FollowsPhase, StepLeaves, comes_up, down_same, not_down, down_follows, down_wants, same_still}
+use Rattle.lc_core.proofs.world.World.recover_step.Given.{Over}
+use Rattle.lc_core.proofs.world.World.recover_step.Goals as goal
+
+pub returns-in_default-clause-follows : goal.returns-in_default-clause-follows
+returns-in_default-clause-follows g c = not_down g.D.Area c.args.self.now.phase c.in_default.not-Down
+
+module _ (g : Over) (c : goal.After-reply_to g) where
+  leaves : StepLeaves g.D.Area c.in-Down.recovery c.step.new.self c.step.result
+  leaves = record {
+    geometry = c.step.ensures.geometry;
+    progress = c.step.ensures.progress;
+    steps = c.step.ensures.steps;
+    no_memory = c.step.ensures.no_memory;
+    again = c.step.ensures.again;
+    honest = c.step.ensures.honest;
+    merges = c.step.ensures.merges;
+    accepted = c.step.ensures.accepted;
+  }
+
+  wants : OnErr c.reply_to.result (TakesMemory c.in-Down.recovery × (c.step.new.self ≡ c.in-Down.recovery))
+  wants = down_wants g.D.Area c.args.self.now.phase c.in-Down.recovery c.step.new.self c.in-Down.is c.step.result c.reply_to.result c.reply_to.ensures leaves
+
+  going : (p : Progress) → c.step.result ≡ Ok p → IsDone c.step.new.self → ⊥
+  going p is done =
+      let last : c.is_last.result ≡ true = c.is_last.ensures.1 (IfOk-at_ok _ is c.step.ensures.last done) in
+      let not : true ≡ false = sym last ∙ c.if-not-is_last.true in
+      absurd cc
+
+pub returns-then-not-is_last-clause-follows : goal.returns-then-not-is_last-clause-follows
+returns-then-not-is_last-clause-follows g c =
+    down_follows g.D.Area c.args.self.now.phase c.in-Down.recovery c.step.new.self c.in-Down.is c.step.result c.reply_to.result c.reply_to.ensures (leaves g c) (going g c)
+
+pub returns-then-not-is_last-clause-memory : goal.returns-then-not-is_last-clause-memory
+returns-then-not-is_last-clause-memory g c =
+    err_then c.reply_to.result (wants g c) (λ asks. subst (λ (p : Phase g.row.D.Denot g.D.Area). AsksIn g.D.Area p RecoverStep) (sym c.in-Down.is) (inl asks.0))
+
+pub returns-then-not-is_last-clause-err : goal.returns-then-not-is_last-clause-err
+returns-then-not-is_last-clause-err g c =
+    err_then c.reply_to.result (wants g c) (λ asks. same_still g.D.Area c.args.self.now.phase c.in-Down.recovery c.step.new.self c.in-Down.is asks.1)
+
+module _ (g : Over) (c : goal.After-drop-room-in-Err g) where
+  leaves-last : StepLeaves g.D.Area c.in-Down.recovery c.step-2.new.self c.step-2.result
+  leaves-last = record {
+    geometry = c.step-2.ensures.geometry;
+    progress = c.step-2.ensures.progress;
+    steps = c.step-2.ensures.steps;
+    no_memory = c.step-2.ensures.no_memory;
+    again = c.step-2.ensures.again;
+    honest = c.step-2.ensures.honest;
+    merges = c.step-2.ensures.merges;
+    accepted = c.step-2.ensures.accepted;
+  }
+
+  replies-last : RepliesTo c.step-2.result c.stopped.result
+  replies-last = subst (λ (r : Result Progress RecoverFault). RepliesTo r c.stopped.result) (sym c.in-Err.is) c.stopped.ensures
+
+pub returns-in-Err-clause-follows : goal.returns-in-Err-clause-follows
+returns-in-Err-clause-follows g c =
+    down_follows g.D.Area c.args.self.now.phase c.in-Down.recovery c.step-2.new.self c.in-Down.is c.step-2.result c.stopped.result (replies-last g c) (leaves-last g c)
+    (λ p is done. (let none : Ok p ≡ Err c.in-Err.fault = sym is ∙ c.in-Err.is in absurd cc))
+
+pub returns-in-Err-clause-err : goal.returns-in-Err-clause-err
+returns-in-Err-clause-err g c =
+    err_then c.stopped.result (down_wants g.D.Area c.args.self.now.phase c.in-Down.recovery c.step-2.new.self c.in-Down.is c.step-2.result c.stopped.result (replies-last g c) (leaves-last g c))
+    (λ asks. same_still g.D.Area c.args.self.now.phase c.in-Down.recovery c.step-2.new.self c.in-Down.is asks.1)
+
+module _ (g : Over) (c : goal.Joined-self-risen g) where
+  leaves-done : StepLeaves g.D.Area c.in-Down.recovery c.step-2.new.self c.step-2.result
+  leaves-done = record {
+    geometry = c.step-2.ensures.geometry;
+    progress = c.step-2.ensures.progress;
+    steps = c.step-2.ensures.steps;
+    no_memory = c.step-2.ensures.no_memory;
+    again = c.step-2.ensures.again;
+    honest = c.step-2.ensures.honest;
+    merges = c.step-2.ensures.merges;
+    accepted = c.step-2.ensures.accepted;
+  }
+
+pub returns-clause-follows : goal.returns-clause-follows
+returns-clause-follows g c =
+    let up = c.risen.ensures c.step-2.new.self c.replace.ensures.value in
+    subst (λ (p : Phase g.row.D.Denot g.D.Area). FollowsPhase g.D.Area c.args.self.now.phase RecoverStep Recovered p) (sym up.1)
+    (comes_up g.D.Area c.args.self.now.phase c.in-Down.recovery c.step-2.new.self c.in-Down.is up.0 (leaves-done g c) up.2)
+
+pub risen-requires-clause-done : goal.risen-requires-clause-done
+risen-requires-clause-done g c r is =
+    let last : IsLast c.in-Down.recovery = c.is_last.ensures.0 c.if-not-is_last.false in
+    let done : IsDone c.step-2.new.self = (
+      last.0,
+      c.in_default-step.ensures.pages last.0 last.1,
+      c.in_default-step.ensures.steps ∙ last.2 ∙ ap (λ (v : Geometry). all_steps v last.0) (sym c.in_default-step.ensures.geometry),
+    ) in
+    subst (λ (v : Recovering g.row.D.Denot). IsDone v) (down_same g.D.Area c.step-2.new.self r (sym c.replace.ensures.value ∙ is)) done
+
+pub invariant_of-self-2 : goal.invariant_of-self-2
+invariant_of-self-2 g c = record {
+  going = λ r is done.
+      (let up = c.risen.ensures c.step-2.new.self c.replace.ensures.value in
+      let same : Up up.0 ≡ Down r = sym up.1 ∙ is in
+      absurd cc);
+}
+
+pub returns-in-Err-clause-memory : goal.returns-in-Err-clause-memory
+returns-in-Err-clause-memory g c =
+    on_err c.stopped.result _ (subst (λ (p : Phase g.row.D.Denot g.D.Area). AsksIn g.D.Area p RecoverStep) (sym c.in-Down.is) (inr (c.is_last.ensures.0 c.if-not-is_last.false)))

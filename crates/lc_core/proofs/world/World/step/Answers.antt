@@ -1,0 +1,15 @@
+use Rattle.std.proofs.lemmas.Result.{IfOk-weaker}
+use Rattle.lc_core.proofs.Logged.{err_then}
+use Rattle.lc_core.proofs.Recoveries.{common_plain, up_follows, up_still, not_up}
+use Rattle.lc_core.proofs.world.World.step.Goals as goal
+
+pub step-requires : goal.step-requires
+step-requires g c = record { plain = common_plain c.args.event.now c.requires.common c.in_default.not-RecoverStep }
+
+pub returns-in-Up-clause-follows : goal.returns-in-Up-clause-follows
+returns-in-Up-clause-follows g c = IfOk-weaker c.step.result _ _
+    (λ reply follows. up_follows g.D.Area c.args.self.now.phase c.in-Up.up c.args.event.now reply c.step.new.self c.in-Up.is (common_plain c.args.event.now c.requires.common c.in_default.not-RecoverStep) follows)
+    c.step.ensures.follows
+
+pub returns-in-Up-clause-err : goal.returns-in-Up-clause-err
+returns-in-Up-clause-err g c = err_then c.step.result c.step.ensures.err (up_still g.D.Area c.args.self.now.phase c.in-Up.up c.step.new.self c.in-Up.is)

@@ -1,0 +1,46 @@
+-- What a step of a recovery answers, and what the last one leaves.
+use Rattle.std.specs.Prelude.{◌≡◌, List, drop, Option, Some, None, Result, Ok, Err, IsErr, MatchOption}
+use Rattle.lc_disk.specs.declared.area.Area.{Ghosts}
+use Rattle.lc_recover.specs.Reads.{AreHonest, AreOfBytes, HaveLengths}
+use Rattle.lc_recover.specs.Recovered.{RecoveredStore, IsFinished}
+use Rattle.lc_recover.specs.Recovery.{Recovering}
+use Rattle.lc_recover.specs.declared.fault.RecoverFault.{RecoverFault}
+use Rattle.lc_recover.specs.declared.fault.RecoverFault.TheVariants.{BadGeometry, Gap, Twice, OutOfSegment, DeviceFault, NoMemory}
+use Rattle.lc_recover.specs.declared.progress.Progress.{Progress}
+use Rattle.lc_recover.specs.declared.progress.Progress.TheVariants.{Stepped as HasStepped, Recovered as HasRecovered}
+use Rattle.lc_model.specs.declared.refusal.Refusal.{Refusal}
+use Rattle.lc_model.specs.declared.reply.Reply.{Reply}
+use Rattle.lc_model.specs.declared.reply.Reply.TheVariants.{Stepped, Recovered, Refused}
+use Rattle.lc_core.specs.Fresh.{IsFresh}
+use Rattle.lc_core.specs.declared.phase.Phase.{Phase}
+use Rattle.lc_core.specs.declared.phase.Phase.TheVariants.{Up as IsUp}
+use Rattle.lc_core.specs.declared.up.Up.{Up}
+
+-- the refusal to a fault; there is none to want of memory
+abbrev pub refusal_to : RecoverFault → Option Refusal
+refusal_to (BadGeometry area) = Some (Refusal.BadGeometry area)
+refusal_to (Gap segment seq) = Some (Refusal.Gap segment seq)
+refusal_to (Twice segment seq) = Some (Refusal.Twice segment seq)
+refusal_to (OutOfSegment area) = Some (Refusal.OutOfSegment (Some area))
+refusal_to DeviceFault = Some Refusal.DeviceFault
+refusal_to NoMemory = None
+
+abbrev pub RepliesTo : {E : Type 0} → Result Progress RecoverFault → Result Reply E → Type 0
+RepliesTo (Ok (HasStepped steps)) result = result ≡ Ok (Stepped steps)
+RepliesTo (Ok HasRecovered) result = result ≡ Ok Recovered
+RepliesTo (Err fault) result = MatchOption (refusal_to fault) (IsErr result) (λ refusal. result ≡ Ok (Refused refusal))
+
+module _ {D : Type 0} (a : Ghosts D) where
+  -- the nodes are those of the store that a recovery has made, on its areas
+  pub record ComesUp (r : Recovering D) (up : Up D a) : Type 0 where
+    pub store : RecoveredStore D
+    pub geometry : store.geometry ≡ r.geometry
+    pub areas : store.areas ≡ r.areas
+    pub finished : AreHonest a r.areas → IsFinished a store
+    pub fresh : AreHonest a r.areas → IsFresh a store up.running
+    pub lengths : HaveLengths a r.geometry r.areas
+    pub bytes : AreOfBytes a r.areas
+    pub segments : up.segments.items ≡ drop r.geometry.nodes r.areas
+
+  abbrev pub HasComeUp : Recovering D → Phase D a → Type 0
+  HasComeUp r phase = (up : Up D a) × (phase ≡ IsUp up) × ComesUp r up

@@ -1,0 +1,82 @@
+-- A store that is down or up, against the machine and the numbers.
+use Rattle.std.specs.Prelude.{◌≡◌, ℕ, ◌+◌, ◌<◌, ◌⊎◌, ◌++◌, Bool, true, List, length, Some, slice_get}
+use Rattle.lc_disk.specs.Area.{IsClean}
+use Rattle.lc_disk.specs.declared.area.Area.{Ghosts}
+use Rattle.lc_record.specs.Transaction.{effects}
+use Rattle.lc_page.specs.Page.{page_in}
+use Rattle.lc_recover.specs.Reads.{AreHonest, AllMergeTo}
+use Rattle.lc_recover.specs.Recovery.{Recovering, IsLast, TakesMemory}
+use Rattle.lc_model.specs.History.{Cut, kept}
+use Rattle.lc_model.specs.Machine.{Step}
+use Rattle.lc_model.specs.Sound.{Sound}
+use Rattle.lc_model.specs.State.{DownAt, Setting, State}
+use Rattle.lc_model.specs.declared.event.Event.{Event}
+use Rattle.lc_model.specs.declared.event.Event.TheVariants.{RecoverStep}
+use Rattle.lc_model.specs.declared.reply.Reply.{Reply}
+use Rattle.lc_core.specs.Numbers.{Numbers}
+use Rattle.lc_core.specs.Running.{FitsRunning}
+use Rattle.lc_core.specs.Settled.{Settled}
+use Rattle.lc_core.specs.Stepping.{AsksMemory, is_plain}
+use Rattle.lc_core.specs.Turns.{Turns, kept_numbers}
+use Rattle.lc_core.specs.declared.phase.Phase.{Phase}
+use Rattle.lc_core.specs.declared.phase.Phase.TheVariants.{Down, Up, Taken}
+use Rattle.lc_core.specs.declared.world.World.{World}
+
+-- the events but those of pages and resets, and but a stop
+abbrev pub is_common : Event → Bool
+is_common RecoverStep = true
+is_common event = is_plain event
+
+module _ {D : Type 0} (a : Ghosts D) where
+  -- whatever a stop leaves of the areas merges to what the cut keeps, also while their recovery goes on
+  pub record FitsDown (m : Setting) (r : Recovering D) (s : State) (x : Numbers) : Type 0 where
+    pub geometry_is : r.geometry ≡ m.geometry
+    pub cut : Cut
+    pub down : s.phase ≡ DownAt cut
+    pub sound : Sound m.geometry s
+    pub honest : AreHonest a r.areas
+    pub merges : AllMergeTo a m.geometry r.areas (effects (s.earlier ++ kept s.history cut) m.start) (kept_numbers (DownAt cut) s x)
+    pub steps_are : x.steps ≡ r.steps
+
+  -- the areas of the segments, of which no position is dirty, have the pages
+  pub record FitsPages (m : Setting) (areas : List D) (x : Numbers) : Type 0 where
+    pub count : length areas ≡ m.geometry.segments
+    pub honest : AreHonest a areas
+    pub clean : (k : ℕ) (area : D) → slice_get areas k ≡ Some area → IsClean (a.dirty area)
+    pub pages : (k page : ℕ) (area : D) → slice_get areas k ≡ Some area → page < m.geometry.pages →
+        page_in (a.now area) page ≡ record { sequence = (x.disks.page (k + 1) page).sequence; content = (x.disks.page (k + 1) page).bytes }
+
+  abbrev pub FitsPhase : Setting → Phase D a → State → Numbers → Type 0
+  FitsPhase m (Down recovery) s x = FitsDown m recovery s x
+  FitsPhase m (Up up) s x = FitsRunning a m up.running s x × FitsPages m up.segments.items x
+  FitsPhase m Taken s x = ⊥
+
+  abbrev pub FitsWorld : Setting → World D a → State → Numbers → Type 0
+  FitsWorld m w s x = FitsPhase m w.phase s x
+
+  -- a step of the machine under this reply, which is settled, and the numbers behind it
+  pub record Leads (m : Setting) (event : Event) (s : State) (x : Numbers) (reply : Reply) (new : Phase D a) : Type 0 where
+    pub after : State
+    pub next : Numbers
+    pub step : Step m s event reply after
+    pub settled : Settled m s x event reply
+    pub turns : Turns m s x event reply next
+    pub fits : FitsPhase m new after next
+
+  -- whatever state and numbers it fits
+  abbrev pub FollowsWorld : World D a → Event → Reply → World D a → Type 0
+  FollowsWorld old event reply new = (m : Setting) (s : State) (x : Numbers) → FitsWorld m old s x → Leads m event s x reply new.phase
+
+  -- whatever it fitted, it still fits
+  abbrev pub StillFitsWorld : World D a → World D a → Type 0
+  StillFitsWorld old new = (m : Setting) (s : State) (x : Numbers) → FitsWorld m old s x → FitsWorld m new s x
+
+  -- a step of a recovery may want memory, and the last of them that of all that comes up
+  abbrev pub AsksAtAll : Recovering D → Event → Type 0
+  AsksAtAll recovery RecoverStep = TakesMemory recovery ⊎ IsLast recovery
+  AsksAtAll recovery event = ⊥
+
+  abbrev pub AsksIn : Phase D a → Event → Type 0
+  AsksIn (Down recovery) event = AsksAtAll recovery event
+  AsksIn (Up up) event = AsksMemory a up.running event
+  AsksIn Taken event = ⊥

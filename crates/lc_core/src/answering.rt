@@ -1,0 +1,33 @@
+//! What a store does.
+ghost use Rattle.std.specs.Prelude.{◌≡◌, true, IfOk, OnErr};
+ghost use Rattle.lc_core.specs.World.{is_common};
+
+use crate::phase::Phase;
+use crate::world::World;
+use crate::{Event, Refusal, Reply};
+use lc_disk::Area;
+use std::alloc::{AllocError, Global};
+
+impl<D: Area + Drop> World<D> {
+    ghost use Rattle.lc_core.specs.World.{AsksIn, FollowsWorld, StillFitsWorld};
+
+    /// An event that is no step of a page write or of a reset, and no stop. It makes at most one call of an area.
+    ///
+    /// # Errors
+    ///
+    /// Where memory is wanted nothing has changed, and no area was called.
+    pub fn step(&mut self, alloc: Global, event: &Event) -> Result<Reply, AllocError>
+        requires common { is_common event.now ≡ true }
+        ensures follows { IfOk result (λ reply. FollowsWorld D.Area self.old event.now reply self.new) }
+        ensures memory { OnErr result (AsksIn D.Area self.old.phase event.now) }
+        ensures err { OnErr result (StillFitsWorld D.Area self.old self.new) }
+    {
+        if let Event::RecoverStep = event {
+            return self.recover_step(alloc);
+        }
+        match &mut self.phase {
+            Phase::Up(up) => up.running.step(alloc, event),
+            _ => Ok(Reply::Refused(Refusal::Down)),
+        }
+    }
+}

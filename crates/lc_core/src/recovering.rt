@@ -1,0 +1,58 @@
+//! How a store that is down comes up again.
+ghost use Rattle.std.specs.Prelude.{◌≡◌, IfOk, OnErr};
+ghost use Rattle.lc_model.specs.declared.event.Event.TheVariants.{RecoverStep};
+ghost use Rattle.lc_recover.specs.Reads.{HaveLengths};
+ghost use Rattle.lc_recover.specs.Recovery.{Recovering, IsDone};
+ghost use Rattle.lc_core.specs.declared.phase.Phase.TheVariants.{Down};
+
+use crate::phase::Phase;
+use crate::recovered_reply::{reply_to, stopped};
+use crate::room::Room;
+use crate::up::Up;
+use crate::world::World;
+use crate::{Refusal, Reply};
+use lc_disk::Area;
+use std::alloc::{AllocError, Global};
+use std::mem;
+
+impl<D: Area + Drop> World<D> {
+    ghost use Rattle.lc_core.specs.World.{AsksIn, FollowsWorld, StillFitsWorld};
+
+    /// The next step of the recovery. The last one takes the memory of all that comes up before its call.
+    pub(crate) fn recover_step(&mut self, alloc: Global) -> Result<Reply, AllocError>
+        ensures follows { IfOk result (λ reply. FollowsWorld D.Area self.old RecoverStep reply self.new) }
+        ensures memory { OnErr result (AsksIn D.Area self.old.phase RecoverStep) }
+        ensures err { OnErr result (StillFitsWorld D.Area self.old self.new) }
+    {
+        let Phase::Down(recovery) = &mut self.phase else {
+            return Ok(Reply::Refused(Refusal::OutOfTurn));
+        };
+        if !recovery.is_last() {
+            return reply_to(recovery.step(alloc));
+        }
+        let room = Room::new(alloc, recovery.geometry())?;
+        if let Err(fault) = recovery.step(alloc) {
+            return stopped(fault);
+        }
+        self.phase = mem::replace(&mut self.phase, Phase::Taken).risen(alloc, room);
+        Ok(Reply::Recovered)
+    }
+}
+
+impl<D: Area + Drop> Phase<D> {
+    ghost use Rattle.lc_core.specs.Recovering.{HasComeUp};
+
+    // All is recovered: the nodes come up in this room. It takes no memory.
+    fn risen(self, alloc: Global, room: Room<D>) -> Phase<D>
+        requires done { (r : Recovering D) → self ≡ Down r → IsDone r }
+        requires geometry { (r : Recovering D) → self ≡ Down r → r.geometry ≡ room.geometry }
+        requires lengths { (r : Recovering D) → self ≡ Down r → HaveLengths D.Area r.geometry r.areas }
+        ensures { (r : Recovering D) → self ≡ Down r → HasComeUp D.Area r result }
+    {
+        let Phase::Down(recovery) = self else {
+            return self;
+        };
+        let (running, segments) = room.furnish(alloc, recovery.finish());
+        Phase::Up(Up { running, segments })
+    }
+}

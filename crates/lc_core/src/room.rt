@@ -1,0 +1,150 @@
+//! The memory of a store that comes up.
+ghost use Rattle.std.specs.Prelude.{◌≡◌, ◌≢◌, ◌+◌, ◌*◌, ◌%◌, ℕ, true, false, [], None, Some, length, drop, replicate, vec_len, slice_get, slice_index, IfOk};
+ghost use Rattle.lc_record.specs.declared.geometry.Geometry.{Geometry};
+ghost use Rattle.lc_recover.specs.Reads.{AreHonest, AreOfBytes, HaveLengths};
+ghost use Rattle.lc_recover.specs.Recovered.{IsFinished};
+ghost use Rattle.lc_core.specs.Blank.{AreBlankNodes, AreFilledNodes, IsBlankJournal};
+ghost use Rattle.lc_core.specs.Fresh.{IsFresh};
+ghost use Rattle.lc_core.specs.Log.{Stands, area_of, is_failed};
+ghost use Rattle.lc_core.specs.declared.node.Node.{Node};
+
+use crate::journal::Journal;
+use crate::log::Log;
+use crate::node::Node;
+use crate::running::Running;
+use lc_disk::Area;
+use lc_log::Idle;
+use lc_record::Geometry;
+use lc_recover::Recovered;
+use lc_token::Token;
+use std::alloc::{AllocError, Global};
+
+/// The memory of a store that comes up, taken before its pages are known. This project's own.
+#[derive(Drop)]
+pub(crate) struct Room<D: Area> {
+    pub(crate) geometry: Geometry,
+    nodes: Vec<Node<D>>,
+    travelling: Vec<Option<Token>>,
+    ghost count: { vec_len nodes ≡ geometry.nodes },
+    ghost blank: { AreBlankNodes D.Area geometry nodes.items },
+    ghost none: { travelling.items ≡ replicate geometry.segments None },
+}
+
+impl<D: Area + Drop> Room<D> {
+    /// That of this geometry. It takes memory for each segment and each thread of each node, for a group of each node, and
+    /// for the tokens that travel.
+    pub(crate) fn new(alloc: Global, geometry: Geometry) -> Result<Room<D>, AllocError>
+        ensures geometry { IfOk result (λ room. room.geometry ≡ geometry) }
+    {
+        let nodes = blank_nodes(alloc, &geometry)?;
+        let mut travelling = Vec::with_capacity(alloc, geometry.segments as usize)?;
+        for _ in 0..geometry.segments {
+            travelling.push(None)?;
+        }
+        Ok(Room {
+            geometry,
+            nodes,
+            travelling,
+        })
+    }
+
+    /// The store that a recovery has made, on areas with empty logs, and the areas of its segments. It takes no memory.
+    pub(crate) fn furnish(self, alloc: Global, recovered: Recovered<D>) -> (Running<D>, Vec<D>)
+        requires geometry { recovered.geometry ≡ self.geometry }
+        requires lengths { HaveLengths D.Area recovered.geometry recovered.areas }
+        requires finished { AreHonest D.Area recovered.areas → IsFinished D.Area recovered }
+        ensures fresh { AreHonest D.Area recovered.areas → IsFresh D.Area recovered result.0 }
+        ensures geometry { result.0.geometry ≡ recovered.geometry }
+        ensures bytes { AreOfBytes D.Area recovered.areas }
+        ensures areas { result.1.items ≡ drop recovered.geometry.nodes recovered.areas }
+    {
+        let Room {
+            geometry,
+            mut nodes,
+            travelling,
+        } = self;
+        fill_nodes(nodes.as_mut_slice(), alloc, &recovered);
+        let areas = open_logs(nodes.as_mut_slice(), recovered);
+        let running = Running {
+            geometry,
+            nodes,
+            travelling,
+        };
+        (running, areas)
+    }
+}
+
+// All nodes, without their logs.
+fn blank_nodes<D: Area + Drop>(
+    alloc: Global,
+    geometry: &Geometry,
+) -> Result<Vec<Node<D>>, AllocError>
+    ensures count { IfOk result (λ nodes. vec_len nodes ≡ geometry.now.nodes) }
+    ensures blank { IfOk result (λ nodes. AreBlankNodes D.Area geometry.now nodes.items) }
+{
+    let mut nodes = Vec::with_capacity(alloc, geometry.nodes as usize)?;
+    for number in 0..geometry.nodes {
+        let node = Node::blank(alloc, geometry, number)?;
+        nodes.push(node)?;
+    }
+    Ok(nodes)
+}
+
+// The slots of all nodes get what the recovery has made of their segments.
+fn fill_nodes<D: Area + Drop>(nodes: &mut [Node<D>], alloc: Global, recovered: &Recovered<D>)
+    requires { AreBlankNodes D.Area recovered.now.geometry nodes.old }
+    ensures { AreFilledNodes D.Area recovered.now nodes.new }
+{
+    for node in nodes.iter_mut() {
+        node.desk.fill(alloc, recovered);
+    }
+}
+
+// The nodes get the areas of their logs; those of the segments are left.
+fn open_logs<D: Area + Drop>(nodes: &mut [Node<D>], recovered: Recovered<D>) -> Vec<D>
+    requires count { length nodes.old ≡ recovered.geometry.nodes }
+    requires filled { AreFilledNodes D.Area recovered nodes.old }
+    requires lengths { HaveLengths D.Area recovered.geometry recovered.areas }
+    ensures filled { AreFilledNodes D.Area recovered nodes.new }
+    ensures log_areas { (n : ℕ) (node : Node D D.Area) → slice_get nodes.new n ≡ Some node → area_of D.Area node.journal.log ≡ slice_get recovered.areas n }
+    ensures logs { AreHonest D.Area recovered.areas → IsFinished D.Area recovered
+        → (n : ℕ) (node : Node D D.Area) → slice_get nodes.new n ≡ Some node →
+        Stands D.Area node.journal.log 0 [] [] × (is_failed D.Area node.journal.log ≡ false) }
+    ensures bytes { AreOfBytes D.Area recovered.areas }
+    ensures areas { result.items ≡ drop recovered.geometry.nodes recovered.areas }
+{
+    let mut areas = recovered.areas();
+    ask_lengths(areas.as_slice());
+    for node in nodes.iter_mut() {
+        let area = areas.remove(0);
+        node.journal.open(area);
+    }
+    areas
+}
+
+// Asks each area for its length: what an honest one holds are bytes.
+fn ask_lengths<D: Area>(areas: &[D])
+    ensures { AreOfBytes D.Area areas.now }
+{
+    for area in areas {
+        let _len = area.len();
+    }
+}
+
+impl<D: Area + Drop> Journal<D> {
+    // The log is that of this area, which begins with no open gate, and has no record. It takes no memory.
+    fn open(&mut self, area: D)
+        requires len { length (D.now area) ≡ 8 * (self.old.group.room + 1) }
+        requires dropped { self.old.dropped ≡ 0 }
+        requires acked { self.old.acked ≡ 0 }
+        ensures area { area_of D.Area self.new.log ≡ Some area }
+        ensures log { (D.honest area ≡ true → slice_index (D.now area) 0 % 256 ≢ 165) → (D.honest area ≡ true → D.dirty area 0 ≡ false)
+            → Stands D.Area self.new.log 0 [] [] }
+        ensures works { is_failed D.Area self.new.log ≡ false }
+        ensures blank { (g : Geometry) → IsBlankJournal D.Area g self.old → IsBlankJournal D.Area g self.new }
+    {
+        // Its length is below 2^64.
+        let _len = area.len();
+        self.log = Log::Idle(Idle { area, end: 0 });
+    }
+}

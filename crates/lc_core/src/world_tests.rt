@@ -1,0 +1,65 @@
+//! A store of two nodes on areas of zeros, from its recovery on.
+ghost use Rattle.std.specs.Prelude.{◌≡◌, true, IfOk};
+ghost use Rattle.lc_core.specs.World.{is_common};
+
+use crate::world::World;
+use crate::{Event, Refusal, Reply};
+use lc_disk::MemArea;
+use lc_record::{Geometry, Items};
+use std::alloc::{AllocError, Global};
+use std::test::Fail;
+
+// Two logs of 64 words and two segments of one page.
+fn zeros(alloc: Global) -> Result<Vec<MemArea>, AllocError> {
+    let mut areas = Vec::with_capacity(alloc, 4)?;
+    areas.push(MemArea::new(alloc, 520)?)?;
+    areas.push(MemArea::new(alloc, 520)?)?;
+    areas.push(MemArea::new(alloc, 544)?)?;
+    areas.push(MemArea::new(alloc, 544)?)?;
+    Ok(areas)
+}
+
+// The only thread of node 0 locks segment 2.
+fn begin(alloc: Global) -> Result<Event, AllocError>
+    ensures { IfOk result (λ event. is_common event ≡ true) }
+{
+    Ok(Event::Begin {
+        node: 0,
+        thread: 0,
+        segments: Items::new(vec![in alloc; 2]?),
+        reading: Items::new(Vec::new(alloc)),
+    })
+}
+
+// Four areas are synced and read, nothing stands to be merged or written, and two logs take two calls each.
+#[test]
+fn it_comes_up_at_the_thirteenth_step(rt: HostRuntime) -> Result<(), Fail> {
+    let alloc = rt.alloc();
+    let geometry = Geometry {
+        nodes: 2,
+        threads: 1,
+        segments: 2,
+        pages: 1,
+        words: 64,
+    };
+    let Ok(mut world) = World::new(geometry, zeros(alloc)?) else {
+        return Err(Fail::from("the areas fit the geometry"));
+    };
+    let early = begin(alloc)?;
+    assert!(rt; matches!(world.step(alloc, &early)?, Reply::Refused(Refusal::Down)));
+    for done in 1..13u64 {
+        assert!(rt;
+            matches!(world.step(alloc, &Event::RecoverStep)?, Reply::Stepped(steps) if steps == done)
+        );
+    }
+    assert!(rt; matches!(world.step(alloc, &Event::RecoverStep)?, Reply::Recovered));
+    let late = begin(alloc)?;
+    assert!(rt; matches!(world.step(alloc, &late)?, Reply::Ok));
+    assert!(rt;
+        matches!(
+            world.step(alloc, &Event::RecoverStep)?,
+            Reply::Refused(Refusal::OutOfTurn)
+        )
+    );
+    Ok(())
+}
