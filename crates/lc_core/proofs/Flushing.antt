@@ -78,7 +78,7 @@ whole_part (r ∷ records) zero (suc to) whole = (whole.0, whole_part records ze
 whole_part (r ∷ records) (suc from) zero whole = tt
 whole_part (r ∷ records) (suc from) (suc to) whole = whole_part records from to whole.1
 
-more_stable : (records : List Record) (from mid to : ℕ) → from ≤ mid → mid ≤ to → drop from (take to records) ≡ drop from (take mid records) ++ drop mid (take to records)
+pub more_stable : (records : List Record) (from mid to : ℕ) → from ≤ mid → mid ≤ to → drop from (take to records) ≡ drop from (take mid records) ++ drop mid (take to records)
 more_stable records zero zero to first second = refl
 more_stable records zero (suc mid) zero first second = absurd (omega (arith, second))
 more_stable [] zero (suc mid) (suc to) first second = refl
@@ -123,7 +123,7 @@ module _ {D : Type 0} (a : Ghosts D) where
     dropped_is = sym dropped;
     trimmed_is = sym trimmed;
     acked_is = refl;
-    taken_is = λ some. absurd (omega (arith, some));
+    taken_is = refl;
   }
 
   -- a call answers something
@@ -241,7 +241,7 @@ module _ {D : Type 0} (a : Ghosts D) where
           dropped_is = h.dropped_is;
           trimmed_is = h.trimmed_is;
           acked_is = acked_is ∙ h.acked_is ∙ sym d.ack;
-          taken_is = λ some. rw d.flush is;
+          taken_is = rw d.flush is;
         }
 
     -- what follows a call: a state that the machine may go on to
@@ -285,12 +285,11 @@ module _ {D : Type 0} (a : Ghosts D) where
         → Stands a new (steps + 1) (drop dropped (take acked records)) (drop acked (take taken records)) → Follows new taken
     middle steps old new taken h up at some few stands =
         let count : ℕ = (s.flush node).taken in
-        let started : 1 ≤ (s.flush node).steps = omega (arith, at, some) in
         let d = moved new (steps + 1) count taken (drop dropped (take acked records)) (drop acked (take taken records)) (h.halted ∙ up) (omega arith) stands in (
           d.0,
           subst (λ (n : ℕ). FlushRow s node n count (reply_of a new taken) d.0) (sym at) (next_row s node steps count (reply_of a new taken) d.0 some few d.1.row),
           d.1.but,
-          fits_moved old new (steps + 1) count taken taken d.0 h d.1 (omega arith) (h.taken_is started) stands,
+          fits_moved old new (steps + 1) count taken taken d.0 h d.1 (omega arith) h.taken_is stands,
         )
 
     -- the last call: what the flush took is acknowledged
@@ -301,12 +300,11 @@ module _ {D : Type 0} (a : Ghosts D) where
         → Follows new taken
     last old (Idle log) taken h up less few at (inl is) =
         let count : ℕ = (s.flush node).taken in
-        let started : 1 ≤ (s.flush node).steps = omega (arith, at) in
         let late : State = acknowledged s node count in
         let flush : late.flush node ≡ record { steps = 0; taken = count } = update-own s.flush node (record { steps = 0; taken = count }) in
         let ack : late.ack node ≡ count = update-own s.ack node count in (
           late,
-          subst (λ (n : ℕ). FlushRow s node n count (Acked taken) late) (sym at) (subst (λ (n : ℕ). FlushRow s node 3 count (Acked n) late) (h.taken_is started) (flush-last s node 3 count (omega arith))),
+          subst (λ (n : ℕ). FlushRow s node n count (Acked taken) late) (sym at) (subst (λ (n : ℕ). FlushRow s node 3 count (Acked n) late) h.taken_is (flush-last s node 3 count (omega arith))),
           record {
             earlier = refl;
             history = refl;
@@ -326,18 +324,17 @@ module _ {D : Type 0} (a : Ghosts D) where
             halted = h.halted ∙ up;
             dropped_is = h.dropped_is;
             trimmed_is = h.trimmed_is;
-            acked_is = sym (h.taken_is started) ∙ sym ack;
-            taken_is = λ some. absurd (omega (arith, some, ap (λ (f : Flush). f.steps) flush));
+            acked_is = sym h.taken_is ∙ sym ack;
+            taken_is = ap (λ (f : Flush). f.taken) flush ∙ h.taken_is;
           },
         )
     last old (Failed log) taken h up less few at (inr is) =
         let count : ℕ = (s.flush node).taken in
-        let started : 1 ≤ (s.flush node).steps = omega (arith, at) in
         let d = fault (Failed log) 4 count taken refl refl in (
           halting (flushed_to s node 4 count) node,
           subst (λ (n : ℕ). FlushRow s node n count (Refused DeviceFault) (halting (flushed_to s node 4 count) node)) (sym at) (flush-last_fault s node 3 count (omega arith)),
           d.but,
-          fits_moved old (Failed log) 4 count taken taken (halting (flushed_to s node 4 count) node) h d (omega arith) (h.taken_is started) is.1,
+          fits_moved old (Failed log) 4 count taken taken (halting (flushed_to s node 4 count) node) h d (omega arith) h.taken_is is.1,
         )
     last old (Idle log) taken h up less few at (inr is) = absurd (false≢true is.0)
     last old (Written log) taken h up less few at (inl is) = absurd (false≢true is.0)

@@ -110,7 +110,7 @@ free-none node i s running closed =
     All-append (λ u. is_by node i u ≡ false) s.running (unclosed s.history) (not_found (is_by node i) s.running running) (none-unclosed (is_by node i) s.history closed)
 
 -- it is the only one of the thread
-only-holder : (g : Geometry) (s : State) (node i : ℕ) (t : Transaction) → Sound g s → find (is_by node i) (holders s) ≡ Some t → All (λ u. is_by node i u ≡ true → u ≡ t) (holders s)
+pub only-holder : (g : Geometry) (s : State) (node i : ℕ) (t : Transaction) → Sound g s → find (is_by node i) (holders s) ≡ Some t → All (λ u. is_by node i u ≡ true → u ≡ t) (holders s)
 only-holder g s node i t sound found = found-only (is_by node i) (holders s) t found (λ a b d a_lt b_in one two.
     let first = is_by-both node i (get_or (holders s) a d) one in
     let second = is_by-both node i (get_or (holders s) b d) two in

@@ -55,3 +55,8 @@ pub mod Rising
 pub mod Recoveries
 pub mod Furnishing
 pub mod Opening
+pub mod Shown
+pub mod LogReads
+pub mod Faults
+pub mod Failures
+pub mod Zeroed

@@ -87,7 +87,7 @@ common_plain (ResetStep node) common other = absurd cc
 common_plain (Stop choices) common other = absurd cc
 common_plain RecoverStep common other = absurd (other refl)
 
-if_ok_at : {A E : Type 0} (res : Result A E) (x : A) (P : A → Type 0) → res ≡ Ok x → P x → IfOk res P
+pub if_ok_at : {A E : Type 0} (res : Result A E) (x : A) (P : A → Type 0) → res ≡ Ok x → P x → IfOk res P
 if_ok_at res x P is p = subst (λ (r : Result _ _). IfOk r P) (sym is) p
 
 on_err_at : {A E : Type 0} (res : Result A E) (x : A) (P : Type 0) → res ≡ Ok x → OnErr res P

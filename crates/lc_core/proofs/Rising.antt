@@ -146,7 +146,7 @@ module _ {D : Type 0} (a : Ghosts D) (start : Content) (earlier : List Transacti
     dropped_is = dropped_is;
     trimmed_is = trimmed_is;
     acked_is = acked_is;
-    taken_is = λ some. absurd (omega (arith, some));
+    taken_is = sym taken_is;
   }
 
   -- The tokens on their way

@@ -47,4 +47,4 @@ module _ {D : Type 0} (a : Ghosts D) where
     pub dropped_is : dropped ≡ x.disks.dropped node
     pub trimmed_is : trimmed ≡ x.trimmed node
     pub acked_is : acked ≡ s.ack node
-    pub taken_is : 1 ≤ (s.flush node).steps → (s.flush node).taken ≡ taken
+    pub taken_is : (s.flush node).taken ≡ taken

@@ -7,6 +7,7 @@ pub mod Seat
 pub mod Seats
 pub mod Desk
 pub mod Log
+pub mod FaultReplies
 pub mod Records
 pub mod Journal
 pub mod Follows
@@ -32,6 +33,9 @@ pub mod Delivers
 pub mod Stepping
 pub mod Runs
 pub mod World
+pub mod Faults
 pub mod Recovering
 pub mod Fresh
 pub mod Blank
+pub mod Showing
+pub mod LogWords

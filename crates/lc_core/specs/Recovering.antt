@@ -1,5 +1,5 @@
 -- What a step of a recovery answers, and what the last one leaves.
-use Rattle.std.specs.Prelude.{◌≡◌, List, drop, Option, Some, None, Result, Ok, Err, IsErr, MatchOption}
+use Rattle.std.specs.Prelude.{◌≡◌, ℕ, List, drop, Option, Some, None, Result, Ok, Err, IsErr, MatchOption, slice_get}
 use Rattle.lc_disk.specs.declared.area.Area.{Ghosts}
 use Rattle.lc_recover.specs.Reads.{AreHonest, AreOfBytes, HaveLengths}
 use Rattle.lc_recover.specs.Recovered.{RecoveredStore, IsFinished}
@@ -12,6 +12,8 @@ use Rattle.lc_model.specs.declared.refusal.Refusal.{Refusal}
 use Rattle.lc_model.specs.declared.reply.Reply.{Reply}
 use Rattle.lc_model.specs.declared.reply.Reply.TheVariants.{Stepped, Recovered, Refused}
 use Rattle.lc_core.specs.Fresh.{IsFresh}
+use Rattle.lc_core.specs.Log.{area_of}
+use Rattle.lc_core.specs.declared.node.Node.{Node}
 use Rattle.lc_core.specs.declared.phase.Phase.{Phase}
 use Rattle.lc_core.specs.declared.phase.Phase.TheVariants.{Up as IsUp}
 use Rattle.lc_core.specs.declared.up.Up.{Up}
@@ -36,6 +38,8 @@ module _ {D : Type 0} (a : Ghosts D) where
     pub store : RecoveredStore D
     pub geometry : store.geometry ≡ r.geometry
     pub areas : store.areas ≡ r.areas
+    pub same_geometry : up.running.geometry ≡ r.geometry
+    pub log_areas : (n : ℕ) (node : Node D a) → slice_get up.running.nodes.items n ≡ Some node → area_of a node.journal.log ≡ slice_get r.areas n
     pub finished : AreHonest a r.areas → IsFinished a store
     pub fresh : AreHonest a r.areas → IsFresh a store up.running
     pub lengths : HaveLengths a r.geometry r.areas

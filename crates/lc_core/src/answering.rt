@@ -10,6 +10,7 @@ use std::alloc::{AllocError, Global};
 
 impl<D: Area + Drop> World<D> {
     ghost use Rattle.lc_core.specs.World.{AsksIn, FollowsWorld, StillFitsWorld};
+    ghost use Rattle.lc_core.specs.Faults.{CountsPhase, phase_failures};
 
     /// An event that is no step of a page write or of a reset, and no stop. It makes at most one call of an area.
     ///
@@ -21,6 +22,10 @@ impl<D: Area + Drop> World<D> {
         ensures follows { IfOk result (λ reply. FollowsWorld D.Area self.old event.now reply self.new) }
         ensures memory { OnErr result (AsksIn D.Area self.old.phase event.now) }
         ensures err { OnErr result (StillFitsWorld D.Area self.old self.new) }
+
+        // How often the devices of the areas have failed: once more for each device fault that is answered, and not else.
+        ensures faults { IfOk result (λ reply. CountsPhase D.Area self.old.phase reply self.new.phase) }
+        ensures no_fault { OnErr result (phase_failures D.Area self.new.phase ≡ phase_failures D.Area self.old.phase) }
     {
         if let Event::RecoverStep = event {
             return self.recover_step(alloc);

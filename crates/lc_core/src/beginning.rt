@@ -1,9 +1,10 @@
 //! How a thread begins.
-ghost use Rattle.std.specs.Prelude.{◌≡◌, ◌<◌, ◌⊎◌, ℕ, List, length, vec_len, IfOk, OnErr};
+ghost use Rattle.std.specs.Prelude.{◌≡◌, ◌<◌, ◌⊎◌, ℕ, List, length, vec_len, IfOk, OnErr, false};
 ghost use Rattle.lc_tx.specs.Tx.{IsSetOf, none_of};
 ghost use Rattle.lc_model.specs.declared.event.Event.TheVariants.{Begin};
 ghost use Rattle.lc_core.specs.FollowsDesk.{FollowsOpen, StillFits};
 ghost use Rattle.lc_core.specs.Here.{the_images};
+ghost use Rattle.lc_core.specs.FaultReplies.{is_fault};
 
 use crate::desk::Desk;
 use crate::refused::refused;
@@ -29,6 +30,7 @@ impl Desk {
         ensures memory { OnErr result (((set : List ℕ) × IsSetOf segments.now set × (16 < length set))
             ⊎ ((set : List ℕ) × IsSetOf (none_of segments.now reading.now) set × (16 < length set))) }
         ensures seats { vec_len self.new.seats ≡ vec_len self.old.seats }
+        ensures answer { IfOk result (λ reply. is_fault reply ≡ false) }
     {
         if !self.seats[thread as usize].is_free() {
             return Ok(Reply::Refused(Refusal::OutOfTurn));

@@ -5,6 +5,7 @@ ghost use Rattle.lc_model.specs.declared.reply.Reply.TheVariants.{Nothing};
 ghost use Rattle.lc_core.specs.Log.{StepsTo, CallsOnce, end_of, under_way, size, is_idle, is_failed};
 ghost use Rattle.lc_core.specs.Records.{count_of, front_of, span_of};
 ghost use Rattle.lc_core.specs.Journal.{reply_of, acked_after};
+ghost use Rattle.lc_core.specs.FaultReplies.{TellsFault};
 
 use crate::log::Log;
 use crate::records::Records;
@@ -51,6 +52,7 @@ impl<D: Area + Drop> Journal<D> {
 
         // One call of the device, or none.
         ensures device { (result ≡ Nothing → ⊥) → CallsOnce D.Area self.old.log self.new.log }
+        ensures fault { TellsFault D.Area result self.old.log self.new.log }
     {
         if self.log.is_idle() {
             if self.records.front() == self.acked {

@@ -12,11 +12,13 @@ mod desk;
 mod ending;
 mod filling;
 mod here;
+mod in_memory;
 mod journal;
 mod laws;
 mod leaving;
 mod log;
 mod log_end;
+mod log_words;
 mod logging;
 mod moving;
 mod named;
@@ -38,6 +40,8 @@ mod run_result;
 mod running;
 mod seat;
 mod setting;
+mod show_fault;
+mod showing;
 mod slot;
 mod starting;
 mod step;
@@ -48,9 +52,11 @@ mod up;
 mod world;
 mod writing;
 
+pub use in_memory::run_in_memory;
 pub use laws::{settled_answers, settled_runs};
 pub use lc_model::{Event, Refusal, Reply};
 pub use run_result::RunResult;
+pub use show_fault::ShowFault;
 pub use world::World;
 
 #[cfg(test)]
@@ -58,14 +64,18 @@ mod journal_tests;
 #[cfg(test)]
 mod node_tests;
 #[cfg(test)]
+mod nodes_tests;
+#[cfg(test)]
 mod publishing_tests;
 #[cfg(test)]
 mod receiving_tests;
 #[cfg(test)]
 mod records_tests;
 #[cfg(test)]
-mod running_tests;
+mod script;
 #[cfg(test)]
 mod tests;
+#[cfg(test)]
+mod transaction_tests;
 #[cfg(test)]
 mod world_tests;

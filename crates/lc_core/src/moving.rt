@@ -1,8 +1,10 @@
 //! How tokens go from node to node.
-ghost use Rattle.std.specs.Prelude.{◌≡◌, true};
+ghost use Rattle.std.specs.Prelude.{◌≡◌, true, false};
 ghost use Rattle.lc_model.specs.Refusals.{is_known};
 ghost use Rattle.lc_model.specs.declared.event.Event.TheVariants.{Arrive, Leave};
 ghost use Rattle.lc_core.specs.Running.{FollowsRow};
+ghost use Rattle.lc_core.specs.FaultReplies.{is_fault};
+ghost use Rattle.lc_core.specs.Faults.{SameLogs};
 
 use crate::running::Running;
 use crate::{Refusal, Reply};
@@ -13,6 +15,8 @@ impl<D: Area + Drop> Running<D> {
     pub(crate) fn leave(&mut self, node: u16, segment: u32) -> Reply
         requires known { is_known self.old.geometry (Leave node segment) ≡ true }
         ensures follows { FollowsRow D.Area self.old (Leave node segment) result self.new }
+        ensures answer { is_fault result ≡ false }
+        ensures logs { SameLogs D.Area self.old self.new }
     {
         match self.nodes[node as usize].leave(segment, false) {
             Ok(token) => {
@@ -27,6 +31,8 @@ impl<D: Area + Drop> Running<D> {
     pub(crate) fn arrive(&mut self, node: u16, segment: u32) -> Reply
         requires known { is_known self.old.geometry (Arrive node segment) ≡ true }
         ensures follows { FollowsRow D.Area self.old (Arrive node segment) result self.new }
+        ensures answer { is_fault result ≡ false }
+        ensures logs { SameLogs D.Area self.old self.new }
     {
         let place = segment as usize - 1;
         let Some(token) = self.travelling[place].take() else {

@@ -1,7 +1,7 @@
 //! What an event names.
 ghost use Rattle.std.specs.Prelude.{◌≡◌, ◌&&◌, option_map};
 ghost use Rattle.std.specs.List.{list_all};
-ghost use Rattle.lc_model.specs.Refusals.{is_known, is_node, is_thread, is_segment, named};
+ghost use Rattle.lc_model.specs.Refusals.{is_known, is_node, is_page, is_thread, is_segment, named};
 
 use crate::Event;
 use lc_record::Geometry;
@@ -57,9 +57,7 @@ pub(crate) fn is_known(geometry: &Geometry, event: &Event) -> bool
             node,
             segment,
             page,
-        } => {
-            is_node(geometry, *node) && is_segment(geometry, *segment) && *page < geometry.pages
-        }
+        } => is_page_of(geometry, *node, *segment, *page),
         Event::FlushStep { node } | Event::Trim { node } | Event::ResetStep { node } => {
             is_node(geometry, *node)
         }
@@ -88,6 +86,13 @@ pub(crate) fn acting_node(event: &Event) -> Option<u16>
         | Event::ResetStep { node } => Some(*node),
         Event::Stop { .. } | Event::RecoverStep => None,
     }
+}
+
+/// Whether the geometry has this node, this segment and in each segment this page.
+pub(crate) fn is_page_of(geometry: &Geometry, node: u16, segment: u32, page: u32) -> bool
+    ensures { result ≡ (is_node geometry.now node && is_segment geometry.now segment && is_page geometry.now page) }
+{
+    is_node(geometry, node) && is_segment(geometry, segment) && page < geometry.pages
 }
 
 // Whether the geometry has this node, and each node this thread.

@@ -1,8 +1,9 @@
 //! One node.
-ghost use Rattle.std.specs.Prelude.{◌≡◌, ◌-◌, ◌+◌, ◌<◌, ◌≤◌, ◌^◌, ℕ, false, vec_len, slice_get, Some, IsSome, Err, IfOk, OnErr};
+ghost use Rattle.std.specs.Prelude.{◌≡◌, ◌-◌, ◌+◌, ◌<◌, ◌≤◌, ◌^◌, ℕ, false, vec_len, slice_get, Some, IsSome, Err, IfOk, OnErr, IfErr};
 ghost use Rattle.lc_core.specs.Log.{is_failed};
 ghost use Rattle.lc_core.specs.declared.slot.Slot.{Slot};
 ghost use Rattle.lc_model.specs.declared.event.Event.TheVariants.{Close, FlushStep};
+ghost use Rattle.lc_core.specs.FaultReplies.{TellsFault, is_device_fault, is_fault};
 
 use crate::desk::Desk;
 use crate::ending::Ending;
@@ -39,6 +40,8 @@ impl<D: Area + Drop> Node<D> {
         ensures memory { OnErr result (WantsPlace D.Area node thread sealed self.old) }
         ensures err { OnErr result (StillFitsNode D.Area self.old self.new) }
         ensures whole { HasSameRoom D.Area self.old self.new }
+        ensures answer { IfOk result (λ reply. is_fault reply ≡ false) }
+        ensures log { self.new.journal.log ≡ self.old.journal.log }
     {
         let log = LogEnd {
             end: self.journal.end(),
@@ -64,6 +67,8 @@ impl<D: Area + Drop> Node<D> {
         requires seat { thread < vec_len self.old.desk.seats }
         ensures follows { (node : ℕ) → FollowsNode D.Area node (Close node thread) self.old result self.new }
         ensures whole { HasSameRoom D.Area self.old self.new }
+        ensures answer { is_fault result ≡ false }
+        ensures log { self.new.journal.log ≡ self.old.journal.log }
     {
         let Some(number) = self.desk.count(thread) else {
             return Reply::Refused(Refusal::OutOfTurn);
@@ -78,6 +83,7 @@ impl<D: Area + Drop> Node<D> {
         requires up { is_failed D.Area self.old.journal.log ≡ false }
         ensures follows { (node : ℕ) → FollowsNode D.Area node (FlushStep node) self.old result self.new }
         ensures whole { HasSameRoom D.Area self.old self.new }
+        ensures device { TellsFault D.Area result self.old.journal.log self.new.journal.log }
     {
         self.journal.flush_step()
     }
@@ -94,6 +100,8 @@ impl<D: Area + Drop> Node<D> {
         ensures follows { FollowsLeave D.Area segment writing self.old result self.new }
         ensures segment { IfOk result (λ token. token.segment ≡ segment) }
         ensures whole { HasSameRoom D.Area self.old self.new }
+        ensures answer { IfErr result (λ refusal. is_device_fault refusal ≡ false) }
+        ensures log { self.new.journal.log ≡ self.old.journal.log }
     {
         let reserved = self.journal.records.count();
         let stable = self.journal.acked;
@@ -117,6 +125,8 @@ impl<D: Area + Drop> Node<D> {
         requires slot { token.segment ≤ vec_len self.old.desk.here.slots }
         ensures follows { FollowsArrive D.Area token self.old result self.new }
         ensures whole { HasSameRoom D.Area self.old self.new }
+        ensures answer { IfErr result (λ back. is_device_fault back.1 ≡ false) }
+        ensures log { self.new.journal.log ≡ self.old.journal.log }
         ensures stands { (slot : Slot) → slice_get self.old.desk.here.slots.items (token.segment - 1) ≡ Some slot → IsSome slot.token.token
             → (result ≡ Err (token, Refusal.OutOfTurn)) × (self.new ≡ self.old) }
     {

@@ -1,8 +1,9 @@
 //! What a thread reads.
-ghost use Rattle.std.specs.Prelude.{◌≡◌, ◌<◌, ℕ, vec_len, IfOk, OnErr};
+ghost use Rattle.std.specs.Prelude.{◌≡◌, ◌<◌, ℕ, vec_len, IfOk, OnErr, false};
 ghost use Rattle.lc_model.specs.declared.event.Event.TheVariants.{Read};
 ghost use Rattle.lc_core.specs.FollowsDesk.{FollowsOpen, StillFits};
 ghost use Rattle.lc_core.specs.Here.{the_images};
+ghost use Rattle.lc_core.specs.FaultReplies.{is_fault};
 
 use crate::desk::Desk;
 use crate::refused::refused;
@@ -26,6 +27,7 @@ impl Desk {
         ensures err { OnErr result (StillFits self.old self.new) }
         ensures memory { OnErr result (0 < len) }
         ensures seats { vec_len self.new.seats ≡ vec_len self.old.seats }
+        ensures answer { IfOk result (λ reply. is_fault reply ≡ false) }
     {
         let Some(tx) = self.seats[thread as usize].open() else {
             return Ok(Reply::Refused(Refusal::OutOfTurn));

@@ -17,12 +17,15 @@ use std::mem;
 
 impl<D: Area + Drop> World<D> {
     ghost use Rattle.lc_core.specs.World.{AsksIn, FollowsWorld, StillFitsWorld};
+    ghost use Rattle.lc_core.specs.Faults.{CountsPhase, phase_failures};
 
     /// The next step of the recovery. The last one takes the memory of all that comes up before its call.
     pub(crate) fn recover_step(&mut self, alloc: Global) -> Result<Reply, AllocError>
         ensures follows { IfOk result (λ reply. FollowsWorld D.Area self.old RecoverStep reply self.new) }
         ensures memory { OnErr result (AsksIn D.Area self.old.phase RecoverStep) }
         ensures err { OnErr result (StillFitsWorld D.Area self.old self.new) }
+        ensures faults { IfOk result (λ reply. CountsPhase D.Area self.old.phase reply self.new.phase) }
+        ensures no_fault { OnErr result (phase_failures D.Area self.new.phase ≡ phase_failures D.Area self.old.phase) }
     {
         let Phase::Down(recovery) = &mut self.phase else {
             return Ok(Reply::Refused(Refusal::OutOfTurn));

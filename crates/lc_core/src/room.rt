@@ -55,6 +55,7 @@ impl<D: Area + Drop> Room<D> {
         requires finished { AreHonest D.Area recovered.areas → IsFinished D.Area recovered }
         ensures fresh { AreHonest D.Area recovered.areas → IsFresh D.Area recovered result.0 }
         ensures geometry { result.0.geometry ≡ recovered.geometry }
+        ensures log_areas { (n : ℕ) (node : Node D D.Area) → slice_get result.0.nodes.items n ≡ Some node → area_of D.Area node.journal.log ≡ slice_get recovered.areas n }
         ensures bytes { AreOfBytes D.Area recovered.areas }
         ensures areas { result.1.items ≡ drop recovered.geometry.nodes recovered.areas }
     {

@@ -1,5 +1,6 @@
 //! What a store does with a list of events.
 ghost use Rattle.std.specs.Prelude.{◌≡◌, ◌<◌, All, length, take, true, false};
+ghost use Rattle.lc_core.specs.Faults.{CountsAll, phase_failures};
 ghost use Rattle.lc_core.specs.Runs.{FollowsRun};
 ghost use Rattle.lc_core.specs.World.{is_common};
 
@@ -14,6 +15,7 @@ impl<D: Area + Drop> World<D> {
     pub fn run(&mut self, alloc: Global, events: &[Event]) -> RunResult
         requires common { All (λ event. is_common event ≡ true) events.now }
         ensures follows { FollowsRun D.Area self.old (take (length result.replies.items) events.now) result.replies.items self.new }
+        ensures faults { CountsAll result.replies.items (phase_failures D.Area self.old.phase) (phase_failures D.Area self.new.phase) }
         ensures all { result.out_of_memory ≡ false → length result.replies.items ≡ length events.now }
         ensures some { result.out_of_memory ≡ true → length result.replies.items < length events.now }
     {

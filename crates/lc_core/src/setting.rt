@@ -1,10 +1,11 @@
 //! The ranges that a thread sets.
-ghost use Rattle.std.specs.Prelude.{◌≡◌, ◌<◌, ℕ, vec_len, Some, slice_get, IfOk, OnErr};
+ghost use Rattle.std.specs.Prelude.{◌≡◌, ◌<◌, ℕ, vec_len, Some, slice_get, IfOk, OnErr, false};
 ghost use Rattle.lc_range.specs.RangeSet.{MissesSome};
 ghost use Rattle.lc_tx.specs.declared.tx.Tx.{Tx as Kept};
 ghost use Rattle.lc_core.specs.declared.seat.Seat.TheVariants.{Open};
 ghost use Rattle.lc_model.specs.declared.event.Event.TheVariants.{SetRange};
 ghost use Rattle.lc_core.specs.Here.{the_images};
+ghost use Rattle.lc_core.specs.FaultReplies.{is_fault};
 
 use crate::desk::Desk;
 use crate::refused::refused;
@@ -30,6 +31,7 @@ impl Desk {
         ensures err { OnErr result (StillFits self.old self.new) }
         ensures memory { OnErr result ((tx : Kept) → slice_get self.old.seats.items thread ≡ Some (Open tx) → MissesSome tx.set segment offset len) }
         ensures seats { vec_len self.new.seats ≡ vec_len self.old.seats }
+        ensures answer { IfOk result (λ reply. is_fault reply ≡ false) }
     {
         let Seat::Open(tx) = &mut self.seats[thread as usize] else {
             return Ok(Reply::Refused(Refusal::OutOfTurn));

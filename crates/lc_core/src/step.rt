@@ -2,6 +2,7 @@
 ghost use Rattle.std.specs.Prelude.{◌≡◌, true, IfOk, OnErr};
 ghost use Rattle.lc_core.specs.Running.{StillFitsAll};
 ghost use Rattle.lc_core.specs.Stepping.{AsksMemory, FollowsStep, is_plain};
+ghost use Rattle.lc_core.specs.Faults.{CountsLogs, SameLogs};
 
 use crate::running::Running;
 use crate::{Event, Reply};
@@ -16,6 +17,8 @@ impl<D: Area + Drop> Running<D> {
         ensures follows { IfOk result (λ reply. FollowsStep D.Area self.old event.now reply self.new) }
         ensures memory { OnErr result (AsksMemory D.Area self.old event.now) }
         ensures err { OnErr result (StillFitsAll D.Area self.old self.new) }
+        ensures faults { IfOk result (λ reply. CountsLogs D.Area self.old reply self.new) }
+        ensures no_fault { OnErr result (SameLogs D.Area self.old self.new) }
     {
         if let Some(refusal) = self.refusal(event) {
             return Ok(Reply::Refused(refusal));

@@ -4,6 +4,8 @@ ghost use Rattle.lc_tx.specs.Tx.{IsSetOf, none_of};
 ghost use Rattle.lc_model.specs.Refusals.{is_known};
 ghost use Rattle.lc_model.specs.declared.event.Event.TheVariants.{Abort, Begin, Close, FlushStep, Read, Reserve, SetRange, Trim, Write};
 ghost use Rattle.lc_core.specs.Running.{FollowsRow, IsRunning, StillFitsAll, WantsPlaceAt, WantsRange};
+ghost use Rattle.lc_core.specs.FaultReplies.{is_fault};
+ghost use Rattle.lc_core.specs.Faults.{CountsLogs, SameLogs};
 
 use crate::Reply;
 use crate::running::Running;
@@ -27,6 +29,8 @@ impl<D: Area + Drop> Running<D> {
         ensures memory { OnErr result (((set : List ℕ) × IsSetOf segments.now set × (16 < length set))
             ⊎ ((set : List ℕ) × IsSetOf (none_of segments.now reading.now) set × (16 < length set))) }
         ensures err { OnErr result (StillFitsAll D.Area self.old self.new) }
+        ensures answer { IfOk result (λ reply. is_fault reply ≡ false) }
+        ensures logs { SameLogs D.Area self.old self.new }
     {
         self.nodes[node as usize]
             .desk
@@ -47,6 +51,8 @@ impl<D: Area + Drop> Running<D> {
         ensures follows { IfOk result (λ reply. FollowsRow D.Area self.old (SetRange node thread segment offset len) reply self.new) }
         ensures memory { OnErr result (WantsRange D.Area node thread segment offset len self.old) }
         ensures err { OnErr result (StillFitsAll D.Area self.old self.new) }
+        ensures answer { IfOk result (λ reply. is_fault reply ≡ false) }
+        ensures logs { SameLogs D.Area self.old self.new }
     {
         self.nodes[node as usize]
             .desk
@@ -64,6 +70,8 @@ impl<D: Area + Drop> Running<D> {
     ) -> Reply
         requires known { is_known self.old.geometry (Write node thread segment offset bytes.now) ≡ true }
         ensures follows { FollowsRow D.Area self.old (Write node thread segment offset bytes.now) result self.new }
+        ensures answer { is_fault result ≡ false }
+        ensures logs { SameLogs D.Area self.old self.new }
     {
         self.nodes[node as usize]
             .desk
@@ -74,6 +82,8 @@ impl<D: Area + Drop> Running<D> {
     pub(crate) fn abort(&mut self, node: u16, thread: u16) -> Reply
         requires known { is_known self.old.geometry (Abort node thread) ≡ true }
         ensures follows { FollowsRow D.Area self.old (Abort node thread) result self.new }
+        ensures answer { is_fault result ≡ false }
+        ensures logs { SameLogs D.Area self.old self.new }
     {
         self.nodes[node as usize].desk.abort(thread)
     }
@@ -92,6 +102,8 @@ impl<D: Area + Drop> Running<D> {
         ensures follows { IfOk result (λ reply. FollowsRow D.Area self.old (Read node thread segment offset len) reply self.new) }
         ensures memory { OnErr result (0 < len) }
         ensures err { OnErr result (StillFitsAll D.Area self.old self.new) }
+        ensures answer { IfOk result (λ reply. is_fault reply ≡ false) }
+        ensures logs { SameLogs D.Area self.old self.new }
     {
         self.nodes[node as usize]
             .desk
@@ -110,6 +122,8 @@ impl<D: Area + Drop> Running<D> {
         ensures follows { IfOk result (λ reply. FollowsRow D.Area self.old (Reserve node thread) reply self.new) }
         ensures memory { OnErr result (WantsPlaceAt D.Area node thread self.old) }
         ensures err { OnErr result (StillFitsAll D.Area self.old self.new) }
+        ensures answer { IfOk result (λ reply. is_fault reply ≡ false) }
+        ensures logs { SameLogs D.Area self.old self.new }
     {
         self.nodes[node as usize].reserve(alloc, node, thread, false)
     }
@@ -118,6 +132,8 @@ impl<D: Area + Drop> Running<D> {
     pub(crate) fn close(&mut self, node: u16, thread: u16) -> Reply
         requires known { is_known self.old.geometry (Close node thread) ≡ true }
         ensures follows { FollowsRow D.Area self.old (Close node thread) result self.new }
+        ensures answer { is_fault result ≡ false }
+        ensures logs { SameLogs D.Area self.old self.new }
     {
         self.nodes[node as usize].close(thread)
     }
@@ -127,6 +143,7 @@ impl<D: Area + Drop> Running<D> {
         requires known { is_known self.old.geometry (FlushStep node) ≡ true }
         requires running { IsRunning D.Area node self.old.nodes.items }
         ensures follows { FollowsRow D.Area self.old (FlushStep node) result self.new }
+        ensures faults { CountsLogs D.Area self.old result self.new }
     {
         self.nodes[node as usize].flush_step()
     }
@@ -135,6 +152,8 @@ impl<D: Area + Drop> Running<D> {
     pub(crate) fn trim(&mut self, node: u16) -> Reply
         requires known { is_known self.old.geometry (Trim node) ≡ true }
         ensures follows { FollowsRow D.Area self.old (Trim node) result self.new }
+        ensures answer { is_fault result ≡ false }
+        ensures logs { SameLogs D.Area self.old self.new }
     {
         let nodes = self.nodes.as_slice();
         let count = applied_in_front(nodes, &nodes[node as usize].journal);

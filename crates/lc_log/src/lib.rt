@@ -24,7 +24,7 @@ pub use laws::{
 };
 pub use opened::Opened;
 pub use synced::Synced;
-pub use walking::{walk, words_in};
+pub use walking::{text_len, walk, words_in};
 pub use written::Written;
 
 /// A node's log. It is made, and waits, at rest; the calls of a flush and of a reset lead through a type each.

@@ -1,10 +1,11 @@
 //! The records of a log, read from its front.
-ghost use Rattle.std.specs.Prelude.{◌≡◌, ◌≤◌, [], ◌∷◌, IfOk, OnErr, length};
+ghost use Rattle.std.specs.Prelude.{◌≡◌, ◌≤◌, [], ◌∷◌, IfOk, OnErr, List, length};
+ghost use Rattle.lc_record.specs.declared.record.Record.{Record};
 ghost use Rattle.lc_record.specs.Words.{words_of};
-ghost use Rattle.lc_log.specs.LogText.{IsWalk};
+ghost use Rattle.lc_log.specs.LogText.{IsLogText, IsWalk, joined};
 
 use crate::Walk;
-use lc_record::decode;
+use lc_record::{View, decode};
 use std::alloc::{AllocError, Global};
 
 const WORD_BYTES: usize = 8;
@@ -26,6 +27,18 @@ pub fn walk(alloc: Global, bytes: &[u8]) -> Result<Walk, AllocError>
         end_place += len;
     }
     Ok(Walk { records, end_place })
+}
+
+/// Where the records end that these words begin with, in words from their front; no record begins there. It takes no
+/// memory.
+pub fn text_len(words: &[u64]) -> usize
+    ensures { (records : List Record) × IsLogText words.now records × (result ≡ length (joined records)) }
+{
+    let mut end = 0;
+    while let Some(record) = View::at(words, end) {
+        end += record.len();
+    }
+    end
 }
 
 /// The whole words of these bytes, the lowest byte of each first. Where there is none no memory is asked for.

@@ -114,7 +114,7 @@ len-segment g k past within = rw (le-ltb k g.nodes past, lt-ltb k (g.nodes + g.s
 pub len-log : (g : Geometry) (k : ℕ) → k < g.nodes → area_len g k ≡ Some (8 * (g.words + 1))
 len-log g k within = rw (lt-ltb k g.nodes within) refl
 
-len-some : (g : Geometry) (k : ℕ) → k < area_count g → (n : ℕ) × (area_len g k ≡ Some n)
+pub len-some : (g : Geometry) (k : ℕ) → k < area_count g → (n : ℕ) × (area_len g k ≡ Some n)
 len-some g k within =
     elim (cases_lt k g.nodes) [
       | inl log ↦ (8 * (g.words + 1), len-log g k log)
@@ -152,7 +152,7 @@ module _ {D : Type 0} (a : Ghosts D) where
       ]
 
   module _ (g : Geometry) (areas : List D) (images : List (List ℕ)) (lengths : HaveLengths a g areas) (are : AreImages a areas images) where
-    count-images : length images ≡ area_count g
+    pub count-images : length images ≡ area_count g
     count-images = are.count ∙ count-areas g areas lengths
 
     -- an area, and what the stop leaves of it

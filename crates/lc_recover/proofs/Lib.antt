@@ -32,3 +32,4 @@ pub mod Calling
 pub mod Renewing
 pub mod Exclusive
 pub mod StillHonest
+pub mod Blank

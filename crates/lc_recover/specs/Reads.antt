@@ -1,6 +1,6 @@
 -- The store that the bytes of areas read as, and what a merge of all of it gives.
-use Rattle.std.specs.Prelude.{◌≡◌, ℕ, ◌+◌, ◌*◌, ◌<◌, nat_lt, true, List, [], map, length, take, drop, Option, Some, None, if◌then◌else◌, slice_get, slice_index_or}
-use Rattle.lc_disk.specs.Area.{IsImage}
+use Rattle.std.specs.Prelude.{◌≡◌, ℕ, ◌+◌, ◌*◌, ◌<◌, nat_lt, true, List, [], map, length, take, drop, replicate, Option, Some, None, if◌then◌else◌, slice_get, slice_index_or}
+use Rattle.lc_disk.specs.Area.{IsClean, IsImage}
 use Rattle.lc_disk.specs.declared.area.Area.{Ghosts}
 use Rattle.lc_record.specs.Content.{Content}
 use Rattle.lc_record.specs.Words.{words_of}
@@ -41,6 +41,11 @@ module _ {D : Type 0} (a : Ghosts D) where
   -- each of them keeps to the model of a disk
   abbrev pub AreHonest : List D → Type 0
   AreHonest areas = (area : ℕ) (device : D) → slice_get areas area ≡ Some device → a.honest device ≡ true
+
+  -- they read as zeros, and a stop leaves them so
+  abbrev pub AreZeros : List D → Type 0
+  AreZeros areas = (area : ℕ) (device : D) → slice_get areas area ≡ Some device →
+      (a.now device ≡ replicate (length (a.now device)) 0) × IsClean (a.dirty device)
 
   -- what they hold are bytes, while they are honest
   abbrev pub AreOfBytes : List D → Type 0

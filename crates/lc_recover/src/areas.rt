@@ -17,7 +17,7 @@ pub(crate) fn area_count(geometry: &Geometry) -> usize
 }
 
 /// The length of the area at this index, in bytes, where there is one.
-pub(crate) fn area_len(geometry: &Geometry, area: usize) -> Option<usize>
+pub fn area_len(geometry: &Geometry, area: usize) -> Option<usize>
     ensures { result ≡ area_len geometry.now area }
 {
     if area < geometry.nodes as usize {

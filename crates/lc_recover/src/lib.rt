@@ -32,11 +32,14 @@ mod stage;
 mod stopped;
 mod syncing;
 mod within;
+mod zeros;
 
+pub use areas::area_len;
 pub use fault::RecoverFault;
 pub use progress::Progress;
 pub use recovered::Recovered;
 pub use recovery::Recovery;
+pub use zeros::zeros_merge;
 
 #[cfg(test)]
 mod page_tests;

@@ -141,9 +141,10 @@ impl<D: Area> Recovery<D> {
         Progress::Stepped(self.steps())
     }
 
-    /// How many there are of each thing in the store.
+    /// How many there are of each thing in the store. The areas are as long as it says.
     pub fn geometry(&self) -> Geometry
-        ensures { result ≡ self.now.geometry }
+        ensures geometry { result ≡ self.now.geometry }
+        ensures lengths { HaveLengths D.Area self.now.geometry self.now.areas }
     {
         self.geometry
     }

@@ -50,6 +50,7 @@ returns-in_default c =
       err = tt;
       memory = tt;
       seats = refl;
+      answer = refl;
     }
 
 pub set_range-requires : goal.set_range-requires

@@ -37,6 +37,7 @@ returns-in_default c =
       );
       beside = (refl, refl);
       seats = refl;
+      answer = refl;
     }
 
 pub write-requires : goal.write-requires

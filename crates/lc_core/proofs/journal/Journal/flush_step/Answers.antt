@@ -1,5 +1,9 @@
-use Rattle.std.proofs.Common.{◌≤◌, ◌<◌, refl, sym, ap, ◌∙◌, arith}
+use Rattle.std.proofs.Common.{◌≤◌, ◌<◌, refl, sym, ap, subst, ◌∙◌, arith}
+use Rattle.lc_model.specs.declared.reply.Reply.{Reply}
+use Rattle.lc_core.specs.FaultReplies.{TellsFault}
+use Rattle.lc_core.specs.Log.{CallsOnce}
 use Rattle.lc_core.specs.Records.{front_of, span_of}
+use Rattle.lc_core.proofs.Faults.{call_tells}
 use Rattle.lc_core.proofs.Flushing.{some_reply, nothing_row, first_call, later_call, same_itself}
 use Rattle.lc_core.proofs.journal.Journal.flush_step.Goals.{then-is_idle+else-front-self, else-is_idle}
 use Rattle.lc_core.proofs.journal.Journal.flush_step.Goals as goal
@@ -16,6 +20,7 @@ returns-then-front-self g c = record {
   nothing = λ is. refl;
   words = refl;
   device = λ some. absurd (some refl);
+  fault = refl;
 }
 
 pub returns : goal.returns
@@ -47,4 +52,12 @@ returns g c = record {
     | then-is_idle+else-front-self b ↦ rw (b.self-is, b.take_closed.ensures.log) at c.advance.ensures.device
     | else-is_idle b ↦ rw b.self-is at c.advance.ensures.device
   ];
+  fault =
+      let w = c.args.self.now in
+      let calls : CallsOnce g.D.Area w.log c.advance.new.self.log = elim c.if-is_idle.branch [
+        | then-is_idle+else-front-self b ↦ rw (b.self-is, b.take_closed.ensures.log) at c.advance.ensures.device
+        | else-is_idle b ↦ rw b.self-is at c.advance.ensures.device
+      ] in
+      subst (λ (reply : Reply). TellsFault g.D.Area reply w.log c.advance.new.self.log) (sym c.advance.ensures.reply)
+      (call_tells g.D.Area w.log c.advance.new.self.log c.if-is_idle.self.taken c.requires.up calls);
 }

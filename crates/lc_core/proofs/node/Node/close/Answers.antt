@@ -1,4 +1,4 @@
-use Rattle.std.proofs.Common.{ℕ, ◌<◌, length, arith, ap, ◌∙◌, subst}
+use Rattle.std.proofs.Common.{ℕ, ◌<◌, length, refl, arith, ap, ◌∙◌, subst}
 use Rattle.std.specs.Prelude.{Option, slice_index_or, vec_len}
 use Rattle.std.proofs.lemmas.Option.{slice_get-get_or}
 use Rattle.lc_core.specs.Counts.{CountsSeat}
@@ -20,6 +20,8 @@ returns-in_default g c = record {
   whole =
       let counts = subst (λ (o : Option ℕ). CountsSeat c.args.thread c.args.self.now.desk o c.count.new.self) c.in_default.is c.count.ensures.counts in
       record { seats = ap vec_len counts.2; slots = ap (λ (h : Here). vec_len h.slots) counts.1 };
+  answer = refl;
+  log = refl;
 }
 
 pub returns : goal.returns
@@ -35,4 +37,6 @@ returns g c = record {
         seats = c.close.ensures.seats ∙ ap vec_len counts.5;
         slots = same_count c.count.new.self.here c.close.new.self.here c.close.ensures.beside ∙ count_counted counts.0.set c.args.self.now.desk.here c.count.new.self.here counts.3 counts.4;
       };
+  answer = refl;
+  log = c.close-2.ensures.log;
 }

@@ -13,4 +13,5 @@ returns g c = record {
       (settled_by m s x (FlushStep node) c.flush_step.result (λ e. absurd cc) (λ answer is. absurd cc)) refl w h new step.2
       (new.group_room ∙ c.flush_step.ensures.words ∙ sym w.journal.group_room) step.3;
   whole = record { seats = refl; slots = refl };
+  device = c.flush_step.ensures.fault;
 }

@@ -1,4 +1,5 @@
 use Rattle.std.proofs.Common.{◌≡◌, drop, List, refl, sym, ap, subst, ◌∙◌}
+use Rattle.std.specs.Prelude.{slice_get}
 use Rattle.lc_record.specs.declared.geometry.Geometry.{Geometry}
 use Rattle.lc_recover.specs.Reads.{AreHonest, AreOfBytes, HaveLengths}
 use Rattle.lc_recover.specs.Recovery.{Recovering}
@@ -26,6 +27,8 @@ returns g c r is =
         store = c.finish.result;
         geometry = c.finish.ensures.geometry;
         areas = c.finish.ensures.areas;
+        same_geometry = c.furnish-running.ensures.geometry ∙ c.finish.ensures.geometry;
+        log_areas = λ n node got. c.furnish-running.ensures.log_areas n node got ∙ ap (λ (areas : List g.row.D.Denot). slice_get areas n) c.finish.ensures.areas;
         finished = c.finish.ensures.finished;
         fresh = λ honest. c.furnish-running.ensures.fresh (subst (λ (areas : List g.row.D.Denot). AreHonest g.D.Area areas) (sym c.finish.ensures.areas) honest);
         lengths = c.requires.lengths c.in-Down.recovery c.in-Down.is;

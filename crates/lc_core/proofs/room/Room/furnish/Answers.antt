@@ -1,7 +1,8 @@
-use Rattle.std.proofs.Common.{length, None, sym, ap, subst, ◌∙◌, arith}
+use Rattle.std.proofs.Common.{◌≡◌, length, None, sym, ap, subst, ◌∙◌, arith}
 use Rattle.std.specs.Prelude.{slice_get}
 use Rattle.std.proofs.lemmas.List.{length-replicate}
 use Rattle.lc_core.specs.Blank.{IsBlankNode, IsFilledNode}
+use Rattle.lc_core.specs.Log.{area_of}
 use Rattle.lc_core.proofs.Furnishing.{all_back, each_same, named_none}
 use Rattle.lc_core.proofs.Opening.{filled_fresh, filled_whole}
 use Rattle.lc_core.proofs.room.Room.furnish.Goals as goal
@@ -35,3 +36,8 @@ returns-clause-fresh g c = λ honest.
     filled_fresh g.D.Area c.args.recovered _ c.open_logs-areas.new.nodes c.requires.geometry are c.open_logs-areas.ensures.filled c.open_logs-areas.ensures.log_areas
     (λ n node got. (c.open_logs-areas.ensures.logs honest (c.requires.finished honest) n node got).0)
     (λ n node got. (c.open_logs-areas.ensures.logs honest (c.requires.finished honest) n node got).1) c.args.self.none
+
+pub returns-clause-log_areas : goal.returns-clause-log_areas
+returns-clause-log_areas g c =
+    let are = all_back c.args.self.nodes.len c.open_logs-areas.new.nodes _ (omega (arith, c.open_logs-areas.auto.nodes, c.as_mut_slice-2.ensures.len)) in
+    each_same (λ n node. area_of g.D.Area node.journal.log ≡ slice_get c.args.recovered.areas n) c.open_logs-areas.new.nodes _ are c.open_logs-areas.ensures.log_areas

@@ -1,4 +1,4 @@
-use Rattle.std.proofs.Common.{◌≡◌, ℕ, ◌+◌, ◌-◌, ◌<◌, [], ◌∷◌, List, length, Option, Some, None, sym, ap, subst, ◌∙◌, arith}
+use Rattle.std.proofs.Common.{◌≡◌, ℕ, ◌+◌, ◌-◌, ◌<◌, [], ◌∷◌, List, length, Option, Some, None, refl, sym, ap, subst, ◌∙◌, arith}
 use Rattle.std.specs.Prelude.{slice_get, slice_set}
 use Rattle.std.proofs.lemmas.Option.{slice_get_read}
 use Rattle.lc_token.specs.declared.token.Token.{Token}
@@ -14,6 +14,7 @@ use Rattle.lc_model.specs.Refusals.{common_refusal}
 use Rattle.lc_model.specs.declared.refusal.Refusal.TheVariants.{OutOfTurn}
 use Rattle.lc_core.proofs.Onward.{onward, stays_onward, whole_set}
 use Rattle.lc_core.proofs.Travels.{named_set, none_arrives, segment_known, set_back, set_it, travel_moved}
+use Rattle.lc_core.proofs.Faults.{logs_stay}
 use Rattle.lc_core.proofs.running.Running.arrive.Goals as goal
 
 pub arrive-requires-clause-first : goal.arrive-requires-clause-first
@@ -58,6 +59,8 @@ returns-in_default g c = record {
       (sym (set_it w.travelling.items (c.args.segment - 1) c.index_mut.result.now c.take.new.self was (c.take.ensures.after ∙ sym none)))
       (none_arrives g.D.Area m c.args.node c.args.segment s x w.geometry w.nodes.items w.travelling.items h
       (λ travels. h.on_the_way.none (c.args.segment - 1) (was ∙ ap (λ o. Some o) none) (ap s.place named ∙ travels)));
+  answer = refl;
+  logs = refl;
 }
 
 pub invariant_of-self-in-Ok : goal.invariant_of-self-in-Ok
@@ -125,6 +128,13 @@ returns-in-Ok g c = record {
       (travel_moved g.D.Area m c.args.node (Arrive c.args.node c.args.segment) s x Accepted w.geometry w.nodes.items w.travelling.items h c.arrive.new.self came.0 (c.args.segment - 1) _ c.take.new.self (sym named) was
       (λ token is. (let none : None ≡ Some token = sym taken ∙ is in absurd cc))
       (λ none travels. (let both : At c.args.node ≡ Travelling = sym came.1 ∙ ap came.0.after.place (sym named) ∙ travels in absurd cc)));
+  answer = refl;
+  logs =
+      let w = c.args.self.now in
+      let node = c.index_mut-2.result.now in
+      let within : c.args.node < w.nodes.len = omega (arith, w.all_nodes, node_known w.geometry c.args.node (c.args.segment ∷ []) [] c.requires.known) in
+      let at = slice_get_read w.nodes.items w.nodes.len c.args.node node w.nodes.ok.0 within c.index_mut-2.ensures.value in
+      logs_stay g.D.Area w.nodes.items c.args.node node c.arrive.new.self at c.arrive.ensures.log;
 }
 
 pub returns-in-Err : goal.returns-in-Err
@@ -148,4 +158,11 @@ returns-in-Err g c = record {
       subst (λ (tokens : List (Option Token)). Onward g.D.Area m (Arrive c.args.node c.args.segment) s x (Refused c.in-Err.refusal) w.geometry (slice_set w.nodes.items c.args.node c.arrive.new.self) tokens)
       (sym (set_back w.travelling.items (c.args.segment - 1) c.index_mut.result.now c.take.new.self (Some c.in-Err.token) was (ap (λ t. Some t) c.in-Err.ensures.follows.0 ∙ sym stood)))
       (stays_onward g.D.Area m c.args.node (Arrive c.args.node c.args.segment) s x (Refused c.in-Err.refusal) w.geometry w.nodes.items w.travelling.items h common node at c.arrive.new.self stays (λ k e. absurd (omega (arith, e))));
+  answer = c.in-Err.ensures.answer;
+  logs =
+      let w = c.args.self.now in
+      let node = c.index_mut-2.result.now in
+      let within : c.args.node < w.nodes.len = omega (arith, w.all_nodes, node_known w.geometry c.args.node (c.args.segment ∷ []) [] c.requires.known) in
+      let at = slice_get_read w.nodes.items w.nodes.len c.args.node node w.nodes.ok.0 within c.index_mut-2.ensures.value in
+      logs_stay g.D.Area w.nodes.items c.args.node node c.arrive.new.self at c.arrive.ensures.log;
 }

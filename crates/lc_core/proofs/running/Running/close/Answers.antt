@@ -3,6 +3,7 @@ use Rattle.std.proofs.lemmas.Option.{slice_get_read}
 use Rattle.lc_model.proofs.Rows.{seat_known}
 use Rattle.lc_model.specs.declared.event.Event.TheVariants.{Close}
 use Rattle.lc_core.proofs.Onward.{stays_onward, whole_set}
+use Rattle.lc_core.proofs.Faults.{logs_stay}
 use Rattle.lc_core.proofs.running.Running.close.Goals as goal
 
 pub invariant_of-self : goal.invariant_of-self
@@ -28,4 +29,11 @@ returns g c = record {
       let at = slice_get_read w.nodes.items w.nodes.len c.args.node node w.nodes.ok.0 within c.index_mut.ensures.value in
       stays_onward g.D.Area m c.args.node (Close c.args.node c.args.thread) s x c.close.result w.geometry w.nodes.items w.travelling.items h common node at c.close.new.self
       (c.close.ensures.follows c.args.node m s x h.sound common (h.each c.args.node node at)) (λ k e. absurd (omega (arith, e)));
+  answer = c.close.ensures.answer;
+  logs =
+      let w = c.args.self.now in
+      let node = c.index_mut.result.now in
+      let within : c.args.node < w.nodes.len = omega (arith, w.all_nodes, (seat_known w.geometry c.args.node c.args.thread [] c.requires.known).0) in
+      let at = slice_get_read w.nodes.items w.nodes.len c.args.node node w.nodes.ok.0 within c.index_mut.ensures.value in
+      logs_stay g.D.Area w.nodes.items c.args.node node c.close.new.self at c.close.ensures.log;
 }

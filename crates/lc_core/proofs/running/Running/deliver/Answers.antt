@@ -1,4 +1,4 @@
-use Rattle.std.proofs.Common.{sym, subst, arith}
+use Rattle.std.proofs.Common.{refl, sym, subst, arith}
 use Rattle.std.specs.Prelude.{slice_set}
 use Rattle.lc_model.specs.declared.event.Event.TheVariants.{Deliver}
 use Rattle.lc_core.specs.Delivers.{Brings}
@@ -8,6 +8,7 @@ use Rattle.lc_core.proofs.Arrivals.{delivers, delivery_known, node_at}
 use Rattle.lc_core.proofs.Onward.{still_onward, stays_onward, whole_set}
 use Rattle.lc_core.proofs.Refusing.{on_err}
 use Rattle.lc_core.proofs.Tokens.{same_goes}
+use Rattle.lc_core.proofs.Faults.{logs_stay}
 use Rattle.lc_core.proofs.running.Running.deliver.Goals as goal
 
 pub invariant_of-self : goal.invariant_of-self
@@ -54,3 +55,19 @@ returns-in_ok-received-in-New-clause-follows g c = λ m s x h common.
     subst (λ reply. Onward g.D.Area m event s x reply w.geometry (slice_set w.nodes.items c.args.to (record { desk = c.receive.new.self; journal = node.journal })) w.travelling.items) (sym c.reply_of.ensures)
     (stays_onward g.D.Area m c.args.to event s x (reply_of received) w.geometry w.nodes.items w.travelling.items h common node at (record { desk = c.receive.new.self; journal = node.journal }) goes
     (λ k e. absurd (omega (arith, e))))
+
+pub returns-in_err-received-in-New-clause-logs : goal.returns-in_err-received-in-New-clause-logs
+returns-in_err-received-in-New-clause-logs g c =
+    let w = c.args.self.now in
+    let node = c.index_mut.result.now in
+    let known = delivery_known w.geometry c.args.sender c.args.number c.args.segment c.args.to c.requires.known in
+    let at = node_at g.D.Area w c.args.to node known.0 c.index_mut.ensures.value in
+    logs_stay g.D.Area w.nodes.items c.args.to node (record { desk = c.receive.new.self; journal = node.journal }) at refl
+
+pub returns-in_ok-received-in-New-clause-logs : goal.returns-in_ok-received-in-New-clause-logs
+returns-in_ok-received-in-New-clause-logs g c =
+    let w = c.args.self.now in
+    let node = c.index_mut.result.now in
+    let known = delivery_known w.geometry c.args.sender c.args.number c.args.segment c.args.to c.requires.known in
+    let at = node_at g.D.Area w c.args.to node known.0 c.index_mut.ensures.value in
+    logs_stay g.D.Area w.nodes.items c.args.to node (record { desk = c.receive.new.self; journal = node.journal }) at refl

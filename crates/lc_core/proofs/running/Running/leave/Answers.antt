@@ -1,4 +1,4 @@
-use Rattle.std.proofs.Common.{◌≡◌, ℕ, ◌+◌, ◌-◌, ◌<◌, [], ◌∷◌, length, Some, None, sym, ap, subst, ◌∙◌, arith}
+use Rattle.std.proofs.Common.{◌≡◌, ℕ, ◌+◌, ◌-◌, ◌<◌, [], ◌∷◌, length, Some, None, refl, sym, ap, subst, ◌∙◌, arith}
 use Rattle.std.specs.Prelude.{slice_set}
 use Rattle.std.proofs.lemmas.Option.{slice_get_read, slice_get-get_or}
 use Rattle.lc_token.specs.declared.token.Token.{Token}
@@ -9,6 +9,7 @@ use Rattle.lc_core.specs.Places.{same_some}
 use Rattle.lc_core.specs.Slots.{FitsToken}
 use Rattle.lc_core.proofs.Onward.{onward, stays_onward, whole_set}
 use Rattle.lc_core.proofs.Travels.{named_set, not_writing, segment_known, travel_moved}
+use Rattle.lc_core.proofs.Faults.{logs_stay}
 use Rattle.lc_core.proofs.running.Running.leave.Goals as goal
 
 pub invariant_of-self : goal.invariant_of-self
@@ -66,6 +67,13 @@ returns-in-Ok g c = record {
         subst (λ (t : Token). FitsToken m ((c.args.segment - 1) + 1) t left.0.after left.0.next) (same_some c.in-Ok.token token is) (subst (λ (i : ℕ). FitsToken m i c.in-Ok.token left.0.after left.0.next) (sym named) left.2),
       ))
       (λ none. absurd cc));
+  answer = refl;
+  logs =
+      let w = c.args.self.now in
+      let node = c.index_mut.result.now in
+      let within : c.args.node < w.nodes.len = omega (arith, w.all_nodes, node_known w.geometry c.args.node (c.args.segment ∷ []) [] c.requires.known) in
+      let at = slice_get_read w.nodes.items w.nodes.len c.args.node node w.nodes.ok.0 within c.index_mut.ensures.value in
+      logs_stay g.D.Area w.nodes.items c.args.node node c.leave.new.self at c.leave.ensures.log;
 }
 
 pub returns-in-Err : goal.returns-in-Err
@@ -80,4 +88,11 @@ returns-in-Err g c = record {
       let named : (c.args.segment - 1) + 1 ≡ c.args.segment = omega (arith, segment.0) in
       stays_onward g.D.Area m c.args.node (Leave c.args.node c.args.segment) s x (Refused c.in-Err.refusal) w.geometry w.nodes.items w.travelling.items h common node at c.leave.new.self
       (c.in-Err.ensures.follows m c.args.node s x h.sound common (h.each c.args.node node at) (not_writing w.geometry m s x c.args.segment h.writes)) (λ k e. absurd (omega (arith, e)));
+  answer = c.in-Err.ensures.answer;
+  logs =
+      let w = c.args.self.now in
+      let node = c.index_mut.result.now in
+      let within : c.args.node < w.nodes.len = omega (arith, w.all_nodes, node_known w.geometry c.args.node (c.args.segment ∷ []) [] c.requires.known) in
+      let at = slice_get_read w.nodes.items w.nodes.len c.args.node node w.nodes.ok.0 within c.index_mut.ensures.value in
+      logs_stay g.D.Area w.nodes.items c.args.node node c.leave.new.self at c.leave.ensures.log;
 }

@@ -6,6 +6,7 @@ use Rattle.lc_core.proofs.Logged.{err_then}
 use Rattle.lc_model.specs.declared.event.Event.TheVariants.{Reserve}
 use Rattle.std.specs.Prelude.{nat_lt}
 use Rattle.lc_core.proofs.Onward.{stays_onward, still_onward, whole_set}
+use Rattle.lc_core.proofs.Faults.{logs_stay}
 use Rattle.lc_core.proofs.running.Running.reserve.Goals as goal
 
 pub invariant_of-self : goal.invariant_of-self
@@ -48,3 +49,11 @@ returns-clause-err g c =
     let at = slice_get_read w.nodes.items w.nodes.len c.args.node node w.nodes.ok.0 within c.index_mut.ensures.value in
     err_then c.reserve.result c.reserve.ensures.err (λ still m s x h.
     still_onward g.D.Area m c.args.node s x w.geometry w.nodes.items w.travelling.items node c.reserve.new.self at (still m c.args.node s x) h)
+
+pub returns-clause-logs : goal.returns-clause-logs
+returns-clause-logs g c =
+    let w = c.args.self.now in
+    let node = c.index_mut.result.now in
+    let within : c.args.node < w.nodes.len = omega (arith, w.all_nodes, (seat_known w.geometry c.args.node c.args.thread ([]) c.requires.known).0) in
+    let at = slice_get_read w.nodes.items w.nodes.len c.args.node node w.nodes.ok.0 within c.index_mut.ensures.value in
+    logs_stay g.D.Area w.nodes.items c.args.node node c.reserve.new.self at c.reserve.ensures.log

@@ -10,6 +10,7 @@ use Rattle.lc_core.proofs.Logged.{err_then}
 use Rattle.lc_core.proofs.Shortness.{same_count}
 use Rattle.lc_model.specs.declared.event.Event.TheVariants.{SetRange}
 use Rattle.lc_core.proofs.Onward.{desk_onward, desk_still, still_onward, whole_set}
+use Rattle.lc_core.proofs.Faults.{logs_stay}
 use Rattle.lc_core.proofs.running.Running.set_range.Goals as goal
 
 pub invariant_of-self : goal.invariant_of-self
@@ -54,3 +55,11 @@ returns-clause-memory g c =
     let within : c.args.node < w.nodes.len = omega (arith, w.all_nodes, (seat_known w.geometry c.args.node c.args.thread (c.args.segment ∷ []) c.requires.known).0) in
     let at = slice_get_read w.nodes.items w.nodes.len c.args.node node w.nodes.ok.0 within c.index_mut.ensures.value in
     err_then c.set_range.result c.set_range.ensures.memory (λ misses other tx got sits. misses tx (subst (λ (n : Node g.row.D.Denot g.D.Area). slice_get n.desk.seats.items c.args.thread ≡ Some (Open tx)) (same_some other node (sym got ∙ at)) sits))
+
+pub returns-clause-logs : goal.returns-clause-logs
+returns-clause-logs g c =
+    let w = c.args.self.now in
+    let node = c.index_mut.result.now in
+    let within : c.args.node < w.nodes.len = omega (arith, w.all_nodes, (seat_known w.geometry c.args.node c.args.thread (c.args.segment ∷ []) c.requires.known).0) in
+    let at = slice_get_read w.nodes.items w.nodes.len c.args.node node w.nodes.ok.0 within c.index_mut.ensures.value in
+    logs_stay g.D.Area w.nodes.items c.args.node node (record { desk = c.set_range.new.self; journal = node.journal }) at refl

@@ -1,9 +1,11 @@
-use Rattle.std.proofs.Common.{OnErr, sym, ap, subst, ◌∙◌}
+use Rattle.std.proofs.Common.{OnErr, refl, sym, ap, subst, ◌∙◌}
 use Rattle.std.proofs.lemmas.Result.{IfOk-weaker}
 use Rattle.lc_model.specs.declared.event.Event.{Event}
 use Rattle.lc_model.specs.declared.event.Event.TheVariants.{Begin, SetRange, Write, Read, Abort, Reserve, Close, FlushStep, Leave, Arrive, Deliver, Trim}
 use Rattle.lc_core.specs.Stepping.{AsksMemory}
 use Rattle.lc_core.proofs.Ordinary.{follows_step, refused_step}
+use Rattle.lc_core.proofs.Faults.{quiet}
+use Rattle.lc_core.proofs.Refusing.{on_err}
 use Rattle.lc_core.proofs.running.Running.step.Goals as goal
 
 pub returns-in-Some-clause-follows : goal.returns-in-Some-clause-follows
@@ -63,3 +65,54 @@ returns-in-Deliver-clause-memory g c = subst (λ (v : Event). OnErr c.deliver.re
 
 pub returns-in-Trim-clause-follows : goal.returns-in-Trim-clause-follows
 returns-in-Trim-clause-follows g c = follows_step g.D.Area c.args.self.now c.args.event.now c.refusal.result c.refusal.ensures.refused (Trim c.in-Trim.node) c.trim.result c.trim.new.self c.in_default.is (c.in-Trim.is) c.trim.ensures.follows
+
+pub returns-in-Some-clause-faults : goal.returns-in-Some-clause-faults
+returns-in-Some-clause-faults g c = quiet g.D.Area c.args.self.now _ c.args.self.now (c.refusal.ensures.answer c.in-Some.refusal c.in-Some.is) refl
+
+pub returns-in-Begin-clause-faults : goal.returns-in-Begin-clause-faults
+returns-in-Begin-clause-faults g c = IfOk-weaker c.begin.result _ _ (λ reply plain. quiet g.D.Area c.args.self.now reply c.begin.new.self plain c.begin.ensures.logs) c.begin.ensures.answer
+
+pub returns-in-Begin-clause-no_fault : goal.returns-in-Begin-clause-no_fault
+returns-in-Begin-clause-no_fault g c = on_err c.begin.result _ c.begin.ensures.logs
+
+pub returns-in-SetRange-clause-faults : goal.returns-in-SetRange-clause-faults
+returns-in-SetRange-clause-faults g c = IfOk-weaker c.set_range.result _ _ (λ reply plain. quiet g.D.Area c.args.self.now reply c.set_range.new.self plain c.set_range.ensures.logs) c.set_range.ensures.answer
+
+pub returns-in-SetRange-clause-no_fault : goal.returns-in-SetRange-clause-no_fault
+returns-in-SetRange-clause-no_fault g c = on_err c.set_range.result _ c.set_range.ensures.logs
+
+pub returns-in-Read-clause-faults : goal.returns-in-Read-clause-faults
+returns-in-Read-clause-faults g c = IfOk-weaker c.read.result _ _ (λ reply plain. quiet g.D.Area c.args.self.now reply c.read.new.self plain c.read.ensures.logs) c.read.ensures.answer
+
+pub returns-in-Read-clause-no_fault : goal.returns-in-Read-clause-no_fault
+returns-in-Read-clause-no_fault g c = on_err c.read.result _ c.read.ensures.logs
+
+pub returns-in-Reserve-clause-faults : goal.returns-in-Reserve-clause-faults
+returns-in-Reserve-clause-faults g c = IfOk-weaker c.reserve.result _ _ (λ reply plain. quiet g.D.Area c.args.self.now reply c.reserve.new.self plain c.reserve.ensures.logs) c.reserve.ensures.answer
+
+pub returns-in-Reserve-clause-no_fault : goal.returns-in-Reserve-clause-no_fault
+returns-in-Reserve-clause-no_fault g c = on_err c.reserve.result _ c.reserve.ensures.logs
+
+pub returns-in-Deliver-clause-faults : goal.returns-in-Deliver-clause-faults
+returns-in-Deliver-clause-faults g c = IfOk-weaker c.deliver.result _ _ (λ reply plain. quiet g.D.Area c.args.self.now reply c.deliver.new.self plain c.deliver.ensures.logs) c.deliver.ensures.answer
+
+pub returns-in-Deliver-clause-no_fault : goal.returns-in-Deliver-clause-no_fault
+returns-in-Deliver-clause-no_fault g c = on_err c.deliver.result _ c.deliver.ensures.logs
+
+pub returns-in-Write-clause-faults : goal.returns-in-Write-clause-faults
+returns-in-Write-clause-faults g c = quiet g.D.Area c.args.self.now c.write.result c.write.new.self c.write.ensures.answer c.write.ensures.logs
+
+pub returns-in-Abort-clause-faults : goal.returns-in-Abort-clause-faults
+returns-in-Abort-clause-faults g c = quiet g.D.Area c.args.self.now c.abort.result c.abort.new.self c.abort.ensures.answer c.abort.ensures.logs
+
+pub returns-in-Close-clause-faults : goal.returns-in-Close-clause-faults
+returns-in-Close-clause-faults g c = quiet g.D.Area c.args.self.now c.close.result c.close.new.self c.close.ensures.answer c.close.ensures.logs
+
+pub returns-in-Leave-clause-faults : goal.returns-in-Leave-clause-faults
+returns-in-Leave-clause-faults g c = quiet g.D.Area c.args.self.now c.leave.result c.leave.new.self c.leave.ensures.answer c.leave.ensures.logs
+
+pub returns-in-Arrive-clause-faults : goal.returns-in-Arrive-clause-faults
+returns-in-Arrive-clause-faults g c = quiet g.D.Area c.args.self.now c.arrive.result c.arrive.new.self c.arrive.ensures.answer c.arrive.ensures.logs
+
+pub returns-in-Trim-clause-faults : goal.returns-in-Trim-clause-faults
+returns-in-Trim-clause-faults g c = quiet g.D.Area c.args.self.now c.trim.result c.trim.new.self c.trim.ensures.answer c.trim.ensures.logs

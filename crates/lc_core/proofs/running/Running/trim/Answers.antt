@@ -4,6 +4,7 @@ use Rattle.lc_model.proofs.Rows.{node_known}
 use Rattle.lc_model.specs.declared.event.Event.TheVariants.{Trim}
 use Rattle.lc_core.proofs.Onward.{stays_onward, whole_set}
 use Rattle.lc_core.proofs.Trims.{counted_at, trim_goes}
+use Rattle.lc_core.proofs.Faults.{logs_stay}
 use Rattle.lc_core.proofs.running.Running.trim.Goals as goal
 
 pub index_mut-requires : goal.index_mut-requires
@@ -51,4 +52,11 @@ returns g c = record {
       (trim_goes g.D.Area m c.args.node s x c.applied_in_front-count.result node c.trim.new.self fits
       (counted.1 m c.args.node s x h.sound fits.journal (record { all = all; each = λ k other got. (h.each k other got).slots })) c.trim.ensures.trims c.trim.ensures.group)
       (λ k e. absurd (omega (arith, e)));
+  answer = refl;
+  logs =
+      let w = c.args.self.now in
+      let node = c.index_mut.result.now in
+      let within : c.args.node < w.nodes.len = omega (arith, w.all_nodes, node_known w.geometry c.args.node [] [] c.requires.known) in
+      let at = slice_get_read w.nodes.items w.nodes.len c.args.node node w.nodes.ok.0 within c.index_mut.ensures.value in
+      logs_stay g.D.Area w.nodes.items c.args.node node (record { desk = node.desk; journal = c.trim.new.self }) at c.trim.ensures.log;
 }

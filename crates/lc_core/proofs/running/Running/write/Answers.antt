@@ -4,6 +4,7 @@ use Rattle.lc_model.proofs.Rows.{seat_known}
 use Rattle.lc_core.proofs.Shortness.{same_count}
 use Rattle.lc_model.specs.declared.event.Event.TheVariants.{Write}
 use Rattle.lc_core.proofs.Onward.{desk_onward, whole_set}
+use Rattle.lc_core.proofs.Faults.{logs_stay}
 use Rattle.lc_core.proofs.running.Running.write.Goals as goal
 
 pub invariant_of-self : goal.invariant_of-self
@@ -30,4 +31,11 @@ returns g c = record {
       let at = slice_get_read w.nodes.items w.nodes.len c.args.node node w.nodes.ok.0 within c.index_mut.ensures.value in
       desk_onward g.D.Area m c.args.node (Write c.args.node c.args.thread c.args.segment c.args.offset c.args.bytes.now) s x c.write.result w.geometry w.nodes.items w.travelling.items h common node at c.write.new.self (c.write.ensures.follows c.args.node) c.write.ensures.beside
       (λ e. absurd cc) refl refl (λ k e. absurd (omega (arith, e)));
+  answer = c.write.ensures.answer;
+  logs =
+      let w = c.args.self.now in
+      let node = c.index_mut.result.now in
+      let within : c.args.node < w.nodes.len = omega (arith, w.all_nodes, (seat_known w.geometry c.args.node c.args.thread (c.args.segment ∷ []) c.requires.known).0) in
+      let at = slice_get_read w.nodes.items w.nodes.len c.args.node node w.nodes.ok.0 within c.index_mut.ensures.value in
+      logs_stay g.D.Area w.nodes.items c.args.node node (record { desk = c.write.new.self; journal = node.journal }) at refl;
 }

@@ -1,4 +1,4 @@
-use Rattle.std.proofs.Common.{◌≡◌, Ok, Err, true, false, ap, sym, ◌∙◌, inl, inr, subst}
+use Rattle.std.proofs.Common.{◌≡◌, Ok, Err, true, false, refl, ap, sym, ◌∙◌, inl, inr, subst}
 use Rattle.std.proofs.lemmas.Result.{IfOk-at_ok}
 use Rattle.std.specs.Prelude.{Result, OnErr, Bool, IsTrue}
 use Rattle.lc_record.specs.declared.geometry.Geometry.{Geometry}
@@ -13,7 +13,10 @@ use Rattle.lc_core.specs.declared.phase.Phase.{Phase}
 use Rattle.lc_model.specs.declared.event.Event.TheVariants.{RecoverStep}
 use Rattle.lc_recover.specs.Recovery.{IsDone}
 use Rattle.lc_recover.specs.declared.progress.Progress.{Progress}
-use Rattle.lc_model.specs.declared.reply.Reply.TheVariants.{Recovered}
+use Rattle.lc_model.specs.declared.reply.Reply.TheVariants.{Recovered, Refused}
+use Rattle.lc_model.specs.declared.refusal.Refusal.TheVariants.{OutOfTurn}
+use Rattle.lc_core.specs.Faults.{CountsPhase}
+use Rattle.lc_core.proofs.Failures.{StepCalls, down_failures, no_faults, phase_counts, risen_counts}
 use Rattle.lc_core.proofs.Recoveries.{FollowsPhase, StepLeaves, comes_up, down_same, not_down, down_follows, down_wants, same_still}
 use Rattle.lc_core.proofs.world.World.recover_step.Given.{Over}
 use Rattle.lc_core.proofs.world.World.recover_step.Goals as goal
@@ -32,6 +35,14 @@ module _ (g : Over) (c : goal.After-reply_to g) where
     honest = c.step.ensures.honest;
     merges = c.step.ensures.merges;
     accepted = c.step.ensures.accepted;
+  }
+
+  calls : StepCalls g.D.Area c.in-Down.recovery c.step.new.self c.step.result
+  calls = record {
+    call = c.step.ensures.call;
+    no_call = c.step.ensures.no_call;
+    fault = c.step.ensures.fault;
+    merge_fault = c.step.ensures.merge_fault;
   }
 
   wants : OnErr c.reply_to.result (TakesMemory c.in-Down.recovery × (c.step.new.self ≡ c.in-Down.recovery))
@@ -68,6 +79,14 @@ module _ (g : Over) (c : goal.After-drop-room-in-Err g) where
     accepted = c.step-2.ensures.accepted;
   }
 
+  calls-last : StepCalls g.D.Area c.in-Down.recovery c.step-2.new.self c.step-2.result
+  calls-last = record {
+    call = c.step-2.ensures.call;
+    no_call = c.step-2.ensures.no_call;
+    fault = c.step-2.ensures.fault;
+    merge_fault = c.step-2.ensures.merge_fault;
+  }
+
   replies-last : RepliesTo c.step-2.result c.stopped.result
   replies-last = subst (λ (r : Result Progress RecoverFault). RepliesTo r c.stopped.result) (sym c.in-Err.is) c.stopped.ensures
 
@@ -92,6 +111,14 @@ module _ (g : Over) (c : goal.Joined-self-risen g) where
     honest = c.step-2.ensures.honest;
     merges = c.step-2.ensures.merges;
     accepted = c.step-2.ensures.accepted;
+  }
+
+  calls-done : StepCalls g.D.Area c.in-Down.recovery c.step-2.new.self c.step-2.result
+  calls-done = record {
+    call = c.step-2.ensures.call;
+    no_call = c.step-2.ensures.no_call;
+    fault = c.step-2.ensures.fault;
+    merge_fault = c.step-2.ensures.merge_fault;
   }
 
 pub returns-clause-follows : goal.returns-clause-follows
@@ -121,3 +148,29 @@ invariant_of-self-2 g c = record {
 pub returns-in-Err-clause-memory : goal.returns-in-Err-clause-memory
 returns-in-Err-clause-memory g c =
     on_err c.stopped.result _ (subst (λ (p : Phase g.row.D.Denot g.D.Area). AsksIn g.D.Area p RecoverStep) (sym c.in-Down.is) (inr (c.is_last.ensures.0 c.if-not-is_last.false)))
+
+pub returns-in_default-clause-faults : goal.returns-in_default-clause-faults
+returns-in_default-clause-faults g c = no_faults (Refused OutOfTurn) _ _ refl refl
+
+pub returns-then-not-is_last-clause-faults : goal.returns-then-not-is_last-clause-faults
+returns-then-not-is_last-clause-faults g c =
+    phase_counts g.D.Area c.in-Down.recovery c.step.new.self c.args.self.now.phase c.in-Down.is c.step.result c.reply_to.result c.reply_to.ensures (calls g c)
+
+pub returns-then-not-is_last-clause-no_fault : goal.returns-then-not-is_last-clause-no_fault
+returns-then-not-is_last-clause-no_fault g c =
+    err_then c.reply_to.result (wants g c) (λ asks. down_failures g.D.Area c.args.self.now.phase c.in-Down.recovery c.step.new.self c.in-Down.is asks.1)
+
+pub returns-in-Err-clause-faults : goal.returns-in-Err-clause-faults
+returns-in-Err-clause-faults g c =
+    phase_counts g.D.Area c.in-Down.recovery c.step-2.new.self c.args.self.now.phase c.in-Down.is c.step-2.result c.stopped.result (replies-last g c) (calls-last g c)
+
+pub returns-in-Err-clause-no_fault : goal.returns-in-Err-clause-no_fault
+returns-in-Err-clause-no_fault g c =
+    err_then c.stopped.result (down_wants g.D.Area c.args.self.now.phase c.in-Down.recovery c.step-2.new.self c.in-Down.is c.step-2.result c.stopped.result (replies-last g c) (leaves-last g c))
+    (λ asks. down_failures g.D.Area c.args.self.now.phase c.in-Down.recovery c.step-2.new.self c.in-Down.is asks.1)
+
+pub returns-clause-faults : goal.returns-clause-faults
+returns-clause-faults g c =
+    let up = c.risen.ensures c.step-2.new.self c.replace.ensures.value in
+    subst (λ (p : Phase g.row.D.Denot g.D.Area). CountsPhase g.D.Area c.args.self.now.phase Recovered p) (sym up.1)
+    (risen_counts g.D.Area c.args.self.now.phase c.in-Down.recovery c.step-2.new.self c.in-Down.is c.step-2.result c.in_default-step.not-Err (calls-done g c) up.0 up.2)

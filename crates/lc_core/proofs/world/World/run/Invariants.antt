@@ -1,4 +1,5 @@
 use Rattle.std.proofs.Common.{◌≡◌, length, take}
+use Rattle.lc_core.specs.Faults.{CountsAll, phase_failures}
 use Rattle.lc_core.specs.Runs.{FollowsRun}
 use Rattle.lc_core.proofs.world.World.run.Given as goal
 
@@ -6,3 +7,4 @@ abbrev pub invariant-loop-event : goal.invariant-loop-event
 invariant-loop-event g l =
     (length l.replies.items ≡ l.event-index)
     × FollowsRun g.D.Area l.initial.self (take l.event-index l.events) l.replies.items l.self
+    × CountsAll l.replies.items (phase_failures g.D.Area l.initial.self.phase) (phase_failures g.D.Area l.self.phase)

@@ -1,4 +1,5 @@
 use Rattle.std.proofs.lemmas.Result.{IfOk-weaker}
+use Rattle.lc_core.proofs.Failures.{up_counts, up_still_failed}
 use Rattle.lc_core.proofs.Logged.{err_then}
 use Rattle.lc_core.proofs.Recoveries.{common_plain, up_follows, up_still, not_up}
 use Rattle.lc_core.proofs.world.World.step.Goals as goal
@@ -13,3 +14,11 @@ returns-in-Up-clause-follows g c = IfOk-weaker c.step.result _ _
 
 pub returns-in-Up-clause-err : goal.returns-in-Up-clause-err
 returns-in-Up-clause-err g c = err_then c.step.result c.step.ensures.err (up_still g.D.Area c.args.self.now.phase c.in-Up.up c.step.new.self c.in-Up.is)
+
+pub returns-in-Up-clause-faults : goal.returns-in-Up-clause-faults
+returns-in-Up-clause-faults g c = IfOk-weaker c.step.result _ _
+    (λ reply counts. up_counts g.D.Area c.args.self.now.phase c.in-Up.up reply c.step.new.self c.in-Up.is counts)
+    c.step.ensures.faults
+
+pub returns-in-Up-clause-no_fault : goal.returns-in-Up-clause-no_fault
+returns-in-Up-clause-no_fault g c = err_then c.step.result c.step.ensures.no_fault (up_still_failed g.D.Area c.args.self.now.phase c.in-Up.up c.step.new.self c.in-Up.is)

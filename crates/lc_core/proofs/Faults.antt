@@ -1,0 +1,97 @@
+-- Which replies tell of a failure, and what the calls of a device count.
+use Rattle.std.proofs.Common.{◌≡◌, ℕ, zero, suc, ◌+◌, Bool, true, false, List, [], ◌∷◌, map, Option, Some, None, slice_get, slice_set, refl, sym, ap, subst, ◌∙◌, true≢false}
+use Rattle.std.specs.Prelude.{option_map, if◌then◌else◌}
+use Rattle.std.proofs.lemmas.List.{map-set}
+use Rattle.std.proofs.lemmas.Option.{slice_get-map}
+use Rattle.lc_disk.specs.declared.area.Area.{Ghosts}
+use Rattle.lc_model.specs.declared.refusal.Refusal.{Refusal}
+use Rattle.lc_model.specs.declared.refusal.Refusal.TheVariants.{NotHere, Held, Writing, Unflushed, Behind}
+use Rattle.lc_model.specs.declared.reply.Reply.{Reply}
+use Rattle.lc_token.specs.declared.fault.TokenFault.{TokenFault}
+use Rattle.lc_token.specs.declared.fault.TokenFault.TheVariants.{NotHere as IsNotHere, Held as IsHeld, Writing as IsWriting, Unflushed as IsUnflushed, Behind as IsBehind, NoMemory}
+use Rattle.lc_core.specs.FaultReplies.{CountsFaults, TellsFault, failures_of, is_device_fault, is_fault}
+use Rattle.lc_core.specs.Faults.{CountsLogs, SameLogs, log_failures, logs_of}
+use Rattle.lc_core.specs.Journal.{reply_of}
+use Rattle.lc_core.specs.Log.{CallsOnce, IsCalled, area_of, is_failed}
+use Rattle.lc_core.specs.Places.{same_map_set, same_some}
+use Rattle.lc_core.specs.TokenRefused.{token_refusal}
+use Rattle.lc_core.specs.declared.log.Log.{Log}
+use Rattle.lc_core.specs.declared.log.Log.TheVariants.{Idle, Written, Synced, Opened, Failed, Taken}
+use Rattle.lc_core.specs.declared.node.Node.{Node}
+use Rattle.lc_core.specs.declared.running.Running.{Running}
+
+-- a token that stays tells of none
+pub token_no_fault : (fault : TokenFault) (refusal : Refusal) → token_refusal fault ≡ Some refusal → is_device_fault refusal ≡ false
+token_no_fault (IsNotHere segment) refusal is = sym (ap is_device_fault (same_some (NotHere segment) refusal is))
+token_no_fault IsHeld refusal is = sym (ap is_device_fault (same_some Held refusal is))
+token_no_fault IsWriting refusal is = sym (ap is_device_fault (same_some Writing refusal is))
+token_no_fault IsUnflushed refusal is = sym (ap is_device_fault (same_some Unflushed refusal is))
+token_no_fault (IsBehind applied seq) refusal is = sym (ap is_device_fault (same_some (Behind applied seq) refusal is))
+token_no_fault NoMemory refusal is = absurd cc
+
+module _ {D : Type 0} (a : Ghosts D) where
+  -- a log that has failed is answered by a failure, and no other
+  one_more : (new : Log D a) (taken count : ℕ) → Some (if is_failed a new then count + 1 else count) ≡ (if is_fault (reply_of a new taken) then Some (count + 1) else Some count)
+  one_more (Idle log) taken count = refl
+  one_more (Written log) taken count = refl
+  one_more (Synced log) taken count = refl
+  one_more (Opened log) taken count = refl
+  one_more (Failed log) taken count = refl
+  one_more Taken taken count = refl
+
+  called : (area : D) (new : Log D a) (taken : ℕ) → IsCalled a area new
+      → failures_of a new ≡ (if is_fault (reply_of a new taken) then Some (a.failures area + 1) else Some (a.failures area))
+  called area new taken call = ap (option_map a.failures) call.there ∙ ap (λ (n : ℕ). Some n) call.failures ∙ one_more new taken (a.failures area)
+
+  pub call_tells : (old new : Log D a) (taken : ℕ) → is_failed a old ≡ false → CallsOnce a old new → TellsFault a (reply_of a new taken) old new
+  call_tells (Idle log) new taken up call = called log.area new taken call
+  call_tells (Written log) new taken up call = called log.area new taken call
+  call_tells (Synced log) new taken up call = called log.area new taken call
+  call_tells (Opened log) new taken up call = called log.area new taken call
+  call_tells (Failed log) new taken up call = absurd (true≢false up)
+  call_tells Taken new taken up call = absurd (true≢false up)
+
+  has_area : (log : Log D a) → is_failed a log ≡ false → (area : D) × (area_of a log ≡ Some area)
+  has_area (Idle log) up = (log.area, refl)
+  has_area (Written log) up = (log.area, refl)
+  has_area (Synced log) up = (log.area, refl)
+  has_area (Opened log) up = (log.area, refl)
+  has_area (Failed log) up = absurd (true≢false up)
+  has_area Taken up = absurd (true≢false up)
+
+  -- what changes a node, and not its log, changes no log
+  pub logs_stay : (nodes : List (Node D a)) (n : ℕ) (old new : Node D a) → slice_get nodes n ≡ Some old → new.journal.log ≡ old.journal.log → logs_of a (slice_set nodes n new) ≡ logs_of a nodes
+  logs_stay nodes n old new at same = same_map_set (λ (node : Node D a). node.journal.log) nodes n old new at same
+
+  pub quiet : (old : Running D a) (reply : Reply) (new : Running D a) → is_fault reply ≡ false → SameLogs a old new → CountsLogs a old reply new
+  quiet old reply new plain same = record {
+    fault = λ is. absurd (true≢false (sym is ∙ plain));
+    none = λ _. ap (log_failures a) same;
+  }
+
+  -- a step of a flush at one node
+  module _ (nodes : List (Node D a)) (n : ℕ) (old new : Node D a) (reply : Reply) (at : slice_get nodes n ≡ Some old)
+      (tells : TellsFault a reply old.journal.log new.journal.log) where
+    log_at : slice_get (logs_of a nodes) n ≡ Some old.journal.log
+    log_at = slice_get-map (λ (node : Node D a). node.journal.log) nodes n ∙ ap (option_map (λ (node : Node D a). node.journal.log)) at
+
+    logs_are : logs_of a (slice_set nodes n new) ≡ slice_set (logs_of a nodes) n new.journal.log
+    logs_are = map-set (λ (node : Node D a). node.journal.log) nodes n new
+
+    told : (b : Bool) → is_fault reply ≡ b → failures_of a new.journal.log ≡ (if b then option_map (λ (count : ℕ). count + 1) (failures_of a old.journal.log) else failures_of a old.journal.log)
+    told b is = subst (λ (v : Bool). failures_of a new.journal.log ≡ (if v then option_map (λ (count : ℕ). count + 1) (failures_of a old.journal.log) else failures_of a old.journal.log)) is tells
+
+    pub flush_counts : is_failed a old.journal.log ≡ false → CountsFaults reply (log_failures a (logs_of a nodes)) (log_failures a (logs_of a (slice_set nodes n new)))
+    flush_counts up =
+        let area = has_area old.journal.log up in
+        let was : failures_of a old.journal.log ≡ Some (a.failures area.0) = ap (option_map a.failures) area.1 in
+        record {
+          fault = λ is. record {
+            at = n;
+            count = a.failures area.0;
+            was = slice_get-map (failures_of a) (logs_of a nodes) n ∙ ap (option_map (failures_of a)) log_at ∙ ap (λ (o : Option ℕ). Some o) was;
+            is = ap (log_failures a) logs_are ∙ map-set (failures_of a) (logs_of a nodes) n new.journal.log
+                ∙ ap (λ (o : Option ℕ). slice_set (log_failures a (logs_of a nodes)) n o) (told true is ∙ ap (option_map (λ (count : ℕ). count + 1)) was);
+          };
+          none = λ is. ap (log_failures a) logs_are ∙ same_map_set (failures_of a) (logs_of a nodes) n old.journal.log new.journal.log log_at (told false is);
+        }

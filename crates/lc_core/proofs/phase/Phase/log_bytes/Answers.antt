@@ -1,0 +1,27 @@
+use Rattle.std.proofs.Common.{◌≡◌, subst}
+use Rattle.lc_recover.specs.Recovery.{Recovering}
+use Rattle.lc_core.proofs.LogReads.{down_none, same_down, up_none, up_reads}
+use Rattle.lc_core.proofs.phase.Phase.log_bytes.Goals as goal
+
+pub returns-in-Down-clause-unknown : goal.returns-in-Down-clause-unknown
+returns-in-Down-clause-unknown g c = rw c.in-Down.is (λ there.
+    let none = c.log_bytes_of.ensures.unknown there in
+    (none.0, down_none g.D.Area c.in-Down.recovery c.log_bytes_of.new.recovery c.args.node none.1 there))
+
+pub returns-in-Down-clause-read : goal.returns-in-Down-clause-read
+returns-in-Down-clause-read g c = rw c.in-Down.is c.log_bytes_of.ensures.read
+
+pub returns-in-Up-clause-unknown : goal.returns-in-Up-clause-unknown
+returns-in-Up-clause-unknown g c = rw c.in-Up.is
+    (up_none g.D.Area c.in-Up.up.running c.log_bytes.new.self c.in-Up.up.segments c.args.node _ c.log_bytes.ensures.outside c.log_bytes.ensures.unknown)
+
+pub returns-in-Up-clause-read : goal.returns-in-Up-clause-read
+returns-in-Up-clause-read g c = rw c.in-Up.is
+    (up_reads g.D.Area c.in-Up.up.running c.log_bytes.new.self c.in-Up.up.segments c.args.node _ _ c.log_bytes.ensures.read)
+
+pub returns-in-Down-clause-down : goal.returns-in-Down-clause-down
+returns-in-Down-clause-down g c r is = (
+  c.in-Down.recovery,
+  c.in-Down.is,
+  subst (λ (n : Recovering g.row.D.Denot). n ≡ record c.in-Down.recovery { areas = n.areas }) (same_down g.D.Area c.log_bytes_of.new.recovery r is) c.log_bytes_of.ensures.same,
+)

@@ -1,0 +1,46 @@
+-- Which replies tell that a device has failed, and how often devices have failed then.
+use Rattle.std.specs.Prelude.{◌≡◌, ℕ, ◌+◌, Bool, true, false, List, Option, Some, option_map, slice_get, slice_set, if◌then◌else◌}
+use Rattle.lc_disk.specs.declared.area.Area.{Ghosts}
+use Rattle.lc_model.specs.declared.refusal.Refusal.{Refusal}
+use Rattle.lc_model.specs.declared.refusal.Refusal.TheVariants.{DeviceFault}
+use Rattle.lc_model.specs.declared.reply.Reply.{Reply}
+use Rattle.lc_model.specs.declared.reply.Reply.TheVariants.{Refused}
+use Rattle.lc_core.specs.Log.{area_of}
+use Rattle.lc_core.specs.declared.ending.Ending.{Ending}
+use Rattle.lc_core.specs.declared.ending.Ending.TheVariants.{Refused as IsRefused}
+use Rattle.lc_core.specs.declared.log.Log.{Log}
+
+-- the refusal that names a device
+abbrev pub is_device_fault : Refusal → Bool
+is_device_fault DeviceFault = true
+is_device_fault refusal = false
+
+-- the reply tells of a failure
+abbrev pub is_fault : Reply → Bool
+is_fault (Refused refusal) = is_device_fault refusal
+is_fault reply = false
+
+abbrev pub ends_in_fault : Ending → Bool
+ends_in_fault (IsRefused refusal) = is_device_fault refusal
+ends_in_fault ending = false
+
+-- of these counts one is one more, and the others are as they were
+pub record FailsOnce (olds news : List (Option ℕ)) : Type 0 where
+  pub at : ℕ
+  pub count : ℕ
+  pub was : slice_get olds at ≡ Some (Some count)
+  pub is : news ≡ slice_set olds at (Some (count + 1))
+
+-- just where the reply tells of a failure, a device has failed, once
+pub record CountsFaults (reply : Reply) (olds news : List (Option ℕ)) : Type 0 where
+  pub fault : is_fault reply ≡ true → FailsOnce olds news
+  pub none : is_fault reply ≡ false → news ≡ olds
+
+module _ {D : Type 0} (a : Ghosts D) where
+  -- how often the device of a log has failed, while it is not taken out
+  abbrev pub failures_of : Log D a → Option ℕ
+  failures_of log = option_map a.failures (area_of a log)
+
+  -- it has failed once more just where the reply tells of it
+  abbrev pub TellsFault : Reply → Log D a → Log D a → Type 0
+  TellsFault reply old new = failures_of new ≡ (if is_fault reply then option_map (λ count. count + 1) (failures_of old) else failures_of old)

@@ -1,0 +1,46 @@
+-- How often the devices of a store have failed, and what its replies tell of it.
+use Rattle.std.specs.Prelude.{◌≡◌, ℕ, List, [], ◌∷◌, ◌++◌, map, Option, Some}
+use Rattle.lc_disk.specs.declared.area.Area.{Ghosts}
+use Rattle.lc_model.specs.declared.reply.Reply.{Reply}
+use Rattle.lc_core.specs.FaultReplies.{CountsFaults, failures_of}
+use Rattle.lc_core.specs.declared.log.Log.{Log}
+use Rattle.lc_core.specs.declared.node.Node.{Node}
+use Rattle.lc_core.specs.declared.phase.Phase.{Phase}
+use Rattle.lc_core.specs.declared.phase.Phase.TheVariants.{Down, Up, Taken}
+use Rattle.lc_core.specs.declared.running.Running.{Running}
+
+-- reply by reply: each that tells of a failure tells of one, and no other failure there is
+abbrev pub CountsAll : List Reply → List (Option ℕ) → List (Option ℕ) → Type 0
+CountsAll [] olds news = news ≡ olds
+CountsAll (reply ∷ replies) olds news = (between : List (Option ℕ)) × CountsFaults reply olds between × CountsAll replies between news
+
+module _ {D : Type 0} (a : Ghosts D) where
+  -- the logs of nodes
+  abbrev pub logs_of : List (Node D a) → List (Log D a)
+  logs_of nodes = map (λ node. node.journal.log) nodes
+
+  -- no node's log has changed
+  abbrev pub SameLogs : Running D a → Running D a → Type 0
+  SameLogs old new = logs_of new.nodes.items ≡ logs_of old.nodes.items
+
+  -- how often the device of each has failed
+  abbrev pub log_failures : List (Log D a) → List (Option ℕ)
+  log_failures logs = map (failures_of a) logs
+
+  -- how often each of these areas has failed
+  abbrev pub area_failures : List D → List (Option ℕ)
+  area_failures areas = map (λ area. Some (a.failures area)) areas
+
+  -- those of the logs, and then those of the segments
+  abbrev pub phase_failures : Phase D a → List (Option ℕ)
+  phase_failures (Down recovery) = area_failures recovery.areas
+  phase_failures (Up up) = log_failures (logs_of up.running.nodes.items) ++ area_failures up.segments.items
+  phase_failures Taken = []
+
+  -- what a reply of running nodes tells of their devices
+  abbrev pub CountsLogs : Running D a → Reply → Running D a → Type 0
+  CountsLogs old reply new = CountsFaults reply (log_failures (logs_of old.nodes.items)) (log_failures (logs_of new.nodes.items))
+
+  -- and of a store of its areas
+  abbrev pub CountsPhase : Phase D a → Reply → Phase D a → Type 0
+  CountsPhase old reply new = CountsFaults reply (phase_failures old) (phase_failures new)

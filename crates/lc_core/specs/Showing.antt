@@ -1,0 +1,50 @@
+-- What a node's image of a segment shows.
+use Rattle.std.specs.Prelude.{◌≡◌, ℕ, ◌*◌, ◌&&◌, List, take, drop, find, Option, None, Some, if◌then◌else◌}
+use Rattle.lc_disk.specs.declared.area.Area.{Ghosts}
+use Rattle.lc_record.specs.Content.{Content, segment_of}
+use Rattle.lc_record.specs.Transaction.{Transaction, locks}
+use Rattle.lc_record.specs.declared.geometry.Geometry.{Geometry}
+use Rattle.lc_model.specs.History.{value}
+use Rattle.lc_model.specs.Machine.{seen}
+use Rattle.lc_model.specs.Refusals.{is_at, is_node, is_page, is_segment}
+use Rattle.lc_model.specs.State.{Setting, State}
+use Rattle.lc_model.specs.declared.refusal.Refusal.{Refusal}
+use Rattle.lc_model.specs.declared.refusal.Refusal.TheVariants.{Down as IsDown, Unknown}
+use Rattle.lc_core.specs.Numbers.{Numbers}
+use Rattle.lc_core.specs.Slots.{segment_to}
+use Rattle.lc_core.specs.World.{FitsWorld}
+use Rattle.lc_core.specs.declared.phase.Phase.{Phase}
+use Rattle.lc_core.specs.declared.phase.Phase.TheVariants.{Down, Up, Taken}
+use Rattle.lc_core.specs.declared.world.World.{World}
+
+-- the open transaction that has locked the segment for writing
+abbrev pub open_writer : ℕ → State → Option Transaction
+open_writer segment s = find (λ t. locks t segment) s.running
+
+-- the content of the history, with the writes of this transaction on top
+abbrev pub content_with : Setting → State → Option Transaction → Content
+content_with m s None = value m.start s.earlier s.history
+content_with m s (Some t) = seen m.start s t
+
+-- where the token is, the segment with the writes of the transaction that is open on it; elsewhere as the node has applied it
+abbrev pub image_of : Setting → State → Numbers → ℕ → ℕ → List ℕ
+image_of m s x node segment =
+    if is_at node (s.place segment) then segment_of segment (content_with m s (open_writer segment s))
+    else segment_to m s x.disks segment (x.applied node segment)
+
+-- 256 bytes
+abbrev pub page_of : List ℕ → ℕ → List ℕ
+page_of bytes page = take 256 (drop (page * 256) bytes)
+
+module _ {D : Type 0} (a : Ghosts D) where
+  -- why no page is shown: the store is down, or a number is outside its geometry
+  abbrev pub page_refusal : Phase D a → ℕ → ℕ → ℕ → Option Refusal
+  page_refusal (Down recovery) node segment page = Some IsDown
+  page_refusal (Up up) node segment page =
+      (let g = up.running.geometry in if is_node g node && is_segment g segment && is_page g page then None else Some Unknown)
+  page_refusal Taken node segment page = Some IsDown
+
+  -- these are the bytes, whatever it fits
+  abbrev pub ShowsPage : World D a → ℕ → ℕ → ℕ → List ℕ → Type 0
+  ShowsPage w node segment page bytes =
+      (m : Setting) (s : State) (x : Numbers) → FitsWorld a m w s x → bytes ≡ page_of (image_of m s x node segment) page

@@ -1,0 +1,44 @@
+//! What a store shows of its images.
+ghost use Rattle.std.specs.Prelude.{◌≡◌, ◌*◌, ◌<◌, None, Some, IfOk, IfErr, OnOk};
+ghost use Rattle.lc_core.specs.Showing.{page_of};
+
+use crate::Refusal;
+use crate::named::is_page_of;
+use crate::phase::Phase;
+use crate::world::World;
+use lc_disk::Area;
+use lc_page::PAGE_BYTES;
+
+impl<D: Area + Drop> World<D> {
+    ghost use Rattle.lc_core.specs.Showing.{page_refusal, ShowsPage};
+
+    /// The bytes of a page as a node has them, with those of a transaction that is open on it. It takes no memory.
+    ///
+    /// # Errors
+    ///
+    /// `Down` while the store is down; else `Unknown` where its geometry has no such node, segment or page.
+    pub fn page(&self, node: u16, segment: u32, page: u32) -> Result<&[u8], Refusal>
+        ensures shows { IfOk result (λ bytes. ShowsPage D.Area self.now node segment page bytes.now) }
+        ensures shown { OnOk result (page_refusal D.Area self.now.phase node segment page ≡ None) }
+        ensures refused { IfErr result (λ refusal. page_refusal D.Area self.now.phase node segment page ≡ Some refusal) }
+    {
+        let Phase::Up(up) = &self.phase else {
+            return Err(Refusal::Down);
+        };
+        if !is_page_of(&up.running.geometry, node, segment, page) {
+            return Err(Refusal::Unknown);
+        }
+        let here = &up.running.nodes[node as usize].desk.here;
+        let image = &here.slots[segment as usize - 1].image;
+        Ok(page_in(image.bytes(), page))
+    }
+}
+
+// The bytes of a page of a segment, as far as it has them.
+fn page_in(bytes: &[u8], page: u32) -> &[u8]
+    ensures { result.now ≡ page_of bytes.now page }
+{
+    let start = (page as usize * PAGE_BYTES).min(bytes.len());
+    let behind = &bytes[start..];
+    &behind[..PAGE_BYTES.min(behind.len())]
+}
