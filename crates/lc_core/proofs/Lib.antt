@@ -60,3 +60,4 @@ pub mod LogReads
 pub mod Faults
 pub mod Failures
 pub mod Zeroed
+pub mod Recovers

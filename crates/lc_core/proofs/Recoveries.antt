@@ -47,7 +47,7 @@ use Rattle.lc_core.specs.declared.running.Running.{Running}
 use Rattle.lc_core.proofs.Ordinary.{turns_refused}
 use Rattle.lc_core.proofs.Slotted.{Stays, slots_stay, stays_where}
 
-stepped_same : (a b : ℕ) → Stepped a ≡ Stepped b → a ≡ b
+pub stepped_same : (a b : ℕ) → Stepped a ≡ Stepped b → a ≡ b
 stepped_same a b same = ap (λ (reply : Reply). elim reply as (λ (reply : Reply). ℕ) [ Stepped steps ↦ steps | _ ↦ a ]) same
 
 -- what is refused at once where it is down

@@ -39,3 +39,4 @@ pub mod Fresh
 pub mod Blank
 pub mod Showing
 pub mod LogWords
+pub mod Recovers

@@ -1,5 +1,6 @@
 //! What a store does.
 ghost use Rattle.std.specs.Prelude.{◌≡◌, true, IfOk, OnErr};
+ghost use Rattle.lc_model.specs.declared.event.Event.TheVariants.{RecoverStep};
 ghost use Rattle.lc_core.specs.World.{is_common};
 
 use crate::phase::Phase;
@@ -11,6 +12,7 @@ use std::alloc::{AllocError, Global};
 impl<D: Area + Drop> World<D> {
     ghost use Rattle.lc_core.specs.World.{AsksIn, FollowsWorld, StillFitsWorld};
     ghost use Rattle.lc_core.specs.Faults.{CountsPhase, phase_failures};
+    ghost use Rattle.lc_core.specs.Recovers.{RecoversDown, RefusesAtOnce};
 
     /// An event that is no step of a page write or of a reset, and no stop. It makes at most one call of an area.
     ///
@@ -22,6 +24,10 @@ impl<D: Area + Drop> World<D> {
         ensures follows { IfOk result (λ reply. FollowsWorld D.Area self.old event.now reply self.new) }
         ensures memory { OnErr result (AsksIn D.Area self.old.phase event.now) }
         ensures err { OnErr result (StillFitsWorld D.Area self.old self.new) }
+
+        // Whatever the areas hold: what is refused at once, and what a step of a recovery answers.
+        ensures at_once { IfOk result (λ reply. RefusesAtOnce D.Area self.old.phase event.now reply self.new.phase) }
+        ensures recovers { event.now ≡ RecoverStep → IfOk result (λ reply. RecoversDown D.Area self.old.phase reply self.new.phase) }
 
         // How often the devices of the areas have failed: once more for each device fault that is answered, and not else.
         ensures faults { IfOk result (λ reply. CountsPhase D.Area self.old.phase reply self.new.phase) }

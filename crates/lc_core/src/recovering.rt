@@ -16,6 +16,7 @@ use std::alloc::{AllocError, Global};
 use std::mem;
 
 impl<D: Area + Drop> World<D> {
+    ghost use Rattle.lc_core.specs.Recovers.{RecoversDown, RefusesAtOnce};
     ghost use Rattle.lc_core.specs.World.{AsksIn, FollowsWorld, StillFitsWorld};
     ghost use Rattle.lc_core.specs.Faults.{CountsPhase, phase_failures};
 
@@ -26,6 +27,8 @@ impl<D: Area + Drop> World<D> {
         ensures err { OnErr result (StillFitsWorld D.Area self.old self.new) }
         ensures faults { IfOk result (λ reply. CountsPhase D.Area self.old.phase reply self.new.phase) }
         ensures no_fault { OnErr result (phase_failures D.Area self.new.phase ≡ phase_failures D.Area self.old.phase) }
+        ensures at_once { IfOk result (λ reply. RefusesAtOnce D.Area self.old.phase RecoverStep reply self.new.phase) }
+        ensures recovers { IfOk result (λ reply. RecoversDown D.Area self.old.phase reply self.new.phase) }
     {
         let Phase::Down(recovery) = &mut self.phase else {
             return Ok(Reply::Refused(Refusal::OutOfTurn));

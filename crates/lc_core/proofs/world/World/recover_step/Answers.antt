@@ -18,6 +18,8 @@ use Rattle.lc_model.specs.declared.refusal.Refusal.TheVariants.{OutOfTurn}
 use Rattle.lc_core.specs.Faults.{CountsPhase}
 use Rattle.lc_core.proofs.Failures.{StepCalls, down_failures, no_faults, phase_counts, risen_counts}
 use Rattle.lc_core.proofs.Recoveries.{FollowsPhase, StepLeaves, comes_up, down_same, not_down, down_follows, down_wants, same_still}
+use Rattle.lc_core.specs.Recovers.{RecoversDown}
+use Rattle.lc_core.proofs.Recovers.{IfOk-any, StepSays, down_asks, down_recovers, risen_recovers, up_refuses}
 use Rattle.lc_core.proofs.world.World.recover_step.Given.{Over}
 use Rattle.lc_core.proofs.world.World.recover_step.Goals as goal
 
@@ -174,3 +176,62 @@ returns-clause-faults g c =
     let up = c.risen.ensures c.step-2.new.self c.replace.ensures.value in
     subst (λ (p : Phase g.row.D.Denot g.D.Area). CountsPhase g.D.Area c.args.self.now.phase Recovered p) (sym up.1)
     (risen_counts g.D.Area c.args.self.now.phase c.in-Down.recovery c.step-2.new.self c.in-Down.is c.step-2.result c.in_default-step.not-Err (calls-done g c) up.0 up.2)
+
+pub returns-in_default-clause-recovers : goal.returns-in_default-clause-recovers
+returns-in_default-clause-recovers g c r is = absurd (c.in_default.not-Down r is)
+
+module _ (g : Over) (c : goal.After-reply_to g) where
+  says : StepSays g.D.Area c.in-Down.recovery c.step.new.self c.step.result
+  says = record {
+    geometry = c.step.ensures.geometry;
+    progress = c.step.ensures.progress;
+    steps = c.step.ensures.steps;
+    again = c.step.ensures.again;
+    no_call = c.step.ensures.no_call;
+    fault = c.step.ensures.fault;
+    merged = c.step.ensures.merged;
+    refused = c.step.ensures.refused;
+  }
+
+pub returns-then-not-is_last-clause-recovers : goal.returns-then-not-is_last-clause-recovers
+returns-then-not-is_last-clause-recovers g c =
+    down_recovers g.D.Area c.in-Down.recovery c.step.new.self c.args.self.now.phase c.in-Down.is c.step.result c.reply_to.result c.reply_to.ensures (says g c) (going g c)
+
+module _ (g : Over) (c : goal.After-drop-room-in-Err g) where
+  says-last : StepSays g.D.Area c.in-Down.recovery c.step-2.new.self c.step-2.result
+  says-last = record {
+    geometry = c.step-2.ensures.geometry;
+    progress = c.step-2.ensures.progress;
+    steps = c.step-2.ensures.steps;
+    again = c.step-2.ensures.again;
+    no_call = c.step-2.ensures.no_call;
+    fault = c.step-2.ensures.fault;
+    merged = c.step-2.ensures.merged;
+    refused = c.step-2.ensures.refused;
+  }
+
+pub returns-in-Err-clause-recovers : goal.returns-in-Err-clause-recovers
+returns-in-Err-clause-recovers g c =
+    down_recovers g.D.Area c.in-Down.recovery c.step-2.new.self c.args.self.now.phase c.in-Down.is c.step-2.result c.stopped.result (replies-last g c) (says-last g c)
+    (λ p is done. (let none : Ok p ≡ Err c.in-Err.fault = sym is ∙ c.in-Err.is in absurd cc))
+
+pub returns-clause-recovers : goal.returns-clause-recovers
+returns-clause-recovers g c =
+    let up = c.risen.ensures c.step-2.new.self c.replace.ensures.value in
+    let last : IsLast c.in-Down.recovery = c.is_last.ensures.0 c.if-not-is_last.false in
+    subst (λ (p : Phase g.row.D.Denot g.D.Area). RecoversDown g.D.Area c.args.self.now.phase Recovered p) (sym up.1)
+    (risen_recovers g.D.Area c.args.self.now.phase c.in-Down.recovery c.in-Down.is last up.0)
+
+pub returns-in_default-clause-at_once : goal.returns-in_default-clause-at_once
+returns-in_default-clause-at_once g c = up_refuses g.D.Area c.args.self.now.phase c.in_default.not-Down
+
+pub returns-then-not-is_last-clause-at_once : goal.returns-then-not-is_last-clause-at_once
+returns-then-not-is_last-clause-at_once g c =
+    IfOk-any c.reply_to.result (λ reply. down_asks g.D.Area c.args.self.now.phase c.in-Down.recovery c.in-Down.is reply (Down c.step.new.self))
+
+pub returns-in-Err-clause-at_once : goal.returns-in-Err-clause-at_once
+returns-in-Err-clause-at_once g c =
+    IfOk-any c.stopped.result (λ reply. down_asks g.D.Area c.args.self.now.phase c.in-Down.recovery c.in-Down.is reply (Down c.step-2.new.self))
+
+pub returns-clause-at_once : goal.returns-clause-at_once
+returns-clause-at_once g c = down_asks g.D.Area c.args.self.now.phase c.in-Down.recovery c.in-Down.is Recovered _

@@ -1,6 +1,8 @@
 use Rattle.std.proofs.lemmas.Result.{IfOk-weaker}
 use Rattle.lc_core.proofs.Failures.{up_counts, up_still_failed}
 use Rattle.lc_core.proofs.Logged.{err_then}
+use Rattle.lc_core.proofs.Recovers.{IfOk-any, down_refuses, up_asks}
+use Rattle.lc_core.specs.declared.phase.Phase.TheVariants.{Up}
 use Rattle.lc_core.proofs.Recoveries.{common_plain, up_follows, up_still, not_up}
 use Rattle.lc_core.proofs.world.World.step.Goals as goal
 
@@ -22,3 +24,16 @@ returns-in-Up-clause-faults g c = IfOk-weaker c.step.result _ _
 
 pub returns-in-Up-clause-no_fault : goal.returns-in-Up-clause-no_fault
 returns-in-Up-clause-no_fault g c = err_then c.step.result c.step.ensures.no_fault (up_still_failed g.D.Area c.args.self.now.phase c.in-Up.up c.step.new.self c.in-Up.is)
+
+pub returns-in-Up-clause-at_once : goal.returns-in-Up-clause-at_once
+returns-in-Up-clause-at_once g c = IfOk-any c.step.result
+    (λ reply. up_asks g.D.Area c.args.self.now.phase c.in-Up.up c.in-Up.is c.args.event.now c.in_default.not-RecoverStep reply (Up (record c.in-Up.up { running = c.step.new.self })))
+
+pub returns-in-Up-clause-recovers : goal.returns-in-Up-clause-recovers
+returns-in-Up-clause-recovers g c is = absurd (c.in_default.not-RecoverStep is)
+
+pub returns-in_default-phase-clause-at_once : goal.returns-in_default-phase-clause-at_once
+returns-in_default-phase-clause-at_once g c = down_refuses g.D.Area c.args.self.now.phase c.args.event.now c.in_default-phase.not-Up c.in_default.not-RecoverStep
+
+pub returns-in_default-phase-clause-recovers : goal.returns-in_default-phase-clause-recovers
+returns-in_default-phase-clause-recovers g c is = absurd (c.in_default.not-RecoverStep is)

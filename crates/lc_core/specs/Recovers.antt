@@ -1,0 +1,61 @@
+-- What a step of a recovery answers, whatever its areas hold.
+use Rattle.std.specs.Prelude.{◌≡◌, ◌⊎◌, ℕ, ◌+◌, Bool, true, false, List, map, Option, None, Some}
+use Rattle.lc_disk.specs.declared.area.Area.{Ghosts}
+use Rattle.lc_record.specs.Content.{Content}
+use Rattle.lc_model.specs.Merge.{Store, MergesTo}
+use Rattle.lc_model.specs.declared.event.Event.{Event}
+use Rattle.lc_model.specs.declared.event.Event.TheVariants.{RecoverStep}
+use Rattle.lc_model.specs.declared.refusal.Refusal.{Refusal}
+use Rattle.lc_model.specs.declared.refusal.Refusal.TheVariants.{DeviceFault, Down as IsDown, OutOfTurn}
+use Rattle.lc_model.specs.declared.reply.Reply.{Reply}
+use Rattle.lc_model.specs.declared.reply.Reply.TheVariants.{Stepped, Recovered, Refused}
+use Rattle.lc_recover.specs.Fault.{IsRefusal}
+use Rattle.lc_recover.specs.Reads.{AreHonest, store_of}
+use Rattle.lc_recover.specs.Recovery.{Recovering, begun, IsLast, IsMergeNext}
+use Rattle.lc_recover.specs.declared.fault.RecoverFault.{RecoverFault}
+use Rattle.lc_core.specs.Recovering.{refusal_to}
+use Rattle.lc_core.specs.declared.phase.Phase.{Phase}
+use Rattle.lc_core.specs.declared.phase.Phase.TheVariants.{Down, Up, Taken}
+use Rattle.lc_core.specs.declared.up.Up.{Up as Rising}
+
+-- the store merges, and the reply is a step; or it is refused, and so is the reply
+abbrev pub AnswersMerge : Store → Reply → Type 0
+AnswersMerge store reply =
+    ((content : Content) × (numbers : ℕ → ℕ) × MergesTo store content numbers × ((steps : ℕ) × (reply ≡ Stepped steps)))
+    ⊎ ((fault : RecoverFault) × (refusal : Refusal) × IsRefusal store fault × (refusal_to fault ≡ Some refusal) × (reply ≡ Refused refusal))
+
+-- the call was made, or the device failed
+abbrev pub AnswersCall : Reply → Type 0
+AnswersCall reply = ((steps : ℕ) × (reply ≡ Stepped steps)) ⊎ ((reply ≡ Recovered) ⊎ (reply ≡ Refused DeviceFault))
+
+abbrev pub is_recovery : Event → Bool
+is_recovery RecoverStep = true
+is_recovery event = false
+
+module _ {D : Type 0} (a : Ghosts D) where
+  -- a step is counted, and after a refusal the recovery begins again; up comes only what has made its last step
+  pub record AnswersRecovery (r : Recovering D) (reply : Reply) (new : Phase D a) : Type 0 where
+    pub stepped : (steps : ℕ) → reply ≡ Stepped steps →
+        (steps ≡ r.steps + 1) × ((later : Recovering D) × (new ≡ Down later) × (later.geometry ≡ r.geometry) × (later.steps ≡ steps))
+    pub recovered : reply ≡ Recovered → IsLast r × ((up : Rising D a) × (new ≡ Up up))
+    pub refused : (refusal : Refusal) → reply ≡ Refused refusal → (areas : List D) × (new ≡ Down (begun r.geometry areas))
+    -- the merge is of what the areas read as
+    pub merged : IsMergeNext r → AreHonest a r.areas → AnswersMerge (store_of r.geometry (map a.now r.areas)) reply
+    pub called : (IsMergeNext r → ⊥) → AnswersCall reply
+
+  -- so does a store that is down
+  abbrev pub RecoversDown : Phase D a → Reply → Phase D a → Type 0
+  RecoversDown old reply new = (r : Recovering D) → old ≡ Down r → AnswersRecovery r reply new
+
+  -- why a store refuses an event at once: only one that is down recovers, and it does nothing else
+  abbrev pub at_once : Phase D a → Bool → Option Refusal
+  at_once (Down r) true = None
+  at_once (Down r) false = Some IsDown
+  at_once (Up up) true = Some OutOfTurn
+  at_once (Up up) false = None
+  at_once Taken true = Some OutOfTurn
+  at_once Taken false = Some IsDown
+
+  -- that is the reply, and nothing changes
+  abbrev pub RefusesAtOnce : Phase D a → Event → Reply → Phase D a → Type 0
+  RefusesAtOnce old event reply new = (refusal : Refusal) → at_once old (is_recovery event) ≡ Some refusal → (reply ≡ Refused refusal) × (new ≡ old)
