@@ -74,6 +74,8 @@ mod records_tests;
 #[cfg(test)]
 mod script;
 #[cfg(test)]
+mod shown_tests;
+#[cfg(test)]
 mod tests;
 #[cfg(test)]
 mod transaction_tests;
