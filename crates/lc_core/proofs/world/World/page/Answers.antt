@@ -6,6 +6,15 @@ use Rattle.lc_core.specs.Showing.{image_of, page_of}
 use Rattle.lc_core.specs.World.{FitsPhase}
 use Rattle.lc_core.proofs.world.World.page.Goals as goal
 
+pub index-requires-2 : goal.index-requires-2
+index-requires-2 g c =
+    let w = c.in-Up.up.running in
+    let node = c.index.result.now in
+    let known = page_known w.geometry c.args.node c.args.segment c.args.page (sym c.if-not-is_page_of.ensures) in
+    let within : c.args.node < w.nodes.len = omega (arith, w.all_nodes, known.0) in
+    let at = slice_get_read w.nodes.items w.nodes.len c.args.node node w.nodes.ok.0 within c.index.ensures in
+    omega (arith, (w.whole c.args.node node at).slots, known.1, known.2)
+
 pub returns-clause-shows : goal.returns-clause-shows
 returns-clause-shows g c = λ m s x fits.
     let w = c.in-Up.up.running in
