@@ -130,6 +130,11 @@ same_writes x n segment number (Applied last) = refl
 same_writes x n segment number HeldBack = refl
 same_writes x n segment number Ignored = refl
 
+same_known : (x : Numbers) (n segment number : ℕ) (answer : Received) → (received_numbers x n segment number answer).known ≡ x.known
+same_known x n segment number (Applied last) = refl
+same_known x n segment number HeldBack = refl
+same_known x n segment number Ignored = refl
+
 may_answer : (answer : Received) → may_deliver (reply_of answer) ≡ true
 may_answer (Applied last) = refl
 may_answer HeldBack = refl
@@ -139,7 +144,7 @@ module _ {D : Type 0} (a : Ghosts D) where
   -- a node that receives a new part
   pub delivers : (m : Setting) (n : ℕ) (s : State) (x : Numbers) (sender number segment : ℕ) (r : Record) (answer : Received) (old : Node D a) (new : Desk) → Sound m.geometry s
       → FitsNode a m n old s x → HasNewPart m s x sender number segment n r → FollowsReceive segment r old.desk answer new
-      → GoesOn a m n (Deliver sender number segment n) s x (reply_of answer) (record { desk = new; journal = old.journal })
+      → GoesOn a m n (Deliver sender number segment n) s x (reply_of answer) (record { desk = new; journal = old.journal; known = old.known })
   delivers m n s x sender number segment r answer old new sound h part follows =
       let first = part.first in
       let acked = part.acked in
@@ -159,12 +164,14 @@ module _ {D : Type 0} (a : Ghosts D) where
           desks = beside_open m n s s (still n s);
           logs = logs_received m n s x segment part.own answer;
           slots = aside_received m n s x segment part.own answer;
+          known = λ other any differ. ap (λ f. f other any) (same_known x n segment part.own answer);
         };
         fits = record {
           desk = step.1;
           slots = step.2;
           journal = let w = old.journal in log_received a m n n s x segment part.own answer w.log w.records w.dropped w.trimmed w.taken w.acked h.journal;
           room = h.room;
+          known = λ any first last. h.known any first last ∙ sym (ap (λ f. f n any) (same_known x n segment part.own answer));
         };
         phase = refl;
         places = λ other differ. refl;

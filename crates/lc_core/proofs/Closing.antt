@@ -50,16 +50,16 @@ entry_found node thread (e ∷ es) t is = entry_first node thread es t (entry_fo
 module _ {D : Type 0} (a : Ghosts D) (m : Setting) (n thread : ℕ) (s : State) (x : Numbers) (sound : Sound m.geometry s) (old : Node D a) (h : FitsNode a m n old s x) where
   -- without a reservation nothing changes
   pub none_closes : (seat : Seat) → slice_get old.desk.seats.items thread ≡ Some seat → (new : Desk) → CountsSeat thread old.desk None new
-      → GoesOn a m n (Close n thread) s x (Refused OutOfTurn) (record { desk = new; journal = old.journal })
+      → GoesOn a m n (Close n thread) s x (Refused OutOfTurn) (record { desk = new; journal = old.journal; known = old.known })
   none_closes seat at new counts =
       let none = not_unclosed old.desk.here n thread _ s seat (h.desk.threads thread seat at) (counts.0 seat at) in
       stays_so a m n (Close n thread) s x (Refused OutOfTurn) (close-no_turn m s n thread none)
       (settled_by m s x (Close n thread) (Refused OutOfTurn) (λ e. absurd cc) (λ answer is. absurd cc)) refl
-      (record { desk = rw (counts.1, counts.2) h.desk; slots = rw counts.1 h.slots; journal = h.journal; room = h.room })
+      (record { desk = rw (counts.1, counts.2) h.desk; slots = rw counts.1 h.slots; journal = h.journal; room = h.room; known = h.known })
 
   module _ (number : ℕ) (counted new : Desk) (journal : Journal D a) (counts : CountsSeat thread old.desk (Some number) counted) (closes : Closes thread counted new)
       (alike : the_images.IsSameBeside counted.here new.here) (shuts : Shuts a old.journal number journal) (group : journal.group ≡ old.journal.group) where
-    pub closes_one : GoesOn a m n (Close n thread) s x Accepted (record { desk = new; journal = journal })
+    pub closes_one : GoesOn a m n (Close n thread) s x Accepted (record { desk = new; journal = journal; known = old.known })
     closes_one =
         let tx = counts.0 in
         let fits = h.desk.threads thread (Reserved tx number) counts.1 in
@@ -90,6 +90,7 @@ module _ {D : Type 0} (a : Ghosts D) (m : Setting) (n thread : ℕ) (s : State) 
               trimmed = logs.trimmed;
             };
             slots = aside_closed m n thread s x t sound fits.found;
+            known = λ other segment differ. refl;
           };
           fits = record {
             desk = closes m n s (rw seats desk) fits.unclosed_is;
@@ -107,6 +108,7 @@ module _ {D : Type 0} (a : Ghosts D) (m : Setting) (n thread : ℕ) (s : State) 
               taken_is = shut.taken_is;
             };
             room = rw group h.room;
+            known = h.known;
           };
           phase = refl;
           places = λ segment differ. refl;

@@ -8,7 +8,7 @@ use Rattle.std.proofs.lemmas.List.{length-map}
 use Rattle.std.proofs.lemmas.Option.{slice_get-map, slice_get_within}
 use Rattle.std.proofs.lemmas.List.Elements.{All-nil, All-head, All-tail, All-map, All-filter, All-from_recursion, All-weaker}
 use Rattle.lc_log.specs.LogText.{IsWhole}
-use Rattle.lc_page.specs.PageVector.{entry_at, touched_at}
+use Rattle.lc_page.specs.PageVector.{entry_at, entry_text, touched_at}
 use Rattle.lc_page.specs.declared.entry.Entry.{Entry}
 use Rattle.lc_range.specs.RangeSet.{Has, IsCanonical}
 use Rattle.lc_range.specs.declared.range.Range.{Range}
@@ -161,7 +161,7 @@ module _ (n i segment : ℕ) (t : Transaction) (set : sets segment t ≡ true) w
       ] whole
 
   -- none that is closed and stands behind it sets the segment
-  none_behind : (es : History) → IsWellFormed t → All IsWellFormed (transactions es) → All (IsClosedBefore (entry t false)) es → setting segment (closed_of es) ≡ 0
+  pub none_behind : (es : History) → IsWellFormed t → All IsWellFormed (transactions es) → All (IsClosedBefore (entry t false)) es → setting segment (closed_of es) ≡ 0
   none_behind es well wells before =
       let Unset : Transaction → Type 0 = λ u. sets segment u ≡ false in
       none-pass (sets segment) (closed_of es)
@@ -211,7 +211,7 @@ unspent_of m n i segment s x t sound found whole set =
 
 -- Positions
 
-same_truth : (a b : Bool) → (a ≡ true → b ≡ true) → (b ≡ true → a ≡ true) → a ≡ b
+pub same_truth : (a b : Bool) → (a ≡ true → b ≡ true) → (b ≡ true → a ≡ true) → a ≡ b
 same_truth true b there back = sym (there refl)
 same_truth false true there back = back refl
 same_truth false false there back = refl
@@ -234,14 +234,14 @@ set_drop (suc n) k [] = refl
 set_drop (suc n) k (mark ∷ marks) = (let same : suc (n + k) ≡ suc n + k = omega arith in set_drop n k marks ∙ ap (λ j. all_set j 1 (mark ∷ marks)) same)
 
 -- a page has a set position just where the segment has one there
-on_place : (segment page : ℕ) (t : Transaction) → sets_on segment page t ≡ true
+pub on_place : (segment page : ℕ) (t : Transaction) → sets_on segment page t ≡ true
     → (k : ℕ) × (page * 256 ≤ k) × (k < page * 256 + 256) × (all_set k 1 (segment_of segment t.marks) ≡ true)
 on_place segment page t set =
     let at : (k : ℕ) × (all_set k 1 (take 256 (drop (page * 256) (segment_of segment t.marks))) ≡ true) = set-place (take 256 (drop (page * 256) (segment_of segment t.marks))) set in
     let one : (at.0 < 256) × (all_set at.0 1 (drop (page * 256) (segment_of segment t.marks)) ≡ true) = set_take 256 at.0 (drop (page * 256) (segment_of segment t.marks)) at.1 in
     (page * 256 + at.0, omega arith, omega (arith, one.0), sym (set_drop (page * 256) at.0 (segment_of segment t.marks)) ∙ one.1)
 
-place_on : (segment page k : ℕ) (t : Transaction) → page * 256 ≤ k → k < page * 256 + 256 → all_set k 1 (segment_of segment t.marks) ≡ true → sets_on segment page t ≡ true
+pub place_on : (segment page k : ℕ) (t : Transaction) → page * 256 ≤ k → k < page * 256 + 256 → all_set k 1 (segment_of segment t.marks) ≡ true → sets_on segment page t ≡ true
 place_on segment page k t from to set =
     let same : page * 256 + (k - page * 256) ≡ k = omega arith in
     place-set (take 256 (drop (page * 256) (segment_of segment t.marks))) (k - page * 256)
@@ -249,7 +249,7 @@ place_on segment page k t from to set =
     (set_drop (page * 256) (k - page * 256) (segment_of segment t.marks) ∙ ap (λ j. all_set j 1 (segment_of segment t.marks)) same ∙ set))
 
 -- what sets nothing of a segment sets nothing on its pages
-unset_on : (segment page : ℕ) (t : Transaction) → sets segment t ≡ false → sets_on segment page t ≡ false
+pub unset_on : (segment page : ℕ) (t : Transaction) → sets segment t ≡ false → sets_on segment page t ≡ false
 unset_on segment page t unset = false_from_ne_true (sets_on segment page t) (λ set.
     let at = on_place segment page t set in
     true≢false (sym (place-set (segment_of segment t.marks) at.0 at.3) ∙ unset))
@@ -272,7 +272,7 @@ has_named segment k (r ∷ rs) (inr later) = or_right (r.segment == segment) (na
 abbrev meets : ℕ → ℕ → ℕ → Range → Bool
 meets segment from to r = (r.segment == segment) && (nat_lt r.offset to && nat_lt from (r.offset + r.len))
 
-meets_has : (segment from to : ℕ) (ranges : List Range) → IsCanonical ranges → from < to → list_any (meets segment from to) ranges ≡ true
+pub meets_has : (segment from to : ℕ) (ranges : List Range) → IsCanonical ranges → from < to → list_any (meets segment from to) ranges ≡ true
     → (k : ℕ) × (from ≤ k) × (k < to) × Has ranges segment k
 meets_has segment from to [] canonical some named = absurd (true≢false (sym named))
 meets_has segment from to (r ∷ rs) canonical some named = elim (or_cases (meets segment from to r) (list_any (meets segment from to) rs) named) [
@@ -289,7 +289,7 @@ meets_has segment from to (r ∷ rs) canonical some named = elim (or_cases (meet
   | inr later ↦ (let behind : (k : ℕ) × (from ≤ k) × (k < to) × Has rs segment k = meets_has segment from to rs canonical.2 some later in (behind.0, behind.1, behind.2, inr behind.3))
 ]
 
-has_meets : (segment from to k : ℕ) (ranges : List Range) → from ≤ k → k < to → Has ranges segment k → list_any (meets segment from to) ranges ≡ true
+pub has_meets : (segment from to k : ℕ) (ranges : List Range) → from ≤ k → k < to → Has ranges segment k → list_any (meets segment from to) ranges ≡ true
 has_meets segment from to k [] above below has = absurd has
 has_meets segment from to k (r ∷ rs) above below (inl own) =
     let begins : r.offset < to = omega (arith, below, own.1) in
@@ -368,6 +368,8 @@ module _ (m : Setting) (n i : ℕ) (s : State) (x : Numbers) (t : Transaction) (
     touched = λ page within. h.touched page within
         ∙ sym (ap (λ b. if b then max (x.touched segment page) (token_number s x segment + 1) else x.touched segment page) (unset_on segment page t unset));
     stable_is = h.stable_is;
+    text_is = h.text_is;
+    uncounted = h.uncounted;
   }
 
   applied_unset : (segment : ℕ) → sets segment t ≡ false → y.applied n segment ≡ x.applied n segment
@@ -409,6 +411,16 @@ module _ (m : Setting) (n i : ℕ) (s : State) (x : Numbers) (t : Transaction) (
           ∙ elim (sets_on segment page t) as (λ b. (if b then touched_at (entry_at old.pages page) (old.seq + 1) else entry_at old.pages page).stable ≡ stable x segment page) [
             | true ↦ h.stable_is page within
             | false ↦ h.stable_is page within
+          ];
+      text_is = λ page within. ap entry_text (entry page within)
+          ∙ elim (sets_on segment page t) as (λ b. entry_text (if b then touched_at (entry_at old.pages page) (old.seq + 1) else entry_at old.pages page) ≡ x.texts segment page) [
+            | true ↦ h.text_is page within
+            | false ↦ h.text_is page within
+          ];
+      uncounted = λ page within. ap (λ (e : Entry). e.uncommitted) (entry page within)
+          ∙ elim (sets_on segment page t) as (λ b. (if b then touched_at (entry_at old.pages page) (old.seq + 1) else entry_at old.pages page).uncommitted ≡ 0) [
+            | true ↦ h.uncounted page within
+            | false ↦ h.uncounted page within
           ];
     }
       where

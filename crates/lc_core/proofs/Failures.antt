@@ -22,6 +22,7 @@ use Rattle.lc_recover.proofs.Images.{count-areas}
 use Rattle.lc_core.specs.FaultReplies.{CountsFaults, FailsOnce, failures_of, is_fault}
 use Rattle.lc_core.specs.Faults.{CountsAll, CountsPhase, SameLogs, area_failures, log_failures, logs_of, phase_failures}
 use Rattle.lc_core.specs.Log.{area_of}
+use Rattle.lc_core.specs.Pages.{areas_of}
 use Rattle.lc_core.specs.Places.{same_map_set}
 use Rattle.lc_core.specs.Recovering.{ComesUp, RepliesTo}
 use Rattle.lc_core.specs.declared.log.Log.{Log}
@@ -130,7 +131,7 @@ module _ {D : Type 0} (a : Ghosts D) where
   up_failures r up came =
       let counted : length r.areas ≡ area_count r.geometry = count-areas a r.geometry r.areas came.lengths in
       let number : length up.running.nodes.items ≡ r.geometry.nodes = sym up.running.nodes.ok.0 ∙ up.running.all_nodes ∙ ap (λ (g : Geometry). g.nodes) came.same_geometry in
-      ap (λ (os : List (Option ℕ)). os ++ area_failures a up.segments.items)
+      ap (λ (os : List (Option ℕ)). os ++ area_failures a (areas_of up.segments.items))
       (fronts up.running.nodes.items r.areas came.log_areas (omega (arith, counted, number)) ∙ ap (λ (n : ℕ). area_failures a (take n r.areas)) number)
       ∙ ap (λ (areas : List D). area_failures a (take r.geometry.nodes r.areas) ++ area_failures a areas) came.segments
       ∙ sym (map-append failures_at (take r.geometry.nodes r.areas) (drop r.geometry.nodes r.areas))
@@ -149,7 +150,7 @@ module _ {D : Type 0} (a : Ghosts D) where
   up_counts old up reply new is counts = subst (λ (q : Phase D a). CountsPhase a q reply (Up (record up { running = new }))) (sym is) (beside counts)
     where
       rest : List (Option ℕ)
-      rest = area_failures a up.segments.items
+      rest = area_failures a (areas_of up.segments.items)
 
       get_front : (xs ys : List (Option ℕ)) (k : ℕ) (x : Option ℕ) → slice_get xs k ≡ Some x → slice_get (xs ++ ys) k ≡ Some x
       get_front [] ys k x got = absurd cc
@@ -174,4 +175,4 @@ module _ {D : Type 0} (a : Ghosts D) where
 
   pub up_still_failed : (old : Phase D a) (up : Rising D a) (new : Running D a) → old ≡ Up up → SameLogs a up.running new → phase_failures a (Up (record up { running = new })) ≡ phase_failures a old
   up_still_failed old up new is same =
-      ap (λ (logs : List (Log D a)). log_failures a logs ++ area_failures a up.segments.items) same ∙ ap (phase_failures a) (sym is)
+      ap (λ (logs : List (Log D a)). log_failures a logs ++ area_failures a (areas_of up.segments.items)) same ∙ ap (phase_failures a) (sym is)

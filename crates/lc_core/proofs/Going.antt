@@ -112,7 +112,7 @@ module _ {D : Type 0} (a : Ghosts D) where
         row = row;
         settled = settled;
         turns = turns;
-        aside = record { desks = beside_open m n s s same; logs = logs_open m n s s x same; slots = aside_open m n s s x same };
+        aside = record { desks = beside_open m n s s same; logs = logs_open m n s s x same; slots = aside_open m n s s x same; known = λ other segment differ. refl };
         fits = fits;
         phase = refl;
         places = λ segment differ. refl;
@@ -125,7 +125,7 @@ module _ {D : Type 0} (a : Ghosts D) where
       (settled : Settled m s x event reply) (turns : Turns m s x event reply x) (old : Node D a) (h : FitsNode a m n old s x) where
     -- by a change of the transactions
     pub by_desk : (new : Desk) → SameButOpen n s after → the_images.IsSameBeside old.desk.here new.here → FitsDesk m n new.here new.seats.items after
-        → GoesOn a m n event s x reply (record { desk = new; journal = old.journal })
+        → GoesOn a m n event s x reply (record { desk = new; journal = old.journal; known = old.known })
     by_desk new same seen fits = record {
       after = after;
       next = x;
@@ -136,12 +136,14 @@ module _ {D : Type 0} (a : Ghosts D) where
         desks = beside_open m n s after same;
         logs = logs_open m n s after x same;
         slots = aside_open m n s after x same;
+        known = λ other segment differ. refl;
       };
       fits = record {
         desk = fits;
         slots = slots_alike m n old.desk.here new.here after x seen (slots_same m n (besides_of old.desk.here) s after x same.earlier same.history h.slots);
         journal = journal_open m n old.journal s x after same h.journal;
         room = h.room;
+        known = h.known;
       };
       phase = same.phase;
       places = λ segment differ. ap (λ f. f segment) same.place;
@@ -152,7 +154,7 @@ module _ {D : Type 0} (a : Ghosts D) where
 
     -- by a call of the log
     pub by_log : (new : Journal D a) → SameButLog n s after → new.group.room ≡ old.journal.group.room → FitsJournal a m n new after x
-        → GoesOn a m n event s x reply (record { desk = old.desk; journal = new })
+        → GoesOn a m n event s x reply (record { desk = old.desk; journal = new; known = old.known })
     by_log new same room fits = record {
       after = after;
       next = x;
@@ -163,12 +165,14 @@ module _ {D : Type 0} (a : Ghosts D) where
         desks = beside_logged m n s after same;
         logs = logs_logged m n s after x same;
         slots = aside_logged m n s after x same;
+        known = λ other segment differ. refl;
       };
       fits = record {
         desk = desk_logged m n old.desk s after same h.desk;
         slots = slots_same m n (besides_of old.desk.here) s after x same.earlier same.history h.slots;
         journal = fits;
         room = room ∙ h.room;
+        known = h.known;
       };
       phase = same.phase;
       places = λ segment differ. ap (λ f. f segment) same.place;

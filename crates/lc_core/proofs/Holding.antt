@@ -1,11 +1,12 @@
 -- Who holds a segment: the seats of a node against the machine.
 use Rattle.std.proofs.Common.{◌≡◌, ◌≢◌, ℕ, Bool, true, false, not, ◌&&◌, ◌||◌, List, [], ◌∷◌, ◌++◌, map, filter, find, get_or, All, Some, None, refl, sym, ap, subst, ◌∙◌, inl, inr, arith, true≢false}
-use Rattle.std.specs.Prelude.{slice_get, if◌then◌else◌}
+use Rattle.std.specs.Prelude.{◌↔◌, IsTrue, slice_get, if◌then◌else◌}
 use Rattle.std.specs.List.{list_any}
 use Rattle.std.proofs.lemmas.Bool.{cases_Bool, false_from_ne_true, true_from_ne_false, or_right, or_from}
 use Rattle.std.proofs.lemmas.List.Elements.{All-head, All-tail, All-append, All-map, All-filter}
-use Rattle.lc_record.specs.Content.{Content}
-use Rattle.lc_record.specs.Transaction.{Transaction, is_member, locks, holds}
+use Rattle.lc_range.specs.RangeSet.{Has}
+use Rattle.lc_record.specs.Content.{Content, segment_of}
+use Rattle.lc_record.specs.Transaction.{Transaction, all_set, is_member, locks, holds}
 use Rattle.lc_record.specs.declared.geometry.Geometry.{Geometry}
 use Rattle.lc_record.proofs.LockLemmas.{lock_holds}
 use Rattle.lc_model.specs.History.{Entry, History, value}
@@ -89,6 +90,7 @@ pub record IsHolder (node i : ℕ) (tx : Tx) (s : State) : Type 0 where
   pub found : find (is_by node i) (holders s) ≡ Some transaction
   pub locked_are : transaction.locked ≡ tx.locked.items
   pub reading_are : transaction.reading ≡ tx.reading.items
+  pub set_is : (segment k : ℕ) → Has tx.set segment k ↔ IsTrue (all_set k 1 (segment_of segment transaction.marks))
 
 pub seat-holds : (here : Here) (node i : ℕ) (content : Content) (s : State) (seat : Seat) (tx : Tx) → FitsSeat here node i content s seat → holder_of (Some seat) ≡ Some tx → IsHolder node i tx s
 seat-holds here node i content s Free tx fits has = absurd cc
@@ -97,15 +99,17 @@ seat-holds here node i content s (Open other) tx fits has = subst (λ x. IsHolde
   found = find-left (is_by node i) s.running (unclosed s.history) fits.transaction fits.running;
   locked_are = fits.stands.locked_are;
   reading_are = fits.stands.reading_are;
+  set_is = fits.stands.set_is;
 })
 seat-holds here node i content s (Reserved other number) tx fits has = subst (λ x. IsHolder node i x s) (same_some other tx has) (record {
   transaction = fits.transaction;
   found = find-right (is_by node i) s.running (unclosed s.history) fits.running ∙ fits.found;
   locked_are = fits.locked_are;
   reading_are = fits.reading_are;
+  set_is = fits.set_is;
 })
 
-free-none : (node i : ℕ) (s : State) → running_of node i s ≡ None → has_unclosed node i s ≡ false → All (λ u. is_by node i u ≡ false) (holders s)
+pub free-none : (node i : ℕ) (s : State) → running_of node i s ≡ None → has_unclosed node i s ≡ false → All (λ u. is_by node i u ≡ false) (holders s)
 free-none node i s running closed =
     All-append (λ u. is_by node i u ≡ false) s.running (unclosed s.history) (not_found (is_by node i) s.running running) (none-unclosed (is_by node i) s.history closed)
 

@@ -26,6 +26,7 @@ use Rattle.lc_recover.specs.Stage.{OneCall}
 use Rattle.lc_recover.proofs.SameArea.{same-functions}
 use Rattle.lc_core.specs.Desk.{FitsDesk}
 use Rattle.lc_core.specs.Journal.{FitsLog}
+use Rattle.lc_trunc.specs.KnownClean.{known as known_of}
 use Rattle.lc_core.specs.Log.{Stands, area_of, is_failed}
 use Rattle.lc_core.specs.LogWords.{AreLogged, AreWordsOf, IsNodeKept, IsNodeRead, IsRead, IsSameBut, ReadsLog, ReadsNone, has_failed, log_area, log_in, logged_records}
 use Rattle.lc_core.specs.Node.{FitsNode}
@@ -39,6 +40,7 @@ use Rattle.lc_core.specs.declared.desk.Desk.{Desk}
 use Rattle.lc_core.specs.declared.log.Log.{Log}
 use Rattle.lc_core.specs.declared.log.Log.TheVariants.{Idle, Written, Synced, Opened, Failed, Taken}
 use Rattle.lc_core.specs.declared.node.Node.{Node}
+use Rattle.lc_core.specs.declared.pages.Pages.{Pages}
 use Rattle.lc_core.specs.declared.phase.Phase.{Phase}
 use Rattle.lc_core.specs.declared.phase.Phase.TheVariants.{Down, Up, Taken as IsTaken}
 use Rattle.lc_core.specs.declared.running.Running.{Running}
@@ -234,6 +236,7 @@ module _ {D : Type 0} (a : Ghosts D) where
       slots = subst (λ (d : Desk). FitsSlots m n (besides_of d.here) s x) (sym kept.desk) h.slots;
       journal = rw (kept.journal.records, kept.journal.dropped, kept.journal.trimmed, kept.journal.taken, kept.journal.acked) log_still;
       room = ap (λ (group : Group). group.room) kept.journal.group ∙ h.room;
+      known = λ segment first last. ap (λ (ns : List ℕ). known_of ns segment) kept.known ∙ h.known segment first last;
     }
       where
         log_still : FitsLog a m n kept.now.journal.log node.journal.records node.journal.dropped node.journal.trimmed node.journal.taken node.journal.acked s x
@@ -263,7 +266,7 @@ module _ {D : Type 0} (a : Ghosts D) where
     other_logs : (other : ℕ) → (other ≡ n → ⊥) → log_in a new.nodes.items other ≡ log_in a old.nodes.items other
     other_logs other differ = ap (λ nodes. log_in a nodes other) kept.nodes ∙ ap (option_and_then (λ (its : Node D a). area_of a its.journal.log)) (get_set_other old.nodes.items n other kept.now differ)
 
-    up_same : (segments : Vec D Global) → IsSameBut a n (Up (record { running = old; segments = segments })) (Up (record { running = new; segments = segments }))
+    up_same : (segments : Vec (Pages D) Global) → IsSameBut a n (Up (record { running = old; segments = segments })) (Up (record { running = new; segments = segments }))
     up_same segments = record { others = other_logs; segments = refl; still = λ m s x fits. (all_still m s x fits.0, fits.1) }
 
   node_of : (nodes : List (Node D a)) (n : ℕ) (area : D) → log_in a nodes n ≡ Some area → (its : Node D a) × (slice_get nodes n ≡ Some its) × (area_of a its.journal.log ≡ Some area)
@@ -279,7 +282,7 @@ module _ {D : Type 0} (a : Ghosts D) where
   pub down_none : (r late : Recovering D) (node : ℕ) → late ≡ r → log_area a (Down r) node ≡ None → ReadsNone a node (Down r) (Down late)
   down_none r late node same none = subst (λ (n : Recovering D). ReadsNone a node (Down r) (Down n)) (sym same) (record { there = none; same = same_phase node (Down r) })
 
-  pub up_reads : (old new : Running D a) (segments : Vec D Global) (n : ℕ) (R : Type 0) (failed : Bool)
+  pub up_reads : (old new : Running D a) (segments : Vec (Pages D) Global) (n : ℕ) (R : Type 0) (failed : Bool)
       → ((area : D) (its : Node D a) → slice_get old.nodes.items n ≡ Some its → area_of a its.journal.log ≡ Some area → R × IsNodeRead a n its area old new failed)
       → (area : D) → log_in a old.nodes.items n ≡ Some area → R × ReadsLog a n area (Up (record { running = old; segments = segments })) (Up (record { running = new; segments = segments })) failed
   up_reads old new segments n R failed each area there =
@@ -294,7 +297,7 @@ module _ {D : Type 0} (a : Ghosts D) where
         },
       )
 
-  pub up_none : (old new : Running D a) (segments : Vec D Global) (n : ℕ) (R : Type 0)
+  pub up_none : (old new : Running D a) (segments : Vec (Pages D) Global) (n : ℕ) (R : Type 0)
       → (slice_get old.nodes.items n ≡ None → R × (new ≡ old))
       → ((its : Node D a) → slice_get old.nodes.items n ≡ Some its → area_of a its.journal.log ≡ None → R × (kept : IsNodeKept a n its old new) × (area_of a kept.now.journal.log ≡ None))
       → log_in a old.nodes.items n ≡ None → R × ReadsNone a n (Up (record { running = old; segments = segments })) (Up (record { running = new; segments = segments }))

@@ -158,7 +158,7 @@ module _ (k : Kept) (dropped acked taken : ℕ) (kept : k.before ≤ dropped) (f
       closed_or false is = closing_extends (number - k.before)
 
 -- as many records as transactions of a node
-length-records : (numbers : ℕ → ℕ) (content : Content) (node : ℕ) (ts : List Transaction) → length (filter (is_from node) (records_from numbers content ts)) ≡ length (filter (is_of node) ts)
+pub length-records : (numbers : ℕ → ℕ) (content : Content) (node : ℕ) (ts : List Transaction) → length (filter (is_from node) (records_from numbers content ts)) ≡ length (filter (is_of node) ts)
 length-records numbers content node [] = refl
 length-records numbers content node (t ∷ ts) =
     let next : length (filter (is_from node) (records_from (counted numbers t) (effect t content) ts)) ≡ length (filter (is_of node) ts) = length-records (counted numbers t) (effect t content) node ts in

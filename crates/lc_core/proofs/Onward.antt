@@ -5,17 +5,14 @@ use Rattle.std.specs.Prelude.{slice_get, slice_set, vec_len}
 use Rattle.lc_disk.specs.declared.area.Area.{Ghosts}
 use Rattle.lc_record.specs.declared.geometry.Geometry.{Geometry}
 use Rattle.lc_token.specs.declared.token.Token.{Token}
-use Rattle.lc_model.specs.Machine.{Row}
-use Rattle.lc_model.specs.Refusals.{Unless, common_refusal}
-use Rattle.lc_model.specs.Stored.{Fits as FitsDisks}
-use Rattle.lc_model.specs.declared.refusal.Refusal.{Refusal}
-use Rattle.lc_model.proofs.Steps.{step-keeps}
+use Rattle.lc_model.specs.Machine.{Step}
+use Rattle.lc_model.specs.Refusals.{common_refusal}
 use Rattle.lc_model.specs.State.{At, Travelling, Setting, State}
 use Rattle.lc_model.specs.declared.event.Event.{Event}
 use Rattle.lc_model.specs.declared.event.Event.TheVariants.{RecoverStep}
 use Rattle.lc_model.specs.declared.reply.Reply.{Reply}
 use Rattle.lc_model.proofs.Keeps.{sound-row}
-use Rattle.lc_model.proofs.Rows.{known}
+use Rattle.lc_model.proofs.Rows.{known, step-row}
 use Rattle.lc_core.specs.Beside.{BesideNode}
 use Rattle.lc_core.specs.FollowsDesk.{FollowsOpen, StillFits}
 use Rattle.lc_core.specs.Here.{the_images}
@@ -29,6 +26,7 @@ use Rattle.lc_core.specs.Nodes.{IsWhole, AreWhole}
 use Rattle.lc_core.specs.Running.{FitsAll, FitsTravelling, Onward}
 use Rattle.lc_core.specs.Slots.{besides_of}
 use Rattle.lc_core.specs.declared.node.Node.{Node}
+use Rattle.lc_core.proofs.CoherentSteps.{coherent_keeps, disks_keep}
 use Rattle.lc_core.proofs.Going.{by_desk, settled_by, slots_alike}
 use Rattle.lc_core.proofs.OtherLogs.{log_beside}
 use Rattle.lc_core.proofs.Others.{desk_beside}
@@ -54,6 +52,7 @@ module _ {D : Type 0} (a : Ghosts D) where
     slots = slots_beside m n k (besides_of node.desk.here) s x after next aside.slots differ (places_at m k node.desk.here node.desk.seats.items s h.desk) h.slots;
     journal = let w = node.journal in log_beside a m n k s x after next differ aside.logs w.log w.records w.dropped w.trimmed w.taken w.acked h.journal;
     room = h.room;
+    known = λ segment first last. h.known segment first last ∙ sym (aside.known k segment differ);
   }
 
   pub whole_set : (g : Geometry) (nodes : List (Node D a)) (n : ℕ) (old new : Node D a) → slice_get nodes n ≡ Some old → AreWhole a g nodes
@@ -76,10 +75,8 @@ module _ {D : Type 0} (a : Ghosts D) where
         geometry_is = h.geometry_is;
         up = goes.phase ∙ h.up;
         sound = sound-row m s event reply goes.after h.sound (known m.geometry s event common) (inl h.up) goes.row;
-        stored = subst (FitsDisks m goes.after) (sym goes.disks)
-            (step-keeps m s x.disks event reply goes.after h.stored h.up (λ node thread place words is same. h.open_logs node)
-            (subst (λ (c : Option Refusal). Unless c s reply goes.after (Row m s event reply goes.after)) (sym common) goes.row));
-        open_logs = λ node. ap (λ d. d.resetting node) goes.disks ∙ h.open_logs node;
+        stored = disks_keep m s x event reply goes.after goes.next h.up (goes.phase ∙ h.up) h.stored h.coherent step goes.settled goes.turns;
+        coherent = coherent_keeps m s x event reply goes.after goes.next h.up (goes.phase ∙ h.up) h.stored h.coherent step goes.settled goes.turns;
         each = each_set {P = λ k node. FitsNode a m k node s x} {Q = λ k node. FitsNode a m k node goes.after goes.next} nodes n old new at h.each goes.fits
             (λ k node differ fits. node_beside m n k s x goes.after goes.next node differ goes.aside fits);
         on_the_way = on_the_way;
@@ -87,6 +84,9 @@ module _ {D : Type 0} (a : Ghosts D) where
         writes = λ segment page. ap (λ f. f segment page) goes.writes ∙ h.writes segment page;
       };
     }
+      where
+        step : Step m s event reply goes.after
+        step = step-row m s event reply goes.after common goes.row
 
     travels_not : (k : ℕ) → s.place (k + 1) ≡ Travelling → s.place (k + 1) ≡ At n → ⊥
     travels_not k travels there = (let both : Travelling ≡ At n = sym travels ∙ there in cc)
@@ -109,11 +109,11 @@ module _ {D : Type 0} (a : Ghosts D) where
       (h : FitsAll a m geometry nodes travelling s x) (common : common_refusal m.geometry s event ≡ None) (old : Node D a) (at : slice_get nodes n ≡ Some old) (new : Desk)
       (follows : FollowsOpen n old.desk event reply new) (beside : the_images.IsSameBeside old.desk.here new.here) where
     pub desk_onward : (event ≡ RecoverStep → ⊥) → open_answer m s x event ≡ None → Turns m s x event reply x → ((k : ℕ) → k + 1 ≡ moved_by event reply → ⊥)
-        → Onward a m event s x reply geometry (slice_set nodes n (record { desk = new; journal = old.journal })) travelling
+        → Onward a m event s x reply geometry (slice_set nodes n (record { desk = new; journal = old.journal; known = old.known })) travelling
     desk_onward other none turns others =
         let fits = h.each n old at in
         let step = follows m s (known m.geometry s event common) h.sound fits.desk in
-        stays_onward m n event s x reply geometry nodes travelling h common old at (record { desk = new; journal = old.journal })
+        stays_onward m n event s x reply geometry nodes travelling h common old at (record { desk = new; journal = old.journal; known = old.known })
         (by_desk a m n event s x reply step.0 step.1 (settled_by m s x event reply other (λ answer is. (let no : None ≡ Some answer = sym none ∙ is in absurd cc))) turns old fits new step.2 beside step.3)
         others
 
@@ -125,7 +125,7 @@ module _ {D : Type 0} (a : Ghosts D) where
     up = h.up;
     sound = h.sound;
     stored = h.stored;
-    open_logs = h.open_logs;
+    coherent = h.coherent;
     each = each_set {P = λ k node. FitsNode a m k node s x} {Q = λ k node. FitsNode a m k node s x} nodes n old new at h.each (still (h.each n old at)) (λ k node differ fits. fits);
     on_the_way = h.on_the_way;
     resets = h.resets;
@@ -133,10 +133,11 @@ module _ {D : Type 0} (a : Ghosts D) where
   }
 
   pub desk_still : (m : Setting) (n : ℕ) (s : State) (x : Numbers) (old : Node D a) (new : Desk) → StillFits old.desk new → the_images.IsSameBeside old.desk.here new.here
-      → FitsNode a m n old s x → FitsNode a m n (record { desk = new; journal = old.journal }) s x
+      → FitsNode a m n old s x → FitsNode a m n (record { desk = new; journal = old.journal; known = old.known }) s x
   desk_still m n s x old new still beside h = record {
     desk = still m n s h.desk;
     slots = slots_alike m n old.desk.here new.here s x beside h.slots;
     journal = h.journal;
     room = h.room;
+    known = h.known;
   }

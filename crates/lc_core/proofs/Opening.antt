@@ -1,14 +1,14 @@
 -- The areas of the logs, as the nodes get them one after another, and the nodes behind that.
-use Rattle.std.proofs.Common.{◌≡◌, ◌≢◌, ℕ, ◌+◌, ◌*◌, ◌%◌, ◌<◌, false, List, [], drop, length, Option, Some, None, refl, sym, ap, subst, ◌∙◌, arith}
+use Rattle.std.proofs.Common.{◌≡◌, ◌≢◌, ℕ, ◌+◌, ◌-◌, ◌*◌, ◌%◌, ◌<◌, ◌≤◌, false, List, [], drop, length, Option, Some, None, refl, sym, ap, subst, ◌∙◌, arith}
 use Rattle.std.specs.Prelude.{slice_get, slice_index, slice_index_or, option_map, replicate}
-use Rattle.std.proofs.lemmas.List.{length-replicate}
+use Rattle.std.proofs.lemmas.List.{length-drop, length-replicate}
 use Rattle.std.proofs.lemmas.Option.{slice_get-map, slice_get_within, get_or_from_slice_get}
 use Rattle.lc_disk.specs.declared.area.Area.{Ghosts}
 use Rattle.lc_record.specs.declared.geometry.Geometry.{Geometry}
 use Rattle.lc_record.proofs.PuttingLemmas.{at_drop}
-use Rattle.lc_recover.specs.Reads.{HaveLengths}
+use Rattle.lc_recover.specs.Reads.{HaveLengths, area_count}
 use Rattle.lc_recover.specs.Recovered.{RecoveredStore, IsFinished}
-use Rattle.lc_recover.proofs.Images.{len-log}
+use Rattle.lc_recover.proofs.Images.{count-areas, len-log, len-segment}
 use Rattle.lc_core.specs.Blank.{AreFilledNodes}
 use Rattle.lc_core.specs.Fresh.{IsFresh}
 use Rattle.lc_core.specs.Log.{Stands, area_of, is_failed}
@@ -30,6 +30,21 @@ module _ {D : Type 0} (a : Ghosts D) where
       at : (o : Option D) → slice_get areas n ≡ o → (area : D) × (slice_get areas n ≡ Some area) × (length (a.now area) ≡ 8 * (g.words + 1))
       at None got = (let none : None ≡ Some (8 * (g.words + 1)) = ap (option_map (λ (d : D). length (a.now d))) (sym got) ∙ long in absurd cc)
       at (Some area) got = (area, got, same_some (length (a.now area)) (8 * (g.words + 1)) (ap (option_map (λ (d : D). length (a.now d))) (sym got) ∙ long))
+
+  -- the length of a segment's area
+  pub segment_len : (g : Geometry) (areas : List D) (k : ℕ) (area : D) → HaveLengths a g areas → slice_get areas (g.nodes + k) ≡ Some area → length (a.now area) ≡ 2 * 272 * g.pages
+  segment_len g areas k area lengths got =
+      let counted : length areas ≡ area_count g = count-areas a g areas lengths in
+      let within : g.nodes + k < area_count g = omega (arith, counted, slice_get_within areas (g.nodes + k) area got) in
+      same_some (length (a.now area)) (2 * 272 * g.pages)
+      (ap (option_map (λ (d : D). length (a.now d))) (sym got) ∙ sym (slice_get-map (λ (d : D). length (a.now d)) areas (g.nodes + k)) ∙ lengths (g.nodes + k)
+      ∙ len-segment g (g.nodes + k) (omega arith) within)
+
+  -- behind the logs there are as many areas as there are segments
+  pub segments_left : (g : Geometry) (areas left : List D) → HaveLengths a g areas → left ≡ drop g.nodes areas → length left ≡ g.segments
+  segments_left g areas left lengths is =
+      let counted : length areas ≡ area_count g = count-areas a g areas lengths in
+      ap length is ∙ length-drop g.nodes areas ∙ omega (arith, counted)
 
   -- it is the first that is left
   left_first : (areas left : List D) (n : ℕ) (area : D) → left ≡ drop n areas → slice_get areas n ≡ Some area → slice_get left 0 ≡ Some area
@@ -87,6 +102,7 @@ module _ {D : Type 0} (a : Ghosts D) where
           trimmed = its.journal.trimmed;
           taken = its.journal.taken;
           acked = its.journal.acked;
+          known = its.known;
         });
         travelling = none ∙ ap (λ (h : Geometry). replicate h.segments None) (sym same);
       }

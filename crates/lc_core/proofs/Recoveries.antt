@@ -1,16 +1,25 @@
 -- How a store that is down follows the machine.
 use Rattle.std.proofs.Common.{◌≡◌, ℕ, ◌+◌, ◌*◌, ◌<◌, ◌≤◌, ◌⊎◌, inl, inr, true, ◌++◌, List, length, drop, Option, Some, None, refl, sym, ap, subst, ◌∙◌, arith}
 use Rattle.std.proofs.lemmas.Result.{IfOk-from_err}
-use Rattle.std.specs.Prelude.{◌-◌, Result, Ok, Err, IfOk, IfErr, OnOk, OnErr, find, is_some, if◌then◌else◌, slice_get, is_ok}
+use Rattle.std.specs.Prelude.{◌-◌, Result, Ok, Err, IfOk, IfErr, OnOk, OnErr, find, is_some, if◌then◌else◌, replicate, slice_get, slice_index_or, is_ok}
 use Rattle.lc_disk.specs.declared.area.Area.{Ghosts}
 use Rattle.lc_record.specs.Content.{Content}
 use Rattle.lc_record.specs.declared.geometry.Geometry.{Geometry}
 use Rattle.lc_record.specs.Transaction.{Transaction, effects}
-use Rattle.std.proofs.lemmas.List.{length-drop}
-use Rattle.lc_recover.specs.Reads.{AreHonest, AreOfBytes, AllMergeTo, area_count}
+use Rattle.std.proofs.lemmas.List.{length-drop, length-map, length-replicate}
+use Rattle.std.proofs.lemmas.Option.{slice_get_within}
+use Rattle.lc_page.specs.Page.{slot_at}
+use Rattle.lc_page.specs.PageWrite.{IsSettled}
+use Rattle.lc_page.specs.declared.page_text.PageText.{PageText}
+use Rattle.lc_page.proofs.StateLemmas.{clean_settled}
+use Rattle.lc_recover.specs.Reads.{AreHonest, AreOfBytes, AllMergeTo, HaveLengths, area_count}
 use Rattle.lc_recover.specs.Recovered.{IsFinished, page_read_of}
 use Rattle.lc_recover.proofs.Images.{count-areas, get-drop}
-use Rattle.lc_core.proofs.Rising.{rises}
+use Rattle.lc_core.proofs.Closes.{get-map}
+use Rattle.lc_core.proofs.Opening.{segment_len}
+use Rattle.lc_core.proofs.PageWrites.{of_pages, pages_same}
+use Rattle.lc_core.proofs.Rising.{get-replicate, rises}
+use Rattle.lc_core.proofs.Cohering.{coherent_apart}
 use Rattle.lc_recover.specs.Recovery.{Recovering, begun, IsDone, TakesMemory, Tells}
 use Rattle.lc_recover.specs.declared.fault.RecoverFault.{RecoverFault}
 use Rattle.lc_recover.specs.declared.fault.RecoverFault.TheVariants.{BadGeometry, Gap, Twice, OutOfSegment, DeviceFault as Failed, NoMemory}
@@ -29,6 +38,7 @@ use Rattle.lc_model.specs.declared.reply.Reply.{Reply}
 use Rattle.lc_model.specs.declared.reply.Reply.TheVariants.{Ok as Accepted, Stepped, Applied, HeldBack, Trimmed, Recovered, Refused}
 use Rattle.lc_model.specs.Stored.{Disks, records_of}
 use Rattle.lc_model.proofs.Keeps.{sound-step}
+use Rattle.lc_core.specs.Fresh.{text_read_of}
 use Rattle.lc_core.specs.Numbers.{Numbers, recovered_numbers}
 use Rattle.lc_core.specs.Running.{FitsRunning, StillFitsAll}
 use Rattle.lc_core.specs.Settled.{Settled, CountsSteps, number_of, open_answer, settled_answer}
@@ -37,10 +47,14 @@ use Rattle.lc_core.specs.Node.{FitsNode}
 use Rattle.lc_core.specs.Stepping.{FollowsStep, is_plain}
 use Rattle.lc_core.specs.Turns.{Turns, closed_with, held_back, kept_numbers, numbers_after}
 use Rattle.lc_core.specs.Recovering.{ComesUp, RepliesTo}
-use Rattle.lc_core.specs.World.{FitsDown, FitsPages, FitsPhase, Leads, is_common}
+use Rattle.lc_core.specs.Pages.{FitsArea, FitsPages, IsAtRest, IsPageAt, areas_of}
+use Rattle.lc_core.specs.World.{FitsDown, FitsPhase, Leads, is_common}
 use Rattle.lc_core.proofs.Refusing.{on_err}
 use Rattle.lc_core.specs.declared.phase.Phase.{Phase}
 use Rattle.lc_core.specs.declared.phase.Phase.TheVariants.{Down, Up, Taken}
+use Rattle.lc_core.specs.declared.pages.PageState.{PageState}
+use Rattle.lc_core.specs.declared.pages.PageState.TheVariants.{AtRest}
+use Rattle.lc_core.specs.declared.pages.Pages.{Pages}
 use Rattle.lc_core.specs.declared.up.Up.{Up as Rising}
 use Rattle.lc_core.specs.declared.node.Node.{Node}
 use Rattle.lc_core.specs.declared.running.Running.{Running}
@@ -168,7 +182,7 @@ module _ {D : Type 0} (a : Ghosts D) (m : Setting) (s : State) (x : Numbers) whe
 
   -- how many steps a recovery has made is nothing to what fits while it is up
   steps_stay : Stays m s x s (record x { steps = 0 })
-  steps_stay = stays_where m s s x (record x { steps = 0 }) refl refl refl refl refl refl refl refl
+  steps_stay = stays_where m s s x (record x { steps = 0 }) refl refl refl refl refl refl refl refl refl
 
   log_stays : (n : ℕ) (w : Node D a) → FitsNode a m n w s x → FitsNode a m n w s (record x { steps = 0 })
   log_stays n w h = record {
@@ -187,6 +201,7 @@ module _ {D : Type 0} (a : Ghosts D) (m : Setting) (s : State) (x : Numbers) whe
       taken_is = h.journal.taken_is;
     };
     room = h.room;
+    known = h.known;
   }
 
   all_stay : (w : Running D a) → FitsRunning a m w s x → FitsRunning a m w s (record x { steps = 0 })
@@ -195,7 +210,7 @@ module _ {D : Type 0} (a : Ghosts D) (m : Setting) (s : State) (x : Numbers) whe
     up = h.up;
     sound = h.sound;
     stored = h.stored;
-    open_logs = h.open_logs;
+    coherent = coherent_apart m s x x.applied x.waiting x.round x.trimmed 0 h.coherent;
     each = λ n node got. log_stays n node (h.each n node got);
     on_the_way = record {
       count = h.on_the_way.count;
@@ -206,60 +221,51 @@ module _ {D : Type 0} (a : Ghosts D) (m : Setting) (s : State) (x : Numbers) whe
     writes = h.writes;
   }
 
-  pages_stay : (areas : List D) (y : Numbers) → y.disks ≡ x.disks → FitsPages a m areas x → FitsPages a m areas y
-  pages_stay areas y same h = record {
-    count = h.count;
-    honest = h.honest;
-    clean = h.clean;
-    pages = λ k page area got within. h.pages k page area got within
-        ∙ ap (λ (d : Disks). record { sequence = (d.page (k + 1) page).sequence; content = (d.page (k + 1) page).bytes }) (sym same);
-  }
-
   -- up: a step of a recovery is out of turn
   pub up_refuses : (up : Rising D a) → FitsPhase a m (Up up) s x → Leads a m RecoverStep s x (Refused OutOfTurn) (Up up)
   up_refuses up h = leads_by_row (Refused OutOfTurn) s (record x { steps = 0 }) (Up up)
       (subst (λ (p : Condition). RecoverRow p m.geometry s (Refused OutOfTurn) s) (sym h.0.up) (refl, refl))
-      (λ steps same. absurd cc) refl (all_stay up.running h.0, pages_stay up.segments.items (record x { steps = 0 }) refl h.1)
+      (λ steps same. absurd cc) refl (all_stay up.running h.0, pages_same a m up.segments.items x (record x { steps = 0 }) refl h.1)
 
   -- no other event of a store that is up changes its pages
-  closed_disks : (node : ℕ) (e : Option Entry) → (closed_with s x node e).disks ≡ x.disks
-  closed_disks node None = refl
-  closed_disks node (Some e) = refl
+  closed_pages : (node : ℕ) (e : Option Entry) → of_pages (closed_with s x node e) ≡ of_pages x
+  closed_pages node None = refl
+  closed_pages node (Some e) = refl
 
-  held_disks : (to segment : ℕ) (number : Option ℕ) → (held_back x to segment number).disks ≡ x.disks
-  held_disks to segment None = refl
-  held_disks to segment (Some number) = refl
+  held_pages : (to segment : ℕ) (number : Option ℕ) → of_pages (held_back x to segment number) ≡ of_pages x
+  held_pages to segment None = refl
+  held_pages to segment (Some number) = refl
 
-  turned_disks : (event : Event) (reply : Reply) (next : Numbers) → is_plain event ≡ true → Turns m s x event reply next → next.disks ≡ x.disks
-  turned_disks (Begin node thread segments reading) reply next plain turns = ap (λ (y : Numbers). y.disks) turns
-  turned_disks (SetRange node thread segment offset len) reply next plain turns = ap (λ (y : Numbers). y.disks) turns
-  turned_disks (Write node thread segment offset bytes) reply next plain turns = ap (λ (y : Numbers). y.disks) turns
-  turned_disks (Read node thread segment offset len) reply next plain turns = ap (λ (y : Numbers). y.disks) turns
-  turned_disks (Abort node thread) reply next plain turns = ap (λ (y : Numbers). y.disks) turns
-  turned_disks (Reserve node thread) reply next plain turns = ap (λ (y : Numbers). y.disks) turns
-  turned_disks (Close node thread) reply next plain turns = ap (λ (y : Numbers). y.disks) turns ∙ elim reply as (λ (r : Reply). (numbers_after m s x (Close node thread) r).disks ≡ x.disks) [
-    | Accepted ↦ closed_disks node (find (is_unclosed node thread) s.history)
+  turned_pages : (event : Event) (reply : Reply) (next : Numbers) → is_plain event ≡ true → Turns m s x event reply next → of_pages next ≡ of_pages x
+  turned_pages (Begin node thread segments reading) reply next plain turns = ap of_pages turns
+  turned_pages (SetRange node thread segment offset len) reply next plain turns = ap of_pages turns
+  turned_pages (Write node thread segment offset bytes) reply next plain turns = ap of_pages turns
+  turned_pages (Read node thread segment offset len) reply next plain turns = ap of_pages turns
+  turned_pages (Abort node thread) reply next plain turns = ap of_pages turns
+  turned_pages (Reserve node thread) reply next plain turns = ap of_pages turns
+  turned_pages (Close node thread) reply next plain turns = ap of_pages turns ∙ elim reply as (λ (r : Reply). of_pages (numbers_after m s x (Close node thread) r) ≡ of_pages x) [
+    | Accepted ↦ closed_pages node (find (is_unclosed node thread) s.history)
     | _ ↦ refl
   ]
-  turned_disks (FlushStep node) reply next plain turns = ap (λ (y : Numbers). y.disks) turns
-  turned_disks (Leave node segment) reply next plain turns = ap (λ (y : Numbers). y.disks) turns
-  turned_disks (Arrive node segment) reply next plain turns = ap (λ (y : Numbers). y.disks) turns ∙ elim reply as (λ (r : Reply). (numbers_after m s x (Arrive node segment) r).disks ≡ x.disks) [
+  turned_pages (FlushStep node) reply next plain turns = ap of_pages turns
+  turned_pages (Leave node segment) reply next plain turns = ap of_pages turns
+  turned_pages (Arrive node segment) reply next plain turns = ap of_pages turns ∙ elim reply as (λ (r : Reply). of_pages (numbers_after m s x (Arrive node segment) r) ≡ of_pages x) [
     | Accepted ↦ refl
     | _ ↦ refl
   ]
-  turned_disks (Deliver sender number segment to) reply next plain turns = ap (λ (y : Numbers). y.disks) turns ∙ elim reply as (λ (r : Reply). (numbers_after m s x (Deliver sender number segment to) r).disks ≡ x.disks) [
+  turned_pages (Deliver sender number segment to) reply next plain turns = ap of_pages turns ∙ elim reply as (λ (r : Reply). of_pages (numbers_after m s x (Deliver sender number segment to) r) ≡ of_pages x) [
     | Applied last ↦ refl
-    | HeldBack ↦ held_disks to segment (number_of segment (slice_get (records_of m s x.disks sender) (number - 1)))
+    | HeldBack ↦ held_pages to segment (number_of segment (slice_get (records_of m s x.disks sender) (number - 1)))
     | _ ↦ refl
   ]
-  turned_disks (Trim node) reply next plain turns = ap (λ (y : Numbers). y.disks) turns ∙ elim reply as (λ (r : Reply). (numbers_after m s x (Trim node) r).disks ≡ x.disks) [
+  turned_pages (Trim node) reply next plain turns = ap of_pages turns ∙ elim reply as (λ (r : Reply). of_pages (numbers_after m s x (Trim node) r) ≡ of_pages x) [
     | Trimmed count ↦ refl
     | _ ↦ refl
   ]
-  turned_disks (PageStep node segment page) reply next plain turns = absurd cc
-  turned_disks (ResetStep node) reply next plain turns = absurd cc
-  turned_disks (Stop choices) reply next plain turns = absurd cc
-  turned_disks RecoverStep reply next plain turns = absurd cc
+  turned_pages (PageStep node segment page) reply next plain turns = absurd cc
+  turned_pages (ResetStep node) reply next plain turns = absurd cc
+  turned_pages (Stop choices) reply next plain turns = absurd cc
+  turned_pages RecoverStep reply next plain turns = absurd cc
 
   -- a step of a store that is up
   pub runs_up : (up : Rising D a) (event : Event) (reply : Reply) (new : Running D a) → is_plain event ≡ true → FollowsStep a up.running event reply new
@@ -272,7 +278,7 @@ module _ {D : Type 0} (a : Ghosts D) (m : Setting) (s : State) (x : Numbers) whe
         step = on.step;
         settled = on.settled;
         turns = on.turns;
-        fits = (on.fits, pages_stay up.segments.items on.next (turned_disks event reply on.next plain on.turns) h.1);
+        fits = (on.fits, pages_same a m up.segments.items x on.next (turned_pages event reply on.next plain on.turns) h.1);
       }
 
 module _ {D : Type 0} (a : Ghosts D) where
@@ -387,7 +393,7 @@ module _ {D : Type 0} (a : Ghosts D) where
       up_now = fresh m.geometry kept_now IsUpNow
 
       abbrev next_numbers : Numbers
-      next_numbers = recovered_numbers m.geometry (kept_numbers (DownAt h.cut) s x) (page_read_of risen.store)
+      next_numbers = recovered_numbers m.geometry (kept_numbers (DownAt h.cut) s x) (page_read_of risen.store) (text_read_of risen.store)
 
       up_row : RecoverRow s.phase m.geometry s Recovered up_now
       up_row = row_of a m s x r new h keeps Recovered up_now (inr (inr (refl, refl)))
@@ -396,7 +402,7 @@ module _ {D : Type 0} (a : Ghosts D) where
       up_sound = sound-step m s RecoverStep Recovered up_now h.sound (subst (λ (c : Option Refusal). Unless c s Recovered up_now (Row m s RecoverStep Recovered up_now)) (sym (none_common m s)) up_row)
 
       -- the areas of the segments stand behind those of the logs
-      area_at : (k : ℕ) (area : D) → slice_get up.segments.items k ≡ Some area → slice_get risen.store.areas (risen.store.geometry.nodes + k) ≡ Some area
+      area_at : (k : ℕ) (area : D) → slice_get (areas_of up.segments.items) k ≡ Some area → slice_get risen.store.areas (risen.store.geometry.nodes + k) ≡ Some area
       area_at k area got =
           ap (λ (areas : List D). slice_get areas (risen.store.geometry.nodes + k)) risen.areas
           ∙ ap (λ (g : Geometry). slice_get new.areas (g.nodes + k)) risen.geometry
@@ -404,20 +410,62 @@ module _ {D : Type 0} (a : Ghosts D) where
           ∙ ap (λ (areas : List D). slice_get areas k) (sym risen.segments)
           ∙ got
 
+      lengths_now : HaveLengths a risen.store.geometry risen.store.areas
+      lengths_now = subst (λ (g : Geometry). HaveLengths a g risen.store.areas) (sym risen.geometry)
+          (subst (λ (areas : List D). HaveLengths a new.geometry areas) (sym risen.areas) risen.lengths)
+
+      -- no page is being written, and none is dirty
+      module _ (k : ℕ) (pages : Pages D) (got : slice_get up.segments.items k ≡ Some pages) where
+        its_area : slice_get risen.store.areas (risen.store.geometry.nodes + k) ≡ Some pages.area
+        its_area = area_at k pages.area (get-map (λ (p : Pages D). p.area) up.segments.items k pages got)
+
+        same_pages : risen.store.geometry.pages ≡ m.geometry.pages
+        same_pages = ap (λ (g : Geometry). g.pages) (sym same_geometry)
+
+        its_len : length (a.now pages.area) ≡ 2 * 272 * m.geometry.pages
+        its_len = segment_len a risen.store.geometry risen.store.areas k pages.area lengths_now its_area ∙ ap (λ (n : ℕ). 2 * 272 * n) same_pages
+
+        its_bytes : (at : ℕ) → slice_index_or (a.now pages.area) at 0 < 256
+        its_bytes = risen.bytes (risen.store.geometry.nodes + k) pages.area (ap (λ (areas : List D). slice_get areas (risen.store.geometry.nodes + k)) (sym risen.areas) ∙ its_area)
+            (honest_store (risen.store.geometry.nodes + k) pages.area its_area)
+
+        at_rest : (page : ℕ) → page < m.geometry.pages → IsAtRest a pages.area (k + 1) page next_numbers
+        at_rest page within =
+            let inside : page < risen.store.geometry.pages = omega (arith, within, same_pages) in
+            record {
+              no_calls = refl;
+              settled = λ honest. subst (λ (t : PageText). IsSettled (a.now pages.area) (a.dirty pages.area) page t)
+                  (finished.texts k page pages.area its_area inside)
+                  (clean_settled (a.now pages.area) (a.dirty pages.area) page (λ slot at below. finished.clean (risen.store.geometry.nodes + k) pages.area its_area (slot_at page slot + at)));
+              reads = λ honest. finished.reads k page pages.area its_area inside;
+            }
+
+        none_writes : pages.writes.items ≡ replicate m.geometry.pages AtRest
+        none_writes = risen.rest k pages got ∙ ap (λ (g : Geometry). replicate g.pages AtRest) (sym risen.geometry ∙ sym same_geometry)
+
+        area_up : FitsArea a m.geometry (k + 1) pages next_numbers
+        area_up = record {
+          honest = honest_store (risen.store.geometry.nodes + k) pages.area its_area;
+          long = λ page within. (omega (arith, within, its_len));
+          bytes = its_bytes;
+          count = ap length none_writes ∙ length-replicate m.geometry.pages AtRest;
+          each = λ page state at.
+              (let there : slice_get (replicate m.geometry.pages AtRest) page ≡ Some state = ap (λ (states : List PageState). slice_get states page) (sym none_writes) ∙ at in
+              let within : page < m.geometry.pages = omega (arith, slice_get_within (replicate m.geometry.pages AtRest) page state there, length-replicate m.geometry.pages AtRest) in
+              subst (λ (v : PageState). IsPageAt a pages.area (k + 1) page v next_numbers) (get-replicate m.geometry.pages page AtRest state there) (at_rest page within));
+        }
+
       pages_up : FitsPages a m up.segments.items next_numbers
       pages_up = record {
-        count = (let counted : length new.areas ≡ area_count new.geometry = count-areas a new.geometry new.areas risen.lengths in
-            ap length risen.segments ∙ length-drop new.geometry.nodes new.areas
+        all_segments = (let counted : length new.areas ≡ area_count new.geometry = count-areas a new.geometry new.areas risen.lengths in
+            sym (length-map up.segments.items (λ (p : Pages D). p.area)) ∙ ap length risen.segments ∙ length-drop new.geometry.nodes new.areas
             ∙ omega (arith, counted, ap (λ (g : Geometry). g.segments) keeps.geometry, ap (λ (g : Geometry). g.segments) h.geometry_is));
-        honest = λ k area got. honest_store (risen.store.geometry.nodes + k) area (area_at k area got);
-        clean = λ k area got. finished.clean (risen.store.geometry.nodes + k) area (area_at k area got);
-        pages = λ k page area got within. finished.reads k page area (area_at k area got)
-            (subst (λ (g : Geometry). page < g.pages) same_geometry within);
+        each = area_up;
       }
 
       comes_up_with : Leads a m RecoverStep s x Recovered (Up up)
       comes_up_with = leads_by_row a m s x Recovered up_now next_numbers (Up up) up_row (λ steps same. absurd cc)
-          (page_read_of risen.store, ap (λ (p : Condition). recovered_numbers m.geometry (kept_numbers p s x) (page_read_of risen.store)) (sym h.down)) (
+          (page_read_of risen.store, text_read_of risen.store, ap (λ (p : Condition). recovered_numbers m.geometry (kept_numbers p s x) (page_read_of risen.store) (text_read_of risen.store)) (sym h.down)) (
             rises a m kept_now (kept_numbers (DownAt h.cut) s x) risen.store up.running same_geometry up_sound honest_store
                 (subst (λ (areas : List D). AreOfBytes a areas) (sym risen.areas) risen.bytes) finished all_merge (risen.fresh keeps.honest),
             pages_up,

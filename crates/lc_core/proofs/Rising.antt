@@ -9,7 +9,7 @@ use Rattle.std.proofs.lemmas.List.{append-nil, drop-drop, length-map, length-rep
 use Rattle.std.proofs.lemmas.List.Elements.{All-nil}
 use Rattle.std.proofs.lemmas.Option.{get_or_from_slice_get, slice_get_within}
 use Rattle.lc_disk.specs.declared.area.Area.{Ghosts}
-use Rattle.lc_page.specs.PageVector.{entry_at, new_entry, no_entry}
+use Rattle.lc_page.specs.PageVector.{entry_at, entry_text, new_entry, no_entry}
 use Rattle.lc_page.specs.declared.entry.Entry.{Entry}
 use Rattle.lc_record.specs.Content.{Content, segment_of}
 use Rattle.lc_record.specs.Geometry.{segment_len}
@@ -39,7 +39,7 @@ use Rattle.lc_recover.specs.Reads.{AllMergeTo, AreHonest, AreImages, AreOfBytes,
 use Rattle.lc_recover.specs.Recovered.{RecoveredStore, IsFinished, page_of, page_read_of, sequence_of}
 use Rattle.lc_recover.proofs.Images.{from-map, get-counting, get-map, get-some, in-segment, length-counting, own-image}
 use Rattle.lc_core.specs.Desk.{FitsDesk, FitsSeat}
-use Rattle.lc_core.specs.Fresh.{segment_bytes, fresh_token, IsFresh, IsFreshNode}
+use Rattle.lc_core.specs.Fresh.{segment_bytes, fresh_token, text_read_of, IsFresh, IsFreshNode}
 use Rattle.lc_core.specs.Here.{beside, hidden, image_at, number_at, number_in, the_images}
 use Rattle.lc_core.specs.Journal.{FitsLog}
 use Rattle.lc_core.specs.Log.{Stands, is_failed}
@@ -56,10 +56,11 @@ use Rattle.lc_core.specs.declared.running.Running.{Running}
 use Rattle.lc_core.specs.declared.seat.Seat.{Seat}
 use Rattle.lc_core.specs.declared.seat.Seat.TheVariants.{Free}
 use Rattle.lc_core.specs.declared.slot.Slot.{Slot}
+use Rattle.lc_core.proofs.Cohering.{coherent_fresh}
 
 -- Lists
 
-get-replicate : {A : Type 0} (n k : ℕ) (x y : A) → slice_get (replicate n x) k ≡ Some y → x ≡ y
+pub get-replicate : {A : Type 0} (n k : ℕ) (x y : A) → slice_get (replicate n x) k ≡ Some y → x ≡ y
 get-replicate zero k x y is = absurd cc
 get-replicate (suc n) zero x y is = same_some x y is
 get-replicate (suc n) (suc k) x y is = get-replicate n k x y is
@@ -130,7 +131,7 @@ module _ {D : Type 0} (a : Ghosts D) (start : Content) (earlier : List Transacti
   s = fresh r.geometry earlier Up
 
   abbrev x : Numbers
-  x = recovered_numbers r.geometry numbers (page_read_of r)
+  x = recovered_numbers r.geometry numbers (page_read_of r) (text_read_of r)
 
   -- The log
 
@@ -238,6 +239,8 @@ module _ {D : Type 0} (a : Ghosts D) (start : Content) (earlier : List Transacti
       pages = length-map (counting 0 r.geometry.pages) entry ∙ length-counting 0 r.geometry.pages;
       touched = λ page within. ap (λ (e : Entry). e.touched) (entry_is page within);
       stable_is = λ page within. ap (λ (e : Entry). e.stable) (entry_is page within);
+      text_is = λ page within. ap entry_text (entry_is page within);
+      uncounted = λ page within. ap (λ (e : Entry). e.uncommitted) (entry_is page within);
     }
       where
         entry : ℕ → Entry
@@ -345,6 +348,7 @@ module _ {D : Type 0} (a : Ghosts D) (start : Content) (earlier : List Transacti
         slots = slots;
         journal = (let w = node.journal in fresh_log n w.log w.records w.dropped w.trimmed w.taken w.acked new.records new.dropped new.trimmed new.taken new.acked new.log new.works);
         room = new.room;
+        known = λ segment first last. new.known segment first last ∙ ap (λ i. if segment % r.geometry.nodes == n then i else 0) (sequence_is segment first last);
       }
 
     fresh_fits : (w : Running D a) → IsFresh a r w → FitsRunning a m w s x
@@ -353,7 +357,7 @@ module _ {D : Type 0} (a : Ghosts D) (start : Content) (earlier : List Transacti
       up = refl;
       sound = sound;
       stored = stored;
-      open_logs = λ node. refl;
+      coherent = coherent_fresh m earlier numbers (page_read_of r) (text_read_of r) stored;
       each = λ n node at. fresh_node n node (new.each n node at);
       on_the_way = none_travels w.travelling.items new.travelling;
       resets = λ node. refl;
@@ -363,8 +367,8 @@ module _ {D : Type 0} (a : Ghosts D) (start : Content) (earlier : List Transacti
 module _ {D : Type 0} (a : Ghosts D) where
   pub rises : (m : Setting) (earlier : List Transaction) (numbers : ℕ → ℕ) (r : RecoveredStore D) (w : Running D a) → m.geometry ≡ r.geometry → Sound m.geometry (fresh m.geometry earlier Up)
       → AreHonest a r.areas → AreOfBytes a r.areas → IsFinished a r → AllMergeTo a m.geometry r.areas (effects earlier m.start) numbers → IsFresh a r w
-      → FitsRunning a m w (fresh m.geometry earlier Up) (recovered_numbers m.geometry numbers (page_read_of r))
+      → FitsRunning a m w (fresh m.geometry earlier Up) (recovered_numbers m.geometry numbers (page_read_of r) (text_read_of r))
   rises m earlier numbers r w same sound honest bytes done all new =
       subst (λ (g : Geometry). Sound g (fresh g earlier Up) → AllMergeTo a g r.areas (effects earlier m.start) numbers
-      → FitsRunning a (record { geometry = g; start = m.start }) w (fresh g earlier Up) (recovered_numbers g numbers (page_read_of r))) (sym same)
+      → FitsRunning a (record { geometry = g; start = m.start }) w (fresh g earlier Up) (recovered_numbers g numbers (page_read_of r) (text_read_of r))) (sym same)
       (λ here merges. fresh_fits a m.start earlier numbers r here honest bytes done merges w new) sound all

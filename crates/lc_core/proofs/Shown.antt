@@ -101,7 +101,7 @@ module _ (m : Setting) (node : ℕ) (here : Here) (seats : List Seat) (s : State
       let seat = seat_of seats k its.0 its.1 in
       reserved_seat k segment seat.0 its.0 seat.1 seat.2 its.2 none
 
-  here_shows : (segment : ℕ) → IsHere the_images here segment → bytes_of the_images here segment ≡ segment_of segment (content_with m s (open_writer segment s))
+  pub here_shows : (segment : ℕ) → IsHere the_images here segment → bytes_of the_images here segment ≡ segment_of segment (content_with m s (open_writer segment s))
   here_shows segment is = elim (open_writer segment s) as (λ (o : Option Transaction). open_writer segment s ≡ o → bytes_of the_images here segment ≡ segment_of segment (content_with m s o)) [
     | None ↦ λ e. unwritten segment (writer_of (holders_of the_images here segment)) is refl (not_found (λ u. locks u segment) s.running e)
     | Some t ↦ λ e. written segment t is e

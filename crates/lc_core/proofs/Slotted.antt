@@ -149,8 +149,8 @@ places_at m node here seats s h k b token at stands = at_place (slice_get here.s
 
 -- and so does what the slots show of the numbers
 pub stays_where : (m : Setting) (s after : State) (x y : Numbers) → after.earlier ≡ s.earlier → after.history ≡ s.history
-    → y.disks.numbers ≡ x.disks.numbers → y.disks.page ≡ x.disks.page → y.applied ≡ x.applied → y.waiting ≡ x.waiting → y.clean ≡ x.clean → y.touched ≡ x.touched → Stays m s x after y
-stays_where m s after x y earlier history numbers pages applied waiting clean touched = record {
+    → y.disks.numbers ≡ x.disks.numbers → y.disks.page ≡ x.disks.page → y.applied ≡ x.applied → y.waiting ≡ x.waiting → y.clean ≡ x.clean → y.touched ≡ x.touched → y.texts ≡ x.texts → Stays m s x after y
+stays_where m s after x y earlier history numbers pages applied waiting clean touched texts = record {
   applied = λ node segment. ap (λ f. f node segment) applied;
   waiting = λ node segment. ap (λ f. f node segment) waiting;
   number = number;
@@ -172,6 +172,8 @@ stays_where m s after x y earlier history numbers pages applied waiting clean to
     pages = h.pages;
     touched = λ page below. h.touched page below ∙ sym (ap (λ f. f segment page) touched);
     stable_is = λ page below. h.stable_is page below ∙ sym (ap (λ (f : ℕ → ℕ → Page). (f segment page).sequence) pages);
+    text_is = λ page below. h.text_is page below ∙ sym (ap (λ f. f segment page) texts);
+    uncounted = h.uncounted;
   };
 }
   where
@@ -187,7 +189,7 @@ stays_where m s after x y earlier history numbers pages applied waiting clean to
         ∙ ap (λ ts. records_from x.disks.numbers (effects ts m.start) (transactions s.history)) earlier
 
 pub stays_same : (m : Setting) (s after : State) (x : Numbers) → after.earlier ≡ s.earlier → after.history ≡ s.history → Stays m s x after x
-stays_same m s after x earlier history = stays_where m s after x x earlier history refl refl refl refl refl refl
+stays_same m s after x earlier history = stays_where m s after x x earlier history refl refl refl refl refl refl refl
 
 pub slots_same : (m : Setting) (n : ℕ) (bs : List Besides) (s after : State) (x : Numbers) → after.earlier ≡ s.earlier → after.history ≡ s.history
     → FitsSlots m n bs s x → FitsSlots m n bs after x
@@ -209,23 +211,23 @@ aside_logged m node s after x same = aside_same m node s after x same.earlier sa
 -- the slots do not show how clean a node has seen a segment
 pub aside_known : (m : Setting) (node : ℕ) (s after : State) (x : Numbers) (to segment : ℕ) → after.earlier ≡ s.earlier → after.history ≡ s.history → BesideSlots m node s x after (seen x to segment)
 aside_known m node s after x to segment earlier history =
-    aside_stays m node s x after (seen x to segment) (stays_where m s after x (seen x to segment) earlier history refl refl refl refl refl refl)
+    aside_stays m node s x after (seen x to segment) (stays_where m s after x (seen x to segment) earlier history refl refl refl refl refl refl refl)
 
 pub slots_known : (m : Setting) (n : ℕ) (bs : List Besides) (s after : State) (x : Numbers) (to segment : ℕ) → after.earlier ≡ s.earlier → after.history ≡ s.history
     → FitsSlots m n bs s x → FitsSlots m n bs after (seen x to segment)
 slots_known m n bs s after x to segment earlier history =
-    slots_stay m n bs s x after (seen x to segment) (stays_where m s after x (seen x to segment) earlier history refl refl refl refl refl refl)
+    slots_stay m n bs s x after (seen x to segment) (stays_where m s after x (seen x to segment) earlier history refl refl refl refl refl refl refl)
 
 -- nor how many records it has dropped of those that it published
 pub aside_trimmed : (m : Setting) (node : ℕ) (s after : State) (x : Numbers) (trimmed : ℕ → ℕ) → after.earlier ≡ s.earlier → after.history ≡ s.history
     → BesideSlots m node s x after (record x { trimmed = trimmed })
 aside_trimmed m node s after x trimmed earlier history =
-    aside_stays m node s x after (record x { trimmed = trimmed }) (stays_where m s after x (record x { trimmed = trimmed }) earlier history refl refl refl refl refl refl)
+    aside_stays m node s x after (record x { trimmed = trimmed }) (stays_where m s after x (record x { trimmed = trimmed }) earlier history refl refl refl refl refl refl refl)
 
 pub slots_trimmed : (m : Setting) (n : ℕ) (bs : List Besides) (s after : State) (x : Numbers) (trimmed : ℕ → ℕ) → after.earlier ≡ s.earlier → after.history ≡ s.history
     → FitsSlots m n bs s x → FitsSlots m n bs after (record x { trimmed = trimmed })
 slots_trimmed m n bs s after x trimmed earlier history =
-    slots_stay m n bs s x after (record x { trimmed = trimmed }) (stays_where m s after x (record x { trimmed = trimmed }) earlier history refl refl refl refl refl refl)
+    slots_stay m n bs s x after (record x { trimmed = trimmed }) (stays_where m s after x (record x { trimmed = trimmed }) earlier history refl refl refl refl refl refl refl)
 
 -- a token leaves or comes
 pub slots_placed : (m : Setting) (n : ℕ) (bs : List Besides) (s : State) (x : Numbers) (segment : ℕ) (place : Place) → FitsSlots m n bs s x → FitsSlots m n bs (placed s segment place) x
@@ -279,6 +281,8 @@ stays_appended m s x t = record {
     pages = h.pages;
     touched = h.touched;
     stable_is = h.stable_is;
+    text_is = h.text_is;
+    uncounted = h.uncounted;
   };
 }
   where

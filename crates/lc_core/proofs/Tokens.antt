@@ -1,8 +1,8 @@
 -- A token that leaves a node, and one that arrives there.
 use Rattle.std.proofs.Common.{◌≡◌, ℕ, suc, ◌+◌, ◌-◌, ◌≤◌, Bool, Option, Some, None, refl, sym, ap, subst, ◌∙◌, inl, inr, arith}
-use Rattle.std.specs.Prelude.{MatchOption, map, slice_get, is_some, nat_lt, IsSome, if◌then◌else◌, Ok, Err}
+use Rattle.std.specs.Prelude.{MatchOption, List, max, map, slice_get, is_some, nat_lt, IsSome, if◌then◌else◌, Ok, Err}
 use Rattle.std.specs.Option.{ForSome}
-use Rattle.std.proofs.lemmas.Bool.{le-ltb, lt-ltb}
+use Rattle.std.proofs.lemmas.Bool.{cases_eq, eq-eqb, le-ltb, lt-ltb, ne_eqb}
 use Rattle.lc_disk.specs.declared.area.Area.{Ghosts}
 use Rattle.lc_record.specs.Content.{segment_of}
 use Rattle.lc_model.specs.History.{reserved, value}
@@ -40,6 +40,9 @@ use Rattle.lc_core.specs.declared.journal.Journal.{Journal}
 use Rattle.lc_core.specs.declared.node.Node.{Node}
 use Rattle.lc_core.specs.declared.slot.Slot.{Slot}
 use Rattle.lc_core.proofs.Closes.{get-map}
+use Rattle.lc_trunc.specs.KnownClean.{Sees, known as known_of}
+use Rattle.lc_model.specs.Moves.{update_at}
+use Rattle.lc_core.proofs.Gained.{other_node, other_segment, own_at}
 use Rattle.lc_core.proofs.Going.{settled_by, stays_so}
 use Rattle.lc_core.proofs.Holding.{free-unheld}
 use Rattle.lc_core.proofs.Others.{beside_placed}
@@ -83,12 +86,13 @@ module _ {D : Type 0} (a : Ghosts D) where
 
   -- where nothing has changed
   pub same_goes : (m : Setting) (n : ℕ) (s : State) (x : Numbers) (old : Node D a) (new : Desk) → new.here.slots.items ≡ old.desk.here.slots.items → FitsDesk m n new.here new.seats.items s
-      → FitsNode a m n old s x → FitsNode a m n (record { desk = new; journal = old.journal }) s x
+      → FitsNode a m n old s x → FitsNode a m n (record { desk = new; journal = old.journal; known = old.known }) s x
   same_goes m n s x old new slots desk h = record {
     desk = desk;
     slots = subst (λ items. FitsSlots m n (map beside items) s x) (sym slots) h.slots;
     journal = h.journal;
     room = h.room;
+    known = h.known;
   }
 
   module _ (m : Setting) (n : ℕ) (s : State) (x : Numbers) (sound : Sound m.geometry s) (old : Node D a) (h : FitsNode a m n old s x) (new : Desk) where
@@ -103,7 +107,7 @@ module _ {D : Type 0} (a : Ghosts D) where
 
       pub token_leaves : (token : Token) → Leaves segment writing count stable old.desk (Ok token) new
           → ((slot : Slot) → slice_get old.desk.here.slots.items (segment - 1) ≡ Some slot → MayLeave writing count stable slot)
-          → (goes : GoesOn a m n (Leave n segment) s x Accepted (record { desk = new; journal = old.journal })) × (goes.after.place segment ≡ Travelling)
+          → (goes : GoesOn a m n (Leave n segment) s x Accepted (record { desk = new; journal = old.journal; known = old.known })) × (goes.after.place segment ≡ Travelling)
           × FitsToken m segment token goes.after goes.next
       token_leaves token left may =
           let slot = left.0.0 in
@@ -130,12 +134,14 @@ module _ {D : Type 0} (a : Ghosts D) where
                 desks = beside_placed m n segment Travelling s (inl (h.desk.places segment here)) (inr refl);
                 logs = logs_placed m n s x x segment Travelling refl refl;
                 slots = aside_placed m n s x segment Travelling;
+                known = λ other any differ. refl;
               };
               fits = record {
                 desk = step.1;
                 slots = slots_placed m n (besides_of new.here) s x segment Travelling (subst (λ (w : Here). FitsSlots m n (besides_of w) s x) (sym moved.here) gone);
                 journal = journal_placed m n old.journal s x x segment Travelling refl refl h.journal;
                 room = h.room;
+                known = h.known;
               };
               phase = refl;
               places = λ other differ. update-other s.place segment Travelling other differ;
@@ -149,7 +155,7 @@ module _ {D : Type 0} (a : Ghosts D) where
           )
 
       pub token_stays : (fault : TokenFault) (refusal : Refusal) → token_refusal fault ≡ Some refusal → Leaves segment writing count stable old.desk (Err fault) new
-          → GoesOn a m n (Leave n segment) s x (Refused refusal) (record { desk = new; journal = old.journal })
+          → GoesOn a m n (Leave n segment) s x (Refused refusal) (record { desk = new; journal = old.journal; known = old.known })
       token_stays fault refusal is left =
           let step = subst (λ (o : Option Refusal). MatchOption o ⊥ (λ refusal. (m : Setting) (node : ℕ) (s : State) → Sound m.geometry s → segment ≤ m.geometry.segments → FitsDesk m node old.desk.here old.desk.seats.items s
           → count ≡ reserved node s.history → stable ≡ s.ack node → Row m s (Leave node segment) (Refused refusal) s
@@ -180,9 +186,25 @@ module _ {D : Type 0} (a : Ghosts D) where
           → Settled m s x (Arrive n token.segment) reply
       arrive_settled reply gives = settled_by m s x (Arrive n token.segment) reply (λ e. absurd cc) (λ answer open_is. sym gives ∙ same_some _ _ (sym answer_is ∙ open_is))
 
-      pub token_arrives : Arrives token slot old.desk (Ok tt) new
-          → (goes : GoesOn a m n (Arrive n token.segment) s x Accepted (record { desk = new; journal = old.journal })) × (goes.after.place token.segment ≡ At n)
-      token_arrives came =
+      -- and what it calls clean is seen
+      known_seen : (known : List ℕ) → Sees old.known token known → (any : ℕ) → 1 ≤ any → any ≤ m.geometry.segments
+          → known_of known any ≡ (seen x n token.segment).known n any
+      known_seen known sees any from to =
+          let clean = max (x.known n token.segment) (x.clean token.segment) in
+          elim (cases_eq any token.segment) [
+            | inl same ↦
+                sees any ∙ ap (λ (b : Bool). if b then max (known_of old.known any) token.clean else known_of old.known any) (eq-eqb any token.segment same)
+                ∙ ap (max (known_of old.known any)) its.clean ∙ ap (λ (i : ℕ). max i (x.clean token.segment)) (h.known any from to)
+                ∙ ap (λ (i : ℕ). max (x.known n i) (x.clean token.segment)) same
+                ∙ sym (ap (update_at x.known n token.segment clean n) same ∙ own_at x.known n token.segment clean)
+            | inr differ ↦
+                sees any ∙ ap (λ (b : Bool). if b then max (known_of old.known any) token.clean else known_of old.known any) (ne_eqb any token.segment differ)
+                ∙ h.known any from to ∙ sym (other_segment x.known n token.segment clean any differ)
+          ]
+
+      pub token_arrives : (known : List ℕ) → Sees old.known token known → Arrives token slot old.desk (Ok tt) new
+          → (goes : GoesOn a m n (Arrive n token.segment) s x Accepted (record { desk = new; journal = old.journal; known = known })) × (goes.after.place token.segment ≡ At n)
+      token_arrives known sees came =
           let moved = came.1 in
           let ready = waits m n old.desk.here (token.segment - 1) slot at s x h.slots empty old.desk.seats.items token h.desk its_place (ap s.place is ∙ travels) sound in
           let step = came.2 m n s h.desk ready in
@@ -197,6 +219,7 @@ module _ {D : Type 0} (a : Ghosts D) where
                 desks = beside_placed m n token.segment (At n) s (inr travels) (inl refl);
                 logs = logs_placed m n s x (seen x n token.segment) token.segment (At n) refl refl;
                 slots = aside_known m n s (placed s token.segment (At n)) x n token.segment refl refl;
+                known = λ other any differ. other_node x.known n token.segment (max (x.known n token.segment) (x.clean token.segment)) other any differ;
               };
               fits = record {
                 desk = step.1;
@@ -204,6 +227,7 @@ module _ {D : Type 0} (a : Ghosts D) where
                     (subst (λ (w : Here). FitsSlots m n (besides_of w) s x) (sym moved.here) placed_there);
                 journal = journal_placed m n old.journal s x (seen x n token.segment) token.segment (At n) refl refl h.journal;
                 room = h.room;
+                known = known_seen known sees;
               };
               phase = refl;
               places = λ other differ. update-other s.place token.segment (At n) other differ;
@@ -215,7 +239,7 @@ module _ {D : Type 0} (a : Ghosts D) where
           )
 
       pub token_comes_back : (back : Token) (fault : TokenFault) (refusal : Refusal) → token_refusal fault ≡ Some refusal → Arrives token slot old.desk (Err (back, fault)) new
-          → GoesOn a m n (Arrive n token.segment) s x (Refused refusal) (record { desk = new; journal = old.journal })
+          → GoesOn a m n (Arrive n token.segment) s x (Refused refusal) (record { desk = new; journal = old.journal; known = old.known })
       token_comes_back back fault refusal named came =
           let same : refusal ≡ Behind slot.parts.applied token.seq = same_some _ _ (sym named ∙ ap (λ (p : Token × TokenFault). token_refusal p.1) came.1) in
           rw same (stays_so a m n (Arrive n token.segment) s x (Refused (Behind slot.parts.applied token.seq)) (came.3 m n s travels)

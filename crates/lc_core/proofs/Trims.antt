@@ -38,7 +38,7 @@ logs_trimmed m n s x trimmed = record {
 -- by as many as every node has applied, from the first
 pub trim_goes : {D : Type 0} (a : Ghosts D) (m : Setting) (n : ℕ) (s : State) (x : Numbers) (count : ℕ) (old : Node D a) (new : Journal D a) → FitsNode a m n old s x
     → count ≡ leading (map (is_done m x) (published m s x n)) → Trims a old.journal count new → new.group ≡ old.journal.group
-    → GoesOn a m n (Trim n) s x (Trimmed count) (record { desk = old.desk; journal = new })
+    → GoesOn a m n (Trim n) s x (Trimmed count) (record { desk = old.desk; journal = new; known = old.known })
 trim_goes a m n s x count old new h counts trims group =
     let trimmed : ℕ → ℕ = update x.trimmed n (x.trimmed n + count) in
     record {
@@ -51,12 +51,14 @@ trim_goes a m n s x count old new h counts trims group =
         desks = beside_open m n s s (still n s);
         logs = logs_trimmed m n s x (x.trimmed n + count);
         slots = aside_trimmed m n s s x trimmed refl refl;
+        known = λ other segment differ. refl;
       };
       fits = record {
         desk = h.desk;
         slots = slots_trimmed m n (besides_of old.desk.here) s s x trimmed refl refl h.slots;
         journal = trims m n s x h.journal;
         room = ap (λ group. group.room) group ∙ h.room;
+        known = h.known;
       };
       phase = refl;
       places = λ segment differ. refl;

@@ -40,7 +40,7 @@ some-numbers m s x RecoverStep Reset = (numbers_after m s x RecoverStep (Reset),
 some-numbers m s x RecoverStep Down = (numbers_after m s x RecoverStep (Down), refl)
 some-numbers m s x RecoverStep (Refused refusal) = (numbers_after m s x RecoverStep (Refused refusal), refl)
 some-numbers m s x RecoverStep Recovered =
-    (recovered_numbers m.geometry (kept_numbers s.phase s x) x.disks.page, (x.disks.page, refl))
+    (recovered_numbers m.geometry (kept_numbers s.phase s x) x.disks.page x.texts, (x.disks.page, x.texts, refl))
 
 pub one-numbers : (m : Setting) (s : State) (x next others : Numbers) (event : Event) (reply : Reply) → Turns m s x event reply next → Turns m s x event reply others → reply ≢ Recovered → next ≡ others
 one-numbers m s x next others (Begin node thread segments reading) reply first second differ = first ∙ sym second

@@ -59,3 +59,4 @@ pub record BesideNode (m : Setting) (node : ℕ) (old : State) (x : Numbers) (ne
   pub desks : Beside m node old new
   pub logs : BesideLogs m node old x new y
   pub slots : BesideSlots m node old x new y
+  pub known : (other segment : ℕ) → (other ≡ node → ⊥) → y.known other segment ≡ x.known other segment

@@ -1,12 +1,13 @@
 -- What stands ready before the pages of a store are known, and how its nodes are filled with them.
-use Rattle.std.specs.Prelude.{◌≡◌, ℕ, ◌+◌, ◌%◌, ◌==◌, List, [], length, replicate, is_some, Some, slice_get}
+use Rattle.std.specs.Prelude.{◌≡◌, ◌≤◌, ℕ, ◌+◌, ◌%◌, ◌==◌, List, [], length, replicate, is_some, Some, slice_get}
 use Rattle.std.specs.Option.{ForSome}
 use Rattle.lc_disk.specs.declared.area.Area.{Ghosts}
 use Rattle.lc_record.specs.Geometry.{segment_len}
 use Rattle.lc_record.specs.declared.geometry.Geometry.{Geometry}
 use Rattle.lc_recover.specs.Recovered.{RecoveredStore}
 use Rattle.lc_tx.specs.declared.holders.Holders.TheVariants.{Free as Unheld}
-use Rattle.lc_core.specs.Fresh.{IsFreshSlot}
+use Rattle.lc_trunc.specs.KnownClean.{KnowsNothing, known as known_of}
+use Rattle.lc_core.specs.Fresh.{IsFreshSlot, known_first}
 use Rattle.lc_core.specs.declared.desk.Desk.{Desk}
 use Rattle.lc_core.specs.declared.journal.Journal.{Journal}
 use Rattle.lc_core.specs.declared.node.Node.{Node}
@@ -57,6 +58,7 @@ module _ {D : Type 0} (a : Ghosts D) where
     pub desk : IsBlankDesk g node.desk
     pub stand : StandAt g n node.desk.here.slots.items
     pub journal : IsBlankJournal g node.journal
+    pub known : KnowsNothing node.known
 
   abbrev pub AreBlankNodes : Geometry → List (Node D a) → Type 0
   AreBlankNodes g nodes = (n : ℕ) (node : Node D a) → slice_get nodes n ≡ Some node → IsBlankNode g n node
@@ -66,6 +68,7 @@ module _ {D : Type 0} (a : Ghosts D) where
     pub desk : IsBlankDesk r.geometry node.desk
     pub slots : AreFreshSlots r n node.desk.here.slots.items
     pub journal : IsBlankJournal r.geometry node.journal
+    pub known : (segment : ℕ) → 1 ≤ segment → segment ≤ r.geometry.segments → known_of node.known segment ≡ known_first r n segment
 
   abbrev pub AreFilledNodes : RecoveredStore D → List (Node D a) → Type 0
   AreFilledNodes r nodes = (n : ℕ) (node : Node D a) → slice_get nodes n ≡ Some node → IsFilledNode r n node

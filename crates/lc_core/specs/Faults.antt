@@ -3,6 +3,7 @@ use Rattle.std.specs.Prelude.{◌≡◌, ℕ, List, [], ◌∷◌, ◌++◌, map
 use Rattle.lc_disk.specs.declared.area.Area.{Ghosts}
 use Rattle.lc_model.specs.declared.reply.Reply.{Reply}
 use Rattle.lc_core.specs.FaultReplies.{CountsFaults, failures_of}
+use Rattle.lc_core.specs.Pages.{areas_of}
 use Rattle.lc_core.specs.declared.log.Log.{Log}
 use Rattle.lc_core.specs.declared.node.Node.{Node}
 use Rattle.lc_core.specs.declared.phase.Phase.{Phase}
@@ -34,7 +35,7 @@ module _ {D : Type 0} (a : Ghosts D) where
   -- those of the logs, and then those of the segments
   abbrev pub phase_failures : Phase D a → List (Option ℕ)
   phase_failures (Down recovery) = area_failures recovery.areas
-  phase_failures (Up up) = log_failures (logs_of up.running.nodes.items) ++ area_failures up.segments.items
+  phase_failures (Up up) = log_failures (logs_of up.running.nodes.items) ++ area_failures (areas_of up.segments.items)
   phase_failures Taken = []
 
   -- what a reply of running nodes tells of their devices

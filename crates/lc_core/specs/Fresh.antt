@@ -1,11 +1,13 @@
 -- What comes up behind a recovery.
-use Rattle.std.specs.Prelude.{◌≡◌, ℕ, ◌+◌, ◌%◌, ◌==◌, false, List, [], length, map, replicate, Some, None, if◌then◌else◌, slice_get}
+use Rattle.std.specs.Prelude.{◌≡◌, ◌≤◌, ℕ, ◌+◌, ◌%◌, ◌==◌, false, List, [], length, map, replicate, Some, None, if◌then◌else◌, slice_get}
 use Rattle.std.specs.List.{flat_map}
 use Rattle.lc_disk.specs.declared.area.Area.{Ghosts}
 use Rattle.lc_record.specs.Marks.{counting}
 use Rattle.lc_page.specs.PageVector.{new_entry}
+use Rattle.lc_page.specs.declared.page_text.PageText.{PageText}
 use Rattle.lc_recover.specs.Recovered.{RecoveredStore, page_of, sequence_of}
 use Rattle.lc_token.specs.Backlog.{fresh}
+use Rattle.lc_trunc.specs.KnownClean.{known as known_of}
 use Rattle.lc_token.specs.Standing.{Standing}
 use Rattle.lc_token.specs.declared.token.Token.{Token}
 use Rattle.lc_tx.specs.declared.holders.Holders.TheVariants.{Free as Unheld}
@@ -16,6 +18,10 @@ use Rattle.lc_core.specs.declared.seat.Seat.TheVariants.{Free}
 use Rattle.lc_core.specs.declared.slot.Slot.{Slot}
 
 module _ {D : Type 0} where
+  -- what the disk says of a page of a segment
+  abbrev pub text_read_of : RecoveredStore D → ℕ → ℕ → PageText
+  text_read_of r segment page = (page_of r segment page).text
+
   -- the pages of a segment, one after another
   abbrev pub segment_bytes : RecoveredStore D → ℕ → List ℕ
   segment_bytes r segment = flat_map (λ page. (page_of r segment page).bytes) (counting 0 r.geometry.pages)
@@ -32,6 +38,10 @@ module _ {D : Type 0} where
   -- it stands at the node that is the rest of its segment by their number
   abbrev pub fresh_standing : RecoveredStore D → ℕ → ℕ → Standing
   fresh_standing r node segment = record { segment = segment; token = if segment % r.geometry.nodes == node then Some (fresh_token r segment) else None }
+
+  -- how clean the node has seen it then: as the token that stands there calls it
+  abbrev pub known_first : RecoveredStore D → ℕ → ℕ → ℕ
+  known_first r node segment = if segment % r.geometry.nodes == node then sequence_of r segment else 0
 
   -- a segment at a node: its bytes, which no transaction holds, and no part of it from a peer
   pub record IsFreshSlot (r : RecoveredStore D) (node segment : ℕ) (slot : Slot) : Type 0 where
@@ -55,6 +65,7 @@ module _ {D : Type 0} (a : Ghosts D) where
     pub trimmed : new.journal.trimmed ≡ 0
     pub taken : new.journal.taken ≡ 0
     pub acked : new.journal.acked ≡ 0
+    pub known : (segment : ℕ) → 1 ≤ segment → segment ≤ r.geometry.segments → known_of new.known segment ≡ known_first r node segment
 
   -- and no token is on its way
   pub record IsFresh (r : RecoveredStore D) (w : Running D a) : Type 0 where

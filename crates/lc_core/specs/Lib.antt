@@ -1,6 +1,7 @@
 pub mod Numbers
 pub mod Settled
 pub mod Turns
+pub mod Coherent
 pub mod Places
 pub mod Here
 pub mod Seat
@@ -32,6 +33,7 @@ pub mod Receives
 pub mod Delivers
 pub mod Stepping
 pub mod Runs
+pub mod Pages
 pub mod World
 pub mod Faults
 pub mod Recovering
@@ -40,3 +42,4 @@ pub mod Blank
 pub mod Showing
 pub mod LogWords
 pub mod Recovers
+pub mod Uncommitted

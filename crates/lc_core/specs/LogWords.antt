@@ -9,6 +9,7 @@ use Rattle.lc_model.specs.Stored.{records_of}
 use Rattle.lc_recover.specs.Recovery.{Recovering}
 use Rattle.lc_core.specs.Log.{Stands, area_of, end_of, is_failed, is_idle, size, under_way}
 use Rattle.lc_core.specs.Numbers.{Numbers, stable_records}
+use Rattle.lc_core.specs.Pages.{areas_of}
 use Rattle.lc_core.specs.World.{FitsPhase}
 use Rattle.lc_core.specs.declared.journal.Journal.{Journal}
 use Rattle.lc_core.specs.declared.log.Log.{Log}
@@ -80,6 +81,7 @@ module _ {D : Type 0} (a : Ghosts D) where
     pub nodes : new.nodes.items ≡ slice_set old.nodes.items n now
     pub travelling : new.travelling ≡ old.travelling
     pub desk : now.desk ≡ node.desk
+    pub known : now.known ≡ node.known
     pub journal : IsSameJournal node.journal now.journal
     pub keeps : StandsOn node.journal.log now.journal.log
 
@@ -102,7 +104,7 @@ module _ {D : Type 0} (a : Ghosts D) where
   -- the areas of the segments
   abbrev pub segment_areas : Phase D a → List D
   segment_areas (Down recovery) = drop recovery.geometry.nodes recovery.areas
-  segment_areas (Up up) = up.segments.items
+  segment_areas (Up up) = areas_of up.segments.items
   segment_areas Taken = []
 
   -- no area has changed but that of a node's log; whatever the store fitted, it still fits

@@ -1,5 +1,5 @@
 -- A node's desk and journal together beside the machine.
-use Rattle.std.specs.Prelude.{vec_len, ◌≡◌, ℕ, Bool, nat_lt, None, Result, Ok, Err}
+use Rattle.std.specs.Prelude.{vec_len, ◌≡◌, ◌≤◌, ℕ, Bool, nat_lt, List, Option, None, MatchOption, option_and_then, Result, Ok, Err}
 use Rattle.lc_disk.specs.declared.area.Area.{Ghosts}
 use Rattle.lc_token.specs.declared.token.Token.{Token}
 use Rattle.lc_model.specs.Machine.{Row}
@@ -20,6 +20,8 @@ use Rattle.lc_core.specs.Prepares.{GetsPlace}
 use Rattle.lc_core.specs.Settled.{Settled, is_writing}
 use Rattle.lc_core.specs.Slots.{FitsSlots, FitsToken, besides_of}
 use Rattle.lc_core.specs.Turns.{Turns}
+use Rattle.lc_trunc.specs.KnownClean.{Sees, known as known_of}
+use Rattle.lc_core.specs.declared.slot.Slot.{Slot}
 use Rattle.lc_core.specs.declared.node.Node.{Node}
 
 -- the segment whose token leaves or arrives; there is no segment 0
@@ -28,13 +30,19 @@ moved_by (Leave node segment) Accepted = segment
 moved_by (Arrive node segment) Accepted = segment
 moved_by event reply = 0
 
+-- the `clean` of the token that stands in the slot is seen too
+abbrev pub SeesStanding : Option Slot → List ℕ → List ℕ → Type 0
+SeesStanding slot old new =
+    MatchOption (option_and_then (λ (its : Slot). its.token.token) slot) (new ≡ old) (λ token. Sees old token new)
+
 module _ {D : Type 0} (a : Ghosts D) where
-  -- its desk, what stands in its slots, and its journal fit
+  -- its desk, what stands in its slots, and its journal fit, and it has seen the segments as clean as the numbers say
   pub record FitsNode (m : Setting) (n : ℕ) (node : Node D a) (s : State) (x : Numbers) : Type 0 where
     pub desk : FitsDesk m n node.desk.here node.desk.seats.items s
     pub slots : FitsSlots m n (besides_of node.desk.here) s x
     pub journal : FitsJournal a m n node.journal s x
     pub room : node.journal.group.room ≡ m.geometry.words
+    pub known : (segment : ℕ) → 1 ≤ segment → segment ≤ m.geometry.segments → known_of node.known segment ≡ x.known n segment
 
   -- from a state and numbers that it fits to others: the reply is settled, and one that the event's row allows; no other node
   -- sees more than that

@@ -1,6 +1,7 @@
 -- What a store knows beside the machine's state: the numbers that settle the answers which the machine leaves open.
 use Rattle.std.specs.Prelude.{ℕ, ◌+◌, Bool, ◌*◌, ◌%◌, ◌==◌, nat_le, List, [], ◌∷◌, drop, take, sum_by, if◌then◌else◌}
 use Rattle.std.specs.List.{list_all}
+use Rattle.lc_page.specs.declared.page_text.PageText.{PageText}
 use Rattle.lc_record.specs.Record.{record_len}
 use Rattle.lc_record.specs.Content.{segment_of}
 use Rattle.lc_record.specs.Marks.{counting}
@@ -37,12 +38,14 @@ pub record Numbers : Type 0 where
   -- are made, 0 where none is under way
   pub touched : ℕ → ℕ → ℕ
   pub calls : ℕ → ℕ → ℕ
+  -- by segment and page: what the disk says of the page, and while it is written what it said before
+  pub texts : ℕ → ℕ → PageText
   -- how many steps a recovery has made
   pub steps : ℕ
 
--- behind a recovery that gave the segments these numbers, and left these pages
-abbrev pub recovered_numbers : Geometry → (ℕ → ℕ) → (ℕ → ℕ → Page) → Numbers
-recovered_numbers g numbers pages = record {
+-- behind a recovery that gave the segments these numbers, and left these pages, of which the disk says this
+abbrev pub recovered_numbers : Geometry → (ℕ → ℕ) → (ℕ → ℕ → Page) → (ℕ → ℕ → PageText) → Numbers
+recovered_numbers g numbers pages texts = record {
   disks = recovered_disks numbers pages;
   reset = λ node. 0;
   round = λ node. 0;
@@ -53,6 +56,7 @@ recovered_numbers g numbers pages = record {
   clean = numbers;
   touched = λ segment page. (pages segment page).sequence;
   calls = λ segment page. 0;
+  texts = texts;
   steps = 0;
 }
 

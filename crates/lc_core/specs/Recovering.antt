@@ -13,6 +13,7 @@ use Rattle.lc_model.specs.declared.reply.Reply.{Reply}
 use Rattle.lc_model.specs.declared.reply.Reply.TheVariants.{Stepped, Recovered, Refused}
 use Rattle.lc_core.specs.Fresh.{IsFresh}
 use Rattle.lc_core.specs.Log.{area_of}
+use Rattle.lc_core.specs.Pages.{RestsAll, areas_of}
 use Rattle.lc_core.specs.declared.node.Node.{Node}
 use Rattle.lc_core.specs.declared.phase.Phase.{Phase}
 use Rattle.lc_core.specs.declared.phase.Phase.TheVariants.{Up as IsUp}
@@ -33,7 +34,7 @@ RepliesTo (Ok HasRecovered) result = result ≡ Ok Recovered
 RepliesTo (Err fault) result = MatchOption (refusal_to fault) (IsErr result) (λ refusal. result ≡ Ok (Refused refusal))
 
 module _ {D : Type 0} (a : Ghosts D) where
-  -- the nodes are those of the store that a recovery has made, on its areas
+  -- the nodes are those of the store that a recovery has made, on its areas, and no page is being written
   pub record ComesUp (r : Recovering D) (up : Up D a) : Type 0 where
     pub store : RecoveredStore D
     pub geometry : store.geometry ≡ r.geometry
@@ -44,7 +45,8 @@ module _ {D : Type 0} (a : Ghosts D) where
     pub fresh : AreHonest a r.areas → IsFresh a store up.running
     pub lengths : HaveLengths a r.geometry r.areas
     pub bytes : AreOfBytes a r.areas
-    pub segments : up.segments.items ≡ drop r.geometry.nodes r.areas
+    pub segments : areas_of up.segments.items ≡ drop r.geometry.nodes r.areas
+    pub rest : RestsAll r.geometry up.segments.items
 
   abbrev pub HasComeUp : Recovering D → Phase D a → Type 0
   HasComeUp r phase = (up : Up D a) × (phase ≡ IsUp up) × ComesUp r up

@@ -10,6 +10,7 @@ use Rattle.lc_model.specs.State.{Travelling, Up, Setting, State}
 use Rattle.lc_model.specs.Stored.{Fits as FitsDisks}
 use Rattle.lc_model.specs.declared.event.Event.{Event}
 use Rattle.lc_model.specs.declared.reply.Reply.{Reply}
+use Rattle.lc_core.specs.Coherent.{AreCoherent}
 use Rattle.lc_core.specs.Log.{is_failed}
 use Rattle.lc_core.specs.Node.{FitsNode}
 use Rattle.lc_core.specs.Numbers.{Numbers}
@@ -39,7 +40,8 @@ module _ {D : Type 0} (a : Ghosts D) where
     pub sound : Sound m.geometry s
     -- whatever a stop leaves of the records and pages of this state merges to what it cuts
     pub stored : FitsDisks m s x.disks
-    pub open_logs : (node : ℕ) → x.disks.resetting node ≡ false
+    -- what tokens call clean is on the pages, and what is under way is so on the disks
+    pub coherent : AreCoherent m s x
     pub each : FitsNodes m nodes s x
     pub on_the_way : FitsTravelling m travelling s x
     -- no log is being reset, and no page is being written

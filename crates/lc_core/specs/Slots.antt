@@ -1,7 +1,7 @@
 -- What stands in a node's slots beside the images of its transactions, against the machine and the numbers.
 use Rattle.std.specs.Prelude.{◌≡◌, ◌≤◌, ◌<◌, ℕ, ◌+◌, List, [], map, length, All, Option, Some, slice_get}
 use Rattle.std.specs.Option.{ForSome}
-use Rattle.lc_page.specs.PageVector.{entry_at}
+use Rattle.lc_page.specs.PageVector.{entry_at, entry_text}
 use Rattle.lc_record.specs.Content.{segment_of}
 use Rattle.lc_record.specs.Part.{part_of}
 use Rattle.lc_record.specs.Transaction.{effects}
@@ -43,6 +43,9 @@ pub record FitsToken (m : Setting) (segment : ℕ) (token : Token) (s : State) (
   pub pages : length token.pages ≡ m.geometry.pages
   pub touched : (page : ℕ) → page < m.geometry.pages → (entry_at token.pages page).touched ≡ x.touched segment page
   pub stable_is : (page : ℕ) → page < m.geometry.pages → (entry_at token.pages page).stable ≡ stable x segment page
+  pub text_is : (page : ℕ) → page < m.geometry.pages → entry_text (entry_at token.pages page) ≡ x.texts segment page
+  -- who refers to a page is known from what the threads are doing, not counted here
+  pub uncounted : (page : ℕ) → page < m.geometry.pages → (entry_at token.pages page).uncommitted ≡ 0
 
 -- a part that waits is that of a record of the segment which is closed
 pub record Awaits (m : Setting) (s : State) (x : Numbers) (segment : ℕ) (part : Part) : Type 0 where

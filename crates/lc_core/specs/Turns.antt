@@ -1,6 +1,8 @@
 -- What an event and its reply make of the numbers beside the machine's state.
 use Rattle.std.specs.Prelude.{◌≡◌, ℕ, ◌+◌, ◌-◌, Bool, ◌&&◌, ◌==◌, nat_lt, List, [], ◌∷◌, filter, find, max, slice_get, Option, Some, None, if◌then◌else◌}
 use Rattle.std.specs.Option.{unwrap_or}
+use Rattle.lc_page.specs.PageVector.{settled_text}
+use Rattle.lc_page.specs.declared.page_text.PageText.{PageText}
 use Rattle.lc_record.specs.Marks.{counting}
 use Rattle.lc_record.specs.Transaction.{Transaction}
 use Rattle.lc_record.specs.declared.geometry.Geometry.{Geometry}
@@ -17,7 +19,7 @@ use Rattle.lc_model.specs.declared.reply.Reply.{Reply}
 use Rattle.lc_model.specs.declared.reply.Reply.TheVariants.{Ok as Accepted, Stepped, Applied, HeldBack, Trimmed, Written, Reset, Down, Recovered, Refused}
 use Rattle.lc_token.specs.Token.{least_with}
 use Rattle.lc_core.specs.Numbers.{Numbers, recovered_numbers, token_number, stable, sets_on}
-use Rattle.lc_core.specs.Settled.{number_of}
+use Rattle.lc_core.specs.Settled.{begun_number, number_of}
 
 -- Close
 
@@ -101,11 +103,12 @@ called m s x segment page calls = record x {
   calls = update_at x.calls segment page calls;
 }
 
--- the page write has ended
+-- the page write has ended: its slot is the present one
 abbrev pub page_settled : Numbers → ℕ → ℕ → Numbers
 page_settled x segment page = record x {
   disks = settled_with x.disks segment page (x.disks.begun segment page);
   calls = update_at x.calls segment page 0;
+  texts = update_at x.texts segment page (settled_text (x.texts segment page) (begun_number (x.disks.begun segment page)));
 }
 
 -- and the node has seen how clean the segment is now
@@ -154,7 +157,8 @@ kept_numbers (DownAt cut) s x = counted_all x.disks.numbers (kept s.history cut)
 -- behind the last step of a recovery the segments have the numbers of what the cut kept, and the pages are those that it
 -- left
 abbrev pub IsRecovered : Setting → State → Numbers → Numbers → Type 0
-IsRecovered m s x new = (pages : ℕ → ℕ → Page) × (new ≡ recovered_numbers m.geometry (kept_numbers s.phase s x) pages)
+IsRecovered m s x new =
+    (pages : ℕ → ℕ → Page) × (texts : ℕ → ℕ → PageText) × (new ≡ recovered_numbers m.geometry (kept_numbers s.phase s x) pages texts)
 
 -- the event and its reply lead from these numbers to those
 abbrev pub Turns : Setting → State → Numbers → Event → Reply → Numbers → Type 0

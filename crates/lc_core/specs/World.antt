@@ -1,9 +1,7 @@
 -- A store that is down or up, against the machine and the numbers.
-use Rattle.std.specs.Prelude.{◌≡◌, ℕ, ◌+◌, ◌<◌, ◌⊎◌, ◌++◌, Bool, true, List, length, Some, slice_get}
-use Rattle.lc_disk.specs.Area.{IsClean}
+use Rattle.std.specs.Prelude.{◌≡◌, ℕ, ◌⊎◌, ◌++◌, Bool, true}
 use Rattle.lc_disk.specs.declared.area.Area.{Ghosts}
 use Rattle.lc_record.specs.Transaction.{effects}
-use Rattle.lc_page.specs.Page.{page_in}
 use Rattle.lc_recover.specs.Reads.{AreHonest, AllMergeTo}
 use Rattle.lc_recover.specs.Recovery.{Recovering, IsLast, TakesMemory}
 use Rattle.lc_model.specs.History.{Cut, kept}
@@ -14,6 +12,7 @@ use Rattle.lc_model.specs.declared.event.Event.{Event}
 use Rattle.lc_model.specs.declared.event.Event.TheVariants.{RecoverStep}
 use Rattle.lc_model.specs.declared.reply.Reply.{Reply}
 use Rattle.lc_core.specs.Numbers.{Numbers}
+use Rattle.lc_core.specs.Pages.{FitsPages}
 use Rattle.lc_core.specs.Running.{FitsRunning}
 use Rattle.lc_core.specs.Settled.{Settled}
 use Rattle.lc_core.specs.Stepping.{AsksMemory, is_plain}
@@ -38,17 +37,9 @@ module _ {D : Type 0} (a : Ghosts D) where
     pub merges : AllMergeTo a m.geometry r.areas (effects (s.earlier ++ kept s.history cut) m.start) (kept_numbers (DownAt cut) s x)
     pub steps_are : x.steps ≡ r.steps
 
-  -- the areas of the segments, of which no position is dirty, have the pages
-  pub record FitsPages (m : Setting) (areas : List D) (x : Numbers) : Type 0 where
-    pub count : length areas ≡ m.geometry.segments
-    pub honest : AreHonest a areas
-    pub clean : (k : ℕ) (area : D) → slice_get areas k ≡ Some area → IsClean (a.dirty area)
-    pub pages : (k page : ℕ) (area : D) → slice_get areas k ≡ Some area → page < m.geometry.pages →
-        page_in (a.now area) page ≡ record { sequence = (x.disks.page (k + 1) page).sequence; content = (x.disks.page (k + 1) page).bytes }
-
   abbrev pub FitsPhase : Setting → Phase D a → State → Numbers → Type 0
   FitsPhase m (Down recovery) s x = FitsDown m recovery s x
-  FitsPhase m (Up up) s x = FitsRunning a m up.running s x × FitsPages m up.segments.items x
+  FitsPhase m (Up up) s x = FitsRunning a m up.running s x × FitsPages a m up.segments.items x
   FitsPhase m Taken s x = ⊥
 
   abbrev pub FitsWorld : Setting → World D a → State → Numbers → Type 0

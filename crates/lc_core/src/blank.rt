@@ -13,6 +13,7 @@ use lc_disk::Area;
 use lc_page::{PageText, PageVector};
 use lc_record::{Geometry, Group};
 use lc_token::{HoldBack, Token, TokenPlace};
+use lc_trunc::KnownClean;
 use lc_tx::Image;
 use std::alloc::{AllocError, Global};
 
@@ -109,6 +110,11 @@ impl<D: Area + Drop> Node<D> {
             taken: 0,
             acked: 0,
         };
-        Ok(Node { desk, journal })
+        let known = KnownClean::new();
+        Ok(Node {
+            desk,
+            journal,
+            known,
+        })
     }
 }

@@ -9,6 +9,7 @@ ghost use Rattle.lc_core.specs.Blank.{AreFreshSlots, AreOfSegments, IsBlankDesk,
 ghost use Rattle.lc_core.specs.Fresh.{IsFreshSlot, fresh_token, segment_bytes};
 
 use crate::desk::Desk;
+use crate::node::Node;
 use crate::slot::Slot;
 use lc_disk::Area;
 use lc_page::PageVector;
@@ -103,5 +104,22 @@ impl Desk {
             → AreFreshSlots recovered.now node self.new.here.slots.items }
     {
         fill_slots(self.here.slots.as_mut_slice(), alloc, recovered);
+    }
+}
+
+impl<D: Area + Drop> Node<D> {
+    ghost use Rattle.lc_core.specs.Blank.{IsBlankNode, IsFilledNode};
+
+    /// The slots of a node, where no thread does anything, get what the recovery has made of their segments, and the node sees
+    /// how clean the tokens that stand there call them. It takes no memory.
+    pub(crate) fn fill(&mut self, alloc: Global, recovered: &Recovered<D>)
+        requires desk { IsBlankDesk recovered.now.geometry self.old.desk }
+        ensures fresh { (node : ℕ) → IsBlankNode D.Area recovered.now.geometry node self.old → IsFilledNode D.Area recovered.now node self.new }
+    {
+        self.desk.fill(alloc, recovered);
+        let segments = recovered.geometry().segments;
+        for before in 0..segments {
+            self.see(before + 1);
+        }
     }
 }

@@ -1,15 +1,20 @@
 //! The laws of the answers that the machine leaves open, each the contract of a function with nothing to do.
 ghost use Rattle.std.specs.Prelude.{◌≡◌, ◌≢◌, ◌⊎◌, ℕ, List, Some};
+ghost use Rattle.lc_page.specs.declared.page_text.PageText.{PageText};
 ghost use Rattle.lc_record.specs.Transaction.{Transaction};
 ghost use Rattle.lc_model.specs.Choices.{AtLeastOne};
 ghost use Rattle.lc_model.specs.Machine.{Step, Run, appended, closed_by, placed};
+ghost use Rattle.lc_model.specs.Merge.{Page};
+ghost use Rattle.lc_model.specs.Recovered.{recovered_disks};
 ghost use Rattle.lc_model.specs.Sound.{Sound};
-ghost use Rattle.lc_model.specs.State.{Place, At, Travelling, State, Setting, running_of};
+ghost use Rattle.lc_model.specs.State.{Place, At, Travelling, Up, State, Setting, fresh, running_of};
+ghost use Rattle.lc_model.specs.Stored.{Fits as FitsDisks};
 ghost use Rattle.lc_core.specs.Beside.{Beside, BesideLogs};
+ghost use Rattle.lc_core.specs.Coherent.{AreCoherent};
 ghost use Rattle.lc_core.specs.Desk.{FitsDesk};
 ghost use Rattle.lc_core.specs.Follows.{SameButLog};
 ghost use Rattle.lc_core.specs.FollowsDesk.{SameButOpen};
-ghost use Rattle.lc_core.specs.Numbers.{Numbers};
+ghost use Rattle.lc_core.specs.Numbers.{Numbers, recovered_numbers};
 ghost use Rattle.lc_core.specs.Runs.{RunsOn};
 ghost use Rattle.lc_core.specs.Settled.{Settled};
 ghost use Rattle.lc_core.specs.Journal.{FitsLog};
@@ -76,4 +81,16 @@ pub(crate) fn other_journals<D: Area>()
         running_of node thread s ≡ Some t → BesideLogs m node s x (appended s t) x }
     ensures closed { (m : Setting) (node thread : ℕ) (s : State) (x : Numbers) →
         BesideLogs m node s x (record s { history = closed_by node thread s.history }) x }
+{}
+
+/// What a recovery leaves of the numbers is coherent, and each event of a store that stays up keeps it so, and keeps the disks
+/// fitting the state.
+pub fn coherent_numbers()
+    ensures fresh { (m : Setting) (earlier : List Transaction) (numbers : ℕ → ℕ) (pages : ℕ → ℕ → Page)
+        (texts : ℕ → ℕ → PageText) → FitsDisks m (fresh m.geometry earlier Up) (recovered_disks numbers pages) →
+        AreCoherent m (fresh m.geometry earlier Up) (recovered_numbers m.geometry numbers pages texts) }
+    ensures keeps { (m : Setting) (s : State) (x : Numbers) (event : Event) (reply : Reply) (after : State)
+        (next : Numbers) → s.phase ≡ Up → after.phase ≡ Up → FitsDisks m s x.disks → AreCoherent m s x →
+        Step m s event reply after → Settled m s x event reply → Turns m s x event reply next →
+        AreCoherent m after next × FitsDisks m after next.disks }
 {}

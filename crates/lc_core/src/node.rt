@@ -13,17 +13,19 @@ use crate::token_refused::token_refusal;
 use crate::{Refusal, Reply};
 use lc_disk::Area;
 use lc_token::Token;
+use lc_trunc::KnownClean;
 use std::alloc::{AllocError, Global};
 
-/// What a node's threads do, and its log.
+/// What a node's threads do, its log, and how clean it has seen the segments.
 #[derive(Drop)]
 pub(crate) struct Node<D: Area> {
     pub(crate) desk: Desk,
     pub(crate) journal: Journal<D>,
+    pub(crate) known: KnownClean,
 }
 
 impl<D: Area + Drop> Node<D> {
-    ghost use Rattle.lc_core.specs.Node.{FollowsArrive, FollowsLeave, FollowsNode, FollowsReserve, HasSameRoom, StillFitsNode, WantsPlace};
+    ghost use Rattle.lc_core.specs.Node.{SeesStanding, FollowsArrive, FollowsLeave, FollowsNode, FollowsReserve, HasSameRoom, StillFitsNode, WantsPlace};
 
     /// A thread's open transaction gets its place in the log of this node, which a reset may have sealed; one that set
     /// nothing is over. It takes memory only for a record for which there is room.
@@ -134,12 +136,31 @@ impl<D: Area + Drop> Node<D> {
         if !slot.token.is_empty() {
             return Err((token, Refusal::OutOfTurn));
         }
+        let segment = token.segment;
         match self.desk.arrive(token) {
-            Ok(()) => Ok(()),
+            Ok(()) => {
+                self.see(segment);
+                Ok(())
+            }
             Err((token, fault)) => match token_refusal(fault) {
                 Some(refusal) => Err((token, refusal)),
                 None => unreachable!(),
             },
+        }
+    }
+
+    /// Takes in what the token of a segment, from 1, calls clean, where it stands here. It takes no memory.
+    pub(crate) fn see(&mut self, segment: u32)
+        requires first { 1 ≤ segment }
+        requires slot { segment ≤ vec_len self.old.desk.here.slots }
+        ensures sees { SeesStanding (slice_get self.old.desk.here.slots.items (segment - 1)) self.old.known self.new.known }
+        ensures desk { self.new.desk ≡ self.old.desk }
+        ensures journal { self.new.journal ≡ self.old.journal }
+    {
+        let desk = &self.desk;
+        let slot = &desk.here.slots[segment as usize - 1];
+        if let Some(token) = slot.token.token() {
+            self.known.see(token);
         }
     }
 }

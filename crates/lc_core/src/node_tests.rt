@@ -10,6 +10,7 @@ use crate::{Refusal, Reply};
 use lc_disk::MemArea;
 use lc_log::Idle;
 use lc_record::Group;
+use lc_trunc::KnownClean;
 use std::alloc::{AllocError, Global};
 use std::test::Fail;
 
@@ -29,7 +30,12 @@ fn node_of(alloc: Global, words: u32) -> Result<Node<MemArea>, AllocError>
         taken: 0,
         acked: 0,
     };
-    Ok(Node { desk, journal })
+    let known = KnownClean::new();
+    Ok(Node {
+        desk,
+        journal,
+        known,
+    })
 }
 
 // A record with one lock and five bytes in one range has 3 + 2 + (2 + 1) words.

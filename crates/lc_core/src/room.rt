@@ -1,16 +1,19 @@
 //! The memory of a store that comes up.
-ghost use Rattle.std.specs.Prelude.{◌≡◌, ◌≢◌, ◌+◌, ◌*◌, ◌%◌, ℕ, true, false, [], None, Some, length, drop, replicate, vec_len, slice_get, slice_index, IfOk};
+ghost use Rattle.std.specs.Prelude.{◌≡◌, ◌≢◌, ◌+◌, ◌*◌, ◌%◌, ℕ, true, false, [], None, Some, List, length, drop, map, replicate, vec_capacity, vec_len, slice_get, slice_index, IfOk, ◌≤◌};
 ghost use Rattle.lc_record.specs.declared.geometry.Geometry.{Geometry};
 ghost use Rattle.lc_recover.specs.Reads.{AreHonest, AreOfBytes, HaveLengths};
 ghost use Rattle.lc_recover.specs.Recovered.{IsFinished};
 ghost use Rattle.lc_core.specs.Blank.{AreBlankNodes, AreFilledNodes, IsBlankJournal};
 ghost use Rattle.lc_core.specs.Fresh.{IsFresh};
 ghost use Rattle.lc_core.specs.Log.{Stands, area_of, is_failed};
+ghost use Rattle.lc_core.specs.Pages.{AreAtRest, RestsAll, areas_of};
 ghost use Rattle.lc_core.specs.declared.node.Node.{Node};
+ghost use Rattle.lc_core.specs.declared.pages.Pages.{Pages as ThePages};
 
 use crate::journal::Journal;
 use crate::log::Log;
 use crate::node::Node;
+use crate::pages::{PageState, Pages};
 use crate::running::Running;
 use lc_disk::Area;
 use lc_log::Idle;
@@ -25,14 +28,20 @@ pub(crate) struct Room<D: Area> {
     pub(crate) geometry: Geometry,
     nodes: Vec<Node<D>>,
     travelling: Vec<Option<Token>>,
+    writes: Vec<Vec<PageState>>,
+    segments: Vec<Pages<D>>,
     ghost count: { vec_len nodes ≡ geometry.nodes },
     ghost blank: { AreBlankNodes D.Area geometry nodes.items },
     ghost none: { travelling.items ≡ replicate geometry.segments None },
+    ghost all_segments: { vec_len writes ≡ geometry.segments },
+    ghost rest: { AreAtRest geometry writes.items },
+    ghost no_segment: { segments.items ≡ [] },
+    ghost place: { geometry.segments ≤ vec_capacity segments },
 }
 
 impl<D: Area + Drop> Room<D> {
-    /// That of this geometry. It takes memory for each segment and each thread of each node, for a group of each node, and
-    /// for the tokens that travel.
+    /// That of this geometry. It takes memory for each segment and each thread of each node, for a group of each node, for
+    /// the tokens that travel, and for each page that may be written.
     pub(crate) fn new(alloc: Global, geometry: Geometry) -> Result<Room<D>, AllocError>
         ensures geometry { IfOk result (λ room. room.geometry ≡ geometry) }
     {
@@ -41,15 +50,24 @@ impl<D: Area + Drop> Room<D> {
         for _ in 0..geometry.segments {
             travelling.push(None)?;
         }
+        let writes = resting_pages(alloc, &geometry)?;
+        let segments = Vec::with_capacity(alloc, geometry.segments as usize)?;
         Ok(Room {
             geometry,
             nodes,
             travelling,
+            writes,
+            segments,
         })
     }
 
-    /// The store that a recovery has made, on areas with empty logs, and the areas of its segments. It takes no memory.
-    pub(crate) fn furnish(self, alloc: Global, recovered: Recovered<D>) -> (Running<D>, Vec<D>)
+    /// The store that a recovery has made, on areas with empty logs, and the areas of its segments, of which no page is
+    /// being written. It takes no memory.
+    pub(crate) fn furnish(
+        self,
+        alloc: Global,
+        recovered: Recovered<D>,
+    ) -> (Running<D>, Vec<Pages<D>>)
         requires geometry { recovered.geometry ≡ self.geometry }
         requires lengths { HaveLengths D.Area recovered.geometry recovered.areas }
         requires finished { AreHonest D.Area recovered.areas → IsFinished D.Area recovered }
@@ -57,12 +75,15 @@ impl<D: Area + Drop> Room<D> {
         ensures geometry { result.0.geometry ≡ recovered.geometry }
         ensures log_areas { (n : ℕ) (node : Node D D.Area) → slice_get result.0.nodes.items n ≡ Some node → area_of D.Area node.journal.log ≡ slice_get recovered.areas n }
         ensures bytes { AreOfBytes D.Area recovered.areas }
-        ensures areas { result.1.items ≡ drop recovered.geometry.nodes recovered.areas }
+        ensures areas { areas_of result.1.items ≡ drop recovered.geometry.nodes recovered.areas }
+        ensures rest { RestsAll recovered.geometry result.1.items }
     {
         let Room {
             geometry,
             mut nodes,
             travelling,
+            writes,
+            segments,
         } = self;
         fill_nodes(nodes.as_mut_slice(), alloc, &recovered);
         let areas = open_logs(nodes.as_mut_slice(), recovered);
@@ -71,7 +92,7 @@ impl<D: Area + Drop> Room<D> {
             nodes,
             travelling,
         };
-        (running, areas)
+        (running, with_areas(segments, writes, areas))
     }
 }
 
@@ -91,13 +112,29 @@ fn blank_nodes<D: Area + Drop>(
     Ok(nodes)
 }
 
+// The states of all pages of all segments, which are at rest.
+fn resting_pages(alloc: Global, geometry: &Geometry) -> Result<Vec<Vec<PageState>>, AllocError>
+    ensures count { IfOk result (λ segments. vec_len segments ≡ geometry.now.segments) }
+    ensures rest { IfOk result (λ segments. AreAtRest geometry.now segments.items) }
+{
+    let mut segments = Vec::with_capacity(alloc, geometry.segments as usize)?;
+    for _ in 0..geometry.segments {
+        let mut writes = Vec::with_capacity(alloc, geometry.pages as usize)?;
+        for _ in 0..geometry.pages {
+            writes.push(PageState::AtRest)?;
+        }
+        segments.push(writes)?;
+    }
+    Ok(segments)
+}
+
 // The slots of all nodes get what the recovery has made of their segments.
 fn fill_nodes<D: Area + Drop>(nodes: &mut [Node<D>], alloc: Global, recovered: &Recovered<D>)
     requires { AreBlankNodes D.Area recovered.now.geometry nodes.old }
     ensures { AreFilledNodes D.Area recovered.now nodes.new }
 {
     for node in nodes.iter_mut() {
-        node.desk.fill(alloc, recovered);
+        node.fill(alloc, recovered);
     }
 }
 
@@ -121,6 +158,26 @@ fn open_logs<D: Area + Drop>(nodes: &mut [Node<D>], recovered: Recovered<D>) -> 
         node.journal.open(area);
     }
     areas
+}
+
+// Each area of a segment goes with the states of its pages.
+fn with_areas<D: Area + Drop>(
+    mut segments: Vec<Pages<D>>,
+    mut writes: Vec<Vec<PageState>>,
+    mut areas: Vec<D>,
+) -> Vec<Pages<D>>
+    requires empty { segments.items ≡ [] }
+    requires place { vec_len areas ≤ vec_capacity segments }
+    requires count { vec_len writes ≡ vec_len areas }
+    ensures areas { areas_of result.items ≡ areas.items }
+    ensures writes { map (λ (pages : ThePages D). pages.writes) result.items ≡ writes.items }
+{
+    for _ in 0..areas.len() {
+        let area = areas.remove(0);
+        let writes = writes.remove(0);
+        segments.push_reserved(Pages { area, writes });
+    }
+    segments
 }
 
 // Asks each area for its length: what an honest one holds are bytes.

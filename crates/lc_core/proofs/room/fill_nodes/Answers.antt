@@ -25,14 +25,9 @@ loop-node-preserved g c =
     let same : place ≤ place = omega arith in
     let there : slice_get nodes place ≡ Some node = slice_get-get_or nodes place c.node-item.result (omega (arith, c.loop-node-test.true, c.loop-node.auto.nodes)) in
     let blank = c.requires place node (sym (c.loop-node.invariant.behind place same) ∙ there) in
-    let new : Node g.row.D.Denot g.D.Area = record { desk = c.fill.new.self; journal = node.journal } in
     record {
-      front = front_set (λ n x. IsFilledNode g.D.Area r n x) nodes place new c.loop-node.invariant.front (record {
-        desk = c.fill.ensures.desk;
-        slots = c.fill.ensures.fresh place blank.stand;
-        journal = blank.journal;
-      });
-      behind = behind_set c.args.nodes.now nodes place new c.loop-node.invariant.behind;
+      front = front_set (λ n x. IsFilledNode g.D.Area r n x) nodes place c.fill.new.self c.loop-node.invariant.front (c.fill.ensures.fresh place blank);
+      behind = behind_set c.args.nodes.now nodes place c.fill.new.self c.loop-node.invariant.behind;
     }
 
 pub returns : goal.returns

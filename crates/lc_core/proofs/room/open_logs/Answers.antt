@@ -57,7 +57,7 @@ loop-node-preserved g c =
     let few : place < r.geometry.nodes = omega (arith, c.loop-node-test.true, c.requires.count) in
     let at = log_area g.D.Area r.geometry r.areas place c.requires.lengths few in
     let same = left_is g.D.Area r.areas c.loop-node.areas.items place at.0 c.remove-area.result c.loop-node.invariant.areas at.1 c.remove-area.ensures.value in
-    let new : Node g.row.D.Denot g.D.Area = record { desk = node.desk; journal = c.open.new.self } in
+    let new : Node g.row.D.Denot g.D.Area = record { desk = node.desk; journal = c.open.new.self; known = node.known } in
     let filled = c.loop-node.invariant.filled place node there in
     record {
       areas = c.remove-area.ensures.items ∙ ap (drop 1) c.loop-node.invariant.areas ∙ drop-drop 1 place r.areas;
@@ -65,6 +65,7 @@ loop-node-preserved g c =
         desk = filled.desk;
         slots = filled.slots;
         journal = c.open.ensures.blank r.geometry filled.journal;
+        known = filled.known;
       });
       log_areas = front_set (λ n x. area_of g.D.Area x.journal.log ≡ slice_get r.areas n) nodes place new c.loop-node.invariant.log_areas
           (c.open.ensures.area ∙ ap (λ d. Some d) same ∙ sym at.1);

@@ -30,6 +30,7 @@ returns-in_err-refusal-clause-err g c = on_err c.from_residual.result _ (λ m n 
       slots = slots_alike m n w.desk.here c.prepare.new.self.here s x c.prepare.ensures.beside h.slots;
       journal = h.journal;
       room = h.room;
+      known = h.known;
     })
 
 pub returns-in_err-number-in-Record-clause-err : goal.returns-in_err-number-in-Record-clause-err
@@ -42,6 +43,7 @@ returns-in_err-number-in-Record-clause-err g c = on_err c.from_residual-in_err-n
       slots = slots_alike m n w.desk.here c.prepare.new.self.here s x c.prepare.ensures.beside h.slots;
       journal = rw same h.journal;
       room = rw same h.room;
+      known = h.known;
     })
 
 pub returns-in-Refused-clause-follows : goal.returns-in-Refused-clause-follows
@@ -57,6 +59,7 @@ returns-in-Refused-clause-follows g c = λ m s x sound common h sealed.
       slots = slots_alike m c.args.node w.desk.here c.prepare.new.self.here s x c.prepare.ensures.beside h.slots;
       journal = h.journal;
       room = h.room;
+      known = h.known;
     })
 
 pub returns-in-Empty-clause-follows : goal.returns-in-Empty-clause-follows
@@ -98,6 +101,7 @@ returns-in_ok-number-in-Record-clause-follows g c = λ m s x sound common h seal
         desks = beside_appended m c.args.node c.args.thread s t sound ready.running;
         logs = logs_appended m c.args.node c.args.thread s x t ready.running;
         slots = aside_appended m c.args.node s x t;
+        known = λ other segment differ. refl;
       };
       fits = record {
         desk = c.reserve-in-Record.ensures.reserves m c.args.node s t mine.1 ready.running logged.0;
@@ -105,6 +109,7 @@ returns-in_ok-number-in-Record-clause-follows g c = λ m s x sound common h seal
             (slots_appended m c.args.node (besides_of w.desk.here) s x t h.slots);
         journal = logged.1;
         room = rw c.in_ok-number-in-Record.ensures.group h.room;
+        known = h.known;
       };
       phase = refl;
       places = λ segment differ. refl;

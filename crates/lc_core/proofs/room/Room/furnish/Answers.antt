@@ -1,10 +1,13 @@
-use Rattle.std.proofs.Common.{◌≡◌, length, None, sym, ap, subst, ◌∙◌, arith}
+use Rattle.std.proofs.Common.{◌≡◌, ◌≤◌, length, None, sym, ap, subst, ◌∙◌, arith}
 use Rattle.std.specs.Prelude.{slice_get}
 use Rattle.std.proofs.lemmas.List.{length-replicate}
+use Rattle.lc_record.specs.declared.geometry.Geometry.{Geometry}
 use Rattle.lc_core.specs.Blank.{IsBlankNode, IsFilledNode}
 use Rattle.lc_core.specs.Log.{area_of}
+use Rattle.lc_core.specs.Pages.{AreAtRest}
 use Rattle.lc_core.proofs.Furnishing.{all_back, each_same, named_none}
-use Rattle.lc_core.proofs.Opening.{filled_fresh, filled_whole}
+use Rattle.lc_core.proofs.Opening.{filled_fresh, filled_whole, segments_left}
+use Rattle.lc_core.proofs.PageWrites.{rests_all}
 use Rattle.lc_core.proofs.room.Room.furnish.Goals as goal
 
 pub fill_nodes-requires : goal.fill_nodes-requires
@@ -29,6 +32,22 @@ invariant_of-running g c =
           (each_same (λ n node. IsFilledNode g.D.Area c.args.recovered n node) c.open_logs-areas.new.nodes _ are c.open_logs-areas.ensures.filled);
       named = named_none c.args.self.geometry.segments c.args.self.travelling.items c.args.self.none;
     }
+
+pub with_areas-requires-clause-place : goal.with_areas-requires-clause-place
+with_areas-requires-clause-place g c =
+    let left = segments_left g.D.Area c.args.recovered.geometry c.args.recovered.areas c.open_logs-areas.result.items c.requires.lengths c.open_logs-areas.ensures.areas in
+    let segments = ap (λ (h : Geometry). h.segments) c.requires.geometry in
+    omega (arith, left, segments, c.args.self.place, c.open_logs-areas.result.ok.0)
+
+pub with_areas-requires-clause-count : goal.with_areas-requires-clause-count
+with_areas-requires-clause-count g c =
+    let left = segments_left g.D.Area c.args.recovered.geometry c.args.recovered.areas c.open_logs-areas.result.items c.requires.lengths c.open_logs-areas.ensures.areas in
+    let segments = ap (λ (h : Geometry). h.segments) c.requires.geometry in
+    omega (arith, left, segments, c.args.self.all_segments, c.open_logs-areas.result.ok.0)
+
+pub returns-clause-rest : goal.returns-clause-rest
+returns-clause-rest g c = rests_all c.args.recovered.geometry c.with_areas.result.items c.args.self.writes.items c.with_areas.ensures.writes
+    (subst (λ (h : Geometry). AreAtRest h c.args.self.writes.items) (sym c.requires.geometry) c.args.self.rest)
 
 pub returns-clause-fresh : goal.returns-clause-fresh
 returns-clause-fresh g c = λ honest.

@@ -1,4 +1,4 @@
-use Rattle.std.proofs.Common.{◌≡◌, None, ap, ◌∙◌, arith}
+use Rattle.std.proofs.Common.{◌≡◌, ◌≤◌, None, ap, ◌∙◌, arith}
 use Rattle.std.specs.Prelude.{replicate}
 use Rattle.lc_core.proofs.room.Room.new.Goals as goal
 
@@ -9,4 +9,8 @@ invariant_of-result g c =
       count = c.in_ok-nodes.ensures.count;
       blank = c.in_ok-nodes.ensures.blank;
       none = c.loop.invariant ∙ ap (λ n. replicate n None) all;
+      all_segments = c.in_ok-writes.ensures.count;
+      rest = c.in_ok-writes.ensures.rest;
+      no_segment = c.in_ok-segments.ensures.items;
+      place = omega (arith, c.in_ok-segments.ensures.exact);
     }

@@ -20,7 +20,7 @@ invariant_of-self g c =
       all_nodes = w.all_nodes;
       all_places = w.all_places;
       named = w.named;
-      whole = whole_set g.D.Area w.geometry w.nodes.items c.args.node node (record { desk = c.read.new.self; journal = node.journal }) at w.whole c.read.ensures.seats
+      whole = whole_set g.D.Area w.geometry w.nodes.items c.args.node node (record { desk = c.read.new.self; journal = node.journal; known = node.known }) at w.whole c.read.ensures.seats
           (same_count node.desk.here c.read.new.self.here c.read.ensures.beside);
     }
 
@@ -41,7 +41,7 @@ returns-clause-err g c =
     let within : c.args.node < w.nodes.len = omega (arith, w.all_nodes, (seat_known w.geometry c.args.node c.args.thread (c.args.segment ∷ []) c.requires.known).0) in
     let at = slice_get_read w.nodes.items w.nodes.len c.args.node node w.nodes.ok.0 within c.index_mut.ensures.value in
     err_then c.read.result c.read.ensures.err (λ still m s x h.
-    still_onward g.D.Area m c.args.node s x w.geometry w.nodes.items w.travelling.items node (record { desk = c.read.new.self; journal = node.journal }) at
+    still_onward g.D.Area m c.args.node s x w.geometry w.nodes.items w.travelling.items node (record { desk = c.read.new.self; journal = node.journal; known = node.known }) at
     (desk_still g.D.Area m c.args.node s x node c.read.new.self still c.read.ensures.beside) h)
 
 pub returns-clause-logs : goal.returns-clause-logs
@@ -50,4 +50,4 @@ returns-clause-logs g c =
     let node = c.index_mut.result.now in
     let within : c.args.node < w.nodes.len = omega (arith, w.all_nodes, (seat_known w.geometry c.args.node c.args.thread (c.args.segment ∷ []) c.requires.known).0) in
     let at = slice_get_read w.nodes.items w.nodes.len c.args.node node w.nodes.ok.0 within c.index_mut.ensures.value in
-    logs_stay g.D.Area w.nodes.items c.args.node node (record { desk = c.read.new.self; journal = node.journal }) at refl
+    logs_stay g.D.Area w.nodes.items c.args.node node (record { desk = c.read.new.self; journal = node.journal; known = node.known }) at refl

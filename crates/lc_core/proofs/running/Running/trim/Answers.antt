@@ -33,7 +33,7 @@ invariant_of-self g c =
       all_nodes = w.all_nodes;
       all_places = w.all_places;
       named = w.named;
-      whole = whole_set g.D.Area w.geometry w.nodes.items c.args.node node (record { desk = node.desk; journal = c.trim.new.self }) at w.whole refl refl;
+      whole = whole_set g.D.Area w.geometry w.nodes.items c.args.node node (record { desk = node.desk; journal = c.trim.new.self; known = node.known }) at w.whole refl refl;
     }
 
 pub returns : goal.returns
@@ -48,7 +48,7 @@ returns g c = record {
       c.index-nodes-node.is c.applied_in_front-count.ensures.within c.applied_in_front-count.ensures.counts in
       let fits = h.each c.args.node node at in
       let all : m.geometry.nodes ≡ length w.nodes.items = ap (λ i. i.nodes) h.geometry_is ∙ sym w.all_nodes ∙ w.nodes.ok.0 in
-      stays_onward g.D.Area m c.args.node (Trim c.args.node) s x _ w.geometry w.nodes.items w.travelling.items h common node at (record { desk = node.desk; journal = c.trim.new.self })
+      stays_onward g.D.Area m c.args.node (Trim c.args.node) s x _ w.geometry w.nodes.items w.travelling.items h common node at (record { desk = node.desk; journal = c.trim.new.self; known = node.known })
       (trim_goes g.D.Area m c.args.node s x c.applied_in_front-count.result node c.trim.new.self fits
       (counted.1 m c.args.node s x h.sound fits.journal (record { all = all; each = λ k other got. (h.each k other got).slots })) c.trim.ensures.trims c.trim.ensures.group)
       (λ k e. absurd (omega (arith, e)));
@@ -58,5 +58,5 @@ returns g c = record {
       let node = c.index_mut.result.now in
       let within : c.args.node < w.nodes.len = omega (arith, w.all_nodes, node_known w.geometry c.args.node [] [] c.requires.known) in
       let at = slice_get_read w.nodes.items w.nodes.len c.args.node node w.nodes.ok.0 within c.index_mut.ensures.value in
-      logs_stay g.D.Area w.nodes.items c.args.node node (record { desk = node.desk; journal = c.trim.new.self }) at c.trim.ensures.log;
+      logs_stay g.D.Area w.nodes.items c.args.node node (record { desk = node.desk; journal = c.trim.new.self; known = node.known }) at c.trim.ensures.log;
 }

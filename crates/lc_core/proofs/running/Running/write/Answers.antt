@@ -18,7 +18,7 @@ invariant_of-self g c =
       all_nodes = w.all_nodes;
       all_places = w.all_places;
       named = w.named;
-      whole = whole_set g.D.Area w.geometry w.nodes.items c.args.node node (record { desk = c.write.new.self; journal = node.journal }) at w.whole c.write.ensures.seats
+      whole = whole_set g.D.Area w.geometry w.nodes.items c.args.node node (record { desk = c.write.new.self; journal = node.journal; known = node.known }) at w.whole c.write.ensures.seats
           (same_count node.desk.here c.write.new.self.here c.write.ensures.beside);
     }
 
@@ -37,5 +37,5 @@ returns g c = record {
       let node = c.index_mut.result.now in
       let within : c.args.node < w.nodes.len = omega (arith, w.all_nodes, (seat_known w.geometry c.args.node c.args.thread (c.args.segment ∷ []) c.requires.known).0) in
       let at = slice_get_read w.nodes.items w.nodes.len c.args.node node w.nodes.ok.0 within c.index_mut.ensures.value in
-      logs_stay g.D.Area w.nodes.items c.args.node node (record { desk = c.write.new.self; journal = node.journal }) at refl;
+      logs_stay g.D.Area w.nodes.items c.args.node node (record { desk = c.write.new.self; journal = node.journal; known = node.known }) at refl;
 }

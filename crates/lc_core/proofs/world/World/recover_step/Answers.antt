@@ -68,7 +68,7 @@ pub returns-then-not-is_last-clause-err : goal.returns-then-not-is_last-clause-e
 returns-then-not-is_last-clause-err g c =
     err_then c.reply_to.result (wants g c) (λ asks. same_still g.D.Area c.args.self.now.phase c.in-Down.recovery c.step.new.self c.in-Down.is asks.1)
 
-module _ (g : Over) (c : goal.After-drop-room-in-Err g) where
+module _ (g : Over) (c : goal.After-drop-room-in-Err-3 g) where
   leaves-last : StepLeaves g.D.Area c.in-Down.recovery c.step-2.new.self c.step-2.result
   leaves-last = record {
     geometry = c.step-2.ensures.geometry;
@@ -197,7 +197,7 @@ pub returns-then-not-is_last-clause-recovers : goal.returns-then-not-is_last-cla
 returns-then-not-is_last-clause-recovers g c =
     down_recovers g.D.Area c.in-Down.recovery c.step.new.self c.args.self.now.phase c.in-Down.is c.step.result c.reply_to.result c.reply_to.ensures (says g c) (going g c)
 
-module _ (g : Over) (c : goal.After-drop-room-in-Err g) where
+module _ (g : Over) (c : goal.After-drop-room-in-Err-3 g) where
   says-last : StepSays g.D.Area c.in-Down.recovery c.step-2.new.self c.step-2.result
   says-last = record {
     geometry = c.step-2.ensures.geometry;

@@ -1,0 +1,12 @@
+use Rattle.lc_core.proofs.laws.coherent_numbers.Goals as goal
+use Rattle.lc_core.proofs.Cohering.{coherent_fresh}
+use Rattle.lc_core.proofs.CoherentSteps.{coherent_keeps, disks_keep}
+
+pub returns-clause-fresh : goal.returns-clause-fresh
+returns-clause-fresh c = coherent_fresh
+
+pub returns-clause-keeps : goal.returns-clause-keeps
+returns-clause-keeps c = λ m s x event reply after next up still fits h step settled turns. (
+  coherent_keeps m s x event reply after next up still fits h step settled turns,
+  disks_keep m s x event reply after next up still fits h step settled turns,
+)
