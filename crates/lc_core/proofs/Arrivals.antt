@@ -115,20 +115,10 @@ unlocked_answer : (m : Setting) (s : State) (x : Numbers) (sender number segment
 unlocked_answer m s x sender number segment to r found none = deliver_settled m s x sender number segment to None found.0 found.1 found.2 (ap (number_of segment) found.3 ∙ none)
 
 -- no other number is touched
-same_disks : (x : Numbers) (n segment number : ℕ) (answer : Received) → (received_numbers x n segment number answer).disks ≡ x.disks
-same_disks x n segment number (Applied last) = refl
-same_disks x n segment number HeldBack = refl
-same_disks x n segment number Ignored = refl
-
 same_resets : (x : Numbers) (n segment number : ℕ) (answer : Received) → (received_numbers x n segment number answer).reset ≡ x.reset
 same_resets x n segment number (Applied last) = refl
 same_resets x n segment number HeldBack = refl
 same_resets x n segment number Ignored = refl
-
-same_writes : (x : Numbers) (n segment number : ℕ) (answer : Received) → (received_numbers x n segment number answer).calls ≡ x.calls
-same_writes x n segment number (Applied last) = refl
-same_writes x n segment number HeldBack = refl
-same_writes x n segment number Ignored = refl
 
 same_known : (x : Numbers) (n segment number : ℕ) (answer : Received) → (received_numbers x n segment number answer).known ≡ x.known
 same_known x n segment number (Applied last) = refl
@@ -175,9 +165,7 @@ module _ {D : Type 0} (a : Ghosts D) where
         };
         phase = refl;
         places = λ other differ. refl;
-        disks = same_disks x n segment part.own answer;
         resets = same_resets x n segment part.own answer;
-        writes = same_writes x n segment part.own answer;
       }
 
   -- the node of a number, which has a slot for each segment

@@ -88,6 +88,7 @@ module _ {D : Type 0} (a : Ghosts D) (m : Setting) (n thread : ℕ) (s : State) 
               ack = logs.ack;
               dropped = logs.dropped;
               trimmed = logs.trimmed;
+              reset = logs.reset;
             };
             slots = aside_closed m n thread s x t sound fits.found;
             known = λ other segment differ. refl;
@@ -106,13 +107,12 @@ module _ {D : Type 0} (a : Ghosts D) (m : Setting) (n thread : ℕ) (s : State) 
               trimmed_is = shut.trimmed_is;
               acked_is = shut.acked_is;
               taken_is = shut.taken_is;
+              reset_is = shut.reset_is;
             };
             room = rw group h.room;
             known = h.known;
           };
           phase = refl;
           places = λ segment differ. refl;
-          disks = refl;
           resets = refl;
-          writes = refl;
         }

@@ -36,7 +36,7 @@ use Rattle.lc_core.specs.Settled.{IsAnswer, Settled, first_spent, number_of, ope
 use Rattle.lc_core.specs.Turns.{Turns, closed_with, held_back, numbers_after}
 use Rattle.lc_core.proofs.ClosedPages.{coherent_closed, found_unclosed}
 use Rattle.lc_core.proofs.Cohering.{coherent_apart, coherent_state}
-use Rattle.lc_core.proofs.PageCalls.{call_keeps, page_makes}
+use Rattle.lc_core.proofs.PageNumbers.{call_keeps, page_makes}
 use Rattle.lc_core.proofs.PageEnds.{coherent_seen, end_keeps}
 use Rattle.lc_core.proofs.Reserved.{closed_appended}
 use Rattle.lc_core.proofs.ResetSteps.{done_keeps, reset_makes, step_keeps}

@@ -1,14 +1,13 @@
 -- What a step of a recovery, what comes up behind it, and a run count of failures.
-use Rattle.std.proofs.Common.{◌≡◌, ◌⊎◌, ℕ, zero, suc, ◌+◌, ◌≤◌, Bool, true, false, List, [], ◌∷◌, ◌++◌, length, map, take, drop, Option, Some, None, slice_get, slice_set, refl, sym, ap, subst, ◌∙◌, inl, inr, arith, true≢false}
-use Rattle.std.specs.Prelude.{Result, Ok, Err, IfOk, IfErr, OnErr, option_map, is_ok}
+use Rattle.std.proofs.Common.{◌≡◌, ◌⊎◌, ℕ, zero, suc, ◌+◌, ◌≤◌, true, false, List, [], ◌∷◌, ◌++◌, length, take, drop, Option, Some, slice_get, slice_set, refl, sym, ap, subst, ◌∙◌, inl, inr, arith, true≢false}
+use Rattle.std.specs.Prelude.{Result, Ok, Err, IfOk, IfErr, option_map, is_ok}
 use Rattle.std.proofs.lemmas.Bool.{cases_eq}
 use Rattle.std.proofs.lemmas.List.{map-set, map-append, take-append-drop}
 use Rattle.std.proofs.lemmas.Option.{slice_get-map}
 use Rattle.std.proofs.lemmas.Result.{IfOk-from_err}
 use Rattle.lc_disk.specs.declared.area.Area.{Ghosts}
-use Rattle.lc_model.specs.declared.refusal.Refusal.TheVariants.{DeviceFault}
 use Rattle.lc_model.specs.declared.reply.Reply.{Reply}
-use Rattle.lc_model.specs.declared.reply.Reply.TheVariants.{Stepped, Recovered, Refused}
+use Rattle.lc_model.specs.declared.reply.Reply.TheVariants.{Stepped, Recovered}
 use Rattle.lc_record.specs.declared.geometry.Geometry.{Geometry}
 use Rattle.lc_recover.specs.Reads.{area_count}
 use Rattle.lc_recover.specs.Recovery.{Recovering, IsMergeNext, MakesItsCall}
@@ -19,7 +18,7 @@ use Rattle.lc_recover.specs.declared.fault.RecoverFault.TheVariants.{BadGeometry
 use Rattle.lc_recover.specs.declared.progress.Progress.{Progress}
 use Rattle.lc_recover.specs.declared.progress.Progress.TheVariants.{Stepped as HasStepped, Recovered as HasRecovered}
 use Rattle.lc_recover.proofs.Images.{count-areas}
-use Rattle.lc_core.specs.FaultReplies.{CountsFaults, FailsOnce, failures_of, is_fault}
+use Rattle.lc_core.specs.FaultReplies.{CountsFaults, FailsOnce, is_fault}
 use Rattle.lc_core.specs.Faults.{CountsAll, CountsPhase, SameLogs, area_failures, log_failures, logs_of, phase_failures}
 use Rattle.lc_core.specs.Log.{area_of}
 use Rattle.lc_core.specs.Pages.{areas_of}
@@ -131,7 +130,7 @@ module _ {D : Type 0} (a : Ghosts D) where
   up_failures r up came =
       let counted : length r.areas ≡ area_count r.geometry = count-areas a r.geometry r.areas came.lengths in
       let number : length up.running.nodes.items ≡ r.geometry.nodes = sym up.running.nodes.ok.0 ∙ up.running.all_nodes ∙ ap (λ (g : Geometry). g.nodes) came.same_geometry in
-      ap (λ (os : List (Option ℕ)). os ++ area_failures a (areas_of up.segments.items))
+      ap (λ (os : List (Option ℕ)). os ++ area_failures a (areas_of a up.segments.items))
       (fronts up.running.nodes.items r.areas came.log_areas (omega (arith, counted, number)) ∙ ap (λ (n : ℕ). area_failures a (take n r.areas)) number)
       ∙ ap (λ (areas : List D). area_failures a (take r.geometry.nodes r.areas) ++ area_failures a areas) came.segments
       ∙ sym (map-append failures_at (take r.geometry.nodes r.areas) (drop r.geometry.nodes r.areas))
@@ -150,7 +149,7 @@ module _ {D : Type 0} (a : Ghosts D) where
   up_counts old up reply new is counts = subst (λ (q : Phase D a). CountsPhase a q reply (Up (record up { running = new }))) (sym is) (beside counts)
     where
       rest : List (Option ℕ)
-      rest = area_failures a (areas_of up.segments.items)
+      rest = area_failures a (areas_of a up.segments.items)
 
       get_front : (xs ys : List (Option ℕ)) (k : ℕ) (x : Option ℕ) → slice_get xs k ≡ Some x → slice_get (xs ++ ys) k ≡ Some x
       get_front [] ys k x got = absurd cc
@@ -175,4 +174,4 @@ module _ {D : Type 0} (a : Ghosts D) where
 
   pub up_still_failed : (old : Phase D a) (up : Rising D a) (new : Running D a) → old ≡ Up up → SameLogs a up.running new → phase_failures a (Up (record up { running = new })) ≡ phase_failures a old
   up_still_failed old up new is same =
-      ap (λ (logs : List (Log D a)). log_failures a logs ++ area_failures a (areas_of up.segments.items)) same ∙ ap (phase_failures a) (sym is)
+      ap (λ (logs : List (Log D a)). log_failures a logs ++ area_failures a (areas_of a up.segments.items)) same ∙ ap (phase_failures a) (sym is)

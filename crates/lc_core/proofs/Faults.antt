@@ -16,7 +16,7 @@ use Rattle.lc_core.specs.Log.{CallsOnce, IsCalled, area_of, is_failed}
 use Rattle.lc_core.specs.Places.{same_map_set, same_some}
 use Rattle.lc_core.specs.TokenRefused.{token_refusal}
 use Rattle.lc_core.specs.declared.log.Log.{Log}
-use Rattle.lc_core.specs.declared.log.Log.TheVariants.{Idle, Written, Synced, Opened, Failed, Taken}
+use Rattle.lc_core.specs.declared.log.Log.TheVariants.{Idle, Written, Synced, Opened, Sealed, Closing, Emptied, Failed, Torn, Taken}
 use Rattle.lc_core.specs.declared.node.Node.{Node}
 use Rattle.lc_core.specs.declared.running.Running.{Running}
 
@@ -36,7 +36,11 @@ module _ {D : Type 0} (a : Ghosts D) where
   one_more (Written log) taken count = refl
   one_more (Synced log) taken count = refl
   one_more (Opened log) taken count = refl
+  one_more (Sealed log) taken count = refl
+  one_more (Closing log) taken count = refl
+  one_more (Emptied log) taken count = refl
   one_more (Failed log) taken count = refl
+  one_more (Torn log) taken count = refl
   one_more Taken taken count = refl
 
   called : (area : D) (new : Log D a) (taken : ℕ) → IsCalled a area new
@@ -48,7 +52,11 @@ module _ {D : Type 0} (a : Ghosts D) where
   call_tells (Written log) new taken up call = called log.area new taken call
   call_tells (Synced log) new taken up call = called log.area new taken call
   call_tells (Opened log) new taken up call = called log.area new taken call
+  call_tells (Sealed log) new taken up call = called log.area new taken call
+  call_tells (Closing log) new taken up call = called log.area new taken call
+  call_tells (Emptied log) new taken up call = called log.area new taken call
   call_tells (Failed log) new taken up call = absurd (true≢false up)
+  call_tells (Torn log) new taken up call = absurd (true≢false up)
   call_tells Taken new taken up call = absurd (true≢false up)
 
   has_area : (log : Log D a) → is_failed a log ≡ false → (area : D) × (area_of a log ≡ Some area)
@@ -56,7 +64,11 @@ module _ {D : Type 0} (a : Ghosts D) where
   has_area (Written log) up = (log.area, refl)
   has_area (Synced log) up = (log.area, refl)
   has_area (Opened log) up = (log.area, refl)
+  has_area (Sealed log) up = (log.area, refl)
+  has_area (Closing log) up = (log.area, refl)
+  has_area (Emptied log) up = (log.area, refl)
   has_area (Failed log) up = absurd (true≢false up)
+  has_area (Torn log) up = absurd (true≢false up)
   has_area Taken up = absurd (true≢false up)
 
   -- what changes a node, and not its log, changes no log

@@ -20,8 +20,8 @@ use Rattle.lc_model.proofs.Rows.{flush-nothing, flush-last, flush-last_fault}
 use Rattle.lc_core.specs.Numbers.{Numbers}
 use Rattle.lc_core.specs.Records.{Spelled, Kept, all_words, front_of, span_of}
 use Rattle.lc_core.specs.declared.log.Log.{Log}
-use Rattle.lc_core.specs.declared.log.Log.TheVariants.{Idle, Written, Synced, Opened, Failed, Taken}
-use Rattle.lc_core.specs.Log.{Stands, StepsTo, is_idle, is_failed}
+use Rattle.lc_core.specs.declared.log.Log.TheVariants.{Idle, Written, Synced, Opened, Sealed, Closing, Emptied, Failed, Torn, Taken}
+use Rattle.lc_core.specs.Log.{Stands, StepsTo, is_idle, is_failed, is_sealed, HasReset}
 use Rattle.lc_core.specs.Journal.{FitsLog, reply_of, acked_after}
 use Rattle.lc_core.specs.Follows.{SameButLog}
 use Rattle.lc_core.proofs.Spans.{leading_drop, leading_le}
@@ -107,13 +107,29 @@ module _ {D : Type 0} (a : Ghosts D) where
   idle_stands (Written log) steps stable group is h = absurd cc
   idle_stands (Synced log) steps stable group is h = absurd cc
   idle_stands (Opened log) steps stable group is h = absurd cc
+  idle_stands (Sealed log) steps stable group is h = absurd cc
+  idle_stands (Closing log) steps stable group is h = absurd cc
+  idle_stands (Emptied log) steps stable group is h = absurd cc
   idle_stands (Failed log) steps stable group is h = absurd cc
+  idle_stands (Torn log) steps stable group is h = absurd cc
   idle_stands Taken steps stable group is h = absurd cc
+
+  sealed_steps : (log : Log D a) (steps : ℕ) (stable group : List Record) → is_sealed a log ≡ true → Stands a log steps stable group → steps ≡ 0
+  sealed_steps (Idle log) steps stable group is h = absurd cc
+  sealed_steps (Written log) steps stable group is h = absurd cc
+  sealed_steps (Synced log) steps stable group is h = absurd cc
+  sealed_steps (Opened log) steps stable group is h = absurd cc
+  sealed_steps (Sealed log) steps stable group is h = h.0
+  sealed_steps (Closing log) steps stable group is h = h.0
+  sealed_steps (Emptied log) steps stable group is h = h.0
+  sealed_steps (Failed log) steps stable group is h = absurd cc
+  sealed_steps (Torn log) steps stable group is h = absurd cc
+  sealed_steps Taken steps stable group is h = absurd cc
 
   -- nothing is reserved behind a recovery
   pub begins_so : (m : Setting) (node : ℕ) (earlier : List Transaction) (x : Numbers) (log : Log D a) → Stands a log 0 [] [] → is_failed a log ≡ false
-      → x.disks.dropped node ≡ 0 → x.trimmed node ≡ 0 → FitsLog a m node log (record { before = 0; records = [] }) 0 0 0 0 (fresh m.geometry earlier Up) x
-  begins_so m node earlier x log stands up dropped trimmed = record {
+      → x.disks.dropped node ≡ 0 → x.trimmed node ≡ 0 → HasReset a log (x.reset node) → FitsLog a m node log (record { before = 0; records = [] }) 0 0 0 0 (fresh m.geometry earlier Up) x
+  begins_so m node earlier x log stands up dropped trimmed reset = record {
     words = refl;
     marks = refl;
     all_closed = omega arith;
@@ -124,6 +140,7 @@ module _ {D : Type 0} (a : Ghosts D) where
     trimmed_is = sym trimmed;
     acked_is = refl;
     taken_is = refl;
+    reset_is = reset;
   }
 
   -- a call answers something
@@ -132,7 +149,11 @@ module _ {D : Type 0} (a : Ghosts D) where
   some_reply (Written log) taken is = absurd cc
   some_reply (Synced log) taken is = absurd cc
   some_reply (Opened log) taken is = absurd cc
+  some_reply (Sealed log) taken is = absurd cc
+  some_reply (Closing log) taken is = absurd cc
+  some_reply (Emptied log) taken is = absurd cc
   some_reply (Failed log) taken is = absurd cc
+  some_reply (Torn log) taken is = absurd cc
   some_reply Taken taken is = absurd cc
 
   module _ (m : Setting) (node : ℕ) (s : State) (x : Numbers) (k : Kept) (dropped trimmed acked : ℕ) where
@@ -152,6 +173,13 @@ module _ {D : Type 0} (a : Ghosts D) where
         let at = idle_stands log (s.flush node).steps (drop dropped (take acked records)) (drop acked (take taken records)) idle h.stands in
         subst (λ (n : ℕ). FlushRow s node n (s.flush node).taken Nothing s) (sym at.0)
         (flush-nothing s node (s.flush node).taken (sym (front_same log taken h) ∙ none ∙ h.acked_is))
+
+    -- nor while a reset is under way
+    pub sealed_row : (log : Log D a) (taken : ℕ) → FitsLog a m node log k dropped trimmed taken acked s x → is_sealed a log ≡ true → k.before ≤ acked → acked ≤ front_of k → front_of k ≤ acked
+        → FlushRow s node (s.flush node).steps (s.flush node).taken Nothing s
+    sealed_row log taken h is kept first last =
+        subst (λ (n : ℕ). FlushRow s node n (s.flush node).taken Nothing s) (sym (sealed_steps log (s.flush node).steps (drop dropped (take acked records)) (drop acked (take taken records)) is h.stands))
+        (flush-nothing s node (s.flush node).taken (omega (arith, front_same log taken h, first, last, h.acked_is)))
 
     -- what the machine has where a flush has come to its step, and took this many
     record Moved (new : Log D a) (step count taken : ℕ) (late : State) : Type 0 where
@@ -211,7 +239,11 @@ module _ {D : Type 0} (a : Ghosts D) where
     moved (Written log) step count taken stable group up some h = (flushed_to s node step count, done (Written log) step count taken up refl (ap (λ n. Stepped n) (sym h.0)))
     moved (Synced log) step count taken stable group up some h = (flushed_to s node step count, done (Synced log) step count taken up refl (ap (λ n. Stepped n) (sym h.0)))
     moved (Opened log) step count taken stable group up some h = (flushed_to s node step count, done (Opened log) step count taken up refl (ap (λ n. Stepped n) (sym h.0)))
+    moved (Sealed log) step count taken stable group up some h = absurd (omega (arith, some, h.0))
+    moved (Closing log) step count taken stable group up some h = absurd (omega (arith, some, h.0))
+    moved (Emptied log) step count taken stable group up some h = absurd (omega (arith, some, h.0))
     moved (Failed log) step count taken stable group up some h = (halting (flushed_to s node step count) node, fault (Failed log) step count taken refl refl)
+    moved (Torn log) step count taken stable group up some h = absurd (omega (arith, some, h.0))
     moved Taken step count taken stable group up some h = absurd h
 
     -- what is acknowledged stays where the log is not at rest
@@ -220,15 +252,32 @@ module _ {D : Type 0} (a : Ghosts D) where
     same_acked (Written log) step taken stable group some h = refl
     same_acked (Synced log) step taken stable group some h = refl
     same_acked (Opened log) step taken stable group some h = refl
+    same_acked (Sealed log) step taken stable group some h = refl
+    same_acked (Closing log) step taken stable group some h = refl
+    same_acked (Emptied log) step taken stable group some h = refl
     same_acked (Failed log) step taken stable group some h = refl
+    same_acked (Torn log) step taken stable group some h = refl
     same_acked Taken step taken stable group some h = absurd h
+
+    -- and no reset is under way
+    no_reset : (new : Log D a) (step : ℕ) (stable group : List Record) → 1 ≤ step → Stands a new step stable group → HasReset a new 0
+    no_reset (Idle log) step stable group some h = refl
+    no_reset (Written log) step stable group some h = refl
+    no_reset (Synced log) step stable group some h = refl
+    no_reset (Opened log) step stable group some h = refl
+    no_reset (Sealed log) step stable group some h = absurd (omega (arith, some, h.0))
+    no_reset (Closing log) step stable group some h = absurd (omega (arith, some, h.0))
+    no_reset (Emptied log) step stable group some h = absurd (omega (arith, some, h.0))
+    no_reset (Failed log) step stable group some h = refl
+    no_reset (Torn log) step stable group some h = absurd (omega (arith, some, h.0))
+    no_reset Taken step stable group some h = absurd h
 
     -- the log's part after a move
     fits_moved : (old new : Log D a) (step count before taken : ℕ) (late : State) → FitsLog a m node old k dropped trimmed before acked s x
-        → Moved new step count taken late → 1 ≤ step → count ≡ taken
+        → Moved new step count taken late → x.reset node ≡ 0 → 1 ≤ step → count ≡ taken
         → Stands a new step (drop dropped (take acked records)) (drop acked (take taken records))
         → FitsLog a m node new k dropped trimmed taken (acked_after a new taken acked) late x
-    fits_moved old new step count before taken late h d some is stands =
+    fits_moved old new step count before taken late h d none some is stands =
         let acked_is : acked_after a new taken acked ≡ acked =
         same_acked new step taken (drop dropped (take acked records)) (drop acked (take taken records)) some stands in
         record {
@@ -242,6 +291,7 @@ module _ {D : Type 0} (a : Ghosts D) where
           trimmed_is = h.trimmed_is;
           acked_is = acked_is ∙ h.acked_is ∙ sym d.ack;
           taken_is = rw d.flush is;
+          reset_is = rw none (no_reset new step (drop dropped (take acked records)) (drop acked (take taken records)) some stands);
         }
 
     -- what follows a call: a state that the machine may go on to
@@ -271,34 +321,38 @@ module _ {D : Type 0} (a : Ghosts D) where
           subst (λ (n : ℕ). FlushRow s node n (s.flush node).taken (reply_of a new count) d.0) (sym h.stands.0)
               (first_row s node (s.flush node).taken count (reply_of a new count) d.0 (front_same (Idle log) taken h) more d.1.row),
           d.1.but,
-          fits_moved (Idle log) new 1 count taken count d.0 h d.1 (omega arith) refl stands,
+          fits_moved (Idle log) new 1 count taken count d.0 h d.1 h.reset_is (omega arith) refl stands,
         )
     first_call (Written log) new words taken h idle kept some is step = absurd cc
     first_call (Synced log) new words taken h idle kept some is step = absurd cc
     first_call (Opened log) new words taken h idle kept some is step = absurd cc
+    first_call (Sealed log) new words taken h idle kept some is step = absurd cc
+    first_call (Closing log) new words taken h idle kept some is step = absurd cc
+    first_call (Emptied log) new words taken h idle kept some is step = absurd cc
     first_call (Failed log) new words taken h idle kept some is step = absurd cc
+    first_call (Torn log) new words taken h idle kept some is step = absurd cc
     first_call Taken new words taken h idle kept some is step = absurd cc
 
     -- the two calls in the middle
     middle : (steps : ℕ) (old new : Log D a) (taken : ℕ) → FitsLog a m node old k dropped trimmed taken acked s x
-        → is_failed a old ≡ false → (s.flush node).steps ≡ steps → 1 ≤ steps → steps < 3
+        → x.reset node ≡ 0 → is_failed a old ≡ false → (s.flush node).steps ≡ steps → 1 ≤ steps → steps < 3
         → Stands a new (steps + 1) (drop dropped (take acked records)) (drop acked (take taken records)) → Follows new taken
-    middle steps old new taken h up at some few stands =
+    middle steps old new taken h none up at some few stands =
         let count : ℕ = (s.flush node).taken in
         let d = moved new (steps + 1) count taken (drop dropped (take acked records)) (drop acked (take taken records)) (h.halted ∙ up) (omega arith) stands in (
           d.0,
           subst (λ (n : ℕ). FlushRow s node n count (reply_of a new taken) d.0) (sym at) (next_row s node steps count (reply_of a new taken) d.0 some few d.1.row),
           d.1.but,
-          fits_moved old new (steps + 1) count taken taken d.0 h d.1 (omega arith) h.taken_is stands,
+          fits_moved old new (steps + 1) count taken taken d.0 h d.1 none (omega arith) h.taken_is stands,
         )
 
     -- the last call: what the flush took is acknowledged
     last : (old new : Log D a) (taken : ℕ) → FitsLog a m node old k dropped trimmed taken acked s x
-        → is_failed a old ≡ false → dropped ≤ acked → acked ≤ taken → (s.flush node).steps ≡ 3
+        → x.reset node ≡ 0 → is_failed a old ≡ false → dropped ≤ acked → acked ≤ taken → (s.flush node).steps ≡ 3
         → ((is_idle a new ≡ true) × Stands a new 0 (drop dropped (take acked records) ++ drop acked (take taken records)) [])
         ⊎ ((is_failed a new ≡ true) × Stands a new 4 (drop dropped (take acked records)) (drop acked (take taken records)))
         → Follows new taken
-    last old (Idle log) taken h up less few at (inl is) =
+    last old (Idle log) taken h none up less few at (inl is) =
         let count : ℕ = (s.flush node).taken in
         let late : State = acknowledged s node count in
         let flush : late.flush node ≡ record { steps = 0; taken = count } = update-own s.flush node (record { steps = 0; taken = count }) in
@@ -326,39 +380,52 @@ module _ {D : Type 0} (a : Ghosts D) where
             trimmed_is = h.trimmed_is;
             acked_is = sym h.taken_is ∙ sym ack;
             taken_is = ap (λ (f : Flush). f.taken) flush ∙ h.taken_is;
+            reset_is = none;
           },
         )
-    last old (Failed log) taken h up less few at (inr is) =
+    last old (Failed log) taken h none up less few at (inr is) =
         let count : ℕ = (s.flush node).taken in
         let d = fault (Failed log) 4 count taken refl refl in (
           halting (flushed_to s node 4 count) node,
           subst (λ (n : ℕ). FlushRow s node n count (Refused DeviceFault) (halting (flushed_to s node 4 count) node)) (sym at) (flush-last_fault s node 3 count (omega arith)),
           d.but,
-          fits_moved old (Failed log) 4 count taken taken (halting (flushed_to s node 4 count) node) h d (omega arith) h.taken_is is.1,
+          fits_moved old (Failed log) 4 count taken taken (halting (flushed_to s node 4 count) node) h d none (omega arith) h.taken_is is.1,
         )
-    last old (Idle log) taken h up less few at (inr is) = absurd (false≢true is.0)
-    last old (Written log) taken h up less few at (inl is) = absurd (false≢true is.0)
-    last old (Written log) taken h up less few at (inr is) = absurd (false≢true is.0)
-    last old (Synced log) taken h up less few at (inl is) = absurd (false≢true is.0)
-    last old (Synced log) taken h up less few at (inr is) = absurd (false≢true is.0)
-    last old (Opened log) taken h up less few at (inl is) = absurd (false≢true is.0)
-    last old (Opened log) taken h up less few at (inr is) = absurd (false≢true is.0)
-    last old (Failed log) taken h up less few at (inl is) = absurd (false≢true is.0)
-    last old Taken taken h up less few at (inl is) = absurd (false≢true is.0)
-    last old Taken taken h up less few at (inr is) = absurd is.1
+    last old (Idle log) taken h none up less few at (inr is) = absurd (false≢true is.0)
+    last old (Written log) taken h none up less few at (inl is) = absurd (false≢true is.0)
+    last old (Written log) taken h none up less few at (inr is) = absurd (false≢true is.0)
+    last old (Synced log) taken h none up less few at (inl is) = absurd (false≢true is.0)
+    last old (Synced log) taken h none up less few at (inr is) = absurd (false≢true is.0)
+    last old (Opened log) taken h none up less few at (inl is) = absurd (false≢true is.0)
+    last old (Opened log) taken h none up less few at (inr is) = absurd (false≢true is.0)
+    last old (Sealed log) taken h none up less few at (inl is) = absurd (false≢true is.0)
+    last old (Sealed log) taken h none up less few at (inr is) = absurd (false≢true is.0)
+    last old (Closing log) taken h none up less few at (inl is) = absurd (false≢true is.0)
+    last old (Closing log) taken h none up less few at (inr is) = absurd (false≢true is.0)
+    last old (Emptied log) taken h none up less few at (inl is) = absurd (false≢true is.0)
+    last old (Emptied log) taken h none up less few at (inr is) = absurd (false≢true is.0)
+    last old (Failed log) taken h none up less few at (inl is) = absurd (false≢true is.0)
+    last old (Torn log) taken h none up less few at (inl is) = absurd (false≢true is.0)
+    last old (Torn log) taken h none up less few at (inr is) = absurd (omega (arith, is.1.0))
+    last old Taken taken h none up less few at (inl is) = absurd (false≢true is.0)
+    last old Taken taken h none up less few at (inr is) = absurd is.1
 
     -- a call of a flush that is under way
     pub later_call : (log new : Log D a) (words : List ℕ) (taken : ℕ) → FitsLog a m node log k dropped trimmed taken acked s x
-        → is_failed a log ≡ false → is_idle a log ≡ false → dropped ≤ acked → acked ≤ taken → StepsTo a log words new → Follows new taken
-    later_call (Idle log) new words taken h up not less few step = absurd cc
-    later_call (Written log) new words taken h up not less few step =
-        middle 1 (Written log) new taken h refl h.stands.0 (omega arith) (omega arith) (step (drop dropped (take acked records)) (drop acked (take taken records)) h.stands.1)
-    later_call (Synced log) new words taken h up not less few step =
-        middle 2 (Synced log) new taken h refl h.stands.0 (omega arith) (omega arith) (step (drop dropped (take acked records)) (drop acked (take taken records)) h.stands.1)
-    later_call (Opened log) new words taken h up not less few step =
-        last (Opened log) new taken h refl less few h.stands.0 (step (drop dropped (take acked records)) (drop acked (take taken records)) h.stands.1)
-    later_call (Failed log) new words taken h up not less few step = absurd cc
-    later_call Taken new words taken h up not less few step = absurd cc
+        → is_failed a log ≡ false → is_idle a log ≡ false → is_sealed a log ≡ false → dropped ≤ acked → acked ≤ taken → StepsTo a log words new → Follows new taken
+    later_call (Idle log) new words taken h up not free less few step = absurd cc
+    later_call (Written log) new words taken h up not free less few step =
+        middle 1 (Written log) new taken h h.reset_is refl h.stands.0 (omega arith) (omega arith) (step (drop dropped (take acked records)) (drop acked (take taken records)) h.stands.1)
+    later_call (Synced log) new words taken h up not free less few step =
+        middle 2 (Synced log) new taken h h.reset_is refl h.stands.0 (omega arith) (omega arith) (step (drop dropped (take acked records)) (drop acked (take taken records)) h.stands.1)
+    later_call (Opened log) new words taken h up not free less few step =
+        last (Opened log) new taken h h.reset_is refl less few h.stands.0 (step (drop dropped (take acked records)) (drop acked (take taken records)) h.stands.1)
+    later_call (Sealed log) new words taken h up not free less few step = absurd cc
+    later_call (Closing log) new words taken h up not free less few step = absurd cc
+    later_call (Emptied log) new words taken h up not free less few step = absurd cc
+    later_call (Failed log) new words taken h up not free less few step = absurd cc
+    later_call (Torn log) new words taken h up not free less few step = absurd cc
+    later_call Taken new words taken h up not free less few step = absurd cc
 
     pub same_itself : SameButLog node s s
     same_itself = record { earlier = refl; history = refl; running = refl; place = refl; phase = refl; ack = λ other differ. refl; halted = λ other differ. refl; flush = λ other differ. refl }

@@ -1,9 +1,9 @@
 -- Lists that are made or filled item by item, and what a desk has whose slots are of their segments.
-use Rattle.std.proofs.Common.{◌≡◌, ◌≢◌, ℕ, zero, suc, ◌+◌, ◌*◌, ◌<◌, ◌≤◌, Bool, true, false, List, [], ◌∷◌, ◌++◌, map, take, length, Option, Some, None, refl, sym, ap, subst, ◌∙◌, arith}
-use Rattle.std.specs.Prelude.{slice_get, slice_set, option_map, replicate, if◌then◌else◌}
+use Rattle.std.proofs.Common.{◌≡◌, ◌≢◌, ℕ, zero, suc, ◌+◌, ◌*◌, ◌<◌, ◌≤◌, Bool, true, false, List, [], ◌∷◌, ◌++◌, map, take, drop, length, Option, Some, None, refl, sym, ap, subst, ◌∙◌, arith}
+use Rattle.std.specs.Prelude.{slice_get, slice_index_or, slice_set, option_map, replicate, if◌then◌else◌}
 use Rattle.std.specs.List.{flat_map}
 use Rattle.std.specs.Option.{ForSome}
-use Rattle.std.proofs.lemmas.List.{length-map, map-append, take-append-le, take_all, take_more_set}
+use Rattle.std.proofs.lemmas.List.{append_assoc, length-map, map-append, take-append-le, take_all, take_more_set}
 use Rattle.std.proofs.lemmas.Grind.{flat_map-append}
 use Rattle.std.proofs.lemmas.Option.{slice_get-map}
 use Rattle.lc_page.specs.PageVector.{new_entry}
@@ -110,6 +110,15 @@ module _ {A : Type 0} where
 
   pub each_same : (P : ℕ → A → Type 0) (xs ys : List A) → ys ≡ xs → ((k : ℕ) (x : A) → slice_get xs k ≡ Some x → P k x) → (k : ℕ) (x : A) → slice_get ys k ≡ Some x → P k x
   each_same P xs ys same h k x got = h k x (ap (λ (l : List A). slice_get l k) (sym same) ∙ got)
+
+-- the first of what is left goes behind what is done
+pub goes_over : {A B : Type 0} (f : A → B) (done later : List A) (left rest all : List B) (item : A) (first : B) → later ≡ done ++ item ∷ [] → rest ≡ drop 1 left → map f done ++ left ≡ all
+    → 0 < length left → first ≡ slice_index_or left 0 first → f item ≡ first → map f later ++ rest ≡ all
+goes_over f done later [] rest all item first more less is some value same = absurd (omega (arith, some))
+goes_over {A} {B} f done later (b ∷ bs) rest all item first more less is some value same =
+    ap (λ (l : List A). map f l ++ rest) more ∙ ap (λ (l : List B). map f (done ++ item ∷ []) ++ l) less
+    ∙ ap (λ (l : List B). l ++ bs) (map-append f done (item ∷ [])) ∙ append_assoc (map f done) (f item ∷ []) bs
+    ∙ ap (λ (y : B). map f done ++ y ∷ bs) (same ∙ value) ∙ is
 
 -- The slots of a desk
 

@@ -102,6 +102,7 @@ module _ (m : Setting) (s : State) (x : Numbers) (applied : ℕ → ℕ → ℕ)
     ack = λ other differ. refl;
     dropped = λ other differ. refl;
     trimmed = λ other differ. refl;
+    reset = λ other differ. refl;
   }
 
   log_gained : {D : Type 0} (a : Ghosts D) (n : ℕ) (log : Log D a) (kept : Kept) (dropped trimmed taken acked : ℕ)
@@ -117,6 +118,7 @@ module _ (m : Setting) (s : State) (x : Numbers) (applied : ℕ → ℕ → ℕ)
     trimmed_is = h.trimmed_is;
     acked_is = h.acked_is;
     taken_is = h.taken_is;
+    reset_is = h.reset_is;
   }
 
 pub logs_received : (m : Setting) (n : ℕ) (s : State) (x : Numbers) (segment number : ℕ) (answer : Received) → BesideLogs m n s x s (received_numbers x n segment number answer)

@@ -99,6 +99,7 @@ module _ {D : Type 0} (a : Ghosts D) where
     trimmed_is = h.trimmed_is;
     acked_is = rw same.ack h.acked_is;
     taken_is = rw same.flush h.taken_is;
+    reset_is = h.reset_is;
   }
 
   -- where nothing changes
@@ -116,9 +117,7 @@ module _ {D : Type 0} (a : Ghosts D) where
         fits = fits;
         phase = refl;
         places = λ segment differ. refl;
-        disks = refl;
         resets = refl;
-        writes = refl;
       }
 
   module _ (m : Setting) (n : ℕ) (event : Event) (s : State) (x : Numbers) (reply : Reply) (after : State) (row : Row m s event reply after)
@@ -147,9 +146,7 @@ module _ {D : Type 0} (a : Ghosts D) where
       };
       phase = same.phase;
       places = λ segment differ. ap (λ f. f segment) same.place;
-      disks = refl;
       resets = refl;
-      writes = refl;
     }
 
     -- by a call of the log
@@ -176,7 +173,5 @@ module _ {D : Type 0} (a : Ghosts D) where
       };
       phase = same.phase;
       places = λ segment differ. ap (λ f. f segment) same.place;
-      disks = refl;
       resets = refl;
-      writes = refl;
     }

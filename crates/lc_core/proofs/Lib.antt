@@ -35,8 +35,10 @@ pub mod Counted
 pub mod ClosedPages
 pub mod PageCalls
 pub mod PageEnds
+pub mod PageNumbers
 pub mod PageWrites
 pub mod SameHistory
+pub mod Halting
 pub mod CoherentSteps
 pub mod Tokens
 pub mod Touching
@@ -63,7 +65,10 @@ pub mod Travels
 pub mod Arrivals
 pub mod Ordinary
 pub mod OneMore
+pub mod PageTurns
+pub mod PageImages
 pub mod Rising
+pub mod Sealing
 pub mod Recoveries
 pub mod Furnishing
 pub mod Opening

@@ -8,13 +8,12 @@ use Rattle.std.specs.Prelude.{◌⊎◌, if◌then◌else◌, map, nat_lt, not, 
 use Rattle.std.specs.Global.{Global}
 use Rattle.lc_disk.specs.Area.{IsImage}
 use Rattle.lc_disk.specs.declared.area.Area.{Ghosts}
-use Rattle.lc_record.specs.Content.{Content}
 use Rattle.lc_record.specs.Words.{words_of}
 use Rattle.lc_record.specs.declared.geometry.Geometry.{Geometry}
 use Rattle.lc_record.specs.declared.record.Record.{Record}
 use Rattle.lc_log.specs.LogText.{IsLogText, joined}
-use Rattle.lc_log.specs.NodeLog.{IsIdle, IsOpened, IsWithOrWithout, IsWritten}
-use Rattle.lc_log.proofs.LogLemmas.{one_text-by, text_at_rest}
+use Rattle.lc_log.specs.NodeLog.{IsClosing, IsIdle, IsOpened, IsWithOrWithout, IsWritten, LeavesOnly}
+use Rattle.lc_log.proofs.LogLemmas.{closed_text, one_text-by, text_at_rest}
 use Rattle.lc_log.proofs.StateLemmas.{group_flushed}
 use Rattle.lc_token.specs.declared.token.Token.{Token}
 use Rattle.lc_record.specs.declared.group.Group.{Group}
@@ -22,12 +21,11 @@ use Rattle.lc_model.specs.State.{DownAt, Up as IsUpNow, Setting, State}
 use Rattle.lc_model.specs.Stored.{records_of}
 use Rattle.lc_recover.specs.Reads.{AreHonest, AreImages, HaveLengths, area_count}
 use Rattle.lc_recover.specs.Recovery.{IsReadFrom, Recovering}
-use Rattle.lc_recover.specs.Stage.{OneCall}
 use Rattle.lc_recover.proofs.SameArea.{same-functions}
 use Rattle.lc_core.specs.Desk.{FitsDesk}
 use Rattle.lc_core.specs.Journal.{FitsLog}
 use Rattle.lc_trunc.specs.KnownClean.{known as known_of}
-use Rattle.lc_core.specs.Log.{Stands, area_of, is_failed}
+use Rattle.lc_core.specs.Log.{Stands, HasReset, area_of, is_failed}
 use Rattle.lc_core.specs.LogWords.{AreLogged, AreWordsOf, IsNodeKept, IsNodeRead, IsRead, IsSameBut, ReadsLog, ReadsNone, has_failed, log_area, log_in, logged_records}
 use Rattle.lc_core.specs.Node.{FitsNode}
 use Rattle.lc_core.specs.Numbers.{Numbers, stable_records}
@@ -38,7 +36,7 @@ use Rattle.lc_core.specs.Slots.{FitsSlots, besides_of}
 use Rattle.lc_core.specs.World.{FitsDown, FitsPhase}
 use Rattle.lc_core.specs.declared.desk.Desk.{Desk}
 use Rattle.lc_core.specs.declared.log.Log.{Log}
-use Rattle.lc_core.specs.declared.log.Log.TheVariants.{Idle, Written, Synced, Opened, Failed, Taken}
+use Rattle.lc_core.specs.declared.log.Log.TheVariants.{Idle, Written, Synced, Opened, Sealed, Closing, Emptied, Failed, Torn, Taken}
 use Rattle.lc_core.specs.declared.node.Node.{Node}
 use Rattle.lc_core.specs.declared.pages.Pages.{Pages}
 use Rattle.lc_core.specs.declared.phase.Phase.{Phase}
@@ -251,6 +249,7 @@ module _ {D : Type 0} (a : Ghosts D) where
           trimmed_is = h.journal.trimmed_is;
           acked_is = h.journal.acked_is;
           taken_is = h.journal.taken_is;
+          reset_is = kept.keeps.reset _ h.journal.reset_is;
         }
 
     all_still : (m : Setting) (s : State) (x : Numbers) → FitsRunning a m old s x → FitsRunning a m new s x
@@ -266,7 +265,7 @@ module _ {D : Type 0} (a : Ghosts D) where
     other_logs : (other : ℕ) → (other ≡ n → ⊥) → log_in a new.nodes.items other ≡ log_in a old.nodes.items other
     other_logs other differ = ap (λ nodes. log_in a nodes other) kept.nodes ∙ ap (option_and_then (λ (its : Node D a). area_of a its.journal.log)) (get_set_other old.nodes.items n other kept.now differ)
 
-    up_same : (segments : Vec (Pages D) Global) → IsSameBut a n (Up (record { running = old; segments = segments })) (Up (record { running = new; segments = segments }))
+    up_same : (segments : Vec (Pages D a) Global) → IsSameBut a n (Up (record { running = old; segments = segments })) (Up (record { running = new; segments = segments }))
     up_same segments = record { others = other_logs; segments = refl; still = λ m s x fits. (all_still m s x fits.0, fits.1) }
 
   node_of : (nodes : List (Node D a)) (n : ℕ) (area : D) → log_in a nodes n ≡ Some area → (its : Node D a) × (slice_get nodes n ≡ Some its) × (area_of a its.journal.log ≡ Some area)
@@ -282,7 +281,7 @@ module _ {D : Type 0} (a : Ghosts D) where
   pub down_none : (r late : Recovering D) (node : ℕ) → late ≡ r → log_area a (Down r) node ≡ None → ReadsNone a node (Down r) (Down late)
   down_none r late node same none = subst (λ (n : Recovering D). ReadsNone a node (Down r) (Down n)) (sym same) (record { there = none; same = same_phase node (Down r) })
 
-  pub up_reads : (old new : Running D a) (segments : Vec (Pages D) Global) (n : ℕ) (R : Type 0) (failed : Bool)
+  pub up_reads : (old new : Running D a) (segments : Vec (Pages D a) Global) (n : ℕ) (R : Type 0) (failed : Bool)
       → ((area : D) (its : Node D a) → slice_get old.nodes.items n ≡ Some its → area_of a its.journal.log ≡ Some area → R × IsNodeRead a n its area old new failed)
       → (area : D) → log_in a old.nodes.items n ≡ Some area → R × ReadsLog a n area (Up (record { running = old; segments = segments })) (Up (record { running = new; segments = segments })) failed
   up_reads old new segments n R failed each area there =
@@ -297,7 +296,7 @@ module _ {D : Type 0} (a : Ghosts D) where
         },
       )
 
-  pub up_none : (old new : Running D a) (segments : Vec (Pages D) Global) (n : ℕ) (R : Type 0)
+  pub up_none : (old new : Running D a) (segments : Vec (Pages D a) Global) (n : ℕ) (R : Type 0)
       → (slice_get old.nodes.items n ≡ None → R × (new ≡ old))
       → ((its : Node D a) → slice_get old.nodes.items n ≡ Some its → area_of a its.journal.log ≡ None → R × (kept : IsNodeKept a n its old new) × (area_of a kept.now.journal.log ≡ None))
       → log_in a old.nodes.items n ≡ None → R × ReadsNone a n (Up (record { running = old; segments = segments })) (Up (record { running = new; segments = segments }))
@@ -318,8 +317,8 @@ module _ {D : Type 0} (a : Ghosts D) where
 
   -- What a log reads as
 
-  abbrev text_at : ℕ → List Record → List Record → List Record
-  text_at steps stable group = if nat_lt 2 steps then stable ++ group else stable
+  abbrev text_at : ℕ → ℕ → List Record → List Record → List Record
+  text_at reset steps stable group = if nat_lt 1 reset then [] else if nat_lt 2 steps then stable ++ group else stable
 
   rests : (one area : D) (end : ℕ) (stable : List Record) → one ≡ area → a.honest area ≡ true → IsIdle a one end stable → IsLogText (words_of (a.now area)) stable
   rests one area end stable same honest idle =
@@ -334,27 +333,57 @@ module _ {D : Type 0} (a : Ghosts D) where
       (text_at_rest (a.now one) (λ k. false) (end + words) (stable ++ group)
       (group_flushed (a.now one) (a.now one) (a.dirty one) (λ k. false) end stable words group (opening (ap a.honest same ∙ honest)) (λ k. refl)))
 
-  reads_as : (log : Log D a) (area : D) (steps : ℕ) (stable group : List Record) → area_of a log ≡ Some area → a.honest area ≡ true → is_failed a log ≡ false → Stands a log steps stable group
-      → IsLogText (words_of (a.now area)) (text_at steps stable group)
-  reads_as (Idle log) area steps stable group is honest works stands = rw stands.0 (rests log.area area log.end stable (same_some log.area area is) honest stands.2)
-  reads_as (Written log) area steps stable group is honest works stands = rw stands.0 (staged log.area area log.end log.words stable group (same_some log.area area is) honest stands.1)
-  reads_as (Synced log) area steps stable group is honest works stands =
-      rw stands.0 (staged log.area area log.end log.words stable group (same_some log.area area is) honest (λ honest. (stands.1 honest).0))
-  reads_as (Opened log) area steps stable group is honest works stands = rw stands.0 (opened log.area area log.end log.words stable group (same_some log.area area is) honest stands.1)
-  reads_as (Failed log) area steps stable group is honest works stands = absurd cc
-  reads_as Taken area steps stable group is honest works stands = absurd cc
+  shut : (one area : D) (stable : List Record) → one ≡ area → a.honest area ≡ true → IsClosing a one stable → IsLogText (words_of (a.now area)) []
+  shut one area stable same honest closing =
+      let at = closing (ap a.honest same ∙ honest) in
+      subst (λ (d : D). IsLogText (words_of (a.now d)) []) same
+      (subst (λ (l : List ℕ). IsLogText (words_of l) []) (sym at.text) (closed_text [] at.gate at.behind tt at.closed))
 
-  fails_as : (log : Log D a) (area : D) (steps : ℕ) (stable group : List Record) → area_of a log ≡ Some area → a.honest area ≡ true → ((k : ℕ) → slice_index_or (a.now area) k 0 < 256)
-      → is_failed a log ≡ true → Stands a log steps stable group → IsWithOrWithout stable group (words_of (a.now area))
-  fails_as (Idle log) area steps stable group is honest fits failed stands = absurd cc
-  fails_as (Written log) area steps stable group is honest fits failed stands = absurd cc
-  fails_as (Synced log) area steps stable group is honest fits failed stands = absurd cc
-  fails_as (Opened log) area steps stable group is honest fits failed stands = absurd cc
-  fails_as (Failed log) area steps stable group is honest fits failed stands =
-      let same : log.area ≡ area = same_some log.area area is in
-      stands (ap a.honest same ∙ honest) (a.now area)
+  reads_as : (log : Log D a) (area : D) (reset steps : ℕ) (stable group : List Record) → area_of a log ≡ Some area → a.honest area ≡ true → is_failed a log ≡ false → HasReset a log reset
+      → Stands a log steps stable group → IsLogText (words_of (a.now area)) (text_at reset steps stable group)
+  reads_as (Idle log) area reset steps stable group is honest works at stands = rw (at, stands.0) (rests log.area area log.end stable (same_some log.area area is) honest stands.2)
+  reads_as (Written log) area reset steps stable group is honest works at stands =
+      rw (at, stands.0) (staged log.area area log.end log.words stable group (same_some log.area area is) honest stands.1)
+  reads_as (Synced log) area reset steps stable group is honest works at stands =
+      rw (at, stands.0) (staged log.area area log.end log.words stable group (same_some log.area area is) honest (λ honest. (stands.1 honest).0))
+  reads_as (Opened log) area reset steps stable group is honest works at stands =
+      rw (at, stands.0) (opened log.area area log.end log.words stable group (same_some log.area area is) honest stands.1)
+  reads_as (Sealed log) area reset steps stable group is honest works at stands = rw (at, stands.0) (rests log.area area log.end stable (same_some log.area area is) honest stands.2)
+  reads_as (Closing log) area reset steps stable group is honest works at stands = rw at (shut log.area area stable (same_some log.area area is) honest stands.2)
+  reads_as (Emptied log) area reset steps stable group is honest works at stands = rw at (rests log.area area log.end [] (same_some log.area area is) honest stands.2)
+  reads_as (Failed log) area reset steps stable group is honest works at stands = absurd cc
+  reads_as (Torn log) area reset steps stable group is honest works at stands = absurd cc
+  reads_as Taken area reset steps stable group is honest works at stands = absurd cc
+
+  -- the area itself is one of those that a stop may leave
+  own_image : (P : List ℕ → Type 0) (one area : D) → one ≡ area → a.honest area ≡ true → ((k : ℕ) → slice_index_or (a.now area) k 0 < 256) → LeavesOnly a one P → P (words_of (a.now area))
+  own_image P one area same honest fits leaves =
+      leaves (ap a.honest same ∙ honest) (a.now area)
       (subst (λ (d : D). IsImage (a.now d) (a.dirty d) (a.now area)) (sym same) (record { same_length = refl; bytes = fits; stable = λ k clean. refl }))
-  fails_as Taken area steps stable group is honest fits failed stands = absurd stands
+
+  abbrev Left : ℕ → List Record → List Record → List ℕ → Type 0
+  Left reset stable group words = IsLogText words stable ⊎ (IsLogText words (stable ++ group) ⊎ ((0 < reset) × IsLogText words []))
+
+  fails_as : (log : Log D a) (area : D) (reset steps : ℕ) (stable group : List Record) → area_of a log ≡ Some area → a.honest area ≡ true → ((k : ℕ) → slice_index_or (a.now area) k 0 < 256)
+      → is_failed a log ≡ true → HasReset a log reset → Stands a log steps stable group → Left reset stable group (words_of (a.now area))
+  fails_as (Idle log) area reset steps stable group is honest fits failed at stands = absurd cc
+  fails_as (Written log) area reset steps stable group is honest fits failed at stands = absurd cc
+  fails_as (Synced log) area reset steps stable group is honest fits failed at stands = absurd cc
+  fails_as (Opened log) area reset steps stable group is honest fits failed at stands = absurd cc
+  fails_as (Sealed log) area reset steps stable group is honest fits failed at stands = absurd cc
+  fails_as (Closing log) area reset steps stable group is honest fits failed at stands = absurd cc
+  fails_as (Emptied log) area reset steps stable group is honest fits failed at stands = absurd cc
+  fails_as (Failed log) area reset steps stable group is honest fits failed at stands =
+      elim (own_image (IsWithOrWithout stable group) log.area area (same_some log.area area is) honest fits stands) [
+        | inl without ↦ inl without
+        | inr with_group ↦ inr (inl with_group)
+      ]
+  fails_as (Torn log) area reset steps stable group is honest fits failed at stands =
+      elim (own_image (IsWithOrWithout [] stable) log.area area (same_some log.area area is) honest fits stands.2) [
+        | inl none ↦ inr (inr (at, none))
+        | inr all ↦ inl all
+      ]
+  fails_as Taken area reset steps stable group is honest fits failed at stands = absurd stands
 
   -- the words are those of what the node has logged
   pub logged : (m : Setting) (n : ℕ) (log : Log D a) (kept : Kept) (dropped trimmed taken acked : ℕ) (s : State) (x : Numbers) (area : D) (words : List ℕ)
@@ -363,14 +392,16 @@ module _ {D : Type 0} (a : Ghosts D) where
   logged m n log kept dropped trimmed taken acked s x area words h less few is honest fits shows = elim (cases_Bool (is_failed a log)) [
     | inl failed ↦
         rw (h.halted ∙ failed)
-        (elim (fails_as log area (s.flush n).steps stable group is honest fits failed h.stands) [
+        (elim (fails_as log area (x.reset n) (s.flush n).steps stable group is honest fits failed h.reset_is h.stands) [
           | inl without ↦ inl (shows honest stable without ∙ ap joined stable_is)
-          | inr with_group ↦ inr (shows honest (stable ++ group) with_group ∙ ap joined all_is)
+          | inr (inl with_group) ↦ inr (inl (shows honest (stable ++ group) with_group ∙ ap joined all_is))
+          | inr (inr none) ↦ inr (inr (none.0, shows honest [] none.1))
         ])
     | inr works ↦
         rw (h.halted ∙ works)
-        (shows honest (text_at (s.flush n).steps stable group) (reads_as log area (s.flush n).steps stable group is honest works h.stands)
-        ∙ ap joined (ap (λ rs. if nat_lt 2 (s.flush n).steps then rs else stable) all_is ∙ ap (λ rs. if nat_lt 2 (s.flush n).steps then drop (x.disks.dropped n) (take (s.flush n).taken records) else rs) stable_is))
+        (shows honest (text_at (x.reset n) (s.flush n).steps stable group) (reads_as log area (x.reset n) (s.flush n).steps stable group is honest works h.reset_is h.stands)
+        ∙ ap joined (ap (λ rs. if nat_lt 1 (x.reset n) then [] else if nat_lt 2 (s.flush n).steps then rs else stable) all_is
+        ∙ ap (λ rs. if nat_lt 1 (x.reset n) then [] else if nat_lt 2 (s.flush n).steps then drop (x.disks.dropped n) (take (s.flush n).taken records) else rs) stable_is))
   ]
     where
       records : List Record

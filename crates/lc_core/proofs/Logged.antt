@@ -157,6 +157,14 @@ module _ (k : Kept) (dropped acked taken : ℕ) (kept : k.before ≤ dropped) (f
       closed_or true is = same_extends
       closed_or false is = closing_extends (number - k.before)
 
+-- none comes and none goes
+pub closed_count : (number : ℕ) (k : Kept) → count_of (closed_at number k) ≡ count_of k
+closed_count number k = closed_or (nat_lt number k.before)
+  where
+    closed_or : (b : Bool) → count_of (if b then k else record k { records = closing (number - k.before) k.records }) ≡ count_of k
+    closed_or true = refl
+    closed_or false = ap (λ (n : ℕ). k.before + n) (closing_count (number - k.before) k.records)
+
 -- as many records as transactions of a node
 pub length-records : (numbers : ℕ → ℕ) (content : Content) (node : ℕ) (ts : List Transaction) → length (filter (is_from node) (records_from numbers content ts)) ≡ length (filter (is_of node) ts)
 length-records numbers content node [] = refl
@@ -241,6 +249,7 @@ module _ {D : Type 0} (a : Ghosts D) (m : Setting) (node : ℕ) (s : State) (x :
         trimmed_is = h.trimmed_is;
         acked_is = h.acked_is;
         taken_is = h.taken_is;
+        reset_is = h.reset_is;
       }
 
   fits_shut : (thread number : ℕ) (t : Transaction) → Sound m.geometry s → k.before ≤ number → find (is_by node thread) (unclosed s.history) ≡ Some t
@@ -267,6 +276,7 @@ module _ {D : Type 0} (a : Ghosts D) (m : Setting) (node : ℕ) (s : State) (x :
         trimmed_is = h.trimmed_is;
         acked_is = h.acked_is;
         taken_is = h.taken_is;
+        reset_is = h.reset_is;
       }
 
   -- what is not closed stands behind all that is dropped

@@ -81,7 +81,6 @@ module _ {D : Type 0} (a : Ghosts D) where
             (λ k node differ fits. node_beside m n k s x goes.after goes.next node differ goes.aside fits);
         on_the_way = on_the_way;
         resets = λ node. ap (λ f. f node) goes.resets ∙ h.resets node;
-        writes = λ segment page. ap (λ f. f segment page) goes.writes ∙ h.writes segment page;
       };
     }
       where
@@ -129,7 +128,6 @@ module _ {D : Type 0} (a : Ghosts D) where
     each = each_set {P = λ k node. FitsNode a m k node s x} {Q = λ k node. FitsNode a m k node s x} nodes n old new at h.each (still (h.each n old at)) (λ k node differ fits. fits);
     on_the_way = h.on_the_way;
     resets = h.resets;
-    writes = h.writes;
   }
 
   pub desk_still : (m : Setting) (n : ℕ) (s : State) (x : Numbers) (old : Node D a) (new : Desk) → StillFits old.desk new → the_images.IsSameBeside old.desk.here new.here

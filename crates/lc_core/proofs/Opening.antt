@@ -1,5 +1,5 @@
 -- The areas of the logs, as the nodes get them one after another, and the nodes behind that.
-use Rattle.std.proofs.Common.{◌≡◌, ◌≢◌, ℕ, ◌+◌, ◌-◌, ◌*◌, ◌%◌, ◌<◌, ◌≤◌, false, List, [], drop, length, Option, Some, None, refl, sym, ap, subst, ◌∙◌, arith}
+use Rattle.std.proofs.Common.{◌≡◌, ◌≢◌, ℕ, ◌+◌, ◌-◌, ◌*◌, ◌%◌, ◌<◌, ◌≤◌, true, false, List, [], drop, length, Option, Some, None, refl, sym, ap, subst, ◌∙◌, arith}
 use Rattle.std.specs.Prelude.{slice_get, slice_index, slice_index_or, option_map, replicate}
 use Rattle.std.proofs.lemmas.List.{length-drop, length-replicate}
 use Rattle.std.proofs.lemmas.Option.{slice_get-map, slice_get_within, get_or_from_slice_get}
@@ -11,7 +11,7 @@ use Rattle.lc_recover.specs.Recovered.{RecoveredStore, IsFinished}
 use Rattle.lc_recover.proofs.Images.{count-areas, len-log, len-segment}
 use Rattle.lc_core.specs.Blank.{AreFilledNodes}
 use Rattle.lc_core.specs.Fresh.{IsFresh}
-use Rattle.lc_core.specs.Log.{Stands, area_of, is_failed}
+use Rattle.lc_core.specs.Log.{Stands, area_of, is_idle}
 use Rattle.lc_core.specs.Nodes.{AreWhole}
 use Rattle.lc_core.specs.Places.{same_some}
 use Rattle.lc_core.specs.declared.node.Node.{Node}
@@ -80,7 +80,7 @@ module _ {D : Type 0} (a : Ghosts D) where
   pub filled_fresh : (r : RecoveredStore D) (w : Running D a) (nodes : List (Node D a)) → r.geometry ≡ w.geometry → w.nodes.items ≡ nodes → AreFilledNodes a r nodes
       → ((n : ℕ) (node : Node D a) → slice_get nodes n ≡ Some node → area_of a node.journal.log ≡ slice_get r.areas n)
       → ((n : ℕ) (node : Node D a) → slice_get nodes n ≡ Some node → Stands a node.journal.log 0 [] [])
-      → ((n : ℕ) (node : Node D a) → slice_get nodes n ≡ Some node → is_failed a node.journal.log ≡ false)
+      → ((n : ℕ) (node : Node D a) → slice_get nodes n ≡ Some node → is_idle a node.journal.log ≡ true)
       → w.travelling.items ≡ replicate w.geometry.segments None → IsFresh a r w
   filled_fresh r w nodes same are filled areas logs works none =
       let count = w.all_nodes in

@@ -39,6 +39,7 @@ log_beside a m node other old x new y differ beside log kept dropped trimmed tak
   trimmed_is = h.trimmed_is ∙ sym (beside.trimmed other differ);
   acked_is = h.acked_is ∙ sym (beside.ack other differ);
   taken_is = rw (beside.flush other differ) h.taken_is;
+  reset_is = rw (beside.reset other differ) h.reset_is;
 }
 
 pub logs_open : (m : Setting) (node : ℕ) (s after : State) (x : Numbers) → SameButOpen node s after → BesideLogs m node s x after x
@@ -50,6 +51,7 @@ logs_open m node s after x same = record {
   ack = λ other differ. ap (λ f. f other) same.ack;
   dropped = λ other differ. refl;
   trimmed = λ other differ. refl;
+  reset = λ other differ. refl;
 }
 
 pub logs_logged : (m : Setting) (node : ℕ) (s after : State) (x : Numbers) → SameButLog node s after → BesideLogs m node s x after x
@@ -61,6 +63,7 @@ logs_logged m node s after x same = record {
   ack = same.ack;
   dropped = λ other differ. refl;
   trimmed = λ other differ. refl;
+  reset = λ other differ. refl;
 }
 
 pub logs_appended : (m : Setting) (node i : ℕ) (s : State) (x : Numbers) (t : Transaction) → running_of node i s ≡ Some t → BesideLogs m node s x (appended s t) x
@@ -79,6 +82,7 @@ logs_appended m node i s x t running = record {
   ack = λ other differ. refl;
   dropped = λ other differ. refl;
   trimmed = λ other differ. refl;
+  reset = λ other differ. refl;
 }
   where
     not_its : (other : ℕ) → other ≢ node → is_of other t ≡ false
@@ -97,6 +101,7 @@ logs_closed m node i s x = record {
   ack = λ other differ. refl;
   dropped = λ other differ. refl;
   trimmed = λ other differ. refl;
+  reset = λ other differ. refl;
 }
   where
     same_mark : (other : ℕ) → other ≢ node → (t : Transaction) (closed : Bool) → is_of other t ≡ true → (shut node i (entry t closed)).closed ≡ closed

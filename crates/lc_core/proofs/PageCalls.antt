@@ -1,223 +1,256 @@
--- The calls of a page write, but for the last: which are made, and what they keep.
-use Rattle.std.proofs.Common.{◌≡◌, ◌≢◌, ◌⊎◌, ℕ, zero, suc, ◌+◌, ◌<◌, ◌≤◌, Bool, true, false, Option, Some, None, refl, sym, ap, subst, ◌∙◌, inl, inr, arith, true≢false}
-use Rattle.std.specs.Prelude.{◌==◌, nat_lt, nat_le, is_some, if◌then◌else◌}
-use Rattle.std.specs.List.{list_any}
-use Rattle.std.proofs.lemmas.Bool.{cases_eq, cases_lt, le-ltb, lt-ltb, ltb-false, leb-false, ne_eqb}
-use Rattle.lc_model.specs.History.{reserved, transactions}
-use Rattle.lc_model.specs.Merge.{Page}
-use Rattle.lc_model.specs.Merging.{counted_all}
-use Rattle.lc_model.specs.Moves.{update_at, with_opened, page_now}
-use Rattle.lc_model.specs.Refusals.{is_at, refuse_if}
-use Rattle.lc_model.specs.Sound.{holders}
-use Rattle.lc_model.specs.State.{At, Setting, State, update}
-use Rattle.lc_model.specs.Stored.{Fits as FitsDisks}
-use Rattle.lc_model.specs.declared.event.Event.{Event}
-use Rattle.lc_model.specs.declared.event.Event.TheVariants.{PageStep}
-use Rattle.lc_model.specs.declared.refusal.Refusal.TheVariants.{NotHere, NotNewer, Uncommitted, Unflushed}
-use Rattle.lc_model.specs.declared.reply.Reply.{Reply}
-use Rattle.lc_model.specs.declared.reply.Reply.TheVariants.{Refused, Stepped, Written}
-use Rattle.lc_model.proofs.Holders.{at_is}
-use Rattle.lc_model.proofs.Keeps.{acked-reserved}
-use Rattle.lc_model.proofs.Moves.{keeps-begun, keeps-opening, stands-now, token-stable}
-use Rattle.lc_model.proofs.Seats.{update-other, update-own}
-use Rattle.lc_trunc.specs.Clean.{closed_of}
-use Rattle.lc_trunc.proofs.CleanLemmas.{token-fewer, token-opened}
-use Rattle.lc_trunc.proofs.NumberLemmas.{token-number}
-use Rattle.lc_core.specs.Coherent.{AreCoherent, IsWriteOf, entries_of}
-use Rattle.lc_core.specs.Numbers.{Numbers, sets_on, stable, token_number}
-use Rattle.lc_core.specs.Settled.{IsAnswer, begun_number, is_unflushed, page_answer, page_call, refusal_or}
-use Rattle.lc_core.specs.Turns.{called, numbers_after, opened_with, written}
+-- What the calls of page writes make of the pages of an area.
+use Rattle.std.proofs.Common.{◌≡◌, ◌≢◌, ℕ, zero, suc, ◌+◌, ◌*◌, ◌<◌, ◌≤◌, Bool, true, List, [], ◌∷◌, length, Some, refl, sym, ap, subst, ◌∙◌, inl, inr, arith}
+use Rattle.std.specs.Prelude.{slice_get, slice_index_or, slice_set, Result, Ok, Err}
+use Rattle.std.proofs.lemmas.Bool.{cases_eq}
+use Rattle.std.proofs.lemmas.List.{length-set}
+use Rattle.std.proofs.lemmas.Option.{get_or_from_slice_get, slice_get_within}
+use Rattle.lc_disk.specs.declared.area.Area.{Ghosts}
+use Rattle.lc_record.specs.declared.geometry.Geometry.{Geometry}
+use Rattle.lc_page.specs.Page.{Page, page_in}
+use Rattle.lc_page.specs.PageVector.{settled_text}
+use Rattle.lc_page.specs.PageWrite.{SettledIn, HasPage, IsBegun, IsEither, KeepsPage, drafted}
+use Rattle.lc_page.specs.Writing.{IsOver, IsUnderWay, calls_of, draft_of}
+use Rattle.lc_page.specs.declared.draft.Draft.{Draft}
+use Rattle.lc_page.specs.declared.fault.PageFault.{PageFault}
+use Rattle.lc_page.specs.declared.page_text.PageText.{PageText}
+use Rattle.lc_page.specs.declared.writing.Writing.{Writing}
+use Rattle.lc_page.specs.declared.writing.Writing.TheVariants.{AtClosing, AtClosed, AtFilling, AtFilled, AtOpening}
+use Rattle.lc_page.proofs.StateLemmas.{kept_images, kept_page, kept_settled}
+use Rattle.lc_page.proofs.WritingLemmas.{kept_under_way, old_either}
+use Rattle.lc_model.specs.Merge.{Page as StorePage}
+use Rattle.lc_core.specs.Numbers.{Numbers}
+use Rattle.lc_core.specs.PageState.{AreNamed}
+use Rattle.lc_core.specs.Pages.{FitsArea, FollowsBegin, FollowsNext, HasBegun, IsAtRest, IsBetween, IsPageAt, StepsIn, TellsNumbers, as_read}
+use Rattle.lc_core.specs.Places.{same_some, get_set_same, get_set_other}
+use Rattle.lc_core.specs.Settled.{begun_number}
+use Rattle.lc_core.specs.Turns.{called, page_settled}
+use Rattle.lc_core.specs.declared.page_progress.PageProgress.{PageProgress}
+use Rattle.lc_core.specs.declared.page_progress.PageProgress.TheVariants.{Stepped, Written}
+use Rattle.lc_core.specs.declared.page_state.PageState.{PageState}
+use Rattle.lc_core.specs.declared.page_state.PageState.TheVariants.{AtRest, UnderWay, Failed}
+use Rattle.lc_core.specs.declared.pages.Pages.{Pages}
+use Rattle.lc_core.proofs.Furnishing.{each_set}
+use Rattle.lc_core.proofs.PageTurns.{begun_first, begun_next, called_apart, called_page, settled_beside, settled_calls, settled_page, settled_texts}
+use Rattle.lc_core.proofs.PageWrites.{SameAt, state_same}
 
--- Tables
+pub some_calls : (write : Writing) → 1 ≤ calls_of write
+some_calls (AtClosing w) = omega arith
+some_calls (AtClosed w) = omega arith
+some_calls (AtFilling w) = omega arith
+some_calls (AtFilled w) = omega arith
+some_calls (AtOpening w) = omega arith
 
-pub entry_own : {A : Type 0} (table : ℕ → ℕ → A) (segment page : ℕ) (item : A) → update_at table segment page item segment page ≡ item
-entry_own {A} table segment page item =
-    ap (λ (f : ℕ → A). f page) (update-own table segment (update (table segment) page item)) ∙ update-own (table segment) page item
+pub few_calls : (write : Writing) → calls_of write ≤ 5
+few_calls (AtClosing w) = omega arith
+few_calls (AtClosed w) = omega arith
+few_calls (AtFilling w) = omega arith
+few_calls (AtFilled w) = omega arith
+few_calls (AtOpening w) = omega arith
 
-pub entry_other : {A : Type 0} (table : ℕ → ℕ → A) (segment page : ℕ) (item : A) (n k : ℕ) → (n ≡ segment → k ≡ page → ⊥) → update_at table segment page item n k ≡ table n k
-entry_other {A} table segment page item n k differ = elim (cases_eq n segment) [
-  | inl same ↦
-      subst (λ (i : ℕ). update_at table segment page item i k ≡ table i k) (sym same)
-      (ap (λ (f : ℕ → A). f k) (update-own table segment (update (table segment) page item)) ∙ update-other (table segment) page item k (differ same))
-  | inr other ↦ ap (λ (f : ℕ → A). f k) (update-other table segment (update (table segment) page item) n other)
-]
+-- a state that is put twice
+pub set_twice : (writes : List PageState) (page : ℕ) (first second : PageState) → slice_set (slice_set writes page first) page second ≡ slice_set writes page second
+set_twice [] page first second = refl
+set_twice (w ∷ ws) zero first second = refl
+set_twice (w ∷ ws) (suc page) first second = ap (λ (l : List PageState). w ∷ l) (set_twice ws page first second)
 
--- a page, or any other
-pub page_cases : (P : ℕ → ℕ → Type 0) (segment page : ℕ) → P segment page → ((n k : ℕ) → (n ≡ segment → k ≡ page → ⊥) → P n k) → (n k : ℕ) → P n k
-page_cases P segment page own others n k = elim (cases_eq n segment) [
-  | inl first ↦ elim (cases_eq k page) [
-    | inl second ↦ subst (λ (i : ℕ). P i k) (sym first) (subst (λ (i : ℕ). P segment i) (sym second) own)
-    | inr other ↦ others n k (λ one two. other two)
-  ]
-  | inr other ↦ others n k (λ one two. other one)
-]
+pub named_set : (writes : List PageState) (page : ℕ) (state : PageState) → AreNamed writes → ((write : Writing) → state ≡ UnderWay write → (draft_of write).page ≡ page) → AreNamed (slice_set writes page state)
+named_set writes page state named own k write got =
+    each_set (λ (n : ℕ) (v : PageState). (w : Writing) → v ≡ UnderWay w → (draft_of w).page ≡ n) writes page state
+    (λ n v at w is. named n w (at ∙ ap (λ (u : PageState). Some u) is)) own k (UnderWay write) got write refl
 
--- a page write, by what the tables have
-pub write_as : (s : State) (x : Numbers) (segment page : ℕ) (begun opened : Option Page) (calls : ℕ) → x.disks.begun segment page ≡ begun → x.disks.opened segment page ≡ opened → x.calls segment page ≡ calls
-    → is_some begun ≡ nat_lt 0 calls → opened ≡ (if nat_lt calls 5 then None else begun) → ((text : Page) → begun ≡ Some text → text.sequence ≤ token_number s x segment) → IsWriteOf s x segment page
-write_as s x segment page begun opened calls begun_is opened_is calls_is some behind within = record {
-  begun = ap (λ (o : Option Page). is_some o) begun_is ∙ some ∙ ap (λ (k : ℕ). nat_lt 0 k) (sym calls_is);
-  opened = opened_is ∙ behind ∙ ap (λ (k : ℕ). if nat_lt k 5 then None else begun) (sym calls_is) ∙ ap (λ (o : Option Page). if nat_lt (x.calls segment page) 5 then None else o) (sym begun_is);
-  within = λ text is. within text (sym begun_is ∙ is);
-}
+pub named_failed : (writes : List PageState) (page : ℕ) (state : PageState) → state ≡ Failed → AreNamed writes → AreNamed (slice_set writes page state)
+named_failed writes page state is named = named_set writes page state named (λ write other. absurd (none write (sym is ∙ other)))
+  where
+    none : (write : Writing) → Failed ≡ UnderWay write → ⊥
+    none write same = absurd cc
 
-module _ (m : Setting) (s : State) (x : Numbers) (node segment page : ℕ) where
-  abbrev event : Event
-  event = PageStep node segment page
+-- a place has one write
+pub same_write : (first second : Writing) → ◌≡◌ {A = PageState} (UnderWay first) (UnderWay second) → first ≡ second
+same_write first second same = ap (λ (state : PageState). elim state as (λ (v : PageState). Writing) [ UnderWay write ↦ write | _ ↦ first ]) same
 
-  abbrev after_of : Reply → Numbers
-  after_of reply = numbers_after m s x event reply
+pub one_write : (writes : List PageState) (page : ℕ) (first second : Writing) → slice_get writes page ≡ Some (UnderWay first) → slice_get writes page ≡ Some (UnderWay second) → first ≡ second
+one_write writes page first second one two = same_write first second (same_some (UnderWay first) (UnderWay second) (sym one ∙ two))
 
-  abbrev calls : ℕ
-  calls = x.calls segment page
+-- the write that is taken out of its place
+pub taken : (writes : List PageState) (page : ℕ) (its write : Writing) (state was : PageState) → slice_get writes page ≡ Some (UnderWay its) → state ≡ slice_index_or writes page state → was ≡ state → was ≡ UnderWay write
+    → slice_get writes page ≡ Some (UnderWay write)
+taken writes page its write state was at value out is =
+    at ∙ ap (λ (v : PageState). Some v) (sym (value ∙ get_or_from_slice_get writes page (UnderWay its) state at) ∙ sym out ∙ is)
 
-  -- What a settled answer makes
+module _ {D : Type 0} (a : Ghosts D) where
+  -- the area has room for each page whose state is kept
+  pub has_room : (pages : Pages D a) (page : ℕ) → page < length pages.writes.items → (2 * page + 2) * 272 ≤ length (a.now pages.area)
+  has_room pages page within = (let long = pages.long in let count = pages.writes.ok.0 in omega (arith, within, long, count))
 
-  -- where the first call is made
-  abbrev pub Begins : Type 0
-  Begins = calls ≡ 0 → (s.place segment ≡ At node) × (is_unflushed s node ≡ false) × (nat_le (token_number s x segment) (stable x segment page) ≡ false)
+  -- What is done beside a page
 
-  -- nothing, the next call, or the end of the write
-  abbrev pub MakesPage : Reply → Type 0
-  MakesPage reply =
-      (after_of reply ≡ x)
-      ⊎ (Begins × (after_of reply ≡ called m s x segment page (calls + 1)))
-      ⊎ ((5 ≤ calls) × (after_of reply ≡ written m.geometry s x node segment page))
+  module _ (area later : D) (page : ℕ) (room : (2 * page + 2) * 272 ≤ length (a.now area)) (bytes : (at : ℕ) → slice_index_or (a.now area) at 0 < 256) (keeps : KeepsPage a page area later) where
+    kept_shows : (P : Page → Type 0) → HasPage a area page P → HasPage a later page P
+    kept_shows P h honest =
+        let was : a.honest area ≡ true = sym keeps.honest ∙ honest in
+        let same = keeps.inside was in
+        let shows = h was in
+        record {
+          reads = subst P (sym (kept_page page (a.now area) (a.now later) (a.dirty area) (a.dirty later) same).0) shows.reads;
+          images = λ image is.
+              (let before = kept_images page (a.now area) (a.now later) (a.dirty area) (a.dirty later) room bytes same image is in
+              subst P (sym before.2) (shows.images before.0 before.1));
+        }
 
-  at_first : (held unflushed old : Bool) → calls ≡ 0 → (unflushed ≡ false → old ≡ false → Begins) → (reply : Reply)
-      → IsAnswer event (refusal_or (refuse_if held Uncommitted (refuse_if unflushed Unflushed (refuse_if old NotNewer None))) (Stepped 1)) reply → MakesPage reply
-  at_first true unflushed old none begins reply (inl is) = inl (ap after_of is)
-  at_first true unflushed old none begins reply (inr fault) = absurd (true≢false (sym fault.0))
-  at_first false true old none begins reply (inl is) = inl (ap after_of is)
-  at_first false true old none begins reply (inr fault) = absurd (true≢false (sym fault.0))
-  at_first false false true none begins reply (inl is) = inl (ap after_of is)
-  at_first false false true none begins reply (inr fault) = absurd (true≢false (sym fault.0))
-  at_first false false false none begins reply (inl is) =
-      let one : 1 ≡ calls + 1 = omega (arith, none) in
-      inr (inl (begins refl refl, ap after_of is ∙ ap (called m s x segment page) one))
-  at_first false false false none begins reply (inr fault) = inr (inl (begins refl refl, ap after_of fault.1))
+    pub state_kept : (segment : ℕ) (state : PageState) (x : Numbers) → IsPageAt a area segment page state x → IsPageAt a later segment page state x
+    state_kept segment AtRest x h = record {
+      no_calls = h.no_calls;
+      settled = λ honest. (let was : a.honest area ≡ true = sym keeps.honest ∙ honest in
+          kept_settled (a.now area) (a.now later) (a.dirty area) (a.dirty later) page (x.texts segment page) (keeps.inside was) (h.settled was));
+      reads = λ honest. (let was : a.honest area ≡ true = sym keeps.honest ∙ honest in
+          (kept_page page (a.now area) (a.now later) (a.dirty area) (a.dirty later) (keeps.inside was)).0 ∙ h.reads was);
+    }
+    state_kept segment (UnderWay write) x h = record {
+      page_is = h.page_is;
+      begun = h.begun;
+      under_way = kept_under_way a area later write (x.texts segment page) (as_read (x.disks.page segment page))
+          (subst (λ (n : ℕ). KeepsPage a n area later) (sym h.page_is) keeps) h.under_way;
+    }
+    state_kept segment Failed x h = record {
+      calls = h.calls;
+      some = h.some;
+      most = h.most;
+      new = h.new;
+      begun = h.begun;
+      old = λ few. kept_shows (λ (it : Page). it ≡ as_read (x.disks.page segment page)) (h.old few);
+      either = kept_shows (IsEither (as_read (x.disks.page segment page)) h.new) h.either;
+    }
 
-  later_begins : (k : ℕ) → calls ≡ suc k → Begins
-  later_begins k is none = absurd (omega (arith, is, none))
+  -- a call for one page
+  pub record IsCall (page : ℕ) (old new : D) : Type 0 where
+    pub honest : a.honest new ≡ a.honest old
+    pub bytes : a.honest new ≡ true → (at : ℕ) → slice_index_or (a.now new) at 0 < 256
+    pub others : (other : ℕ) → other ≢ page → KeepsPage a other old new
 
-  at_later : (k : ℕ) (less : Bool) → nat_lt k 4 ≡ less → calls ≡ suc k → (reply : Reply)
-      → IsAnswer event (if less then Stepped (suc k + 1) else Written (begun_number (x.disks.begun segment page))) reply → MakesPage reply
-  at_later k true test is reply (inl same) =
-      inr (inl (later_begins k is, ap after_of same ∙ ap (λ (n : ℕ). called m s x segment page (n + 1)) (sym is)))
-  at_later k true test is reply (inr fault) = inr (inl (later_begins k is, ap after_of fault.1))
-  at_later k false test is reply (inl same) = (let most : 4 ≤ k = ltb-false k 4 test in inr (inr (omega (arith, is, most), ap after_of same)))
-  at_later k false test is reply (inr fault) = inr (inl (later_begins k is, ap after_of fault.1))
+  area_called : (g : Geometry) (segment page : ℕ) (old new : Pages D a) (was state : PageState) (x y : Numbers) → slice_get old.writes.items page ≡ Some was → new.writes.items ≡ slice_set old.writes.items page state
+      → IsCall page old.area new.area → ((other : ℕ) → other ≢ page → SameAt segment other x y) → IsPageAt a new.area segment page state y → FitsArea a g segment old x → FitsArea a g segment new y
+  area_called g segment page old new was state x y at are calls same own h = record {
+    honest = calls.honest ∙ h.honest;
+    bytes = calls.bytes (calls.honest ∙ h.honest);
+    count = ap length are ∙ length-set old.writes.items page state ∙ h.count;
+    each = λ other its got.
+        (let there : slice_get (slice_set old.writes.items page state) other ≡ Some its = ap (λ (states : List PageState). slice_get states other) (sym are) ∙ got in
+        elim (cases_eq other page) [
+          | inl here ↦
+              let found : slice_get (slice_set old.writes.items page state) page ≡ Some its = subst (λ (n : ℕ). slice_get (slice_set old.writes.items page state) n ≡ Some its) here there in
+              let is : state ≡ its = same_some state its (sym (get_set_same old.writes.items page was state at) ∙ found) in
+              subst (λ (n : ℕ). IsPageAt a new.area segment n its y) (sym here) (subst (λ (v : PageState). IsPageAt a new.area segment page v y) is own)
+          | inr differ ↦
+              let before : slice_get old.writes.items other ≡ Some its = sym (get_set_other old.writes.items page other state differ) ∙ there in
+              state_same a new.area segment other its x y (same other differ)
+              (state_kept old.area new.area other (has_room old other (slice_get_within old.writes.items other its before)) h.bytes (calls.others other differ) segment its x (h.each other its before))
+        ]);
+  }
 
-  by_calls : is_at node (s.place segment) ≡ true → (k : ℕ) → calls ≡ k → (reply : Reply) → IsAnswer event (page_call s x node segment page k) reply → MakesPage reply
-  by_calls here zero is reply answer =
-      at_first (list_any (sets_on segment page) (holders s)) (is_unflushed s node) (nat_le (token_number s x segment) (stable x segment page)) is
-      (λ flushed newer none. (at_is node (s.place segment) here, flushed, newer)) reply answer
-  by_calls here (suc k) is reply answer = at_later k (nat_lt k 4) refl is reply answer
+  -- The first call
 
-  away : (reply : Reply) → IsAnswer event (Refused (NotHere segment)) reply → MakesPage reply
-  away reply (inl is) = inl (ap after_of is)
-  away reply (inr fault) = absurd (true≢false (sym fault.0))
+  module _ (old new : Pages D a) (draft : Draft) (gate : Bool) (calls : IsCall draft.page old.area new.area) where
+    pub begins : (write : Writing) → draft_of write ≡ draft → calls_of write ≡ 1 → new.writes.items ≡ slice_set old.writes.items draft.page (UnderWay write)
+        → ((text : PageText) → IsBegun draft gate text → SettledIn a old.area draft.page text → IsUnderWay a new.area write text (page_in (a.now old.area) draft.page))
+        → FollowsBegin a old draft gate new
+    begins write is one are under m s segment x h rest now =
+        let its : IsAtRest a old.area segment draft.page x = h.each draft.page AtRest rest in
+        let y = called m s x segment draft.page 1 in
+        area_called m.geometry segment draft.page old new AtRest (UnderWay write) x y rest are calls (λ other differ. called_apart m s segment draft.page x 1 segment other (inr (refl, differ))) (record {
+          page_is = ap (λ (d : Draft). d.page) is;
+          begun = subst (λ (d : Draft). HasBegun segment draft.page (calls_of write) (drafted d) y) (sym is)
+              (subst (λ (n : ℕ). HasBegun segment draft.page n (drafted draft) y) (sym one) (begun_first m s segment draft.page (drafted draft) x now.text_is));
+          under_way = subst (λ (p : StorePage). IsUnderWay a new.area write (x.texts segment draft.page) (as_read p)) (sym (called_page m s segment draft.page x 1))
+              (subst (λ (p : Page). IsUnderWay a new.area write (x.texts segment draft.page) p) (its.reads h.honest) (under (x.texts segment draft.page) now.begun its.settled));
+        }) h
 
-  pub page_makes : (reply : Reply) → IsAnswer event (page_answer s x node segment page) reply → MakesPage reply
-  page_makes reply answer = elim (is_at node (s.place segment)) as (λ b. is_at node (s.place segment) ≡ b → IsAnswer event (if b then page_call s x node segment page calls else Refused (NotHere segment)) reply → MakesPage reply) [
-    | true ↦ λ here h. by_calls here calls refl reply h
-    | false ↦ λ there h. away reply h
-  ] refl answer
+    pub begin_fails : new.writes.items ≡ slice_set old.writes.items draft.page Failed
+        → ((text : PageText) → IsBegun draft gate text → SettledIn a old.area draft.page text → HasPage a new.area draft.page (λ it. it ≡ page_in (a.now old.area) draft.page))
+        → FollowsBegin a old draft gate new
+    begin_fails are still m s segment x h rest now =
+        let its : IsAtRest a old.area segment draft.page x = h.each draft.page AtRest rest in
+        let y = called m s x segment draft.page 1 in
+        let same : page_in (a.now old.area) draft.page ≡ as_read (y.disks.page segment draft.page) = its.reads h.honest ∙ ap as_read (sym (called_page m s segment draft.page x 1)) in
+        let shows : HasPage a new.area draft.page (λ it. it ≡ as_read (y.disks.page segment draft.page)) =
+        subst (λ (p : Page). HasPage a new.area draft.page (λ it. it ≡ p)) same (still (x.texts segment draft.page) now.begun its.settled) in
+        area_called m.geometry segment draft.page old new AtRest Failed x y rest are calls (λ other differ. called_apart m s segment draft.page x 1 segment other (inr (refl, differ))) (record {
+          calls = 1;
+          some = omega arith;
+          most = omega arith;
+          new = drafted draft;
+          begun = begun_first m s segment draft.page (drafted draft) x now.text_is;
+          old = λ few. shows;
+          either = λ honest. old_either (a.now new.area) (a.dirty new.area) draft.page (as_read (y.disks.page segment draft.page)) (drafted draft) (shows honest);
+        }) h
 
-  -- What a call keeps
+  -- The next call
 
-  module _ (first : 1 ≤ segment) (last : segment ≤ m.geometry.segments) (known : page < m.geometry.pages) (fits : FitsDisks m s x.disks) (h : AreCoherent m s x) where
-    abbrev Keeps : Numbers → Type 0
-    Keeps y = AreCoherent m s y × FitsDisks m s y.disks
+  module _ (old new : Pages D a) (page : ℕ) (write : Writing) (at : slice_get old.writes.items page ≡ Some (UnderWay write)) (calls : IsCall page old.area new.area) where
+    pub goes_on : (next : Writing) (count : ℕ) → draft_of next ≡ draft_of write → calls_of next ≡ count → count ≡ calls_of write + 1 → new.writes.items ≡ slice_set old.writes.items page (UnderWay next)
+        → ((text : PageText) (was : Page) → IsUnderWay a old.area write text was → IsUnderWay a new.area next text was)
+        → FollowsNext a old page (Ok (Stepped count)) new
+    goes_on next count is made more are on m s segment x h =
+        let its : IsBetween a old.area segment page write x = h.each page (UnderWay write) at in
+        let y = called m s x segment page count in
+        area_called m.geometry segment page old new (UnderWay write) (UnderWay next) x y at are calls (λ other differ. called_apart m s segment page x count segment other (inr (refl, differ))) (record {
+          page_is = ap (λ (d : Draft). d.page) is ∙ its.page_is;
+          begun = subst (λ (n : ℕ). HasBegun segment page n (drafted (draft_of next)) y) (sym made)
+              (subst (λ (d : Draft). HasBegun segment page count (drafted d) y) (sym is)
+              (subst (λ (n : ℕ). HasBegun segment page n (drafted (draft_of write)) (called m s x segment page n)) (sym more)
+              (begun_next m s segment page x (calls_of write) (drafted (draft_of write)) its.begun (some_calls write))));
+          under_way = subst (λ (p : StorePage). IsUnderWay a new.area next (x.texts segment page) (as_read p)) (sym (called_page m s segment page x count))
+              (on (x.texts segment page) (as_read (x.disks.page segment page)) its.under_way);
+        }) h
 
-    -- no call of another page
-    others_write : (y : Numbers) (n k : ℕ) → (n ≡ segment → k ≡ page → ⊥) → y.disks.numbers ≡ x.disks.numbers
-        → y.disks.begun n k ≡ x.disks.begun n k → y.disks.opened n k ≡ x.disks.opened n k → y.calls n k ≡ x.calls n k → IsWriteOf s y n k
-    others_write y n k differ numbers begun_is opened_is calls_is =
-        let its = h.writes n k in
-        write_as s y n k (x.disks.begun n k) (x.disks.opened n k) (x.calls n k) begun_is opened_is calls_is its.begun its.opened
-        (λ text is. subst (λ (f : ℕ → ℕ). text.sequence ≤ counted_all f (closed_of s.history) n) (sym numbers) (its.within text is))
+    pub is_over : (number : ℕ) → new.writes.items ≡ slice_set old.writes.items page AtRest
+        → ((text : PageText) (was : Page) → IsUnderWay a old.area write text was → IsOver a new.area (draft_of write) text)
+        → FollowsNext a old page (Ok (Written number)) new
+    is_over number are over m s segment x h =
+        let its : IsBetween a old.area segment page write x = h.each page (UnderWay write) at in
+        let y = page_settled x segment page in
+        let done = over (x.texts segment page) (as_read (x.disks.page segment page)) its.under_way in
+        let seq : (draft_of write).seq ≡ its.begun.text.sequence = ap (λ (p : Page). p.sequence) its.begun.text_is in
+        let texts : settled_text (x.texts segment page) (draft_of write).seq ≡ y.texts segment page =
+        ap (settled_text (x.texts segment page)) seq ∙ sym (settled_texts m s segment page x its.begun.text its.begun.begun) in
+        area_called m.geometry segment page old new (UnderWay write) AtRest x y at are calls (λ other differ. settled_beside m s segment page x segment other (inr (refl, differ))) (record {
+          no_calls = settled_calls m s segment page x its.begun.text its.begun.begun;
+          settled = subst (λ (t : PageText). SettledIn a new.area page t) texts (subst (λ (n : ℕ). SettledIn a new.area n (settled_text (x.texts segment page) (draft_of write).seq)) its.page_is done.settled);
+          reads = λ honest. subst (λ (n : ℕ). page_in (a.now new.area) n ≡ drafted (draft_of write)) its.page_is (done.page honest).reads
+              ∙ its.begun.text_is ∙ ap as_read (sym (settled_page m s segment page x its.begun.text its.begun.begun));
+        }) h
 
-    begins_so : calls ≡ 0 → Begins → Keeps (called m s x segment page 1)
-    begins_so none begins =
-        let can = begins none in
-        let all : s.ack node ≡ reserved node s.history = (let most = acked-reserved m.geometry s node fits.sound in let least = ltb-false (s.ack node) (reserved node s.history) can.1 in omega (arith, most, least)) in
-        let newer : stable x segment page < token_number s x segment = leb-false (token_number s x segment) (stable x segment page) can.2 in
-        let number : token_number s x segment ≡ counted_all x.disks.numbers (transactions s.history) segment = token-number m s x.disks segment node fits.sound can.0 all in
-        let text : Page = page_now m s x.disks segment page in
-        let y : Numbers = called m s x segment page 1 in (
-          record {
-            tokens = λ n one most. token-fewer m s x.disks y.disks n (token_number s x n) (x.clean n) (entries_of m.geometry x n) (h.tokens n one most) refl (λ p z shows. shows);
-            clean = h.clean;
-            known = h.known;
-            resets = h.resets;
-            writes = page_cases (λ n k. IsWriteOf s y n k) segment page
-                (write_as s y segment page (Some text) None 1 (entry_own x.disks.begun segment page (Some text)) (closed_slot none) (entry_own x.calls segment page 1) refl refl
-                (λ z is. (let same : text.sequence ≡ z.sequence = ap (λ (o : Option Page). begun_number o) is in omega (arith, same, number))))
-                (λ n k differ. others_write y n k differ refl (entry_other x.disks.begun segment page (Some text) n k differ) refl (entry_other x.calls segment page 1 n k differ));
-          },
-          keeps-begun m s x.disks segment page text fits (stands-now m s x.disks segment page fits.sound (token-stable m s x.disks segment node fits.sound can.0 all)) (omega (arith, newer, number)),
-        )
-      where
-        closed_slot : calls ≡ 0 → x.disks.opened segment page ≡ None
-        closed_slot is = (h.writes segment page).opened ∙ ap (λ (k : ℕ). if nat_lt k 5 then None else x.disks.begun segment page) is
+    pub step_fails : (fault : PageFault) → new.writes.items ≡ slice_set old.writes.items page Failed
+        → ((text : PageText) (was : Page) → IsUnderWay a old.area write text was → HasPage a new.area (draft_of write).page (IsEither was (drafted (draft_of write))))
+        → ((text : PageText) (was : Page) → calls_of write < 4 → IsUnderWay a old.area write text was → HasPage a new.area (draft_of write).page (λ it. it ≡ was))
+        → FollowsNext a old page (Err fault) new
+    step_fails fault are either still m s segment x h =
+        let its : IsBetween a old.area segment page write x = h.each page (UnderWay write) at in
+        let y = called m s x segment page (x.calls segment page + 1) in
+        let made : x.calls segment page ≡ calls_of write = its.begun.calls_are in
+        let same : as_read (x.disks.page segment page) ≡ as_read (y.disks.page segment page) = ap as_read (sym (called_page m s segment page x (x.calls segment page + 1))) in
+        area_called m.geometry segment page old new (UnderWay write) Failed x y at are calls (λ other differ. called_apart m s segment page x (x.calls segment page + 1) segment other (inr (refl, differ))) (record {
+          calls = calls_of write + 1;
+          some = omega arith;
+          most = omega (arith, few_calls write);
+          new = drafted (draft_of write);
+          begun = subst (λ (n : ℕ). HasBegun segment page (calls_of write + 1) (drafted (draft_of write)) (called m s x segment page (n + 1))) (sym made)
+              (begun_next m s segment page x (calls_of write) (drafted (draft_of write)) its.begun (some_calls write));
+          old = λ few. subst (λ (p : Page). HasPage a new.area page (λ it. it ≡ p)) same
+              (subst (λ (n : ℕ). HasPage a new.area n (λ it. it ≡ as_read (x.disks.page segment page))) its.page_is
+              (still (x.texts segment page) (as_read (x.disks.page segment page)) (omega (arith, few)) its.under_way));
+          either = subst (λ (p : Page). HasPage a new.area page (IsEither p (drafted (draft_of write)))) same
+              (subst (λ (n : ℕ). HasPage a new.area n (IsEither (as_read (x.disks.page segment page)) (drafted (draft_of write)))) its.page_is
+              (either (x.texts segment page) (as_read (x.disks.page segment page)) its.under_way));
+        }) h
 
-    -- neither the first nor the fifth
-    goes_on : (n : ℕ) → 1 ≤ calls → n ≡ calls + 1 → n ≢ 5 → Keeps (record x { calls = update_at x.calls segment page n })
-    goes_on n some is not_five =
-        let its = h.writes segment page in
-        let y : Numbers = record x { calls = update_at x.calls segment page n } in (
-          record {
-            tokens = h.tokens;
-            clean = h.clean;
-            known = h.known;
-            resets = h.resets;
-            writes = page_cases (λ i k. IsWriteOf s y i k) segment page
-                (write_as s y segment page (x.disks.begun segment page) (x.disks.opened segment page) n refl refl (entry_own x.calls segment page n)
-                (its.begun ∙ lt-ltb 0 calls some ∙ sym (lt-ltb 0 n (omega (arith, is))))
-                (its.opened ∙ ap (λ (b : Bool). if b then None else x.disks.begun segment page) same_side)
-                its.within)
-                (λ i k differ. others_write y i k differ refl refl refl (entry_other x.calls segment page n i k differ));
-          },
-          fits,
-        )
-      where
-        same_side : nat_lt calls 5 ≡ nat_lt n 5
-        same_side = elim (cases_lt n 5) [
-          | inl less ↦ lt-ltb calls 5 (omega (arith, less, is)) ∙ sym (lt-ltb n 5 less)
-          | inr more ↦ le-ltb calls 5 (omega (arith, more, is, not_five)) ∙ sym (le-ltb n 5 more)
-        ]
-
-    opens_so : calls ≡ 4 → (begun : Option Page) → x.disks.begun segment page ≡ begun → Keeps (record x { disks = opened_with x.disks segment page begun; calls = update_at x.calls segment page 5 })
-    opens_so four None none =
-        absurd (true≢false (sym (ap (λ (o : Option Page). is_some o) (sym none) ∙ (h.writes segment page).begun ∙ ap (λ (k : ℕ). nat_lt 0 k) four)))
-    opens_so four (Some text) is =
-        let before = fits.begun segment page text first last known is in
-        let y : Numbers = record x { disks = with_opened x.disks segment page text; calls = update_at x.calls segment page 5 } in (
-          record {
-            tokens = λ n one most. token-opened m s x.disks n (token_number s x n) (x.clean n) segment page text (entries_of m.geometry x n) (h.tokens n one most) before.1;
-            clean = h.clean;
-            known = h.known;
-            resets = h.resets;
-            writes = page_cases (λ n k. IsWriteOf s y n k) segment page
-                (write_as s y segment page (Some text) (Some text) 5 is (entry_own x.disks.opened segment page (Some text)) (entry_own x.calls segment page 5) refl refl
-                (λ z same. (h.writes segment page).within z (is ∙ same)))
-                (λ n k differ. others_write y n k differ refl refl (entry_other x.disks.opened segment page (Some text) n k differ) (entry_other x.calls segment page 5 n k differ));
-          },
-          keeps-opening m s x.disks segment page text fits first last known is,
-        )
-
-    by_call : (k : ℕ) → calls ≡ k → Begins → Keeps (called m s x segment page (k + 1))
-    by_call zero is begins = begins_so is begins
-    by_call (suc zero) is begins = goes_on 2 (omega (arith, is)) (omega (arith, is)) (λ five. absurd (omega (arith, five)))
-    by_call (suc (suc zero)) is begins = goes_on 3 (omega (arith, is)) (omega (arith, is)) (λ five. absurd (omega (arith, five)))
-    by_call (suc (suc (suc zero))) is begins = goes_on 4 (omega (arith, is)) (omega (arith, is)) (λ five. absurd (omega (arith, five)))
-    by_call (suc (suc (suc (suc zero)))) is begins = opens_so is (x.disks.begun segment page) refl
-    by_call (suc (suc (suc (suc (suc k))))) is begins =
-        let n : ℕ = suc (suc (suc (suc (suc k)))) + 1 in
-        let one : (n == 1) ≡ false = ne_eqb n 1 (λ same. absurd (omega (arith, same))) in
-        let five : (n == 5) ≡ false = ne_eqb n 5 (λ same. absurd (omega (arith, same))) in
-        rw (one, five) (goes_on n (omega (arith, is)) (omega (arith, is)) (λ same. absurd (omega (arith, same))))
-
-    pub call_keeps : Begins → Keeps (called m s x segment page (calls + 1))
-    call_keeps begins = by_call calls refl begins
+  -- what it has come to
+  pub tells : (old : Pages D a) (page : ℕ) (write : Writing) (news : List PageState) → slice_get old.writes.items page ≡ Some (UnderWay write)
+      → (result : Result PageProgress PageFault) → StepsIn old.writes.items page write result news → TellsNumbers a old page result
+  tells old page write news at (Ok (Stepped calls)) steps g segment x h =
+      let its : IsBetween a old.area segment page write x = h.each page (UnderWay write) at in
+      let made : x.calls segment page ≡ calls_of write = its.begun.calls_are in
+      (steps.3 ∙ ap (λ (n : ℕ). n + 1) (sym made), omega (arith, made, some_calls write), omega (arith, made, steps.2, steps.3, few_calls steps.0))
+  tells old page write news at (Ok (Written number)) steps g segment x h =
+      let its : IsBetween a old.area segment page write x = h.each page (UnderWay write) at in
+      (its.begun.calls_are ∙ steps.0, steps.1 ∙ ap (λ (p : Page). p.sequence) its.begun.text_is ∙ ap begun_number (sym its.begun.begun))
+  tells old page write news at (Err fault) steps g segment x h = tt

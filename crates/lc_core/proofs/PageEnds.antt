@@ -22,7 +22,7 @@ use Rattle.lc_core.specs.Coherent.{AreCoherent, IsWriteOf, entries_of}
 use Rattle.lc_core.specs.Numbers.{Numbers, stable, token_number}
 use Rattle.lc_core.specs.Turns.{cleaned, is_dirty as is_page_dirty, oldest_dirty, seen, settled_with, written}
 use Rattle.lc_core.proofs.Cohering.{coherent_texts, entries_count, entry_is, token_alike}
-use Rattle.lc_core.proofs.PageCalls.{entry_other, entry_own, page_cases, write_as}
+use Rattle.lc_core.proofs.PageNumbers.{entry_other, entry_own, page_cases, write_as}
 
 -- The node has seen the token's `clean`
 

@@ -1,22 +1,23 @@
 -- How the pages of the areas stand, where nothing changes them, and what is done beside them.
-use Rattle.std.proofs.Common.{◌≡◌, ◌≢◌, ℕ, ◌+◌, ◌*◌, ◌<◌, ◌≤◌, true, List, length, map, Option, Some, refl, sym, ap, subst, ◌∙◌, arith}
-use Rattle.std.specs.Prelude.{slice_get, slice_index_or}
+use Rattle.std.proofs.Common.{◌≡◌, ℕ, ◌+◌, List, map, sym, ap, subst, ◌∙◌}
+use Rattle.std.specs.Prelude.{slice_get}
 use Rattle.std.specs.Global.{Vec}
 use Rattle.lc_disk.specs.declared.area.Area.{Ghosts}
 use Rattle.lc_record.specs.declared.geometry.Geometry.{Geometry}
-use Rattle.lc_page.specs.Page.{Page, page_in}
+use Rattle.lc_page.specs.Page.{Page}
 use Rattle.lc_page.specs.PageWrite.{SettledIn, HasPage, IsEither, drafted}
 use Rattle.lc_page.specs.Writing.{IsUnderWay, calls_of, draft_of}
 use Rattle.lc_page.specs.declared.page_text.PageText.{PageText}
-use Rattle.lc_page.specs.declared.writing.Writing.{Writing}
 use Rattle.lc_model.specs.Merge.{Page as StorePage}
 use Rattle.lc_model.specs.State.{Setting}
 use Rattle.lc_model.specs.Stored.{Disks}
 use Rattle.lc_core.specs.Numbers.{Numbers}
 use Rattle.lc_core.proofs.Closes.{get-map}
-use Rattle.lc_core.specs.Pages.{AreAtRest, RestsAll, FitsArea, FitsPages, HasBegun, HasFailed, IsAtRest, IsBetween, IsPageAt, as_read}
-use Rattle.lc_core.specs.declared.pages.PageState.{PageState}
-use Rattle.lc_core.specs.declared.pages.PageState.TheVariants.{AtRest, UnderWay, Failed}
+use Rattle.lc_core.proofs.Rising.{get-replicate}
+use Rattle.lc_core.specs.PageState.{AreAtRest, AreNamed, resting}
+use Rattle.lc_core.specs.Pages.{RestsAll, FitsArea, FitsPages, HasBegun, IsPageAt, as_read}
+use Rattle.lc_core.specs.declared.page_state.PageState.{PageState}
+use Rattle.lc_core.specs.declared.page_state.PageState.TheVariants.{AtRest, UnderWay, Failed}
 use Rattle.lc_core.specs.declared.pages.Pages.{Pages}
 
 -- the numbers say the same of a page
@@ -49,10 +50,17 @@ same_at segment page x y same = record {
   opened = ap (λ (v : Disks × (ℕ → ℕ → ℕ) × (ℕ → ℕ → PageText)). v.0.opened segment page) same;
 }
 
+-- where no page is being written
+pub named_rest : (g : Geometry) (writes : List PageState) → writes ≡ resting g → AreNamed writes
+named_rest g writes are page write got = absurd (other (get-replicate g.pages page AtRest (UnderWay write) (ap (λ (ws : List PageState). slice_get ws page) (sym are) ∙ got)))
+  where
+    other : AtRest ≡ UnderWay write → ⊥
+    other same = absurd cc
+
 -- areas that get pages at rest
-pub rests_all : {D : Type 0} (g : Geometry) (segments : List (Pages D)) (writes : List (Vec PageState)) → map (λ (pages : Pages D). pages.writes) segments ≡ writes → AreAtRest g writes → RestsAll g segments
-rests_all {D} g segments writes same rest k pages got =
-    rest k pages.writes (ap (λ (ws : List (Vec PageState)). slice_get ws k) (sym same) ∙ get-map (λ (p : Pages D). p.writes) segments k pages got)
+pub rests_all : {D : Type 0} (a : Ghosts D) (g : Geometry) (segments : List (Pages D a)) (writes : List (Vec PageState)) → map (λ (pages : Pages D a). pages.writes) segments ≡ writes → AreAtRest g writes → RestsAll a g segments
+rests_all {D} a g segments writes same rest k pages got =
+    rest k pages.writes (ap (λ (ws : List (Vec PageState)). slice_get ws k) (sym same) ∙ get-map (λ (p : Pages D a). p.writes) segments k pages got)
 
 module _ {D : Type 0} (a : Ghosts D) where
   pub state_same : (area : D) (segment page : ℕ) (state : PageState) (x y : Numbers) → SameAt segment page x y → IsPageAt a area segment page state x → IsPageAt a area segment page state y
@@ -77,17 +85,16 @@ module _ {D : Type 0} (a : Ghosts D) where
     either = subst (λ (p : StorePage). HasPage a area page (IsEither (as_read p) h.new)) (sym same.present) h.either;
   }
 
-  pub area_same : (g : Geometry) (segment : ℕ) (pages : Pages D) (x y : Numbers) → ((page : ℕ) → SameAt segment page x y) → FitsArea a g segment pages x → FitsArea a g segment pages y
+  pub area_same : (g : Geometry) (segment : ℕ) (pages : Pages D a) (x y : Numbers) → ((page : ℕ) → SameAt segment page x y) → FitsArea a g segment pages x → FitsArea a g segment pages y
   area_same g segment pages x y same h = record {
     honest = h.honest;
-    long = h.long;
     bytes = h.bytes;
     count = h.count;
     each = λ page state got. state_same pages.area segment page state x y (same page) (h.each page state got);
   }
 
   -- nothing else of the numbers matters to the pages
-  pub pages_same : (m : Setting) (segments : List (Pages D)) (x y : Numbers) → of_pages y ≡ of_pages x → FitsPages a m segments x → FitsPages a m segments y
+  pub pages_same : (m : Setting) (segments : List (Pages D a)) (x y : Numbers) → of_pages y ≡ of_pages x → FitsPages a m segments x → FitsPages a m segments y
   pages_same m segments x y same h = record {
     all_segments = h.all_segments;
     each = λ k pages got. area_same m.geometry (k + 1) pages x y (λ page. same_at (k + 1) page x y same) (h.each k pages got);

@@ -1,11 +1,11 @@
 -- A journal is what its parts are.
-use Rattle.std.proofs.Common.{◌≡◌, ◌+◌, ◌*◌, ◌<◌, ◌≤◌, ◌^◌, false, length}
+use Rattle.std.proofs.Common.{◌≡◌, ◌+◌, ◌*◌, ◌<◌, ◌≤◌, ◌^◌, true, false, length}
 use native.Mathlib.Nat.{ℕ_set}
 use native.Mathlib.Bridge.{le_prop}
 use mathlib.Core.HLevel.{is_prop→PathP}
 use Rattle.lc_disk.specs.declared.area.Area.{Ghosts}
 use Rattle.lc_core.specs.Records.{count_of, front_of, span_of}
-use Rattle.lc_core.specs.Log.{end_of, under_way, size, is_idle, is_failed}
+use Rattle.lc_core.specs.Log.{end_of, under_way, size, is_idle, is_sealed, is_failed}
 use Rattle.lc_core.specs.declared.journal.Journal.{Journal}
 
 -- the parts are as they were
@@ -40,8 +40,12 @@ same_journal a w v h = λ i. record {
   log_room = is_prop→PathP (λ j. is_failed a (h.log j) ≡ false → 8 * (h.group j).room + 8 ≤ size a (h.log j))
       (λ j p q k up. le_prop (p up) (q up) k) v.log_room w.log_room i;
   room = is_prop→PathP (λ j. length (span_of (h.records j) (h.dropped j) (count_of (h.records j))) ≤ (h.group j).room) (λ j. le_prop) v.room w.room i;
-  end = is_prop→PathP (λ j. is_failed a (h.log j) ≡ false → end_of a (h.log j) ≡ length (span_of (h.records j) (h.dropped j) (h.acked j)))
-      (λ j p q k up. ℕ_set _ _ (p up) (q up) k) v.end w.end i;
-  under_way = is_prop→PathP (λ j. is_failed a (h.log j) ≡ false → is_idle a (h.log j) ≡ false → under_way a (h.log j) ≡ length (span_of (h.records j) (h.acked j) (h.taken j)))
-      (λ j p q k up busy. ℕ_set _ _ (p up busy) (q up busy) k) v.under_way w.under_way i;
+  end = is_prop→PathP (λ j. is_failed a (h.log j) ≡ false → is_sealed a (h.log j) ≡ false → end_of a (h.log j) ≡ length (span_of (h.records j) (h.dropped j) (h.acked j)))
+      (λ j p q k up free. ℕ_set _ _ (p up free) (q up free) k) v.end w.end i;
+  under_way = is_prop→PathP (λ j. is_failed a (h.log j) ≡ false → is_idle a (h.log j) ≡ false → is_sealed a (h.log j) ≡ false → under_way a (h.log j) ≡ length (span_of (h.records j) (h.acked j) (h.taken j)))
+      (λ j p q k up busy free. ℕ_set _ _ (p up busy free) (q up busy free) k) v.under_way w.under_way i;
+  busy = is_prop→PathP (λ j. is_failed a (h.log j) ≡ false → is_idle a (h.log j) ≡ false → is_sealed a (h.log j) ≡ false → h.acked j < h.taken j)
+      (λ j p q k up busy free. le_prop (p up busy free) (q up busy free) k) v.busy w.busy i;
+  sealed = is_prop→PathP (λ j. is_sealed a (h.log j) ≡ true → count_of (h.records j) ≤ h.acked j) (λ j p q k is. le_prop (p is) (q is) k) v.sealed w.sealed i;
+  emptied = is_prop→PathP (λ j. is_sealed a (h.log j) ≡ true → end_of a (h.log j) ≡ 0) (λ j p q k is. ℕ_set _ _ (p is) (q is) k) v.emptied w.emptied i;
 }

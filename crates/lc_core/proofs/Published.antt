@@ -51,7 +51,7 @@ begun_so words q is none = none q words [] is (sym (append-nil words))
 module _ {D : Type 0} (a : Ghosts D) (m : Setting) (node : ℕ) (s : State) (x : Numbers) (log : Log D a) (k : Kept) (dropped trimmed taken acked : ℕ)
     (h : FitsLog a m node log k dropped trimmed taken acked s x) where
   -- the words of a number are those of the node's record
-  kept_at : (place : ℕ) (words : List ℕ) → k.before ≤ place → place < count_of k → ((r : Spelled) → slice_get k.records (place - k.before) ≡ Some r → words ≡ r.words)
+  pub kept_at : (place : ℕ) (words : List ℕ) → k.before ≤ place → place < count_of k → ((r : Spelled) → slice_get k.records (place - k.before) ≡ Some r → words ≡ r.words)
       → (r : Record) × (slice_get (records_of m s x.disks node) place ≡ Some r) × IsRecord r words
   kept_at place words kept within are =
       let records : List Record = records_of m s x.disks node in

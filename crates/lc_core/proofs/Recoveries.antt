@@ -1,7 +1,7 @@
 -- How a store that is down follows the machine.
-use Rattle.std.proofs.Common.{◌≡◌, ℕ, ◌+◌, ◌*◌, ◌<◌, ◌≤◌, ◌⊎◌, inl, inr, true, ◌++◌, List, length, drop, Option, Some, None, refl, sym, ap, subst, ◌∙◌, arith}
+use Rattle.std.proofs.Common.{◌≡◌, ℕ, ◌+◌, ◌*◌, ◌<◌, ◌≤◌, ◌⊎◌, inl, inr, Bool, true, ◌++◌, List, length, drop, Option, Some, None, refl, sym, ap, subst, ◌∙◌, arith}
 use Rattle.std.proofs.lemmas.Result.{IfOk-from_err}
-use Rattle.std.specs.Prelude.{◌-◌, Result, Ok, Err, IfOk, IfErr, OnOk, OnErr, find, is_some, if◌then◌else◌, replicate, slice_get, slice_index_or, is_ok}
+use Rattle.std.specs.Prelude.{◌-◌, Result, Ok, Err, IfOk, IfErr, OnOk, OnErr, find, is_some, if◌then◌else◌, replicate, slice_get, slice_index_or}
 use Rattle.lc_disk.specs.declared.area.Area.{Ghosts}
 use Rattle.lc_record.specs.Content.{Content}
 use Rattle.lc_record.specs.declared.geometry.Geometry.{Geometry}
@@ -12,11 +12,10 @@ use Rattle.lc_page.specs.Page.{slot_at}
 use Rattle.lc_page.specs.PageWrite.{IsSettled}
 use Rattle.lc_page.specs.declared.page_text.PageText.{PageText}
 use Rattle.lc_page.proofs.StateLemmas.{clean_settled}
-use Rattle.lc_recover.specs.Reads.{AreHonest, AreOfBytes, AllMergeTo, HaveLengths, area_count}
+use Rattle.lc_recover.specs.Reads.{AreHonest, AreOfBytes, AllMergeTo, area_count}
 use Rattle.lc_recover.specs.Recovered.{IsFinished, page_read_of}
 use Rattle.lc_recover.proofs.Images.{count-areas, get-drop}
 use Rattle.lc_core.proofs.Closes.{get-map}
-use Rattle.lc_core.proofs.Opening.{segment_len}
 use Rattle.lc_core.proofs.PageWrites.{of_pages, pages_same}
 use Rattle.lc_core.proofs.Rising.{get-replicate, rises}
 use Rattle.lc_core.proofs.Cohering.{coherent_apart}
@@ -26,7 +25,7 @@ use Rattle.lc_recover.specs.declared.fault.RecoverFault.TheVariants.{BadGeometry
 use Rattle.lc_recover.specs.declared.progress.Progress.{Progress}
 use Rattle.lc_recover.specs.declared.progress.Progress.TheVariants.{Stepped as HasStepped, Recovered as HasRecovered}
 use Rattle.lc_model.specs.History.{Cut, Entry, kept}
-use Rattle.lc_model.specs.Machine.{Step, Row, RecoverRow}
+use Rattle.lc_model.specs.Machine.{Row, RecoverRow}
 use Rattle.lc_model.specs.Refusals.{Unless, common_refusal}
 use Rattle.lc_model.specs.Sound.{Sound}
 use Rattle.lc_model.specs.State.{Phase as Condition, DownAt, Up as IsUpNow, Setting, State, fresh, is_unclosed}
@@ -36,24 +35,24 @@ use Rattle.lc_model.specs.declared.refusal.Refusal.{Refusal}
 use Rattle.lc_model.specs.declared.refusal.Refusal.TheVariants.{Down as IsDownNow, OutOfTurn, DeviceFault}
 use Rattle.lc_model.specs.declared.reply.Reply.{Reply}
 use Rattle.lc_model.specs.declared.reply.Reply.TheVariants.{Ok as Accepted, Stepped, Applied, HeldBack, Trimmed, Recovered, Refused}
-use Rattle.lc_model.specs.Stored.{Disks, records_of}
+use Rattle.lc_model.specs.Stored.{records_of}
 use Rattle.lc_model.proofs.Keeps.{sound-step}
 use Rattle.lc_core.specs.Fresh.{text_read_of}
 use Rattle.lc_core.specs.Numbers.{Numbers, recovered_numbers}
-use Rattle.lc_core.specs.Running.{FitsRunning, StillFitsAll}
+use Rattle.lc_core.specs.Running.{FitsRunning}
 use Rattle.lc_core.specs.Settled.{Settled, CountsSteps, number_of, open_answer, settled_answer}
 use Rattle.lc_core.specs.Slots.{besides_of}
 use Rattle.lc_core.specs.Node.{FitsNode}
-use Rattle.lc_core.specs.Stepping.{FollowsStep, is_plain}
+use Rattle.lc_core.specs.Stepping.{FollowsStep, TellsWriting, is_plain}
 use Rattle.lc_core.specs.Turns.{Turns, closed_with, held_back, kept_numbers, numbers_after}
 use Rattle.lc_core.specs.Recovering.{ComesUp, RepliesTo}
 use Rattle.lc_core.specs.Pages.{FitsArea, FitsPages, IsAtRest, IsPageAt, areas_of}
-use Rattle.lc_core.specs.World.{FitsDown, FitsPhase, Leads, is_common}
+use Rattle.lc_core.specs.World.{FitsDown, FitsPhase, FollowsUp, Leads, StillFitsUp, is_common}
 use Rattle.lc_core.proofs.Refusing.{on_err}
 use Rattle.lc_core.specs.declared.phase.Phase.{Phase}
 use Rattle.lc_core.specs.declared.phase.Phase.TheVariants.{Down, Up, Taken}
-use Rattle.lc_core.specs.declared.pages.PageState.{PageState}
-use Rattle.lc_core.specs.declared.pages.PageState.TheVariants.{AtRest}
+use Rattle.lc_core.specs.declared.page_state.PageState.{PageState}
+use Rattle.lc_core.specs.declared.page_state.PageState.TheVariants.{AtRest}
 use Rattle.lc_core.specs.declared.pages.Pages.{Pages}
 use Rattle.lc_core.specs.declared.up.Up.{Up as Rising}
 use Rattle.lc_core.specs.declared.node.Node.{Node}
@@ -199,6 +198,7 @@ module _ {D : Type 0} (a : Ghosts D) (m : Setting) (s : State) (x : Numbers) whe
       trimmed_is = h.journal.trimmed_is;
       acked_is = h.journal.acked_is;
       taken_is = h.journal.taken_is;
+      reset_is = h.journal.reset_is;
     };
     room = h.room;
     known = h.known;
@@ -218,7 +218,6 @@ module _ {D : Type 0} (a : Ghosts D) (m : Setting) (s : State) (x : Numbers) whe
       none = h.on_the_way.none;
     };
     resets = h.resets;
-    writes = h.writes;
   }
 
   -- up: a step of a recovery is out of turn
@@ -268,10 +267,10 @@ module _ {D : Type 0} (a : Ghosts D) (m : Setting) (s : State) (x : Numbers) whe
   turned_pages RecoverStep reply next plain turns = absurd cc
 
   -- a step of a store that is up
-  pub runs_up : (up : Rising D a) (event : Event) (reply : Reply) (new : Running D a) → is_plain event ≡ true → FollowsStep a up.running event reply new
-      → FitsPhase a m (Up up) s x → Leads a m event s x reply (Up (record up { running = new }))
-  runs_up up event reply new plain follows h =
-      let on = follows m s x h.0 in
+  pub runs_up : (up : Rising D a) (event : Event) (reply : Reply) (writing : Bool) (new : Running D a) → is_plain event ≡ true → FollowsStep a writing up.running event reply new
+      → TellsWriting m x event writing → FitsPhase a m (Up up) s x → Leads a m event s x reply (Up (record up { running = new }))
+  runs_up up event reply writing new plain follows told h =
+      let on = follows m s x h.0 told in
       record {
         after = on.after;
         next = on.next;
@@ -286,15 +285,12 @@ module _ {D : Type 0} (a : Ghosts D) where
   abbrev pub FollowsPhase : Phase D a → Event → Reply → Phase D a → Type 0
   FollowsPhase old event reply new = (m : Setting) (s : State) (x : Numbers) → FitsPhase a m old s x → Leads a m event s x reply new
 
-  pub up_follows : (old : Phase D a) (up : Rising D a) (event : Event) (reply : Reply) (new : Running D a) → old ≡ Up up → is_plain event ≡ true → FollowsStep a up.running event reply new
-      → FollowsPhase old event reply (Up (record up { running = new }))
-  up_follows old up event reply new is plain follows m s x h = runs_up a m s x up event reply new plain follows (subst (λ (p : Phase D a). FitsPhase a m p s x) is h)
+  pub up_follows : (old : Phase D a) (up new : Rising D a) (event : Event) (reply : Reply) → old ≡ Up up → FollowsUp a up event reply new → FollowsPhase old event reply (Up new)
+  up_follows old up new event reply is follows m s x h = follows m s x (subst (λ (p : Phase D a). FitsPhase a m p s x) is h)
 
-  pub up_still : (old : Phase D a) (up : Rising D a) (new : Running D a) → old ≡ Up up → StillFitsAll a up.running new
-      → (m : Setting) (s : State) (x : Numbers) → FitsPhase a m old s x → FitsPhase a m (Up (record up { running = new })) s x
-  up_still old up new is still m s x h =
-      let fits = subst (λ (p : Phase D a). FitsPhase a m p s x) is h in
-      (still m s x fits.0, fits.1)
+  pub up_still : (old : Phase D a) (up new : Rising D a) → old ≡ Up up → StillFitsUp a up new
+      → (m : Setting) (s : State) (x : Numbers) → FitsPhase a m old s x → FitsPhase a m (Up new) s x
+  up_still old up new is still m s x h = still m s x (subst (λ (p : Phase D a). FitsPhase a m p s x) is h)
 
   pub down_same : (r other : Recovering D) → ◌≡◌ {A = Phase D a} (Down r) (Down other) → r ≡ other
   down_same r other same = ap (λ (p : Phase D a). elim p as (λ (p : Phase D a). Recovering D) [ Down it ↦ it | _ ↦ r ]) same
@@ -402,7 +398,7 @@ module _ {D : Type 0} (a : Ghosts D) where
       up_sound = sound-step m s RecoverStep Recovered up_now h.sound (subst (λ (c : Option Refusal). Unless c s Recovered up_now (Row m s RecoverStep Recovered up_now)) (sym (none_common m s)) up_row)
 
       -- the areas of the segments stand behind those of the logs
-      area_at : (k : ℕ) (area : D) → slice_get (areas_of up.segments.items) k ≡ Some area → slice_get risen.store.areas (risen.store.geometry.nodes + k) ≡ Some area
+      area_at : (k : ℕ) (area : D) → slice_get (areas_of a up.segments.items) k ≡ Some area → slice_get risen.store.areas (risen.store.geometry.nodes + k) ≡ Some area
       area_at k area got =
           ap (λ (areas : List D). slice_get areas (risen.store.geometry.nodes + k)) risen.areas
           ∙ ap (λ (g : Geometry). slice_get new.areas (g.nodes + k)) risen.geometry
@@ -410,20 +406,13 @@ module _ {D : Type 0} (a : Ghosts D) where
           ∙ ap (λ (areas : List D). slice_get areas k) (sym risen.segments)
           ∙ got
 
-      lengths_now : HaveLengths a risen.store.geometry risen.store.areas
-      lengths_now = subst (λ (g : Geometry). HaveLengths a g risen.store.areas) (sym risen.geometry)
-          (subst (λ (areas : List D). HaveLengths a new.geometry areas) (sym risen.areas) risen.lengths)
-
       -- no page is being written, and none is dirty
-      module _ (k : ℕ) (pages : Pages D) (got : slice_get up.segments.items k ≡ Some pages) where
+      module _ (k : ℕ) (pages : Pages D a) (got : slice_get up.segments.items k ≡ Some pages) where
         its_area : slice_get risen.store.areas (risen.store.geometry.nodes + k) ≡ Some pages.area
-        its_area = area_at k pages.area (get-map (λ (p : Pages D). p.area) up.segments.items k pages got)
+        its_area = area_at k pages.area (get-map (λ (p : Pages D a). p.area) up.segments.items k pages got)
 
         same_pages : risen.store.geometry.pages ≡ m.geometry.pages
         same_pages = ap (λ (g : Geometry). g.pages) (sym same_geometry)
-
-        its_len : length (a.now pages.area) ≡ 2 * 272 * m.geometry.pages
-        its_len = segment_len a risen.store.geometry risen.store.areas k pages.area lengths_now its_area ∙ ap (λ (n : ℕ). 2 * 272 * n) same_pages
 
         its_bytes : (at : ℕ) → slice_index_or (a.now pages.area) at 0 < 256
         its_bytes = risen.bytes (risen.store.geometry.nodes + k) pages.area (ap (λ (areas : List D). slice_get areas (risen.store.geometry.nodes + k)) (sym risen.areas) ∙ its_area)
@@ -446,7 +435,6 @@ module _ {D : Type 0} (a : Ghosts D) where
         area_up : FitsArea a m.geometry (k + 1) pages next_numbers
         area_up = record {
           honest = honest_store (risen.store.geometry.nodes + k) pages.area its_area;
-          long = λ page within. (omega (arith, within, its_len));
           bytes = its_bytes;
           count = ap length none_writes ∙ length-replicate m.geometry.pages AtRest;
           each = λ page state at.
@@ -458,7 +446,7 @@ module _ {D : Type 0} (a : Ghosts D) where
       pages_up : FitsPages a m up.segments.items next_numbers
       pages_up = record {
         all_segments = (let counted : length new.areas ≡ area_count new.geometry = count-areas a new.geometry new.areas risen.lengths in
-            sym (length-map up.segments.items (λ (p : Pages D). p.area)) ∙ ap length risen.segments ∙ length-drop new.geometry.nodes new.areas
+            sym (length-map up.segments.items (λ (p : Pages D a). p.area)) ∙ ap length risen.segments ∙ length-drop new.geometry.nodes new.areas
             ∙ omega (arith, counted, ap (λ (g : Geometry). g.segments) keeps.geometry, ap (λ (g : Geometry). g.segments) h.geometry_is));
         each = area_up;
       }

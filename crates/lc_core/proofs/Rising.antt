@@ -42,7 +42,7 @@ use Rattle.lc_core.specs.Desk.{FitsDesk, FitsSeat}
 use Rattle.lc_core.specs.Fresh.{segment_bytes, fresh_token, text_read_of, IsFresh, IsFreshNode}
 use Rattle.lc_core.specs.Here.{beside, hidden, image_at, number_at, number_in, the_images}
 use Rattle.lc_core.specs.Journal.{FitsLog}
-use Rattle.lc_core.specs.Log.{Stands, is_failed}
+use Rattle.lc_core.specs.Log.{Stands, HasReset, is_failed, is_idle}
 use Rattle.lc_core.specs.Node.{FitsNode}
 use Rattle.lc_core.specs.Numbers.{Numbers, recovered_numbers}
 use Rattle.lc_core.specs.Places.{same_some}
@@ -51,6 +51,7 @@ use Rattle.lc_core.specs.Running.{FitsRunning, FitsTravelling}
 use Rattle.lc_core.specs.Slots.{Awaits, Besides, FitsSlot, FitsSlots, FitsToken, besides_of}
 use Rattle.lc_core.specs.declared.here.Here.{Here}
 use Rattle.lc_core.specs.declared.log.Log.{Log}
+use Rattle.lc_core.specs.declared.log.Log.TheVariants.{Idle, Written, Synced, Opened, Sealed, Closing, Emptied, Failed, Torn, Taken}
 use Rattle.lc_core.specs.declared.node.Node.{Node}
 use Rattle.lc_core.specs.declared.running.Running.{Running}
 use Rattle.lc_core.specs.declared.seat.Seat.{Seat}
@@ -120,6 +121,18 @@ slot_of here (suc k) is = elim (slice_get here.slots.items k) as (λ (o : Option
   }
 ] refl is
 
+idle_works : {D : Type 0} (a : Ghosts D) (log : Log D a) → is_idle a log ≡ true → (is_failed a log ≡ false) × HasReset a log 0
+idle_works a (Idle log) is = (refl, refl)
+idle_works a (Written log) is = absurd cc
+idle_works a (Synced log) is = absurd cc
+idle_works a (Opened log) is = absurd cc
+idle_works a (Sealed log) is = absurd cc
+idle_works a (Closing log) is = absurd cc
+idle_works a (Emptied log) is = absurd cc
+idle_works a (Failed log) is = absurd cc
+idle_works a (Torn log) is = absurd cc
+idle_works a Taken is = absurd cc
+
 module _ {D : Type 0} (a : Ghosts D) (start : Content) (earlier : List Transaction) (numbers : ℕ → ℕ) (r : RecoveredStore D) where
   abbrev m : Setting
   m = record { geometry = r.geometry; start = start }
@@ -136,8 +149,8 @@ module _ {D : Type 0} (a : Ghosts D) (start : Content) (earlier : List Transacti
   -- The log
 
   fresh_log : (n : ℕ) (log : Log D a) (kept : Kept) (dropped trimmed taken acked : ℕ) → kept ≡ record { before = 0; records = [] } → dropped ≡ 0 → trimmed ≡ 0 → taken ≡ 0 → acked ≡ 0
-      → Stands a log 0 [] [] → is_failed a log ≡ false → FitsLog a m n log kept dropped trimmed taken acked s x
-  fresh_log n log kept dropped trimmed taken acked kept_is dropped_is trimmed_is taken_is acked_is stands works = record {
+      → Stands a log 0 [] [] → is_failed a log ≡ false → HasReset a log 0 → FitsLog a m n log kept dropped trimmed taken acked s x
+  fresh_log n log kept dropped trimmed taken acked kept_is dropped_is trimmed_is taken_is acked_is stands works reset = record {
     words = rw kept_is refl;
     marks = rw kept_is refl;
     all_closed = rw kept_is (le_refl 0);
@@ -148,6 +161,7 @@ module _ {D : Type 0} (a : Ghosts D) (start : Content) (earlier : List Transacti
     trimmed_is = trimmed_is;
     acked_is = acked_is;
     taken_is = sym taken_is;
+    reset_is = reset;
   }
 
   -- The tokens on their way
@@ -346,7 +360,7 @@ module _ {D : Type 0} (a : Ghosts D) (start : Content) (earlier : List Transacti
       fresh_node = record {
         desk = desk;
         slots = slots;
-        journal = (let w = node.journal in fresh_log n w.log w.records w.dropped w.trimmed w.taken w.acked new.records new.dropped new.trimmed new.taken new.acked new.log new.works);
+        journal = (let w = node.journal in fresh_log n w.log w.records w.dropped w.trimmed w.taken w.acked new.records new.dropped new.trimmed new.taken new.acked new.log (idle_works a w.log new.works).0 (idle_works a w.log new.works).1);
         room = new.room;
         known = λ segment first last. new.known segment first last ∙ ap (λ i. if segment % r.geometry.nodes == n then i else 0) (sequence_is segment first last);
       }
@@ -361,7 +375,6 @@ module _ {D : Type 0} (a : Ghosts D) (start : Content) (earlier : List Transacti
       each = λ n node at. fresh_node n node (new.each n node at);
       on_the_way = none_travels w.travelling.items new.travelling;
       resets = λ node. refl;
-      writes = λ segment page. refl;
     }
 
 module _ {D : Type 0} (a : Ghosts D) where

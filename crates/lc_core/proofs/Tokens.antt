@@ -57,8 +57,8 @@ here_at here segment slot first at =
       ap (λ (n : ℕ). the_images.image_of here n) is ∙ ap (image_at here.spare) at,
     )
 
-logs_placed : (m : Setting) (n : ℕ) (s : State) (x y : Numbers) (segment : ℕ) (place : Place) → y.disks ≡ x.disks → y.trimmed ≡ x.trimmed → BesideLogs m n s x (placed s segment place) y
-logs_placed m n s x y segment place disks trimmed = record {
+logs_placed : (m : Setting) (n : ℕ) (s : State) (x y : Numbers) (segment : ℕ) (place : Place) → y.disks ≡ x.disks → y.trimmed ≡ x.trimmed → y.reset ≡ x.reset → BesideLogs m n s x (placed s segment place) y
+logs_placed m n s x y segment place disks trimmed reset = record {
   records = λ other differ. rw disks refl;
   marks = λ other differ. refl;
   flush = λ other differ. refl;
@@ -66,12 +66,13 @@ logs_placed m n s x y segment place disks trimmed = record {
   ack = λ other differ. refl;
   dropped = λ other differ. rw disks refl;
   trimmed = λ other differ. rw trimmed refl;
+  reset = λ other differ. rw reset refl;
 }
 
 module _ {D : Type 0} (a : Ghosts D) where
-  journal_placed : (m : Setting) (n : ℕ) (w : Journal D a) (s : State) (x y : Numbers) (segment : ℕ) (place : Place) → y.disks ≡ x.disks → y.trimmed ≡ x.trimmed
+  journal_placed : (m : Setting) (n : ℕ) (w : Journal D a) (s : State) (x y : Numbers) (segment : ℕ) (place : Place) → y.disks ≡ x.disks → y.trimmed ≡ x.trimmed → y.reset ≡ x.reset
       → FitsJournal a m n w s x → FitsJournal a m n w (placed s segment place) y
-  journal_placed m n w s x y segment place disks trimmed h = record {
+  journal_placed m n w s x y segment place disks trimmed reset h = record {
     words = rw disks h.words;
     marks = h.marks;
     all_closed = h.all_closed;
@@ -82,6 +83,7 @@ module _ {D : Type 0} (a : Ghosts D) where
     trimmed_is = rw trimmed h.trimmed_is;
     acked_is = h.acked_is;
     taken_is = h.taken_is;
+    reset_is = rw reset h.reset_is;
   }
 
   -- where nothing has changed
@@ -132,22 +134,20 @@ module _ {D : Type 0} (a : Ghosts D) where
               turns = refl;
               aside = record {
                 desks = beside_placed m n segment Travelling s (inl (h.desk.places segment here)) (inr refl);
-                logs = logs_placed m n s x x segment Travelling refl refl;
+                logs = logs_placed m n s x x segment Travelling refl refl refl;
                 slots = aside_placed m n s x segment Travelling;
                 known = λ other any differ. refl;
               };
               fits = record {
                 desk = step.1;
                 slots = slots_placed m n (besides_of new.here) s x segment Travelling (subst (λ (w : Here). FitsSlots m n (besides_of w) s x) (sym moved.here) gone);
-                journal = journal_placed m n old.journal s x x segment Travelling refl refl h.journal;
+                journal = journal_placed m n old.journal s x x segment Travelling refl refl refl h.journal;
                 room = h.room;
                 known = h.known;
               };
               phase = refl;
               places = λ other differ. update-other s.place segment Travelling other differ;
-              disks = refl;
               resets = refl;
-              writes = refl;
             },
             update-own s.place segment Travelling,
             token_placed m segment token s x segment Travelling
@@ -217,7 +217,7 @@ module _ {D : Type 0} (a : Ghosts D) where
               turns = refl;
               aside = record {
                 desks = beside_placed m n token.segment (At n) s (inr travels) (inl refl);
-                logs = logs_placed m n s x (seen x n token.segment) token.segment (At n) refl refl;
+                logs = logs_placed m n s x (seen x n token.segment) token.segment (At n) refl refl refl;
                 slots = aside_known m n s (placed s token.segment (At n)) x n token.segment refl refl;
                 known = λ other any differ. other_node x.known n token.segment (max (x.known n token.segment) (x.clean token.segment)) other any differ;
               };
@@ -225,15 +225,13 @@ module _ {D : Type 0} (a : Ghosts D) where
                 desk = step.1;
                 slots = slots_known m n (besides_of new.here) s (placed s token.segment (At n)) x n token.segment refl refl
                     (subst (λ (w : Here). FitsSlots m n (besides_of w) s x) (sym moved.here) placed_there);
-                journal = journal_placed m n old.journal s x (seen x n token.segment) token.segment (At n) refl refl h.journal;
+                journal = journal_placed m n old.journal s x (seen x n token.segment) token.segment (At n) refl refl refl h.journal;
                 room = h.room;
                 known = known_seen known sees;
               };
               phase = refl;
               places = λ other differ. update-other s.place token.segment (At n) other differ;
-              disks = refl;
               resets = refl;
-              writes = refl;
             },
             update-own s.place token.segment (At n),
           )

@@ -98,14 +98,6 @@ segment_known g node segment h =
     let d = and-both (nat_le 1 segment) (nat_le segment g.segments) c.0 in
     (leb-true 1 segment d.0, leb-true segment g.segments d.1)
 
--- no page of any segment is being written
-pub not_writing : (g : Geometry) (m : Setting) (s : State) (x : Numbers) (segment : ℕ) → ((segment page : ℕ) → x.calls segment page ≡ 0) → false ≡ is_writing m x segment
-not_writing g m s x segment none = sym (over (counting 0 m.geometry.pages))
-  where
-    over : (pages : List ℕ) → list_any (λ page. nat_lt 0 (x.calls segment page)) pages ≡ false
-    over [] = refl
-    over (page ∷ pages) = ap (λ n. nat_lt 0 n || list_any (λ page. nat_lt 0 (x.calls segment page)) pages) (none segment page) ∙ over pages
-
 pub set_it : {A : Type 0} (xs : List A) (k : ℕ) (was again : A) → slice_get xs k ≡ Some was → again ≡ was → slice_set xs k again ≡ xs
 set_it [] k was again at same = refl
 set_it (x ∷ xs) zero was again at same = ap (λ y. y ∷ xs) (same ∙ sym (same_some x was at))

@@ -85,7 +85,7 @@ leads_to p (y ∷ xs) (suc count) x is fails each =
     let rest = leads_to p xs count x is fails (λ k z below at. (let less : suc k < suc count = omega (arith, below) in each (suc k) z less at)) in
     ap (λ b. leading (b ∷ map p xs)) (each 0 y some refl) ∙ omega (arith, rest)
 
-get_take : {A : Type 0} (n k : ℕ) (xs : List A) → k < n → slice_get (take n xs) k ≡ slice_get xs k
+pub get_take : {A : Type 0} (n k : ℕ) (xs : List A) → k < n → slice_get (take n xs) k ≡ slice_get xs k
 get_take zero k xs within = absurd (omega (arith, within))
 get_take (suc n) k [] within = refl
 get_take (suc n) zero (x ∷ xs) within = refl
@@ -123,7 +123,7 @@ records_known m numbers content (t ∷ ts) proper =
     (locks_known m numbers 1 t.marks one few)
     (records_known m (counted numbers t) (effect t content) ts (All-tail (IsProper m.geometry) t ts proper))
 
-known_at : (m : Setting) (n : ℕ) (s : State) (x : Numbers) (place : ℕ) (r : Record) → Sound m.geometry s → slice_get (records_of m s x.disks n) place ≡ Some r → AreKnown m r.locks
+pub known_at : (m : Setting) (n : ℕ) (s : State) (x : Numbers) (place : ℕ) (r : Record) → Sound m.geometry s → slice_get (records_of m s x.disks n) place ≡ Some r → AreKnown m r.locks
 known_at m n s x place r sound is k lock at =
     let all : List Record = records_from x.disks.numbers (base m s) (transactions s.history) in
     let known : All (LocksKnown m) all = records_known m x.disks.numbers (base m s) (transactions s.history) sound.history_proper in

@@ -33,6 +33,7 @@ logs_trimmed m n s x trimmed = record {
   ack = λ other differ. refl;
   dropped = λ other differ. refl;
   trimmed = λ other differ. update-other x.trimmed n trimmed other differ;
+  reset = λ other differ. refl;
 }
 
 -- by as many as every node has applied, from the first
@@ -62,9 +63,7 @@ trim_goes a m n s x count old new h counts trims group =
       };
       phase = refl;
       places = λ segment differ. refl;
-      disks = refl;
       resets = refl;
-      writes = refl;
     }
 
 -- what was counted over these nodes, for the journal of the one at a place

@@ -35,7 +35,7 @@ module _ {D : Type 0} (a : Ghosts D) where
   -- those of the logs, and then those of the segments
   abbrev pub phase_failures : Phase D a → List (Option ℕ)
   phase_failures (Down recovery) = area_failures recovery.areas
-  phase_failures (Up up) = log_failures (logs_of up.running.nodes.items) ++ area_failures (areas_of up.segments.items)
+  phase_failures (Up up) = log_failures (logs_of up.running.nodes.items) ++ area_failures (areas_of a up.segments.items)
   phase_failures Taken = []
 
   -- what a reply of running nodes tells of their devices

@@ -1,5 +1,5 @@
 -- What comes up behind a recovery.
-use Rattle.std.specs.Prelude.{◌≡◌, ◌≤◌, ℕ, ◌+◌, ◌%◌, ◌==◌, false, List, [], length, map, replicate, Some, None, if◌then◌else◌, slice_get}
+use Rattle.std.specs.Prelude.{◌≡◌, ◌≤◌, ℕ, ◌+◌, ◌%◌, ◌==◌, true, List, [], length, map, replicate, Some, None, if◌then◌else◌, slice_get}
 use Rattle.std.specs.List.{flat_map}
 use Rattle.lc_disk.specs.declared.area.Area.{Ghosts}
 use Rattle.lc_record.specs.Marks.{counting}
@@ -11,7 +11,7 @@ use Rattle.lc_trunc.specs.KnownClean.{known as known_of}
 use Rattle.lc_token.specs.Standing.{Standing}
 use Rattle.lc_token.specs.declared.token.Token.{Token}
 use Rattle.lc_tx.specs.declared.holders.Holders.TheVariants.{Free as Unheld}
-use Rattle.lc_core.specs.Log.{Stands, area_of, is_failed}
+use Rattle.lc_core.specs.Log.{Stands, area_of, is_idle}
 use Rattle.lc_core.specs.declared.node.Node.{Node}
 use Rattle.lc_core.specs.declared.running.Running.{Running}
 use Rattle.lc_core.specs.declared.seat.Seat.TheVariants.{Free}
@@ -57,7 +57,7 @@ module _ {D : Type 0} (a : Ghosts D) where
     pub slots_count : length new.desk.here.slots.items ≡ r.geometry.segments
     pub slots : (k : ℕ) (slot : Slot) → slice_get new.desk.here.slots.items k ≡ Some slot → IsFreshSlot r node (k + 1) slot
     pub log : Stands a new.journal.log 0 [] []
-    pub works : is_failed a new.journal.log ≡ false
+    pub works : is_idle a new.journal.log ≡ true
     pub area : area_of a new.journal.log ≡ slice_get r.areas node
     pub room : new.journal.group.room ≡ r.geometry.words
     pub records : new.journal.records ≡ record { before = 0; records = [] }

@@ -13,8 +13,8 @@ use Rattle.lc_model.specs.declared.reply.Reply.TheVariants.{Stepped, Acked, Refu
 use Rattle.lc_core.specs.Numbers.{Numbers}
 use Rattle.lc_core.specs.Records.{Kept, marks_of}
 use Rattle.lc_core.specs.declared.log.Log.{Log}
-use Rattle.lc_core.specs.declared.log.Log.TheVariants.{Idle, Written, Synced, Opened, Failed, Taken}
-use Rattle.lc_core.specs.Log.{Stands, is_failed}
+use Rattle.lc_core.specs.declared.log.Log.TheVariants.{Idle, Written, Synced, Opened, Sealed, Closing, Emptied, Failed, Torn, Taken}
+use Rattle.lc_core.specs.Log.{Stands, HasReset, is_failed}
 
 module _ {D : Type 0} (a : Ghosts D) where
   abbrev pub reply_of : Log D a → ℕ → Reply
@@ -22,7 +22,11 @@ module _ {D : Type 0} (a : Ghosts D) where
   reply_of (Written log) taken = Stepped 1
   reply_of (Synced log) taken = Stepped 2
   reply_of (Opened log) taken = Stepped 3
+  reply_of (Sealed log) taken = Stepped 1
+  reply_of (Closing log) taken = Stepped 2
+  reply_of (Emptied log) taken = Stepped 3
   reply_of (Failed log) taken = Refused DeviceFault
+  reply_of (Torn log) taken = Refused DeviceFault
   reply_of Taken taken = Refused DeviceFault
 
   abbrev pub acked_after : Log D a → ℕ → ℕ → ℕ
@@ -30,7 +34,11 @@ module _ {D : Type 0} (a : Ghosts D) where
   acked_after (Written log) taken acked = acked
   acked_after (Synced log) taken acked = acked
   acked_after (Opened log) taken acked = acked
+  acked_after (Sealed log) taken acked = acked
+  acked_after (Closing log) taken acked = acked
+  acked_after (Emptied log) taken acked = acked
   acked_after (Failed log) taken acked = acked
+  acked_after (Torn log) taken acked = acked
   acked_after Taken taken acked = acked
 
   -- the words that are kept are the node's records behind those that were dropped; of these the log has what is
@@ -48,3 +56,4 @@ module _ {D : Type 0} (a : Ghosts D) where
     pub trimmed_is : trimmed ≡ x.trimmed node
     pub acked_is : acked ≡ s.ack node
     pub taken_is : (s.flush node).taken ≡ taken
+    pub reset_is : HasReset a log (x.reset node)

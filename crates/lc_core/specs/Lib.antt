@@ -33,6 +33,7 @@ pub mod Receives
 pub mod Delivers
 pub mod Stepping
 pub mod Runs
+pub mod PageState
 pub mod Pages
 pub mod World
 pub mod Faults
@@ -43,3 +44,4 @@ pub mod Showing
 pub mod LogWords
 pub mod Recovers
 pub mod Uncommitted
+pub mod Resets

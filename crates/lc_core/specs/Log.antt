@@ -1,19 +1,24 @@
 -- A node's log between two steps, and what a step makes of it.
-use Rattle.std.specs.Prelude.{◌≡◌, ◌⊎◌, ℕ, ◌+◌, ◌*◌, ◌≤◌, Bool, true, false, List, [], ◌++◌, length, Option, Some, None, if◌then◌else◌}
+use Rattle.std.specs.Prelude.{◌≡◌, ⊤, ◌⊎◌, ℕ, ◌+◌, ◌*◌, ◌<◌, ◌≤◌, Bool, true, false, List, [], ◌++◌, length, Option, Some, None, if◌then◌else◌}
 use Rattle.lc_disk.specs.declared.area.Area.{Ghosts}
 use Rattle.lc_record.specs.declared.record.Record.{Record}
-use Rattle.lc_log.specs.NodeLog.{IsIdle, IsWritten, IsSynced, IsOpened, IsGroup, IsWithOrWithout, LeavesOnly, Continues}
+use Rattle.lc_log.specs.NodeLog.{IsIdle, IsWritten, IsSynced, IsOpened, IsClosing, IsGroup, IsWithOrWithout, LeavesOnly, Continues}
 use Rattle.lc_core.specs.declared.log.Log.{Log}
-use Rattle.lc_core.specs.declared.log.Log.TheVariants.{Idle, Written, Synced, Opened, Failed, Taken}
+use Rattle.lc_core.specs.declared.log.Log.TheVariants.{Idle, Written, Synced, Opened, Sealed, Closing, Emptied, Failed, Torn, Taken}
 
 module _ {D : Type 0} (a : Ghosts D) where
-  -- so many steps of a flush are done: the records are stable, and the group is on its way
+  -- so many steps of a flush are done: the records are stable, and the group is on its way; of a log that is being reset
+  -- the records are those that it had
   abbrev pub Stands : Log D a → ℕ → List Record → List Record → Type 0
   Stands (Idle log) steps stable group = (steps ≡ 0) × (group ≡ []) × IsIdle a log.area log.end stable
   Stands (Written log) steps stable group = (steps ≡ 1) × IsWritten a log.area log.end log.words stable group
   Stands (Synced log) steps stable group = (steps ≡ 2) × IsSynced a log.area log.end log.words stable group
   Stands (Opened log) steps stable group = (steps ≡ 3) × IsOpened a log.area log.end log.words stable group
+  Stands (Sealed log) steps stable group = (steps ≡ 0) × (group ≡ []) × IsIdle a log.area log.end stable
+  Stands (Closing log) steps stable group = (steps ≡ 0) × (group ≡ []) × IsClosing a log.area stable
+  Stands (Emptied log) steps stable group = (steps ≡ 0) × (group ≡ []) × IsIdle a log.area log.end []
   Stands (Failed log) steps stable group = LeavesOnly a log.area (IsWithOrWithout stable group)
+  Stands (Torn log) steps stable group = (steps ≡ 0) × (group ≡ []) × LeavesOnly a log.area (IsWithOrWithout [] stable)
   Stands Taken steps stable group = ⊥
 
   abbrev pub is_idle : Log D a → Bool
@@ -21,15 +26,49 @@ module _ {D : Type 0} (a : Ghosts D) where
   is_idle (Written log) = false
   is_idle (Synced log) = false
   is_idle (Opened log) = false
+  is_idle (Sealed log) = false
+  is_idle (Closing log) = false
+  is_idle (Emptied log) = false
   is_idle (Failed log) = false
+  is_idle (Torn log) = false
   is_idle Taken = false
+
+  -- a reset is under way
+  abbrev pub is_sealed : Log D a → Bool
+  is_sealed (Idle log) = false
+  is_sealed (Written log) = false
+  is_sealed (Synced log) = false
+  is_sealed (Opened log) = false
+  is_sealed (Sealed log) = true
+  is_sealed (Closing log) = true
+  is_sealed (Emptied log) = true
+  is_sealed (Failed log) = false
+  is_sealed (Torn log) = false
+  is_sealed Taken = false
+
+  -- how many steps of a reset are done
+  abbrev pub HasReset : Log D a → ℕ → Type 0
+  HasReset (Idle log) steps = steps ≡ 0
+  HasReset (Written log) steps = steps ≡ 0
+  HasReset (Synced log) steps = steps ≡ 0
+  HasReset (Opened log) steps = steps ≡ 0
+  HasReset (Sealed log) steps = steps ≡ 1
+  HasReset (Closing log) steps = steps ≡ 2
+  HasReset (Emptied log) steps = steps ≡ 3
+  HasReset (Failed log) steps = steps ≡ 0
+  HasReset (Torn log) steps = 0 < steps
+  HasReset Taken steps = ⊥
 
   abbrev pub is_failed : Log D a → Bool
   is_failed (Idle log) = false
   is_failed (Written log) = false
   is_failed (Synced log) = false
   is_failed (Opened log) = false
+  is_failed (Sealed log) = false
+  is_failed (Closing log) = false
+  is_failed (Emptied log) = false
   is_failed (Failed log) = true
+  is_failed (Torn log) = true
   is_failed Taken = true
 
   abbrev pub area_of : Log D a → Option D
@@ -37,7 +76,11 @@ module _ {D : Type 0} (a : Ghosts D) where
   area_of (Written log) = Some log.area
   area_of (Synced log) = Some log.area
   area_of (Opened log) = Some log.area
+  area_of (Sealed log) = Some log.area
+  area_of (Closing log) = Some log.area
+  area_of (Emptied log) = Some log.area
   area_of (Failed log) = Some log.area
+  area_of (Torn log) = Some log.area
   area_of Taken = None
 
   -- one call of the device: it is made, or has failed in its place
@@ -49,16 +92,37 @@ module _ {D : Type 0} (a : Ghosts D) where
   StepsTo (Opened log) words new =
       (stable group : List Record) → IsOpened a log.area log.end log.words stable group
       → ((is_idle new ≡ true) × Stands new 0 (stable ++ group) []) ⊎ ((is_failed new ≡ true) × Stands new 4 stable group)
+  StepsTo (Sealed log) words new = new ≡ Sealed log
+  StepsTo (Closing log) words new = new ≡ Closing log
+  StepsTo (Emptied log) words new = new ≡ Emptied log
   StepsTo (Failed log) words new = new ≡ Failed log
+  StepsTo (Torn log) words new = new ≡ Torn log
   StepsTo Taken words new = new ≡ Taken
 
-  -- the end of the stable records, in words
+  -- of a reset the same: of the records none is left at its end, and a fault leaves all or none
+  abbrev pub ResetsTo : Log D a → Log D a → Type 0
+  ResetsTo (Idle log) new = new ≡ Idle log
+  ResetsTo (Written log) new = new ≡ Written log
+  ResetsTo (Synced log) new = new ≡ Synced log
+  ResetsTo (Opened log) new = new ≡ Opened log
+  ResetsTo (Sealed log) new = (stable : List Record) → IsIdle a log.area log.end stable → Stands new 0 stable []
+  ResetsTo (Closing log) new = (stable : List Record) → IsClosing a log.area stable → Stands new 0 stable []
+  ResetsTo (Emptied log) new = new ≡ Emptied log
+  ResetsTo (Failed log) new = new ≡ Failed log
+  ResetsTo (Torn log) new = new ≡ Torn log
+  ResetsTo Taken new = new ≡ Taken
+
+  -- the end of the stable records, in words; while a reset is under way it is not asked for, and at its end nothing is left
   abbrev pub end_of : Log D a → ℕ
   end_of (Idle log) = log.end
   end_of (Written log) = log.end
   end_of (Synced log) = log.end
   end_of (Opened log) = log.end
+  end_of (Sealed log) = 0
+  end_of (Closing log) = 0
+  end_of (Emptied log) = log.end
   end_of (Failed log) = 0
+  end_of (Torn log) = 0
   end_of Taken = 0
 
   -- the words of the group that is under way
@@ -67,7 +131,11 @@ module _ {D : Type 0} (a : Ghosts D) where
   under_way (Written log) = log.words
   under_way (Synced log) = log.words
   under_way (Opened log) = log.words
+  under_way (Sealed log) = 0
+  under_way (Closing log) = 0
+  under_way (Emptied log) = 0
   under_way (Failed log) = 0
+  under_way (Torn log) = 0
   under_way Taken = 0
 
   -- the bytes of its area
@@ -76,7 +144,11 @@ module _ {D : Type 0} (a : Ghosts D) where
   size (Written log) = length (a.now log.area)
   size (Synced log) = length (a.now log.area)
   size (Opened log) = length (a.now log.area)
+  size (Sealed log) = length (a.now log.area)
+  size (Closing log) = length (a.now log.area)
+  size (Emptied log) = length (a.now log.area)
   size (Failed log) = length (a.now log.area)
+  size (Torn log) = length (a.now log.area)
   size Taken = 0
 
   -- so many words fit behind what the log has and is about to have
@@ -89,7 +161,11 @@ module _ {D : Type 0} (a : Ghosts D) where
   taken_by (Written log) words = 0
   taken_by (Synced log) words = 0
   taken_by (Opened log) words = 0
+  taken_by (Sealed log) words = 0
+  taken_by (Closing log) words = 0
+  taken_by (Emptied log) words = 0
   taken_by (Failed log) words = 0
+  taken_by (Torn log) words = 0
   taken_by Taken words = 0
 
   abbrev pub KeepsRoom : Log D a → ℕ → Log D a → Type 0
@@ -101,12 +177,16 @@ module _ {D : Type 0} (a : Ghosts D) where
   steps_of (Written log) = 1
   steps_of (Synced log) = 2
   steps_of (Opened log) = 3
+  steps_of (Sealed log) = 0
+  steps_of (Closing log) = 0
+  steps_of (Emptied log) = 0
   steps_of (Failed log) = 0
+  steps_of (Torn log) = 0
   steps_of Taken = 0
 
   -- so many steps are done then, and there the records and the group end
   abbrev pub Comes : Log D a → ℕ → ℕ → ℕ → Type 0
-  Comes new steps end words = is_failed new ≡ false → (steps_of new ≡ steps) × (end_of new ≡ end) × (under_way new ≡ words)
+  Comes new steps end words = is_failed new ≡ false → (steps_of new ≡ steps) × (end_of new ≡ end) × (under_way new ≡ words) × (is_sealed new ≡ false)
 
   -- the first step takes a group of so many words under way, and the last puts it behind the records
   abbrev pub MovesOn : Log D a → ℕ → Log D a → Type 0
@@ -114,8 +194,37 @@ module _ {D : Type 0} (a : Ghosts D) where
   MovesOn (Written log) words new = Comes new 2 log.end log.words
   MovesOn (Synced log) words new = Comes new 3 log.end log.words
   MovesOn (Opened log) words new = Comes new 0 (log.end + log.words) 0
+  MovesOn (Sealed log) words new = new ≡ Sealed log
+  MovesOn (Closing log) words new = new ≡ Closing log
+  MovesOn (Emptied log) words new = new ≡ Emptied log
   MovesOn (Failed log) words new = new ≡ Failed log
+  MovesOn (Torn log) words new = new ≡ Torn log
   MovesOn Taken words new = new ≡ Taken
+
+  -- so many steps of a reset are done then, or a fault has come in its place
+  abbrev pub ComesToReset : Log D a → ℕ → Type 0
+  ComesToReset (Idle log) steps = ⊥
+  ComesToReset (Written log) steps = ⊥
+  ComesToReset (Synced log) steps = ⊥
+  ComesToReset (Opened log) steps = ⊥
+  ComesToReset (Sealed log) steps = steps ≡ 1
+  ComesToReset (Closing log) steps = steps ≡ 2
+  ComesToReset (Emptied log) steps = (steps ≡ 3) × (log.end ≡ 0)
+  ComesToReset (Failed log) steps = ⊥
+  ComesToReset (Torn log) steps = ⊤
+  ComesToReset Taken steps = ⊥
+
+  abbrev pub MovesReset : Log D a → Log D a → Type 0
+  MovesReset (Idle log) new = new ≡ Idle log
+  MovesReset (Written log) new = new ≡ Written log
+  MovesReset (Synced log) new = new ≡ Synced log
+  MovesReset (Opened log) new = new ≡ Opened log
+  MovesReset (Sealed log) new = ComesToReset new 2
+  MovesReset (Closing log) new = ComesToReset new 3
+  MovesReset (Emptied log) new = new ≡ Emptied log
+  MovesReset (Failed log) new = new ≡ Failed log
+  MovesReset (Torn log) new = new ≡ Torn log
+  MovesReset Taken new = new ≡ Taken
 
   -- the device of a log that had this area, after one call: it has failed once more just where the log has
   pub record IsCalled (area : D) (new : Log D a) : Type 0 where
@@ -130,5 +239,9 @@ module _ {D : Type 0} (a : Ghosts D) where
   CallsOnce (Written log) new = IsCalled log.area new
   CallsOnce (Synced log) new = IsCalled log.area new
   CallsOnce (Opened log) new = IsCalled log.area new
+  CallsOnce (Sealed log) new = IsCalled log.area new
+  CallsOnce (Closing log) new = IsCalled log.area new
+  CallsOnce (Emptied log) new = IsCalled log.area new
   CallsOnce (Failed log) new = new ≡ Failed log
+  CallsOnce (Torn log) new = new ≡ Torn log
   CallsOnce Taken new = new ≡ Taken

@@ -1,5 +1,5 @@
 -- What is shown of the log of a node, and what stays as it was.
-use Rattle.std.specs.Prelude.{◌≡◌, ℕ, ◌+◌, ◌⊎◌, nat_lt, Bool, true, false, List, [], drop, length, take, Option, None, Some, Result, Ok, Err, MatchBool, if◌then◌else◌, slice_get, slice_set, option_and_then}
+use Rattle.std.specs.Prelude.{◌≡◌, ℕ, ◌+◌, ◌<◌, ◌⊎◌, nat_lt, Bool, true, false, List, [], drop, length, take, Option, None, Some, Result, Ok, Err, MatchBool, if◌then◌else◌, slice_get, slice_set, option_and_then}
 use Rattle.lc_disk.specs.declared.area.Area.{Ghosts}
 use Rattle.lc_record.specs.Words.{words_of}
 use Rattle.lc_record.specs.declared.record.Record.{Record}
@@ -7,7 +7,7 @@ use Rattle.lc_log.specs.LogText.{IsLogText, joined}
 use Rattle.lc_model.specs.State.{Up as IsUp, Setting, State}
 use Rattle.lc_model.specs.Stored.{records_of}
 use Rattle.lc_recover.specs.Recovery.{Recovering}
-use Rattle.lc_core.specs.Log.{Stands, area_of, end_of, is_failed, is_idle, size, under_way}
+use Rattle.lc_core.specs.Log.{Stands, HasReset, area_of, end_of, is_failed, is_idle, is_sealed, size, under_way}
 use Rattle.lc_core.specs.Numbers.{Numbers, stable_records}
 use Rattle.lc_core.specs.Pages.{areas_of}
 use Rattle.lc_core.specs.World.{FitsPhase}
@@ -27,17 +27,21 @@ has_failed (Err Unknown) = false
 has_failed (Err DeviceFault) = true
 has_failed (Err NoMemory) = false
 
--- the records of a node that its log has: those that are stable, and from the third step of a flush on its group
+-- the records of a node that its log has: those that are stable, and from the third step of a flush on its group; from the
+-- second step of a reset on none
 abbrev pub logged_records : Setting → State → Numbers → ℕ → List Record
 logged_records m s x node =
-    if nat_lt 2 (s.flush node).steps then drop (x.disks.dropped node) (take (s.flush node).taken (records_of m s x.disks node))
+    if nat_lt 1 (x.reset node) then []
+    else if nat_lt 2 (s.flush node).steps then drop (x.disks.dropped node) (take (s.flush node).taken (records_of m s x.disks node))
     else stable_records m s x node
 
--- these are their words; at a node that a fault has halted, those of the stable ones, or of these and the whole group
+-- these are their words; at a node that a fault has halted, those of the stable ones, or of these and the whole group, or,
+-- where a reset was under way, none
 abbrev pub AreLogged : Setting → State → Numbers → ℕ → List ℕ → Type 0
 AreLogged m s x node words = MatchBool (s.halted node)
     ((words ≡ joined (stable_records m s x node))
-    ⊎ (words ≡ joined (drop (x.disks.dropped node) (take (s.flush node).taken (records_of m s x.disks node)))))
+    ⊎ ((words ≡ joined (drop (x.disks.dropped node) (take (s.flush node).taken (records_of m s x.disks node))))
+    ⊎ ((0 < x.reset node) × (words ≡ []))))
     (words ≡ joined (logged_records m s x node))
 
 module _ {D : Type 0} (a : Ghosts D) where
@@ -54,6 +58,8 @@ module _ {D : Type 0} (a : Ghosts D) where
     pub stands : (steps : ℕ) (stable group : List Record) → Stands a old steps stable group → Stands a new steps stable group
     pub failed : is_failed a new ≡ is_failed a old
     pub idle : is_idle a new ≡ is_idle a old
+    pub sealed : is_sealed a new ≡ is_sealed a old
+    pub reset : (steps : ℕ) → HasReset a old steps → HasReset a new steps
     pub end : end_of a new ≡ end_of a old
     pub under_way : under_way a new ≡ under_way a old
     pub size : size a new ≡ size a old
@@ -104,7 +110,7 @@ module _ {D : Type 0} (a : Ghosts D) where
   -- the areas of the segments
   abbrev pub segment_areas : Phase D a → List D
   segment_areas (Down recovery) = drop recovery.geometry.nodes recovery.areas
-  segment_areas (Up up) = areas_of up.segments.items
+  segment_areas (Up up) = areas_of a up.segments.items
   segment_areas Taken = []
 
   -- no area has changed but that of a node's log; whatever the store fitted, it still fits

@@ -54,13 +54,10 @@ module _ {D : Type 0} (a : Ghosts D) where
     pub turns : Turns m s x event reply next
     pub aside : BesideNode m n s x after next
     pub fits : FitsNode m n new after next
-    -- it stays up; no token moves but the event's own; nothing but records has changed on the disks; and no reset or page write
-    -- goes on
+    -- it stays up; no token moves but the event's own; and no reset goes on
     pub phase : after.phase ≡ s.phase
     pub places : (segment : ℕ) → (segment ≡ moved_by event reply → ⊥) → after.place segment ≡ s.place segment
-    pub disks : next.disks ≡ x.disks
     pub resets : next.reset ≡ x.reset
-    pub writes : next.calls ≡ x.calls
 
   -- whatever sound state and numbers it fits where nothing refuses the event at once
   abbrev pub FollowsNode : ℕ → Event → Node D a → Reply → Node D a → Type 0

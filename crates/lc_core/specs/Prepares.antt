@@ -60,6 +60,12 @@ HasRoom log (IsRefused refusal) = Unit {0}
 HasRoom log Empty = Unit {0}
 HasRoom log (Record words) = log.end + length words ≤ log.room
 
+-- and its log is not sealed
+abbrev pub IsUnsealed : LogEnd → Ending → Type 0
+IsUnsealed log (IsRefused refusal) = Unit {0}
+IsUnsealed log Empty = Unit {0}
+IsUnsealed log (Record words) = log.sealed ≡ false
+
 abbrev pub Prepares : ℕ → ℕ → LogEnd → Desk → Ending → Desk → Type 0
 Prepares node thread log old ending new =
     (m : Setting) (s : State) (x : Numbers) → Sound m.geometry s → FitsDesk m node old.here old.seats.items s → FitsNumbers old.here s x

@@ -1,5 +1,5 @@
 -- What a step of a recovery answers, and what the last one leaves.
-use Rattle.std.specs.Prelude.{◌≡◌, ℕ, List, drop, Option, Some, None, Result, Ok, Err, IsErr, MatchOption, slice_get}
+use Rattle.std.specs.Prelude.{◌≡◌, ℕ, drop, Option, Some, None, Result, Ok, Err, IsErr, MatchOption, slice_get}
 use Rattle.lc_disk.specs.declared.area.Area.{Ghosts}
 use Rattle.lc_recover.specs.Reads.{AreHonest, AreOfBytes, HaveLengths}
 use Rattle.lc_recover.specs.Recovered.{RecoveredStore, IsFinished}
@@ -45,8 +45,8 @@ module _ {D : Type 0} (a : Ghosts D) where
     pub fresh : AreHonest a r.areas → IsFresh a store up.running
     pub lengths : HaveLengths a r.geometry r.areas
     pub bytes : AreOfBytes a r.areas
-    pub segments : areas_of up.segments.items ≡ drop r.geometry.nodes r.areas
-    pub rest : RestsAll r.geometry up.segments.items
+    pub segments : areas_of a up.segments.items ≡ drop r.geometry.nodes r.areas
+    pub rest : RestsAll a r.geometry up.segments.items
 
   abbrev pub HasComeUp : Recovering D → Phase D a → Type 0
   HasComeUp r phase = (up : Up D a) × (phase ≡ IsUp up) × ComesUp r up

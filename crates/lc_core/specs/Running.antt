@@ -1,5 +1,5 @@
 -- All nodes of a store that is up, against the machine and the numbers beside it.
-use Rattle.std.specs.Prelude.{◌≡◌, false, ℕ, ◌+◌, List, length, Option, None, Some, slice_get}
+use Rattle.std.specs.Prelude.{◌≡◌, Bool, false, ℕ, ◌+◌, List, length, Option, None, Some, slice_get}
 use Rattle.lc_disk.specs.declared.area.Area.{Ghosts}
 use Rattle.lc_record.specs.declared.geometry.Geometry.{Geometry}
 use Rattle.lc_token.specs.declared.token.Token.{Token}
@@ -9,13 +9,14 @@ use Rattle.lc_model.specs.Sound.{Sound}
 use Rattle.lc_model.specs.State.{Travelling, Up, Setting, State}
 use Rattle.lc_model.specs.Stored.{Fits as FitsDisks}
 use Rattle.lc_model.specs.declared.event.Event.{Event}
+use Rattle.lc_model.specs.declared.event.Event.TheVariants.{Leave}
 use Rattle.lc_model.specs.declared.reply.Reply.{Reply}
 use Rattle.lc_core.specs.Coherent.{AreCoherent}
 use Rattle.lc_core.specs.Log.{is_failed}
 use Rattle.lc_core.specs.Node.{FitsNode}
 use Rattle.lc_core.specs.Numbers.{Numbers}
 use Rattle.lc_core.specs.Prepares.{GetsPlace}
-use Rattle.lc_core.specs.Settled.{Settled}
+use Rattle.lc_core.specs.Settled.{Settled, is_writing}
 use Rattle.lc_core.specs.Slots.{FitsToken}
 use Rattle.lc_core.specs.Turns.{Turns}
 use Rattle.lc_range.specs.RangeSet.{MissesSome}
@@ -44,9 +45,8 @@ module _ {D : Type 0} (a : Ghosts D) where
     pub coherent : AreCoherent m s x
     pub each : FitsNodes m nodes s x
     pub on_the_way : FitsTravelling m travelling s x
-    -- no log is being reset, and no page is being written
+    -- no log is being reset
     pub resets : (node : ℕ) → x.reset node ≡ 0
-    pub writes : (segment page : ℕ) → x.calls segment page ≡ 0
 
   abbrev pub FitsRunning : Setting → Running D a → State → Numbers → Type 0
   FitsRunning m w s x = FitsAll m w.geometry w.nodes.items w.travelling.items s x
@@ -65,6 +65,12 @@ module _ {D : Type 0} (a : Ghosts D) where
   FollowsRow old event reply new =
       (m : Setting) (s : State) (x : Numbers) → FitsRunning m old s x → common_refusal m.geometry s event ≡ None
       → Onward m event s x reply new.geometry new.nodes.items new.travelling.items
+
+  -- where it is told whether a page of the segment is being written
+  abbrev pub FollowsLeaving : ℕ → ℕ → Bool → Running D a → Reply → Running D a → Type 0
+  FollowsLeaving node segment writing old reply new =
+      (m : Setting) (s : State) (x : Numbers) → FitsRunning m old s x → common_refusal m.geometry s (Leave node segment) ≡ None → writing ≡ is_writing m x segment
+      → Onward m (Leave node segment) s x reply new.geometry new.nodes.items new.travelling.items
 
   -- the log of this node has not failed
   abbrev pub IsRunning : ℕ → List (Node D a) → Type 0

@@ -1,5 +1,5 @@
 -- What it is that a running store follows the machine and the numbers, step by step.
-use Rattle.std.specs.Prelude.{◌<◌, ◌⊎◌, ℕ, Bool, true, false, List, length, Option}
+use Rattle.std.specs.Prelude.{◌≡◌, ◌<◌, ◌≤◌, ◌⊎◌, ℕ, Bool, true, false, List, length, Option}
 use Rattle.lc_disk.specs.declared.area.Area.{Ghosts}
 use Rattle.lc_record.specs.declared.geometry.Geometry.{Geometry}
 use Rattle.lc_token.specs.declared.token.Token.{Token}
@@ -7,12 +7,12 @@ use Rattle.lc_tx.specs.Tx.{IsSetOf, none_of}
 use Rattle.lc_model.specs.Machine.{Step}
 use Rattle.lc_model.specs.State.{Setting, State}
 use Rattle.lc_model.specs.declared.event.Event.{Event}
-use Rattle.lc_model.specs.declared.event.Event.TheVariants.{Begin, SetRange, Read, Reserve, Deliver, PageStep, ResetStep, Stop, RecoverStep}
+use Rattle.lc_model.specs.declared.event.Event.TheVariants.{Begin, SetRange, Read, Reserve, Leave, Deliver, PageStep, ResetStep, Stop, RecoverStep}
 use Rattle.lc_model.specs.declared.reply.Reply.{Reply}
 use Rattle.lc_core.specs.Delivers.{WantsPart}
 use Rattle.lc_core.specs.Numbers.{Numbers}
 use Rattle.lc_core.specs.Running.{FitsAll, FitsRunning, WantsPlaceAt, WantsRange}
-use Rattle.lc_core.specs.Settled.{Settled}
+use Rattle.lc_core.specs.Settled.{Settled, is_writing}
 use Rattle.lc_core.specs.Turns.{Turns}
 use Rattle.lc_core.specs.declared.node.Node.{Node}
 use Rattle.lc_core.specs.declared.running.Running.{Running}
@@ -25,6 +25,11 @@ is_plain (Stop choices) = false
 is_plain RecoverStep = false
 is_plain event = true
 
+-- it is told whether a page is being written of the segment whose token is to leave
+abbrev pub TellsWriting : Setting → Numbers → Event → Bool → Type 0
+TellsWriting m x (Leave node segment) writing = 1 ≤ segment → segment ≤ m.geometry.segments → writing ≡ is_writing m x segment
+TellsWriting m x event writing = Unit {0}
+
 module _ {D : Type 0} (a : Ghosts D) where
   -- a step of the machine under this reply, which is settled, and the numbers behind it
   pub record StepsOn (m : Setting) (event : Event) (s : State) (x : Numbers) (reply : Reply) (geometry : Geometry) (nodes : List (Node D a)) (travelling : List (Option Token)) : Type 0 where
@@ -36,9 +41,10 @@ module _ {D : Type 0} (a : Ghosts D) where
     pub fits : FitsAll a m geometry nodes travelling after next
 
   -- whatever state and numbers it fits
-  abbrev pub FollowsStep : Running D a → Event → Reply → Running D a → Type 0
-  FollowsStep old event reply new =
-      (m : Setting) (s : State) (x : Numbers) → FitsRunning a m old s x → StepsOn m event s x reply new.geometry new.nodes.items new.travelling.items
+  abbrev pub FollowsStep : Bool → Running D a → Event → Reply → Running D a → Type 0
+  FollowsStep writing old event reply new =
+      (m : Setting) (s : State) (x : Numbers) → FitsRunning a m old s x → TellsWriting m x event writing
+      → StepsOn m event s x reply new.geometry new.nodes.items new.travelling.items
 
   -- when an event may want memory
   abbrev pub AsksMemory : Running D a → Event → Type 0

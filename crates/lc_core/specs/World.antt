@@ -1,5 +1,5 @@
 -- A store that is down or up, against the machine and the numbers.
-use Rattle.std.specs.Prelude.{◌≡◌, ℕ, ◌⊎◌, ◌++◌, Bool, true}
+use Rattle.std.specs.Prelude.{◌≡◌, ◌⊎◌, ◌++◌, Bool, true}
 use Rattle.lc_disk.specs.declared.area.Area.{Ghosts}
 use Rattle.lc_record.specs.Transaction.{effects}
 use Rattle.lc_recover.specs.Reads.{AreHonest, AllMergeTo}
@@ -20,6 +20,7 @@ use Rattle.lc_core.specs.Turns.{Turns, kept_numbers}
 use Rattle.lc_core.specs.declared.phase.Phase.{Phase}
 use Rattle.lc_core.specs.declared.phase.Phase.TheVariants.{Down, Up, Taken}
 use Rattle.lc_core.specs.declared.world.World.{World}
+use Rattle.lc_core.specs.declared.up.Up.{Up as UpStore}
 
 -- the events but those of pages and resets, and but a stop
 abbrev pub is_common : Event → Bool
@@ -57,6 +58,13 @@ module _ {D : Type 0} (a : Ghosts D) where
   -- whatever state and numbers it fits
   abbrev pub FollowsWorld : World D a → Event → Reply → World D a → Type 0
   FollowsWorld old event reply new = (m : Setting) (s : State) (x : Numbers) → FitsWorld m old s x → Leads m event s x reply new.phase
+
+  -- so it is for a store that is up
+  abbrev pub FollowsUp : UpStore D a → Event → Reply → UpStore D a → Type 0
+  FollowsUp old event reply new = (m : Setting) (s : State) (x : Numbers) → FitsPhase m (Up old) s x → Leads m event s x reply (Up new)
+
+  abbrev pub StillFitsUp : UpStore D a → UpStore D a → Type 0
+  StillFitsUp old new = (m : Setting) (s : State) (x : Numbers) → FitsPhase m (Up old) s x → FitsPhase m (Up new) s x
 
   -- whatever it fitted, it still fits
   abbrev pub StillFitsWorld : World D a → World D a → Type 0

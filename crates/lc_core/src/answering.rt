@@ -37,7 +37,7 @@ impl<D: Area + Drop> World<D> {
             return self.recover_step(alloc);
         }
         match &mut self.phase {
-            Phase::Up(up) => up.running.step(alloc, event),
+            Phase::Up(up) => up.step(alloc, event),
             _ => Ok(Reply::Refused(Refusal::Down)),
         }
     }

@@ -2,7 +2,7 @@
 ghost use Rattle.std.specs.Prelude.{◌≡◌, ◌+◌, ◌*◌, ◌<◌, ◌≤◌, ◌^◌, true, false, ℕ, length, take};
 ghost use Rattle.lc_model.specs.declared.event.Event.TheVariants.{FlushStep};
 ghost use Rattle.lc_model.specs.declared.reply.Reply.TheVariants.{Nothing};
-ghost use Rattle.lc_core.specs.Log.{StepsTo, CallsOnce, end_of, under_way, size, is_idle, is_failed};
+ghost use Rattle.lc_core.specs.Log.{StepsTo, CallsOnce, end_of, under_way, size, is_idle, is_sealed, is_failed};
 ghost use Rattle.lc_core.specs.Records.{count_of, front_of, span_of};
 ghost use Rattle.lc_core.specs.Journal.{reply_of, acked_after};
 ghost use Rattle.lc_core.specs.FaultReplies.{TellsFault};
@@ -36,14 +36,18 @@ pub(crate) struct Journal<D: Area> {
     ghost short: { group.room < 2 ^ 32 },
     ghost log_room: { is_failed D.Area log ≡ false → 8 * group.room + 8 ≤ size D.Area log },
     ghost room: { length (span_of records dropped (count_of records)) ≤ group.room },
-    ghost end: { is_failed D.Area log ≡ false → end_of D.Area log ≡ length (span_of records dropped acked) },
-    ghost under_way: { is_failed D.Area log ≡ false → is_idle D.Area log ≡ false → under_way D.Area log ≡ length (span_of records acked taken) },
+    ghost end: { is_failed D.Area log ≡ false → is_sealed D.Area log ≡ false → end_of D.Area log ≡ length (span_of records dropped acked) },
+    ghost under_way: { is_failed D.Area log ≡ false → is_idle D.Area log ≡ false → is_sealed D.Area log ≡ false → under_way D.Area log ≡ length (span_of records acked taken) },
+    ghost busy: { is_failed D.Area log ≡ false → is_idle D.Area log ≡ false → is_sealed D.Area log ≡ false → acked < taken },
+    ghost sealed: { is_sealed D.Area log ≡ true → count_of records ≤ acked },
+    ghost emptied: { is_sealed D.Area log ≡ true → end_of D.Area log ≡ 0 },
 }
 
 impl<D: Area + Drop> Journal<D> {
     ghost use Rattle.lc_core.specs.Follows.{FollowsLog};
 
-    /// One of the four device calls of a flush. The first takes all records in front of the first that is not closed.
+    /// One of the four device calls of a flush. The first takes all records in front of the first that is not closed. While
+    /// a reset is under way nothing waits.
     pub(crate) fn flush_step(&mut self) -> Reply
         requires up { is_failed D.Area self.old.log ≡ false }
         ensures follows { (node : ℕ) → FollowsLog D.Area node self.old (FlushStep node) result self.new }
@@ -54,6 +58,9 @@ impl<D: Area + Drop> Journal<D> {
         ensures device { (result ≡ Nothing → ⊥) → CallsOnce D.Area self.old.log self.new.log }
         ensures fault { TellsFault D.Area result self.old.log self.new.log }
     {
+        if self.log.is_sealed() {
+            return Reply::Nothing;
+        }
         if self.log.is_idle() {
             if self.records.front() == self.acked {
                 return Reply::Nothing;
@@ -83,6 +90,8 @@ impl<D: Area + Drop> Journal<D> {
     // Takes the log out, makes the call, and puts it back.
     fn advance(&mut self) -> Reply
         requires words { is_idle D.Area self.old.log ≡ true → self.old.group.words ≡ span_of self.old.records self.old.acked self.old.taken }
+        requires some { is_idle D.Area self.old.log ≡ true → self.old.acked < self.old.taken }
+        requires free { is_sealed D.Area self.old.log ≡ false }
         ensures steps { StepsTo D.Area self.old.log self.old.group.words self.new.log }
         ensures device { CallsOnce D.Area self.old.log self.new.log }
         ensures reply { result ≡ reply_of D.Area self.new.log self.old.taken }
@@ -108,7 +117,7 @@ fn acked_after<D: Area>(log: &Log<D>, taken: u64, acked: u64) -> u64
 }
 
 // What is answered where the log has come here.
-fn reply_of<D: Area>(log: &Log<D>, taken: u64) -> Reply
+pub(crate) fn reply_of<D: Area>(log: &Log<D>, taken: u64) -> Reply
     ensures { result ≡ reply_of D.Area log.now taken }
 {
     match log {
@@ -116,7 +125,10 @@ fn reply_of<D: Area>(log: &Log<D>, taken: u64) -> Reply
         Log::Written(_) => Reply::Stepped(1),
         Log::Synced(_) => Reply::Stepped(2),
         Log::Opened(_) => Reply::Stepped(3),
-        Log::Failed(_) | Log::Taken => Reply::Refused(Refusal::DeviceFault),
+        Log::Sealed(_) => Reply::Stepped(1),
+        Log::Closing(_) => Reply::Stepped(2),
+        Log::Emptied(_) => Reply::Stepped(3),
+        Log::Failed(_) | Log::Torn(_) | Log::Taken => Reply::Refused(Refusal::DeviceFault),
     }
 }
 

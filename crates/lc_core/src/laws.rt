@@ -1,6 +1,8 @@
 //! The laws of the answers that the machine leaves open, each the contract of a function with nothing to do.
-ghost use Rattle.std.specs.Prelude.{◌≡◌, ◌≢◌, ◌⊎◌, ℕ, List, Some};
+ghost use Rattle.std.specs.Prelude.{◌≡◌, ◌≢◌, ◌⊎◌, ◌+◌, ◌<◌, ℕ, List, Some, true, slice_get, slice_set};
+ghost use Rattle.lc_disk.specs.Area.{IsImage};
 ghost use Rattle.lc_page.specs.declared.page_text.PageText.{PageText};
+ghost use Rattle.lc_record.specs.declared.geometry.Geometry.{Geometry as Shape};
 ghost use Rattle.lc_record.specs.Transaction.{Transaction};
 ghost use Rattle.lc_model.specs.Choices.{AtLeastOne};
 ghost use Rattle.lc_model.specs.Machine.{Step, Run, appended, closed_by, placed};
@@ -21,7 +23,9 @@ ghost use Rattle.lc_core.specs.Journal.{FitsLog};
 ghost use Rattle.lc_core.specs.Records.{Kept};
 ghost use Rattle.lc_core.specs.Seats.{AllRun};
 ghost use Rattle.lc_core.specs.declared.log.Log.{Log as Between};
-ghost use Rattle.lc_core.specs.Turns.{Turns};
+ghost use Rattle.lc_core.specs.Pages.{FitsArea, FitsPages, IsStored};
+ghost use Rattle.lc_core.specs.Turns.{Turns, called, page_settled};
+ghost use Rattle.lc_core.specs.declared.pages.Pages.{Pages as ItsPages};
 ghost use Rattle.lc_core.specs.declared.here.Here.{Here as Slots};
 ghost use Rattle.lc_core.specs.declared.seat.Seat.{Seat as Sitting};
 
@@ -84,7 +88,7 @@ pub(crate) fn other_journals<D: Area>()
 {}
 
 /// What a recovery leaves of the numbers is coherent, and each event of a store that stays up keeps it so, and keeps the disks
-/// fitting the state.
+/// fitting the state. A node that is halted stays so, and its tokens stay with it.
 pub fn coherent_numbers()
     ensures fresh { (m : Setting) (earlier : List Transaction) (numbers : ℕ → ℕ) (pages : ℕ → ℕ → Page)
         (texts : ℕ → ℕ → PageText) → FitsDisks m (fresh m.geometry earlier Up) (recovered_disks numbers pages) →
@@ -93,4 +97,24 @@ pub fn coherent_numbers()
         (next : Numbers) → s.phase ≡ Up → after.phase ≡ Up → FitsDisks m s x.disks → AreCoherent m s x →
         Step m s event reply after → Settled m s x event reply → Turns m s x event reply next →
         AreCoherent m after next × FitsDisks m after next.disks }
+    ensures halted { (m : Setting) (s : State) (event : Event) (reply : Reply) (after : State) → s.phase ≡ Up →
+        after.phase ≡ Up → Step m s event reply after →
+        ((node : ℕ) → s.halted node ≡ true → after.halted node ≡ true) ×
+        ((node segment : ℕ) → s.halted node ≡ true → s.place segment ≡ At node → after.place segment ≡ At node) }
+{}
+
+/// Whatever a stop leaves of the area of a segment, each page is one that the numbers allow. A call in one segment, and
+/// the end of a page write, leave the others fitting.
+pub(crate) fn page_areas<D: Area>()
+    ensures images { (g : Shape) (segment page : ℕ) (pages : ItsPages D D.Area) (x : Numbers) (image : List ℕ) →
+        FitsArea D.Area g segment pages x → page < g.pages → IsImage (D.now pages.area) (D.dirty pages.area) image →
+        IsStored segment page image x }
+    ensures called { (m : Setting) (s : State) (segments : List (ItsPages D D.Area)) (k page calls : ℕ) (old new : ItsPages D D.Area) (x : Numbers) →
+        slice_get segments k ≡ Some old → FitsPages D.Area m segments x →
+        FitsArea D.Area m.geometry (k + 1) new (called m s x (k + 1) page calls) →
+        FitsPages D.Area m (slice_set segments k new) (called m s x (k + 1) page calls) }
+    ensures settled { (m : Setting) (s : State) (segments : List (ItsPages D D.Area)) (k page : ℕ) (old new : ItsPages D D.Area) (x : Numbers) →
+        slice_get segments k ≡ Some old → FitsPages D.Area m segments x →
+        FitsArea D.Area m.geometry (k + 1) new (page_settled x (k + 1) page) →
+        FitsPages D.Area m (slice_set segments k new) (page_settled x (k + 1) page) }
 {}

@@ -23,6 +23,9 @@ mod logging;
 mod moving;
 mod named;
 mod node;
+mod page_calls;
+mod page_progress;
+mod page_state;
 mod pages;
 mod phase;
 mod place;
@@ -35,6 +38,7 @@ mod recovered_reply;
 mod recovering;
 mod refused;
 mod reserving;
+mod resetting;
 mod room;
 mod run;
 mod run_result;
@@ -51,6 +55,7 @@ mod token_refused;
 mod trimming;
 mod uncommitted;
 mod up;
+mod up_step;
 mod world;
 mod writing;
 
@@ -67,6 +72,8 @@ mod journal_tests;
 mod node_tests;
 #[cfg(test)]
 mod nodes_tests;
+#[cfg(test)]
+mod pages_tests;
 #[cfg(test)]
 mod publishing_tests;
 #[cfg(test)]

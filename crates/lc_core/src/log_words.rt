@@ -118,7 +118,11 @@ impl<D: Area> Log<D> {
             Log::Written(log) => area_bytes(&mut log.area, alloc),
             Log::Synced(log) => area_bytes(&mut log.area, alloc),
             Log::Opened(log) => area_bytes(&mut log.area, alloc),
+            Log::Sealed(log) => area_bytes(&mut log.area, alloc),
+            Log::Closing(log) => area_bytes(&mut log.area, alloc),
+            Log::Emptied(log) => area_bytes(&mut log.area, alloc),
             Log::Failed(log) => area_bytes(&mut log.area, alloc),
+            Log::Torn(log) => area_bytes(&mut log.area, alloc),
             Log::Taken => Err(ShowFault::Unknown),
         }
     }

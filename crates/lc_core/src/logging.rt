@@ -1,5 +1,6 @@
 //! What a node's log is to take: a record that is reserved, and one that is closed; and what no peer wants any more.
-ghost use Rattle.std.specs.Prelude.{◌≡◌, ◌↔◌, ◌+◌, ◌-◌, ◌<◌, ◌≤◌, ◌^◌, length, IfOk, OnErr, IsTrue};
+ghost use Rattle.std.specs.Prelude.{◌≡◌, ◌↔◌, ◌+◌, ◌-◌, ◌<◌, ◌≤◌, ◌^◌, false, length, IfOk, OnErr, IsTrue};
+ghost use Rattle.lc_core.specs.Log.{is_sealed};
 ghost use Rattle.lc_core.specs.Logging.{end_of_records, Logs, Shuts, Trims};
 
 use crate::journal::Journal;
@@ -22,9 +23,10 @@ impl<D: Area + Drop> Journal<D> {
     }
 
     /// Adds a record of these words, which is not closed, and answers its number. Where memory is wanted nothing has
-    /// changed.
+    /// changed. No reset is under way.
     pub(crate) fn reserve(&mut self, words: &[u64]) -> Result<u64, AllocError>
         requires room { end_of_records D.Area self.old + length words.now ≤ self.old.group.room }
+        requires free { is_sealed D.Area self.old.log ≡ false }
         ensures logs { IfOk result (λ number. Logs D.Area self.old words.now number self.new) }
         ensures end { IfOk result (λ _. end_of_records D.Area self.new ≡ end_of_records D.Area self.old + length words.now) }
         ensures log { self.new.log ≡ self.old.log }

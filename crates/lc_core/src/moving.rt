@@ -2,7 +2,7 @@
 ghost use Rattle.std.specs.Prelude.{◌≡◌, true, false};
 ghost use Rattle.lc_model.specs.Refusals.{is_known};
 ghost use Rattle.lc_model.specs.declared.event.Event.TheVariants.{Arrive, Leave};
-ghost use Rattle.lc_core.specs.Running.{FollowsRow};
+ghost use Rattle.lc_core.specs.Running.{FollowsLeaving, FollowsRow};
 ghost use Rattle.lc_core.specs.FaultReplies.{is_fault};
 ghost use Rattle.lc_core.specs.Faults.{SameLogs};
 
@@ -11,14 +11,15 @@ use crate::{Refusal, Reply};
 use lc_disk::Area;
 
 impl<D: Area + Drop> Running<D> {
-    /// The token of a segment leaves a node: it is on its way then.
-    pub(crate) fn leave(&mut self, node: u16, segment: u32) -> Reply
+    /// The token of a segment leaves a node: it is on its way then. `writing` says whether a page of the segment is being
+    /// written.
+    pub(crate) fn leave(&mut self, node: u16, segment: u32, writing: bool) -> Reply
         requires known { is_known self.old.geometry (Leave node segment) ≡ true }
-        ensures follows { FollowsRow D.Area self.old (Leave node segment) result self.new }
+        ensures follows { FollowsLeaving D.Area node segment writing self.old result self.new }
         ensures answer { is_fault result ≡ false }
         ensures logs { SameLogs D.Area self.old self.new }
     {
-        match self.nodes[node as usize].leave(segment, false) {
+        match self.nodes[node as usize].leave(segment, writing) {
             Ok(token) => {
                 self.travelling[segment as usize - 1] = Some(token);
                 Reply::Ok

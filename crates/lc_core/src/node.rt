@@ -1,6 +1,6 @@
 //! One node.
 ghost use Rattle.std.specs.Prelude.{◌≡◌, ◌-◌, ◌+◌, ◌<◌, ◌≤◌, ◌^◌, ℕ, false, vec_len, slice_get, Some, IsSome, Err, IfOk, OnErr, IfErr};
-ghost use Rattle.lc_core.specs.Log.{is_failed};
+ghost use Rattle.lc_core.specs.Log.{is_failed, is_sealed};
 ghost use Rattle.lc_core.specs.declared.slot.Slot.{Slot};
 ghost use Rattle.lc_model.specs.declared.event.Event.TheVariants.{Close, FlushStep};
 ghost use Rattle.lc_core.specs.FaultReplies.{TellsFault, is_device_fault, is_fault};
@@ -34,12 +34,11 @@ impl<D: Area + Drop> Node<D> {
         alloc: Global,
         node: u16,
         thread: u16,
-        sealed: bool,
     ) -> Result<Reply, AllocError>
         requires seat { thread < vec_len self.old.desk.seats }
         requires node { node ≤ 7 }
-        ensures follows { IfOk result (λ reply. FollowsReserve D.Area node thread sealed self.old reply self.new) }
-        ensures memory { OnErr result (WantsPlace D.Area node thread sealed self.old) }
+        ensures follows { IfOk result (λ reply. FollowsReserve D.Area node thread (is_sealed D.Area self.old.journal.log) self.old reply self.new) }
+        ensures memory { OnErr result (WantsPlace D.Area node thread (is_sealed D.Area self.old.journal.log) self.old) }
         ensures err { OnErr result (StillFitsNode D.Area self.old self.new) }
         ensures whole { HasSameRoom D.Area self.old self.new }
         ensures answer { IfOk result (λ reply. is_fault reply ≡ false) }
@@ -48,7 +47,7 @@ impl<D: Area + Drop> Node<D> {
         let log = LogEnd {
             end: self.journal.end(),
             room: self.journal.words,
-            sealed,
+            sealed: self.journal.log.is_sealed(),
         };
         match self.desk.prepare(alloc, node, thread, log)? {
             Ending::Refused(refusal) => Ok(Reply::Refused(refusal)),

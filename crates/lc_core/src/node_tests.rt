@@ -48,7 +48,7 @@ fn a_reservation_holds_its_token(rt: HostRuntime) -> Result<(), Fail> {
     assert!(rt; matches!(node.desk.write(0, 1, 3, b"hello"), Reply::Ok));
     assert!(rt;
         matches!(
-            node.reserve(alloc, 0, 0, false)?,
+            node.reserve(alloc, 0, 0)?,
             Reply::Reserved { place: 0, words: 8 }
         )
     );
@@ -80,7 +80,7 @@ fn a_log_one_word_short_is_full(rt: HostRuntime) -> Result<(), Fail> {
     assert!(rt; matches!(node.desk.set_range(0, 1, 3, 5)?, Reply::Ok));
     assert!(rt;
         matches!(
-            node.reserve(alloc, 0, 0, false)?,
+            node.reserve(alloc, 0, 0)?,
             Reply::Refused(Refusal::Full { tail: 0, need: 8 })
         )
     );
@@ -92,11 +92,11 @@ fn what_set_nothing_is_over(rt: HostRuntime) -> Result<(), Fail> {
     let alloc = rt.alloc();
     let mut node = node_of(alloc, 8)?;
     assert!(rt; matches!(node.desk.begin(alloc, 0, &[1], &[])?, Reply::Ok));
-    assert!(rt; matches!(node.reserve(alloc, 0, 0, false)?, Reply::Ended));
+    assert!(rt; matches!(node.reserve(alloc, 0, 0)?, Reply::Ended));
     assert_eq!(rt; node.desk.seats.len(), 1);
     assert!(rt;
         matches!(
-            node.reserve(alloc, 0, 0, false)?,
+            node.reserve(alloc, 0, 0)?,
             Reply::Refused(Refusal::OutOfTurn)
         )
     );

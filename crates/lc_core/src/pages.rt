@@ -1,17 +1,9 @@
 //! The area of a segment, and the writes of its pages.
-use lc_disk::Area;
-use lc_page::Writing;
+ghost use Rattle.std.specs.Prelude.{◌*◌, ◌≤◌, length, vec_len};
+ghost use Rattle.lc_core.specs.PageState.{AreNamed};
 
-/// How the write of a page stands.
-#[derive(Debug, Drop)]
-pub(crate) enum PageState {
-    /// None is under way.
-    AtRest,
-    /// It is between two of its six calls.
-    UnderWay(Writing),
-    /// A call of it failed, and it goes on no more.
-    Failed,
-}
+use crate::page_state::PageState;
+use lc_disk::Area;
 
 /// The area of a segment, and the states of its pages in order. So several pages may be written at once, and none of it
 /// takes memory.
@@ -19,4 +11,6 @@ pub(crate) enum PageState {
 pub(crate) struct Pages<D: Area> {
     pub(crate) area: D,
     pub(crate) writes: Vec<PageState>,
+    ghost long: { 2 * 272 * vec_len writes ≤ length (D.now area) },
+    ghost named: { AreNamed writes.items },
 }

@@ -2,7 +2,7 @@
 ghost use Rattle.std.specs.Prelude.{◌≡◌, ◌<◌, ◌≤◌, vec_len, IfOk, OnErr, false};
 ghost use Rattle.lc_core.specs.FollowsDesk.{StillFits};
 ghost use Rattle.lc_core.specs.Here.{the_images};
-ghost use Rattle.lc_core.specs.Prepares.{HasRoom, Keeps, Prepares, WantsRecord};
+ghost use Rattle.lc_core.specs.Prepares.{HasRoom, IsUnsealed, Keeps, Prepares, WantsRecord};
 ghost use Rattle.lc_core.specs.FaultReplies.{ends_in_fault};
 
 use crate::Refusal;
@@ -29,6 +29,7 @@ impl Desk {
         ensures prepares { IfOk result (λ ending. Prepares node thread log self.old ending self.new) }
         ensures still { IfOk result (λ ending. Keeps self.old ending self.new) }
         ensures room { IfOk result (λ ending. HasRoom log ending) }
+        ensures unsealed { IfOk result (λ ending. IsUnsealed log ending) }
         ensures beside { the_images.IsSameBeside self.old.here self.new.here }
         ensures memory { OnErr result (WantsRecord node thread log self.old) }
         ensures err { OnErr result (StillFits self.old self.new) }

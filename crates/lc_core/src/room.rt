@@ -1,19 +1,23 @@
 //! The memory of a store that comes up.
-ghost use Rattle.std.specs.Prelude.{◌≡◌, ◌≢◌, ◌+◌, ◌*◌, ◌%◌, ℕ, true, false, [], None, Some, List, length, drop, map, replicate, vec_capacity, vec_len, slice_get, slice_index, IfOk, ◌≤◌};
+ghost use Rattle.std.specs.Prelude.{◌≡◌, ◌≢◌, ◌+◌, ◌*◌, ◌%◌, ◌≤◌, ℕ, true, false, [], None, Some, length, drop, map, replicate, vec_capacity, vec_len, slice_get, slice_index, IfOk};
+ghost use Rattle.std.specs.Global.{Vec as TheVec};
 ghost use Rattle.lc_record.specs.declared.geometry.Geometry.{Geometry};
 ghost use Rattle.lc_recover.specs.Reads.{AreHonest, AreOfBytes, HaveLengths};
 ghost use Rattle.lc_recover.specs.Recovered.{IsFinished};
 ghost use Rattle.lc_core.specs.Blank.{AreBlankNodes, AreFilledNodes, IsBlankJournal};
 ghost use Rattle.lc_core.specs.Fresh.{IsFresh};
-ghost use Rattle.lc_core.specs.Log.{Stands, area_of, is_failed};
-ghost use Rattle.lc_core.specs.Pages.{AreAtRest, RestsAll, areas_of};
+ghost use Rattle.lc_core.specs.Log.{Stands, area_of, is_idle};
+ghost use Rattle.lc_core.specs.PageState.{AreAtRest, AreNamed};
+ghost use Rattle.lc_core.specs.Pages.{RestsAll, areas_of};
 ghost use Rattle.lc_core.specs.declared.node.Node.{Node};
+ghost use Rattle.lc_core.specs.declared.page_state.PageState.{PageState as TheState};
 ghost use Rattle.lc_core.specs.declared.pages.Pages.{Pages as ThePages};
 
 use crate::journal::Journal;
 use crate::log::Log;
 use crate::node::Node;
-use crate::pages::{PageState, Pages};
+use crate::page_state::PageState;
+use crate::pages::Pages;
 use crate::running::Running;
 use lc_disk::Area;
 use lc_log::Idle;
@@ -75,8 +79,8 @@ impl<D: Area + Drop> Room<D> {
         ensures geometry { result.0.geometry ≡ recovered.geometry }
         ensures log_areas { (n : ℕ) (node : Node D D.Area) → slice_get result.0.nodes.items n ≡ Some node → area_of D.Area node.journal.log ≡ slice_get recovered.areas n }
         ensures bytes { AreOfBytes D.Area recovered.areas }
-        ensures areas { areas_of result.1.items ≡ drop recovered.geometry.nodes recovered.areas }
-        ensures rest { RestsAll recovered.geometry result.1.items }
+        ensures areas { areas_of D.Area result.1.items ≡ drop recovered.geometry.nodes recovered.areas }
+        ensures rest { RestsAll D.Area recovered.geometry result.1.items }
     {
         let Room {
             geometry,
@@ -147,7 +151,7 @@ fn open_logs<D: Area + Drop>(nodes: &mut [Node<D>], recovered: Recovered<D>) -> 
     ensures log_areas { (n : ℕ) (node : Node D D.Area) → slice_get nodes.new n ≡ Some node → area_of D.Area node.journal.log ≡ slice_get recovered.areas n }
     ensures logs { AreHonest D.Area recovered.areas → IsFinished D.Area recovered
         → (n : ℕ) (node : Node D D.Area) → slice_get nodes.new n ≡ Some node →
-        Stands D.Area node.journal.log 0 [] [] × (is_failed D.Area node.journal.log ≡ false) }
+        Stands D.Area node.journal.log 0 [] [] × (is_idle D.Area node.journal.log ≡ true) }
     ensures bytes { AreOfBytes D.Area recovered.areas }
     ensures areas { result.items ≡ drop recovered.geometry.nodes recovered.areas }
 {
@@ -169,8 +173,11 @@ fn with_areas<D: Area + Drop>(
     requires empty { segments.items ≡ [] }
     requires place { vec_len areas ≤ vec_capacity segments }
     requires count { vec_len writes ≡ vec_len areas }
-    ensures areas { areas_of result.items ≡ areas.items }
-    ensures writes { map (λ (pages : ThePages D). pages.writes) result.items ≡ writes.items }
+    requires long { (k : ℕ) (area : D) (states : TheVec TheState) → slice_get areas.items k ≡ Some area → slice_get writes.items k ≡ Some states
+        → 2 * 272 * vec_len states ≤ length (D.now area) }
+    requires named { (k : ℕ) (states : TheVec TheState) → slice_get writes.items k ≡ Some states → AreNamed states.items }
+    ensures areas { areas_of D.Area result.items ≡ areas.items }
+    ensures writes { map (λ (pages : ThePages D D.Area). pages.writes) result.items ≡ writes.items }
 {
     for _ in 0..areas.len() {
         let area = areas.remove(0);
@@ -198,7 +205,7 @@ impl<D: Area + Drop> Journal<D> {
         ensures area { area_of D.Area self.new.log ≡ Some area }
         ensures log { (D.honest area ≡ true → slice_index (D.now area) 0 % 256 ≢ 165) → (D.honest area ≡ true → D.dirty area 0 ≡ false)
             → Stands D.Area self.new.log 0 [] [] }
-        ensures works { is_failed D.Area self.new.log ≡ false }
+        ensures works { is_idle D.Area self.new.log ≡ true }
         ensures blank { (g : Geometry) → IsBlankJournal D.Area g self.old → IsBlankJournal D.Area g self.new }
     {
         // Its length is below 2^64.

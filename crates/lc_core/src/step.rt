@@ -10,11 +10,16 @@ use lc_disk::Area;
 use std::alloc::{AllocError, Global};
 
 impl<D: Area + Drop> Running<D> {
-    /// An event that is no step of a page write or of a reset, no stop and no step of a recovery. Where memory is wanted
-    /// nothing has changed.
-    pub(crate) fn step(&mut self, alloc: Global, event: &Event) -> Result<Reply, AllocError>
+    /// An event that is no step of a page write or of a reset, no stop and no step of a recovery. `writing` says whether a
+    /// page is being written of the segment whose token is to leave. Where memory is wanted nothing has changed.
+    pub(crate) fn step(
+        &mut self,
+        alloc: Global,
+        event: &Event,
+        writing: bool,
+    ) -> Result<Reply, AllocError>
         requires plain { is_plain event.now ≡ true }
-        ensures follows { IfOk result (λ reply. FollowsStep D.Area self.old event.now reply self.new) }
+        ensures follows { IfOk result (λ reply. FollowsStep D.Area writing self.old event.now reply self.new) }
         ensures memory { OnErr result (AsksMemory D.Area self.old event.now) }
         ensures err { OnErr result (StillFitsAll D.Area self.old self.new) }
         ensures faults { IfOk result (λ reply. CountsLogs D.Area self.old reply self.new) }
@@ -61,7 +66,7 @@ impl<D: Area + Drop> Running<D> {
             Event::Reserve { node, thread } => self.reserve(alloc, *node, *thread),
             Event::Close { node, thread } => Ok(self.close(*node, *thread)),
             Event::FlushStep { node } => Ok(self.flush_step(*node)),
-            Event::Leave { node, segment } => Ok(self.leave(*node, *segment)),
+            Event::Leave { node, segment } => Ok(self.leave(*node, *segment, writing)),
             Event::Arrive { node, segment } => Ok(self.arrive(*node, *segment)),
             Event::Deliver {
                 sender,

@@ -125,7 +125,7 @@ impl<D: Area + Drop> Running<D> {
         ensures answer { IfOk result (λ reply. is_fault reply ≡ false) }
         ensures logs { SameLogs D.Area self.old self.new }
     {
-        self.nodes[node as usize].reserve(alloc, node, thread, false)
+        self.nodes[node as usize].reserve(alloc, node, thread)
     }
 
     /// A thread's reservation is closed.

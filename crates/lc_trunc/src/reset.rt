@@ -42,16 +42,17 @@ fn least_at(words: &[u64], place: usize, known: &KnownClean) -> Option<Unclean>
     least
 }
 
-// The lock, where it is above what is known.
-fn above(lock: Lock, known: &KnownClean) -> Option<Unclean>
+/// The lock, where its number is above what is known clean of its segment. It takes no memory.
+pub fn above(lock: Lock, known: &KnownClean) -> Option<Unclean>
     ensures { result ≡ above (known_of known.now) lock }
 {
     let Lock { segment, seq } = lock;
     (known.known_clean(segment) < seq).then_some(Unclean { segment, seq })
 }
 
-// The lesser of two, where there are any.
-fn lesser(one: Option<Unclean>, other: Option<Unclean>) -> Option<Unclean>
+/// Of two locks the one of the lesser segment, and of the same segment the one with the lesser number; where there is but one,
+/// that one. It takes no memory.
+pub fn lesser(one: Option<Unclean>, other: Option<Unclean>) -> Option<Unclean>
     ensures { result ≡ lesser one other }
 {
     match (one, other) {

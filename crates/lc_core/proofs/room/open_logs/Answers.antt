@@ -1,11 +1,11 @@
-use Rattle.std.proofs.Common.{◌≡◌, ◌+◌, ◌*◌, ◌<◌, false, [], drop, length, Some, sym, ap, subst, ◌∙◌, arith}
+use Rattle.std.proofs.Common.{◌≡◌, ◌+◌, ◌*◌, ◌<◌, true, [], drop, length, Some, sym, ap, subst, ◌∙◌, arith}
 use Rattle.std.specs.Prelude.{slice_get, slice_index_or}
 use Rattle.std.proofs.lemmas.List.{drop-drop}
 use Rattle.std.proofs.lemmas.Option.{slice_get-get_or, slice_get_within}
 use Rattle.lc_recover.specs.Reads.{AreHonest, AreOfBytes}
 use Rattle.lc_recover.specs.Recovered.{IsFinished}
 use Rattle.lc_core.specs.Blank.{IsFilledNode}
-use Rattle.lc_core.specs.Log.{Stands, area_of, is_failed}
+use Rattle.lc_core.specs.Log.{Stands, area_of, is_idle}
 use Rattle.lc_core.specs.declared.node.Node.{Node}
 use Rattle.lc_core.proofs.Furnishing.{each_set, front_set}
 use Rattle.lc_core.proofs.Opening.{log_area, left_some, left_is, log_closed, log_clean}
@@ -69,7 +69,7 @@ loop-node-preserved g c =
       });
       log_areas = front_set (λ n x. area_of g.D.Area x.journal.log ≡ slice_get r.areas n) nodes place new c.loop-node.invariant.log_areas
           (c.open.ensures.area ∙ ap (λ d. Some d) same ∙ sym at.1);
-      logs = front_set (λ n x. AreHonest g.D.Area r.areas → IsFinished g.D.Area r → Stands g.D.Area x.journal.log 0 [] [] × (is_failed g.D.Area x.journal.log ≡ false)) nodes place new c.loop-node.invariant.logs
+      logs = front_set (λ n x. AreHonest g.D.Area r.areas → IsFinished g.D.Area r → Stands g.D.Area x.journal.log 0 [] [] × (is_idle g.D.Area x.journal.log ≡ true)) nodes place new c.loop-node.invariant.logs
           (λ honest finished. (
             c.open.ensures.log (λ _. log_closed g.D.Area r place at.0 c.remove-area.result finished few at.1 same)
                 (λ _. log_clean g.D.Area r place at.0 c.remove-area.result finished at.1 same),

@@ -1,9 +1,9 @@
 use Rattle.std.proofs.Common.{◌≡◌, ◌∷◌, ◌++◌, [], ap, ◌∙◌, arith}
 use Rattle.std.specs.Prelude.{replicate}
 use Rattle.std.specs.Global.{Vec}
-use Rattle.lc_core.specs.Pages.{resting}
-use Rattle.lc_core.specs.declared.pages.PageState.{PageState}
-use Rattle.lc_core.specs.declared.pages.PageState.TheVariants.{AtRest}
+use Rattle.lc_core.specs.PageState.{resting}
+use Rattle.lc_core.specs.declared.page_state.PageState.{PageState}
+use Rattle.lc_core.specs.declared.page_state.PageState.TheVariants.{AtRest}
 use Rattle.lc_core.proofs.Furnishing.{each_pushed, each_same}
 use Rattle.lc_core.proofs.room.resting_pages.Goals as goal
 

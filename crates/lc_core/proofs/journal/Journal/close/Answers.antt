@@ -2,7 +2,7 @@ use Rattle.std.proofs.Common.{arith, length, ap, sym, subst, ◌∙◌}
 use Rattle.lc_model.specs.Machine.{closed_by}
 use Rattle.lc_core.specs.Records.{Kept, count_of, span_of}
 use Rattle.lc_core.specs.Journal.{FitsLog}
-use Rattle.lc_core.proofs.Logged.{Extends, closed_extends, fits_closed}
+use Rattle.lc_core.proofs.Logged.{Extends, closed_count, closed_extends, fits_closed}
 use Rattle.lc_core.proofs.journal.Journal.close.Given.{Over}
 use Rattle.lc_core.proofs.journal.Journal.close.Goals as goal
 
@@ -28,8 +28,11 @@ invariant_of-self g c =
       short = w.short;
       log_room = w.log_room;
       room = omega (arith, w.room, e.end);
-      end = λ up. w.end up ∙ sym (ap length e.stable);
-      under_way = λ up busy. w.under_way up busy ∙ sym (ap length e.on_its_way);
+      end = λ up free. w.end up free ∙ sym (ap length e.stable);
+      under_way = λ up busy free. w.under_way up busy free ∙ sym (ap length e.on_its_way);
+      busy = w.busy;
+      sealed = λ is. omega (arith, w.sealed is, ap count_of c.close.ensures, closed_count c.args.number w.records);
+      emptied = w.emptied;
     }
 
 pub returns-clause-shuts : goal.returns-clause-shuts

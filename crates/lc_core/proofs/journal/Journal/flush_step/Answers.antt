@@ -4,9 +4,27 @@ use Rattle.lc_core.specs.FaultReplies.{TellsFault}
 use Rattle.lc_core.specs.Log.{CallsOnce}
 use Rattle.lc_core.specs.Records.{front_of, span_of}
 use Rattle.lc_core.proofs.Faults.{call_tells}
-use Rattle.lc_core.proofs.Flushing.{some_reply, nothing_row, first_call, later_call, same_itself}
+use Rattle.lc_core.proofs.Spans.{leading_le}
+use Rattle.lc_core.proofs.Flushing.{some_reply, nothing_row, sealed_row, first_call, later_call, same_itself}
 use Rattle.lc_core.proofs.journal.Journal.flush_step.Goals.{then-is_idle+else-front-self, else-is_idle}
 use Rattle.lc_core.proofs.journal.Journal.flush_step.Goals as goal
+
+pub returns-then-is_sealed : goal.returns-then-is_sealed
+returns-then-is_sealed g c = record {
+  follows = λ node m s x h.
+      let w = c.args.self.now in
+      let sealed = sym c.is_sealed.ensures ∙ c.if-is_sealed.true in (
+        s,
+        sealed_row g.D.Area m node s x w.records w.dropped w.trimmed w.acked w.log w.taken h sealed (omega (arith, w.kept, w.dropped_acked)) (omega (arith, w.acked_taken, w.taken_closed))
+            (omega (arith, w.sealed sealed, leading_le w.records.records)),
+        same_itself g.D.Area m node s x w.records w.dropped w.trimmed w.acked,
+        h,
+      );
+  nothing = λ is. refl;
+  words = refl;
+  device = λ some. absurd (some refl);
+  fault = refl;
+}
 
 pub returns-then-front-self : goal.returns-then-front-self
 returns-then-front-self g c = record {
@@ -41,7 +59,7 @@ returns g c = record {
         | else-is_idle b ↦
             rw b.self-is
             (later_call g.D.Area m node s x k w.dropped w.trimmed w.acked w.log c.advance.new.self.log w.group.words w.taken h c.requires.up
-            (sym c.is_idle.ensures ∙ b.if-is_idle.false) w.dropped_acked w.acked_taken (rw b.self-is at c.advance.ensures.steps))
+            (sym c.is_idle.ensures ∙ b.if-is_idle.false) (sym c.is_sealed.ensures ∙ c.if-is_sealed.false) w.dropped_acked w.acked_taken (rw b.self-is at c.advance.ensures.steps))
       ]);
   nothing = λ is. absurd (some_reply g.D.Area c.advance.new.self.log c.if-is_idle.self.taken (sym c.advance.ensures.reply ∙ is));
   words = c.advance.ensures.room ∙ (elim c.if-is_idle.branch [

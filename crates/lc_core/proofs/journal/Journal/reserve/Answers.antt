@@ -1,4 +1,4 @@
-use Rattle.std.proofs.Common.{refl, ◌≤◌, ◌+◌, ℕ, arith, length, ap, sym, subst, ◌∙◌, inl, inr}
+use Rattle.std.proofs.Common.{refl, ◌≤◌, ◌+◌, ℕ, arith, length, ap, sym, subst, ◌∙◌, inl, inr, true≢false}
 use Rattle.lc_model.specs.Machine.{appended}
 use Rattle.lc_core.specs.Records.{Kept, count_of, span_of}
 use Rattle.lc_core.specs.Journal.{FitsLog}
@@ -44,8 +44,11 @@ invariant_of-self g c =
       short = w.short;
       log_room = w.log_room;
       room = omega (arith, some.1, e.end);
-      end = λ up. w.end up ∙ sym (ap length e.stable);
-      under_way = λ up busy. w.under_way up busy ∙ sym (ap length e.on_its_way);
+      end = λ up free. w.end up free ∙ sym (ap length e.stable);
+      under_way = λ up busy free. w.under_way up busy free ∙ sym (ap length e.on_its_way);
+      busy = w.busy;
+      sealed = λ is. absurd (true≢false (sym is ∙ c.requires.free));
+      emptied = w.emptied;
     }
 
 pub returns-clause-logs : goal.returns-clause-logs

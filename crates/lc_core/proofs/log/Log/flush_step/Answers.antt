@@ -5,7 +5,7 @@ pub returns-in-Ok : goal.returns-in-Ok
 returns-in-Ok g c = rw c.in-Idle.is (record {
   steps = λ stable records idle group. (refl, c.in-Ok.ensures.written stable records idle group);
   room = λ more fits up. omega (arith, fits refl, c.in-Ok.ensures.end, c.in-Ok.ensures.words, c.in-Ok.ensures.device.same_length);
-  ends = λ up. (refl, c.in-Ok.ensures.end, c.in-Ok.ensures.words);
+  ends = λ up. (refl, c.in-Ok.ensures.end, c.in-Ok.ensures.words, refl);
   device = record { after = _; there = refl; device = c.in-Ok.ensures.device; failures = c.in-Ok.ensures.no_cause };
 })
 
@@ -13,7 +13,7 @@ pub returns-in-Ok-sync_gate : goal.returns-in-Ok-sync_gate
 returns-in-Ok-sync_gate g c = rw c.in-Opened.is (record {
   steps = λ stable group opened. inl (refl, (refl, refl, c.in-Ok-sync_gate.ensures.flushed stable group opened));
   room = λ more fits up. omega (arith, fits refl, c.in-Ok-sync_gate.ensures.end, c.in-Ok-sync_gate.ensures.device.same_length);
-  ends = λ up. (refl, c.in-Ok-sync_gate.ensures.end, refl);
+  ends = λ up. (refl, c.in-Ok-sync_gate.ensures.end, refl, refl);
   device = record { after = _; there = refl; device = c.in-Ok-sync_gate.ensures.device; failures = c.in-Ok-sync_gate.ensures.no_cause };
 })
 

@@ -49,8 +49,8 @@ returns-in_err-number-in-Record-clause-err g c = on_err c.from_residual-in_err-n
 pub returns-in-Refused-clause-follows : goal.returns-in-Refused-clause-follows
 returns-in-Refused-clause-follows g c = λ m s x sound common h sealed.
     let w = c.args.self.now in
-    let log : LogEnd = record { end = c.end.result; room = w.journal.words; sealed = c.args.sealed } in
-    let ends = ends_at g.D.Area m c.args.node s x w c.end.result c.args.sealed h c.end.ensures sealed in
+    let log : LogEnd = record { end = c.end.result; room = w.journal.words; sealed = c.is_sealed.result } in
+    let ends = ends_at g.D.Area m c.args.node s x w c.end.result c.is_sealed.result h c.end.ensures (c.is_sealed.ensures ∙ sealed) in
     let all = c.in_ok-refusal.ensures.prepares m s x sound h.desk (numbers_fit m c.args.node w.desk.here s x h.slots) ends in
     let mine = subst (λ (ending : Ending). Ends m c.args.node c.args.thread s x log ending c.prepare.new.self) c.in-Refused.is all in
     stays_so g.D.Area m c.args.node (Reserve c.args.node c.args.thread) s x _ mine.0 (settled_by m s x (Reserve c.args.node c.args.thread) _ (λ e. absurd cc) mine.1) refl
@@ -65,8 +65,8 @@ returns-in-Refused-clause-follows g c = λ m s x sound common h sealed.
 pub returns-in-Empty-clause-follows : goal.returns-in-Empty-clause-follows
 returns-in-Empty-clause-follows g c = λ m s x sound common h sealed.
     let w = c.args.self.now in
-    let log : LogEnd = record { end = c.end.result; room = w.journal.words; sealed = c.args.sealed } in
-    let ends = ends_at g.D.Area m c.args.node s x w c.end.result c.args.sealed h c.end.ensures sealed in
+    let log : LogEnd = record { end = c.end.result; room = w.journal.words; sealed = c.is_sealed.result } in
+    let ends = ends_at g.D.Area m c.args.node s x w c.end.result c.is_sealed.result h c.end.ensures (c.is_sealed.ensures ∙ sealed) in
     let all = c.in_ok-refusal.ensures.prepares m s x sound h.desk (numbers_fit m c.args.node w.desk.here s x h.slots) ends in
     let mine = subst (λ (ending : Ending). Ends m c.args.node c.args.thread s x log ending c.prepare.new.self) c.in-Empty.is all in
     by_desk g.D.Area m c.args.node (Reserve c.args.node c.args.thread) s x Ended (dropped s c.args.node c.args.thread) mine.0
@@ -76,8 +76,8 @@ returns-in-Empty-clause-follows g c = λ m s x sound common h sealed.
 pub returns-in_ok-number-in-Record-clause-follows : goal.returns-in_ok-number-in-Record-clause-follows
 returns-in_ok-number-in-Record-clause-follows g c = λ m s x sound common h sealed.
     let w = c.args.self.now in
-    let log : LogEnd = record { end = c.end.result; room = w.journal.words; sealed = c.args.sealed } in
-    let ends = ends_at g.D.Area m c.args.node s x w c.end.result c.args.sealed h c.end.ensures sealed in
+    let log : LogEnd = record { end = c.end.result; room = w.journal.words; sealed = c.is_sealed.result } in
+    let ends = ends_at g.D.Area m c.args.node s x w c.end.result c.is_sealed.result h c.end.ensures (c.is_sealed.ensures ∙ sealed) in
     let all = c.in_ok-refusal.ensures.prepares m s x sound h.desk (numbers_fit m c.args.node w.desk.here s x h.slots) ends in
     let mine = subst (λ (ending : Ending). Ends m c.args.node c.args.thread s x log ending c.prepare.new.self) c.in-Record.is all in
     let ready = mine.0 in
@@ -113,22 +113,20 @@ returns-in_ok-number-in-Record-clause-follows g c = λ m s x sound common h seal
       };
       phase = refl;
       places = λ segment differ. refl;
-      disks = refl;
       resets = refl;
-      writes = refl;
     }
 
 pub returns-in_err-refusal-clause-memory : goal.returns-in_err-refusal-clause-memory
 returns-in_err-refusal-clause-memory g c = on_err c.from_residual.result _ (λ m s x sound h sealed.
     let w = c.args.self.now in
-    let ends = ends_at g.D.Area m c.args.node s x w c.end.result c.args.sealed h c.end.ensures sealed in
+    let ends = ends_at g.D.Area m c.args.node s x w c.end.result c.is_sealed.result h c.end.ensures (c.is_sealed.ensures ∙ sealed) in
     subst (GetsPlace m c.args.node c.args.thread s x) c.end.ensures (c.in_err-refusal.ensures.memory m s x sound h.desk (numbers_fit m c.args.node w.desk.here s x h.slots) ends))
 
 pub returns-in_err-number-in-Record-clause-memory : goal.returns-in_err-number-in-Record-clause-memory
 returns-in_err-number-in-Record-clause-memory g c = on_err c.from_residual-in_err-number-in-Record.result _ (λ m s x sound h sealed.
     let w = c.args.self.now in
-    let log : LogEnd = record { end = c.end.result; room = w.journal.words; sealed = c.args.sealed } in
-    let ends = ends_at g.D.Area m c.args.node s x w c.end.result c.args.sealed h c.end.ensures sealed in
+    let log : LogEnd = record { end = c.end.result; room = w.journal.words; sealed = c.is_sealed.result } in
+    let ends = ends_at g.D.Area m c.args.node s x w c.end.result c.is_sealed.result h c.end.ensures (c.is_sealed.ensures ∙ sealed) in
     let all = c.in_ok-refusal.ensures.prepares m s x sound h.desk (numbers_fit m c.args.node w.desk.here s x h.slots) ends in
     let ready = (subst (λ (ending : Ending). Ends m c.args.node c.args.thread s x log ending c.prepare.new.self) c.in-Record.is all).0 in
     subst (GetsPlace m c.args.node c.args.thread s x) c.end.ensures (record {

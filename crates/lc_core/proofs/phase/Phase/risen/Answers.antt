@@ -1,4 +1,4 @@
-use Rattle.std.proofs.Common.{◌≡◌, drop, List, refl, sym, ap, subst, ◌∙◌}
+use Rattle.std.proofs.Common.{drop, List, refl, sym, ap, subst, ◌∙◌}
 use Rattle.std.specs.Prelude.{slice_get}
 use Rattle.lc_record.specs.declared.geometry.Geometry.{Geometry}
 use Rattle.lc_recover.specs.Reads.{AreHonest, AreOfBytes, HaveLengths}
@@ -8,6 +8,9 @@ use Rattle.lc_core.specs.Recovering.{HasComeUp}
 use Rattle.lc_core.specs.declared.phase.Phase.TheVariants.{Up}
 use Rattle.lc_core.proofs.Recoveries.{down_same}
 use Rattle.lc_core.proofs.phase.Phase.risen.Goals as goal
+
+pub finish-requires : goal.finish-requires
+finish-requires g c = c.requires.done c.in-Down.recovery c.in-Down.is
 
 pub furnish-running-requires-clause-geometry : goal.furnish-running-requires-clause-geometry
 furnish-running-requires-clause-geometry g c = c.finish.ensures.geometry ∙ c.requires.geometry c.in-Down.recovery c.in-Down.is
@@ -40,7 +43,7 @@ returns g c r is =
         segments = c.furnish-running.ensures.areas
             ∙ ap (λ (v : Geometry). drop v.nodes c.finish.result.areas) c.finish.ensures.geometry
             ∙ ap (λ (areas : List g.row.D.Denot). drop c.in-Down.recovery.geometry.nodes areas) c.finish.ensures.areas;
-        rest = subst (λ (v : Geometry). RestsAll v c.furnish-running.result.1.items) c.finish.ensures.geometry c.furnish-running.ensures.rest;
+        rest = subst (λ (v : Geometry). RestsAll g.D.Area v c.furnish-running.result.1.items) c.finish.ensures.geometry c.furnish-running.ensures.rest;
       },
     ) in
     subst (λ (v : Recovering g.row.D.Denot). HasComeUp g.D.Area v (Up (record { running = c.furnish-running.result.0; segments = c.furnish-running.result.1 })))

@@ -1,13 +1,15 @@
-use Rattle.std.proofs.Common.{◌≡◌, ◌≤◌, length, None, sym, ap, subst, ◌∙◌, arith}
+use Rattle.std.proofs.Common.{◌≡◌, length, None, sym, ap, subst, ◌∙◌, arith}
 use Rattle.std.specs.Prelude.{slice_get}
 use Rattle.std.proofs.lemmas.List.{length-replicate}
 use Rattle.lc_record.specs.declared.geometry.Geometry.{Geometry}
 use Rattle.lc_core.specs.Blank.{IsBlankNode, IsFilledNode}
 use Rattle.lc_core.specs.Log.{area_of}
-use Rattle.lc_core.specs.Pages.{AreAtRest}
+use Rattle.lc_core.specs.PageState.{AreAtRest}
 use Rattle.lc_core.proofs.Furnishing.{all_back, each_same, named_none}
-use Rattle.lc_core.proofs.Opening.{filled_fresh, filled_whole, segments_left}
-use Rattle.lc_core.proofs.PageWrites.{rests_all}
+use Rattle.lc_record.proofs.PuttingLemmas.{at_drop}
+use Rattle.lc_core.specs.declared.page_state.PageState.TheVariants.{AtRest}
+use Rattle.lc_core.proofs.Opening.{filled_fresh, filled_whole, segment_len, segments_left}
+use Rattle.lc_core.proofs.PageWrites.{named_rest, rests_all}
 use Rattle.lc_core.proofs.room.Room.furnish.Goals as goal
 
 pub fill_nodes-requires : goal.fill_nodes-requires
@@ -45,8 +47,20 @@ with_areas-requires-clause-count g c =
     let segments = ap (λ (h : Geometry). h.segments) c.requires.geometry in
     omega (arith, left, segments, c.args.self.all_segments, c.open_logs-areas.result.ok.0)
 
+pub with_areas-requires-clause-long : goal.with_areas-requires-clause-long
+with_areas-requires-clause-long g c = λ k area states there got.
+    let states_are = c.args.self.rest k states got in
+    let pages = ap (λ (h : Geometry). h.pages) c.requires.geometry in
+    let some = ap length states_are ∙ length-replicate c.args.self.geometry.pages AtRest in
+    let at = at_drop c.args.recovered.geometry.nodes k c.args.recovered.areas in
+    let len = segment_len g.D.Area c.args.recovered.geometry c.args.recovered.areas k area c.requires.lengths (sym at ∙ ap (λ areas. slice_get areas k) (sym c.open_logs-areas.ensures.areas) ∙ there) in
+    omega (arith, some, len, pages, states.ok.0)
+
+pub with_areas-requires-clause-named : goal.with_areas-requires-clause-named
+with_areas-requires-clause-named g c = λ k states got. named_rest c.args.self.geometry states.items (c.args.self.rest k states got)
+
 pub returns-clause-rest : goal.returns-clause-rest
-returns-clause-rest g c = rests_all c.args.recovered.geometry c.with_areas.result.items c.args.self.writes.items c.with_areas.ensures.writes
+returns-clause-rest g c = rests_all g.D.Area c.args.recovered.geometry c.with_areas.result.items c.args.self.writes.items c.with_areas.ensures.writes
     (subst (λ (h : Geometry). AreAtRest h c.args.self.writes.items) (sym c.requires.geometry) c.args.self.rest)
 
 pub returns-clause-fresh : goal.returns-clause-fresh

@@ -8,7 +8,7 @@ use Rattle.lc_model.specs.declared.reply.Reply.TheVariants.{Ok as Accepted, Refu
 use Rattle.lc_core.specs.Places.{same_some}
 use Rattle.lc_core.specs.Slots.{FitsToken}
 use Rattle.lc_core.proofs.Onward.{onward, stays_onward, whole_set}
-use Rattle.lc_core.proofs.Travels.{named_set, not_writing, segment_known, travel_moved}
+use Rattle.lc_core.proofs.Travels.{named_set, segment_known, travel_moved}
 use Rattle.lc_core.proofs.Faults.{logs_stay}
 use Rattle.lc_core.proofs.running.Running.leave.Goals as goal
 
@@ -49,7 +49,7 @@ invariant_of-self-in-Err-1 g c =
 
 pub returns-in-Ok : goal.returns-in-Ok
 returns-in-Ok g c = record {
-  follows = λ m s x h common.
+  follows = λ m s x h common told.
       let w = c.args.self.now in
       let node = c.index_mut.result.now in
       let within : c.args.node < w.nodes.len = omega (arith, w.all_nodes, node_known w.geometry c.args.node (c.args.segment ∷ []) [] c.requires.known) in
@@ -57,7 +57,7 @@ returns-in-Ok g c = record {
       let segment = segment_known w.geometry c.args.node c.args.segment c.requires.known in
       let place : c.args.segment - 1 < length w.travelling.items = omega (arith, segment.0, segment.1, w.all_places, w.travelling.ok.0) in
       let named : (c.args.segment - 1) + 1 ≡ c.args.segment = omega (arith, segment.0) in
-      let left = c.in-Ok.ensures.follows m c.args.node s x h.sound common (h.each c.args.node node at) (not_writing w.geometry m s x c.args.segment h.writes) in
+      let left = c.in-Ok.ensures.follows m c.args.node s x h.sound common (h.each c.args.node node at) told in
       onward g.D.Area m c.args.node (Leave c.args.node c.args.segment) s x Accepted w.geometry w.nodes.items w.travelling.items h common node at c.leave.new.self left.0
       (slice_set w.travelling.items (c.args.segment - 1) (Some c.in-Ok.token))
       (travel_moved g.D.Area m c.args.node (Leave c.args.node c.args.segment) s x Accepted w.geometry w.nodes.items w.travelling.items h c.leave.new.self left.0 (c.args.segment - 1) _
@@ -78,7 +78,7 @@ returns-in-Ok g c = record {
 
 pub returns-in-Err : goal.returns-in-Err
 returns-in-Err g c = record {
-  follows = λ m s x h common.
+  follows = λ m s x h common told.
       let w = c.args.self.now in
       let node = c.index_mut.result.now in
       let within : c.args.node < w.nodes.len = omega (arith, w.all_nodes, node_known w.geometry c.args.node (c.args.segment ∷ []) [] c.requires.known) in
@@ -87,7 +87,7 @@ returns-in-Err g c = record {
       let place : c.args.segment - 1 < length w.travelling.items = omega (arith, segment.0, segment.1, w.all_places, w.travelling.ok.0) in
       let named : (c.args.segment - 1) + 1 ≡ c.args.segment = omega (arith, segment.0) in
       stays_onward g.D.Area m c.args.node (Leave c.args.node c.args.segment) s x (Refused c.in-Err.refusal) w.geometry w.nodes.items w.travelling.items h common node at c.leave.new.self
-      (c.in-Err.ensures.follows m c.args.node s x h.sound common (h.each c.args.node node at) (not_writing w.geometry m s x c.args.segment h.writes)) (λ k e. absurd (omega (arith, e)));
+      (c.in-Err.ensures.follows m c.args.node s x h.sound common (h.each c.args.node node at) told) (λ k e. absurd (omega (arith, e)));
   answer = c.in-Err.ensures.answer;
   logs =
       let w = c.args.self.now in

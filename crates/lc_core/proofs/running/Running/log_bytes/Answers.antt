@@ -25,8 +25,11 @@ invariant_of-index_mut g c =
       short = j.short;
       log_room = λ up. omega (arith, keeps.size, j.log_room (sym keeps.failed ∙ up));
       room = j.room;
-      end = λ up. keeps.end ∙ j.end (sym keeps.failed ∙ up);
-      under_way = λ up busy. keeps.under_way ∙ j.under_way (sym keeps.failed ∙ up) (sym keeps.idle ∙ busy);
+      end = λ up free. keeps.end ∙ j.end (sym keeps.failed ∙ up) (sym keeps.sealed ∙ free);
+      under_way = λ up busy free. keeps.under_way ∙ j.under_way (sym keeps.failed ∙ up) (sym keeps.idle ∙ busy) (sym keeps.sealed ∙ free);
+      busy = λ up busy free. j.busy (sym keeps.failed ∙ up) (sym keeps.idle ∙ busy) (sym keeps.sealed ∙ free);
+      sealed = λ is. j.sealed (sym keeps.sealed ∙ is);
+      emptied = λ is. keeps.end ∙ j.emptied (sym keeps.sealed ∙ is);
     }
 
 pub invariant_of-self : goal.invariant_of-self

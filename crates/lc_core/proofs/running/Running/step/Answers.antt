@@ -3,68 +3,68 @@ use Rattle.std.proofs.lemmas.Result.{IfOk-weaker}
 use Rattle.lc_model.specs.declared.event.Event.{Event}
 use Rattle.lc_model.specs.declared.event.Event.TheVariants.{Begin, SetRange, Write, Read, Abort, Reserve, Close, FlushStep, Leave, Arrive, Deliver, Trim}
 use Rattle.lc_core.specs.Stepping.{AsksMemory}
-use Rattle.lc_core.proofs.Ordinary.{follows_step, refused_step}
+use Rattle.lc_core.proofs.Ordinary.{follows_step, leaving_step, refused_step}
 use Rattle.lc_core.proofs.Faults.{quiet}
 use Rattle.lc_core.proofs.Refusing.{on_err}
 use Rattle.lc_core.proofs.running.Running.step.Goals as goal
 
 pub returns-in-Some-clause-follows : goal.returns-in-Some-clause-follows
-returns-in-Some-clause-follows g c = refused_step g.D.Area c.args.self.now c.args.event.now c.refusal.result c.refusal.ensures.refused c.in-Some.refusal c.in-Some.is c.requires.plain
+returns-in-Some-clause-follows g c = refused_step g.D.Area c.args.self.now c.args.event.now c.refusal.result c.refusal.ensures.refused c.args.writing c.in-Some.refusal c.in-Some.is c.requires.plain
 
 pub returns-in-Begin-clause-follows : goal.returns-in-Begin-clause-follows
 returns-in-Begin-clause-follows g c = IfOk-weaker c.begin.result _ _
-    (λ reply follows. follows_step g.D.Area c.args.self.now c.args.event.now c.refusal.result c.refusal.ensures.refused (Begin c.in-Begin.node c.in-Begin.thread c.as_slice.result.now c.as_slice-in-Begin.result.now) reply c.begin.new.self c.in_default.is (c.in-Begin.is ∙ ap (λ l. Begin c.in-Begin.node c.in-Begin.thread l c.in-Begin.reading) (sym c.as_slice.ensures) ∙ ap (λ l. Begin c.in-Begin.node c.in-Begin.thread c.as_slice.result.now l) (sym c.as_slice-in-Begin.ensures)) follows)
+    (λ reply follows. follows_step g.D.Area c.args.self.now c.args.event.now c.refusal.result c.refusal.ensures.refused c.args.writing (Begin c.in-Begin.node c.in-Begin.thread c.as_slice.result.now c.as_slice-in-Begin.result.now) reply c.begin.new.self c.in_default.is (c.in-Begin.is ∙ ap (λ l. Begin c.in-Begin.node c.in-Begin.thread l c.in-Begin.reading) (sym c.as_slice.ensures) ∙ ap (λ l. Begin c.in-Begin.node c.in-Begin.thread c.as_slice.result.now l) (sym c.as_slice-in-Begin.ensures)) follows)
     c.begin.ensures.follows
 
 pub returns-in-SetRange-clause-follows : goal.returns-in-SetRange-clause-follows
 returns-in-SetRange-clause-follows g c = IfOk-weaker c.set_range.result _ _
-    (λ reply follows. follows_step g.D.Area c.args.self.now c.args.event.now c.refusal.result c.refusal.ensures.refused (SetRange c.in-SetRange.node c.in-SetRange.thread c.in-SetRange.segment c.in-SetRange.offset c.in-SetRange.len) reply c.set_range.new.self c.in_default.is (c.in-SetRange.is) follows)
+    (λ reply follows. follows_step g.D.Area c.args.self.now c.args.event.now c.refusal.result c.refusal.ensures.refused c.args.writing (SetRange c.in-SetRange.node c.in-SetRange.thread c.in-SetRange.segment c.in-SetRange.offset c.in-SetRange.len) reply c.set_range.new.self c.in_default.is (c.in-SetRange.is) follows)
     c.set_range.ensures.follows
 
 pub returns-in-SetRange-clause-memory : goal.returns-in-SetRange-clause-memory
 returns-in-SetRange-clause-memory g c = subst (λ (v : Event). OnErr c.set_range.result (AsksMemory g.D.Area c.args.self.now v)) (sym c.in-SetRange.is) c.set_range.ensures.memory
 
 pub returns-in-Write-clause-follows : goal.returns-in-Write-clause-follows
-returns-in-Write-clause-follows g c = follows_step g.D.Area c.args.self.now c.args.event.now c.refusal.result c.refusal.ensures.refused (Write c.in-Write.node c.in-Write.thread c.in-Write.segment c.in-Write.offset c.as_slice-in-Write.result.now) c.write.result c.write.new.self c.in_default.is (c.in-Write.is ∙ ap (λ l. Write c.in-Write.node c.in-Write.thread c.in-Write.segment c.in-Write.offset l) (sym c.as_slice-in-Write.ensures)) c.write.ensures.follows
+returns-in-Write-clause-follows g c = follows_step g.D.Area c.args.self.now c.args.event.now c.refusal.result c.refusal.ensures.refused c.args.writing (Write c.in-Write.node c.in-Write.thread c.in-Write.segment c.in-Write.offset c.as_slice-in-Write.result.now) c.write.result c.write.new.self c.in_default.is (c.in-Write.is ∙ ap (λ l. Write c.in-Write.node c.in-Write.thread c.in-Write.segment c.in-Write.offset l) (sym c.as_slice-in-Write.ensures)) c.write.ensures.follows
 
 pub returns-in-Read-clause-follows : goal.returns-in-Read-clause-follows
 returns-in-Read-clause-follows g c = IfOk-weaker c.read.result _ _
-    (λ reply follows. follows_step g.D.Area c.args.self.now c.args.event.now c.refusal.result c.refusal.ensures.refused (Read c.in-Read.node c.in-Read.thread c.in-Read.segment c.in-Read.offset c.in-Read.len) reply c.read.new.self c.in_default.is (c.in-Read.is) follows)
+    (λ reply follows. follows_step g.D.Area c.args.self.now c.args.event.now c.refusal.result c.refusal.ensures.refused c.args.writing (Read c.in-Read.node c.in-Read.thread c.in-Read.segment c.in-Read.offset c.in-Read.len) reply c.read.new.self c.in_default.is (c.in-Read.is) follows)
     c.read.ensures.follows
 
 pub returns-in-Abort-clause-follows : goal.returns-in-Abort-clause-follows
-returns-in-Abort-clause-follows g c = follows_step g.D.Area c.args.self.now c.args.event.now c.refusal.result c.refusal.ensures.refused (Abort c.in-Abort.node c.in-Abort.thread) c.abort.result c.abort.new.self c.in_default.is (c.in-Abort.is) c.abort.ensures.follows
+returns-in-Abort-clause-follows g c = follows_step g.D.Area c.args.self.now c.args.event.now c.refusal.result c.refusal.ensures.refused c.args.writing (Abort c.in-Abort.node c.in-Abort.thread) c.abort.result c.abort.new.self c.in_default.is (c.in-Abort.is) c.abort.ensures.follows
 
 pub returns-in-Reserve-clause-follows : goal.returns-in-Reserve-clause-follows
 returns-in-Reserve-clause-follows g c = IfOk-weaker c.reserve.result _ _
-    (λ reply follows. follows_step g.D.Area c.args.self.now c.args.event.now c.refusal.result c.refusal.ensures.refused (Reserve c.in-Reserve.node c.in-Reserve.thread) reply c.reserve.new.self c.in_default.is (c.in-Reserve.is) follows)
+    (λ reply follows. follows_step g.D.Area c.args.self.now c.args.event.now c.refusal.result c.refusal.ensures.refused c.args.writing (Reserve c.in-Reserve.node c.in-Reserve.thread) reply c.reserve.new.self c.in_default.is (c.in-Reserve.is) follows)
     c.reserve.ensures.follows
 
 pub returns-in-Reserve-clause-memory : goal.returns-in-Reserve-clause-memory
 returns-in-Reserve-clause-memory g c = subst (λ (v : Event). OnErr c.reserve.result (AsksMemory g.D.Area c.args.self.now v)) (sym c.in-Reserve.is) c.reserve.ensures.memory
 
 pub returns-in-Close-clause-follows : goal.returns-in-Close-clause-follows
-returns-in-Close-clause-follows g c = follows_step g.D.Area c.args.self.now c.args.event.now c.refusal.result c.refusal.ensures.refused (Close c.in-Close.node c.in-Close.thread) c.close.result c.close.new.self c.in_default.is (c.in-Close.is) c.close.ensures.follows
+returns-in-Close-clause-follows g c = follows_step g.D.Area c.args.self.now c.args.event.now c.refusal.result c.refusal.ensures.refused c.args.writing (Close c.in-Close.node c.in-Close.thread) c.close.result c.close.new.self c.in_default.is (c.in-Close.is) c.close.ensures.follows
 
 pub returns-in-FlushStep-clause-follows : goal.returns-in-FlushStep-clause-follows
-returns-in-FlushStep-clause-follows g c = follows_step g.D.Area c.args.self.now c.args.event.now c.refusal.result c.refusal.ensures.refused (FlushStep c.in-FlushStep.node) c.flush_step.result c.flush_step.new.self c.in_default.is (c.in-FlushStep.is) c.flush_step.ensures.follows
+returns-in-FlushStep-clause-follows g c = follows_step g.D.Area c.args.self.now c.args.event.now c.refusal.result c.refusal.ensures.refused c.args.writing (FlushStep c.in-FlushStep.node) c.flush_step.result c.flush_step.new.self c.in_default.is (c.in-FlushStep.is) c.flush_step.ensures.follows
 
 pub returns-in-Leave-clause-follows : goal.returns-in-Leave-clause-follows
-returns-in-Leave-clause-follows g c = follows_step g.D.Area c.args.self.now c.args.event.now c.refusal.result c.refusal.ensures.refused (Leave c.in-Leave.node c.in-Leave.segment) c.leave.result c.leave.new.self c.in_default.is (c.in-Leave.is) c.leave.ensures.follows
+returns-in-Leave-clause-follows g c = leaving_step g.D.Area c.args.self.now c.args.event.now c.refusal.result c.refusal.ensures.refused c.args.writing c.in-Leave.node c.in-Leave.segment c.leave.result c.leave.new.self c.in_default.is c.in-Leave.is c.leave.ensures.follows
 
 pub returns-in-Arrive-clause-follows : goal.returns-in-Arrive-clause-follows
-returns-in-Arrive-clause-follows g c = follows_step g.D.Area c.args.self.now c.args.event.now c.refusal.result c.refusal.ensures.refused (Arrive c.in-Arrive.node c.in-Arrive.segment) c.arrive.result c.arrive.new.self c.in_default.is (c.in-Arrive.is) c.arrive.ensures.follows
+returns-in-Arrive-clause-follows g c = follows_step g.D.Area c.args.self.now c.args.event.now c.refusal.result c.refusal.ensures.refused c.args.writing (Arrive c.in-Arrive.node c.in-Arrive.segment) c.arrive.result c.arrive.new.self c.in_default.is (c.in-Arrive.is) c.arrive.ensures.follows
 
 pub returns-in-Deliver-clause-follows : goal.returns-in-Deliver-clause-follows
 returns-in-Deliver-clause-follows g c = IfOk-weaker c.deliver.result _ _
-    (λ reply follows. follows_step g.D.Area c.args.self.now c.args.event.now c.refusal.result c.refusal.ensures.refused (Deliver c.in-Deliver.sender c.in-Deliver.number c.in-Deliver.segment c.in-Deliver.to) reply c.deliver.new.self c.in_default.is (c.in-Deliver.is) follows)
+    (λ reply follows. follows_step g.D.Area c.args.self.now c.args.event.now c.refusal.result c.refusal.ensures.refused c.args.writing (Deliver c.in-Deliver.sender c.in-Deliver.number c.in-Deliver.segment c.in-Deliver.to) reply c.deliver.new.self c.in_default.is (c.in-Deliver.is) follows)
     c.deliver.ensures.follows
 
 pub returns-in-Deliver-clause-memory : goal.returns-in-Deliver-clause-memory
 returns-in-Deliver-clause-memory g c = subst (λ (v : Event). OnErr c.deliver.result (AsksMemory g.D.Area c.args.self.now v)) (sym c.in-Deliver.is) c.deliver.ensures.memory
 
 pub returns-in-Trim-clause-follows : goal.returns-in-Trim-clause-follows
-returns-in-Trim-clause-follows g c = follows_step g.D.Area c.args.self.now c.args.event.now c.refusal.result c.refusal.ensures.refused (Trim c.in-Trim.node) c.trim.result c.trim.new.self c.in_default.is (c.in-Trim.is) c.trim.ensures.follows
+returns-in-Trim-clause-follows g c = follows_step g.D.Area c.args.self.now c.args.event.now c.refusal.result c.refusal.ensures.refused c.args.writing (Trim c.in-Trim.node) c.trim.result c.trim.new.self c.in_default.is (c.in-Trim.is) c.trim.ensures.follows
 
 pub returns-in-Some-clause-faults : goal.returns-in-Some-clause-faults
 returns-in-Some-clause-faults g c = quiet g.D.Area c.args.self.now _ c.args.self.now (c.refusal.ensures.answer c.in-Some.refusal c.in-Some.is) refl

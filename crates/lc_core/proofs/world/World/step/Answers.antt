@@ -1,5 +1,7 @@
 use Rattle.std.proofs.lemmas.Result.{IfOk-weaker}
-use Rattle.lc_core.proofs.Failures.{up_counts, up_still_failed}
+use Rattle.std.proofs.Common.{sym, ap, subst, ◌∙◌}
+use Rattle.lc_core.specs.Faults.{CountsPhase, phase_failures}
+use Rattle.lc_core.specs.declared.phase.Phase.{Phase}
 use Rattle.lc_core.proofs.Logged.{err_then}
 use Rattle.lc_core.proofs.Recovers.{IfOk-any, down_refuses, up_asks}
 use Rattle.lc_core.specs.declared.phase.Phase.TheVariants.{Up}
@@ -11,7 +13,7 @@ step-requires g c = record { plain = common_plain c.args.event.now c.requires.co
 
 pub returns-in-Up-clause-follows : goal.returns-in-Up-clause-follows
 returns-in-Up-clause-follows g c = IfOk-weaker c.step.result _ _
-    (λ reply follows. up_follows g.D.Area c.args.self.now.phase c.in-Up.up c.args.event.now reply c.step.new.self c.in-Up.is (common_plain c.args.event.now c.requires.common c.in_default.not-RecoverStep) follows)
+    (λ reply follows. up_follows g.D.Area c.args.self.now.phase c.in-Up.up c.step.new.self c.args.event.now reply c.in-Up.is follows)
     c.step.ensures.follows
 
 pub returns-in-Up-clause-err : goal.returns-in-Up-clause-err
@@ -19,15 +21,15 @@ returns-in-Up-clause-err g c = err_then c.step.result c.step.ensures.err (up_sti
 
 pub returns-in-Up-clause-faults : goal.returns-in-Up-clause-faults
 returns-in-Up-clause-faults g c = IfOk-weaker c.step.result _ _
-    (λ reply counts. up_counts g.D.Area c.args.self.now.phase c.in-Up.up reply c.step.new.self c.in-Up.is counts)
+    (λ reply counts. subst (λ (p : Phase g.row.D.Denot g.D.Area). CountsPhase g.D.Area p reply (Up c.step.new.self)) (sym c.in-Up.is) counts)
     c.step.ensures.faults
 
 pub returns-in-Up-clause-no_fault : goal.returns-in-Up-clause-no_fault
-returns-in-Up-clause-no_fault g c = err_then c.step.result c.step.ensures.no_fault (up_still_failed g.D.Area c.args.self.now.phase c.in-Up.up c.step.new.self c.in-Up.is)
+returns-in-Up-clause-no_fault g c = err_then c.step.result c.step.ensures.no_fault (λ same. same ∙ ap (phase_failures g.D.Area) (sym c.in-Up.is))
 
 pub returns-in-Up-clause-at_once : goal.returns-in-Up-clause-at_once
 returns-in-Up-clause-at_once g c = IfOk-any c.step.result
-    (λ reply. up_asks g.D.Area c.args.self.now.phase c.in-Up.up c.in-Up.is c.args.event.now c.in_default.not-RecoverStep reply (Up (record c.in-Up.up { running = c.step.new.self })))
+    (λ reply. up_asks g.D.Area c.args.self.now.phase c.in-Up.up c.in-Up.is c.args.event.now c.in_default.not-RecoverStep reply (Up c.step.new.self))
 
 pub returns-in-Up-clause-recovers : goal.returns-in-Up-clause-recovers
 returns-in-Up-clause-recovers g c is = absurd (c.in_default.not-RecoverStep is)

@@ -1,0 +1,46 @@
+//! What a store that is up does.
+ghost use Rattle.std.specs.Prelude.{◌≡◌, ℕ, true, IfOk, OnErr};
+ghost use Rattle.lc_model.specs.State.{Setting};
+ghost use Rattle.lc_core.specs.Faults.{CountsPhase, phase_failures};
+ghost use Rattle.lc_core.specs.Numbers.{Numbers};
+ghost use Rattle.lc_core.specs.Pages.{FitsPages};
+ghost use Rattle.lc_core.specs.Stepping.{AsksMemory, TellsWriting, is_plain};
+ghost use Rattle.lc_core.specs.World.{FollowsUp, StillFitsUp};
+ghost use Rattle.lc_core.specs.declared.phase.Phase.TheVariants.{Up as IsUp};
+
+use crate::up::Up;
+use crate::{Event, Reply};
+use lc_disk::Area;
+use std::alloc::{AllocError, Global};
+
+impl<D: Area + Drop> Up<D> {
+    /// An event that is no step of a page write or of a reset, no stop and no step of a recovery. Where memory is wanted
+    /// nothing has changed.
+    pub(crate) fn step(&mut self, alloc: Global, event: &Event) -> Result<Reply, AllocError>
+        requires plain { is_plain event.now ≡ true }
+        ensures follows { IfOk result (λ reply. FollowsUp D.Area self.old event.now reply self.new) }
+        ensures memory { OnErr result (AsksMemory D.Area self.old.running event.now) }
+        ensures err { OnErr result (StillFitsUp D.Area self.old self.new) }
+        ensures faults { IfOk result (λ reply. CountsPhase D.Area (IsUp self.old) reply (IsUp self.new)) }
+        ensures no_fault { OnErr result (phase_failures D.Area (IsUp self.new) ≡ phase_failures D.Area (IsUp self.old)) }
+    {
+        let writing = self.is_writing(event);
+        self.running.step(alloc, event, writing)
+    }
+
+    // Whether a page is being written of the segment whose token is to leave.
+    fn is_writing(&self, event: &Event) -> bool
+        ensures { (m : Setting) (x : Numbers) → FitsPages D.Area m self.now.segments.items x → TellsWriting m x event.now result }
+    {
+        let Event::Leave { segment, .. } = event else {
+            return false;
+        };
+        let Some(place) = (*segment as usize).checked_sub(1) else {
+            return false;
+        };
+        match self.segments.get(place) {
+            Some(pages) => pages.is_writing(),
+            None => false,
+        }
+    }
+}
