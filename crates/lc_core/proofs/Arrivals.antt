@@ -115,10 +115,10 @@ unlocked_answer : (m : Setting) (s : State) (x : Numbers) (sender number segment
 unlocked_answer m s x sender number segment to r found none = deliver_settled m s x sender number segment to None found.0 found.1 found.2 (ap (number_of segment) found.3 ∙ none)
 
 -- no other number is touched
-same_resets : (x : Numbers) (n segment number : ℕ) (answer : Received) → (received_numbers x n segment number answer).reset ≡ x.reset
-same_resets x n segment number (Applied last) = refl
-same_resets x n segment number HeldBack = refl
-same_resets x n segment number Ignored = refl
+same_rounds : (x : Numbers) (n segment number : ℕ) (answer : Received) → (received_numbers x n segment number answer).round ≡ x.round
+same_rounds x n segment number (Applied last) = refl
+same_rounds x n segment number HeldBack = refl
+same_rounds x n segment number Ignored = refl
 
 same_known : (x : Numbers) (n segment number : ℕ) (answer : Received) → (received_numbers x n segment number answer).known ≡ x.known
 same_known x n segment number (Applied last) = refl
@@ -161,11 +161,11 @@ module _ {D : Type 0} (a : Ghosts D) where
           slots = step.2;
           journal = let w = old.journal in log_received a m n n s x segment part.own answer w.log w.records w.dropped w.trimmed w.taken w.acked h.journal;
           room = h.room;
+          round = h.round ∙ sym (ap (λ f. f n) (same_rounds x n segment part.own answer));
           known = λ any first last. h.known any first last ∙ sym (ap (λ f. f n any) (same_known x n segment part.own answer));
         };
         phase = refl;
         places = λ other differ. refl;
-        resets = same_resets x n segment part.own answer;
       }
 
   -- the node of a number, which has a slot for each segment

@@ -1,5 +1,5 @@
 -- A node closes a reservation.
-use Rattle.std.proofs.Common.{◌≡◌, ℕ, Bool, true, false, [], ◌∷◌, Option, Some, None, refl, sym, ap}
+use Rattle.std.proofs.Common.{◌≡◌, ℕ, Bool, true, false, [], ◌∷◌, Option, Some, None, refl, sym, ap, ◌∙◌}
 use Rattle.std.specs.Prelude.{slice_get, option_map, find, if◌then◌else◌}
 use Rattle.lc_disk.specs.declared.area.Area.{Ghosts}
 use Rattle.lc_record.specs.Transaction.{Transaction}
@@ -55,10 +55,10 @@ module _ {D : Type 0} (a : Ghosts D) (m : Setting) (n thread : ℕ) (s : State) 
       let none = not_unclosed old.desk.here n thread _ s seat (h.desk.threads thread seat at) (counts.0 seat at) in
       stays_so a m n (Close n thread) s x (Refused OutOfTurn) (close-no_turn m s n thread none)
       (settled_by m s x (Close n thread) (Refused OutOfTurn) (λ e. absurd cc) (λ answer is. absurd cc)) refl
-      (record { desk = rw (counts.1, counts.2) h.desk; slots = rw counts.1 h.slots; journal = h.journal; room = h.room; known = h.known })
+      (record { desk = rw (counts.1, counts.2) h.desk; slots = rw counts.1 h.slots; journal = h.journal; room = h.room; round = h.round; known = h.known })
 
   module _ (number : ℕ) (counted new : Desk) (journal : Journal D a) (counts : CountsSeat thread old.desk (Some number) counted) (closes : Closes thread counted new)
-      (alike : the_images.IsSameBeside counted.here new.here) (shuts : Shuts a old.journal number journal) (group : journal.group ≡ old.journal.group) where
+      (alike : the_images.IsSameBeside counted.here new.here) (shuts : Shuts a old.journal number journal) (group : journal.group ≡ old.journal.group) (round : journal.round ≡ old.journal.round) where
     pub closes_one : GoesOn a m n (Close n thread) s x Accepted (record { desk = new; journal = journal; known = old.known })
     closes_one =
         let tx = counts.0 in
@@ -89,6 +89,7 @@ module _ {D : Type 0} (a : Ghosts D) (m : Setting) (n thread : ℕ) (s : State) 
               dropped = logs.dropped;
               trimmed = logs.trimmed;
               reset = logs.reset;
+              round = logs.round;
             };
             slots = aside_closed m n thread s x t sound fits.found;
             known = λ other segment differ. refl;
@@ -110,9 +111,9 @@ module _ {D : Type 0} (a : Ghosts D) (m : Setting) (n thread : ℕ) (s : State) 
               reset_is = shut.reset_is;
             };
             room = rw group h.room;
+            round = round ∙ h.round;
             known = h.known;
           };
           phase = refl;
           places = λ segment differ. refl;
-          resets = refl;
         }

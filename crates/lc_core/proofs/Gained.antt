@@ -103,6 +103,7 @@ module _ (m : Setting) (s : State) (x : Numbers) (applied : ℕ → ℕ → ℕ)
     dropped = λ other differ. refl;
     trimmed = λ other differ. refl;
     reset = λ other differ. refl;
+    round = λ other differ. refl;
   }
 
   log_gained : {D : Type 0} (a : Ghosts D) (n : ℕ) (log : Log D a) (kept : Kept) (dropped trimmed taken acked : ℕ)

@@ -55,7 +55,7 @@ logged_state n s after same =
     ∙ ap (λ v. record after { earlier = s.earlier; history = s.history; running = s.running; place = v }) same.place
     ∙ ap (λ v. record after { earlier = s.earlier; history = s.history; running = s.running; place = s.place; phase = v }) same.phase
 
-desk_logged : (m : Setting) (n : ℕ) (w : Desk) (s after : State) → SameButLog n s after → FitsDesk m n w.here w.seats.items s → FitsDesk m n w.here w.seats.items after
+pub desk_logged : (m : Setting) (n : ℕ) (w : Desk) (s after : State) → SameButLog n s after → FitsDesk m n w.here w.seats.items s → FitsDesk m n w.here w.seats.items after
 desk_logged m n w s after same h = subst (FitsDesk m n w.here w.seats.items) (sym (logged_state n s after same)) seen
   where
     seat_seen : (j : ℕ) (seat : Seat) → FitsSeat w.here n j (value m.start s.earlier s.history) s seat → FitsSeat w.here n j (value m.start s.earlier s.history) (record s { ack = after.ack; halted = after.halted; flush = after.flush }) seat
@@ -117,7 +117,6 @@ module _ {D : Type 0} (a : Ghosts D) where
         fits = fits;
         phase = refl;
         places = λ segment differ. refl;
-        resets = refl;
       }
 
   module _ (m : Setting) (n : ℕ) (event : Event) (s : State) (x : Numbers) (reply : Reply) (after : State) (row : Row m s event reply after)
@@ -142,17 +141,17 @@ module _ {D : Type 0} (a : Ghosts D) where
         slots = slots_alike m n old.desk.here new.here after x seen (slots_same m n (besides_of old.desk.here) s after x same.earlier same.history h.slots);
         journal = journal_open m n old.journal s x after same h.journal;
         room = h.room;
+        round = h.round;
         known = h.known;
       };
       phase = same.phase;
       places = λ segment differ. ap (λ f. f segment) same.place;
-      resets = refl;
     }
 
     -- by a call of the log
-    pub by_log : (new : Journal D a) → SameButLog n s after → new.group.room ≡ old.journal.group.room → FitsJournal a m n new after x
+    pub by_log : (new : Journal D a) → SameButLog n s after → new.group.room ≡ old.journal.group.room → new.round ≡ old.journal.round → FitsJournal a m n new after x
         → GoesOn a m n event s x reply (record { desk = old.desk; journal = new; known = old.known })
-    by_log new same room fits = record {
+    by_log new same room round fits = record {
       after = after;
       next = x;
       row = row;
@@ -169,9 +168,9 @@ module _ {D : Type 0} (a : Ghosts D) where
         slots = slots_same m n (besides_of old.desk.here) s after x same.earlier same.history h.slots;
         journal = fits;
         room = room ∙ h.room;
+        round = round ∙ h.round;
         known = h.known;
       };
       phase = same.phase;
       places = λ segment differ. ap (λ f. f segment) same.place;
-      resets = refl;
     }

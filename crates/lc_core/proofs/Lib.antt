@@ -46,6 +46,7 @@ pub mod Counting
 pub mod CountedDesk
 pub mod Closing
 pub mod Oldest
+pub mod Emptying
 pub mod OnPages
 pub mod TokenWritten
 pub mod Onward
@@ -68,6 +69,7 @@ pub mod OneMore
 pub mod PageTurns
 pub mod PageImages
 pub mod Rising
+pub mod ResetRows
 pub mod Sealing
 pub mod Recoveries
 pub mod Furnishing

@@ -234,6 +234,7 @@ module _ {D : Type 0} (a : Ghosts D) where
       slots = subst (λ (d : Desk). FitsSlots m n (besides_of d.here) s x) (sym kept.desk) h.slots;
       journal = rw (kept.journal.records, kept.journal.dropped, kept.journal.trimmed, kept.journal.taken, kept.journal.acked) log_still;
       room = ap (λ (group : Group). group.room) kept.journal.group ∙ h.room;
+      round = kept.journal.round ∙ h.round;
       known = λ segment first last. ap (λ (ns : List ℕ). known_of ns segment) kept.known ∙ h.known segment first last;
     }
       where

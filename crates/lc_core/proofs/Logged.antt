@@ -200,7 +200,7 @@ module _ {D : Type 0} (a : Ghosts D) (m : Setting) (node : ℕ) (s : State) (x :
     length-map (entries_of node s.history) (λ (e : Entry). e.closed),
   )
 
-  as_many : length records ≡ reserved node s.history
+  pub as_many : length records ≡ reserved node s.history
   as_many = length-records x.disks.numbers (base m s) node (transactions s.history) ∙ sym (reserved-count node s.history)
 
   -- the end of its records is the machine's

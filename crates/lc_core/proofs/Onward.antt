@@ -52,6 +52,7 @@ module _ {D : Type 0} (a : Ghosts D) where
     slots = slots_beside m n k (besides_of node.desk.here) s x after next aside.slots differ (places_at m k node.desk.here node.desk.seats.items s h.desk) h.slots;
     journal = let w = node.journal in log_beside a m n k s x after next differ aside.logs w.log w.records w.dropped w.trimmed w.taken w.acked h.journal;
     room = h.room;
+    round = h.round ∙ sym (aside.logs.round k differ);
     known = λ segment first last. h.known segment first last ∙ sym (aside.known k segment differ);
   }
 
@@ -80,7 +81,6 @@ module _ {D : Type 0} (a : Ghosts D) where
         each = each_set {P = λ k node. FitsNode a m k node s x} {Q = λ k node. FitsNode a m k node goes.after goes.next} nodes n old new at h.each goes.fits
             (λ k node differ fits. node_beside m n k s x goes.after goes.next node differ goes.aside fits);
         on_the_way = on_the_way;
-        resets = λ node. ap (λ f. f node) goes.resets ∙ h.resets node;
       };
     }
       where
@@ -127,7 +127,6 @@ module _ {D : Type 0} (a : Ghosts D) where
     coherent = h.coherent;
     each = each_set {P = λ k node. FitsNode a m k node s x} {Q = λ k node. FitsNode a m k node s x} nodes n old new at h.each (still (h.each n old at)) (λ k node differ fits. fits);
     on_the_way = h.on_the_way;
-    resets = h.resets;
   }
 
   pub desk_still : (m : Setting) (n : ℕ) (s : State) (x : Numbers) (old : Node D a) (new : Desk) → StillFits old.desk new → the_images.IsSameBeside old.desk.here new.here
@@ -137,5 +136,6 @@ module _ {D : Type 0} (a : Ghosts D) where
     slots = slots_alike m n old.desk.here new.here s x beside h.slots;
     journal = h.journal;
     room = h.room;
+    round = h.round;
     known = h.known;
   }

@@ -102,6 +102,7 @@ module _ {D : Type 0} (a : Ghosts D) where
           trimmed = its.journal.trimmed;
           taken = its.journal.taken;
           acked = its.journal.acked;
+          round = its.journal.round;
           known = its.known;
         });
         travelling = none ∙ ap (λ (h : Geometry). replicate h.segments None) (sym same);

@@ -35,7 +35,7 @@ turns_refused m s x (Arrive node segment) refusal plain = refl
 turns_refused m s x (Deliver sender number segment to) refusal plain = refl
 turns_refused m s x (Trim node) refusal plain = refl
 turns_refused m s x (PageStep node segment page) refusal plain = absurd cc
-turns_refused m s x (ResetStep node) refusal plain = absurd cc
+turns_refused m s x (ResetStep node) refusal plain = refl
 turns_refused m s x (Stop choices) refusal plain = absurd cc
 turns_refused m s x RecoverStep refusal plain = absurd cc
 

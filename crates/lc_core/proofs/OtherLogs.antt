@@ -52,6 +52,7 @@ logs_open m node s after x same = record {
   dropped = λ other differ. refl;
   trimmed = λ other differ. refl;
   reset = λ other differ. refl;
+  round = λ other differ. refl;
 }
 
 pub logs_logged : (m : Setting) (node : ℕ) (s after : State) (x : Numbers) → SameButLog node s after → BesideLogs m node s x after x
@@ -64,6 +65,7 @@ logs_logged m node s after x same = record {
   dropped = λ other differ. refl;
   trimmed = λ other differ. refl;
   reset = λ other differ. refl;
+  round = λ other differ. refl;
 }
 
 pub logs_appended : (m : Setting) (node i : ℕ) (s : State) (x : Numbers) (t : Transaction) → running_of node i s ≡ Some t → BesideLogs m node s x (appended s t) x
@@ -83,6 +85,7 @@ logs_appended m node i s x t running = record {
   dropped = λ other differ. refl;
   trimmed = λ other differ. refl;
   reset = λ other differ. refl;
+  round = λ other differ. refl;
 }
   where
     not_its : (other : ℕ) → other ≢ node → is_of other t ≡ false
@@ -102,6 +105,7 @@ logs_closed m node i s x = record {
   dropped = λ other differ. refl;
   trimmed = λ other differ. refl;
   reset = λ other differ. refl;
+  round = λ other differ. refl;
 }
   where
     same_mark : (other : ℕ) → other ≢ node → (t : Transaction) (closed : Bool) → is_of other t ≡ true → (shut node i (entry t closed)).closed ≡ closed

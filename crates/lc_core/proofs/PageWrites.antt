@@ -1,5 +1,5 @@
 -- How the pages of the areas stand, where nothing changes them, and what is done beside them.
-use Rattle.std.proofs.Common.{◌≡◌, ℕ, ◌+◌, List, map, sym, ap, subst, ◌∙◌}
+use Rattle.std.proofs.Common.{Option, ◌≡◌, ℕ, ◌+◌, List, map, sym, ap, subst, ◌∙◌}
 use Rattle.std.specs.Prelude.{slice_get}
 use Rattle.std.specs.Global.{Vec}
 use Rattle.lc_disk.specs.declared.area.Area.{Ghosts}
@@ -10,7 +10,6 @@ use Rattle.lc_page.specs.Writing.{IsUnderWay, calls_of, draft_of}
 use Rattle.lc_page.specs.declared.page_text.PageText.{PageText}
 use Rattle.lc_model.specs.Merge.{Page as StorePage}
 use Rattle.lc_model.specs.State.{Setting}
-use Rattle.lc_model.specs.Stored.{Disks}
 use Rattle.lc_core.specs.Numbers.{Numbers}
 use Rattle.lc_core.proofs.Closes.{get-map}
 use Rattle.lc_core.proofs.Rising.{get-replicate}
@@ -38,16 +37,23 @@ begun_same segment page calls new x y same h = record {
 }
 
 -- what the numbers say of all pages
-abbrev pub of_pages : Numbers → Disks × (ℕ → ℕ → ℕ) × (ℕ → ℕ → PageText)
-of_pages x = (x.disks, x.calls, x.texts)
+pub record OfPages : Type 0 where
+  pub present : ℕ → ℕ → StorePage
+  pub begun : ℕ → ℕ → Option StorePage
+  pub opened : ℕ → ℕ → Option StorePage
+  pub calls : ℕ → ℕ → ℕ
+  pub texts : ℕ → ℕ → PageText
+
+abbrev pub of_pages : Numbers → OfPages
+of_pages x = record { present = x.disks.page; begun = x.disks.begun; opened = x.disks.opened; calls = x.calls; texts = x.texts }
 
 pub same_at : (segment page : ℕ) (x y : Numbers) → of_pages y ≡ of_pages x → SameAt segment page x y
 same_at segment page x y same = record {
-  calls = ap (λ (v : Disks × (ℕ → ℕ → ℕ) × (ℕ → ℕ → PageText)). v.1 segment page) same;
-  texts = ap (λ (v : Disks × (ℕ → ℕ → ℕ) × (ℕ → ℕ → PageText)). v.2 segment page) same;
-  present = ap (λ (v : Disks × (ℕ → ℕ → ℕ) × (ℕ → ℕ → PageText)). v.0.page segment page) same;
-  begun = ap (λ (v : Disks × (ℕ → ℕ → ℕ) × (ℕ → ℕ → PageText)). v.0.begun segment page) same;
-  opened = ap (λ (v : Disks × (ℕ → ℕ → ℕ) × (ℕ → ℕ → PageText)). v.0.opened segment page) same;
+  calls = ap (λ (v : OfPages). v.calls segment page) same;
+  texts = ap (λ (v : OfPages). v.texts segment page) same;
+  present = ap (λ (v : OfPages). v.present segment page) same;
+  begun = ap (λ (v : OfPages). v.begun segment page) same;
+  opened = ap (λ (v : OfPages). v.opened segment page) same;
 }
 
 -- where no page is being written

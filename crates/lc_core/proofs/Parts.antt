@@ -18,6 +18,7 @@ pub record SameJournal {D : Type 0} (a : Ghosts D) (old new : Journal D a) : Typ
   pub trimmed : new.trimmed ≡ old.trimmed
   pub taken : new.taken ≡ old.taken
   pub acked : new.acked ≡ old.acked
+  pub round : new.round ≡ old.round
 
 pub same_journal : {D : Type 0} (a : Ghosts D) (w v : Journal D a) → SameJournal a w v → v ≡ w
 same_journal a w v h = λ i. record {
@@ -29,6 +30,7 @@ same_journal a w v h = λ i. record {
   trimmed = h.trimmed i;
   taken = h.taken i;
   acked = h.acked i;
+  round = h.round i;
   kept = is_prop→PathP (λ j. (h.records j).before ≤ h.dropped j) (λ j. le_prop) v.kept w.kept i;
   kept_for_peers = is_prop→PathP (λ j. (h.records j).before ≤ h.trimmed j) (λ j. le_prop) v.kept_for_peers w.kept_for_peers i;
   dropped_acked = is_prop→PathP (λ j. h.dropped j ≤ h.acked j) (λ j. le_prop) v.dropped_acked w.dropped_acked i;
@@ -48,4 +50,6 @@ same_journal a w v h = λ i. record {
       (λ j p q k up busy free. le_prop (p up busy free) (q up busy free) k) v.busy w.busy i;
   sealed = is_prop→PathP (λ j. is_sealed a (h.log j) ≡ true → count_of (h.records j) ≤ h.acked j) (λ j p q k is. le_prop (p is) (q is) k) v.sealed w.sealed i;
   emptied = is_prop→PathP (λ j. is_sealed a (h.log j) ≡ true → end_of a (h.log j) ≡ 0) (λ j p q k is. ℕ_set _ _ (p is) (q is) k) v.emptied w.emptied i;
+  rounds = is_prop→PathP (λ j. h.round j < 2 ^ 48) (λ j. le_prop) v.rounds w.rounds i;
+  one_more = is_prop→PathP (λ j. is_sealed a (h.log j) ≡ true → h.round j + 1 < 2 ^ 48) (λ j p q k is. le_prop (p is) (q is) k) v.one_more w.one_more i;
 }

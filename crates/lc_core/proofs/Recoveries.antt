@@ -34,7 +34,7 @@ use Rattle.lc_model.specs.declared.event.Event.TheVariants.{Begin, SetRange, Wri
 use Rattle.lc_model.specs.declared.refusal.Refusal.{Refusal}
 use Rattle.lc_model.specs.declared.refusal.Refusal.TheVariants.{Down as IsDownNow, OutOfTurn, DeviceFault}
 use Rattle.lc_model.specs.declared.reply.Reply.{Reply}
-use Rattle.lc_model.specs.declared.reply.Reply.TheVariants.{Ok as Accepted, Stepped, Applied, HeldBack, Trimmed, Recovered, Refused}
+use Rattle.lc_model.specs.declared.reply.Reply.TheVariants.{Ok as Accepted, Stepped, Applied, HeldBack, Trimmed, Recovered, Refused, Reset}
 use Rattle.lc_model.specs.Stored.{records_of}
 use Rattle.lc_model.proofs.Keeps.{sound-step}
 use Rattle.lc_core.specs.Fresh.{text_read_of}
@@ -78,7 +78,7 @@ refused_down m s cut (Arrive node segment) down plain = rw down refl
 refused_down m s cut (Deliver sender number segment to) down plain = rw down refl
 refused_down m s cut (Trim node) down plain = rw down refl
 refused_down m s cut (PageStep node segment page) down plain = absurd cc
-refused_down m s cut (ResetStep node) down plain = absurd cc
+refused_down m s cut (ResetStep node) down plain = rw down refl
 refused_down m s cut (Stop choices) down plain = absurd cc
 refused_down m s cut RecoverStep down plain = absurd cc
 
@@ -96,7 +96,7 @@ common_plain (Arrive node segment) common other = refl
 common_plain (Deliver sender number segment to) common other = refl
 common_plain (Trim node) common other = refl
 common_plain (PageStep node segment page) common other = absurd cc
-common_plain (ResetStep node) common other = absurd cc
+common_plain (ResetStep node) common other = refl
 common_plain (Stop choices) common other = absurd cc
 common_plain RecoverStep common other = absurd (other refl)
 
@@ -201,6 +201,7 @@ module _ {D : Type 0} (a : Ghosts D) (m : Setting) (s : State) (x : Numbers) whe
       reset_is = h.journal.reset_is;
     };
     room = h.room;
+    round = h.round;
     known = h.known;
   }
 
@@ -217,7 +218,6 @@ module _ {D : Type 0} (a : Ghosts D) (m : Setting) (s : State) (x : Numbers) whe
       some = λ k token got. (let o = h.on_the_way.some k token got in (o.0, steps_stay.tokens (k + 1) token o.1));
       none = h.on_the_way.none;
     };
-    resets = h.resets;
   }
 
   -- up: a step of a recovery is out of turn
@@ -262,7 +262,11 @@ module _ {D : Type 0} (a : Ghosts D) (m : Setting) (s : State) (x : Numbers) whe
     | _ ↦ refl
   ]
   turned_pages (PageStep node segment page) reply next plain turns = absurd cc
-  turned_pages (ResetStep node) reply next plain turns = absurd cc
+  turned_pages (ResetStep node) reply next plain turns = ap of_pages turns ∙ elim reply as (λ (r : Reply). of_pages (numbers_after m s x (ResetStep node) r) ≡ of_pages x) [
+    | Stepped steps ↦ refl
+    | Reset ↦ refl
+    | _ ↦ refl
+  ]
   turned_pages (Stop choices) reply next plain turns = absurd cc
   turned_pages RecoverStep reply next plain turns = absurd cc
 

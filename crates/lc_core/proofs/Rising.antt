@@ -362,6 +362,7 @@ module _ {D : Type 0} (a : Ghosts D) (start : Content) (earlier : List Transacti
         slots = slots;
         journal = (let w = node.journal in fresh_log n w.log w.records w.dropped w.trimmed w.taken w.acked new.records new.dropped new.trimmed new.taken new.acked new.log (idle_works a w.log new.works).0 (idle_works a w.log new.works).1);
         room = new.room;
+        round = new.round;
         known = λ segment first last. new.known segment first last ∙ ap (λ i. if segment % r.geometry.nodes == n then i else 0) (sequence_is segment first last);
       }
 
@@ -374,7 +375,6 @@ module _ {D : Type 0} (a : Ghosts D) (start : Content) (earlier : List Transacti
       coherent = coherent_fresh m earlier numbers (page_read_of r) (text_read_of r) stored;
       each = λ n node at. fresh_node n node (new.each n node at);
       on_the_way = none_travels w.travelling.items new.travelling;
-      resets = λ node. refl;
     }
 
 module _ {D : Type 0} (a : Ghosts D) where

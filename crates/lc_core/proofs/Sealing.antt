@@ -10,6 +10,11 @@ use Rattle.lc_model.specs.State.{Setting, State}
 use Rattle.lc_model.specs.Stored.{records_of}
 use Rattle.lc_core.specs.Numbers.{Numbers, stable_records}
 use Rattle.lc_core.specs.Places.{same_some}
+use Rattle.lc_model.specs.Machine.{halting}
+use Rattle.lc_model.proofs.Seats.{update-own}
+use Rattle.lc_core.specs.Journal.{FitsLog}
+use Rattle.lc_core.specs.Records.{Kept}
+use Rattle.lc_core.specs.Turns.{reset_to}
 use Rattle.lc_core.specs.Resets.{Knows}
 use Rattle.lc_core.specs.Settled.{least_unclean, locks_in}
 use Rattle.lc_core.specs.Trimming.{IsKnown, AreKnown}
@@ -17,7 +22,7 @@ use Rattle.lc_core.proofs.Trimmed.{get_take, known_at}
 use Rattle.lc_disk.specs.declared.area.Area.{Ghosts}
 use Rattle.lc_core.specs.declared.log.Log.{Log}
 use Rattle.lc_core.specs.declared.log.Log.TheVariants.{Idle, Written, Synced, Opened, Sealed, Closing, Emptied, Failed, Torn, Taken}
-use Rattle.lc_core.specs.Log.{ComesToReset, HasReset, MovesReset, end_of, is_failed, is_sealed}
+use Rattle.lc_core.specs.Log.{ComesToReset, HasReset, MovesReset, Stands, end_of, is_failed, is_sealed}
 
 -- Lists
 
@@ -76,18 +81,18 @@ same_least m node s x known sound knows =
     (each_drop (λ (r : Record). AreKnown m r.locks) (x.disks.dropped node) (take (s.ack node) records) (each_take (λ (r : Record). AreKnown m r.locks) (s.ack node) records each))
 
 module _ {D : Type 0} (a : Ghosts D) where
-  -- none is under way
-  pub sealed_is : (log : Log D a) (steps : ℕ) → HasReset a log steps → steps ≡ 0 → is_sealed a log ≡ nat_lt 0 steps
-  sealed_is (Idle log) steps at none = rw none refl
-  sealed_is (Written log) steps at none = rw none refl
-  sealed_is (Synced log) steps at none = rw none refl
-  sealed_is (Opened log) steps at none = rw none refl
-  sealed_is (Sealed log) steps at none = absurd (omega (arith, at, none))
-  sealed_is (Closing log) steps at none = absurd (omega (arith, at, none))
-  sealed_is (Emptied log) steps at none = absurd (omega (arith, at, none))
-  sealed_is (Failed log) steps at none = rw none refl
-  sealed_is (Torn log) steps at none = absurd (omega (arith, at, none))
-  sealed_is Taken steps at none = absurd at
+  -- it is sealed just while a reset is under way
+  pub sealed_is : (log : Log D a) (steps : ℕ) → HasReset a log steps → is_failed a log ≡ false → is_sealed a log ≡ nat_lt 0 steps
+  sealed_is (Idle log) steps at up = rw at refl
+  sealed_is (Written log) steps at up = rw at refl
+  sealed_is (Synced log) steps at up = rw at refl
+  sealed_is (Opened log) steps at up = rw at refl
+  sealed_is (Sealed log) steps at up = rw at refl
+  sealed_is (Closing log) steps at up = rw at refl
+  sealed_is (Emptied log) steps at up = rw at refl
+  sealed_is (Failed log) steps at up = absurd cc
+  sealed_is (Torn log) steps at up = absurd cc
+  sealed_is Taken steps at up = absurd cc
 
   comes : (new : Log D a) (steps : ℕ) → ComesToReset a new steps → is_failed a new ≡ false → (is_sealed a new ≡ true) × (end_of a new ≡ 0)
   comes (Idle log) steps h up = absurd h
@@ -113,3 +118,41 @@ module _ {D : Type 0} (a : Ghosts D) where
   reset_still (Failed log) new is end h up = absurd cc
   reset_still (Torn log) new is end h up = absurd cc
   reset_still Taken new is end h up = absurd cc
+
+  module _ (m : Setting) (node : ℕ) (s : State) (x : Numbers) (k : Kept) (dropped trimmed taken acked : ℕ) where
+    abbrev records : List Record
+    records = records_of m s x.disks node
+
+    -- so many steps of a reset are done
+    pub reset_fits : (old new : Log D a) (steps : ℕ) → FitsLog a m node old k dropped trimmed taken acked s x → is_failed a old ≡ false → is_failed a new ≡ false → HasReset a new steps
+        → Stands a new (s.flush node).steps (drop dropped (take acked records)) (drop acked (take taken records)) → FitsLog a m node new k dropped trimmed taken acked s (reset_to x node steps)
+    reset_fits old new steps h up works at stands = record {
+      words = h.words;
+      marks = h.marks;
+      all_closed = h.all_closed;
+      whole = h.whole;
+      stands = stands;
+      halted = h.halted ∙ up ∙ sym works;
+      dropped_is = h.dropped_is;
+      trimmed_is = h.trimmed_is;
+      acked_is = h.acked_is;
+      taken_is = h.taken_is;
+      reset_is = subst (HasReset a new) (sym (update-own x.reset node steps)) at;
+    }
+
+    -- a fault has come in the place of one
+    pub torn_fits : (old new : Log D a) → FitsLog a m node old k dropped trimmed taken acked s x → is_failed a new ≡ true → HasReset a new (x.reset node)
+        → Stands a new (s.flush node).steps (drop dropped (take acked records)) (drop acked (take taken records)) → FitsLog a m node new k dropped trimmed taken acked (halting s node) x
+    torn_fits old new h is at stands = record {
+      words = h.words;
+      marks = h.marks;
+      all_closed = h.all_closed;
+      whole = h.whole;
+      stands = stands;
+      halted = update-own s.halted node true ∙ sym is;
+      dropped_is = h.dropped_is;
+      trimmed_is = h.trimmed_is;
+      acked_is = h.acked_is;
+      taken_is = h.taken_is;
+      reset_is = at;
+    }

@@ -57,8 +57,8 @@ here_at here segment slot first at =
       ap (λ (n : ℕ). the_images.image_of here n) is ∙ ap (image_at here.spare) at,
     )
 
-logs_placed : (m : Setting) (n : ℕ) (s : State) (x y : Numbers) (segment : ℕ) (place : Place) → y.disks ≡ x.disks → y.trimmed ≡ x.trimmed → y.reset ≡ x.reset → BesideLogs m n s x (placed s segment place) y
-logs_placed m n s x y segment place disks trimmed reset = record {
+logs_placed : (m : Setting) (n : ℕ) (s : State) (x y : Numbers) (segment : ℕ) (place : Place) → y.disks ≡ x.disks → y.trimmed ≡ x.trimmed → y.reset ≡ x.reset → y.round ≡ x.round → BesideLogs m n s x (placed s segment place) y
+logs_placed m n s x y segment place disks trimmed reset round = record {
   records = λ other differ. rw disks refl;
   marks = λ other differ. refl;
   flush = λ other differ. refl;
@@ -67,6 +67,7 @@ logs_placed m n s x y segment place disks trimmed reset = record {
   dropped = λ other differ. rw disks refl;
   trimmed = λ other differ. rw trimmed refl;
   reset = λ other differ. rw reset refl;
+  round = λ other differ. rw round refl;
 }
 
 module _ {D : Type 0} (a : Ghosts D) where
@@ -94,6 +95,7 @@ module _ {D : Type 0} (a : Ghosts D) where
     slots = subst (λ items. FitsSlots m n (map beside items) s x) (sym slots) h.slots;
     journal = h.journal;
     room = h.room;
+    round = h.round;
     known = h.known;
   }
 
@@ -134,7 +136,7 @@ module _ {D : Type 0} (a : Ghosts D) where
               turns = refl;
               aside = record {
                 desks = beside_placed m n segment Travelling s (inl (h.desk.places segment here)) (inr refl);
-                logs = logs_placed m n s x x segment Travelling refl refl refl;
+                logs = logs_placed m n s x x segment Travelling refl refl refl refl;
                 slots = aside_placed m n s x segment Travelling;
                 known = λ other any differ. refl;
               };
@@ -143,11 +145,11 @@ module _ {D : Type 0} (a : Ghosts D) where
                 slots = slots_placed m n (besides_of new.here) s x segment Travelling (subst (λ (w : Here). FitsSlots m n (besides_of w) s x) (sym moved.here) gone);
                 journal = journal_placed m n old.journal s x x segment Travelling refl refl refl h.journal;
                 room = h.room;
+                round = h.round;
                 known = h.known;
               };
               phase = refl;
               places = λ other differ. update-other s.place segment Travelling other differ;
-              resets = refl;
             },
             update-own s.place segment Travelling,
             token_placed m segment token s x segment Travelling
@@ -217,7 +219,7 @@ module _ {D : Type 0} (a : Ghosts D) where
               turns = refl;
               aside = record {
                 desks = beside_placed m n token.segment (At n) s (inr travels) (inl refl);
-                logs = logs_placed m n s x (seen x n token.segment) token.segment (At n) refl refl refl;
+                logs = logs_placed m n s x (seen x n token.segment) token.segment (At n) refl refl refl refl;
                 slots = aside_known m n s (placed s token.segment (At n)) x n token.segment refl refl;
                 known = λ other any differ. other_node x.known n token.segment (max (x.known n token.segment) (x.clean token.segment)) other any differ;
               };
@@ -227,11 +229,11 @@ module _ {D : Type 0} (a : Ghosts D) where
                     (subst (λ (w : Here). FitsSlots m n (besides_of w) s x) (sym moved.here) placed_there);
                 journal = journal_placed m n old.journal s x (seen x n token.segment) token.segment (At n) refl refl refl h.journal;
                 room = h.room;
+                round = h.round;
                 known = known_seen known sees;
               };
               phase = refl;
               places = λ other differ. update-other s.place token.segment (At n) other differ;
-              resets = refl;
             },
             update-own s.place token.segment (At n),
           )

@@ -34,13 +34,14 @@ logs_trimmed m n s x trimmed = record {
   dropped = λ other differ. refl;
   trimmed = λ other differ. update-other x.trimmed n trimmed other differ;
   reset = λ other differ. refl;
+  round = λ other differ. refl;
 }
 
 -- by as many as every node has applied, from the first
 pub trim_goes : {D : Type 0} (a : Ghosts D) (m : Setting) (n : ℕ) (s : State) (x : Numbers) (count : ℕ) (old : Node D a) (new : Journal D a) → FitsNode a m n old s x
-    → count ≡ leading (map (is_done m x) (published m s x n)) → Trims a old.journal count new → new.group ≡ old.journal.group
+    → count ≡ leading (map (is_done m x) (published m s x n)) → Trims a old.journal count new → new.group ≡ old.journal.group → new.round ≡ old.journal.round
     → GoesOn a m n (Trim n) s x (Trimmed count) (record { desk = old.desk; journal = new; known = old.known })
-trim_goes a m n s x count old new h counts trims group =
+trim_goes a m n s x count old new h counts trims group round =
     let trimmed : ℕ → ℕ = update x.trimmed n (x.trimmed n + count) in
     record {
       after = s;
@@ -59,11 +60,11 @@ trim_goes a m n s x count old new h counts trims group =
         slots = slots_trimmed m n (besides_of old.desk.here) s s x trimmed refl refl h.slots;
         journal = trims m n s x h.journal;
         room = ap (λ group. group.room) group ∙ h.room;
+        round = round ∙ h.round;
         known = h.known;
       };
       phase = refl;
       places = λ segment differ. refl;
-      resets = refl;
     }
 
 -- what was counted over these nodes, for the journal of the one at a place

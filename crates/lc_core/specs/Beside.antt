@@ -33,7 +33,7 @@ pub record Beside (m : Setting) (node : ℕ) (old new : State) : Type 0 where
       → slice_get (entries_of other new.history) number ≡ Some (record { transaction = t; closed = false })
 
 -- of each other node: its records, which of them are closed, its flush and what it has acknowledged, what was dropped of its
--- records, and its reset
+-- records, its reset and its round
 pub record BesideLogs (m : Setting) (node : ℕ) (old : State) (x : Numbers) (new : State) (y : Numbers) : Type 0 where
   pub records : (other : ℕ) → (other ≡ node → ⊥) → records_of m new y.disks other ≡ records_of m old x.disks other
   pub marks : (other : ℕ) → (other ≡ node → ⊥) → map (λ e. e.closed) (entries_of other new.history) ≡ map (λ e. e.closed) (entries_of other old.history)
@@ -43,6 +43,7 @@ pub record BesideLogs (m : Setting) (node : ℕ) (old : State) (x : Numbers) (ne
   pub dropped : (other : ℕ) → (other ≡ node → ⊥) → y.disks.dropped other ≡ x.disks.dropped other
   pub trimmed : (other : ℕ) → (other ≡ node → ⊥) → y.trimmed other ≡ x.trimmed other
   pub reset : (other : ℕ) → (other ≡ node → ⊥) → y.reset other ≡ x.reset other
+  pub round : (other : ℕ) → (other ≡ node → ⊥) → y.round other ≡ x.round other
 
 -- of each other node's slots: what it has applied and what waits there; the records that waiting parts are of, and what a
 -- segment is up to its numbers, which may grow; and of the tokens that are elsewhere, also of those on their way, all

@@ -53,6 +53,7 @@ module _ {D : Type 0} (a : Ghosts D) where
     pub trimmed : journal.trimmed ≡ 0
     pub taken : journal.taken ≡ 0
     pub acked : journal.acked ≡ 0
+    pub round : journal.round ≡ 0
 
   pub record IsBlankNode (g : Geometry) (n : ℕ) (node : Node D a) : Type 0 where
     pub desk : IsBlankDesk g node.desk

@@ -65,6 +65,7 @@ module _ {D : Type 0} (a : Ghosts D) where
     pub trimmed : new.journal.trimmed ≡ 0
     pub taken : new.journal.taken ≡ 0
     pub acked : new.journal.acked ≡ 0
+    pub round : new.journal.round ≡ 0
     pub known : (segment : ℕ) → 1 ≤ segment → segment ≤ r.geometry.segments → known_of new.known segment ≡ known_first r node segment
 
   -- and no token is on its way

@@ -46,6 +46,19 @@ module _ {D : Type 0} (a : Ghosts D) where
   is_sealed (Torn log) = false
   is_sealed Taken = false
 
+  -- a reset has emptied it
+  abbrev pub is_emptied : Log D a → Bool
+  is_emptied (Idle log) = false
+  is_emptied (Written log) = false
+  is_emptied (Synced log) = false
+  is_emptied (Opened log) = false
+  is_emptied (Sealed log) = false
+  is_emptied (Closing log) = false
+  is_emptied (Emptied log) = true
+  is_emptied (Failed log) = false
+  is_emptied (Torn log) = false
+  is_emptied Taken = false
+
   -- how many steps of a reset are done
   abbrev pub HasReset : Log D a → ℕ → Type 0
   HasReset (Idle log) steps = steps ≡ 0
@@ -245,3 +258,24 @@ module _ {D : Type 0} (a : Ghosts D) where
   CallsOnce (Failed log) new = new ≡ Failed log
   CallsOnce (Torn log) new = new ≡ Torn log
   CallsOnce Taken new = new ≡ Taken
+
+  -- the first step of a reset: what stands in the log is left as it is
+  pub record Seals (old new : Log D a) : Type 0 where
+    pub stands : (steps : ℕ) (stable group : List Record) → Stands old steps stable group → Stands new steps stable group
+    pub reset : HasReset new 1
+    pub sealed : is_sealed new ≡ true
+    pub works : is_failed new ≡ false
+    pub end : end_of new ≡ 0
+    pub size : size new ≡ size old
+    pub area : area_of new ≡ area_of old
+
+  -- the last: the log is at rest, with no record
+  pub record Unseals (old new : Log D a) : Type 0 where
+    pub stands : (steps : ℕ) (stable group : List Record) → Stands old steps stable group → (group ≡ []) × Stands new steps [] []
+    pub reset : HasReset new 0
+    pub idle : is_idle new ≡ true
+    pub free : is_sealed new ≡ false
+    pub works : is_failed new ≡ false
+    pub end : end_of new ≡ end_of old
+    pub size : size new ≡ size old
+    pub area : area_of new ≡ area_of old

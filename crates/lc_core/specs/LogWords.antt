@@ -79,6 +79,7 @@ module _ {D : Type 0} (a : Ghosts D) where
     pub trimmed : new.trimmed ≡ old.trimmed
     pub taken : new.taken ≡ old.taken
     pub acked : new.acked ≡ old.acked
+    pub round : new.round ≡ old.round
 
   -- one of the nodes is as before, and so are the others
   pub record IsNodeKept (n : ℕ) (node : Node D a) (old new : Running D a) : Type 0 where

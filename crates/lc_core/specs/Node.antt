@@ -36,12 +36,14 @@ SeesStanding slot old new =
     MatchOption (option_and_then (λ (its : Slot). its.token.token) slot) (new ≡ old) (λ token. Sees old token new)
 
 module _ {D : Type 0} (a : Ghosts D) where
-  -- its desk, what stands in its slots, and its journal fit, and it has seen the segments as clean as the numbers say
+  -- its desk, what stands in its slots, and its journal fit, its log is in its round, and it has seen the segments as clean as
+  -- the numbers say
   pub record FitsNode (m : Setting) (n : ℕ) (node : Node D a) (s : State) (x : Numbers) : Type 0 where
     pub desk : FitsDesk m n node.desk.here node.desk.seats.items s
     pub slots : FitsSlots m n (besides_of node.desk.here) s x
     pub journal : FitsJournal a m n node.journal s x
     pub room : node.journal.group.room ≡ m.geometry.words
+    pub round : node.journal.round ≡ x.round n
     pub known : (segment : ℕ) → 1 ≤ segment → segment ≤ m.geometry.segments → known_of node.known segment ≡ x.known n segment
 
   -- from a state and numbers that it fits to others: the reply is settled, and one that the event's row allows; no other node
@@ -54,10 +56,9 @@ module _ {D : Type 0} (a : Ghosts D) where
     pub turns : Turns m s x event reply next
     pub aside : BesideNode m n s x after next
     pub fits : FitsNode m n new after next
-    -- it stays up; no token moves but the event's own; and no reset goes on
+    -- it stays up, and no token moves but the event's own
     pub phase : after.phase ≡ s.phase
     pub places : (segment : ℕ) → (segment ≡ moved_by event reply → ⊥) → after.place segment ≡ s.place segment
-    pub resets : next.reset ≡ x.reset
 
   -- whatever sound state and numbers it fits where nothing refuses the event at once
   abbrev pub FollowsNode : ℕ → Event → Node D a → Reply → Node D a → Type 0

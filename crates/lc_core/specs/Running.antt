@@ -45,8 +45,6 @@ module _ {D : Type 0} (a : Ghosts D) where
     pub coherent : AreCoherent m s x
     pub each : FitsNodes m nodes s x
     pub on_the_way : FitsTravelling m travelling s x
-    -- no log is being reset
-    pub resets : (node : ℕ) → x.reset node ≡ 0
 
   abbrev pub FitsRunning : Setting → Running D a → State → Numbers → Type 0
   FitsRunning m w s x = FitsAll m w.geometry w.nodes.items w.travelling.items s x

@@ -17,10 +17,9 @@ use Rattle.lc_core.specs.Turns.{Turns}
 use Rattle.lc_core.specs.declared.node.Node.{Node}
 use Rattle.lc_core.specs.declared.running.Running.{Running}
 
--- the events of a running store but those of pages and resets
+-- the events of a running store but page steps
 abbrev pub is_plain : Event → Bool
 is_plain (PageStep node segment page) = false
-is_plain (ResetStep node) = false
 is_plain (Stop choices) = false
 is_plain RecoverStep = false
 is_plain event = true

@@ -22,7 +22,7 @@ use Rattle.lc_core.specs.declared.phase.Phase.TheVariants.{Down, Up, Taken}
 use Rattle.lc_core.specs.declared.world.World.{World}
 use Rattle.lc_core.specs.declared.up.Up.{Up as UpStore}
 
--- the events but those of pages and resets, and but a stop
+-- the events but page steps, and but a stop
 abbrev pub is_common : Event → Bool
 is_common RecoverStep = true
 is_common event = is_plain event

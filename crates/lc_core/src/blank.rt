@@ -109,6 +109,7 @@ impl<D: Area + Drop> Node<D> {
             trimmed: 0,
             taken: 0,
             acked: 0,
+            round: 0,
         };
         let known = KnownClean::new();
         Ok(Node {

@@ -15,7 +15,7 @@ use lc_record::Group;
 use std::mem;
 
 /// The log of a node, its records, and how many of these its resets have dropped, no peer wants any more, a flush has
-/// taken, and are acknowledged. The log and the group have room for `words` words.
+/// taken, and are acknowledged; and in which round the log is. The log and the group have room for `words` words.
 #[derive(Drop)]
 pub(crate) struct Journal<D: Area> {
     pub(crate) log: Log<D>,
@@ -26,6 +26,7 @@ pub(crate) struct Journal<D: Area> {
     pub(crate) trimmed: u64,
     pub(crate) taken: u64,
     pub(crate) acked: u64,
+    pub(crate) round: u64,
     ghost kept: { records.before ≤ dropped },
     ghost kept_for_peers: { records.before ≤ trimmed },
     ghost dropped_acked: { dropped ≤ acked },
@@ -41,6 +42,8 @@ pub(crate) struct Journal<D: Area> {
     ghost busy: { is_failed D.Area log ≡ false → is_idle D.Area log ≡ false → is_sealed D.Area log ≡ false → acked < taken },
     ghost sealed: { is_sealed D.Area log ≡ true → count_of records ≤ acked },
     ghost emptied: { is_sealed D.Area log ≡ true → end_of D.Area log ≡ 0 },
+    ghost rounds: { round < 2 ^ 48 },
+    ghost one_more: { is_sealed D.Area log ≡ true → round + 1 < 2 ^ 48 },
 }
 
 impl<D: Area + Drop> Journal<D> {
@@ -53,6 +56,7 @@ impl<D: Area + Drop> Journal<D> {
         ensures follows { (node : ℕ) → FollowsLog D.Area node self.old (FlushStep node) result self.new }
         ensures nothing { result ≡ Nothing → self.new ≡ self.old }
         ensures words { self.new.words ≡ self.old.words }
+        ensures round { self.new.round ≡ self.old.round }
 
         // One call of the device, or none.
         ensures device { (result ≡ Nothing → ⊥) → CallsOnce D.Area self.old.log self.new.log }
@@ -81,6 +85,7 @@ impl<D: Area + Drop> Journal<D> {
         ensures dropped { self.new.dropped ≡ self.old.dropped }
         ensures trimmed { self.new.trimmed ≡ self.old.trimmed }
         ensures acked { self.new.acked ≡ self.old.acked }
+        ensures round { self.new.round ≡ self.old.round }
     {
         let front = self.records.front();
         fill(&mut self.group, self.records.span(self.acked, front));
@@ -101,6 +106,7 @@ impl<D: Area + Drop> Journal<D> {
         ensures dropped { self.new.dropped ≡ self.old.dropped }
         ensures trimmed { self.new.trimmed ≡ self.old.trimmed }
         ensures taken { self.new.taken ≡ self.old.taken }
+        ensures round { self.new.round ≡ self.old.round }
     {
         let log = mem::replace(&mut self.log, Log::Taken);
         self.log = log.flush_step(&self.group);

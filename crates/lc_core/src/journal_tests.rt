@@ -24,6 +24,7 @@ fn a_flush_acknowledges_the_closed_record(rt: HostRuntime) -> Result<(), Fail> {
         trimmed: 0,
         taken: 0,
         acked: 0,
+        round: 0,
     };
     for step in 1..=3 {
         assert!(rt; !journal.log.is_failed());

@@ -1,7 +1,7 @@
 //! A node's log between two steps.
 ghost use Rattle.std.specs.Prelude.{◌≡◌, ◌+◌, ◌*◌, ◌≤◌, ℕ, true, List, length, option_copied};
 ghost use Rattle.lc_record.specs.declared.record.Record.{Record};
-ghost use Rattle.lc_core.specs.Log.{Stands, HasReset, StepsTo, ResetsTo, MovesReset, HasRoom, KeepsRoom, MovesOn, CallsOnce, area_of, taken_by, is_idle, is_sealed, is_failed};
+ghost use Rattle.lc_core.specs.Log.{Stands, HasReset, StepsTo, ResetsTo, MovesReset, HasRoom, KeepsRoom, MovesOn, CallsOnce, Seals, Unseals, area_of, taken_by, is_idle, is_sealed, is_emptied, is_failed};
 
 use lc_disk::Area;
 use lc_log::{Closing, Failed, Idle, Opened, Synced, Written};
@@ -78,6 +78,28 @@ impl<D: Area> Log<D> {
         }
     }
 
+    /// A reset of a log with nothing under way begins. It makes no call.
+    pub(crate) fn seal(self) -> Log<D>
+        requires idle { is_idle D.Area self ≡ true }
+        ensures { Seals D.Area self result }
+    {
+        match self {
+            Log::Idle(log) => Log::Sealed(log),
+            log => log,
+        }
+    }
+
+    /// A log that a reset has emptied is at rest again. It makes no call.
+    pub(crate) fn unseal(self) -> Log<D>
+        requires emptied { is_emptied D.Area self ≡ true }
+        ensures { Unseals D.Area self result }
+    {
+        match self {
+            Log::Emptied(log) => Log::Idle(log),
+            log => log,
+        }
+    }
+
     /// The log of a node that the fault of another device has halted. It makes no call.
     pub(crate) fn give_up(self) -> Log<D>
         ensures stands { (steps : ℕ) (stable group : List Record) → Stands D.Area self steps stable group → Stands D.Area result steps stable group }
@@ -127,6 +149,13 @@ impl<D: Area> Log<D> {
         ensures { result ≡ is_sealed D.Area self.now }
     {
         matches!(self, Log::Sealed(_) | Log::Closing(_) | Log::Emptied(_))
+    }
+
+    /// Whether a reset has emptied it.
+    pub(crate) fn is_emptied(&self) -> bool
+        ensures { result ≡ is_emptied D.Area self.now }
+    {
+        matches!(self, Log::Emptied(_))
     }
 
     /// Whether its device failed.

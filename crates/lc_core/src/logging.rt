@@ -31,6 +31,7 @@ impl<D: Area + Drop> Journal<D> {
         ensures end { IfOk result (λ _. end_of_records D.Area self.new ≡ end_of_records D.Area self.old + length words.now) }
         ensures log { self.new.log ≡ self.old.log }
         ensures group { self.new.group ≡ self.old.group }
+        ensures round { self.new.round ≡ self.old.round }
         ensures err { OnErr result (self.new ≡ self.old) }
     {
         self.records.reserve(words)
@@ -42,6 +43,7 @@ impl<D: Area + Drop> Journal<D> {
         ensures end { end_of_records D.Area self.new ≡ end_of_records D.Area self.old }
         ensures log { self.new.log ≡ self.old.log }
         ensures group { self.new.group ≡ self.old.group }
+        ensures round { self.new.round ≡ self.old.round }
     {
         self.records.close(number);
     }
@@ -53,6 +55,7 @@ impl<D: Area + Drop> Journal<D> {
         ensures end { end_of_records D.Area self.new ≡ end_of_records D.Area self.old }
         ensures log { self.new.log ≡ self.old.log }
         ensures group { self.new.group ≡ self.old.group }
+        ensures round { self.new.round ≡ self.old.round }
     {
         self.trimmed += count;
     }

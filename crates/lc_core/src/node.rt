@@ -2,7 +2,7 @@
 ghost use Rattle.std.specs.Prelude.{◌≡◌, ◌-◌, ◌+◌, ◌<◌, ◌≤◌, ◌^◌, ℕ, false, vec_len, slice_get, Some, IsSome, Err, IfOk, OnErr, IfErr};
 ghost use Rattle.lc_core.specs.Log.{is_failed, is_sealed};
 ghost use Rattle.lc_core.specs.declared.slot.Slot.{Slot};
-ghost use Rattle.lc_model.specs.declared.event.Event.TheVariants.{Close, FlushStep};
+ghost use Rattle.lc_model.specs.declared.event.Event.TheVariants.{Close, FlushStep, ResetStep};
 ghost use Rattle.lc_core.specs.FaultReplies.{TellsFault, is_device_fault, is_fault};
 
 use crate::desk::Desk;
@@ -87,6 +87,16 @@ impl<D: Area + Drop> Node<D> {
         ensures device { TellsFault D.Area result self.old.journal.log self.new.journal.log }
     {
         self.journal.flush_step()
+    }
+
+    /// One of the four steps of a reset of the node's log, told what the node knows as clean.
+    pub(crate) fn reset_step(&mut self) -> Reply
+        requires up { is_failed D.Area self.old.journal.log ≡ false }
+        ensures follows { (node : ℕ) → FollowsNode D.Area node (ResetStep node) self.old result self.new }
+        ensures whole { HasSameRoom D.Area self.old self.new }
+        ensures device { TellsFault D.Area result self.old.journal.log self.new.journal.log }
+    {
+        self.journal.reset_step(&self.known)
     }
 
     /// The token of a segment, from 1, is taken away to be sent; `writing` says whether a page of the segment is being

@@ -29,6 +29,7 @@ fn node_of(alloc: Global, words: u32) -> Result<Node<MemArea>, AllocError>
         trimmed: 0,
         taken: 0,
         acked: 0,
+        round: 0,
     };
     let known = KnownClean::new();
     Ok(Node {

@@ -4,7 +4,8 @@ use crate::script::Answer::{
     Acked, Applied, Bytes, Done, HeldBack, Ignored, Nothing, Refused, Reserved, Stepped, Trimmed,
 };
 use crate::script::Line::{
-    Arrive, Begin, Close, Deliver, End, Flush, Leave, Range, Read, Reserve, Step, Trim, Write,
+    Arrive, Begin, Close, Deliver, End, Flush, Leave, Range, Read, Reserve, Reset, Step, Trim,
+    Write,
 };
 use crate::script::{Answer, Line, play, shows, up};
 use lc_record::Geometry;
@@ -162,4 +163,25 @@ const HALTING: [(Line, Answer<'static>); 16] = [
 fn a_node_halts_alone(rt: HostRuntime) -> Result<(), Fail> {
     let mut world = up(rt.alloc(), TWO_NODES, 6)?;
     play(&rt, rt.alloc(), &mut world, &HALTING)
+}
+
+// A log is not reset where it has a record that is not stable, or one that is not on the pages; one without a record is
+// empty already.
+const NOT_YET_ON_PAGES: [(Line, Answer<'static>); 11] = [
+    (Reset(0), Nothing),
+    (Begin(0, 0, &[2], &[]), Done),
+    (Range(0, 0, 2, 0, 1), Done),
+    (Reserve(0, 0), Reserved(0, 8)),
+    (Reset(0), Refused(Refusal::Unflushed)),
+    (Close(0, 0), Done),
+    (Reset(0), Refused(Refusal::Unflushed)),
+    (Flush(0), Acked(1)),
+    (Reset(0), Refused(Refusal::Unclean { segment: 2, seq: 1 })),
+    (Step(0), Nothing),
+    (Reset(1), Nothing),
+];
+
+#[test]
+fn a_log_is_reset_only_where_the_pages_have_it(rt: HostRuntime) -> Result<(), Fail> {
+    shows(&rt, rt.alloc(), TWO_NODES, &NOT_YET_ON_PAGES)
 }

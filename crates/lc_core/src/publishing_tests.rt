@@ -24,6 +24,7 @@ fn a_record_is_found_until_it_is_trimmed(rt: HostRuntime) -> Result<(), Fail> {
         trimmed: 0,
         taken: 0,
         acked: 0,
+        round: 0,
     };
     assert!(rt; matches!(journal.published(1), Published::Unknown));
     for _ in 0..4 {

@@ -1,21 +1,25 @@
 //! What the first step of a reset asks of the records, and the calls behind it.
-ghost use Rattle.std.specs.Prelude.{◌≡◌, ◌++◌, List, true};
+ghost use Rattle.std.specs.Prelude.{◌≡◌, ◌⊎◌, ◌++◌, ℕ, List, true, false};
 ghost use Rattle.lc_record.specs.Record.{IsRecord};
 ghost use Rattle.lc_record.specs.declared.record.Lock.{Lock as Locked};
 ghost use Rattle.lc_record.specs.declared.record.Record.{Record as Spelled};
 ghost use Rattle.lc_trunc.specs.KnownClean.{known as known_of};
+ghost use Rattle.lc_core.specs.FaultReplies.{TellsFault, is_fault};
 ghost use Rattle.lc_core.specs.Journal.{reply_of};
-ghost use Rattle.lc_core.specs.Log.{CallsOnce, MovesReset, ResetsTo, is_sealed};
-ghost use Rattle.lc_core.specs.Resets.{IsLeastUnclean};
+ghost use Rattle.lc_core.specs.Log.{CallsOnce, MovesReset, ResetsTo, area_of, is_emptied, is_failed, is_sealed};
+ghost use Rattle.lc_core.specs.Resets.{FollowsReset, IsLeastUnclean};
 ghost use Rattle.lc_core.specs.Settled.{least_unclean};
 
-use crate::Reply;
 use crate::journal::{Journal, reply_of};
 use crate::log::Log;
+use crate::{Refusal, Reply};
 use lc_disk::Area;
 use lc_record::View;
 use lc_trunc::{KnownClean, Unclean, above, lesser};
 use std::mem;
+
+// The last round of a log.
+const LAST_ROUND: u64 = (1 << 48) - 1;
 
 impl<D: Area + Drop> Journal<D> {
     /// The least lock of the stable records of its log that is above what is known clean. It takes no memory.
@@ -29,6 +33,67 @@ impl<D: Area + Drop> Journal<D> {
             least = least_with(self.records.words(number), known, least);
         }
         least
+    }
+
+    /// One of the four steps of a reset of its log: seals it, closes it, makes that stable, and drops what was stable. It
+    /// takes no memory.
+    pub(crate) fn reset_step(&mut self, known: &KnownClean) -> Reply
+        requires up { is_failed D.Area self.old.log ≡ false }
+        ensures follows { (node : ℕ) → FollowsReset D.Area node (known_of known.now) self.old result self.new }
+        ensures words { self.new.words ≡ self.old.words }
+
+        // One call of the device, or none.
+        ensures device { CallsOnce D.Area self.old.log self.new.log ⊎ (area_of D.Area self.new.log ≡ area_of D.Area self.old.log) }
+        ensures fault { TellsFault D.Area result self.old.log self.new.log }
+    {
+        if self.log.is_emptied() {
+            return self.end_reset();
+        }
+        if self.log.is_sealed() {
+            return self.reset_call();
+        }
+        self.begin_reset(known)
+    }
+
+    // The first step, where nothing stands against it.
+    fn begin_reset(&mut self, known: &KnownClean) -> Reply
+        requires up { is_failed D.Area self.old.log ≡ false }
+        requires free { is_sealed D.Area self.old.log ≡ false }
+        ensures follows { (node : ℕ) → FollowsReset D.Area node (known_of known.now) self.old result self.new }
+        ensures words { self.new.words ≡ self.old.words }
+        ensures area { area_of D.Area self.new.log ≡ area_of D.Area self.old.log }
+        ensures answer { is_fault result ≡ false }
+    {
+        if self.records.count() > self.acked {
+            return Reply::Refused(Refusal::Unflushed);
+        }
+        if self.dropped == self.acked {
+            return Reply::Nothing;
+        }
+        if let Some(Unclean { segment, seq }) = self.least_unclean(known) {
+            return Reply::Refused(Refusal::Unclean { segment, seq });
+        }
+        if self.round == LAST_ROUND {
+            return Reply::Refused(Refusal::RoundsSpent);
+        }
+        let log = mem::replace(&mut self.log, Log::Taken);
+        self.log = log.seal();
+        Reply::Stepped(1)
+    }
+
+    // The last step.
+    fn end_reset(&mut self) -> Reply
+        requires emptied { is_emptied D.Area self.old.log ≡ true }
+        ensures follows { (node : ℕ) (known : ℕ → ℕ) → FollowsReset D.Area node known self.old result self.new }
+        ensures words { self.new.words ≡ self.old.words }
+        ensures area { area_of D.Area self.new.log ≡ area_of D.Area self.old.log }
+        ensures answer { is_fault result ≡ false }
+    {
+        let log = mem::replace(&mut self.log, Log::Taken);
+        self.log = log.unseal();
+        self.dropped = self.acked;
+        self.round += 1;
+        Reply::Reset
     }
 
     /// The call that a reset which is under way makes next.
@@ -45,6 +110,7 @@ impl<D: Area + Drop> Journal<D> {
         ensures trimmed { self.new.trimmed ≡ self.old.trimmed }
         ensures taken { self.new.taken ≡ self.old.taken }
         ensures acked { self.new.acked ≡ self.old.acked }
+        ensures round { self.new.round ≡ self.old.round }
     {
         let log = mem::replace(&mut self.log, Log::Taken);
         self.log = log.reset_step();

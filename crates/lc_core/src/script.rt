@@ -36,6 +36,8 @@ pub(crate) enum Line {
     /// Sender, number, segment, receiver.
     Deliver(u16, u64, u32, u16),
     Trim(u16),
+    /// A step of a reset.
+    Reset(u16),
     Recover,
 }
 
@@ -103,6 +105,7 @@ fn event_of(alloc: Global, line: Line) -> Result<Event, AllocError>
             to,
         },
         Line::Trim(node) => Event::Trim { node },
+        Line::Reset(node) => Event::ResetStep { node },
         Line::Recover => Event::RecoverStep,
     })
 }

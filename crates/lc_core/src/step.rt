@@ -10,7 +10,7 @@ use lc_disk::Area;
 use std::alloc::{AllocError, Global};
 
 impl<D: Area + Drop> Running<D> {
-    /// An event that is no step of a page write or of a reset, no stop and no step of a recovery. `writing` says whether a
+    /// An event that is no step of a page write, no stop and no step of a recovery. `writing` says whether a
     /// page is being written of the segment whose token is to leave. Where memory is wanted nothing has changed.
     pub(crate) fn step(
         &mut self,
@@ -75,10 +75,8 @@ impl<D: Area + Drop> Running<D> {
                 to,
             } => self.deliver(alloc, *sender, *number, *segment, *to),
             Event::Trim { node } => Ok(self.trim(*node)),
-            Event::PageStep { .. }
-            | Event::ResetStep { .. }
-            | Event::Stop { .. }
-            | Event::RecoverStep => unreachable!(),
+            Event::ResetStep { node } => Ok(self.reset_step(*node)),
+            Event::PageStep { .. } | Event::Stop { .. } | Event::RecoverStep => unreachable!(),
         }
     }
 }

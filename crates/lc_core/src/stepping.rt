@@ -2,7 +2,7 @@
 ghost use Rattle.std.specs.Prelude.{◌≡◌, ◌<◌, ◌≤◌, ◌+◌, ◌⊎◌, ℕ, List, length, true, false, IfOk, OnErr};
 ghost use Rattle.lc_tx.specs.Tx.{IsSetOf, none_of};
 ghost use Rattle.lc_model.specs.Refusals.{is_known};
-ghost use Rattle.lc_model.specs.declared.event.Event.TheVariants.{Abort, Begin, Close, FlushStep, Read, Reserve, SetRange, Trim, Write};
+ghost use Rattle.lc_model.specs.declared.event.Event.TheVariants.{Abort, Begin, Close, FlushStep, Read, Reserve, ResetStep, SetRange, Trim, Write};
 ghost use Rattle.lc_core.specs.Running.{FollowsRow, IsRunning, StillFitsAll, WantsPlaceAt, WantsRange};
 ghost use Rattle.lc_core.specs.FaultReplies.{is_fault};
 ghost use Rattle.lc_core.specs.Faults.{CountsLogs, SameLogs};
@@ -119,6 +119,7 @@ impl<D: Area + Drop> Running<D> {
         thread: u16,
     ) -> Result<Reply, AllocError>
         requires known { is_known self.old.geometry (Reserve node thread) ≡ true }
+        requires running { IsRunning D.Area node self.old.nodes.items }
         ensures follows { IfOk result (λ reply. FollowsRow D.Area self.old (Reserve node thread) reply self.new) }
         ensures memory { OnErr result (WantsPlaceAt D.Area node thread self.old) }
         ensures err { OnErr result (StillFitsAll D.Area self.old self.new) }
@@ -146,6 +147,16 @@ impl<D: Area + Drop> Running<D> {
         ensures faults { CountsLogs D.Area self.old result self.new }
     {
         self.nodes[node as usize].flush_step()
+    }
+
+    /// One of the four steps of a reset of a node's log, whose device has not failed.
+    pub(crate) fn reset_step(&mut self, node: u16) -> Reply
+        requires known { is_known self.old.geometry (ResetStep node) ≡ true }
+        requires running { IsRunning D.Area node self.old.nodes.items }
+        ensures follows { FollowsRow D.Area self.old (ResetStep node) result self.new }
+        ensures faults { CountsLogs D.Area self.old result self.new }
+    {
+        self.nodes[node as usize].reset_step()
     }
 
     /// A node drops of its published records those in front that every node has applied.

@@ -2,6 +2,7 @@
 ghost use Rattle.std.specs.Prelude.{◌≡◌, true, IfOk};
 ghost use Rattle.lc_core.specs.World.{is_common};
 
+use crate::in_memory::run_in_memory;
 use crate::world::World;
 use crate::{Event, Refusal, Reply};
 use lc_disk::MemArea;
@@ -61,5 +62,40 @@ fn it_comes_up_at_the_thirteenth_step(rt: HostRuntime) -> Result<(), Fail> {
             Reply::Refused(Refusal::OutOfTurn)
         )
     );
+    Ok(())
+}
+
+// Two areas are synced and read, nothing stands to be merged or written, and one log takes two calls.
+#[test]
+fn a_store_in_memory_answers_all_its_events(rt: HostRuntime) -> Result<(), Fail> {
+    let alloc = rt.alloc();
+    let geometry = Geometry {
+        nodes: 1,
+        threads: 1,
+        segments: 1,
+        pages: 1,
+        words: 64,
+    };
+    let events = [
+        Event::RecoverStep,
+        Event::RecoverStep,
+        Event::RecoverStep,
+        Event::RecoverStep,
+        Event::RecoverStep,
+        Event::RecoverStep,
+        Event::RecoverStep,
+        Event::RecoverStep,
+    ];
+    let run = run_in_memory(alloc, geometry, &events)?;
+    if run.out_of_memory {
+        return Err(Fail::from(AllocError));
+    }
+    let replies = run.replies.as_slice();
+    assert_eq!(rt; replies.len(), 8);
+    for (before, reply) in replies[..6].iter().enumerate() {
+        assert!(rt; matches!(reply, Reply::Stepped(steps) if *steps == before as u64 + 1));
+    }
+    assert!(rt; matches!(&replies[6], Reply::Recovered));
+    assert!(rt; matches!(&replies[7], Reply::Refused(Refusal::OutOfTurn)));
     Ok(())
 }

@@ -59,4 +59,6 @@ invariant_of-self g c =
           omega (arith, some, stays, c.acked_after-self.ensures);
       sealed = λ is. absurd (true≢false (sym is ∙ free (sealed_works g.D.Area new is)));
       emptied = λ is. absurd (true≢false (sym is ∙ free (sealed_works g.D.Area new is)));
+      rounds = w.rounds;
+      one_more = λ is. absurd (true≢false (sym is ∙ free (sealed_works g.D.Area new is)));
     }

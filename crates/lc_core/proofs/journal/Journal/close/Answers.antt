@@ -33,6 +33,8 @@ invariant_of-self g c =
       busy = w.busy;
       sealed = λ is. omega (arith, w.sealed is, ap count_of c.close.ensures, closed_count c.args.number w.records);
       emptied = w.emptied;
+      rounds = w.rounds;
+      one_more = w.one_more;
     }
 
 pub returns-clause-shuts : goal.returns-clause-shuts

@@ -22,6 +22,7 @@ returns-then-is_sealed g c = record {
       );
   nothing = λ is. refl;
   words = refl;
+  round = refl;
   device = λ some. absurd (some refl);
   fault = refl;
 }
@@ -37,6 +38,7 @@ returns-then-front-self g c = record {
       );
   nothing = λ is. refl;
   words = refl;
+  round = refl;
   device = λ some. absurd (some refl);
   fault = refl;
 }
@@ -64,6 +66,10 @@ returns g c = record {
   nothing = λ is. absurd (some_reply g.D.Area c.advance.new.self.log c.if-is_idle.self.taken (sym c.advance.ensures.reply ∙ is));
   words = c.advance.ensures.room ∙ (elim c.if-is_idle.branch [
     | then-is_idle+else-front-self b ↦ rw b.self-is b.take_closed.ensures.room
+    | else-is_idle b ↦ rw b.self-is refl
+  ]);
+  round = c.advance.ensures.round ∙ (elim c.if-is_idle.branch [
+    | then-is_idle+else-front-self b ↦ rw b.self-is b.take_closed.ensures.round
     | else-is_idle b ↦ rw b.self-is refl
   ]);
   device = λ some. elim c.if-is_idle.branch [

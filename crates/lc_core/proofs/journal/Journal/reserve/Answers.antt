@@ -49,6 +49,8 @@ invariant_of-self g c =
       busy = w.busy;
       sealed = λ is. absurd (true≢false (sym is ∙ c.requires.free));
       emptied = w.emptied;
+      rounds = w.rounds;
+      one_more = w.one_more;
     }
 
 pub returns-clause-logs : goal.returns-clause-logs
@@ -78,4 +80,5 @@ returns-clause-err g c =
       trimmed = refl;
       taken = refl;
       acked = refl;
+      round = refl;
     }))

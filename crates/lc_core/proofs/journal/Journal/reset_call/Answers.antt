@@ -27,4 +27,6 @@ invariant_of-self g c =
       busy = λ up busy free. absurd (true≢false (sym (still up).0 ∙ free));
       sealed = λ is. w.sealed c.requires.sealed;
       emptied = λ is. (still (sealed_works g.D.Area new is)).1;
+      rounds = w.rounds;
+      one_more = λ is. w.one_more c.requires.sealed;
     }

@@ -30,7 +30,7 @@ returns g c = record {
       let w = c.args.self.now in
       closes_one g.D.Area m node c.args.thread s x sound w h c.in-Some.number c.count.new.self c.close.new.self c.close-2.new.self
       (subst (λ (o : Option ℕ). CountsSeat c.args.thread w.desk o c.count.new.self) c.in-Some.is c.count.ensures.counts)
-      c.close.ensures.closes c.close.ensures.beside c.close-2.ensures.shuts c.close-2.ensures.group;
+      c.close.ensures.closes c.close.ensures.beside c.close-2.ensures.shuts c.close-2.ensures.group c.close-2.ensures.round;
   whole =
       let counts = subst (λ (o : Option ℕ). CountsSeat c.args.thread c.args.self.now.desk o c.count.new.self) c.in-Some.is c.count.ensures.counts in
       record {

@@ -11,7 +11,7 @@ returns g c = record {
       let step = c.flush_step.ensures.follows node m s x h.journal in
       by_log g.D.Area m node (FlushStep node) s x c.flush_step.result step.0 step.1
       (settled_by m s x (FlushStep node) c.flush_step.result (λ e. absurd cc) (λ answer is. absurd cc)) refl w h new step.2
-      (new.group_room ∙ c.flush_step.ensures.words ∙ sym w.journal.group_room) step.3;
+      (new.group_room ∙ c.flush_step.ensures.words ∙ sym w.journal.group_room) c.flush_step.ensures.round step.3;
   whole = record { seats = refl; slots = refl };
   device = c.flush_step.ensures.fault;
 }

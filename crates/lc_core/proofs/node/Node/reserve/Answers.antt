@@ -30,6 +30,7 @@ returns-in_err-refusal-clause-err g c = on_err c.from_residual.result _ (λ m n 
       slots = slots_alike m n w.desk.here c.prepare.new.self.here s x c.prepare.ensures.beside h.slots;
       journal = h.journal;
       room = h.room;
+      round = h.round;
       known = h.known;
     })
 
@@ -43,6 +44,7 @@ returns-in_err-number-in-Record-clause-err g c = on_err c.from_residual-in_err-n
       slots = slots_alike m n w.desk.here c.prepare.new.self.here s x c.prepare.ensures.beside h.slots;
       journal = rw same h.journal;
       room = rw same h.room;
+      round = rw same h.round;
       known = h.known;
     })
 
@@ -59,6 +61,7 @@ returns-in-Refused-clause-follows g c = λ m s x sound common h sealed.
       slots = slots_alike m c.args.node w.desk.here c.prepare.new.self.here s x c.prepare.ensures.beside h.slots;
       journal = h.journal;
       room = h.room;
+      round = h.round;
       known = h.known;
     })
 
@@ -109,11 +112,11 @@ returns-in_ok-number-in-Record-clause-follows g c = λ m s x sound common h seal
             (slots_appended m c.args.node (besides_of w.desk.here) s x t h.slots);
         journal = logged.1;
         room = rw c.in_ok-number-in-Record.ensures.group h.room;
+        round = c.in_ok-number-in-Record.ensures.round ∙ h.round;
         known = h.known;
       };
       phase = refl;
       places = λ segment differ. refl;
-      resets = refl;
     }
 
 pub returns-in_err-refusal-clause-memory : goal.returns-in_err-refusal-clause-memory

@@ -30,6 +30,8 @@ invariant_of-index_mut g c =
       busy = λ up busy free. j.busy (sym keeps.failed ∙ up) (sym keeps.idle ∙ busy) (sym keeps.sealed ∙ free);
       sealed = λ is. j.sealed (sym keeps.sealed ∙ is);
       emptied = λ is. keeps.end ∙ j.emptied (sym keeps.sealed ∙ is);
+      rounds = j.rounds;
+      one_more = λ is. j.one_more (sym keeps.sealed ∙ is);
     }
 
 pub invariant_of-self : goal.invariant_of-self
@@ -73,6 +75,7 @@ returns-clause-unknown g c its there none =
           trimmed = ap (λ (n : Node g.row.D.Denot g.D.Area). n.journal.trimmed) same;
           taken = ap (λ (n : Node g.row.D.Denot g.D.Area). n.journal.taken) same;
           acked = ap (λ (n : Node g.row.D.Denot g.D.Area). n.journal.acked) same;
+          round = ap (λ (n : Node g.row.D.Denot g.D.Area). n.journal.round) same;
         };
         keeps = subst (λ (n : Node g.row.D.Denot g.D.Area). StandsOn g.D.Area n.journal.log c.bytes.new.self) same c.bytes.ensures.keeps;
       },
@@ -100,6 +103,7 @@ returns-clause-read g c area its there some =
             trimmed = ap (λ (n : Node g.row.D.Denot g.D.Area). n.journal.trimmed) same;
             taken = ap (λ (n : Node g.row.D.Denot g.D.Area). n.journal.taken) same;
             acked = ap (λ (n : Node g.row.D.Denot g.D.Area). n.journal.acked) same;
+            round = ap (λ (n : Node g.row.D.Denot g.D.Area). n.journal.round) same;
           };
           keeps = subst (λ (n : Node g.row.D.Denot g.D.Area). StandsOn g.D.Area n.journal.log c.bytes.new.self) same c.bytes.ensures.keeps;
         };

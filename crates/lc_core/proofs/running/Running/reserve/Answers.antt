@@ -32,7 +32,7 @@ returns-clause-follows g c =
     let at = slice_get_read w.nodes.items w.nodes.len c.args.node node w.nodes.ok.0 within c.index_mut.ensures.value in
     IfOk-weaker c.reserve.result _ _ (λ reply follows m s x h common.
     stays_onward g.D.Area m c.args.node (Reserve c.args.node c.args.thread) s x reply w.geometry w.nodes.items w.travelling.items h common node at c.reserve.new.self
-    (follows m s x h.sound common (h.each c.args.node node at) (sealed_is g.D.Area node.journal.log (x.reset c.args.node) (h.each c.args.node node at).journal.reset_is (h.resets c.args.node))) (λ k e. absurd (omega (arith, e)))) c.reserve.ensures.follows
+    (follows m s x h.sound common (h.each c.args.node node at) (sealed_is g.D.Area node.journal.log (x.reset c.args.node) (h.each c.args.node node at).journal.reset_is (c.requires.running node at))) (λ k e. absurd (omega (arith, e)))) c.reserve.ensures.follows
 
 pub returns-clause-memory : goal.returns-clause-memory
 returns-clause-memory g c =
@@ -40,7 +40,7 @@ returns-clause-memory g c =
     let node = c.index_mut.result.now in
     let within : c.args.node < w.nodes.len = omega (arith, w.all_nodes, (seat_known w.geometry c.args.node c.args.thread ([]) c.requires.known).0) in
     let at = slice_get_read w.nodes.items w.nodes.len c.args.node node w.nodes.ok.0 within c.index_mut.ensures.value in
-    err_then c.reserve.result c.reserve.ensures.memory (λ wants m s x h. (_, wants m s x h.sound (h.each c.args.node node at) (sealed_is g.D.Area node.journal.log (x.reset c.args.node) (h.each c.args.node node at).journal.reset_is (h.resets c.args.node))))
+    err_then c.reserve.result c.reserve.ensures.memory (λ wants m s x h. (_, wants m s x h.sound (h.each c.args.node node at) (sealed_is g.D.Area node.journal.log (x.reset c.args.node) (h.each c.args.node node at).journal.reset_is (c.requires.running node at))))
 
 pub returns-clause-err : goal.returns-clause-err
 returns-clause-err g c =

@@ -1,7 +1,7 @@
 use Rattle.std.proofs.Common.{OnErr, refl, sym, ap, subst, ◌∙◌}
 use Rattle.std.proofs.lemmas.Result.{IfOk-weaker}
 use Rattle.lc_model.specs.declared.event.Event.{Event}
-use Rattle.lc_model.specs.declared.event.Event.TheVariants.{Begin, SetRange, Write, Read, Abort, Reserve, Close, FlushStep, Leave, Arrive, Deliver, Trim}
+use Rattle.lc_model.specs.declared.event.Event.TheVariants.{Begin, SetRange, Write, Read, Abort, Reserve, Close, FlushStep, Leave, Arrive, Deliver, Trim, ResetStep}
 use Rattle.lc_core.specs.Stepping.{AsksMemory}
 use Rattle.lc_core.proofs.Ordinary.{follows_step, leaving_step, refused_step}
 use Rattle.lc_core.proofs.Faults.{quiet}
@@ -48,6 +48,9 @@ returns-in-Close-clause-follows g c = follows_step g.D.Area c.args.self.now c.ar
 
 pub returns-in-FlushStep-clause-follows : goal.returns-in-FlushStep-clause-follows
 returns-in-FlushStep-clause-follows g c = follows_step g.D.Area c.args.self.now c.args.event.now c.refusal.result c.refusal.ensures.refused c.args.writing (FlushStep c.in-FlushStep.node) c.flush_step.result c.flush_step.new.self c.in_default.is (c.in-FlushStep.is) c.flush_step.ensures.follows
+
+pub returns-in-ResetStep-clause-follows : goal.returns-in-ResetStep-clause-follows
+returns-in-ResetStep-clause-follows g c = follows_step g.D.Area c.args.self.now c.args.event.now c.refusal.result c.refusal.ensures.refused c.args.writing (ResetStep c.in-ResetStep.node) c.reset_step.result c.reset_step.new.self c.in_default.is (c.in-ResetStep.is) c.reset_step.ensures.follows
 
 pub returns-in-Leave-clause-follows : goal.returns-in-Leave-clause-follows
 returns-in-Leave-clause-follows g c = leaving_step g.D.Area c.args.self.now c.args.event.now c.refusal.result c.refusal.ensures.refused c.args.writing c.in-Leave.node c.in-Leave.segment c.leave.result c.leave.new.self c.in_default.is c.in-Leave.is c.leave.ensures.follows

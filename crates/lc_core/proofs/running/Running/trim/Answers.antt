@@ -50,7 +50,7 @@ returns g c = record {
       let all : m.geometry.nodes ≡ length w.nodes.items = ap (λ i. i.nodes) h.geometry_is ∙ sym w.all_nodes ∙ w.nodes.ok.0 in
       stays_onward g.D.Area m c.args.node (Trim c.args.node) s x _ w.geometry w.nodes.items w.travelling.items h common node at (record { desk = node.desk; journal = c.trim.new.self; known = node.known })
       (trim_goes g.D.Area m c.args.node s x c.applied_in_front-count.result node c.trim.new.self fits
-      (counted.1 m c.args.node s x h.sound fits.journal (record { all = all; each = λ k other got. (h.each k other got).slots })) c.trim.ensures.trims c.trim.ensures.group)
+      (counted.1 m c.args.node s x h.sound fits.journal (record { all = all; each = λ k other got. (h.each k other got).slots })) c.trim.ensures.trims c.trim.ensures.group c.trim.ensures.round)
       (λ k e. absurd (omega (arith, e)));
   answer = refl;
   logs =
