@@ -1,17 +1,12 @@
 -- A node whose log is being reset goes on.
-use Rattle.std.proofs.Common.{◌≡◌, ℕ, ◌+◌, Bool, true, false, List, refl, sym, ap, subst, ◌∙◌, inl, inr}
+use Rattle.std.proofs.Common.{◌≡◌, ℕ, ◌+◌, true, refl, sym, ap, subst, ◌∙◌, inl, inr}
 use Rattle.lc_disk.specs.declared.area.Area.{Ghosts}
-use Rattle.lc_page.specs.declared.page_text.PageText.{PageText}
-use Rattle.lc_model.specs.History.{entries_of}
 use Rattle.lc_model.specs.Machine.{halting}
-use Rattle.lc_model.specs.Merge.{Page}
 use Rattle.lc_model.specs.State.{Setting, State}
-use Rattle.lc_model.specs.Stored.{records_of}
 use Rattle.lc_model.specs.declared.event.Event.TheVariants.{ResetStep}
 use Rattle.lc_model.specs.declared.reply.Reply.{Reply}
 use Rattle.lc_model.specs.declared.reply.Reply.TheVariants.{Stepped, Reset}
 use Rattle.lc_model.proofs.Seats.{update-other}
-use Rattle.lc_core.specs.Beside.{BesideLogs}
 use Rattle.lc_core.specs.Follows.{SameButLog}
 use Rattle.lc_core.specs.Node.{FitsNode, GoesOn}
 use Rattle.lc_core.specs.Numbers.{Numbers}

@@ -26,7 +26,7 @@ use Rattle.lc_core.specs.Desk.{FitsDesk}
 use Rattle.lc_core.specs.Journal.{FitsLog}
 use Rattle.lc_trunc.specs.KnownClean.{known as known_of}
 use Rattle.lc_core.specs.Log.{Stands, HasReset, area_of, is_failed}
-use Rattle.lc_core.specs.LogWords.{AreLogged, AreWordsOf, IsNodeKept, IsNodeRead, IsRead, IsSameBut, ReadsLog, ReadsNone, has_failed, log_area, log_in, logged_records}
+use Rattle.lc_core.specs.LogWords.{AreLogged, AreWordsOf, IsNodeKept, IsNodeRead, IsSameBut, ReadsLog, ReadsNone, has_failed, log_area, log_in}
 use Rattle.lc_core.specs.Node.{FitsNode}
 use Rattle.lc_core.specs.Numbers.{Numbers, stable_records}
 use Rattle.lc_core.specs.Places.{get_set_other, get_set_same, same_some}

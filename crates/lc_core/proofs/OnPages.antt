@@ -1,17 +1,17 @@
 -- Whose positions a page has, and which bytes it shows where it has none that are not over.
-use Rattle.std.proofs.Common.{◌≡◌, ◌≢◌, ℕ, zero, suc, ◌+◌, ◌-◌, ◌*◌, ◌<◌, ◌≤◌, Bool, true, false, List, [], ◌∷◌, ◌++◌, length, take, drop, find, Option, Some, None, All, refl, sym, ap, subst, ◌∙◌, arith, inl, inr, true≢false}
+use Rattle.std.proofs.Common.{◌≡◌, ℕ, zero, suc, ◌+◌, ◌*◌, ◌<◌, ◌≤◌, Bool, true, false, List, [], ◌∷◌, ◌++◌, take, drop, find, Option, Some, None, refl, sym, ap, ◌∙◌, arith, true≢false}
 use Rattle.std.specs.Prelude.{◌↔◌, ◌||◌, if◌then◌else◌, slice_get, IsTrue}
 use Rattle.std.specs.List.{list_any}
 use Rattle.std.proofs.Math.Seq.{drop-nil}
-use Rattle.std.proofs.lemmas.Bool.{cases_lt, false_from_ne_true, or_left, or_right, or_cases, true_from_ne_false}
+use Rattle.std.proofs.lemmas.Bool.{false_from_ne_true, true_from_ne_false}
 use Rattle.lc_record.specs.Content.{Content, segment_of}
-use Rattle.lc_record.specs.Transaction.{Transaction, all_set, effects, holds, locks}
+use Rattle.lc_record.specs.Transaction.{Transaction, all_set, holds, locks}
 use Rattle.lc_record.proofs.LockLemmas.{lock_holds}
-use Rattle.lc_model.specs.History.{value, transactions}
-use Rattle.lc_model.specs.Merging.{byte_at, sets}
+use Rattle.lc_model.specs.History.{value}
+use Rattle.lc_model.specs.Merging.{sets}
 use Rattle.lc_model.specs.Sound.{IsHere as HasTokens, IsProper, Sound, holders, unclosed}
 use Rattle.lc_model.specs.State.{At, Setting, State, is_by}
-use Rattle.lc_model.specs.Stored.{base, page_bytes}
+use Rattle.lc_model.specs.Stored.{page_bytes}
 use Rattle.lc_model.proofs.Bytes.{byte-unset}
 use Rattle.lc_model.proofs.Holders.{is_by-same}
 use Rattle.lc_model.proofs.Lists.{All-left, found-all, found-passes, none_of}
@@ -29,7 +29,7 @@ use Rattle.lc_core.specs.declared.here.Here.{Here}
 use Rattle.lc_core.specs.declared.seat.Seat.{Seat}
 use Rattle.lc_core.specs.declared.seat.Seat.TheVariants.{Free, Open, Reserved}
 use Rattle.lc_core.proofs.Counted.{on_place, place_on, same_truth, unset_on}
-use Rattle.lc_core.proofs.Holding.{IsHolder, free-none, holders-proper, only-holder, seat-holds}
+use Rattle.lc_core.proofs.Holding.{free-none, holders-proper, only-holder, seat-holds}
 use Rattle.lc_core.proofs.Seating.{some_at}
 use Rattle.lc_core.proofs.Shown.{here_shows}
 

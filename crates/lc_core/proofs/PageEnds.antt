@@ -1,5 +1,5 @@
 -- The end of a page write: what is clean now, and what that keeps.
-use Rattle.std.proofs.Common.{◌≡◌, ◌≢◌, ◌⊎◌, ℕ, zero, suc, ◌+◌, ◌<◌, ◌≤◌, Bool, true, false, List, Option, Some, None, length, refl, sym, ap, subst, ◌∙◌, inl, inr, arith, true≢false, get_or-set_other, get_or-set_same, length-set}
+use Rattle.std.proofs.Common.{◌≡◌, ◌≢◌, ℕ, zero, suc, ◌+◌, ◌<◌, ◌≤◌, Bool, true, false, List, Option, Some, None, length, refl, sym, ap, subst, ◌∙◌, inl, inr, arith, true≢false, get_or-set_other, get_or-set_same, length-set}
 use Rattle.std.specs.Prelude.{◌^◌, max, is_some, nat_lt, slice_set, if◌then◌else◌}
 use Rattle.std.specs.Option.{unwrap_or}
 use Rattle.std.proofs.Math.Nat.{le-max_left, le_refl, le_trans, max-le, min-eq_left, min-eq_right}
@@ -8,11 +8,11 @@ use Rattle.lc_page.specs.declared.entry.Entry.{Entry}
 use Rattle.lc_page.specs.PageVector.{entry_at, is_dirty, no_entry, settled, settled_text}
 use Rattle.lc_core.specs.Settled.{begun_number}
 use Rattle.lc_record.specs.Marks.{counting}
-use Rattle.lc_token.specs.Token.{IsDirtyPage, IsLeastStable, IsReached, least_with}
+use Rattle.lc_token.specs.Token.{IsReached, least_with}
 use Rattle.lc_model.specs.Merge.{Page}
 use Rattle.lc_model.specs.Moves.{update_at, with_settled}
 use Rattle.lc_model.specs.State.{Setting, State, update}
-use Rattle.lc_model.specs.Stored.{Fits as FitsDisks, Shows}
+use Rattle.lc_model.specs.Stored.{Fits as FitsDisks}
 use Rattle.lc_model.proofs.Keeps.{update-case}
 use Rattle.lc_model.proofs.Moves.{keeps-settled, shows-settled}
 use Rattle.lc_model.proofs.Seats.{update-other, update-own}

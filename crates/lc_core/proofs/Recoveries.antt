@@ -1,5 +1,5 @@
 -- How a store that is down follows the machine.
-use Rattle.std.proofs.Common.{◌≡◌, ℕ, ◌+◌, ◌*◌, ◌<◌, ◌≤◌, ◌⊎◌, inl, inr, Bool, true, ◌++◌, List, length, drop, Option, Some, None, refl, sym, ap, subst, ◌∙◌, arith}
+use Rattle.std.proofs.Common.{◌≡◌, ℕ, ◌+◌, ◌<◌, ◌⊎◌, inl, inr, Bool, true, ◌++◌, List, length, Option, Some, None, refl, sym, ap, subst, ◌∙◌, arith}
 use Rattle.std.proofs.lemmas.Result.{IfOk-from_err}
 use Rattle.std.specs.Prelude.{◌-◌, Result, Ok, Err, IfOk, IfErr, OnOk, OnErr, find, is_some, if◌then◌else◌, replicate, slice_get, slice_index_or}
 use Rattle.lc_disk.specs.declared.area.Area.{Ghosts}
@@ -40,7 +40,7 @@ use Rattle.lc_model.proofs.Keeps.{sound-step}
 use Rattle.lc_core.specs.Fresh.{text_read_of}
 use Rattle.lc_core.specs.Numbers.{Numbers, recovered_numbers}
 use Rattle.lc_core.specs.Running.{FitsRunning}
-use Rattle.lc_core.specs.Settled.{Settled, CountsSteps, number_of, open_answer, settled_answer}
+use Rattle.lc_core.specs.Settled.{CountsSteps, number_of, open_answer, settled_answer}
 use Rattle.lc_core.specs.Slots.{besides_of}
 use Rattle.lc_core.specs.Node.{FitsNode}
 use Rattle.lc_core.specs.Stepping.{FollowsStep, TellsWriting, is_plain}

@@ -1,6 +1,6 @@
 -- The steps of a reset are the machine's.
-use Rattle.std.proofs.Common.{◌≡◌, ◌⊎◌, ◌+◌, ◌-◌, ◌*◌, ◌^◌, ◌<◌, ◌≤◌, ℕ, zero, suc, Bool, true, false, List, [], ◌∷◌, ◌++◌, length, take, drop, Option, Some, None, refl, sym, ap, subst, ◌∙◌, arith, inl, inr}
-use Rattle.std.proofs.Common.{eq-eqb, ne_eqb, lt-ltb}
+use Rattle.std.proofs.Common.{◌≡◌, ◌⊎◌, ◌+◌, ◌<◌, ◌≤◌, ℕ, true, false, List, [], ◌∷◌, length, take, drop, Option, Some, None, refl, sym, ap, subst, ◌∙◌, arith, inl, inr}
+use Rattle.std.proofs.Common.{lt-ltb}
 use Rattle.std.proofs.lemmas.Bool.{le-ltb}
 use Rattle.std.proofs.lemmas.List.{length-drop, length-take-le}
 use Rattle.std.specs.Prelude.{◌==◌, nat_lt, is_some, IsTrue, if◌then◌else◌}
@@ -20,12 +20,12 @@ use Rattle.lc_model.specs.declared.reply.Reply.TheVariants.{Stepped, Nothing, Re
 use Rattle.lc_model.proofs.Seats.{update-own}
 use Rattle.lc_core.specs.Follows.{FitsJournal}
 use Rattle.lc_core.specs.Journal.{FitsLog, reply_of}
-use Rattle.lc_core.specs.Log.{ComesToReset, HasReset, MovesReset, ResetsTo, Seals, Stands, Unseals, is_emptied, is_failed, is_sealed}
+use Rattle.lc_core.specs.Log.{ComesToReset, HasReset, MovesReset, ResetsTo, Stands, Unseals, is_emptied, is_failed, is_sealed}
 use Rattle.lc_core.specs.Numbers.{Numbers, stable_records}
 use Rattle.lc_core.specs.Places.{same_some}
 use Rattle.lc_core.specs.Records.{Kept, count_of}
 use Rattle.lc_core.specs.Resets.{GoesOnReset}
-use Rattle.lc_core.specs.Settled.{IsAnswer, Settled, is_unflushed, last_round, least_unclean, locks_in, makes_call, reset_begins, reset_call}
+use Rattle.lc_core.specs.Settled.{IsAnswer, Settled, is_unflushed, last_round, least_unclean, locks_in, reset_begins, reset_call}
 use Rattle.lc_core.specs.Turns.{Turns, reset_done, reset_to}
 use Rattle.lc_core.specs.declared.journal.Journal.{Journal}
 use Rattle.lc_core.specs.declared.log.Log.{Log}

@@ -1,5 +1,5 @@
 -- A reset of a node's log.
-use Rattle.std.proofs.Common.{◌≡◌, ℕ, ◌+◌, ◌-◌, ◌<◌, ◌≤◌, zero, suc, Bool, true, false, List, [], ◌∷◌, ◌++◌, length, take, drop, Option, Some, None, slice_get, refl, sym, ap, subst, ◌∙◌, arith}
+use Rattle.std.proofs.Common.{◌≡◌, ℕ, ◌≤◌, zero, suc, true, false, List, [], ◌∷◌, ◌++◌, length, take, drop, Option, Some, None, slice_get, refl, sym, ap, subst, ◌∙◌}
 use Rattle.std.specs.Prelude.{nat_lt, if◌then◌else◌}
 use Rattle.lc_record.specs.declared.record.Lock.{Lock}
 use Rattle.lc_record.specs.declared.record.Record.{Record}
@@ -17,8 +17,8 @@ use Rattle.lc_core.specs.Records.{Kept}
 use Rattle.lc_core.specs.Turns.{reset_to}
 use Rattle.lc_core.specs.Resets.{Knows}
 use Rattle.lc_core.specs.Settled.{least_unclean, locks_in}
-use Rattle.lc_core.specs.Trimming.{IsKnown, AreKnown}
-use Rattle.lc_core.proofs.Trimmed.{get_take, known_at}
+use Rattle.lc_core.specs.Trimming.{AreKnown}
+use Rattle.lc_core.proofs.Trimmed.{known_at}
 use Rattle.lc_disk.specs.declared.area.Area.{Ghosts}
 use Rattle.lc_core.specs.declared.log.Log.{Log}
 use Rattle.lc_core.specs.declared.log.Log.TheVariants.{Idle, Written, Synced, Opened, Sealed, Closing, Emptied, Failed, Torn, Taken}

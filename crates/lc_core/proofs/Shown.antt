@@ -1,32 +1,29 @@
 -- What a slot at a node shows is what the machine and the numbers have there.
 use Rattle.std.proofs.lemmas.Bool.{eq-eqb, leb-true, ltb-true, or_left}
-use Rattle.std.proofs.Common.{◌≡◌, ℕ, zero, suc, ◌+◌, ◌-◌, true, false, List, ◌++◌, find, All, Option, None, Some, refl, sym, ap, subst, ◌∙◌, arith, true≢false}
+use Rattle.std.proofs.Common.{◌≡◌, ℕ, suc, ◌+◌, true, false, List, find, All, Option, None, Some, refl, sym, ap, subst, ◌∙◌, arith, true≢false}
 use Rattle.std.specs.Prelude.{◌&&◌, ◌==◌, ◌≤◌, nat_le, ◌<◌, if◌then◌else◌, option_map, slice_get, IsSome}
-use Rattle.std.specs.Option.{ForSome}
 use Rattle.std.proofs.lemmas.Option.{slice_get-map}
 use Rattle.lc_record.specs.Content.{Content, segment_of}
-use Rattle.lc_record.specs.Transaction.{Transaction, is_member, locks, holds}
+use Rattle.lc_record.specs.Transaction.{Transaction, is_member, locks}
 use Rattle.lc_record.specs.declared.geometry.Geometry.{Geometry}
 use Rattle.lc_record.proofs.LockLemmas.{lock_holds}
 use Rattle.lc_model.specs.History.{value}
 use Rattle.lc_model.specs.Refusals.{is_at, is_node, is_page, is_segment}
-use Rattle.lc_model.specs.Sound.{Sound, IsHere as HasTokens, IsProper, holders, unclosed}
-use Rattle.lc_model.specs.State.{At, Place, Setting, State, is_by, running_of}
+use Rattle.lc_model.specs.Sound.{Sound, IsHere as HasTokens, IsProper, unclosed}
+use Rattle.lc_model.specs.State.{At, Setting, State, is_by}
 use Rattle.lc_model.proofs.Holders.{is_by-same}
 use Rattle.lc_model.proofs.Rows.{and-both}
 use Rattle.lc_model.proofs.Lists.{All-left, found-all, found-passes, not_found}
 use Rattle.lc_tx.specs.Holders.{writer_of}
 use Rattle.lc_tx.specs.Images.{IsHere, bytes_of, holders_of}
-use Rattle.lc_tx.specs.declared.holders.Holders.TheVariants.{Free as Unheld}
-use Rattle.lc_tx.specs.declared.image.Image.{Image as Picture}
 use Rattle.lc_tx.specs.declared.tx.Tx.{Tx}
-use Rattle.lc_core.specs.Desk.{FitsDesk, FitsSeat}
+use Rattle.lc_core.specs.Desk.{FitsDesk}
 use Rattle.lc_core.specs.Here.{beside, hidden, image_at, number_at, number_in, the_images}
 use Rattle.lc_core.specs.Numbers.{Numbers}
 use Rattle.lc_core.specs.Places.{same_some}
 use Rattle.lc_core.specs.Seat.{holder_of}
 use Rattle.lc_core.specs.Showing.{content_with, image_of, open_writer}
-use Rattle.lc_core.specs.Slots.{FitsSlot, FitsSlots, besides_of, segment_to}
+use Rattle.lc_core.specs.Slots.{FitsSlots, besides_of, segment_to}
 use Rattle.lc_core.specs.declared.here.Here.{Here}
 use Rattle.lc_core.specs.declared.seat.Seat.{Seat}
 use Rattle.lc_core.specs.declared.seat.Seat.TheVariants.{Free, Open, Reserved}

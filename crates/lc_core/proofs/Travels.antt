@@ -1,12 +1,10 @@
 -- The tokens that are on their way.
-use Rattle.std.proofs.Common.{◌≡◌, ◌⊎◌, ℕ, zero, suc, ◌+◌, List, [], ◌∷◌, true, false, ◌≤◌, leb-true, Option, Some, None, refl, sym, ap, subst, ◌∙◌, inl, inr, arith}
-use Rattle.std.specs.Prelude.{slice_get, slice_set, nat_le, nat_lt, ◌&&◌, ◌||◌}
-use Rattle.std.specs.List.{list_any}
+use Rattle.std.proofs.Common.{◌≡◌, ◌⊎◌, ℕ, zero, suc, ◌+◌, List, [], ◌∷◌, true, ◌≤◌, leb-true, Option, Some, None, refl, sym, ap, subst, ◌∙◌, inl, inr, arith}
+use Rattle.std.specs.Prelude.{slice_get, slice_set, nat_le, ◌&&◌}
 use Rattle.std.specs.Option.{ForSome}
 use Rattle.std.proofs.lemmas.Bool.{cases_eq}
 use Rattle.std.proofs.lemmas.List.{length-set}
 use Rattle.lc_disk.specs.declared.area.Area.{Ghosts}
-use Rattle.lc_record.specs.Marks.{counting}
 use Rattle.lc_record.specs.declared.geometry.Geometry.{Geometry}
 use Rattle.lc_token.specs.declared.token.Token.{Token}
 use Rattle.lc_model.specs.State.{Place, At, Travelling, Setting, State}
@@ -22,7 +20,7 @@ use Rattle.lc_core.specs.Nodes.{AreNamed}
 use Rattle.lc_core.specs.Numbers.{Numbers}
 use Rattle.lc_core.specs.Places.{get_set_other, get_set_same, same_some}
 use Rattle.lc_core.specs.Running.{FitsAll, FitsTravelling, Onward}
-use Rattle.lc_core.specs.Settled.{arrive_answer, is_writing}
+use Rattle.lc_core.specs.Settled.{arrive_answer}
 use Rattle.lc_core.specs.Slots.{FitsToken}
 use Rattle.lc_core.specs.declared.node.Node.{Node}
 use Rattle.lc_core.proofs.Going.{settled_by}

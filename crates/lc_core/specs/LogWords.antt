@@ -6,7 +6,6 @@ use Rattle.lc_record.specs.declared.record.Record.{Record}
 use Rattle.lc_log.specs.LogText.{IsLogText, joined}
 use Rattle.lc_model.specs.State.{Up as IsUp, Setting, State}
 use Rattle.lc_model.specs.Stored.{records_of}
-use Rattle.lc_recover.specs.Recovery.{Recovering}
 use Rattle.lc_core.specs.Log.{Stands, HasReset, area_of, end_of, is_failed, is_idle, is_sealed, size, under_way}
 use Rattle.lc_core.specs.Numbers.{Numbers, stable_records}
 use Rattle.lc_core.specs.Pages.{areas_of}

@@ -3,7 +3,6 @@ use Rattle.std.specs.Prelude.{◌≡◌, ℕ, ◌*◌, ◌&&◌, List, take, dro
 use Rattle.lc_disk.specs.declared.area.Area.{Ghosts}
 use Rattle.lc_record.specs.Content.{Content, segment_of}
 use Rattle.lc_record.specs.Transaction.{Transaction, locks}
-use Rattle.lc_record.specs.declared.geometry.Geometry.{Geometry}
 use Rattle.lc_model.specs.History.{value}
 use Rattle.lc_model.specs.Machine.{seen}
 use Rattle.lc_model.specs.Refusals.{is_at, is_node, is_page, is_segment}

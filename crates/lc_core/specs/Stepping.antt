@@ -7,7 +7,7 @@ use Rattle.lc_tx.specs.Tx.{IsSetOf, none_of}
 use Rattle.lc_model.specs.Machine.{Step}
 use Rattle.lc_model.specs.State.{Setting, State}
 use Rattle.lc_model.specs.declared.event.Event.{Event}
-use Rattle.lc_model.specs.declared.event.Event.TheVariants.{Begin, SetRange, Read, Reserve, Leave, Deliver, PageStep, ResetStep, Stop, RecoverStep}
+use Rattle.lc_model.specs.declared.event.Event.TheVariants.{Begin, SetRange, Read, Reserve, Leave, Deliver, PageStep, Stop, RecoverStep}
 use Rattle.lc_model.specs.declared.reply.Reply.{Reply}
 use Rattle.lc_core.specs.Delivers.{WantsPart}
 use Rattle.lc_core.specs.Numbers.{Numbers}

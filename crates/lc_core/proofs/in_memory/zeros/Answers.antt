@@ -1,7 +1,7 @@
-use Rattle.std.proofs.Common.{◌≡◌, ◌∷◌, ◌++◌, [], Some, None, List, length, sym, ap, subst, ◌∙◌, arith}
+use Rattle.std.proofs.Common.{◌≡◌, Some, None, List, length, sym, ap, subst, ◌∙◌}
 use Rattle.lc_disk.specs.declared.mem_area.MemArea.{MemArea}
 use Rattle.lc_recover.specs.Reads.{area_len}
-use Rattle.lc_core.proofs.Zeroed.{AreMade, all_lengths, all_zeros, below_count, none_made, one_made}
+use Rattle.lc_core.proofs.Zeroed.{AreMade, all_lengths, all_zeros, none_made, one_made}
 use Rattle.lc_core.proofs.in_memory.zeros.Goals as goal
 
 pub loop-len-init : goal.loop-len-init

@@ -1,11 +1,10 @@
-use Rattle.std.proofs.Common.{◌≡◌, ◌<◌, Bool, true, false, Err, ap, sym, subst, ◌∙◌, arith}
+use Rattle.std.proofs.Common.{◌<◌, Bool, true, false, Err, ap, subst, ◌∙◌, arith}
 use Rattle.std.proofs.lemmas.Result.{err_from_is_err_and}
-use Rattle.std.specs.Prelude.{Result, is_ok}
+use Rattle.std.specs.Prelude.{is_ok}
 use Rattle.lc_record.specs.declared.geometry.Geometry.{Geometry}
 use Rattle.lc_recover.specs.Recovery.{IsReadFrom}
 use Rattle.lc_core.specs.declared.show_fault.ShowFault.{ShowFault}
-use Rattle.lc_core.specs.declared.show_fault.ShowFault.TheVariants.{DeviceFault, NoMemory, Unknown}
-use Rattle.lc_core.proofs.LogReads.{down_area, down_bytes, down_read, log_length, not_read}
+use Rattle.lc_core.proofs.LogReads.{down_bytes, down_read, log_length, not_read}
 use Rattle.lc_core.proofs.log_words.log_bytes_of.Goals as goal
 
 pub read-requires-clause-within : goal.read-requires-clause-within

@@ -1,12 +1,9 @@
-use Rattle.std.proofs.Common.{◌≡◌, ◌+◌, ◌*◌, ◌↔◌, Option, Some, List, true, inl, inr, refl, sym, ap, subst, ◌∙◌, arith}
-use Rattle.std.specs.Prelude.{IsTrue}
+use Rattle.std.proofs.Common.{◌≡◌, ◌+◌, ◌*◌, Some, inl, inr, sym, ap, subst, ◌∙◌, arith}
 use Rattle.lc_range.specs.RangeSet.{Has}
-use Rattle.lc_range.specs.declared.range.Range.{Range}
 use Rattle.lc_tx.specs.declared.tx.Tx.{Tx}
 use Rattle.lc_core.specs.Counts.{names_page}
 use Rattle.lc_core.specs.Places.{same_some}
 use Rattle.lc_core.specs.Seat.{holder_of}
-use Rattle.lc_core.specs.Uncommitted.{SetsPage}
 use Rattle.lc_core.specs.declared.seat.Seat.{Seat}
 use Rattle.lc_core.proofs.Counted.{has_meets, meets_has}
 use Rattle.lc_core.proofs.uncommitted.sets_page.Goals as goal

@@ -1,12 +1,11 @@
-use Rattle.std.proofs.Common.{◌≡◌, ◌<◌, ◌≤◌, ℕ, false, true, Some, None, refl, sym, ap, subst, ◌∙◌, arith, inl, inr, eq-eqb, ne_eqb}
+use Rattle.std.proofs.Common.{◌≡◌, ◌≤◌, true, refl, sym, subst, ◌∙◌, arith, inl, inr, eq-eqb, ne_eqb}
 use Rattle.std.proofs.lemmas.Bool.{cases_Bool}
-use Rattle.lc_trunc.specs.declared.unclean.Unclean.{Unclean as Pair}
 use Rattle.lc_model.specs.declared.refusal.Refusal.TheVariants.{Unflushed, Unclean, RoundsSpent}
 use Rattle.lc_model.specs.declared.reply.Reply.TheVariants.{Stepped, Nothing, Refused}
 use Rattle.lc_core.specs.Log.{Seals, is_idle}
 use Rattle.lc_core.specs.Numbers.{stable_records}
 use Rattle.lc_core.specs.Records.{count_of, front_of}
-use Rattle.lc_core.specs.Settled.{last_round, least_unclean, locks_in}
+use Rattle.lc_core.specs.Settled.{last_round}
 use Rattle.lc_core.specs.Turns.{reset_to}
 use Rattle.lc_core.proofs.ResetRows.{begins_nothing, begins_so, begins_spent, begins_unclean, begins_unflushed, flushed, none_stable, resets_none, settled_first, some_stable, stays_unreset, unflushed}
 use Rattle.lc_core.proofs.Sealing.{reset_fits}

@@ -1,6 +1,6 @@
-use Rattle.std.proofs.Common.{◌≡◌, ◌+◌, ℕ, refl, sym, ap, subst, ◌∙◌, inl}
+use Rattle.std.proofs.Common.{◌+◌, ℕ, refl, sym, ap, subst, ◌∙◌, inl}
 use Rattle.lc_model.proofs.Seats.{update-own}
-use Rattle.lc_core.specs.Log.{Unseals, is_emptied, is_failed}
+use Rattle.lc_core.specs.Log.{Unseals}
 use Rattle.lc_core.specs.Turns.{reset_done}
 use Rattle.lc_core.proofs.ResetRows.{all_under_way, emptied_works, ends_fits, settled_last}
 use Rattle.lc_core.proofs.journal.Journal.end_reset.Goals as goal

@@ -1,8 +1,7 @@
-use Rattle.std.proofs.Common.{◌≡◌, ◌+◌, ◌-◌, ◌<◌, ◌≤◌, ℕ, suc, List, ◌∷◌, take, drop, Some, slice_get, sym, ap, ◌∙◌, arith}
+use Rattle.std.proofs.Common.{◌≡◌, ◌-◌, ◌<◌, ◌≤◌, ℕ, suc, List, ◌∷◌, take, drop, Some, slice_get, sym, ap, ◌∙◌, arith}
 use Rattle.lc_record.specs.declared.record.Record.{Record}
 use Rattle.lc_model.specs.Stored.{records_of}
 use Rattle.lc_trunc.specs.KnownClean.{known as known_of}
-use Rattle.lc_core.specs.Numbers.{stable_records}
 use Rattle.lc_core.specs.Records.{count_of, front_of}
 use Rattle.lc_core.specs.Settled.{least_unclean, locks_in}
 use Rattle.lc_core.proofs.Published.{kept_at}

@@ -1,4 +1,4 @@
-use Rattle.std.proofs.Common.{◌≡◌, ◌+◌, ◌*◌, ◌≤◌, false, sym, subst, ◌∙◌, arith, true≢false}
+use Rattle.std.proofs.Common.{◌≡◌, false, sym, subst, ◌∙◌, arith, true≢false}
 use Rattle.lc_core.specs.Log.{CallsOnce, MovesReset, is_failed}
 use Rattle.lc_core.proofs.Rooms.{sealed_works, size_kept}
 use Rattle.lc_core.proofs.Sealing.{reset_still}

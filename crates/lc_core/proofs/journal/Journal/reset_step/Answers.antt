@@ -1,8 +1,4 @@
-use Rattle.std.proofs.Common.{◌≡◌, refl, sym, ap, subst, ◌∙◌, inl, inr}
-use Rattle.lc_model.specs.declared.reply.Reply.{Reply}
-use Rattle.lc_core.specs.FaultReplies.{TellsFault}
-use Rattle.lc_core.specs.Resets.{GoesOnReset}
-use Rattle.lc_core.proofs.Faults.{call_tells}
+use Rattle.std.proofs.Common.{sym, ◌∙◌}
 use Rattle.lc_core.proofs.ResetRows.{call_goes, called_on}
 use Rattle.lc_core.proofs.journal.Journal.reset_step.Goals as goal
 

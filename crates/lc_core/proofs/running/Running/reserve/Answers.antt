@@ -1,10 +1,9 @@
-use Rattle.std.proofs.Common.{◌<◌, [], sym, arith, ap}
+use Rattle.std.proofs.Common.{◌<◌, [], arith}
 use Rattle.std.proofs.lemmas.Option.{slice_get_read}
 use Rattle.std.proofs.lemmas.Result.{IfOk-weaker}
 use Rattle.lc_model.proofs.Rows.{seat_known}
 use Rattle.lc_core.proofs.Logged.{err_then}
 use Rattle.lc_model.specs.declared.event.Event.TheVariants.{Reserve}
-use Rattle.std.specs.Prelude.{nat_lt}
 use Rattle.lc_core.proofs.Onward.{stays_onward, still_onward, whole_set}
 use Rattle.lc_core.proofs.Faults.{logs_stay}
 use Rattle.lc_core.proofs.Sealing.{sealed_is}

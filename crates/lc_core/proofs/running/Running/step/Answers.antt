@@ -1,7 +1,7 @@
 use Rattle.std.proofs.Common.{OnErr, refl, sym, ap, subst, ◌∙◌}
 use Rattle.std.proofs.lemmas.Result.{IfOk-weaker}
 use Rattle.lc_model.specs.declared.event.Event.{Event}
-use Rattle.lc_model.specs.declared.event.Event.TheVariants.{Begin, SetRange, Write, Read, Abort, Reserve, Close, FlushStep, Leave, Arrive, Deliver, Trim, ResetStep}
+use Rattle.lc_model.specs.declared.event.Event.TheVariants.{Begin, SetRange, Write, Read, Abort, Reserve, Close, FlushStep, Arrive, Deliver, Trim, ResetStep}
 use Rattle.lc_core.specs.Stepping.{AsksMemory}
 use Rattle.lc_core.proofs.Ordinary.{follows_step, leaving_step, refused_step}
 use Rattle.lc_core.proofs.Faults.{quiet}

@@ -1,10 +1,10 @@
-use Rattle.std.proofs.Common.{◌≡◌, ℕ, ◌++◌, [], refl, sym, subst, ap, ◌∙◌}
-use Rattle.std.specs.Prelude.{List, replicate}
+use Rattle.std.proofs.Common.{◌≡◌, refl, sym, subst}
+use Rattle.std.specs.Prelude.{replicate}
 use Rattle.lc_record.specs.declared.geometry.Geometry.{Geometry}
-use Rattle.lc_recover.specs.Reads.{AreHonest, AllMergeTo}
+use Rattle.lc_recover.specs.Reads.{AllMergeTo}
 use Rattle.lc_recover.specs.Recovery.{Recovering, begun}
 use Rattle.lc_model.specs.Sound.{Sound}
-use Rattle.lc_model.specs.State.{Setting, first_state}
+use Rattle.lc_model.specs.State.{first_state}
 use Rattle.lc_model.proofs.Keeps.{sound-first}
 use Rattle.lc_core.specs.World.{FitsDown}
 use Rattle.lc_core.proofs.world.World.new.Goals as goal

@@ -5,7 +5,7 @@ use Rattle.lc_core.specs.declared.phase.Phase.{Phase}
 use Rattle.lc_core.proofs.Logged.{err_then}
 use Rattle.lc_core.proofs.Recovers.{IfOk-any, down_refuses, up_asks}
 use Rattle.lc_core.specs.declared.phase.Phase.TheVariants.{Up}
-use Rattle.lc_core.proofs.Recoveries.{common_plain, up_follows, up_still, not_up}
+use Rattle.lc_core.proofs.Recoveries.{common_plain, up_follows, up_still}
 use Rattle.lc_core.proofs.world.World.step.Goals as goal
 
 pub step-requires : goal.step-requires
