@@ -60,6 +60,7 @@ pub mod Away
 pub mod Gained
 pub mod Caught
 pub mod Delivered
+mod Devices
 pub mod OneSlot
 pub mod TwoNodes
 pub mod Travels

@@ -7,6 +7,7 @@ pub mod Here
 pub mod Seat
 pub mod Seats
 pub mod Desk
+pub mod Devices
 pub mod Log
 pub mod FaultReplies
 pub mod Records
