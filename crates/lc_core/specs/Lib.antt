@@ -45,3 +45,4 @@ pub mod LogWords
 pub mod Recovers
 pub mod Uncommitted
 pub mod Resets
+pub mod Areas
