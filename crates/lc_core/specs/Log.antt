@@ -7,8 +7,8 @@ use Rattle.lc_log.specs.NodeLog.{IsIdle, IsWritten, IsSynced, IsOpened, IsClosin
 use Rattle.lc_core.specs.declared.log.Log.{Log}
 use Rattle.lc_core.specs.declared.log.Log.TheVariants.{Idle, Written, Synced, Opened, Sealed, Closing, Emptied, Failed, Torn, Taken}
 
--- of a flush that failed with so many steps done, or in the last of them, the words are the text of the stable records; where
--- its gate may be open they may be that of these and the whole group
+-- the words are the text of the stable records, or, where so many steps of a flush, with the one that failed, reach the one
+-- that opens the gate, of these and the whole group
 abbrev pub IsLeft : ℕ → List Record → List Record → List ℕ → Type 0
 IsLeft steps stable group words = IsLogText words stable ⊎ ((3 ≤ steps) × IsLogText words (stable ++ group))
 
