@@ -81,3 +81,6 @@ pub mod Faults
 pub mod Failures
 pub mod Zeroed
 pub mod Recovers
+pub mod ImagesOfLogs
+pub mod ImagesOfPages
+pub mod ImagesFit

@@ -25,7 +25,7 @@ use Rattle.lc_recover.proofs.SameArea.{same-functions}
 use Rattle.lc_core.specs.Desk.{FitsDesk}
 use Rattle.lc_core.specs.Journal.{FitsLog}
 use Rattle.lc_trunc.specs.KnownClean.{known as known_of}
-use Rattle.lc_core.specs.Log.{Stands, HasReset, area_of, is_failed}
+use Rattle.lc_core.specs.Log.{Stands, HasReset, IsLeft, area_of, is_failed}
 use Rattle.lc_core.specs.LogWords.{AreLogged, AreWordsOf, IsNodeKept, IsNodeRead, IsSameBut, ReadsLog, ReadsNone, has_failed, log_area, log_in}
 use Rattle.lc_core.specs.Node.{FitsNode}
 use Rattle.lc_core.specs.Numbers.{Numbers, stable_records}
@@ -410,9 +410,9 @@ module _ {D : Type 0} (a : Ghosts D) where
   fails_as (Closing log) area reset steps stable group is honest fits failed at stands = absurd cc
   fails_as (Emptied log) area reset steps stable group is honest fits failed at stands = absurd cc
   fails_as (Failed log) area reset steps stable group is honest fits failed at stands =
-      elim (own_image (IsWithOrWithout stable group) log.area area (same_some log.area area is) honest fits stands) [
+      elim (own_image (IsLeft steps stable group) log.area area (same_some log.area area is) honest fits stands) [
         | inl without ↦ inl without
-        | inr with_group ↦ inr (inl with_group)
+        | inr with_group ↦ inr (inl with_group.1)
       ]
   fails_as (Torn log) area reset steps stable group is honest fits failed at stands =
       elim (own_image (IsWithOrWithout [] stable) log.area area (same_some log.area area is) honest fits stands.2) [

@@ -46,3 +46,4 @@ pub mod LogWords
 pub mod Recovers
 pub mod Uncommitted
 pub mod Resets
+pub mod Areas
