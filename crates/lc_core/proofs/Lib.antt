@@ -61,6 +61,7 @@ pub mod Gained
 pub mod Caught
 pub mod Delivered
 mod Devices
+mod Gathering
 pub mod OneSlot
 pub mod TwoNodes
 pub mod Travels
@@ -84,3 +85,4 @@ pub mod Recovers
 pub mod ImagesOfLogs
 pub mod ImagesOfPages
 pub mod ImagesFit
+pub mod Stopped

@@ -51,6 +51,7 @@ mod slot;
 mod starting;
 mod step;
 mod stepping;
+mod stopping;
 mod token_refused;
 mod trimming;
 mod uncommitted;
