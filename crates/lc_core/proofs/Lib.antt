@@ -80,3 +80,9 @@ pub mod Faults
 pub mod Failures
 pub mod Zeroed
 pub mod Recovers
+pub mod Noted
+pub mod Calling
+pub mod PageAnswers
+pub mod NodeWritten
+pub mod Paged
+pub mod LogAreas

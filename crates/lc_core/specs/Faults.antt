@@ -3,6 +3,7 @@ use Rattle.std.specs.Prelude.{◌≡◌, ℕ, List, [], ◌∷◌, ◌++◌, map
 use Rattle.lc_disk.specs.declared.area.Area.{Ghosts}
 use Rattle.lc_model.specs.declared.reply.Reply.{Reply}
 use Rattle.lc_core.specs.FaultReplies.{CountsFaults, failures_of}
+use Rattle.lc_core.specs.Log.{area_of}
 use Rattle.lc_core.specs.Pages.{areas_of}
 use Rattle.lc_core.specs.declared.log.Log.{Log}
 use Rattle.lc_core.specs.declared.node.Node.{Node}
@@ -23,6 +24,10 @@ module _ {D : Type 0} (a : Ghosts D) where
   -- no node's log has changed
   abbrev pub SameLogs : Running D a → Running D a → Type 0
   SameLogs old new = logs_of new.nodes.items ≡ logs_of old.nodes.items
+
+  -- their areas are as they were
+  abbrev pub SameLogAreas : Running D a → Running D a → Type 0
+  SameLogAreas old new = map (area_of a) (logs_of new.nodes.items) ≡ map (area_of a) (logs_of old.nodes.items)
 
   -- how often the device of each has failed
   abbrev pub log_failures : List (Log D a) → List (Option ℕ)

@@ -7,6 +7,7 @@ pub mod Here
 pub mod Seat
 pub mod Seats
 pub mod Desk
+pub mod Drafts
 pub mod Log
 pub mod FaultReplies
 pub mod Records
@@ -35,6 +36,7 @@ pub mod Stepping
 pub mod Runs
 pub mod PageState
 pub mod Pages
+pub mod Paging
 pub mod World
 pub mod Faults
 pub mod Recovering
