@@ -1,5 +1,5 @@
 -- What changes a node, and not the area of its log, changes no area of a log.
-use Rattle.std.proofs.Common.{◌≡◌, ℕ, List, map, Option, Some, slice_get, slice_set, ap, ◌∙◌}
+use Rattle.std.proofs.Common.{◌≡◌, ℕ, List, map, Some, slice_get, slice_set, ap, ◌∙◌}
 use Rattle.std.specs.Prelude.{option_map}
 use Rattle.std.proofs.lemmas.List.{map-set}
 use Rattle.std.proofs.lemmas.Option.{slice_get-map}

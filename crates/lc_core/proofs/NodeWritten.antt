@@ -1,28 +1,24 @@
 -- The end of a page write: what the node and the others see of it.
-use Rattle.std.proofs.Common.{◌≡◌, ◌≢◌, ℕ, ◌+◌, ◌-◌, ◌<◌, ◌≤◌, ◌==◌, List, map, filter, take, All, Option, Some, None, refl, sym, ap, subst, ◌∙◌, inl, inr, arith}
+use Rattle.std.proofs.Common.{◌≡◌, ◌≢◌, ℕ, ◌+◌, ◌-◌, ◌<◌, ◌≤◌, List, filter, take, Option, Some, refl, sym, ap, subst, ◌∙◌, inl, inr, arith}
 use Rattle.std.specs.Prelude.{max, slice_get, slice_set, if◌then◌else◌}
-use Rattle.std.specs.Option.{unwrap_or}
 use Rattle.std.specs.Vec.{with_item}
 use Rattle.std.proofs.lemmas.Bool.{cases_eq, eq-eqb, ne_eqb}
 use Rattle.std.proofs.lemmas.List.{length-set, map-set}
 use Rattle.lc_disk.specs.declared.area.Area.{Ghosts}
 use Rattle.lc_page.specs.PageVector.{settled_text}
-use Rattle.lc_page.specs.declared.page_text.PageText.{PageText}
 use Rattle.lc_record.specs.Content.{segment_of}
-use Rattle.lc_record.specs.Marks.{counting}
 use Rattle.lc_record.specs.Recorded.{records_from}
 use Rattle.lc_record.specs.Transaction.{effects}
 use Rattle.lc_record.specs.declared.part.Part.{Part}
 use Rattle.lc_token.specs.Token.{IsWritten}
 use Rattle.lc_token.specs.declared.token.Token.{Token}
-use Rattle.lc_trunc.specs.Clean.{all_of, closed_of}
+use Rattle.lc_trunc.specs.Clean.{closed_of}
 use Rattle.lc_trunc.specs.KnownClean.{Sees, known as known_of}
 use Rattle.lc_model.specs.History.{transactions}
-use Rattle.lc_model.specs.Machine.{Row}
 use Rattle.lc_model.specs.Merge.{Page}
 use Rattle.lc_model.specs.Merging.{counted_all, sets}
 use Rattle.lc_model.specs.Moves.{update_at}
-use Rattle.lc_model.specs.State.{Place, At, Setting, State}
+use Rattle.lc_model.specs.State.{At, Setting, State}
 use Rattle.lc_model.specs.Stored.{Disks, base}
 use Rattle.lc_model.specs.declared.event.Event.TheVariants.{PageStep}
 use Rattle.lc_model.specs.declared.reply.Reply.TheVariants.{Written}
@@ -36,7 +32,7 @@ use Rattle.lc_core.specs.Numbers.{Numbers, token_number}
 use Rattle.lc_core.specs.Places.{get_set_other, get_set_same, same_some}
 use Rattle.lc_core.specs.Settled.{Settled, begun_number}
 use Rattle.lc_core.specs.Slots.{Awaits, Besides, FitsSlot, FitsSlots, FitsToken, besides_of, segment_to}
-use Rattle.lc_core.specs.Turns.{cleaned, oldest_dirty, page_settled, settled_with, written}
+use Rattle.lc_core.specs.Turns.{cleaned, page_settled, settled_with, written}
 use Rattle.lc_core.specs.declared.desk.Desk.{Desk}
 use Rattle.lc_core.specs.declared.here.Here.{Here}
 use Rattle.lc_core.specs.declared.node.Node.{Node}

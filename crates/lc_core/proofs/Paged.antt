@@ -1,27 +1,24 @@
 -- A step of a page write: the node and the area go on together.
-use Rattle.std.proofs.Common.{◌≡◌, ◌≢◌, ℕ, suc, ◌+◌, ◌-◌, ◌*◌, ◌<◌, ◌≤◌, Bool, true, false, List, [], ◌∷◌, Option, Some, None, length, take, drop, refl, sym, ap, subst, ◌∙◌, inl, inr, arith, true≢false}
-use Rattle.std.specs.Prelude.{◌&&◌, ◌==◌, nat_le, nat_lt, slice_get, slice_set, vec_len, Err, IsSome, Ok}
+use Rattle.std.proofs.Common.{◌≡◌, ℕ, suc, ◌+◌, ◌-◌, ◌*◌, ◌<◌, ◌≤◌, Bool, true, false, List, [], ◌∷◌, Option, Some, None, length, drop, refl, sym, ap, subst, ◌∙◌, inl, inr, arith, true≢false}
+use Rattle.std.specs.Prelude.{◌&&◌, nat_le, slice_get, slice_set, vec_len, Err, IsSome, Ok}
 use Rattle.std.specs.List.{list_any}
 use Rattle.std.proofs.lemmas.Bool.{cases_eq, leb-true, lt-leb, ltb-false, ltb-true}
 use Rattle.std.proofs.lemmas.List.{length-drop, length-take-le}
 use Rattle.lc_disk.specs.declared.area.Area.{Ghosts}
 use Rattle.lc_page.specs.Page.{Page}
 use Rattle.lc_page.specs.PageVector.{entry_at}
-use Rattle.lc_page.specs.PageWrite.{IsBegun, drafted}
+use Rattle.lc_page.specs.PageWrite.{IsBegun}
 use Rattle.lc_page.specs.declared.draft.Draft.{Draft}
-use Rattle.lc_page.specs.declared.page_text.PageText.{PageText}
 use Rattle.lc_page.specs.declared.writing.Writing.{Writing}
 use Rattle.lc_record.specs.Geometry.{segment_len}
 use Rattle.lc_record.specs.declared.geometry.Geometry.{Geometry}
 use Rattle.lc_token.specs.Token.{IsWritten}
 use Rattle.lc_token.specs.declared.token.Token.{Token}
-use Rattle.lc_trunc.specs.Clean.{closed_of}
 use Rattle.lc_trunc.specs.KnownClean.{Sees}
 use Rattle.lc_trunc.proofs.NumberLemmas.{token-number}
 use Rattle.lc_model.specs.History.{transactions, reserved}
 use Rattle.lc_model.specs.Machine.{halting, may_page}
 use Rattle.lc_model.specs.Merge.{Page as StorePage}
-use Rattle.lc_model.specs.Merging.{counted_all}
 use Rattle.lc_model.specs.Moves.{page_now}
 use Rattle.lc_model.specs.Refusals.{are_known, by_node, common_refusal, is_at, is_node, is_page, is_segment}
 use Rattle.lc_model.specs.Sound.{Sound, holders}
@@ -43,14 +40,13 @@ use Rattle.lc_core.specs.Here.{beside, image_at, number_at, number_in, the_image
 use Rattle.lc_core.specs.Leaves.{HasToken}
 use Rattle.lc_core.specs.Node.{FitsNode, GoesOn}
 use Rattle.lc_core.specs.Numbers.{Numbers, sets_on, stable, token_number}
-use Rattle.lc_core.specs.PageState.{AreNamed}
-use Rattle.lc_core.specs.Pages.{BeginsIn, FitsArea, FollowsBegin, FollowsNext, IsOfNow, StepsIn, TellsNumbers, as_read}
+use Rattle.lc_core.specs.Pages.{BeginsIn, FitsArea, FollowsBegin, FollowsNext, IsOfNow, StepsIn, TellsNumbers}
 use Rattle.lc_core.specs.Paging.{HaltsFailed}
 use Rattle.lc_core.specs.Places.{get_set_other, get_set_same, same_some}
 use Rattle.lc_core.specs.Settled.{Settled, begun_number, is_unflushed, page_call}
 use Rattle.lc_core.specs.Showing.{page_of}
 use Rattle.lc_core.specs.Slots.{FitsToken}
-use Rattle.lc_core.specs.Turns.{Turns, called, numbers_after, page_settled, written}
+use Rattle.lc_core.specs.Turns.{Turns, called, page_settled, written}
 use Rattle.lc_core.specs.declared.desk.Desk.{Desk}
 use Rattle.lc_core.specs.declared.here.Here.{Here}
 use Rattle.lc_core.specs.declared.journal.Journal.{Journal}

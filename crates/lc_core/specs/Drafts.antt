@@ -1,5 +1,5 @@
 -- What a page write puts in place, and what its end makes of a desk.
-use Rattle.std.specs.Prelude.{◌≡◌, ◌<◌, ◌≤◌, ℕ, ◌-◌, ◌^◌, Bool, List, Some, length, slice_get}
+use Rattle.std.specs.Prelude.{◌≡◌, ◌<◌, ◌≤◌, ℕ, ◌-◌, ◌^◌, Bool, Some, length, slice_get}
 use Rattle.lc_page.specs.PageVector.{entry_at, entry_text}
 use Rattle.lc_page.specs.PageWrite.{IsBegun}
 use Rattle.lc_page.specs.declared.draft.Draft.{Draft}

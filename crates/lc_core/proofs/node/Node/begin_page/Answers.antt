@@ -1,10 +1,6 @@
-use Rattle.std.proofs.Common.{◌≡◌, refl, sym, subst, ◌∙◌, arith}
-use Rattle.std.specs.List.{list_any}
-use Rattle.std.proofs.lemmas.Bool.{false_from_ne_true}
-use Rattle.lc_model.specs.Sound.{holders}
+use Rattle.std.proofs.Common.{refl, sym, ◌∙◌, arith}
 use Rattle.lc_model.specs.declared.refusal.Refusal.TheVariants.{NotNewer, Uncommitted, Unflushed}
 use Rattle.lc_model.specs.declared.reply.Reply.TheVariants.{Refused}
-use Rattle.lc_core.specs.Numbers.{sets_on}
 use Rattle.lc_core.proofs.OnPages.{uncommitted_is}
 use Rattle.lc_core.proofs.PageAnswers.{first_old, first_uncommitted, first_unflushed, settled_here}
 use Rattle.lc_core.proofs.Paged.{begin_halts, is_old, may_draft, no_calls, page_begins, page_stays, place_is, stood}

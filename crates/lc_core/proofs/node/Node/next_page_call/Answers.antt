@@ -1,7 +1,5 @@
-use Rattle.std.proofs.Common.{◌≡◌, ◌-◌, ℕ, Option, Some, refl, sym, ap, subst, ◌∙◌}
-use Rattle.std.specs.Prelude.{Ok, slice_get, vec_len}
-use Rattle.lc_token.specs.declared.token.Token.{Token}
-use Rattle.lc_model.specs.Machine.{halting}
+use Rattle.std.proofs.Common.{◌-◌, ℕ, Option, Some, sym, ap, subst, ◌∙◌}
+use Rattle.std.specs.Prelude.{Ok, slice_get}
 use Rattle.lc_model.specs.declared.reply.Reply.TheVariants.{Stepped}
 use Rattle.lc_core.specs.Leaves.{with_token}
 use Rattle.lc_core.specs.Node.{SeesStanding}
