@@ -19,13 +19,14 @@ use Rattle.lc_recover.specs.declared.progress.Progress.{Progress}
 use Rattle.lc_recover.specs.declared.progress.Progress.TheVariants.{Stepped as HasStepped, Recovered as HasRecovered}
 use Rattle.lc_recover.proofs.Images.{count-areas}
 use Rattle.lc_core.specs.FaultReplies.{CountsFaults, FailsOnce, is_fault}
-use Rattle.lc_core.specs.Faults.{CountsAll, CountsPhase, SameLogs, area_failures, log_failures, logs_of, phase_failures}
+use Rattle.lc_core.specs.Faults.{CountsAll, CountsLogs, CountsPhase, SameLogs, area_failures, log_failures, logs_of, phase_failures}
 use Rattle.lc_core.specs.Log.{area_of}
 use Rattle.lc_core.specs.Pages.{areas_of}
 use Rattle.lc_core.specs.Places.{same_map_set}
 use Rattle.lc_core.specs.Recovering.{ComesUp, RepliesTo}
 use Rattle.lc_core.specs.declared.log.Log.{Log}
 use Rattle.lc_core.specs.declared.node.Node.{Node}
+use Rattle.lc_core.specs.declared.pages.Pages.{Pages}
 use Rattle.lc_core.specs.declared.phase.Phase.{Phase}
 use Rattle.lc_core.specs.declared.phase.Phase.TheVariants.{Down, Up}
 use Rattle.lc_core.specs.declared.running.Running.{Running}
@@ -144,9 +145,11 @@ module _ {D : Type 0} (a : Ghosts D) where
 
   -- A step of a store that is up
 
-  pub up_counts : (old : Phase D a) (up : Rising D a) (reply : Reply) (new : Running D a) → old ≡ Up up
-      → CountsFaults reply (log_failures a (logs_of a up.running.nodes.items)) (log_failures a (logs_of a new.nodes.items)) → CountsPhase a old reply (Up (record up { running = new }))
-  up_counts old up reply new is counts = subst (λ (q : Phase D a). CountsPhase a q reply (Up (record up { running = new }))) (sym is) (beside counts)
+  pub up_counts : (old : Phase D a) (up later : Rising D a) (reply : Reply) → old ≡ Up up → later.segments ≡ up.segments
+      → CountsLogs a up.running reply later.running → CountsPhase a old reply (Up later)
+  up_counts old up later reply is segments counts = subst (λ (q : Phase D a). CountsPhase a q reply (Up later)) (sym is)
+      (subst (λ (areas : List (Option ℕ)). CountsFaults reply (phase_failures a (Up up)) (log_failures a (logs_of a later.running.nodes.items) ++ areas))
+      (ap (λ (v : Vec (Pages D a) Global). area_failures a (areas_of a v.items)) (sym segments)) (beside counts.counts))
     where
       rest : List (Option ℕ)
       rest = area_failures a (areas_of a up.segments.items)
@@ -172,6 +175,7 @@ module _ {D : Type 0} (a : Ghosts D) where
         none = λ is. ap (λ (os : List (Option ℕ)). os ++ rest) (counts.none is);
       }
 
-  pub up_still_failed : (old : Phase D a) (up : Rising D a) (new : Running D a) → old ≡ Up up → SameLogs a up.running new → phase_failures a (Up (record up { running = new })) ≡ phase_failures a old
-  up_still_failed old up new is same =
-      ap (λ (logs : List (Log D a)). log_failures a logs ++ area_failures a (areas_of a up.segments.items)) same ∙ ap (phase_failures a) (sym is)
+  pub up_still_failed : (old : Phase D a) (up later : Rising D a) → old ≡ Up up → later.segments ≡ up.segments → SameLogs a up.running later.running → phase_failures a (Up later) ≡ phase_failures a old
+  up_still_failed old up later is segments same =
+      ap (λ (v : Vec (Pages D a) Global). log_failures a (logs_of a later.running.nodes.items) ++ area_failures a (areas_of a v.items)) segments
+      ∙ ap (λ (logs : List (Log D a)). log_failures a logs ++ area_failures a (areas_of a up.segments.items)) same.logs ∙ ap (phase_failures a) (sym is)

@@ -60,6 +60,7 @@ pub mod Away
 pub mod Gained
 pub mod Caught
 pub mod Delivered
+mod Devices
 pub mod OneSlot
 pub mod TwoNodes
 pub mod Travels
@@ -80,9 +81,13 @@ pub mod Faults
 pub mod Failures
 pub mod Zeroed
 pub mod Recovers
+pub mod ImagesOfLogs
+pub mod ImagesOfPages
+pub mod ImagesFit
 pub mod Noted
 pub mod Calling
 pub mod PageAnswers
 pub mod NodeWritten
 pub mod Paged
 pub mod LogAreas
+pub mod PagesTurned

@@ -1,5 +1,5 @@
 -- How a store that is down follows the machine.
-use Rattle.std.proofs.Common.{◌≡◌, ℕ, ◌+◌, ◌<◌, ◌⊎◌, inl, inr, Bool, true, ◌++◌, List, length, Option, Some, None, refl, sym, ap, subst, ◌∙◌, arith}
+use Rattle.std.proofs.Common.{◌≡◌, ℕ, ◌+◌, ◌<◌, ◌⊎◌, inl, inr, Bool, true, ◌++◌, List, vec_items, length, Option, Some, None, refl, sym, ap, subst, ◌∙◌, arith}
 use Rattle.std.proofs.lemmas.Result.{IfOk-from_err}
 use Rattle.std.specs.Prelude.{◌-◌, Result, Ok, Err, IfOk, IfErr, OnOk, OnErr, find, is_some, if◌then◌else◌, replicate, slice_get, slice_index_or}
 use Rattle.lc_disk.specs.declared.area.Area.{Ghosts}
@@ -16,6 +16,7 @@ use Rattle.lc_recover.specs.Reads.{AreHonest, AreOfBytes, AllMergeTo, area_count
 use Rattle.lc_recover.specs.Recovered.{IsFinished, page_read_of}
 use Rattle.lc_recover.proofs.Images.{count-areas, get-drop}
 use Rattle.lc_core.proofs.Closes.{get-map}
+use Rattle.lc_core.proofs.Devices.{honest_kept}
 use Rattle.lc_core.proofs.PageWrites.{of_pages, pages_same}
 use Rattle.lc_core.proofs.Rising.{get-replicate, rises}
 use Rattle.lc_core.proofs.Cohering.{coherent_apart}
@@ -37,6 +38,7 @@ use Rattle.lc_model.specs.declared.reply.Reply.{Reply}
 use Rattle.lc_model.specs.declared.reply.Reply.TheVariants.{Ok as Accepted, Stepped, Applied, HeldBack, Trimmed, Recovered, Refused, Reset}
 use Rattle.lc_model.specs.Stored.{records_of}
 use Rattle.lc_model.proofs.Keeps.{sound-step}
+use Rattle.lc_core.specs.Faults.{SameDevices}
 use Rattle.lc_core.specs.Fresh.{text_read_of}
 use Rattle.lc_core.specs.Numbers.{Numbers, recovered_numbers}
 use Rattle.lc_core.specs.Running.{FitsRunning}
@@ -223,8 +225,9 @@ module _ {D : Type 0} (a : Ghosts D) (m : Setting) (s : State) (x : Numbers) whe
   -- up: a step of a recovery is out of turn
   pub up_refuses : (up : Rising D a) → FitsPhase a m (Up up) s x → Leads a m RecoverStep s x (Refused OutOfTurn) (Up up)
   up_refuses up h = leads_by_row (Refused OutOfTurn) s (record x { steps = 0 }) (Up up)
-      (subst (λ (p : Condition). RecoverRow p m.geometry s (Refused OutOfTurn) s) (sym h.0.up) (refl, refl))
-      (λ steps same. absurd cc) refl (all_stay up.running h.0, pages_same a m up.segments.items x (record x { steps = 0 }) refl h.1)
+      (subst (λ (p : Condition). RecoverRow p m.geometry s (Refused OutOfTurn) s) (sym h.running.up) (refl, refl))
+      (λ steps same. absurd cc) refl
+      (record { running = all_stay up.running h.running; pages = pages_same a m up.segments.items x (record x { steps = 0 }) refl h.pages; honest = h.honest })
 
   -- no other event of a store that is up changes its pages
   closed_pages : (node : ℕ) (e : Option Entry) → of_pages (closed_with s x node e) ≡ of_pages x
@@ -271,17 +274,22 @@ module _ {D : Type 0} (a : Ghosts D) (m : Setting) (s : State) (x : Numbers) whe
   turned_pages RecoverStep reply next plain turns = absurd cc
 
   -- a step of a store that is up
-  pub runs_up : (up : Rising D a) (event : Event) (reply : Reply) (writing : Bool) (new : Running D a) → is_plain event ≡ true → FollowsStep a writing up.running event reply new
-      → TellsWriting m x event writing → FitsPhase a m (Up up) s x → Leads a m event s x reply (Up (record up { running = new }))
-  runs_up up event reply writing new plain follows told h =
-      let on = follows m s x h.0 told in
+  pub runs_up : (up later : Rising D a) (event : Event) (reply : Reply) (writing : Bool) → is_plain event ≡ true → later.segments ≡ up.segments → SameDevices a up.running later.running
+      → FollowsStep a writing up.running event reply later.running → TellsWriting m x event writing → FitsPhase a m (Up up) s x → Leads a m event s x reply (Up later)
+  runs_up up later event reply writing plain segments devices follows told h =
+      let on = follows m s x h.running told in
       record {
         after = on.after;
         next = on.next;
         step = on.step;
         settled = on.settled;
         turns = on.turns;
-        fits = (on.fits, pages_same a m up.segments.items x on.next (turned_pages event reply on.next plain on.turns) h.1);
+        fits = record {
+          running = on.fits;
+          pages = subst (λ (segments : List (Pages D a)). FitsPages a m segments on.next) (ap vec_items (sym segments))
+              (pages_same a m up.segments.items x on.next (turned_pages event reply on.next plain on.turns) h.pages);
+          honest = honest_kept a up.running.nodes.items later.running.nodes.items devices.kinds h.honest;
+        };
       }
 
 module _ {D : Type 0} (a : Ghosts D) where
@@ -457,11 +465,12 @@ module _ {D : Type 0} (a : Ghosts D) where
 
       comes_up_with : Leads a m RecoverStep s x Recovered (Up up)
       comes_up_with = leads_by_row a m s x Recovered up_now next_numbers (Up up) up_row (λ steps same. absurd cc)
-          (page_read_of risen.store, text_read_of risen.store, ap (λ (p : Condition). recovered_numbers m.geometry (kept_numbers p s x) (page_read_of risen.store) (text_read_of risen.store)) (sym h.down)) (
-            rises a m kept_now (kept_numbers (DownAt h.cut) s x) risen.store up.running same_geometry up_sound honest_store
-                (subst (λ (areas : List D). AreOfBytes a areas) (sym risen.areas) risen.bytes) finished all_merge (risen.fresh keeps.honest),
-            pages_up,
-          )
+          (page_read_of risen.store, text_read_of risen.store, ap (λ (p : Condition). recovered_numbers m.geometry (kept_numbers p s x) (page_read_of risen.store) (text_read_of risen.store)) (sym h.down)) (record {
+            running = rises a m kept_now (kept_numbers (DownAt h.cut) s x) risen.store up.running same_geometry up_sound honest_store
+                (subst (λ (areas : List D). AreOfBytes a areas) (sym risen.areas) risen.bytes) finished all_merge (risen.fresh keeps.honest);
+            pages = pages_up;
+            honest = λ n node area at there. keeps.honest n area (sym (risen.log_areas n node at) ∙ there);
+          })
 
     pub comes_up : {result : Result Progress RecoverFault} (up : Rising D a) → StepLeaves r new result → ComesUp a new up → FollowsPhase old RecoverStep Recovered (Up up)
     comes_up up leaves risen m s x h =

@@ -7,6 +7,7 @@ pub mod Here
 pub mod Seat
 pub mod Seats
 pub mod Desk
+pub mod Devices
 pub mod Drafts
 pub mod Log
 pub mod FaultReplies
@@ -47,3 +48,4 @@ pub mod LogWords
 pub mod Recovers
 pub mod Uncommitted
 pub mod Resets
+pub mod Areas

@@ -11,6 +11,7 @@ use Rattle.lc_model.specs.State.{DownAt, Setting, State}
 use Rattle.lc_model.specs.declared.event.Event.{Event}
 use Rattle.lc_model.specs.declared.event.Event.TheVariants.{RecoverStep}
 use Rattle.lc_model.specs.declared.reply.Reply.{Reply}
+use Rattle.lc_core.specs.Devices.{HonestLogs}
 use Rattle.lc_core.specs.Numbers.{Numbers}
 use Rattle.lc_core.specs.Pages.{FitsPages}
 use Rattle.lc_core.specs.Running.{FitsRunning}
@@ -38,9 +39,15 @@ module _ {D : Type 0} (a : Ghosts D) where
     pub merges : AllMergeTo a m.geometry r.areas (effects (s.earlier ++ kept s.history cut) m.start) (kept_numbers (DownAt cut) s x)
     pub steps_are : x.steps ≡ r.steps
 
+  -- the nodes, the pages and the areas of a store that is up
+  pub record FitsUp (m : Setting) (up : UpStore D a) (s : State) (x : Numbers) : Type 0 where
+    pub running : FitsRunning a m up.running s x
+    pub pages : FitsPages a m up.segments.items x
+    pub honest : HonestLogs a up.running.nodes.items
+
   abbrev pub FitsPhase : Setting → Phase D a → State → Numbers → Type 0
   FitsPhase m (Down recovery) s x = FitsDown m recovery s x
-  FitsPhase m (Up up) s x = FitsRunning a m up.running s x × FitsPages a m up.segments.items x
+  FitsPhase m (Up up) s x = FitsUp m up s x
   FitsPhase m Taken s x = ⊥
 
   abbrev pub FitsWorld : Setting → World D a → State → Numbers → Type 0

@@ -35,20 +35,20 @@ invariant_of-running g c =
       named = named_none c.args.self.geometry.segments c.args.self.travelling.items c.args.self.none;
     }
 
-pub with_areas-requires-clause-place : goal.with_areas-requires-clause-place
-with_areas-requires-clause-place g c =
+pub with_areas-segments-requires-clause-place : goal.with_areas-segments-requires-clause-place
+with_areas-segments-requires-clause-place g c =
     let left = segments_left g.D.Area c.args.recovered.geometry c.args.recovered.areas c.open_logs-areas.result.items c.requires.lengths c.open_logs-areas.ensures.areas in
     let segments = ap (λ (h : Geometry). h.segments) c.requires.geometry in
     omega (arith, left, segments, c.args.self.place, c.open_logs-areas.result.ok.0)
 
-pub with_areas-requires-clause-count : goal.with_areas-requires-clause-count
-with_areas-requires-clause-count g c =
+pub with_areas-segments-requires-clause-count : goal.with_areas-segments-requires-clause-count
+with_areas-segments-requires-clause-count g c =
     let left = segments_left g.D.Area c.args.recovered.geometry c.args.recovered.areas c.open_logs-areas.result.items c.requires.lengths c.open_logs-areas.ensures.areas in
     let segments = ap (λ (h : Geometry). h.segments) c.requires.geometry in
     omega (arith, left, segments, c.args.self.all_segments, c.open_logs-areas.result.ok.0)
 
-pub with_areas-requires-clause-long : goal.with_areas-requires-clause-long
-with_areas-requires-clause-long g c = λ k area states there got.
+pub with_areas-segments-requires-clause-long : goal.with_areas-segments-requires-clause-long
+with_areas-segments-requires-clause-long g c = λ k area states there got.
     let states_are = c.args.self.rest k states got in
     let pages = ap (λ (h : Geometry). h.pages) c.requires.geometry in
     let some = ap length states_are ∙ length-replicate c.args.self.geometry.pages AtRest in
@@ -56,11 +56,11 @@ with_areas-requires-clause-long g c = λ k area states there got.
     let len = segment_len g.D.Area c.args.recovered.geometry c.args.recovered.areas k area c.requires.lengths (sym at ∙ ap (λ areas. slice_get areas k) (sym c.open_logs-areas.ensures.areas) ∙ there) in
     omega (arith, some, len, pages, states.ok.0)
 
-pub with_areas-requires-clause-named : goal.with_areas-requires-clause-named
-with_areas-requires-clause-named g c = λ k states got. named_rest c.args.self.geometry states.items (c.args.self.rest k states got)
+pub with_areas-segments-requires-clause-named : goal.with_areas-segments-requires-clause-named
+with_areas-segments-requires-clause-named g c = λ k states got. named_rest c.args.self.geometry states.items (c.args.self.rest k states got)
 
 pub returns-clause-rest : goal.returns-clause-rest
-returns-clause-rest g c = rests_all g.D.Area c.args.recovered.geometry c.with_areas.result.items c.args.self.writes.items c.with_areas.ensures.writes
+returns-clause-rest g c = rests_all g.D.Area c.args.recovered.geometry c.with_areas-segments.result.0.items c.args.self.writes.items c.with_areas-segments.ensures.writes
     (subst (λ (h : Geometry). AreAtRest h c.args.self.writes.items) (sym c.requires.geometry) c.args.self.rest)
 
 pub returns-clause-fresh : goal.returns-clause-fresh

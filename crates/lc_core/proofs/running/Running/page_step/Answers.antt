@@ -1,4 +1,4 @@
-use Rattle.std.proofs.Common.{◌<◌, [], ◌∷◌, arith}
+use Rattle.std.proofs.Common.{◌<◌, [], ◌∷◌, refl, arith}
 use Rattle.std.proofs.lemmas.Option.{slice_get_read}
 use Rattle.lc_model.specs.declared.event.Event.TheVariants.{PageStep}
 use Rattle.lc_model.proofs.Rows.{node_known}
@@ -41,4 +41,4 @@ returns-clause-logs g c =
     let node = c.index_mut.result.now in
     let within : c.args.node < w.nodes.len = omega (arith, w.all_nodes, node_known w.geometry c.args.node (c.args.segment ∷ []) (c.args.page ∷ []) c.requires.known) in
     let at = slice_get_read w.nodes.items w.nodes.len c.args.node node w.nodes.ok.0 within c.index_mut.ensures.value in
-    areas_stay g.D.Area w.nodes.items c.args.node node c.page_step.new.self at c.page_step.ensures.log
+    record { geometry = refl; areas = areas_stay g.D.Area w.nodes.items c.args.node node c.page_step.new.self at c.page_step.ensures.log }
