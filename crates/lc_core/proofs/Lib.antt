@@ -91,3 +91,4 @@ pub mod NodeWritten
 pub mod Paged
 pub mod LogAreas
 pub mod PagesTurned
+pub mod UpPages

@@ -1,5 +1,5 @@
 -- What it is that the step of a page write follows the machine and the numbers, at a node and in a segment's area.
-use Rattle.std.specs.Prelude.{◌≡◌, ℕ, true, None, Some, slice_get}
+use Rattle.std.specs.Prelude.{◌≡◌, ℕ, ◌+◌, true, List, None, Some, slice_get}
 use Rattle.lc_disk.specs.declared.area.Area.{Ghosts}
 use Rattle.lc_model.specs.Refusals.{common_refusal}
 use Rattle.lc_model.specs.Sound.{Sound}
@@ -19,6 +19,10 @@ module _ {D : Type 0} (a : Ghosts D) where
   -- where a write of a page of the segment failed, the segment's token is at a node that is halted
   abbrev pub HaltsFailed : State → ℕ → Pages D a → Type 0
   HaltsFailed s segment pages = (page : ℕ) → slice_get pages.writes.items page ≡ Some Failed → (node : ℕ) × (s.place segment ≡ At node) × (s.halted node ≡ true)
+
+  -- so it is for all segments
+  abbrev pub HaltAll : State → List (Pages D a) → Type 0
+  HaltAll s segments = (k : ℕ) (pages : Pages D a) → slice_get segments k ≡ Some pages → HaltsFailed s (k + 1) pages
 
   -- whatever sound state and numbers the node and the area fit where nothing refuses the event at once
   abbrev pub FollowsPage : ℕ → ℕ → Node D a → Pages D a → Reply → Node D a → Pages D a → Type 0
