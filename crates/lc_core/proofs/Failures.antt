@@ -1,6 +1,7 @@
 -- What a step of a recovery, what comes up behind it, and a run count of failures.
 use Rattle.std.proofs.Common.{◌≡◌, ◌⊎◌, ℕ, zero, suc, ◌+◌, ◌≤◌, true, false, List, [], ◌∷◌, ◌++◌, length, take, drop, Option, Some, slice_get, slice_set, refl, sym, ap, subst, ◌∙◌, inl, inr, arith, true≢false}
-use Rattle.std.specs.Prelude.{Result, Ok, Err, IfOk, IfErr, option_map, is_ok}
+use Rattle.std.specs.Global.{Global}
+use Rattle.std.specs.Prelude.{Vec, Result, Ok, Err, IfOk, IfErr, option_map, is_ok}
 use Rattle.std.proofs.lemmas.Bool.{cases_eq}
 use Rattle.std.proofs.lemmas.List.{map-set, map-append, take-append-drop}
 use Rattle.std.proofs.lemmas.Option.{slice_get-map}
@@ -127,15 +128,22 @@ module _ {D : Type 0} (a : Ghosts D) where
       ap (λ (o : Option ℕ). o ∷ log_failures a (logs_of a nodes)) (ap (option_map a.failures) (each zero node refl))
       ∙ ap (λ (os : List (Option ℕ)). failures_at area ∷ os) (fronts nodes areas (λ n other got. each (suc n) other got) (omega (arith, few)))
 
+  -- those of the logs and those of the segments behind them are those of all areas
+  pub beside_segments : (nodes : List (Node D a)) (segments : List (Pages D a)) (areas : List D) (n : ℕ)
+      → ((k : ℕ) (node : Node D a) → slice_get nodes k ≡ Some node → area_of a node.journal.log ≡ slice_get areas k) → areas_of a segments ≡ drop n areas → length nodes ≡ n → n ≤ length areas
+      → log_failures a (logs_of a nodes) ++ area_failures a (areas_of a segments) ≡ area_failures a areas
+  beside_segments nodes segments areas n each are number few =
+      ap (λ (os : List (Option ℕ)). os ++ area_failures a (areas_of a segments))
+      (fronts nodes areas each (omega (arith, few, number)) ∙ ap (λ (k : ℕ). area_failures a (take k areas)) number)
+      ∙ ap (λ (behind : List D). area_failures a (take n areas) ++ area_failures a behind) are
+      ∙ sym (map-append failures_at (take n areas) (drop n areas))
+      ∙ ap (area_failures a) (take-append-drop n areas)
+
   pub up_failures : (r : Recovering D) (up : Rising D a) → ComesUp a r up → phase_failures a (Up up) ≡ area_failures a r.areas
   up_failures r up came =
       let counted : length r.areas ≡ area_count r.geometry = count-areas a r.geometry r.areas came.lengths in
-      let number : length up.running.nodes.items ≡ r.geometry.nodes = sym up.running.nodes.ok.0 ∙ up.running.all_nodes ∙ ap (λ (g : Geometry). g.nodes) came.same_geometry in
-      ap (λ (os : List (Option ℕ)). os ++ area_failures a (areas_of a up.segments.items))
-      (fronts up.running.nodes.items r.areas came.log_areas (omega (arith, counted, number)) ∙ ap (λ (n : ℕ). area_failures a (take n r.areas)) number)
-      ∙ ap (λ (areas : List D). area_failures a (take r.geometry.nodes r.areas) ++ area_failures a areas) came.segments
-      ∙ sym (map-append failures_at (take r.geometry.nodes r.areas) (drop r.geometry.nodes r.areas))
-      ∙ ap (area_failures a) (take-append-drop r.geometry.nodes r.areas)
+      beside_segments up.running.nodes.items up.segments.items r.areas r.geometry.nodes came.log_areas came.segments
+      (sym up.running.nodes.ok.0 ∙ up.running.all_nodes ∙ ap (λ (g : Geometry). g.nodes) came.same_geometry) (omega (arith, counted))
 
   pub risen_counts : (old : Phase D a) (r new : Recovering D) → old ≡ Down r → (result : Result Progress RecoverFault) → ((fault : RecoverFault) → result ≡ Err fault → ⊥) → StepCalls r new result
       → (up : Rising D a) → ComesUp a new up → CountsPhase a old Recovered (Up up)

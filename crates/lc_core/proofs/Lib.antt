@@ -61,6 +61,7 @@ pub mod Gained
 pub mod Caught
 pub mod Delivered
 mod Devices
+mod Gathering
 pub mod OneSlot
 pub mod TwoNodes
 pub mod Travels
@@ -84,6 +85,7 @@ pub mod Recovers
 pub mod ImagesOfLogs
 pub mod ImagesOfPages
 pub mod ImagesFit
+pub mod Stopped
 pub mod Noted
 pub mod Calling
 pub mod PageAnswers

@@ -2,7 +2,7 @@
 use Rattle.std.proofs.Common.{◌≡◌, ℕ, ◌+◌, ◌<◌, ◌⊎◌, inl, inr, Bool, true, ◌++◌, List, vec_items, length, Option, Some, None, refl, sym, ap, subst, ◌∙◌, arith}
 use Rattle.std.proofs.lemmas.Result.{IfOk-from_err}
 use Rattle.std.specs.Prelude.{◌-◌, Result, Ok, Err, IfOk, IfErr, OnOk, OnErr, find, is_some, if◌then◌else◌, replicate, slice_get, slice_index_or}
-use Rattle.std.specs.Global.{Global, Vec}
+use Rattle.std.specs.Global.{Vec}
 use Rattle.lc_disk.specs.declared.area.Area.{Ghosts}
 use Rattle.lc_record.specs.Content.{Content}
 use Rattle.lc_record.specs.declared.geometry.Geometry.{Geometry}
@@ -310,7 +310,7 @@ module _ {D : Type 0} (a : Ghosts D) (m : Setting) (s : State) (x : Numbers) whe
               (pages_same a m up.segments.items x on.next (turned_pages event reply on.next plain on.turns) h.pages);
           honest = honest_kept a up.running.nodes.items later.running.nodes.items devices.kinds h.honest;
           failed = λ k pages got. halts_still a m s event reply on.after h.running.up on.fits.up on.step (k + 1) pages
-              (h.failed k pages (ap (λ (v : Vec (Pages D a) Global). slice_get v.items k) (sym segments) ∙ got));
+              (h.failed k pages (ap (λ (v : Vec (Pages D a)). slice_get v.items k) (sym segments) ∙ got));
         };
       }
 

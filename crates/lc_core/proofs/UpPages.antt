@@ -16,18 +16,19 @@ use Rattle.lc_model.specs.declared.refusal.Refusal.TheVariants.{DeviceFault}
 use Rattle.lc_model.specs.declared.reply.Reply.{Reply}
 use Rattle.lc_model.specs.declared.reply.Reply.TheVariants.{Refused}
 use Rattle.lc_model.proofs.Rows.{known, step-row}
-use Rattle.lc_core.specs.Devices.{HaveSegments}
+use Rattle.lc_core.specs.Devices.{HaveSegments, HonestLogs}
 use Rattle.lc_core.specs.FaultReplies.{CountsFaults, failures_of, is_device_fault, is_fault, kind_of, device_kind}
-use Rattle.lc_core.specs.Faults.{CountsPhase, SameDevices, SameLogAreas, area_failures, log_failures, log_kinds, logs_of}
+use Rattle.lc_core.specs.Faults.{SameDevices, SameLogAreas, area_failures, log_failures, log_kinds, logs_of}
 use Rattle.lc_core.specs.Log.{area_of}
 use Rattle.lc_core.specs.Numbers.{Numbers}
 use Rattle.lc_core.specs.Pages.{FitsArea, FitsPages, areas_of}
-use Rattle.lc_core.specs.Paging.{FollowsPaging, HaltsFailed}
+use Rattle.lc_core.specs.Paging.{FollowsPaging, HaltAll, HaltsFailed}
 use Rattle.lc_core.specs.Places.{get_set_other, get_set_same, same_map_set, same_some}
 use Rattle.lc_core.specs.Refuses.{Refuses}
 use Rattle.lc_core.specs.Settled.{open_answer}
 use Rattle.lc_core.specs.Turns.{Turns, numbers_after}
-use Rattle.lc_core.specs.World.{FitsPhase, FollowsUp, Leads}
+use Rattle.lc_core.specs.Running.{FitsRunning}
+use Rattle.lc_core.specs.World.{FitsPhase, FitsUp, FollowsUp, Leads}
 use Rattle.lc_core.specs.declared.log.Log.{Log}
 use Rattle.lc_core.specs.declared.pages.Pages.{Pages}
 use Rattle.lc_core.specs.declared.phase.Phase.TheVariants.{Up}
@@ -43,9 +44,18 @@ page_refused m s x n segment page DeviceFault is = absurd (true≢false is)
 page_refused m s x n segment page _ is = refl
 
 module _ {D : Type 0} (a : Ghosts D) where
-  pub page_refused_up : (up : Rising D a) (n segment page : ℕ) (o : Option Refusal) (refusal : Refusal) → Refuses a up.running (PageStep n segment page) o → o ≡ Some refusal → is_device_fault refusal ≡ false
-      → FollowsUp a up (PageStep n segment page) (Refused refusal) up
-  page_refused_up up n segment page o refusal refuses some plain m s x h =
+  -- what it fits is what its nodes and its segments fit
+  fits_alike : (up later : Rising D a) → later.running ≡ up.running → later.segments.items ≡ up.segments.items → (m : Setting) (s : State) (x : Numbers) → FitsUp a m up s x → FitsUp a m later s x
+  fits_alike up later running segments m s x h = record {
+    running = subst (λ (w : Running D a). FitsRunning a m w s x) (sym running) h.running;
+    pages = subst (λ (l : List (Pages D a)). FitsPages a m l x) (sym segments) h.pages;
+    honest = subst (λ (w : Running D a). HonestLogs a w.nodes.items) (sym running) h.honest;
+    failed = subst (λ (l : List (Pages D a)). HaltAll a s l) (sym segments) h.failed;
+  }
+
+  pub page_refused_up : (up later : Rising D a) → later.running ≡ up.running → later.segments.items ≡ up.segments.items → (n segment page : ℕ) (o : Option Refusal) (refusal : Refusal)
+      → Refuses a up.running (PageStep n segment page) o → o ≡ Some refusal → is_device_fault refusal ≡ false → FollowsUp a up (PageStep n segment page) (Refused refusal) later
+  page_refused_up up later running segments n segment page o refusal refuses some plain m s x h =
       let event : Event = PageStep n segment page in
       let common : common_refusal m.geometry s event ≡ Some refusal = sym (refuses m s x h.running) ∙ some in
       record {
@@ -57,7 +67,7 @@ module _ {D : Type 0} (a : Ghosts D) where
           λ recovers steps same. absurd cc,
         );
         turns = page_refused m s x n segment page refusal plain;
-        fits = h;
+        fits = fits_alike up later running segments m s x h;
       }
 
   -- where nothing refuses it
@@ -101,9 +111,9 @@ module _ {D : Type 0} (a : Ghosts D) where
       (page_leads up later n k page reply old new at are devices m s x h) (sym (refuses m s x h.running) ∙ none) follows
 
   -- a page that is not among the segment's is named by no event that the machine knows
-  pub page_unknown : (up : Rising D a) (n segment k page : ℕ) (reply : Reply) (old : Pages D a) → k + 1 ≡ segment → slice_get up.segments.items k ≡ Some old → length old.writes.items ≤ page
-      → (o : Option Refusal) → Refuses a up.running (PageStep n segment page) o → o ≡ None → FollowsUp a up (PageStep n segment page) reply up
-  page_unknown up n segment k page reply old next at most o refuses none m s x h =
+  pub page_unknown : (up later : Rising D a) (n segment k page : ℕ) (reply : Reply) (old : Pages D a) → k + 1 ≡ segment → slice_get up.segments.items k ≡ Some old → length old.writes.items ≤ page
+      → (o : Option Refusal) → Refuses a up.running (PageStep n segment page) o → o ≡ None → FollowsUp a up (PageStep n segment page) reply later
+  page_unknown up later n segment k page reply old next at most o refuses none m s x h =
       let within = (page_known m.geometry n segment page (known m.geometry s (PageStep n segment page) (sym (refuses m s x h.running) ∙ none))).2 in
       let count = (h.pages.each k old at).count in
       absurd (omega (arith, within, count, most))
@@ -143,27 +153,28 @@ module _ {D : Type 0} (a : Ghosts D) where
       ap (λ (l : List (Option ℕ)). x ∷ l) (set_back xs ys k y) ∙ ap (λ (i : ℕ). slice_set (x ∷ xs ++ ys) i y) next
 
   -- the device of one segment, called once
-  pub page_counts : (up later : Rising D a) (k : ℕ) (reply : Reply) (old new : Pages D a) → slice_get up.segments.items k ≡ Some old → later.segments.items ≡ slice_set up.segments.items k new
-      → SameLogAreas a up.running later.running → Continues a old.area new.area (not (is_fault reply)) → CountsPhase a (Up up) reply (Up later)
-  page_counts up later k reply old new at are same device =
-      let logs : List (Option ℕ) = log_failures a (logs_of a up.running.nodes.items) in
+  pub page_counts : (running after : Running D a) (segments : List (Pages D a)) (k : ℕ) (reply : Reply) (old new : Pages D a) → slice_get segments k ≡ Some old → SameLogAreas a running after
+      → Continues a old.area new.area (not (is_fault reply))
+      → CountsFaults reply (log_failures a (logs_of a running.nodes.items) ++ area_failures a (areas_of a segments))
+      (log_failures a (logs_of a after.nodes.items) ++ area_failures a (areas_of a (slice_set segments k new)))
+  page_counts running after segments k reply old new at same device =
+      let logs : List (Option ℕ) = log_failures a (logs_of a running.nodes.items) in
       let fail : Pages D a → Option ℕ = λ pages. Some (a.failures pages.area) in
-      let fails : List (Option ℕ) = map fail up.segments.items in
-      let now : log_failures a (logs_of a later.running.nodes.items) ++ area_failures a (areas_of a later.segments.items) ≡ logs ++ map fail (slice_set up.segments.items k new) =
-      ap (λ (l : List (Option ℕ)). l ++ area_failures a (areas_of a later.segments.items)) (same_failures up.running later.running same)
-      ∙ ap (λ (l : List (Pages D a)). logs ++ area_failures a (areas_of a l)) are ∙ ap (λ (l : List (Option ℕ)). logs ++ l) (through (slice_set up.segments.items k new)) in
-      let before : logs ++ area_failures a (areas_of a up.segments.items) ≡ logs ++ fails = ap (λ (l : List (Option ℕ)). logs ++ l) (through up.segments.items) in
+      let fails : List (Option ℕ) = map fail segments in
+      let now : log_failures a (logs_of a after.nodes.items) ++ area_failures a (areas_of a (slice_set segments k new)) ≡ logs ++ map fail (slice_set segments k new) =
+      ap (λ (l : List (Option ℕ)). l ++ area_failures a (areas_of a (slice_set segments k new))) (same_failures running after same) ∙ ap (λ (l : List (Option ℕ)). logs ++ l) (through (slice_set segments k new)) in
+      let before : logs ++ area_failures a (areas_of a segments) ≡ logs ++ fails = ap (λ (l : List (Option ℕ)). logs ++ l) (through segments) in
       record {
         fault = λ is. record {
           at = length logs + k;
           count = a.failures old.area;
-          was = ap (λ (l : List (Option ℕ)). slice_get l (length logs + k)) before ∙ get_back logs fails k ∙ slice_get-map fail up.segments.items k ∙ ap (option_map fail) at;
-          is = now ∙ ap (λ (l : List (Option ℕ)). logs ++ l) (map-set fail up.segments.items k new) ∙ set_back logs fails k (fail new)
+          was = ap (λ (l : List (Option ℕ)). slice_get l (length logs + k)) before ∙ get_back logs fails k ∙ slice_get-map fail segments k ∙ ap (option_map fail) at;
+          is = now ∙ ap (λ (l : List (Option ℕ)). logs ++ l) (map-set fail segments k new) ∙ set_back logs fails k (fail new)
               ∙ ap (λ (n : ℕ). slice_set (logs ++ fails) (length logs + k) (Some n)) (device.counted ∙ ap (λ (b : Bool). if not b then a.failures old.area else a.failures old.area + 1) is)
               ∙ ap (λ (l : List (Option ℕ)). slice_set l (length logs + k) (Some (a.failures old.area + 1))) (sym before);
         };
         none = λ is. now ∙ ap (λ (l : List (Option ℕ)). logs ++ l)
-            (same_map_set fail up.segments.items k old new at (ap (λ (n : ℕ). Some n) (device.counted ∙ ap (λ (b : Bool). if not b then a.failures old.area else a.failures old.area + 1) is)))
+            (same_map_set fail segments k old new at (ap (λ (n : ℕ). Some n) (device.counted ∙ ap (λ (b : Bool). if not b then a.failures old.area else a.failures old.area + 1) is)))
             ∙ sym before;
       }
     where

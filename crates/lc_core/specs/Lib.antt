@@ -34,6 +34,7 @@ pub mod Trimming
 pub mod Receives
 pub mod Delivers
 pub mod Stepping
+pub mod Stops
 pub mod Runs
 pub mod PageState
 pub mod Pages

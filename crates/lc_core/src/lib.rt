@@ -54,6 +54,7 @@ mod slot;
 mod starting;
 mod step;
 mod stepping;
+mod stopping;
 mod token_refused;
 mod trimming;
 mod uncommitted;

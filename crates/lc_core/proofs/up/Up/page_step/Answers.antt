@@ -12,7 +12,7 @@ use Rattle.lc_core.proofs.up.Up.page_step.Goals as goal
 
 pub returns-in-Some-clause-follows : goal.returns-in-Some-clause-follows
 returns-in-Some-clause-follows g c =
-    page_refused_up g.D.Area c.args.self.now c.args.node c.args.segment c.args.page c.refusal.result c.in-Some.refusal c.refusal.ensures.refused c.in-Some.is (c.refusal.ensures.answer c.in-Some.refusal c.in-Some.is)
+    page_refused_up g.D.Area c.args.self.now _ refl refl c.args.node c.args.segment c.args.page c.refusal.result c.in-Some.refusal c.refusal.ensures.refused c.in-Some.is (c.refusal.ensures.answer c.in-Some.refusal c.in-Some.is)
 
 pub returns-then-page-len-clause-follows : goal.returns-then-page-len-clause-follows
 returns-then-page-len-clause-follows g c =
@@ -22,7 +22,7 @@ returns-then-page-len-clause-follows g c =
     let within : c.args.segment - 1 < segments.len = omega (arith, named.0, named.1, w.all_segments) in
     let old = c.index.result.now in
     let at = slice_get_read segments.items segments.len (c.args.segment - 1) old segments.ok.0 within c.index.ensures in
-    page_unknown g.D.Area w c.args.node c.args.segment (c.args.segment - 1) c.args.page (Refused Unknown) old (omega (arith, named.0)) at (omega (arith, c.if-page-len.true, c.len.ensures, old.writes.ok.0)) c.refusal.result
+    page_unknown g.D.Area w _ c.args.node c.args.segment (c.args.segment - 1) c.args.page (Refused Unknown) old (omega (arith, named.0)) at (omega (arith, c.if-page-len.true, c.len.ensures, old.writes.ok.0)) c.refusal.result
     c.refusal.ensures.refused c.in_default.is
 
 pub invariant_of-self-2 : goal.invariant_of-self-2
@@ -61,4 +61,4 @@ returns-clause-faults g c =
     let within : c.args.segment - 1 < segments.len = omega (arith, named.0, named.1, w.all_segments) in
     let old = c.index_mut-pages.result.now in
     let at = slice_get_read segments.items segments.len (c.args.segment - 1) old segments.ok.0 within c.index_mut-pages.ensures.value in
-    page_counts g.D.Area w _ (c.args.segment - 1) c.page_step.result old c.page_step.new.pages at refl c.page_step.ensures.logs c.page_step.ensures.device
+    page_counts g.D.Area w.running c.page_step.new.self segments.items (c.args.segment - 1) c.page_step.result old c.page_step.new.pages at c.page_step.ensures.logs c.page_step.ensures.device
