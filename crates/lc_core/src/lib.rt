@@ -77,6 +77,8 @@ mod node_tests;
 #[cfg(test)]
 mod nodes_tests;
 #[cfg(test)]
+mod page_tests;
+#[cfg(test)]
 mod pages_tests;
 #[cfg(test)]
 mod publishing_tests;
