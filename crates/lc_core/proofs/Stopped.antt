@@ -95,7 +95,7 @@ module _ {D : Type 0} (a : Ghosts D) where
           | inl within ↦
               let it = pages_at k past within in
               slice_get-map len areas k ∙ ap (option_map len) (ap (slice_get areas) it.2 ∙ segment_at it.0 it.1 it.3) ∙ ap (λ (n : ℕ). Some n) (up.lengths it.0 it.1 it.3)
-              ∙ sym (len-segment up.running.geometry k past within)
+                  ∙ sym (len-segment up.running.geometry k past within)
           | inr beyond ↦
               slice_get-map len areas k ∙ ap (option_map len) (slice_get_past areas k (omega (arith, beyond, are.count))) ∙ sym (len-none up.running.geometry k beyond)
         ])
