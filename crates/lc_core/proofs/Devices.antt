@@ -1,13 +1,20 @@
 -- The devices of a store that is up stay what they are.
-use Rattle.std.proofs.Common.{◌≡◌, ◌≤◌, ◌+◌, ◌*◌, ℕ, Bool, true, List, [], length, Option, Some, None, refl, sym, ap, subst, ◌∙◌}
-use Rattle.std.specs.Prelude.{option_map, slice_get}
-use Rattle.std.proofs.lemmas.Option.{slice_get-map}
+use Rattle.std.proofs.Common.{◌≡◌, ◌≤◌, ◌+◌, ◌*◌, ℕ, Bool, true, List, [], drop, length, Option, Some, None, refl, sym, ap, subst, ◌∙◌, arith}
+use Rattle.std.specs.Prelude.{Result, Ok, Err, IfOk, OnErr, option_map, slice_get}
+use Rattle.std.proofs.lemmas.Option.{slice_get-map, slice_get_within}
 use Rattle.lc_disk.specs.declared.area.Area.{Ghosts}
 use Rattle.lc_record.specs.declared.geometry.Geometry.{Geometry}
 use Rattle.lc_core.specs.Devices.{HaveLogs, HaveSegments, HonestLogs}
 use Rattle.lc_core.specs.FaultReplies.{device_kind, kind_of}
-use Rattle.lc_core.specs.Faults.{SameDevices, log_kinds, logs_of}
+use Rattle.lc_core.specs.Faults.{CountsLogs, SameDevices, SameLogs, log_kinds, logs_of}
 use Rattle.lc_core.specs.Log.{area_of}
+use Rattle.lc_core.specs.Pages.{areas_of}
+use Rattle.lc_core.specs.declared.pages.Pages.{Pages}
+use Rattle.lc_model.specs.declared.reply.Reply.{Reply}
+use Rattle.lc_recover.specs.Reads.{HaveLengths}
+use Rattle.lc_recover.proofs.Images.{get-drop, get-map}
+use Rattle.lc_core.proofs.Faults.{same_devices}
+use Rattle.lc_core.proofs.Opening.{log_area, segment_len}
 use Rattle.lc_core.specs.Places.{same_some}
 use Rattle.lc_core.specs.declared.log.Log.{Log}
 use Rattle.lc_core.specs.declared.node.Node.{Node}
@@ -85,3 +92,25 @@ module _ {D : Type 0} (a : Ghosts D) where
     none = up.none;
     room = subst (λ (g : Geometry). g.nodes + g.segments ≤ up.spare.cap) (sym same.geometry) up.room;
   }
+
+  -- whatever a step answers
+  pub steps_devices : {E : Type 0} (old new : Running D a) (result : Result Reply E) → IfOk result (λ reply. CountsLogs a old reply new) → OnErr result (SameLogs a old new) → SameDevices a old new
+  steps_devices old new (Ok reply) counts same = counts.devices
+  steps_devices old new (Err fault) counts same = same_devices a old new same
+
+  -- The nodes and segments of a recovery have the areas that it had
+
+  pub logs_have : (g : Geometry) (areas : List D) (nodes : List (Node D a)) → HaveLengths a g areas → length nodes ≡ g.nodes
+      → ((n : ℕ) (node : Node D a) → slice_get nodes n ≡ Some node → area_of a node.journal.log ≡ slice_get areas n) → HaveLogs a (8 * (g.words + 1)) nodes
+  logs_have g areas nodes lengths count each n node at =
+      let area = log_area a g areas n lengths (omega (arith, slice_get_within nodes n node at, count)) in
+      ap (option_map (λ (d : D). length (a.now d))) (each n node at ∙ area.1) ∙ ap (λ (len : ℕ). Some len) area.2
+
+  pub segments_have : (g : Geometry) (areas : List D) (segments : List (Pages D a)) → HaveLengths a g areas → areas_of a segments ≡ drop g.nodes areas → HaveSegments a (2 * 272 * g.pages) segments
+  segments_have g areas segments lengths are k pages at =
+      segment_len a g areas k pages.area lengths
+      (sym (get-drop g.nodes k areas) ∙ ap (λ (l : List D). slice_get l k) (sym are) ∙ get-map (λ (p : Pages D a). p.area) segments k pages at)
+
+  pub each_have : (g : Geometry) (areas : List D) (nodes same : List (Node D a)) → same ≡ nodes → HaveLengths a g areas → length nodes ≡ g.nodes
+      → ((n : ℕ) (node : Node D a) → slice_get nodes n ≡ Some node → area_of a node.journal.log ≡ slice_get areas n) → HaveLogs a (8 * (g.words + 1)) same
+  each_have g areas nodes same is lengths count each = subst (HaveLogs a (8 * (g.words + 1))) (sym is) (logs_have g areas nodes lengths count each)

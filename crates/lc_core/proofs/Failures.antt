@@ -1,7 +1,6 @@
 -- What a step of a recovery, what comes up behind it, and a run count of failures.
 use Rattle.std.proofs.Common.{◌≡◌, ◌⊎◌, ℕ, zero, suc, ◌+◌, ◌≤◌, true, false, List, [], ◌∷◌, ◌++◌, length, take, drop, Option, Some, slice_get, slice_set, refl, sym, ap, subst, ◌∙◌, inl, inr, arith, true≢false}
-use Rattle.std.specs.Global.{Global}
-use Rattle.std.specs.Prelude.{Vec, Result, Ok, Err, IfOk, IfErr, option_map, is_ok}
+use Rattle.std.specs.Prelude.{Result, Ok, Err, IfOk, IfErr, option_map, is_ok}
 use Rattle.std.proofs.lemmas.Bool.{cases_eq}
 use Rattle.std.proofs.lemmas.List.{map-set, map-append, take-append-drop}
 use Rattle.std.proofs.lemmas.Option.{slice_get-map}
@@ -153,11 +152,9 @@ module _ {D : Type 0} (a : Ghosts D) where
 
   -- A step of a store that is up
 
-  pub up_counts : (old : Phase D a) (up later : Rising D a) (reply : Reply) → old ≡ Up up → later.segments ≡ up.segments
-      → CountsLogs a up.running reply later.running → CountsPhase a old reply (Up later)
-  up_counts old up later reply is segments counts = subst (λ (q : Phase D a). CountsPhase a q reply (Up later)) (sym is)
-      (subst (λ (areas : List (Option ℕ)). CountsFaults reply (phase_failures a (Up up)) (log_failures a (logs_of a later.running.nodes.items) ++ areas))
-      (ap (λ (v : Vec (Pages D a) Global). area_failures a (areas_of a v.items)) (sym segments)) (beside counts.counts))
+  pub up_counts : (up : Rising D a) (reply : Reply) (new : Running D a) → CountsLogs a up.running reply new
+      → CountsFaults reply (phase_failures a (Up up)) (log_failures a (logs_of a new.nodes.items) ++ area_failures a (areas_of a up.segments.items))
+  up_counts up reply new counts = beside counts.counts
     where
       rest : List (Option ℕ)
       rest = area_failures a (areas_of a up.segments.items)
@@ -183,7 +180,6 @@ module _ {D : Type 0} (a : Ghosts D) where
         none = λ is. ap (λ (os : List (Option ℕ)). os ++ rest) (counts.none is);
       }
 
-  pub up_still_failed : (old : Phase D a) (up later : Rising D a) → old ≡ Up up → later.segments ≡ up.segments → SameLogs a up.running later.running → phase_failures a (Up later) ≡ phase_failures a old
-  up_still_failed old up later is segments same =
-      ap (λ (v : Vec (Pages D a) Global). log_failures a (logs_of a later.running.nodes.items) ++ area_failures a (areas_of a v.items)) segments
-      ∙ ap (λ (logs : List (Log D a)). log_failures a logs ++ area_failures a (areas_of a up.segments.items)) same.logs ∙ ap (phase_failures a) (sym is)
+  pub up_still_failed : (up : Rising D a) (new : Running D a) → SameLogs a up.running new
+      → log_failures a (logs_of a new.nodes.items) ++ area_failures a (areas_of a up.segments.items) ≡ phase_failures a (Up up)
+  up_still_failed up new same = ap (λ (logs : List (Log D a)). log_failures a logs ++ area_failures a (areas_of a up.segments.items)) same.logs

@@ -1,9 +1,13 @@
-use Rattle.std.proofs.Common.{◌≡◌, length, None, sym, ap, subst, ◌∙◌, arith}
+use Rattle.std.proofs.Common.{◌≡◌, ◌+◌, ◌*◌, length, None, sym, ap, subst, ◌∙◌, arith}
 use Rattle.std.specs.Prelude.{slice_get}
-use Rattle.std.proofs.lemmas.List.{length-replicate}
+use Rattle.std.proofs.lemmas.List.{length-map, length-replicate}
 use Rattle.lc_record.specs.declared.geometry.Geometry.{Geometry}
 use Rattle.lc_core.specs.Blank.{IsBlankNode, IsFilledNode}
+use Rattle.lc_recover.proofs.Images.{count-areas}
+use Rattle.lc_core.specs.Devices.{HaveLogs, HaveSegments}
 use Rattle.lc_core.specs.Log.{area_of}
+use Rattle.lc_core.specs.declared.pages.Pages.{Pages}
+use Rattle.lc_core.proofs.Devices.{each_have, segments_have}
 use Rattle.lc_core.specs.PageState.{AreAtRest}
 use Rattle.lc_core.proofs.Furnishing.{all_back, each_same, named_none}
 use Rattle.lc_record.proofs.PuttingLemmas.{at_drop}
@@ -74,3 +78,23 @@ pub returns-clause-log_areas : goal.returns-clause-log_areas
 returns-clause-log_areas g c =
     let are = all_back c.args.self.nodes.len c.open_logs-areas.new.nodes _ (omega (arith, c.open_logs-areas.auto.nodes, c.as_mut_slice-2.ensures.len)) in
     each_same (λ n node. area_of g.D.Area node.journal.log ≡ slice_get c.args.recovered.areas n) c.open_logs-areas.new.nodes _ are c.open_logs-areas.ensures.log_areas
+
+pub invariant_of-result : goal.invariant_of-result
+invariant_of-result g c =
+    let r = c.args.recovered in
+    let same = c.requires.geometry in
+    let are = all_back c.args.self.nodes.len c.open_logs-areas.new.nodes _ (omega (arith, c.open_logs-areas.auto.nodes, c.as_mut_slice-2.ensures.len)) in
+    let left = segments_left g.D.Area r.geometry r.areas c.open_logs-areas.result.items c.requires.lengths c.open_logs-areas.ensures.areas in
+    let count = ap length c.with_areas-segments.ensures.areas ∙ left in
+    let mapped = length-map c.with_areas-segments.result.0.items (λ (p : Pages g.row.D.Denot g.D.Area). p.area) in
+    let all = count-areas g.D.Area r.geometry r.areas c.requires.lengths in
+    record {
+      all_segments = omega (arith, mapped, count, ap (λ (h : Geometry). h.segments) same, c.with_areas-segments.result.0.ok.0);
+      logs = subst (λ (h : Geometry). HaveLogs g.D.Area (8 * (h.words + 1)) _) same
+          (each_have g.D.Area r.geometry r.areas c.open_logs-areas.new.nodes _ are c.requires.lengths
+          (omega (arith, c.open_logs-areas.auto.nodes, c.as_mut_slice-2.ensures.len, c.args.self.count, ap (λ (h : Geometry). h.nodes) same)) c.open_logs-areas.ensures.log_areas);
+      lengths = subst (λ (h : Geometry). HaveSegments g.D.Area (2 * 272 * h.pages) c.with_areas-segments.result.0.items) same
+          (segments_have g.D.Area r.geometry r.areas c.with_areas-segments.result.0.items c.requires.lengths (c.with_areas-segments.ensures.areas ∙ c.open_logs-areas.ensures.areas));
+      none = c.with_areas-segments.ensures.none;
+      room = omega (arith, c.with_areas-segments.ensures.room, c.open_logs-areas.ensures.room, all, ap (λ (h : Geometry). h.nodes + h.segments) same);
+    }

@@ -5,7 +5,7 @@ use Rattle.lc_core.proofs.Failures.{up_counts, up_still_failed}
 use Rattle.lc_core.proofs.Logged.{err_then}
 use Rattle.lc_core.proofs.Recoveries.{runs_up}
 use Rattle.lc_core.specs.Faults.{log_kinds}
-use Rattle.lc_core.proofs.Devices.{honest_kept, up_whole}
+use Rattle.lc_core.proofs.Devices.{honest_kept, steps_devices, up_whole}
 use Rattle.lc_core.proofs.Refusing.{if_ok_both, on_err_both}
 use Rattle.lc_core.proofs.Ordinary.{plain_of}
 use Rattle.lc_core.proofs.up.Up.step.Goals as goal
@@ -25,11 +25,16 @@ returns-clause-err g c = err_then c.step.result (on_err_both c.step.result _ _ c
 
 pub returns-clause-faults : goal.returns-clause-faults
 returns-clause-faults g c = IfOk-weaker c.step.result _ _
-    (λ reply counts. up_counts g.D.Area (IsUp c.args.self.now) c.args.self.now _ reply refl refl counts)
+    (λ reply counts. up_counts g.D.Area c.args.self.now reply c.step.new.self counts)
     c.step.ensures.faults
 
 pub returns-clause-no_fault : goal.returns-clause-no_fault
-returns-clause-no_fault g c = err_then c.step.result c.step.ensures.no_fault (up_still_failed g.D.Area (IsUp c.args.self.now) c.args.self.now _ refl refl)
+returns-clause-no_fault g c = err_then c.step.result c.step.ensures.no_fault (up_still_failed g.D.Area c.args.self.now c.step.new.self)
+
+pub invariant_of-self : goal.invariant_of-self
+invariant_of-self g c =
+    let w = up_whole g.D.Area c.args.self.now c.step.new.self (steps_devices g.D.Area c.args.self.now.running c.step.new.self c.step.result c.step.ensures.faults c.step.ensures.no_fault) in
+    record { all_segments = w.all_segments; logs = w.logs; lengths = w.lengths; none = w.none; room = w.room }
 
 pub step-requires : goal.step-requires
 step-requires g c = record { plain = plain_of c.args.event.now c.requires.up c.in_default.not-PageStep }
