@@ -86,3 +86,11 @@ pub mod ImagesOfLogs
 pub mod ImagesOfPages
 pub mod ImagesFit
 pub mod Stopped
+pub mod Noted
+pub mod Calling
+pub mod PageAnswers
+pub mod NodeWritten
+pub mod Paged
+pub mod LogAreas
+pub mod PagesTurned
+pub mod UpPages

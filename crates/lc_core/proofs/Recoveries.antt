@@ -2,6 +2,7 @@
 use Rattle.std.proofs.Common.{◌≡◌, ℕ, ◌+◌, ◌<◌, ◌⊎◌, inl, inr, Bool, true, ◌++◌, List, vec_items, length, Option, Some, None, refl, sym, ap, subst, ◌∙◌, arith}
 use Rattle.std.proofs.lemmas.Result.{IfOk-from_err}
 use Rattle.std.specs.Prelude.{◌-◌, Result, Ok, Err, IfOk, IfErr, OnOk, OnErr, find, is_some, if◌then◌else◌, replicate, slice_get, slice_index_or}
+use Rattle.std.specs.Global.{Vec}
 use Rattle.lc_disk.specs.declared.area.Area.{Ghosts}
 use Rattle.lc_record.specs.Content.{Content}
 use Rattle.lc_record.specs.declared.geometry.Geometry.{Geometry}
@@ -18,6 +19,7 @@ use Rattle.lc_recover.proofs.Images.{count-areas, get-drop}
 use Rattle.lc_core.proofs.Closes.{get-map}
 use Rattle.lc_core.proofs.Devices.{honest_kept}
 use Rattle.lc_core.proofs.PageWrites.{of_pages, pages_same}
+use Rattle.lc_core.proofs.PagesTurned.{halts_still}
 use Rattle.lc_core.proofs.Rising.{get-replicate, rises}
 use Rattle.lc_core.proofs.Cohering.{coherent_apart}
 use Rattle.lc_recover.specs.Recovery.{Recovering, begun, IsDone, TakesMemory, Tells}
@@ -45,7 +47,7 @@ use Rattle.lc_core.specs.Running.{FitsRunning}
 use Rattle.lc_core.specs.Settled.{CountsSteps, number_of, open_answer, settled_answer}
 use Rattle.lc_core.specs.Slots.{besides_of}
 use Rattle.lc_core.specs.Node.{FitsNode}
-use Rattle.lc_core.specs.Stepping.{FollowsStep, TellsWriting, is_plain}
+use Rattle.lc_core.specs.Stepping.{FollowsStep, TellsWriting, is_plain, works_up}
 use Rattle.lc_core.specs.Turns.{Turns, closed_with, held_back, kept_numbers, numbers_after}
 use Rattle.lc_core.specs.Recovering.{ComesUp, RepliesTo}
 use Rattle.lc_core.specs.Pages.{FitsArea, FitsPages, IsAtRest, IsPageAt, areas_of}
@@ -54,53 +56,71 @@ use Rattle.lc_core.proofs.Refusing.{on_err}
 use Rattle.lc_core.specs.declared.phase.Phase.{Phase}
 use Rattle.lc_core.specs.declared.phase.Phase.TheVariants.{Down, Up, Taken}
 use Rattle.lc_core.specs.declared.page_state.PageState.{PageState}
-use Rattle.lc_core.specs.declared.page_state.PageState.TheVariants.{AtRest}
+use Rattle.lc_core.specs.declared.page_state.PageState.TheVariants.{AtRest, Failed as HasFailed}
 use Rattle.lc_core.specs.declared.pages.Pages.{Pages}
 use Rattle.lc_core.specs.declared.up.Up.{Up as Rising}
 use Rattle.lc_core.specs.declared.node.Node.{Node}
 use Rattle.lc_core.specs.declared.running.Running.{Running}
-use Rattle.lc_core.proofs.Ordinary.{turns_refused}
 use Rattle.lc_core.proofs.Slotted.{Stays, slots_stay, stays_where}
 
 pub stepped_same : (a b : ℕ) → Stepped a ≡ Stepped b → a ≡ b
 stepped_same a b same = ap (λ (reply : Reply). elim reply as (λ (reply : Reply). ℕ) [ Stepped steps ↦ steps | _ ↦ a ]) same
 
 -- what is refused at once where it is down
-refused_down : (m : Setting) (s : State) (cut : Cut) (event : Event) → s.phase ≡ DownAt cut → is_plain event ≡ true → common_refusal m.geometry s event ≡ Some IsDownNow
-refused_down m s cut (Begin node thread segments reading) down plain = rw down refl
-refused_down m s cut (SetRange node thread segment offset len) down plain = rw down refl
-refused_down m s cut (Write node thread segment offset bytes) down plain = rw down refl
-refused_down m s cut (Read node thread segment offset len) down plain = rw down refl
-refused_down m s cut (Abort node thread) down plain = rw down refl
-refused_down m s cut (Reserve node thread) down plain = rw down refl
-refused_down m s cut (Close node thread) down plain = rw down refl
-refused_down m s cut (FlushStep node) down plain = rw down refl
-refused_down m s cut (Leave node segment) down plain = rw down refl
-refused_down m s cut (Arrive node segment) down plain = rw down refl
-refused_down m s cut (Deliver sender number segment to) down plain = rw down refl
-refused_down m s cut (Trim node) down plain = rw down refl
-refused_down m s cut (PageStep node segment page) down plain = absurd cc
-refused_down m s cut (ResetStep node) down plain = rw down refl
-refused_down m s cut (Stop choices) down plain = absurd cc
-refused_down m s cut RecoverStep down plain = absurd cc
+refused_down : (m : Setting) (s : State) (cut : Cut) (event : Event) → s.phase ≡ DownAt cut → works_up event ≡ true → common_refusal m.geometry s event ≡ Some IsDownNow
+refused_down m s cut (Begin node thread segments reading) down works = rw down refl
+refused_down m s cut (SetRange node thread segment offset len) down works = rw down refl
+refused_down m s cut (Write node thread segment offset bytes) down works = rw down refl
+refused_down m s cut (Read node thread segment offset len) down works = rw down refl
+refused_down m s cut (Abort node thread) down works = rw down refl
+refused_down m s cut (Reserve node thread) down works = rw down refl
+refused_down m s cut (Close node thread) down works = rw down refl
+refused_down m s cut (FlushStep node) down works = rw down refl
+refused_down m s cut (Leave node segment) down works = rw down refl
+refused_down m s cut (Arrive node segment) down works = rw down refl
+refused_down m s cut (Deliver sender number segment to) down works = rw down refl
+refused_down m s cut (Trim node) down works = rw down refl
+refused_down m s cut (PageStep node segment page) down works = rw down refl
+refused_down m s cut (ResetStep node) down works = rw down refl
+refused_down m s cut (Stop choices) down works = absurd cc
+refused_down m s cut RecoverStep down works = absurd cc
 
-pub common_plain : (event : Event) → is_common event ≡ true → (event ≡ RecoverStep → ⊥) → is_plain event ≡ true
-common_plain (Begin node thread segments reading) common other = refl
-common_plain (SetRange node thread segment offset len) common other = refl
-common_plain (Write node thread segment offset bytes) common other = refl
-common_plain (Read node thread segment offset len) common other = refl
-common_plain (Abort node thread) common other = refl
-common_plain (Reserve node thread) common other = refl
-common_plain (Close node thread) common other = refl
-common_plain (FlushStep node) common other = refl
-common_plain (Leave node segment) common other = refl
-common_plain (Arrive node segment) common other = refl
-common_plain (Deliver sender number segment to) common other = refl
-common_plain (Trim node) common other = refl
-common_plain (PageStep node segment page) common other = absurd cc
-common_plain (ResetStep node) common other = refl
-common_plain (Stop choices) common other = absurd cc
-common_plain RecoverStep common other = absurd (other refl)
+pub common_up : (event : Event) → is_common event ≡ true → (event ≡ RecoverStep → ⊥) → works_up event ≡ true
+common_up (Begin node thread segments reading) common other = refl
+common_up (SetRange node thread segment offset len) common other = refl
+common_up (Write node thread segment offset bytes) common other = refl
+common_up (Read node thread segment offset len) common other = refl
+common_up (Abort node thread) common other = refl
+common_up (Reserve node thread) common other = refl
+common_up (Close node thread) common other = refl
+common_up (FlushStep node) common other = refl
+common_up (Leave node segment) common other = refl
+common_up (Arrive node segment) common other = refl
+common_up (Deliver sender number segment to) common other = refl
+common_up (Trim node) common other = refl
+common_up (PageStep node segment page) common other = refl
+common_up (ResetStep node) common other = refl
+common_up (Stop choices) common other = absurd cc
+common_up RecoverStep common other = absurd (other refl)
+
+-- and the numbers stay
+turns_down : (m : Setting) (s : State) (x : Numbers) (event : Event) → works_up event ≡ true → Turns m s x event (Refused IsDownNow) x
+turns_down m s x (Begin node thread segments reading) works = refl
+turns_down m s x (SetRange node thread segment offset len) works = refl
+turns_down m s x (Write node thread segment offset bytes) works = refl
+turns_down m s x (Read node thread segment offset len) works = refl
+turns_down m s x (Abort node thread) works = refl
+turns_down m s x (Reserve node thread) works = refl
+turns_down m s x (Close node thread) works = refl
+turns_down m s x (FlushStep node) works = refl
+turns_down m s x (Leave node segment) works = refl
+turns_down m s x (Arrive node segment) works = refl
+turns_down m s x (Deliver sender number segment to) works = refl
+turns_down m s x (Trim node) works = refl
+turns_down m s x (PageStep node segment page) works = refl
+turns_down m s x (ResetStep node) works = refl
+turns_down m s x (Stop choices) works = absurd cc
+turns_down m s x RecoverStep works = absurd cc
 
 pub if_ok_at : {A E : Type 0} (res : Result A E) (x : A) (P : A → Type 0) → res ≡ Ok x → P x → IfOk res P
 if_ok_at res x P is p = subst (λ (r : Result _ _). IfOk r P) (sym is) p
@@ -116,9 +136,9 @@ none_common m s = elim s.phase as (λ (p : Condition). common_refusal m.geometry
 ]
 
 module _ {D : Type 0} (a : Ghosts D) (m : Setting) (s : State) (x : Numbers) where
-  pub down_refuses : (r : Recovering D) (event : Event) → is_plain event ≡ true → FitsDown a m r s x → Leads a m event s x (Refused IsDownNow) (Down r)
-  down_refuses r event plain h =
-      let common : common_refusal m.geometry s event ≡ Some IsDownNow = refused_down m s h.cut event h.down plain in
+  pub down_refuses : (r : Recovering D) (event : Event) → works_up event ≡ true → FitsDown a m r s x → Leads a m event s x (Refused IsDownNow) (Down r)
+  down_refuses r event works h =
+      let common : common_refusal m.geometry s event ≡ Some IsDownNow = refused_down m s h.cut event h.down works in
       record {
         after = s;
         next = x;
@@ -127,7 +147,7 @@ module _ {D : Type 0} (a : Ghosts D) (m : Setting) (s : State) (x : Numbers) whe
           λ answer is. (let none : None ≡ Some answer = sym (ap (λ (c : Option Refusal). if is_some c then None else open_answer m s x event) common) ∙ is in absurd cc),
           λ recovers steps same. absurd cc,
         );
-        turns = turns_refused m s x event IsDownNow plain;
+        turns = turns_down m s x event works;
         fits = h;
       }
 
@@ -227,7 +247,7 @@ module _ {D : Type 0} (a : Ghosts D) (m : Setting) (s : State) (x : Numbers) whe
   up_refuses up h = leads_by_row (Refused OutOfTurn) s (record x { steps = 0 }) (Up up)
       (subst (λ (p : Condition). RecoverRow p m.geometry s (Refused OutOfTurn) s) (sym h.running.up) (refl, refl))
       (λ steps same. absurd cc) refl
-      (record { running = all_stay up.running h.running; pages = pages_same a m up.segments.items x (record x { steps = 0 }) refl h.pages; honest = h.honest })
+      (record { running = all_stay up.running h.running; pages = pages_same a m up.segments.items x (record x { steps = 0 }) refl h.pages; honest = h.honest; failed = h.failed })
 
   -- no other event of a store that is up changes its pages
   closed_pages : (node : ℕ) (e : Option Entry) → of_pages (closed_with s x node e) ≡ of_pages x
@@ -289,6 +309,8 @@ module _ {D : Type 0} (a : Ghosts D) (m : Setting) (s : State) (x : Numbers) whe
           pages = subst (λ (segments : List (Pages D a)). FitsPages a m segments on.next) (ap vec_items (sym segments))
               (pages_same a m up.segments.items x on.next (turned_pages event reply on.next plain on.turns) h.pages);
           honest = honest_kept a up.running.nodes.items later.running.nodes.items devices.kinds h.honest;
+          failed = λ k pages got. halts_still a m s event reply on.after h.running.up on.fits.up on.step (k + 1) pages
+              (h.failed k pages (ap (λ (v : Vec (Pages D a)). slice_get v.items k) (sym segments) ∙ got));
         };
       }
 
@@ -308,10 +330,10 @@ module _ {D : Type 0} (a : Ghosts D) where
   down_same r other same = ap (λ (p : Phase D a). elim p as (λ (p : Phase D a). Recovering D) [ Down it ↦ it | _ ↦ r ]) same
 
   -- not up
-  pub not_up : (old : Phase D a) (event : Event) → ((up : Rising D a) → old ≡ Up up → ⊥) → is_plain event ≡ true → FollowsPhase old event (Refused IsDownNow) old
-  not_up (Down r) event not plain = λ m s x h. down_refuses a m s x r event plain h
-  not_up (Up up) event not plain = absurd (not up refl)
-  not_up Taken event not plain = λ m s x h. absurd h
+  pub not_up : (old : Phase D a) (event : Event) → ((up : Rising D a) → old ≡ Up up → ⊥) → works_up event ≡ true → FollowsPhase old event (Refused IsDownNow) old
+  not_up (Down r) event not works = λ m s x h. down_refuses a m s x r event works h
+  not_up (Up up) event not works = absurd (not up refl)
+  not_up Taken event not works = λ m s x h. absurd h
 
   -- not down
   pub not_down : (old : Phase D a) → ((r : Recovering D) → old ≡ Down r → ⊥) → FollowsPhase old RecoverStep (Refused OutOfTurn) old
@@ -444,6 +466,11 @@ module _ {D : Type 0} (a : Ghosts D) where
         none_writes : pages.writes.items ≡ replicate m.geometry.pages AtRest
         none_writes = risen.rest k pages got ∙ ap (λ (g : Geometry). replicate g.pages AtRest) (sym risen.geometry ∙ sym same_geometry)
 
+        none_failed : (page : ℕ) → slice_get pages.writes.items page ≡ Some HasFailed → ⊥
+        none_failed page failed =
+            let is : AtRest ≡ HasFailed = get-replicate m.geometry.pages page AtRest HasFailed (ap (λ (states : List PageState). slice_get states page) (sym none_writes) ∙ failed) in
+            absurd cc
+
         area_up : FitsArea a m.geometry (k + 1) pages next_numbers
         area_up = record {
           honest = honest_store (risen.store.geometry.nodes + k) pages.area its_area;
@@ -470,6 +497,7 @@ module _ {D : Type 0} (a : Ghosts D) where
                 (subst (λ (areas : List D). AreOfBytes a areas) (sym risen.areas) risen.bytes) finished all_merge (risen.fresh keeps.honest);
             pages = pages_up;
             honest = λ n node area at there. keeps.honest n area (sym (risen.log_areas n node at) ∙ there);
+            failed = λ k pages got page failed. absurd (none_failed k pages got page failed);
           })
 
     pub comes_up : {result : Result Progress RecoverFault} (up : Rising D a) → StepLeaves r new result → ComesUp a new up → FollowsPhase old RecoverStep Recovered (Up up)

@@ -3,6 +3,7 @@ use Rattle.std.specs.Prelude.{◌≡◌, ℕ, Bool, List, [], ◌∷◌, ◌++�
 use Rattle.lc_disk.specs.declared.area.Area.{Ghosts}
 use Rattle.lc_model.specs.declared.reply.Reply.{Reply}
 use Rattle.lc_core.specs.FaultReplies.{CountsFaults, failures_of, kind_of}
+use Rattle.lc_core.specs.Log.{area_of}
 use Rattle.lc_core.specs.Pages.{areas_of}
 use Rattle.lc_core.specs.declared.log.Log.{Log}
 use Rattle.lc_core.specs.declared.node.Node.{Node}
@@ -24,6 +25,11 @@ module _ {D : Type 0} (a : Ghosts D) where
   pub record SameLogs (old new : Running D a) : Type 0 where
     pub geometry : new.geometry ≡ old.geometry
     pub logs : logs_of new.nodes.items ≡ logs_of old.nodes.items
+
+  -- nor its area
+  pub record SameLogAreas (old new : Running D a) : Type 0 where
+    pub geometry : new.geometry ≡ old.geometry
+    pub areas : map (area_of a) (logs_of new.nodes.items) ≡ map (area_of a) (logs_of old.nodes.items)
 
   -- how often the device of each has failed
   abbrev pub log_failures : List (Log D a) → List (Option ℕ)

@@ -8,6 +8,7 @@ pub mod Seat
 pub mod Seats
 pub mod Desk
 pub mod Devices
+pub mod Drafts
 pub mod Log
 pub mod FaultReplies
 pub mod Records
@@ -37,6 +38,7 @@ pub mod Stops
 pub mod Runs
 pub mod PageState
 pub mod Pages
+pub mod Paging
 pub mod World
 pub mod Faults
 pub mod Recovering

@@ -1,5 +1,5 @@
 -- A store that is down or up, against the machine and the numbers.
-use Rattle.std.specs.Prelude.{◌≡◌, ◌⊎◌, ◌++◌, Bool, true}
+use Rattle.std.specs.Prelude.{◌≡◌, ◌⊎◌, ◌++◌, Bool, true, false}
 use Rattle.lc_disk.specs.declared.area.Area.{Ghosts}
 use Rattle.lc_record.specs.Transaction.{effects}
 use Rattle.lc_recover.specs.Reads.{AreHonest, AllMergeTo}
@@ -9,24 +9,25 @@ use Rattle.lc_model.specs.Machine.{Step}
 use Rattle.lc_model.specs.Sound.{Sound}
 use Rattle.lc_model.specs.State.{DownAt, Setting, State}
 use Rattle.lc_model.specs.declared.event.Event.{Event}
-use Rattle.lc_model.specs.declared.event.Event.TheVariants.{RecoverStep}
+use Rattle.lc_model.specs.declared.event.Event.TheVariants.{RecoverStep, Stop}
 use Rattle.lc_model.specs.declared.reply.Reply.{Reply}
 use Rattle.lc_core.specs.Devices.{HonestLogs}
 use Rattle.lc_core.specs.Numbers.{Numbers}
 use Rattle.lc_core.specs.Pages.{FitsPages}
+use Rattle.lc_core.specs.Paging.{HaltAll}
 use Rattle.lc_core.specs.Running.{FitsRunning}
 use Rattle.lc_core.specs.Settled.{Settled}
-use Rattle.lc_core.specs.Stepping.{AsksMemory, is_plain}
+use Rattle.lc_core.specs.Stepping.{AsksMemory}
 use Rattle.lc_core.specs.Turns.{Turns, kept_numbers}
 use Rattle.lc_core.specs.declared.phase.Phase.{Phase}
 use Rattle.lc_core.specs.declared.phase.Phase.TheVariants.{Down, Up, Taken}
 use Rattle.lc_core.specs.declared.world.World.{World}
 use Rattle.lc_core.specs.declared.up.Up.{Up as UpStore}
 
--- the events but page steps, and but a stop
+-- the events but a stop
 abbrev pub is_common : Event → Bool
-is_common RecoverStep = true
-is_common event = is_plain event
+is_common (Stop choices) = false
+is_common event = true
 
 module _ {D : Type 0} (a : Ghosts D) where
   -- whatever a stop leaves of the areas merges to what the cut keeps, also while their recovery goes on
@@ -44,6 +45,7 @@ module _ {D : Type 0} (a : Ghosts D) where
     pub running : FitsRunning a m up.running s x
     pub pages : FitsPages a m up.segments.items x
     pub honest : HonestLogs a up.running.nodes.items
+    pub failed : HaltAll a s up.segments.items
 
   abbrev pub FitsPhase : Setting → Phase D a → State → Numbers → Type 0
   FitsPhase m (Down recovery) s x = FitsDown m recovery s x

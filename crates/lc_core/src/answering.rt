@@ -14,7 +14,7 @@ impl<D: Area + Drop> World<D> {
     ghost use Rattle.lc_core.specs.Faults.{CountsPhase, phase_failures};
     ghost use Rattle.lc_core.specs.Recovers.{RecoversDown, RefusesAtOnce};
 
-    /// An event that is no step of a page write or of a reset, and no stop. It makes at most one call of an area.
+    /// An event that is no stop. It makes at most one call of an area.
     ///
     /// # Errors
     ///

@@ -5,11 +5,11 @@ use Rattle.lc_core.specs.declared.phase.Phase.{Phase}
 use Rattle.lc_core.proofs.Logged.{err_then}
 use Rattle.lc_core.proofs.Recovers.{IfOk-any, down_refuses, up_asks}
 use Rattle.lc_core.specs.declared.phase.Phase.TheVariants.{Up}
-use Rattle.lc_core.proofs.Recoveries.{common_plain, up_follows, up_still}
+use Rattle.lc_core.proofs.Recoveries.{common_up, up_follows, up_still}
 use Rattle.lc_core.proofs.world.World.step.Goals as goal
 
 pub step-requires : goal.step-requires
-step-requires g c = record { plain = common_plain c.args.event.now c.requires.common c.in_default.not-RecoverStep }
+step-requires g c = record { up = common_up c.args.event.now c.requires.common c.in_default.not-RecoverStep }
 
 pub returns-in-Up-clause-follows : goal.returns-in-Up-clause-follows
 returns-in-Up-clause-follows g c = IfOk-weaker c.step.result _ _
