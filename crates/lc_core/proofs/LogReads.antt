@@ -30,6 +30,7 @@ use Rattle.lc_core.specs.LogWords.{AreLogged, AreWordsOf, IsNodeKept, IsNodeRead
 use Rattle.lc_core.specs.Node.{FitsNode}
 use Rattle.lc_core.specs.Numbers.{Numbers, stable_records}
 use Rattle.lc_core.specs.Devices.{HonestLogs}
+use Rattle.lc_core.specs.Paging.{HaltAll}
 use Rattle.lc_core.specs.Faults.{SameDevices}
 use Rattle.lc_core.specs.Pages.{FitsPages, areas_of}
 use Rattle.lc_core.proofs.Devices.{honest_kept}
@@ -133,12 +134,13 @@ module _ {D : Type 0} (a : Ghosts D) where
       ];
     }
 
-    still_down : (m : Setting) (s : State) (x : Numbers) → FitsDown a m r s x → FitsDown a m new s x
-    still_down m s x h = record {
+    still_down : HaveLengths a r.geometry news → (m : Setting) (s : State) (x : Numbers) → FitsDown a m r s x → FitsDown a m new s x
+    still_down lengths_now m s x h = record {
       geometry_is = h.geometry_is;
       cut = h.cut;
       down = h.down;
       sound = h.sound;
+      lengths = lengths_now;
       honest = honest_still h.honest;
       merges = λ images are. h.merges images (images_still h.honest images are);
       steps_are = h.steps_are;
@@ -148,11 +150,11 @@ module _ {D : Type 0} (a : Ghosts D) where
     known = lt-ltb node r.geometry.nodes below
 
     -- the area of a node's log, and no other, was read
-    pub down_same : IsSameBut a node (Down r) (Down new)
-    down_same = record {
+    down_same : HaveLengths a r.geometry news → IsSameBut a node (Down r) (Down new)
+    down_same lengths_now = record {
       others = λ other differ. ap (λ o. if nat_lt other r.geometry.nodes then o else None) (others other differ);
       segments = ap (drop r.geometry.nodes) read.call.is ∙ drop_set r.areas r.geometry.nodes node read.call.new below;
-      still = still_down;
+      still = still_down lengths_now;
     }
 
     down_there : (next : D) → next ≡ read.call.new → log_area a (Down new) node ≡ Some next
@@ -170,7 +172,7 @@ module _ {D : Type 0} (a : Ghosts D) where
         same_dirty = read.same_dirty;
         counted = read.call.counted ∙ counts failed is;
       };
-      same = down_same;
+      same = down_same lengths_now;
     }
       where
         long : (l : List D) (k : ℕ) (d : D) → slice_get l k ≡ Some d → slice_get (map (λ e. length (a.now e)) l) k ≡ Some (length (a.now d))
@@ -284,6 +286,7 @@ module _ {D : Type 0} (a : Ghosts D) where
       running = all_still n node up.running later.running kept at m s x fits.running;
       pages = subst (λ (segments : Vec (Pages D a) Global). FitsPages a m segments.items x) (sym is.segments) fits.pages;
       honest = honest_kept a up.running.nodes.items later.running.nodes.items is.devices.kinds fits.honest;
+      failed = subst (λ (segments : Vec (Pages D a) Global). HaltAll a s segments.items) (sym is.segments) fits.failed;
     };
   }
 
@@ -296,6 +299,7 @@ module _ {D : Type 0} (a : Ghosts D) where
       running = subst (λ (w : Running D a). FitsRunning a m w s x) (sym same) fits.running;
       pages = subst (λ (segments : Vec (Pages D a) Global). FitsPages a m segments.items x) (sym is.segments) fits.pages;
       honest = subst (λ (w : Running D a). HonestLogs a w.nodes.items) (sym same) fits.honest;
+      failed = subst (λ (segments : Vec (Pages D a) Global). HaltAll a s segments.items) (sym is.segments) fits.failed;
     };
   }
 

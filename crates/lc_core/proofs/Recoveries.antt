@@ -4,6 +4,7 @@ use Rattle.std.proofs.lemmas.Result.{IfOk-from_err}
 use Rattle.std.specs.Prelude.{◌-◌, Result, Ok, Err, IfOk, IfErr, OnOk, OnErr, find, is_some, if◌then◌else◌, replicate, slice_get, slice_index_or}
 use Rattle.std.specs.Global.{Vec}
 use Rattle.lc_disk.specs.declared.area.Area.{Ghosts}
+use Rattle.lc_disk.specs.declared.choice.Choice.{Choice}
 use Rattle.lc_record.specs.Content.{Content}
 use Rattle.lc_record.specs.declared.geometry.Geometry.{Geometry}
 use Rattle.lc_record.specs.Transaction.{Transaction, effects}
@@ -13,7 +14,7 @@ use Rattle.lc_page.specs.Page.{slot_at}
 use Rattle.lc_page.specs.PageWrite.{IsSettled}
 use Rattle.lc_page.specs.declared.page_text.PageText.{PageText}
 use Rattle.lc_page.proofs.StateLemmas.{clean_settled}
-use Rattle.lc_recover.specs.Reads.{AreHonest, AreOfBytes, AllMergeTo, area_count}
+use Rattle.lc_recover.specs.Reads.{AreHonest, AreOfBytes, AllMergeTo, HaveLengths, area_count}
 use Rattle.lc_recover.specs.Recovered.{IsFinished, page_read_of}
 use Rattle.lc_recover.proofs.Images.{count-areas, get-drop}
 use Rattle.lc_core.proofs.Closes.{get-map}
@@ -51,7 +52,7 @@ use Rattle.lc_core.specs.Stepping.{FollowsStep, TellsWriting, is_plain, works_up
 use Rattle.lc_core.specs.Turns.{Turns, closed_with, held_back, kept_numbers, numbers_after}
 use Rattle.lc_core.specs.Recovering.{ComesUp, RepliesTo}
 use Rattle.lc_core.specs.Pages.{FitsArea, FitsPages, IsAtRest, IsPageAt, areas_of}
-use Rattle.lc_core.specs.World.{FitsDown, FitsPhase, FollowsUp, Leads, StillFitsUp, is_common}
+use Rattle.lc_core.specs.World.{FitsDown, FitsPhase, FollowsUp, Leads, StillFitsUp}
 use Rattle.lc_core.proofs.Refusing.{on_err}
 use Rattle.lc_core.specs.declared.phase.Phase.{Phase}
 use Rattle.lc_core.specs.declared.phase.Phase.TheVariants.{Down, Up, Taken}
@@ -85,23 +86,24 @@ refused_down m s cut (ResetStep node) down works = rw down refl
 refused_down m s cut (Stop choices) down works = absurd cc
 refused_down m s cut RecoverStep down works = absurd cc
 
-pub common_up : (event : Event) → is_common event ≡ true → (event ≡ RecoverStep → ⊥) → works_up event ≡ true
-common_up (Begin node thread segments reading) common other = refl
-common_up (SetRange node thread segment offset len) common other = refl
-common_up (Write node thread segment offset bytes) common other = refl
-common_up (Read node thread segment offset len) common other = refl
-common_up (Abort node thread) common other = refl
-common_up (Reserve node thread) common other = refl
-common_up (Close node thread) common other = refl
-common_up (FlushStep node) common other = refl
-common_up (Leave node segment) common other = refl
-common_up (Arrive node segment) common other = refl
-common_up (Deliver sender number segment to) common other = refl
-common_up (Trim node) common other = refl
-common_up (PageStep node segment page) common other = refl
-common_up (ResetStep node) common other = refl
-common_up (Stop choices) common other = absurd cc
-common_up RecoverStep common other = absurd (other refl)
+-- what is neither a step of a recovery nor a stop
+pub else_works : (event : Event) → (event ≡ RecoverStep → ⊥) → ((choices : List (List Choice)) → event ≡ Stop choices → ⊥) → works_up event ≡ true
+else_works (Begin node thread segments reading) other going = refl
+else_works (SetRange node thread segment offset len) other going = refl
+else_works (Write node thread segment offset bytes) other going = refl
+else_works (Read node thread segment offset len) other going = refl
+else_works (Abort node thread) other going = refl
+else_works (Reserve node thread) other going = refl
+else_works (Close node thread) other going = refl
+else_works (FlushStep node) other going = refl
+else_works (Leave node segment) other going = refl
+else_works (Arrive node segment) other going = refl
+else_works (Deliver sender number segment to) other going = refl
+else_works (Trim node) other going = refl
+else_works (PageStep node segment page) other going = refl
+else_works (ResetStep node) other going = refl
+else_works (Stop choices) other going = absurd (going choices refl)
+else_works RecoverStep other going = absurd (other refl)
 
 -- and the numbers stay
 turns_down : (m : Setting) (s : State) (x : Numbers) (event : Event) → works_up event ≡ true → Turns m s x event (Refused IsDownNow) x
@@ -169,6 +171,7 @@ module _ {D : Type 0} (a : Ghosts D) (m : Setting) (s : State) (x : Numbers) whe
   -- what a step of the recovery keeps
   pub record Keeps (r new : Recovering D) : Type 0 where
     pub geometry : new.geometry ≡ r.geometry
+    pub lengths : HaveLengths a new.geometry new.areas
     pub honest : AreHonest a new.areas
     pub merges : (content : Content) (numbers : ℕ → ℕ) → AllMergeTo a r.geometry r.areas content numbers → AllMergeTo a r.geometry new.areas content numbers
 
@@ -183,6 +186,7 @@ module _ {D : Type 0} (a : Ghosts D) (m : Setting) (s : State) (x : Numbers) whe
       cut = h.cut;
       down = h.down;
       sound = h.sound;
+      lengths = keeps.lengths;
       honest = keeps.honest;
       merges = still_merges;
       steps_are = refl;
@@ -344,6 +348,7 @@ module _ {D : Type 0} (a : Ghosts D) where
   -- what a step of a recovery leaves
   pub record StepLeaves (r new : Recovering D) (result : Result Progress RecoverFault) : Type 0 where
     pub geometry : new.geometry ≡ r.geometry
+    pub lengths : HaveLengths a new.geometry new.areas
     pub progress : IfOk result (λ progress. Tells progress new)
     pub steps : OnOk result (new.steps ≡ r.steps + 1)
     pub no_memory : result ≡ Err NoMemory → TakesMemory r × (new ≡ r)
@@ -359,7 +364,7 @@ module _ {D : Type 0} (a : Ghosts D) where
     keeps_of : {result : Result Progress RecoverFault} → StepLeaves r new result → (m : Setting) (s : State) (x : Numbers) → FitsDown a m r s x → Keeps a m s x r new
     keeps_of leaves m s x h =
         let honest : AreHonest a new.areas = leaves.honest h.honest in
-        record { geometry = leaves.geometry; honest = honest; merges = λ content numbers. leaves.merges content numbers honest }
+        record { geometry = leaves.geometry; lengths = leaves.lengths; honest = honest; merges = λ content numbers. leaves.merges content numbers honest }
 
     -- what is refused in a merge is not refused where all images merge
     only_fails : (fault : RecoverFault) → StepLeaves r new (Err fault) → (m : Setting) (s : State) (x : Numbers) → FitsDown a m r s x → (fault ≡ NoMemory) ⊎ (fault ≡ Failed)

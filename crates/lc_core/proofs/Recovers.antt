@@ -1,10 +1,12 @@
 -- A step of a recovery answers by what it has made, whatever the areas hold.
-use Rattle.std.proofs.Common.{◌≡◌, ◌⊎◌, ℕ, ◌+◌, true, false, List, map, None, Some, refl, sym, ap, subst, ◌∙◌, inl, inr, arith}
-use Rattle.std.specs.Prelude.{Result, Ok, Err, IfOk, IfErr, OnOk}
+use Rattle.std.proofs.Common.{◌≡◌, ◌⊎◌, ℕ, ◌+◌, Bool, true, false, List, map, Option, None, Some, refl, sym, ap, subst, ◌∙◌, inl, inr, arith}
+use Rattle.std.specs.Prelude.{if◌then◌else◌, Result, Ok, Err, IfOk, IfErr, OnOk}
 use Rattle.std.proofs.lemmas.Result.{IfOk-from_err, IfOk-weaker}
 use Rattle.lc_disk.specs.declared.area.Area.{Ghosts}
 use Rattle.lc_record.specs.declared.geometry.Geometry.{Geometry}
 use Rattle.lc_model.specs.Merge.{Store, MergesTo}
+use Rattle.lc_disk.specs.declared.choice.Choice.{Choice}
+use Rattle.lc_core.specs.Stepping.{works_up}
 use Rattle.lc_model.specs.declared.event.Event.{Event}
 use Rattle.lc_model.specs.declared.event.Event.TheVariants.{Begin, SetRange, Write, Read, Abort, Reserve, Close, FlushStep, Leave, Arrive, Deliver, Trim, PageStep, ResetStep, Stop, RecoverStep}
 use Rattle.lc_model.specs.declared.refusal.Refusal.{Refusal}
@@ -135,18 +137,31 @@ module _ {D : Type 0} (a : Ghosts D) where
   up_refuses (Up up) not_down refusal is = (ap (λ (v : Refusal). Refused v) (same_some OutOfTurn refusal is), refl)
   up_refuses Taken not_down refusal is = (ap (λ (v : Refusal). Refused v) (same_some OutOfTurn refusal is), refl)
 
-  pub down_refuses : (phase : Phase D a) (event : Event) → ((up : Rising D a) → phase ≡ Up up → ⊥) → (event ≡ RecoverStep → ⊥) → RefusesAtOnce a phase event (Refused IsDown) phase
-  down_refuses phase event not_up other refusal is = one phase not_up (ap (at_once a phase) (sym (no_recovery event other)) ∙ is)
+  pub down_refuses : (phase : Phase D a) (event : Event) → ((up : Rising D a) → phase ≡ Up up → ⊥) → works_up event ≡ true → RefusesAtOnce a phase event (Refused IsDown) phase
+  down_refuses phase event not_up works refusal is = one phase not_up is
     where
-      one : (p : Phase D a) → ((up : Rising D a) → p ≡ Up up → ⊥) → at_once a p false ≡ Some refusal → (Refused IsDown ≡ Refused refusal) × (phase ≡ phase)
-      one (Down r) not_up is = (ap (λ (v : Refusal). Refused v) (same_some IsDown refusal is), refl)
+      down_is : (rest : Option Refusal) → (if works_up event then Some IsDown else rest) ≡ Some refusal → Refused IsDown ≡ Refused refusal
+      down_is rest is = ap (λ (v : Refusal). Refused v) (same_some IsDown refusal (sym (ap (λ (b : Bool). if b then Some IsDown else rest) works) ∙ is))
+
+      one : (p : Phase D a) → ((up : Rising D a) → p ≡ Up up → ⊥) → at_once a p event ≡ Some refusal → (Refused IsDown ≡ Refused refusal) × (phase ≡ phase)
+      one (Down r) not_up is = (down_is None is, refl)
       one (Up up) not_up is = absurd (not_up up refl)
-      one Taken not_up is = (ap (λ (v : Refusal). Refused v) (same_some IsDown refusal is), refl)
+      one Taken not_up is = (down_is _ is, refl)
 
   -- a store that is down recovers, and one that is up does all else
   pub down_asks : (phase : Phase D a) (r : Recovering D) → phase ≡ Down r → (reply : Reply) (new : Phase D a) → RefusesAtOnce a phase RecoverStep reply new
-  down_asks phase r is reply new refusal refused = absurd (let no : None ≡ Some refusal = ap (λ p. at_once a p true) (sym is) ∙ refused in cc)
+  down_asks phase r is reply new refusal refused = absurd (let no : None ≡ Some refusal = ap (λ p. at_once a p RecoverStep) (sym is) ∙ refused in cc)
 
   pub up_asks : (phase : Phase D a) (up : Rising D a) → phase ≡ Up up → (event : Event) → (event ≡ RecoverStep → ⊥) → (reply : Reply) (new : Phase D a) → RefusesAtOnce a phase event reply new
   up_asks phase up is event other reply new refusal refused =
-      absurd (let no : None ≡ Some refusal = ap (λ p. at_once a p false) (sym is) ∙ ap (at_once a phase) (sym (no_recovery event other)) ∙ refused in cc)
+      absurd (let no : None ≡ Some refusal = sym (ap (λ (b : Bool). if b then Some OutOfTurn else None) (no_recovery event other)) ∙ ap (λ p. at_once a p event) (sym is) ∙ refused in cc)
+
+  -- any store takes a stop
+  pub stop_asks : (phase : Phase D a) (event : Event) (choices : List (List Choice)) → event ≡ Stop choices → (reply : Reply) (new : Phase D a) → RefusesAtOnce a phase event reply new
+  stop_asks phase event choices is reply new refusal refused =
+      absurd (let no : None ≡ Some refusal = sym (none phase) ∙ ap (at_once a phase) (sym is) ∙ refused in cc)
+    where
+      none : (p : Phase D a) → at_once a p (Stop choices) ≡ None
+      none (Down r) = refl
+      none (Up up) = refl
+      none Taken = refl

@@ -40,7 +40,7 @@ use Rattle.lc_core.specs.declared.up.Up.{Up as Rising}
 use Rattle.lc_core.proofs.Devices.{log_area_of}
 use Rattle.lc_core.proofs.Failures.{beside_segments}
 use Rattle.lc_core.proofs.Gathering.{front_get}
-use Rattle.lc_core.proofs.ImagesFit.{stopped_failures, stopped_honest, stopped_merge_one, stopped_merge_same}
+use Rattle.lc_core.proofs.ImagesFit.{stopped_failures, stopped_honest, stopped_lengths, stopped_merge_one, stopped_merge_same}
 
 module _ {D : Type 0} (a : Ghosts D) where
   -- The areas of a store that is up
@@ -149,6 +149,7 @@ module _ {D : Type 0} (a : Ghosts D) where
           down = refl;
           sound = sound-step m s (Stop choices) IsDown after h.running.sound
               (subst (λ (c : Option Refusal). Unless c s IsDown after (Row m s (Stop choices) IsDown after)) (sym (stop_common m s choices)) row);
+          lengths = stopped_lengths a areas news stopped up.running.geometry (their_lengths up areas are);
           honest = stopped_honest a areas news stopped honest;
           merges = one.2;
           steps_are = refl;
@@ -161,6 +162,7 @@ module _ {D : Type 0} (a : Ghosts D) where
           cut = h.cut;
           down = h.down;
           sound = h.sound;
+          lengths = stopped_lengths a r.areas news stopped r.geometry h.lengths;
           honest = stopped_honest a r.areas news stopped h.honest;
           merges = stopped_merge_same a r.areas news m.geometry _ _ h.honest h.merges stopped;
           steps_are = refl;

@@ -2,14 +2,14 @@
 use Rattle.std.specs.Prelude.{◌≡◌, ◌⊎◌, ◌++◌, Bool, true, false}
 use Rattle.lc_disk.specs.declared.area.Area.{Ghosts}
 use Rattle.lc_record.specs.Transaction.{effects}
-use Rattle.lc_recover.specs.Reads.{AreHonest, AllMergeTo}
+use Rattle.lc_recover.specs.Reads.{AreHonest, AllMergeTo, HaveLengths}
 use Rattle.lc_recover.specs.Recovery.{Recovering, IsLast, TakesMemory}
 use Rattle.lc_model.specs.History.{Cut, kept}
 use Rattle.lc_model.specs.Machine.{Step}
 use Rattle.lc_model.specs.Sound.{Sound}
 use Rattle.lc_model.specs.State.{DownAt, Setting, State}
 use Rattle.lc_model.specs.declared.event.Event.{Event}
-use Rattle.lc_model.specs.declared.event.Event.TheVariants.{RecoverStep, Stop}
+use Rattle.lc_model.specs.declared.event.Event.TheVariants.{RecoverStep}
 use Rattle.lc_model.specs.declared.reply.Reply.{Reply}
 use Rattle.lc_core.specs.Devices.{HonestLogs}
 use Rattle.lc_core.specs.Numbers.{Numbers}
@@ -24,11 +24,6 @@ use Rattle.lc_core.specs.declared.phase.Phase.TheVariants.{Down, Up, Taken}
 use Rattle.lc_core.specs.declared.world.World.{World}
 use Rattle.lc_core.specs.declared.up.Up.{Up as UpStore}
 
--- the events but a stop
-abbrev pub is_common : Event → Bool
-is_common (Stop choices) = false
-is_common event = true
-
 module _ {D : Type 0} (a : Ghosts D) where
   -- whatever a stop leaves of the areas merges to what the cut keeps, also while their recovery goes on
   pub record FitsDown (m : Setting) (r : Recovering D) (s : State) (x : Numbers) : Type 0 where
@@ -36,6 +31,7 @@ module _ {D : Type 0} (a : Ghosts D) where
     pub cut : Cut
     pub down : s.phase ≡ DownAt cut
     pub sound : Sound m.geometry s
+    pub lengths : HaveLengths a r.geometry r.areas
     pub honest : AreHonest a r.areas
     pub merges : AllMergeTo a m.geometry r.areas (effects (s.earlier ++ kept s.history cut) m.start) (kept_numbers (DownAt cut) s x)
     pub steps_are : x.steps ≡ r.steps

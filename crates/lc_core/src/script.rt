@@ -1,6 +1,5 @@
 //! Scripts for tests: what a store is asked, line by line, and what it has to answer.
 ghost use Rattle.std.specs.Prelude.{◌≡◌, true, IfOk};
-ghost use Rattle.lc_core.specs.World.{is_common};
 
 use crate::world::World;
 use crate::{Event, Refusal, Reply};
@@ -66,7 +65,6 @@ pub(crate) enum Answer<'a> {
 
 // The event of a line, and of several the first.
 fn event_of(alloc: Global, line: Line) -> Result<Event, AllocError>
-    ensures { IfOk result (λ event. is_common event ≡ true) }
 {
     Ok(match line {
         Line::Begin(node, thread, segments, reading) => Event::Begin {
