@@ -32,6 +32,7 @@ use Rattle.lc_core.specs.Numbers.{Numbers, stable_records}
 use Rattle.lc_core.specs.Devices.{HonestLogs}
 use Rattle.lc_core.specs.Faults.{SameDevices}
 use Rattle.lc_core.specs.Pages.{FitsPages, areas_of}
+use Rattle.lc_core.specs.Paging.{HaltAll}
 use Rattle.lc_core.proofs.Devices.{honest_kept}
 use Rattle.lc_core.specs.Places.{get_set_other, get_set_same, same_some}
 use Rattle.lc_core.specs.Records.{Kept}
@@ -284,6 +285,7 @@ module _ {D : Type 0} (a : Ghosts D) where
       running = all_still n node up.running later.running kept at m s x fits.running;
       pages = subst (λ (segments : Vec (Pages D a) Global). FitsPages a m segments.items x) (sym is.segments) fits.pages;
       honest = honest_kept a up.running.nodes.items later.running.nodes.items is.devices.kinds fits.honest;
+      failed = subst (λ (segments : Vec (Pages D a) Global). HaltAll a s segments.items) (sym is.segments) fits.failed;
     };
   }
 
@@ -296,6 +298,7 @@ module _ {D : Type 0} (a : Ghosts D) where
       running = subst (λ (w : Running D a). FitsRunning a m w s x) (sym same) fits.running;
       pages = subst (λ (segments : Vec (Pages D a) Global). FitsPages a m segments.items x) (sym is.segments) fits.pages;
       honest = subst (λ (w : Running D a). HonestLogs a w.nodes.items) (sym same) fits.honest;
+      failed = subst (λ (segments : Vec (Pages D a) Global). HaltAll a s segments.items) (sym is.segments) fits.failed;
     };
   }
 
