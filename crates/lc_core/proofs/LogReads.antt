@@ -33,6 +33,7 @@ use Rattle.lc_core.specs.Devices.{HonestLogs}
 use Rattle.lc_core.specs.Paging.{HaltAll}
 use Rattle.lc_core.specs.Faults.{SameDevices}
 use Rattle.lc_core.specs.Pages.{FitsPages, areas_of}
+use Rattle.lc_core.specs.Paging.{HaltAll}
 use Rattle.lc_core.proofs.Devices.{honest_kept}
 use Rattle.lc_core.specs.Places.{get_set_other, get_set_same, same_some}
 use Rattle.lc_core.specs.Records.{Kept}

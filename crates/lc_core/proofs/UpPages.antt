@@ -1,8 +1,8 @@
 -- A step of a page write of a store that is up.
-use Rattle.std.proofs.Common.{◌≡◌, ◌≢◌, ℕ, zero, suc, ◌+◌, ◌≤◌, Bool, true, false, not, List, [], ◌∷◌, ◌++◌, map, Option, Some, None, length, slice_get, slice_set, refl, sym, ap, subst, ◌∙◌, inl, inr, arith, true≢false}
+use Rattle.std.proofs.Common.{◌≡◌, ℕ, suc, ◌+◌, ◌≤◌, Bool, false, not, List, [], ◌∷◌, ◌++◌, map, Option, Some, None, length, slice_get, slice_set, refl, sym, ap, subst, ◌∙◌, inl, inr, arith, true≢false}
 use Rattle.std.specs.Prelude.{option_map, is_some, if◌then◌else◌}
-use Rattle.std.proofs.lemmas.Bool.{cases_Bool, cases_eq}
-use Rattle.std.proofs.lemmas.List.{length-map, map-set}
+use Rattle.std.proofs.lemmas.Bool.{cases_eq}
+use Rattle.std.proofs.lemmas.List.{map-set}
 use Rattle.std.proofs.lemmas.Option.{slice_get-map}
 use Rattle.lc_disk.specs.declared.area.Area.{Ghosts}
 use Rattle.lc_page.specs.PageWrite.{Continues}
@@ -17,8 +17,8 @@ use Rattle.lc_model.specs.declared.reply.Reply.{Reply}
 use Rattle.lc_model.specs.declared.reply.Reply.TheVariants.{Refused}
 use Rattle.lc_model.proofs.Rows.{known, step-row}
 use Rattle.lc_core.specs.Devices.{HaveSegments, HonestLogs}
-use Rattle.lc_core.specs.FaultReplies.{CountsFaults, failures_of, is_device_fault, is_fault, kind_of, device_kind}
-use Rattle.lc_core.specs.Faults.{SameDevices, SameLogAreas, area_failures, log_failures, log_kinds, logs_of}
+use Rattle.lc_core.specs.FaultReplies.{CountsFaults, is_device_fault, is_fault, device_kind}
+use Rattle.lc_core.specs.Faults.{SameDevices, SameLogAreas, area_failures, log_failures, logs_of}
 use Rattle.lc_core.specs.Log.{area_of}
 use Rattle.lc_core.specs.Numbers.{Numbers}
 use Rattle.lc_core.specs.Pages.{FitsArea, FitsPages, areas_of}
@@ -120,25 +120,21 @@ module _ {D : Type 0} (a : Ghosts D) where
 
   -- The devices
 
+  map-areas : {B : Type 0} (f : Option D → B) (logs : List (Log D a)) → map (λ (log : Log D a). f (area_of a log)) logs ≡ map f (map (area_of a) logs)
+  map-areas f [] = refl
+  map-areas {B} f (log ∷ logs) = ap (λ (bs : List B). f (area_of a log) ∷ bs) (map-areas f logs)
+
   pub same_devices : (old new : Running D a) → SameLogAreas a old new → SameDevices a old new
   same_devices old new same = record {
     geometry = same.geometry;
     kinds = map-areas (λ (o : Option D). option_map (device_kind a) o) (logs_of a new.nodes.items) ∙ ap (map (λ (o : Option D). option_map (device_kind a) o)) same.areas
         ∙ sym (map-areas (λ (o : Option D). option_map (device_kind a) o) (logs_of a old.nodes.items));
   }
-    where
-      map-areas : {B : Type 0} (f : Option D → B) (logs : List (Log D a)) → map (λ (log : Log D a). f (area_of a log)) logs ≡ map f (map (area_of a) logs)
-      map-areas f [] = refl
-      map-areas {B} f (log ∷ logs) = ap (λ (bs : List B). f (area_of a log) ∷ bs) (map-areas f logs)
 
   same_failures : (old new : Running D a) → SameLogAreas a old new → log_failures a (logs_of a new.nodes.items) ≡ log_failures a (logs_of a old.nodes.items)
   same_failures old new same =
       map-areas (λ (o : Option D). option_map a.failures o) (logs_of a new.nodes.items) ∙ ap (map (λ (o : Option D). option_map a.failures o)) same.areas
       ∙ sym (map-areas (λ (o : Option D). option_map a.failures o) (logs_of a old.nodes.items))
-    where
-      map-areas : {B : Type 0} (f : Option D → B) (logs : List (Log D a)) → map (λ (log : Log D a). f (area_of a log)) logs ≡ map f (map (area_of a) logs)
-      map-areas f [] = refl
-      map-areas {B} f (log ∷ logs) = ap (λ (bs : List B). f (area_of a log) ∷ bs) (map-areas f logs)
 
   get_back : (xs ys : List (Option ℕ)) (k : ℕ) → slice_get (xs ++ ys) (length xs + k) ≡ slice_get ys k
   get_back [] ys k = ap (slice_get ys) (omega arith)

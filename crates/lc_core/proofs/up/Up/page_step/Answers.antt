@@ -1,11 +1,8 @@
-use Rattle.std.proofs.Common.{◌≡◌, ◌+◌, ◌*◌, ◌-◌, ◌<◌, ◌≤◌, refl, sym, ap, subst, ◌∙◌, arith}
+use Rattle.std.proofs.Common.{◌*◌, ◌-◌, ◌<◌, refl, arith}
 use Rattle.std.proofs.lemmas.Option.{slice_get_read}
-use Rattle.lc_record.specs.declared.geometry.Geometry.{Geometry}
 use Rattle.lc_model.specs.declared.refusal.Refusal.TheVariants.{Unknown}
 use Rattle.lc_model.specs.declared.reply.Reply.TheVariants.{Refused}
-use Rattle.lc_core.specs.Devices.{HaveSegments}
 use Rattle.lc_core.proofs.Devices.{up_whole}
-use Rattle.lc_core.proofs.Failures.{no_faults}
 use Rattle.lc_core.proofs.Paged.{page_known}
 use Rattle.lc_core.proofs.UpPages.{lengths_set, page_counts, page_follows_up, page_refused_up, page_unknown, same_devices}
 use Rattle.lc_core.proofs.up.Up.page_step.Goals as goal

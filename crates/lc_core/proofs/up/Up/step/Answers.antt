@@ -1,6 +1,5 @@
 use Rattle.std.proofs.Common.{refl, ap}
 use Rattle.std.proofs.lemmas.Result.{IfOk-weaker}
-use Rattle.lc_core.specs.declared.phase.Phase.TheVariants.{Up as IsUp}
 use Rattle.lc_core.proofs.Failures.{up_counts, up_still_failed}
 use Rattle.lc_core.proofs.Logged.{err_then}
 use Rattle.lc_core.proofs.Recoveries.{runs_up}
