@@ -1,5 +1,5 @@
 -- A step of a recovery answers by what it has made, whatever the areas hold.
-use Rattle.std.proofs.Common.{◌≡◌, ◌⊎◌, ℕ, ◌+◌, Bool, true, false, List, map, Option, None, Some, refl, sym, ap, subst, ◌∙◌, inl, inr, arith}
+use Rattle.std.proofs.Common.{◌≡◌, ◌⊎◌, ℕ, ◌+◌, ◌*◌, ◌<◌, ◌≤◌, Bool, true, false, List, map, Option, None, Some, refl, sym, ap, subst, ◌∙◌, inl, inr, arith}
 use Rattle.std.specs.Prelude.{if◌then◌else◌, Result, Ok, Err, IfOk, IfErr, OnOk}
 use Rattle.std.proofs.lemmas.Result.{IfOk-from_err, IfOk-weaker}
 use Rattle.lc_disk.specs.declared.area.Area.{Ghosts}
@@ -15,7 +15,8 @@ use Rattle.lc_model.specs.declared.reply.Reply.{Reply}
 use Rattle.lc_model.specs.declared.reply.Reply.TheVariants.{Stepped, Recovered, Refused}
 use Rattle.lc_recover.specs.Fault.{IsRefusal}
 use Rattle.lc_recover.specs.Reads.{AreHonest, store_of}
-use Rattle.lc_recover.specs.Recovery.{Recovering, begun, IsDone, IsLast, IsMerged, IsMergeNext, Tells}
+use Rattle.lc_recover.specs.Recovery.{Recovering, begun, IsDone, IsLast, IsMerged, IsMergeNext, Tells, all_steps}
+use Rattle.lc_recover.specs.Steps.{first_steps}
 use Rattle.lc_recover.specs.declared.fault.RecoverFault.{RecoverFault}
 use Rattle.lc_recover.specs.declared.fault.RecoverFault.TheVariants.{BadGeometry, Gap, Twice, OutOfSegment, DeviceFault as Failed, NoMemory}
 use Rattle.lc_recover.specs.declared.progress.Progress.{Progress}
@@ -61,6 +62,9 @@ module _ {D : Type 0} (a : Ghosts D) where
     pub fault : IfErr result (λ fault. (IsMergeNext r → ⊥) → (fault ≡ NoMemory) ⊎ (fault ≡ Failed))
     pub merged : OnOk result (IsMergeNext r → AreHonest a r.areas → IsMerged a new)
     pub refused : IfErr result (λ fault. IsMergeNext r → AreHonest a r.areas → IsRefusal (store_of r.geometry (map a.now r.areas)) fault)
+    pub bound : new.steps ≤ all_steps new.geometry (new.geometry.segments * new.geometry.pages)
+    pub honest : AreHonest a r.areas → AreHonest a new.areas
+    pub reads : r.steps + 1 < first_steps r.geometry → AreHonest a r.areas → map a.now new.areas ≡ map a.now r.areas
 
   module _ (r new : Recovering D) where
     -- the merge changes no area
@@ -83,6 +87,10 @@ module _ {D : Type 0} (a : Ghosts D) where
             (steps, refl),
           ));
       called = λ other. inl (steps, refl);
+      few = λ other same. subst (λ (k : ℕ). k ≤ all_steps r.geometry (r.geometry.segments * r.geometry.pages)) (sym says.progress.0 ∙ stepped_same steps other same)
+          (subst (λ (g : Geometry). new.steps ≤ all_steps g (g.segments * g.pages)) says.geometry says.bound);
+      reads = λ later is early honest other same. subst (λ (v : Recovering D). AreHonest a v.areas × (map a.now v.areas ≡ map a.now r.areas)) (down_same a new later is)
+          (says.honest honest, says.reads early honest);
     }
 
     fault_answers : (fault : RecoverFault) (refusal : Refusal) → refusal_to fault ≡ Some refusal → (fault ≡ NoMemory → ⊥) → StepSays r new (Err fault) → AnswersRecovery a r (Refused refusal) (Down new)
@@ -95,6 +103,8 @@ module _ {D : Type 0} (a : Ghosts D) where
         | inl none ↦ absurd (some none)
         | inr failed ↦ inr (inr (ap (λ (v : Refusal). Refused v) (same_some refusal DeviceFault (sym is ∙ ap refusal_to failed))))
       ];
+      few = λ steps same. absurd cc;
+      reads = λ later is early honest steps same. absurd cc;
     }
 
     refusal_answers : {E : Type 0} (fault : RecoverFault) (answer : Result Reply E) → RepliesTo (Err fault) answer → StepSays r new (Err fault) → IfOk answer (λ reply. AnswersRecovery a r reply (Down new))
@@ -128,6 +138,8 @@ module _ {D : Type 0} (a : Ghosts D) where
     refused = λ refusal same. absurd cc;
     merged = λ next honest. absurd (last_apart r last next);
     called = λ apart. inr (inl refl);
+    few = λ steps same. absurd cc;
+    reads = λ later is early honest steps same. absurd cc;
   })
 
   -- What is refused at once

@@ -1,5 +1,5 @@
 -- What a step of a recovery answers, whatever its areas hold.
-use Rattle.std.specs.Prelude.{◌≡◌, ◌⊎◌, ℕ, ◌+◌, Bool, true, false, List, map, Option, None, Some, if◌then◌else◌}
+use Rattle.std.specs.Prelude.{◌≡◌, ◌⊎◌, ℕ, ◌+◌, ◌*◌, ◌<◌, ◌≤◌, Bool, true, false, List, map, Option, None, Some, if◌then◌else◌}
 use Rattle.lc_disk.specs.declared.area.Area.{Ghosts}
 use Rattle.lc_record.specs.Content.{Content}
 use Rattle.lc_model.specs.Merge.{Store, MergesTo}
@@ -11,7 +11,8 @@ use Rattle.lc_model.specs.declared.reply.Reply.{Reply}
 use Rattle.lc_model.specs.declared.reply.Reply.TheVariants.{Stepped, Recovered, Refused}
 use Rattle.lc_recover.specs.Fault.{IsRefusal}
 use Rattle.lc_recover.specs.Reads.{AreHonest, store_of}
-use Rattle.lc_recover.specs.Recovery.{Recovering, begun, IsLast, IsMergeNext}
+use Rattle.lc_recover.specs.Recovery.{Recovering, begun, IsLast, IsMergeNext, all_steps}
+use Rattle.lc_recover.specs.Steps.{first_steps}
 use Rattle.lc_recover.specs.declared.fault.RecoverFault.{RecoverFault}
 use Rattle.lc_core.specs.Recovering.{refusal_to}
 use Rattle.lc_core.specs.Stepping.{works_up}
@@ -43,6 +44,10 @@ module _ {D : Type 0} (a : Ghosts D) where
     -- the merge is of what the areas read as
     pub merged : IsMergeNext r → AreHonest a r.areas → AnswersMerge (store_of r.geometry (map a.now r.areas)) reply
     pub called : (IsMergeNext r → ⊥) → AnswersCall reply
+    -- by the geometry alone there is an end to the steps, and what honest areas read as stays while they are synced and read
+    pub few : (steps : ℕ) → reply ≡ Stepped steps → steps ≤ all_steps r.geometry (r.geometry.segments * r.geometry.pages)
+    pub reads : (later : Recovering D) → new ≡ Down later → r.steps + 1 < first_steps r.geometry → AreHonest a r.areas → (steps : ℕ) → reply ≡ Stepped steps
+        → AreHonest a later.areas × (map a.now later.areas ≡ map a.now r.areas)
 
   -- so does a store that is down
   abbrev pub RecoversDown : Phase D a → Reply → Phase D a → Type 0

@@ -64,8 +64,7 @@ pub(crate) enum Answer<'a> {
 }
 
 // The event of a line, and of several the first.
-fn event_of(alloc: Global, line: Line) -> Result<Event, AllocError>
-{
+fn event_of(alloc: Global, line: Line) -> Result<Event, AllocError> {
     Ok(match line {
         Line::Begin(node, thread, segments, reading) => Event::Begin {
             node,

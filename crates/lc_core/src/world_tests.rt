@@ -20,8 +20,7 @@ fn zeros(alloc: Global) -> Result<Vec<MemArea>, AllocError> {
 }
 
 // The only thread of node 0 locks segment 2.
-fn begin(alloc: Global) -> Result<Event, AllocError>
-{
+fn begin(alloc: Global) -> Result<Event, AllocError> {
     Ok(Event::Begin {
         node: 0,
         thread: 0,

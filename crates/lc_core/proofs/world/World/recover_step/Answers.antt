@@ -194,6 +194,9 @@ module _ (g : Over) (c : goal.After-reply_to g) where
     fault = c.step.ensures.fault;
     merged = c.step.ensures.merged;
     refused = c.step.ensures.refused;
+    bound = c.step.ensures.bound;
+    honest = c.step.ensures.honest;
+    reads = c.step.ensures.reads;
   }
 
 pub returns-then-not-is_last-clause-recovers : goal.returns-then-not-is_last-clause-recovers
@@ -211,6 +214,9 @@ module _ (g : Over) (c : goal.After-drop-room-in-Err-3 g) where
     fault = c.step-2.ensures.fault;
     merged = c.step-2.ensures.merged;
     refused = c.step-2.ensures.refused;
+    bound = c.step-2.ensures.bound;
+    honest = c.step-2.ensures.honest;
+    reads = c.step-2.ensures.reads;
   }
 
 pub returns-in-Err-clause-recovers : goal.returns-in-Err-clause-recovers
