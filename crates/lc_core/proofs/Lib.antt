@@ -86,6 +86,7 @@ pub mod ImagesOfLogs
 pub mod ImagesOfPages
 pub mod ImagesFit
 pub mod Stopped
+pub mod HeadlineHolds
 pub mod Noted
 pub mod Calling
 pub mod PageAnswers

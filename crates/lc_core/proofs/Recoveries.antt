@@ -131,7 +131,7 @@ on_err_at : {A E : Type 0} (res : Result A E) (x : A) (P : Type 0) → res ≡ O
 on_err_at res x P is = subst (λ (r : Result _ _). OnErr r P) (sym is) tt
 
 -- no refusal is common to all for a step of a recovery
-none_common : (m : Setting) (s : State) → common_refusal m.geometry s RecoverStep ≡ None
+pub none_common : (m : Setting) (s : State) → common_refusal m.geometry s RecoverStep ≡ None
 none_common m s = elim s.phase as (λ (p : Condition). common_refusal m.geometry (record s { phase = p }) RecoverStep ≡ None) [
   | IsUpNow ↦ refl
   | DownAt cut ↦ refl

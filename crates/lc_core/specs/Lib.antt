@@ -3,6 +3,7 @@ pub mod Settled
 pub mod Turns
 pub mod Coherent
 pub mod Places
+pub mod Headline
 pub mod Here
 pub mod Seat
 pub mod Seats

@@ -2,11 +2,12 @@
 ghost use Rattle.std.specs.Prelude.{◌≡◌, ◌<◌, ℕ, IfOk, false, length, take, true};
 ghost use Rattle.lc_disk.specs.contracts.mem_area.MemAreaArea.TheImpl.{ghosts};
 ghost use Rattle.lc_model.specs.Recovered.{zero_content};
-ghost use Rattle.lc_model.specs.State.{State, first_state};
+ghost use Rattle.lc_model.specs.State.{first_state};
 ghost use Rattle.lc_recover.specs.Reads.{AreZeros, HaveLengths};
+ghost use Rattle.lc_core.specs.Headline.{Holds};
 ghost use Rattle.lc_core.specs.Numbers.{Numbers};
-ghost use Rattle.lc_core.specs.Runs.{RunsOn};
 
+use crate::headline::run_areas;
 use crate::world::World;
 use crate::{Event, RunResult};
 use lc_disk::MemArea;
@@ -30,21 +31,24 @@ impl World<MemArea> {
     }
 }
 
-/// These events on a store of zeros in memory, one after another, as far as there is memory. What it answers is a run of
-/// the plain machine from its first state, whatever the events are.
+/// These events on a store of zeros in memory, one after another, as far as there is memory: what a store promises of a whole
+/// run, with nothing asked of its areas.
 pub fn run_in_memory(
     alloc: Global,
     geometry: Geometry,
     events: &[Event],
-) -> Result<RunResult, AllocError>
-    ensures follows { IfOk result (λ run. (x : Numbers) → x.disks.numbers ≡ (λ segment. 0) → x.steps ≡ 0
-        → (after : State) × (next : Numbers) × RunsOn (record { geometry = geometry; start = zero_content geometry }) (first_state geometry) x
-        (take (length run.replies.items) events.now) run.replies.items after next) }
-    ensures all { IfOk result (λ run. run.out_of_memory ≡ false → length run.replies.items ≡ length events.now) }
-    ensures some { IfOk result (λ run. run.out_of_memory ≡ true → length run.replies.items < length events.now) }
+) -> Result<(World<MemArea>, RunResult), AllocError>
+    ensures holds { IfOk result (λ ran. (x : Numbers) → x.disks.numbers ≡ (λ segment. 0) → x.steps ≡ 0
+        → Holds ghosts (record { geometry = geometry; start = zero_content geometry }) x
+        (take (length ran.1.replies.items) events.now) ran.1.replies.items 0 ran.0) }
+    ensures all { IfOk result (λ ran. ran.1.out_of_memory ≡ false → length ran.1.replies.items ≡ length events.now) }
+    ensures some { IfOk result (λ ran. ran.1.out_of_memory ≡ true → length ran.1.replies.items < length events.now) }
 {
-    let mut world = World::in_memory(alloc, geometry)?;
-    Ok(world.run(alloc, events))
+    let areas = zeros(alloc, &geometry)?;
+    match run_areas(alloc, geometry, areas, events) {
+        Ok(ran) => Ok(ran),
+        Err(_) => unreachable!(),
+    }
 }
 
 // The areas of a store, which read as zeros.

@@ -1,9 +1,9 @@
 //! The laws of the answers that the machine leaves open, each the contract of a function with nothing to do.
-ghost use Rattle.std.specs.Prelude.{◌≡◌, ◌≢◌, ◌⊎◌, ◌+◌, ◌<◌, ℕ, List, Some, true, slice_get, slice_set};
+ghost use Rattle.std.specs.Prelude.{◌≡◌, ◌≢◌, ◌⊎◌, ◌+◌, ◌++◌, ◌<◌, ℕ, List, Some, true, slice_get, slice_set};
 ghost use Rattle.lc_disk.specs.Area.{IsImage};
 ghost use Rattle.lc_page.specs.declared.page_text.PageText.{PageText};
 ghost use Rattle.lc_record.specs.declared.geometry.Geometry.{Geometry as Shape};
-ghost use Rattle.lc_record.specs.Transaction.{Transaction};
+ghost use Rattle.lc_record.specs.Transaction.{Transaction, effects};
 ghost use Rattle.lc_model.specs.Choices.{AtLeastOne};
 ghost use Rattle.lc_model.specs.Machine.{Step, Run, appended, closed_by, placed};
 ghost use Rattle.lc_model.specs.Merge.{Page};
@@ -11,6 +11,14 @@ ghost use Rattle.lc_model.specs.Recovered.{recovered_disks};
 ghost use Rattle.lc_model.specs.Sound.{Sound};
 ghost use Rattle.lc_model.specs.State.{Place, At, Travelling, Up, State, Setting, fresh, running_of};
 ghost use Rattle.lc_model.specs.Stored.{Fits as FitsDisks};
+ghost use Rattle.lc_model.specs.History.{Cut, kept};
+ghost use Rattle.lc_model.specs.Merging.{counted_all};
+ghost use Rattle.lc_recover.specs.Reads.{AllMergeTo, AreHonest};
+ghost use Rattle.lc_core.specs.Areas.{AreStopped};
+ghost use Rattle.lc_core.specs.Headline.{Cuts};
+ghost use Rattle.lc_core.specs.Stops.{HasAreas};
+ghost use Rattle.lc_core.specs.World.{FitsWorld};
+ghost use Rattle.lc_core.specs.declared.world.World.{World as Store};
 ghost use Rattle.lc_core.specs.Beside.{Beside, BesideLogs};
 ghost use Rattle.lc_core.specs.Coherent.{AreCoherent};
 ghost use Rattle.lc_core.specs.Desk.{FitsDesk};
@@ -52,6 +60,15 @@ pub fn settled_answers()
 pub fn settled_runs()
     ensures { (m : Setting) (s : State) (x : Numbers) (events : List Event) (replies : List Reply) (after : State)
         (next : Numbers) → RunsOn m s x events replies after next → Run m s events replies after }
+{}
+
+/// What a stop leaves of the areas of a store that fits, up or down, meets what the headline asks of areas again: with the
+/// content of what a cut kept that the stop may make, and the numbers of it.
+pub fn next_life<D: Area>()
+    ensures { (m : Setting) (s : State) (x : Numbers) (w : Store D D.Area) (areas news : List D) → FitsWorld D.Area m w s x →
+        HasAreas D.Area w.phase m.geometry areas → AreStopped D.Area areas news →
+        (cut : Cut) × Cuts s.phase m.geometry s cut × AreHonest D.Area news
+        × AllMergeTo D.Area m.geometry news (effects (s.earlier ++ kept s.history cut) m.start) (counted_all x.disks.numbers (kept s.history cut)) }
 {}
 
 /// What one node does leaves the desks of the others fitting the machine: what becomes of its open transactions and of its

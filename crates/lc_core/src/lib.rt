@@ -13,6 +13,7 @@ mod drafting;
 mod ending;
 mod filling;
 mod giving_up;
+mod headline;
 mod here;
 mod in_memory;
 mod journal;
@@ -63,8 +64,9 @@ mod up_step;
 mod world;
 mod writing;
 
+pub use headline::run_areas;
 pub use in_memory::run_in_memory;
-pub use laws::{settled_answers, settled_runs};
+pub use laws::{next_life, settled_answers, settled_runs};
 pub use lc_model::{Event, Refusal, Reply};
 pub use run_result::RunResult;
 pub use show_fault::ShowFault;

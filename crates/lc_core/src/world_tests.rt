@@ -83,7 +83,7 @@ fn a_store_in_memory_answers_all_its_events(rt: HostRuntime) -> Result<(), Fail>
         Event::RecoverStep,
         Event::RecoverStep,
     ];
-    let run = run_in_memory(alloc, geometry, &events)?;
+    let (_, run) = run_in_memory(alloc, geometry, &events)?;
     if run.out_of_memory {
         return Err(Fail::from(AllocError));
     }

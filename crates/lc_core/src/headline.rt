@@ -1,0 +1,42 @@
+//! What a store promises of a whole run.
+ghost use Rattle.std.specs.Prelude.{◌≡◌, ◌≢◌, ◌<◌, ℕ, IfErr, IfOk, length, map, slice_get, take, true, false};
+ghost use Rattle.lc_model.specs.Merge.{IsLeast};
+ghost use Rattle.lc_recover.specs.Reads.{area_len};
+ghost use Rattle.lc_recover.specs.declared.fault.RecoverFault.TheVariants.{BadGeometry};
+ghost use Rattle.lc_core.specs.Headline.{Headline};
+
+use crate::world::World;
+use crate::{Event, RunResult};
+use lc_disk::Stoppable;
+use lc_record::Geometry;
+use lc_recover::RecoverFault;
+use std::alloc::Global;
+
+/// A store of these areas, which begins down, and what it does with these events, one after another, as far as there is
+/// memory.
+///
+/// Where the areas keep to the model of a disk, and whatever a stop may have left of them merges to one result: the answers are
+/// a run of the machine of plain transactions, and whatever a stop leaves of the areas now merges to the value of a prefix of a
+/// serial order of the committed transactions that has every acknowledged commit.
+///
+/// # Errors
+///
+/// `BadGeometry` with the least index of an area that has not the length of the geometry, is missing, or is too many.
+/// The areas come back.
+pub fn run_areas<D: Stoppable + Drop>(
+    alloc: Global,
+    geometry: Geometry,
+    areas: Vec<D>,
+    events: &[Event],
+) -> Result<(World<D>, RunResult), (Vec<D>, RecoverFault)>
+    ensures headline { IfOk result (λ ran. Headline D.Area geometry areas.items (take (length ran.1.replies.items) events.now) ran.1.replies.items ran.0) }
+    ensures all { IfOk result (λ ran. ran.1.out_of_memory ≡ false → length ran.1.replies.items ≡ length events.now) }
+    ensures some { IfOk result (λ ran. ran.1.out_of_memory ≡ true → length ran.1.replies.items < length events.now) }
+    ensures back { IfErr result (λ back. back.0.items ≡ areas.items) }
+    ensures wrong { IfErr result (λ back. (area : ℕ) × (back.1 ≡ BadGeometry area)
+        × IsLeast (λ k. slice_get (map (λ d. length (D.now d)) areas.items) k ≢ area_len geometry k) area) }
+{
+    let mut world = World::new(geometry, areas)?;
+    let ran = world.run(alloc, events);
+    Ok((world, ran))
+}
