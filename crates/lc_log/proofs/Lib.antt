@@ -3,3 +3,4 @@ pub mod LogLemmas
 pub mod StateLemmas
 pub mod ResetLemmas
 pub mod InPlaceLemmas
+pub mod WalkBackLemmas

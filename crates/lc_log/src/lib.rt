@@ -11,6 +11,7 @@ mod laws;
 mod opened;
 mod synced;
 mod walking;
+mod walking_back;
 mod written;
 
 pub use closing::Closing;
@@ -25,6 +26,7 @@ pub use laws::{
 pub use opened::Opened;
 pub use synced::Synced;
 pub use walking::{text_len, walk, words_in};
+pub use walking_back::walk_back;
 pub use written::Written;
 
 /// A node's log. It is made, and waits, at rest; the calls of a flush and of a reset lead through a type each.

@@ -144,6 +144,49 @@ fn records_of_two_lengths_are_walked_in_place(rt: HostRuntime) -> Result<(), Fai
     Ok(())
 }
 
+// The place of each record, the last first.
+fn places_back(alloc: Global, bytes: &[u8]) -> Result<Vec<usize>, AllocError> {
+    let found = walk(alloc, bytes)?;
+    let mut places = Vec::new(alloc);
+    for (place, _record) in walk_back(alloc, bytes, found.end_place)?.as_slice() {
+        places.push(*place)?;
+    }
+    Ok(places)
+}
+
+#[test]
+fn records_are_read_back_from_the_last(rt: HostRuntime) -> Result<(), Fail> {
+    let alloc = rt.alloc();
+    let mut log = Vec::from_slice(alloc, &HELLO[..64])?;
+    log.extend_from_slice(&HELLO[..64])?;
+    log.extend_from_slice(&HELLO)?;
+    assert_eq!(rt; places_back(alloc, &log)?.as_slice(), [16, 8, 0].as_slice());
+    // Behind a broken record nothing is found.
+    let last = log.get_mut(184).ok_or("the third record has a last word")?;
+    *last = 9;
+    assert_eq!(rt; places_back(alloc, &log)?.as_slice(), [8, 0].as_slice());
+    Ok(())
+}
+
+#[test]
+fn records_of_two_lengths_are_read_back(rt: HostRuntime) -> Result<(), Fail> {
+    let alloc = rt.alloc();
+    let bytes = full(alloc)?;
+    assert_eq!(rt;
+        places_back(alloc, &bytes)?.as_slice(),
+        [57, 49, 41, 33, 22, 11, 0].as_slice()
+    );
+    Ok(())
+}
+
+#[test]
+fn nothing_is_read_back_where_there_is_no_record(rt: HostRuntime) -> Result<(), Fail> {
+    let alloc = rt.alloc();
+    assert_eq!(rt; places_back(alloc, &[0; 72])?.len(), 0);
+    assert_eq!(rt; places_back(alloc, &[])?.len(), 0);
+    Ok(())
+}
+
 // The bytes of a log of 64 words, which has a word more.
 const LOG_LEN: usize = 520;
 

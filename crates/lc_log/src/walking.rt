@@ -8,7 +8,7 @@ use crate::Walk;
 use lc_record::{View, decode};
 use std::alloc::{AllocError, Global};
 
-const WORD_BYTES: usize = 8;
+pub(crate) const WORD_BYTES: usize = 8;
 
 /// The records of a log's bytes, one behind another, up to the first place where none begins. It is safe on any
 /// bytes; those behind the last whole word are not looked at, and without a whole word no memory is asked for.
