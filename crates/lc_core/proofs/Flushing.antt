@@ -161,7 +161,7 @@ module _ {D : Type 0} (a : Ghosts D) where
     records = records_of m s x.disks node
 
     -- the records in front of the first that is not closed are as many as the machine has
-    front_same : (log : Log D a) (taken : ℕ) → FitsLog a m node log k dropped trimmed taken acked s x → front_of k ≡ front node s.history
+    pub front_same : (log : Log D a) (taken : ℕ) → FitsLog a m node log k dropped trimmed taken acked s x → front_of k ≡ front node s.history
     front_same log taken h =
         let marks : List Bool = map (λ e. e.closed) (entries_of node s.history) in
         omega (arith, leading_drop k.before marks h.all_closed, ap leading h.marks)

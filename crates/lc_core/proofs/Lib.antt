@@ -62,6 +62,7 @@ pub mod Caught
 pub mod Delivered
 mod Devices
 mod Gathering
+pub mod Forgetting
 pub mod OneSlot
 pub mod TwoNodes
 pub mod Travels

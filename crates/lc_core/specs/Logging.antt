@@ -1,5 +1,5 @@
 -- What it is that a node's journal follows its reservations, the closing of its records, and its trims.
-use Rattle.std.specs.Prelude.{◌≡◌, ℕ, ◌+◌, false, List, [], ◌∷◌, ◌++◌, length, find, Some, slice_get}
+use Rattle.std.specs.Prelude.{◌≡◌, ℕ, ◌+◌, false, List, [], ◌∷◌, ◌++◌, length, min, find, Some, slice_get}
 use Rattle.lc_disk.specs.declared.area.Area.{Ghosts}
 use Rattle.lc_record.specs.Record.{spelling}
 use Rattle.lc_record.specs.Transaction.{Transaction}
@@ -35,6 +35,19 @@ module _ {D : Type 0} (a : Ghosts D) where
       → find (is_by node thread) (unclosed s.history) ≡ Some t
       → slice_get (entries_of node s.history) number ≡ Some (record { transaction = t; closed = false })
       → FitsJournal a m node new (record s { history = closed_by node thread s.history }) x
+
+  -- records in front are kept no longer, and all else is as it was: whatever it fitted, it still fits
+  pub record Forgets (old new : Journal D a) : Type 0 where
+    pub still : (m : Setting) (node : ℕ) (s : State) (x : Numbers) → FitsJournal a m node old s x → FitsJournal a m node new s x
+    pub kept : new.records.before ≡ min new.dropped new.trimmed
+    pub end : end_of_records new ≡ end_of_records old
+    pub log : new.log ≡ old.log
+    pub group : new.group ≡ old.group
+    pub words : new.words ≡ old.words
+    pub dropped : new.dropped ≡ old.dropped
+    pub trimmed : new.trimmed ≡ old.trimmed
+    pub acked : new.acked ≡ old.acked
+    pub round : new.round ≡ old.round
 
   -- and the numbers where so many more records are trimmed
   abbrev pub Trims : Journal D a → ℕ → Journal D a → Type 0

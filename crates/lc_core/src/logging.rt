@@ -1,7 +1,7 @@
 //! What a node's log is to take: a record that is reserved, and one that is closed; and what no peer wants any more.
 ghost use Rattle.std.specs.Prelude.{◌≡◌, ◌↔◌, ◌+◌, ◌-◌, ◌<◌, ◌≤◌, ◌^◌, false, length, IfOk, OnErr, IsTrue};
 ghost use Rattle.lc_core.specs.Log.{is_sealed};
-ghost use Rattle.lc_core.specs.Logging.{end_of_records, Logs, Shuts, Trims};
+ghost use Rattle.lc_core.specs.Logging.{end_of_records, Forgets, Logs, Shuts, Trims};
 
 use crate::journal::Journal;
 use lc_disk::Area;
@@ -58,5 +58,13 @@ impl<D: Area + Drop> Journal<D> {
         ensures round { self.new.round ≡ self.old.round }
     {
         self.trimmed += count;
+        self.forget();
+    }
+
+    /// Records that resets have dropped and that no peer wants any more are kept no longer. It takes no memory.
+    pub(crate) fn forget(&mut self)
+        ensures { Forgets D.Area self.old self.new }
+    {
+        self.records.forget(self.dropped.min(self.trimmed));
     }
 }

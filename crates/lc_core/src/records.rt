@@ -120,6 +120,9 @@ impl Records {
         requires closed { number ≤ front_of self.old }
         ensures { self.new ≡ record { before = number; records = drop (number - self.old.before) self.old.records } }
     {
+        if number == self.before {
+            return;
+        }
         let count = (number - self.before) as usize;
         let cut = self.start(count);
         self.words.drain(..cut);

@@ -93,6 +93,7 @@ impl<D: Area + Drop> Journal<D> {
         self.log = log.unseal();
         self.dropped = self.acked;
         self.round += 1;
+        self.forget();
         Reply::Reset
     }
 

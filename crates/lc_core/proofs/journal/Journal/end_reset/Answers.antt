@@ -16,6 +16,7 @@ returns-clause-follows g c = λ node known m s x sound common h round knows.
       settled = settled_last m s x node (all_under_way g.D.Area w.log (x.reset node) h.reset_is c.requires.emptied);
       turns = refl;
       same = inl refl;
-      fits = ends_fits g.D.Area m node s x w.records w.dropped w.trimmed w.taken w.acked w.log c.unseal.result h (emptied_works g.D.Area w.log c.requires.emptied) unseals;
-      round = ap (λ (n : ℕ). n + 1) round ∙ sym (update-own x.round node (x.round node + 1));
+      fits = c.forget.ensures.still m node s (reset_done s x node)
+          (ends_fits g.D.Area m node s x w.records w.dropped w.trimmed w.taken w.acked w.log c.unseal.result h (emptied_works g.D.Area w.log c.requires.emptied) unseals);
+      round = c.forget.ensures.round ∙ ap (λ (n : ℕ). n + 1) round ∙ sym (update-own x.round node (x.round node + 1));
     }

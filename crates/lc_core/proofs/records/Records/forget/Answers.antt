@@ -1,4 +1,4 @@
-use Rattle.std.proofs.Common.{◌≡◌, ◌≤◌, ◌<◌, ◌-◌, ◌+◌, ◌++◌, ℕ, List, arith, length, map, take, drop, ap, ◌∙◌, subst, slice_index_or}
+use Rattle.std.proofs.Common.{◌≡◌, ◌≤◌, ◌<◌, ◌-◌, ◌+◌, ◌++◌, ℕ, List, arith, length, map, take, drop, ap, sym, ◌∙◌, subst, slice_index_or}
 use Rattle.std.proofs.lemmas.List.{length-map, take_at}
 use Rattle.lc_core.specs.declared.place.Place.{Place}
 use Rattle.lc_core.specs.Records.{Kept, all_words, places_of, shifted}
@@ -64,3 +64,12 @@ invariant_of-self c = kept_so _ _ _ _ (new c) (dropped c)
 
 pub returns : goal.returns
 returns c = seen_so _ _ _ _ (new c) (dropped c)
+
+pub returns-then-number-self : goal.returns-then-number-self
+returns-then-number-self c =
+    let h = held _ _ _ _ _ c.self.invariant c.self.view_is in
+    let now = c.args.self.now in
+    let same : c.args.number ≡ now.before = omega (arith, c.if-number-self.true, h.before_is) in
+    let none : c.args.number - now.before ≡ 0 = omega (arith, same) in
+    ap (λ (n : ℕ). record { before = n; records = now.records }) (sym same)
+    ∙ ap (λ (n : ℕ). record { before = c.args.number; records = drop n now.records }) (sym none)
