@@ -1,6 +1,6 @@
 use super::{LONGEST, run_script};
 use crate::ToolFault;
-use crate::areas::zero_areas;
+use crate::zeros::zero_areas;
 use crate::inspector::inspect;
 use lc_record::Geometry;
 use std::io::{self, Error, ErrorKind, Read, Write};

@@ -1,0 +1,72 @@
+//! What takes several steps of a store.
+ghost use Rattle.std.specs.Prelude.{◌≡◌, IfOk, OnErr, ⊥};
+ghost use Rattle.lc_disk.specs.declared.area.Area.{Ghosts};
+ghost use Rattle.lc_model.specs.declared.event.Event.TheVariants.{FlushStep, RecoverStep};
+ghost use Rattle.lc_tool.specs.Fits.{AsksFor, FollowsAll, FollowsEnd};
+ghost use Rattle.lc_tool.specs.declared.command.Command.TheVariants.{End, Recover};
+
+use lc_core::{Event, Reply, World};
+use lc_disk::Area;
+use std::alloc::{AllocError, Global};
+
+// The steps of a flush that say that more are to come.
+const FLUSH_STEPS: u32 = 3;
+
+// More than any recovery has.
+const RECOVERY_STEPS: u32 = 1 << 20;
+
+/// A thread's transaction is reserved, and closed where it was. Only the reservation may want memory.
+pub(crate) fn end<D: Area + Drop>(
+    world: &mut World<D>,
+    alloc: Global,
+    node: u16,
+    thread: u16,
+) -> Result<Reply, AllocError>
+    ensures follows { IfOk result (λ reply. FollowsEnd D.Area world.old node thread reply world.new) }
+    ensures memory { OnErr result (AsksFor D.Area world.old (End node thread)) }
+{
+    let reserved = world.step(alloc, &Event::Reserve { node, thread })?;
+    let Reply::Reserved { .. } = reserved else {
+        return Ok(reserved);
+    };
+    match world.step(alloc, &Event::Close { node, thread })? {
+        Reply::Ok => Ok(reserved),
+        other => Ok(other),
+    }
+}
+
+/// The steps of a flush of a node, up to the one that is answered otherwise than that more are to come.
+pub(crate) fn flush<D: Area + Drop>(
+    world: &mut World<D>,
+    alloc: Global,
+    node: u16,
+) -> Result<Reply, AllocError>
+    ensures follows { IfOk result (λ reply. FollowsAll D.Area world.old (FlushStep node) reply world.new) }
+    ensures memory { OnErr result ⊥ }
+{
+    let event = Event::FlushStep { node };
+    for _ in 0..FLUSH_STEPS {
+        match world.step(alloc, &event)? {
+            Reply::Stepped(_) => {}
+            reply => return Ok(reply),
+        }
+    }
+    world.step(alloc, &event)
+}
+
+/// The steps of a recovery, up to the one that is answered otherwise than that more are to come.
+pub(crate) fn recover<D: Area + Drop>(
+    world: &mut World<D>,
+    alloc: Global,
+) -> Result<Reply, AllocError>
+    ensures follows { IfOk result (λ reply. FollowsAll D.Area world.old RecoverStep reply world.new) }
+    ensures memory { OnErr result (AsksFor D.Area world.old Recover) }
+{
+    for _ in 0..RECOVERY_STEPS {
+        match world.step(alloc, &Event::RecoverStep)? {
+            Reply::Stepped(_) => {}
+            reply => return Ok(reply),
+        }
+    }
+    world.step(alloc, &Event::RecoverStep)
+}
