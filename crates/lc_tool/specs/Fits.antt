@@ -9,7 +9,7 @@ use Rattle.lc_core.specs.Numbers.{Numbers}
 use Rattle.lc_core.specs.World.{FitsWorld, is_common}
 use Rattle.lc_core.specs.declared.world.World.{World}
 use Rattle.lc_tool.specs.Answers.{Answers, Ends, Finishes}
-use Rattle.lc_tool.specs.Asking.{AsksMemory}
+use Rattle.lc_tool.specs.Memory.{AsksMemory}
 use Rattle.lc_tool.specs.Session.{Does}
 use Rattle.lc_tool.specs.declared.command.Command.{Command}
 use Rattle.lc_tool.specs.declared.command.Command.TheVariants.{Step as Asks}

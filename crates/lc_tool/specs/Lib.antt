@@ -6,7 +6,7 @@ pub mod Verdict
 pub mod Answers
 pub mod Shown
 pub mod Session
-pub mod Asking
+pub mod Memory
 pub mod Script
 pub mod Store
 pub mod Fits

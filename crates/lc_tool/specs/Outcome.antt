@@ -6,7 +6,7 @@ use Rattle.lc_model.specs.State.{Setting, State}
 use Rattle.lc_core.specs.Numbers.{Numbers}
 use Rattle.lc_core.specs.World.{FitsWorld}
 use Rattle.lc_core.specs.declared.world.World.{World}
-use Rattle.lc_tool.specs.Asking.{LineAsksMemory}
+use Rattle.lc_tool.specs.Memory.{LineAsksMemory}
 use Rattle.lc_tool.specs.Fits.{Leads}
 use Rattle.lc_tool.specs.Line.{line_of}
 use Rattle.lc_tool.specs.Script.{NoMemory, Runs, script_lines}

@@ -6,7 +6,7 @@ use Rattle.lc_model.specs.declared.event.Event.TheVariants.{RecoverStep}
 use Rattle.lc_model.specs.declared.reply.Reply.{Reply}
 use Rattle.lc_core.specs.Numbers.{Numbers}
 use Rattle.lc_tool.specs.Answers.{Finishes}
-use Rattle.lc_tool.specs.Asking.{LineAsksMemory}
+use Rattle.lc_tool.specs.Memory.{LineAsksMemory}
 use Rattle.lc_tool.specs.Line.{line_of}
 use Rattle.lc_tool.specs.Session.{Does}
 use Rattle.lc_tool.specs.Text.{reply_text, not_understood_text, too_long_text, no_memory_text}
