@@ -4,13 +4,16 @@ mod Pages
 mod Words
 mod FieldLemmas
 mod Writes
-mod Repeating
+mod Again
+mod Performing
 mod Memory
 mod Logs
+mod LogShown
 mod Shows
 mod LineLemmas
 mod ScriptLemmas
 mod Opening
+mod Beginning
 mod Refusals
 mod OptionNumbers
 mod OptionRows

@@ -1,16 +1,25 @@
 -- What it is that a store follows the machine and the numbers over the commands of a script.
-use Rattle.std.specs.Prelude.{◌≡◌, ◌⊎◌, ℕ, Bool, false, List, [], Option, true}
+use Rattle.std.specs.Prelude.{◌≡◌, ◌⊎◌, ℕ, List, Option, true}
 use Rattle.std.specs.Io.KnownBytes.{Appends}
 use Rattle.lc_disk.specs.declared.area.Area.{Ghosts}
+use Rattle.lc_record.specs.declared.geometry.Geometry.{Geometry}
+use Rattle.lc_model.specs.Merge.{MergeFault}
 use Rattle.lc_model.specs.State.{Setting, State}
 use Rattle.lc_model.specs.declared.event.Event.{Event}
+use Rattle.lc_model.specs.declared.event.Event.TheVariants.{Reserve}
+use Rattle.lc_model.specs.declared.refusal.Refusal.TheVariants.{DeviceFault}
 use Rattle.lc_model.specs.declared.reply.Reply.{Reply}
+use Rattle.lc_model.specs.declared.reply.Reply.TheVariants.{Refused}
+use Rattle.lc_recover.specs.Reads.{AreHonest, ReadsRefused}
+use Rattle.lc_recover.specs.Recovery.{begun}
 use Rattle.lc_core.specs.Numbers.{Numbers}
 use Rattle.lc_core.specs.World.{FitsWorld, is_common}
+use Rattle.lc_core.specs.declared.phase.Phase.TheVariants.{Down}
 use Rattle.lc_core.specs.declared.world.World.{World}
 use Rattle.lc_tool.specs.Answers.{Answers, Ends, Finishes}
 use Rattle.lc_tool.specs.Memory.{AsksMemory}
 use Rattle.lc_tool.specs.Session.{Does}
+use Rattle.lc_tool.specs.Store.{merge_refusal}
 use Rattle.lc_tool.specs.declared.command.Command.{Command}
 use Rattle.lc_tool.specs.declared.command.Command.TheVariants.{Step as Asks}
 use Rattle.lc_tool.specs.declared.verdict.Verdict.{Verdict}
@@ -30,7 +39,7 @@ module _ {D : Type 0} (a : Ghosts D) where
   -- a reservation that is closed where it was made
   abbrev pub FollowsEnd : World D a → ℕ → ℕ → Reply → World D a → Type 0
   FollowsEnd old node thread reply new =
-      Leads (λ m s x after next. (mid : State) × (between : Numbers) × Answers m s x (Event.Reserve node thread) reply mid between × Ends m mid between node thread reply after next) old new
+      Leads (λ m s x after next. (mid : State) × (between : Numbers) × Answers m s x (Reserve node thread) reply mid between × Ends m mid between node thread reply after next) old new
 
   -- steps of one event, until it is answered otherwise than that more is to come
   abbrev pub FollowsAll : World D a → Event → Reply → World D a → Type 0
@@ -44,3 +53,15 @@ module _ {D : Type 0} (a : Ghosts D) where
   -- the command asks for memory
   abbrev pub AsksFor : World D a → Command → Type 0
   AsksFor old command = (m : Setting) (s : State) (x : Numbers) → FitsWorld a m old s x → AsksMemory m s x command
+
+  -- the areas of a store that is down, and of which no step of the recovery is done, read as one whose merge is refused
+  pub record IsRefused (w : World D a) (fault : MergeFault) : Type 0 where
+    pub geometry : Geometry
+    pub areas : List D
+    pub down : w.phase ≡ Down (begun geometry areas)
+    pub honest : AreHonest a areas
+    pub refused : ReadsRefused a geometry areas fault
+
+  -- so is then its recovery, unless a device fails before the merge
+  abbrev pub RefusesAll : World D a → Reply → Type 0
+  RefusesAll old reply = (fault : MergeFault) → IsRefused old fault → (reply ≡ Refused (merge_refusal fault)) ⊎ (reply ≡ Refused DeviceFault)

@@ -1,17 +1,23 @@
 -- What a line did, and what it printed.
-use Rattle.std.specs.Prelude.{◌≡◌, ◌⊎◌, ℕ, Bool, true, false, List, [], Option}
-use Rattle.std.specs.Io.KnownBytes.{Appends}
+use Rattle.std.specs.Prelude.{◌≡◌, ◌⊎◌, ℕ, Bool, true, false, List, [], Option, None, Some}
+use Rattle.std.specs.Io.KnownBytes.{Appends, Keeps}
 use Rattle.lc_disk.specs.declared.area.Area.{Ghosts}
+use Rattle.lc_model.specs.Merge.{MergeFault}
 use Rattle.lc_model.specs.State.{Setting, State}
+use Rattle.lc_model.specs.declared.event.Event.TheVariants.{RecoverStep}
+use Rattle.lc_model.specs.declared.reply.Reply.{Reply}
 use Rattle.lc_core.specs.Numbers.{Numbers}
 use Rattle.lc_core.specs.World.{FitsWorld}
 use Rattle.lc_core.specs.declared.world.World.{World}
 use Rattle.lc_tool.specs.Memory.{LineAsksMemory}
-use Rattle.lc_tool.specs.Fits.{Leads}
+use Rattle.lc_tool.specs.Answers.{Finishes}
+use Rattle.lc_tool.specs.Fits.{Leads, IsRefused}
 use Rattle.lc_tool.specs.Line.{line_of}
 use Rattle.lc_tool.specs.Script.{NoMemory, Runs, script_lines}
 use Rattle.lc_tool.specs.Session.{Does}
-use Rattle.lc_tool.specs.Text.{not_understood_text}
+use Rattle.lc_tool.specs.Store.{Adds, RefusesStore}
+use Rattle.lc_tool.specs.Text.{not_understood_text, reply_text}
+use Rattle.lc_tool.specs.Verdict.{verdict_of}
 use Rattle.lc_tool.specs.declared.command.Command.{Command}
 use Rattle.lc_tool.specs.declared.command.Line.TheVariants.{Skipped, Command as Commanded, NotUnderstood}
 use Rattle.lc_tool.specs.declared.outcome.Outcome.{Outcome}
@@ -44,6 +50,22 @@ Breaks m s x line number shown status =
     ⊎ (((line_of line ≡ NotUnderstood) × (shown ≡ not_understood_text number) × (status ≡ 2))
     ⊎ ((after : State) × (next : Numbers) × IsDone m s x line shown Faulted after next × (status ≡ 3)))
 
+-- the recovery came to its end
+abbrev pub IsRecovered : Setting → State → Numbers → State → Numbers → Type 0
+IsRecovered m s x after next = (reply : Reply) × Finishes m s x RecoverStep reply after next × (verdict_of reply ≡ Done)
+
+-- the line of a reply that ends the script, and the status
+abbrev pub EndsWith : Verdict → Reply → List ℕ → ℕ → Type 0
+EndsWith Done reply text status = ⊥
+EndsWith Refused reply text status = (text ≡ reply_text reply) × (status ≡ 1)
+EndsWith Faulted reply text status = (text ≡ reply_text reply) × (status ≡ 3)
+
+-- it was refused, or there was no memory
+abbrev pub IsGivenUp : Setting → State → Numbers → List ℕ → ℕ → Type 0
+IsGivenUp m s x text status =
+    NoMemory text status
+    ⊎ ((reply : Reply) × (after : State) × (next : Numbers) × Finishes m s x RecoverStep reply after next × EndsWith (verdict_of reply) reply text status)
+
 module _ {D : Type 0} (a : Ghosts D) where
   -- with what a writer held and holds
   abbrev pub LeavesLine : World D a → List ℕ → ℕ → Option (List ℕ) → Option (List ℕ) → Outcome → World D a → Type 0
@@ -57,3 +79,14 @@ module _ {D : Type 0} (a : Ghosts D) where
   RunsLines old script held holds status =
       (m : Setting) (s : State) (x : Numbers) → FitsWorld a m old s x →
       (text : List ℕ) × Runs m s x 1 false (script_lines script) text status × Appends held holds text
+
+  -- the recovery that comes first: the store goes on behind it, or this is the status
+  abbrev pub OpensStore : World D a → Option (List ℕ) → Option (List ℕ) → Option ℕ → World D a → Type 0
+  OpensStore old held holds None new = Leads a IsRecovered old new × Keeps held holds
+  OpensStore old held holds (Some status) new =
+      (m : Setting) (s : State) (x : Numbers) → FitsWorld a m old s x → Adds (IsGivenUp m s x) held holds status
+
+  -- where the merge is refused it is not done
+  abbrev pub RefusesFirst : World D a → Option (List ℕ) → Option (List ℕ) → Option ℕ → Type 0
+  RefusesFirst old held holds None = (fault : MergeFault) → IsRefused a old fault → ⊥
+  RefusesFirst old held holds (Some status) = (fault : MergeFault) → IsRefused a old fault → Adds (RefusesStore fault) held holds status

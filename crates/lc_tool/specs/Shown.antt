@@ -11,6 +11,8 @@ use Rattle.lc_model.specs.declared.refusal.Refusal.TheVariants.{DeviceFault, Dow
 use Rattle.lc_core.specs.LogWords.{logged_records}
 use Rattle.lc_core.specs.Numbers.{Numbers, stable_records}
 use Rattle.lc_core.specs.Showing.{image_of, page_of}
+use Rattle.lc_core.specs.declared.show_fault.ShowFault.{ShowFault}
+use Rattle.lc_core.specs.declared.show_fault.ShowFault.TheVariants.{Unknown as IsUnknown, DeviceFault as HasFailed, NoMemory}
 use Rattle.lc_tool.specs.Text.{page_text, refusal_text}
 use Rattle.lc_tool.specs.declared.verdict.Verdict.{Verdict}
 use Rattle.lc_tool.specs.declared.verdict.Verdict.TheVariants.{Done, Refused, Faulted}
@@ -29,6 +31,12 @@ AreEither m s x node records =
 abbrev pub AreInLog : Phase → Setting → State → Numbers → ℕ → List Record → Type 0
 AreInLog Up m s x node records = MatchBool (s.halted node) (AreEither m s x node records) (records ≡ logged_records m s x node)
 AreInLog (DownAt cut) m s x node records = AllByRecursion IsWhole records
+
+-- why a log is not shown; want of memory is no refusal
+abbrev pub refusal_to : ShowFault → Option Refusal
+refusal_to IsUnknown = Some Unknown
+refusal_to HasFailed = Some DeviceFault
+refusal_to NoMemory = None
 
 -- this text of the records of a node's log, or the line of a refusal: an unknown node, or an area that cannot be read
 abbrev pub ShowsLog : Setting → State → Numbers → ℕ → (List Record → List ℕ) → List ℕ → Verdict → Type 0

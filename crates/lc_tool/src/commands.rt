@@ -1,11 +1,12 @@
 //! What each command does to the store, and what it prints.
-ghost use Rattle.std.specs.Prelude.{◌≡◌, ◌≢◌, ℕ, List, IfOk, OnOk, true, Some, None};
+ghost use Rattle.std.specs.Prelude.{◌≡◌, ◌≢◌, IfOk, OnOk, Some};
 ghost use Rattle.std.specs.Io.KnownBytes.{Appends, Keeps};
-ghost use Rattle.lc_core.specs.LogWords.{log_area};
+ghost use Rattle.lc_model.specs.declared.refusal.Refusal.{Refusal};
 ghost use Rattle.lc_tool.specs.Fits.{AsksFor, IsOfScript, Performs};
 ghost use Rattle.lc_tool.specs.Session.{Says, end_text};
-ghost use Rattle.lc_tool.specs.Text.{reply_text, words_text};
-ghost use Rattle.lc_tool.specs.Verdict.{verdict_of};
+ghost use Rattle.lc_tool.specs.Shown.{refusal_to};
+ghost use Rattle.lc_tool.specs.Text.{refusal_text, reply_text, words_text};
+ghost use Rattle.lc_tool.specs.Verdict.{verdict_of, verdict_on};
 ghost use Rattle.lc_tool.specs.declared.command.Command.TheVariants.{Inspect, Log, Show};
 
 use crate::ToolFault;
@@ -117,7 +118,9 @@ fn show_records<D: Area + Drop, W: Write>(
 
 // Writes why a log is not shown.
 fn show_fault<W: Write>(writer: &mut W, fault: ShowFault) -> Result<Verdict, Stop>
-    ensures { IfOk result (λ verdict. verdict ≡ verdict) }
+    ensures shown { IfOk result (λ verdict. (refusal : Refusal) × (refusal_to fault ≡ Some refusal) × (verdict ≡ verdict_on refusal)
+        × Appends (W.contents writer.old) (W.contents writer.new) (refusal_text refusal)) }
+    ensures memory { result ≡ Err Stop.NoMemory → (fault ≡ ShowFault.NoMemory) × Keeps (W.contents writer.old) (W.contents writer.new) }
 {
     match fault {
         ShowFault::Unknown => show(writer, &Reply::Refused(Refusal::Unknown)),

@@ -173,8 +173,8 @@ fn thread_command(
     keyword: &[u8],
     fields: Fields,
 ) -> Result<Option<Command>, AllocError>
-    ensures value { IfOk result (λ command. command ≡ thread_command_of keyword.now (words fields.rest.now)) }
-    ensures memory { OnErr result (IsTrue (is_open_ended (keyword.now ∷ words fields.rest.now))) }
+    ensures value { IfOk result (λ command. command ≡ thread_command_of keyword.now (words fields.entry.rest.now)) }
+    ensures memory { OnErr result (IsTrue (is_open_ended (keyword.now ∷ words fields.entry.rest.now))) }
 {
     if keyword == b"begin".as_slice() {
         return begin(alloc, fields);
@@ -212,7 +212,7 @@ fn thread_command(
 /// What a node or the whole store is to do.
 #[tactic(auto, unfolding(crate::specs::Line::node_command_of))]
 fn node_command(keyword: &[u8], fields: Fields) -> Option<Command>
-    ensures { result ≡ node_command_of keyword.now (words fields.rest.now) }
+    ensures { result ≡ node_command_of keyword.now (words fields.entry.rest.now) }
 {
     if keyword == b"step".as_slice() {
         return lone_node(fields).map(|node| Command::Step(Event::FlushStep { node }));
@@ -259,7 +259,7 @@ fn alone(mut fields: Fields, command: Command) -> Option<Command>
 /// What is to be shown.
 #[tactic(auto, unfolding(crate::specs::Line::shown_of))]
 fn shown(keyword: &[u8], fields: Fields) -> Option<Command>
-    ensures { result ≡ shown_of keyword.now (words fields.rest.now) }
+    ensures { result ≡ shown_of keyword.now (words fields.entry.rest.now) }
 {
     if keyword == b"log".as_slice() {
         return lone_node(fields).map(|node| Command::Log { node });

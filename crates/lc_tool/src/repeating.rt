@@ -1,8 +1,7 @@
 //! What takes several steps of a store.
-ghost use Rattle.std.specs.Prelude.{◌≡◌, IfOk, OnErr, ⊥};
-ghost use Rattle.lc_disk.specs.declared.area.Area.{Ghosts};
+ghost use Rattle.std.specs.Prelude.{◌≡◌, IfOk, OnErr};
 ghost use Rattle.lc_model.specs.declared.event.Event.TheVariants.{FlushStep, RecoverStep};
-ghost use Rattle.lc_tool.specs.Fits.{AsksFor, FollowsAll, FollowsEnd};
+ghost use Rattle.lc_tool.specs.Fits.{AsksFor, FollowsAll, FollowsEnd, RefusesAll};
 ghost use Rattle.lc_tool.specs.declared.command.Command.TheVariants.{End, Recover};
 
 use lc_core::{Event, Reply, World};
@@ -60,6 +59,7 @@ pub(crate) fn recover<D: Area + Drop>(
     alloc: Global,
 ) -> Result<Reply, AllocError>
     ensures follows { IfOk result (λ reply. FollowsAll D.Area world.old RecoverStep reply world.new) }
+    ensures refused { IfOk result (λ reply. RefusesAll D.Area world.old reply) }
     ensures memory { OnErr result (AsksFor D.Area world.old Recover) }
 {
     for _ in 0..RECOVERY_STEPS {

@@ -1,9 +1,10 @@
 //! Runs a script.
-ghost use Rattle.std.specs.Prelude.{◌≡◌, ◌≢◌, ◌+◌, ◌×◌, ℕ, IfOk, IfSome, Some, None, take, if◌then◌else◌};
+ghost use Rattle.std.specs.Prelude.{◌≡◌, ◌≢◌, ◌+◌, ℕ, IfOk, IfSome, Some, None, take, if◌then◌else◌};
 ghost use Rattle.std.specs.Io.KnownBytes.{Appends};
-ghost use Rattle.lc_tool.specs.Outcome.{LeavesLine, RunsLines};
+ghost use Rattle.lc_model.specs.declared.refusal.Refusal.TheVariants.{BadGeometry};
+ghost use Rattle.lc_tool.specs.Outcome.{LeavesLine, OpensStore, RefusesFirst, RunsLines};
 ghost use Rattle.lc_tool.specs.Store.{RefusesLengths, RefusesMerge, RunsStore};
-ghost use Rattle.lc_tool.specs.Text.{no_memory_text, too_long_text};
+ghost use Rattle.lc_tool.specs.Text.{no_memory_text, refusal_text, reply_text, too_long_text};
 
 use crate::ToolFault;
 use crate::command::Line;
@@ -78,7 +79,11 @@ fn open<D: Area + Drop, W: Write>(
     alloc: Global,
     world: &mut World<D>,
     writer: &mut W,
-) -> Result<Option<u8>, ToolFault> {
+) -> Result<Option<u8>, ToolFault>
+    ensures opens { IfOk result (λ status. OpensStore D.Area world.old (W.contents writer.old) (W.contents writer.new) status world.new) }
+    ensures refused { IfOk result (λ status. RefusesFirst D.Area world.old (W.contents writer.old) (W.contents writer.new) status) }
+    ensures memory { result ≢ Err ToolFault.NoMemory }
+{
     let Ok(reply) = recover(world, alloc) else {
         return Ok(Some(no_memory(writer)?));
     };
@@ -91,12 +96,16 @@ fn open<D: Area + Drop, W: Write>(
 
 // Writes that an area is not one of the geometry, and gives the status.
 fn bad_geometry<W: Write>(writer: &mut W, area: u32) -> Result<u8, ToolFault>
+    ensures shown { IfOk result (λ status. (status ≡ 1) × Appends (W.contents writer.old) (W.contents writer.new) (refusal_text (BadGeometry area))) }
+    ensures memory { result ≢ Err ToolFault.NoMemory }
 {
     printed(writer, &Reply::Refused(Refusal::BadGeometry { area }), REFUSED)
 }
 
 // Writes the line of a reply, behind which nothing more is done, and gives the status.
 fn printed<W: Write>(writer: &mut W, reply: &Reply, status: u8) -> Result<u8, ToolFault>
+    ensures shown { IfOk result (λ given. (given ≡ status) × Appends (W.contents writer.old) (W.contents writer.new) (reply_text reply.now)) }
+    ensures memory { result ≢ Err ToolFault.NoMemory }
 {
     match write_reply(writer, reply) {
         Ok(()) => Ok(status),
