@@ -1,15 +1,16 @@
 -- The same event again and again: a flush that has made three steps ends with the next, and a reservation is closed.
-use Rattle.std.proofs.Common.{◌≡◌, ◌∙◌, ℕ, ◌+◌, ◌≤◌, ◌<◌, Bool, true, false, ◌==◌, nat_lt, List, [], ◌∷◌, ◌++◌, Option, Some, None, refl, sym, ap, subst, arith, inl, inr, ltb-true, eqb-true, eqb-refl}
+use Rattle.std.proofs.Common.{◌≡◌, ◌∙◌, ℕ, ◌+◌, ◌≤◌, ◌<◌, Bool, true, false, ◌==◌, nat_lt, List, [], ◌∷◌, ◌++◌, Option, Some, None, refl, sym, ap, subst, arith, inl, inr, ltb-true, eqb-true, eq-eqb, not}
 use Rattle.std.specs.Prelude.{MatchBool}
 use Rattle.lc_model.specs.History.{front}
 use Rattle.lc_model.specs.Machine.{Step, FlushRow, ReserveRow, Moves, appended, flushed_to}
 use Rattle.lc_record.specs.Marks.{is_empty}
 use Rattle.lc_record.specs.Transaction.{Transaction}
-use Rattle.lc_model.specs.Refusals.{Unless, OfRunning, common_refusal}
+use Rattle.lc_model.specs.Refusals.{Unless, OfRunning, common_refusal, refuse_if}
 use Rattle.lc_model.specs.State.{Setting, State, running_of, has_unclosed, is_by}
 use Rattle.lc_model.specs.declared.event.Event.{Event}
 use Rattle.lc_model.specs.declared.event.Event.TheVariants.{Close, FlushStep, Reserve}
 use Rattle.lc_model.specs.declared.refusal.Refusal.{Refusal}
+use Rattle.lc_model.specs.declared.refusal.Refusal.TheVariants.{OutOfTurn}
 use Rattle.lc_model.specs.declared.reply.Reply.{Reply}
 use Rattle.lc_model.specs.declared.reply.Reply.TheVariants.{Ok as Accepted, Reserved, Stepped}
 use Rattle.lc_model.proofs.Holders.{is_by-both}
@@ -40,7 +41,7 @@ pick false A B C h f g = g refl h
 -- Flushes
 
 moves : (s : State) (node steps taken k : ℕ) (after : State) → Moves s node steps taken (Stepped k) after → (after.flush node).steps ≡ steps
-moves s node steps taken k after (inl h) = ap (λ (z : State). (z.flush node).steps) h.1 ∙ rw (eqb-refl node) refl
+moves s node steps taken k after (inl h) = ap (λ (z : State). (z.flush node).steps) h.1 ∙ rw (eq-eqb node node refl) refl
 moves s node steps taken k after (inr h) = let bad = h.0 in cc
 
 -- a step that says that more is to come is one more than were done, of which there are three such
@@ -83,6 +84,12 @@ reserved_here None (Some t) s place words mid h =
     (λ none ended. let bad = ended.0 in cc)
     (λ some row. elim row [ | inl made ↦ (t, refl, made.3) | inr refused ↦ let bad = refused.2 in cc ]))
 
+close_row : (o : Option Refusal) (b : Bool) (mid : State) (reply : Reply) (after : State) (P : Type 0) → o ≡ None → b ≡ true
+    → Unless o mid reply after (Unless (refuse_if (not b) OutOfTurn None) mid reply after ((reply ≡ Accepted) × P)) → reply ≡ Accepted
+close_row None true mid reply after P none some h = h.0
+close_row None false mid reply after P none some h = absurd cc
+close_row (Some refusal) b mid reply after P none some h = absurd cc
+
 pub close_accepted : (m : Setting) (s : State) (node thread place words : ℕ) (mid : State) (reply : Reply) (after : State)
     → Step m s (Reserve node thread) (Reserved place words) mid → Step m mid (Close node thread) reply after → reply ≡ Accepted
 close_accepted m s node thread place words mid reply after reserve close =
@@ -93,4 +100,4 @@ close_accepted m s node thread place words mid reply after reserve close =
     subst (λ (n : ℕ). has_unclosed n thread (appended s t) ≡ true) by.0 (subst (λ (k : ℕ). has_unclosed t.node k (appended s t) ≡ true) by.1 (unclosed-appended s t)) in
     let step = subst (λ (z : State). Step m z (Close node thread) reply after) here.1.2 close in
     let none : common_refusal m.geometry (appended s t) (Close node thread) ≡ None = here.0 in
-    (rw (none, unclosed) at step).0
+    close_row (common_refusal m.geometry (appended s t) (Close node thread)) (has_unclosed node thread (appended s t)) (appended s t) reply after _ none unclosed step

@@ -6,6 +6,7 @@ mod FieldLemmas
 mod Writes
 mod Again
 mod Performing
+mod Fitting
 mod Memory
 mod Logs
 mod LogShown

@@ -1,8 +1,8 @@
 -- The lines of a log: its records', or that of a refusal.
-use Rattle.std.proofs.Common.{◌≡◌, ◌≢◌, ◌∙◌, ℕ, Bool, true, false, nat_lt, List, [], Option, Some, None, append-nil, refl, sym, ap, subst, inl, inr}
+use Rattle.std.proofs.Common.{◌≡◌, ◌≢◌, ◌∙◌, ℕ, ltb-true, Bool, true, false, nat_lt, List, [], Option, Some, None, append-nil, refl, sym, ap, subst, inl, inr}
 use Rattle.std.specs.Prelude.{Result, Ok, Err, if◌then◌else◌, slice_get, vec_items}
 use Rattle.std.specs.List.{AllByRecursion}
-use Rattle.std.specs.declared.vec.Vec.{Vec}
+use Rattle.std.specs.Global.{Vec}
 use Rattle.std.specs.Io.KnownBytes.{Appends}
 use Rattle.lc_disk.specs.declared.area.Area.{Ghosts}
 use Rattle.lc_record.specs.Words.{bytes_of, words_of}
@@ -33,7 +33,8 @@ use Rattle.lc_tool.specs.Verdict.{verdict_on}
 use Rattle.lc_tool.specs.declared.command.Command.TheVariants.{Inspect, Log}
 use Rattle.lc_tool.specs.declared.verdict.Verdict.{Verdict}
 use Rattle.lc_tool.specs.declared.verdict.Verdict.TheVariants.{Done, Refused, Faulted}
-use Rattle.lc_tool.proofs.Logs.{HasWords, are_logged, known_log, unknown_log, up_known}
+use Rattle.lc_tool.proofs.Fitting.{records_whole, running_fits, words_logged}
+use Rattle.lc_tool.proofs.Logs.{HasWords, are_logged, known_log, unknown_log}
 
 some_of : {A : Type 0} (b : Bool) (o : Option A) (x : A) → (if b then o else None) ≡ Some x → o ≡ Some x
 some_of true o x e = e
@@ -56,7 +57,9 @@ module _ {D : Type 0} (a : Ghosts D) where
         whole = text.whole;
         words_are = are (fits.honest node area (some_of (nat_lt node r.geometry.nodes) (slice_get r.areas node) area there)) (records_in (words_of (a.now area))) text;
       }
-  words_in_log (Up up) m s x node area words fits known there are show = ?
+  words_in_log (Up up) m s x node area words fits known there are show =
+      let whole = records_whole a up m s x node (running_fits a up m s x fits) (ltb-true node m.geometry.nodes known) in
+      rw (running_fits a up m s x fits).up (are_logged m s x node whole words (words_logged a up m s x node area words fits there show))
   words_in_log Taken m s x node area words fits known there are show = absurd fits
 
   -- what is told of a log that is asked for

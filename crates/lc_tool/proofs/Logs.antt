@@ -24,6 +24,7 @@ use Rattle.lc_core.specs.declared.phase.Phase.{Phase as ItsPhase}
 use Rattle.lc_core.specs.declared.phase.Phase.TheVariants.{Down, Up, Taken}
 use Rattle.lc_core.specs.declared.up.Up.{Up as Rising}
 use Rattle.lc_tool.specs.Shown.{AreInLog}
+use Rattle.lc_tool.proofs.Fitting.{down_log, running_fits, up_log, up_none}
 
 -- Lists of records
 
@@ -89,43 +90,15 @@ module _ (m : Setting) (s : State) (x : Numbers) (node : ℕ) (whole : AllByRecu
 -- The areas of logs
 
 module _ {D : Type 0} (a : Ghosts D) where
-  area_there : (log : Log D a) (steps : ℕ) (stable group : List Record) → Stands a log steps stable group → (area : D) × (area_of a log ≡ Some area)
-  area_there (Idle log) steps stable group stands = (log.area, refl)
-  area_there (Written log) steps stable group stands = (log.area, refl)
-  area_there (Synced log) steps stable group stands = (log.area, refl)
-  area_there (Opened log) steps stable group stands = (log.area, refl)
-  area_there (Sealed log) steps stable group stands = (log.area, refl)
-  area_there (Closing log) steps stable group stands = (log.area, refl)
-  area_there (Emptied log) steps stable group stands = (log.area, refl)
-  area_there (Failed log) steps stable group stands = (log.area, refl)
-  area_there (Torn log) steps stable group stands = (log.area, refl)
-  area_there NoLog steps stable group stands = absurd stands
-
-  -- a node of the geometry, and one that is none
-  up_known : (up : Rising D a) (m : Setting) (s : State) (x : Numbers) (node : ℕ) → FitsPhase a m (Up up) s x → node < m.geometry.nodes
-      → (its : Node D a) × (slice_get up.running.nodes.items node ≡ Some its) × ((area : D) × (log_area a (Up up) node ≡ Some area))
-  up_known up m s x node fits below =
-      let long : vec_len up.running.nodes ≡ m.geometry.nodes = up.running.all_nodes ∙ ap (λ (g : Geometry). g.nodes) (sym fits.0.geometry_is) in
-      elim ((slice_get_cases up.running.nodes.items node).1) [
-        | inl found ↦
-            let journal = (fits.0.each node found.0 found.2).journal in
-            let there = area_there found.0.journal.log (s.flush node).steps _ _ journal.stands in
-            (found.0, found.2, (there.0, rw found.2 there.1))
-        | inr past ↦ absurd (omega (arith, past.0, long, below))
-      ]
-
-  up_unknown : (up : Rising D a) (m : Setting) (s : State) (x : Numbers) (node : ℕ) → FitsPhase a m (Up up) s x → m.geometry.nodes ≤ node → log_area a (Up up) node ≡ None
-  up_unknown up m s x node fits above =
-      let long : vec_len up.running.nodes ≡ m.geometry.nodes = up.running.all_nodes ∙ ap (λ (g : Geometry). g.nodes) (sym fits.0.geometry_is) in
-      rw (slice_get_past up.running.nodes.items node (omega (arith, long, above))) refl
-
   pub known_log : (phase : ItsPhase D a) (m : Setting) (s : State) (x : Numbers) (node : ℕ) → FitsPhase a m phase s x → is_node m.geometry node ≡ true
       → (area : D) × (log_area a phase node ≡ Some area)
-  known_log (Down r) m s x node fits known = ?
-  known_log (Up up) m s x node fits known = (up_known up m s x node fits (ltb-true node m.geometry.nodes known)).2
+  known_log (Down r) m s x node fits known =
+      let there = down_log a r m s x node fits (ltb-true node m.geometry.nodes known) in
+      (there.0, rw (ap (λ (g : Geometry). nat_lt node g.nodes) fits.geometry_is ∙ known) there.1)
+  known_log (Up up) m s x node fits known = up_log a up m s x node (running_fits a up m s x fits) (ltb-true node m.geometry.nodes known)
   known_log Taken m s x node fits known = absurd fits
 
   pub unknown_log : (phase : ItsPhase D a) (m : Setting) (s : State) (x : Numbers) (node : ℕ) → FitsPhase a m phase s x → is_node m.geometry node ≡ false → log_area a phase node ≡ None
   unknown_log (Down r) m s x node fits unknown = rw (ap (λ (g : Geometry). nat_lt node g.nodes) fits.geometry_is ∙ unknown) refl
-  unknown_log (Up up) m s x node fits unknown = up_unknown up m s x node fits (ltb-false node m.geometry.nodes unknown)
+  unknown_log (Up up) m s x node fits unknown = up_none a up m s x node (running_fits a up m s x fits) (ltb-false node m.geometry.nodes unknown)
   unknown_log Taken m s x node fits unknown = absurd fits

@@ -1,5 +1,5 @@
 -- An event that wants memory is one that asks for it.
-use Rattle.std.proofs.Common.{◌≡◌, ◌∙◌, ℕ, ◌+◌, ◌<◌, ◌≤◌, Bool, true, false, List, refl, sym, ap, subst, inl, inr}
+use Rattle.std.proofs.Common.{◌≡◌, ◌∙◌, ◌⊎◌, ℕ, ◌+◌, ◌<◌, ◌≤◌, Bool, true, false, List, refl, sym, ap, subst, inl, inr}
 use Rattle.lc_disk.specs.declared.area.Area.{Ghosts}
 use Rattle.lc_record.specs.declared.geometry.Geometry.{Geometry}
 use Rattle.lc_recover.specs.Reads.{area_count}
@@ -14,6 +14,7 @@ use Rattle.lc_core.specs.World.{AsksIn, FitsDown, FitsPhase, FitsWorld}
 use Rattle.lc_core.specs.declared.phase.Phase.{Phase as ItsPhase}
 use Rattle.lc_core.specs.declared.phase.Phase.TheVariants.{Down, Up, Taken}
 use Rattle.lc_core.specs.declared.world.World.{World}
+use Rattle.lc_tool.proofs.Fitting.{running_fits}
 use Rattle.lc_tool.specs.Memory.{EventAsks, TakesRoom}
 
 module _ {D : Type 0} (a : Ghosts D) where
@@ -34,8 +35,8 @@ module _ {D : Type 0} (a : Ghosts D) where
   asks_in (Up up) (Begin node thread segments reading) m s x asks fits = asks
   asks_in (Up up) (SetRange node thread segment offset len) m s x asks fits = ?
   asks_in (Up up) (Read node thread segment offset len) m s x asks fits = asks
-  asks_in (Up up) (Reserve node thread) m s x asks fits = asks m s x fits.0
-  asks_in (Up up) (Deliver sender number segment to) m s x asks fits = asks m s x fits.0
+  asks_in (Up up) (Reserve node thread) m s x asks fits = asks m s x (running_fits a up m s x fits)
+  asks_in (Up up) (Deliver sender number segment to) m s x asks fits = asks m s x (running_fits a up m s x fits)
   asks_in (Up up) event m s x asks fits = absurd asks
   asks_in Taken event m s x asks fits = absurd asks
 

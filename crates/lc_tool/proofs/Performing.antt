@@ -135,7 +135,7 @@ module _ {D : Type 0} (a : Ghosts D) where
   Flushed old now node done = (m : Setting) (s : State) (x : Numbers) → FitsWorld a m old s x → HasFlushed old now node done m s x
 
   pub first_flushed : (w : World D a) (node : ℕ) → Flushed w w node 0
-  first_flushed w node m s x fits = record { come = first_comes (FlushStep node) m s x w fits; done_so = omega arith }
+  first_flushed w node m s x fits = record { come = record { steps = []; after = s; next = x; goes = (refl, refl); fits = fits }; done_so = omega arith }
 
   pub more_flushed : (old mid new : World D a) (node done steps : ℕ) → Flushed old mid node done → FollowsWorld a mid (FlushStep node) (Stepped steps) new → Flushed old new node (done + 1)
   more_flushed old mid new node done steps so_far follows m s x fits =
@@ -143,7 +143,13 @@ module _ {D : Type 0} (a : Ghosts D) where
       let led = follows m was.come.after was.come.next was.come.fits in
       let moved = flush_moves m was.come.after node steps led.after led.step in
       record {
-        come = more_comes (FlushStep node) m s x old mid new steps was.come follows;
+        come = record {
+          steps = was.come.steps ++ steps ∷ [];
+          after = led.after;
+          next = led.next;
+          goes = one_more m s x (FlushStep node) was.come.steps was.come.after was.come.next steps led.after led.next was.come.goes (record { step = led.step; settled = led.settled; turns = led.turns });
+          fits = led.fits;
+        };
         done_so = omega (arith, was.done_so, moved.1);
       }
 

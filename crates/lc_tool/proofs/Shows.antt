@@ -13,6 +13,7 @@ use Rattle.lc_core.specs.World.{FitsPhase}
 use Rattle.lc_core.specs.declared.phase.Phase.{Phase}
 use Rattle.lc_core.specs.declared.phase.Phase.TheVariants.{Down, Up, Taken}
 use Rattle.lc_tool.specs.Shown.{page_refusal}
+use Rattle.lc_tool.proofs.Fitting.{running_fits}
 use Rattle.lc_tool.proofs.Memory.{down_fits}
 
 known_or : (b : Bool) → (if b then None else Some Unknown) ≡ refuse_if (not b) Unknown None
@@ -25,7 +26,7 @@ module _ {D : Type 0} (a : Ghosts D) where
       → refusal_in a phase node segment page ≡ page_refusal m s node segment page
   refuses_page (Down r) m s x node segment page fits = rw (down_fits a r m s x fits) refl
   refuses_page (Up up) m s x node segment page fits =
-      rw (ap is_up fits.0.up)
-      (ap (λ (g : Geometry). if is_node g node && is_segment g segment && is_page g page then None else Some Unknown) (sym fits.0.geometry_is)
+      rw (ap is_up (running_fits a up m s x fits).up)
+      (ap (λ (g : Geometry). if is_node g node && is_segment g segment && is_page g page then None else Some Unknown) (sym (running_fits a up m s x fits).geometry_is)
       ∙ known_or (is_node m.geometry node && is_segment m.geometry segment && is_page m.geometry page))
   refuses_page Taken m s x node segment page fits = absurd fits

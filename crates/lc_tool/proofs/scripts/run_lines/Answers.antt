@@ -12,7 +12,7 @@ pub returns-in-Ends-clause-runs : goal.returns-in-Ends-clause-runs
 returns-in-Ends-clause-runs g c = λ m first start h.
     let before = c.loop-rest.invariant.runs m first start h in
     let so_far = before.3 in
-    let ends = (rw c.in-Ends.is at c.in_ok-next.ensures.leaves) m before.0 before.1 before.2 in
+    let ends = (rw c.in-Ends.is at c.in_ok-was.ensures.leaves) m before.0 before.1 before.2 in
     let line = c.first_line.result.0.now in
     let behind = c.first_line.result.1.now in
     let here : Runs m before.0 before.1 c.loop-rest.number c.loop-rest.refused (script_lines c.loop-rest.rest.now) ends.0 c.in-Ends.status =
@@ -29,7 +29,7 @@ loop-rest-preserved g c = record {
   runs = λ m first start h.
       let before = c.loop-rest.invariant.runs m first start h in
       let so_far = before.3 in
-      let goes = (rw c.in-Goes.is at c.in_ok-next.ensures.leaves) m before.0 before.1 before.2 in
+      let goes = (rw c.in-Goes.is at c.in_ok-was.ensures.leaves) m before.0 before.1 before.2 in
       let line = c.first_line.result.0.now in
       let behind = c.first_line.result.1.now in (
         goes.0,
