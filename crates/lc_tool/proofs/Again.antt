@@ -2,13 +2,14 @@
 use Rattle.std.proofs.Common.{◌≡◌, ◌∙◌, ℕ, ◌+◌, ◌≤◌, ◌<◌, Bool, true, false, ◌==◌, nat_lt, List, [], ◌∷◌, ◌++◌, Option, Some, None, refl, sym, ap, subst, arith, inl, inr, ltb-true, eqb-true, eq-eqb, not}
 use Rattle.std.specs.Prelude.{MatchBool}
 use Rattle.lc_model.specs.History.{front}
-use Rattle.lc_model.specs.Machine.{Step, FlushRow, ReserveRow, Moves, appended, flushed_to}
+use Rattle.lc_record.specs.declared.geometry.Geometry.{Geometry}
+use Rattle.lc_model.specs.Machine.{Step, FlushRow, RecoverRow, ReserveRow, Moves, appended, flushed_to}
 use Rattle.lc_record.specs.Marks.{is_empty}
 use Rattle.lc_record.specs.Transaction.{Transaction}
 use Rattle.lc_model.specs.Refusals.{Unless, OfRunning, common_refusal, refuse_if}
-use Rattle.lc_model.specs.State.{Setting, State, running_of, has_unclosed, is_by}
+use Rattle.lc_model.specs.State.{Phase, Up, DownAt, Setting, State, running_of, has_unclosed, is_by}
 use Rattle.lc_model.specs.declared.event.Event.{Event}
-use Rattle.lc_model.specs.declared.event.Event.TheVariants.{Close, FlushStep, Reserve}
+use Rattle.lc_model.specs.declared.event.Event.TheVariants.{Close, FlushStep, RecoverStep, Reserve}
 use Rattle.lc_model.specs.declared.refusal.Refusal.{Refusal}
 use Rattle.lc_model.specs.declared.refusal.Refusal.TheVariants.{OutOfTurn}
 use Rattle.lc_model.specs.declared.reply.Reply.{Reply}
@@ -32,6 +33,9 @@ one_more m s x event (step ∷ steps) mid between more after next so_far answers
 pub stepped_is : (reply : Reply) → IsStepped reply → (steps : ℕ) × (reply ≡ Stepped steps)
 stepped_is (Stepped steps) is = (steps, refl)
 stepped_is reply is = absurd is
+
+pub not_step : (reply : Reply) → ((steps : ℕ) → reply ≡ Stepped steps → ⊥) → IsStepped reply → ⊥
+not_step reply not is = let steps = stepped_is reply is in not steps.0 steps.1
 
 -- by cases of a test
 pick : (b : Bool) (A B C : Type 0) → MatchBool b A B → (b ≡ true → A → C) → (b ≡ false → B → C) → C
@@ -71,6 +75,22 @@ flush_ends m s node reply after done step is =
     let steps = stepped_is reply is in
     let moved = flush_moves m s node steps.0 after (subst (λ (r : Reply). Step m s (FlushStep node) r after) steps.1 step) in
     omega (arith, done, moved.0)
+
+-- Recoveries
+
+still_at : (phase : Phase) (g : Geometry) (s : State) (steps : ℕ) (after : State) → RecoverRow phase g s (Stepped steps) after → after ≡ s
+still_at Up g s steps after row = let bad = row.0 in cc
+still_at (DownAt cut) g s steps after (inl stepped) = stepped.2
+still_at (DownAt cut) g s steps after (inr (inl failed)) = let bad = failed.0 in cc
+still_at (DownAt cut) g s steps after (inr (inr up)) = let bad = up.0 in cc
+
+-- a step that says that more is to come leaves the state
+pub recover_still : (m : Setting) (s : State) (steps : ℕ) (after : State) → Step m s RecoverStep (Stepped steps) after → after ≡ s
+recover_still m s steps after step = still_at s.phase m.geometry s steps after (unless_not (common_refusal m.geometry s RecoverStep) s steps after _ step)
+
+pub all_still : (m : Setting) (s : State) (x : Numbers) (steps : List ℕ) (after : State) (next : Numbers) → GoesOnWith m s x RecoverStep steps after next → after ≡ s
+all_still m s x [] after next goes = goes.0
+all_still m s x (n ∷ steps) after next goes = all_still m goes.0 goes.1 steps after next goes.3 ∙ recover_still m s n goes.0 goes.2.step
 
 -- Reservations
 

@@ -1,5 +1,5 @@
 -- What a store that fits knows of its nodes, and of the areas of its logs.
-use Rattle.std.proofs.Common.{◌≡◌, ◌∙◌, ℕ, ◌<◌, ◌≤◌, List, length, Option, Some, None, refl, sym, ap, inl, inr, arith}
+use Rattle.std.proofs.Common.{◌≡◌, ◌∙◌, ℕ, ◌+◌, ◌*◌, ◌<◌, ◌≤◌, List, length, map, Option, Some, None, refl, sym, ap, inl, inr, arith}
 use Rattle.std.proofs.lemmas.Option.{slice_get_cases, slice_get_past}
 use Rattle.std.specs.Prelude.{slice_get, vec_len}
 use Rattle.std.specs.List.{AllByRecursion}
@@ -7,7 +7,13 @@ use Rattle.lc_disk.specs.declared.area.Area.{Ghosts}
 use Rattle.lc_record.specs.declared.geometry.Geometry.{Geometry}
 use Rattle.lc_record.specs.declared.record.Record.{Record}
 use Rattle.lc_log.specs.LogText.{IsWhole}
-use Rattle.lc_recover.specs.Recovery.{Recovering}
+use Rattle.lc_recover.specs.Reads.{AreHonest}
+use Rattle.lc_recover.specs.Recovery.{Recovering, all_steps}
+use Rattle.lc_recover.specs.Steps.{first_steps}
+use Rattle.lc_model.specs.declared.reply.Reply.{Reply}
+use Rattle.lc_model.specs.declared.reply.Reply.TheVariants.{Stepped}
+use Rattle.lc_core.specs.Recovers.{AnswersRecovery}
+use Rattle.lc_core.specs.declared.phase.Phase.{Phase}
 use Rattle.lc_model.specs.State.{Setting, State}
 use Rattle.lc_model.specs.Stored.{records_of}
 use Rattle.lc_core.specs.Log.{Stands, area_of}
@@ -72,3 +78,12 @@ module _ {D : Type 0} (a : Ghosts D) where
   up_none up m s x node fits above =
       let long : vec_len up.running.nodes ≡ m.geometry.nodes = up.running.all_nodes ∙ ap (λ (g : Geometry). g.nodes) (sym fits.geometry_is) in
       rw (slice_get_past up.running.nodes.items node (omega (arith, long, above))) refl
+
+  -- the areas that were read as they are, before the merge
+  pub reads_same : (r later : Recovering D) (reply : Reply) (new : Phase D a) (steps : ℕ) → AnswersRecovery a r reply new → new ≡ Down later → r.steps + 1 < first_steps r.geometry
+      → AreHonest a r.areas → reply ≡ Stepped steps → AreHonest a later.areas × (map a.now later.areas ≡ map a.now r.areas)
+  reads_same r later reply new steps answers down before honest is = ?
+
+  -- a recovery has so many steps at most
+  pub few_steps : (r : Recovering D) (reply : Reply) (new : Phase D a) (steps : ℕ) → AnswersRecovery a r reply new → reply ≡ Stepped steps → steps ≤ all_steps r.geometry (r.geometry.segments * r.geometry.pages)
+  few_steps r reply new steps answers is = ?

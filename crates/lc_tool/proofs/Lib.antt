@@ -14,6 +14,7 @@ mod Shows
 mod LineLemmas
 mod ScriptLemmas
 mod Opening
+mod Recovering
 mod Beginning
 mod Refusals
 mod OptionNumbers

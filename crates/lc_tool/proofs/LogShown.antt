@@ -153,3 +153,7 @@ module _ {D : Type 0} (a : Ghosts D) where
 
     pub inspect_asks : result ≡ Err NoMemory → AsksFor a old (Inspect node)
     inspect_asks is m s x fits = memory_known node old new result told m s x fits is (is_node m.geometry node) refl
+
+    -- so does what shows the words that were had
+    pub inspect_had : (words : Vec ℕ) → result ≡ Ok words → AsksFor a old (Inspect node)
+    inspect_had words is m s x fits = known_by node old new result told m s x fits words is (is_node m.geometry node) refl

@@ -42,3 +42,9 @@ module _ {D : Type 0} (a : Ghosts D) where
 
   pub asks : (w : World D a) (event : Event) (m : Setting) (s : State) (x : Numbers) → AsksIn a w.phase event → FitsWorld a m w s x → EventAsks m s x event
   asks w event m s x = asks_in w.phase event m s x
+
+  -- a flush and a close never do
+  pub flush_asks_not : (phase : ItsPhase D a) (node : ℕ) → AsksIn a phase (FlushStep node) → ⊥
+  flush_asks_not (Down r) node asks = asks
+  flush_asks_not (Up up) node asks = asks
+  flush_asks_not Taken node asks = asks

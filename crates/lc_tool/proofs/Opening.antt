@@ -14,6 +14,7 @@ use Rattle.lc_core.specs.declared.phase.Phase.{Phase}
 use Rattle.lc_core.specs.declared.phase.Phase.TheVariants.{Down, Up, Taken}
 use Rattle.lc_tool.specs.Answers.{IsStepped}
 use Rattle.lc_tool.specs.Store.{merge_refusal}
+use Rattle.lc_tool.proofs.Fitting.{reads_same}
 use Rattle.lc_tool.proofs.Refusals.{not_refused, same_refusal}
 
 same_or_not : (k n : ℕ) → (k ≡ n) ⊎ (k ≡ n → ⊥)
@@ -93,7 +94,7 @@ module _ {D : Type 0} (a : Ghosts D) (g : Geometry) (areas : List D) (fault : Me
           | inl merge ↦ let bad = merge_refuses r (Stepped steps) at.geometry at.same (answers.merged merge at.honest) in absurd cc
           | inr call ↦ less_or_same (r.steps + 1) (first_steps r.geometry) within call
         ] in
-        let reads = answers.reads stepped.1.0 stepped.1.1 earlier at.honest steps refl in
+        let reads = reads_same a r stepped.1.0 (Stepped steps) new steps answers stepped.1.1 earlier at.honest refl in
         record {
           r = stepped.1.0;
           down = stepped.1.1;

@@ -116,8 +116,12 @@ impl<'a> Fields<'a> {
 fn lock(word: &[u8]) -> Option<(bool, u32)>
     ensures { result ≡ lock_of word.now }
 {
-    match word {
-        [b'r', digits @ ..] => Some((true, u32_number(digits)?)),
-        _ => Some((false, u32_number(word)?)),
+    let [first, digits @ ..] = word else {
+        return None;
+    };
+    if *first == b'r' {
+        Some((true, u32_number(digits)?))
+    } else {
+        Some((false, u32_number(word)?))
     }
 }

@@ -68,9 +68,10 @@ fn begin(alloc: Global, mut fields: Fields) -> Result<Option<Command>, AllocErro
     let Some((node, thread)) = thread(&mut fields) else {
         return Ok(None);
     };
-    let Some((segments, reading)) = fields.locks(alloc)? else {
+    let Some(locks) = fields.locks(alloc)? else {
         return Ok(None);
     };
+    let (segments, reading) = locks;
     Ok(Some(Command::Step(Event::Begin {
         node,
         thread,

@@ -43,14 +43,13 @@ pub(crate) fn flush<D: Area + Drop>(
     ensures follows { IfOk result (λ reply. FollowsAll D.Area world.old (FlushStep node) reply world.new) }
     ensures memory { OnErr result ⊥ }
 {
-    let event = Event::FlushStep { node };
     for _ in 0..FLUSH_STEPS {
-        match world.step(alloc, &event)? {
+        match world.step(alloc, &Event::FlushStep { node })? {
             Reply::Stepped(_) => {}
             reply => return Ok(reply),
         }
     }
-    world.step(alloc, &event)
+    world.step(alloc, &Event::FlushStep { node })
 }
 
 /// The steps of a recovery, up to the one that is answered otherwise than that more are to come.

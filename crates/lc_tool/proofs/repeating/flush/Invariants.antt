@@ -1,8 +1,5 @@
-use Rattle.std.proofs.Common.{◌≡◌, IfOk, OnErr, ℕ, ◌+◌, ◌-◌, ◌*◌, ◌<◌, ◌≤◌, length}
-use Rattle.lc_model.specs.declared.event.Event.TheVariants.{FlushStep, RecoverStep}
-use Rattle.lc_tool.specs.Fits.{AsksFor, FollowsAll, FollowsEnd, RefusesAll}
-use Rattle.lc_tool.specs.declared.command.Command.TheVariants.{End, Recover}
+use Rattle.lc_tool.proofs.Performing.{Flushed}
 use Rattle.lc_tool.proofs.repeating.flush.Given as goal
 
 abbrev pub invariant-loop : goal.invariant-loop
-invariant-loop g l = ?
+invariant-loop g l = Flushed g.D.Area l.fn.world l.world l.fn.node l.counter
