@@ -9,6 +9,7 @@ use Rattle.lc_model.specs.Merge.{MergeFault}
 use Rattle.lc_model.specs.Refusals.{is_up}
 use Rattle.lc_model.specs.State.{Setting, State}
 use Rattle.lc_model.specs.declared.event.Event.TheVariants.{RecoverStep}
+use Rattle.lc_model.specs.declared.refusal.Refusal.TheVariants.{OutOfTurn}
 use Rattle.lc_model.specs.declared.reply.Reply.{Reply}
 use Rattle.lc_model.specs.declared.reply.Reply.TheVariants.{Stepped}
 use Rattle.lc_core.specs.Numbers.{Numbers}
@@ -49,8 +50,8 @@ module _ {D : Type 0} (a : Ghosts D) where
   -- what answers with a step is down
   down_there : (phase : Phase D a) (steps : ℕ) (new : Phase D a) → RefusesAtOnce a phase RecoverStep (Stepped steps) new → (r : Recovering D) × (phase ≡ Down r)
   down_there (Down r) steps new at_once = (r, refl)
-  down_there (Up up) steps new at_once = let bad = (at_once _ refl).0 in absurd cc
-  down_there Taken steps new at_once = let bad = (at_once _ refl).0 in absurd cc
+  down_there (Up up) steps new at_once = let bad = (at_once OutOfTurn refl).0 in absurd cc
+  down_there Taken steps new at_once = let bad = (at_once OutOfTurn refl).0 in absurd cc
 
   pub more_gone : (old mid new : World D a) (done steps : ℕ) → HasGone old mid done → FollowsWorld a mid RecoverStep (Stepped steps) new → RecoversDown a mid.phase (Stepped steps) new.phase
       → RefusesAtOnce a mid.phase RecoverStep (Stepped steps) new.phase → HasGone old new (done + 1)
