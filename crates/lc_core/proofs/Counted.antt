@@ -363,6 +363,7 @@ module _ (m : Setting) (n i : ℕ) (s : State) (x : Numbers) (t : Transaction) (
   token_kept segment token unset h = record {
     segment_is = h.segment_is;
     number = h.number ∙ sym (number_unset segment unset);
+    small = h.small;
     clean = h.clean;
     pages = h.pages;
     touched = λ page within. h.touched page within
@@ -395,10 +396,11 @@ module _ (m : Setting) (n i : ℕ) (s : State) (x : Numbers) (t : Transaction) (
   }
 
   module _ (ranges : List Range) (canonical : IsCanonical ranges) (has : (segment k : ℕ) → Has ranges segment k ↔ IsTrue (all_set k 1 (segment_of segment t.marks))) where
-    token_counted : (segment : ℕ) (old new : Token) → sets segment t ≡ true → FitsToken m segment old s x → CountsToken segment ranges old new → FitsToken m segment new after y
-    token_counted segment old new set h c = record {
+    token_counted : (segment : ℕ) (old new : Token) → sets segment t ≡ true → old.seq < 2 ^ 60 → FitsToken m segment old s x → CountsToken segment ranges old new → FitsToken m segment new after y
+    token_counted segment old new set few h c = record {
       segment_is = c.same_segment ∙ h.segment_is;
       number = c.next ∙ ap (λ k. k + 1) h.number ∙ sym (number_set segment set);
+      small = omega (arith, c.next, few);
       clean = c.same_clean ∙ h.clean;
       pages = c.same_count ∙ h.pages;
       touched = λ page within. ap (λ (e : Entry). e.touched) (entry page within)
@@ -428,16 +430,16 @@ module _ (m : Setting) (n i : ℕ) (s : State) (x : Numbers) (t : Transaction) (
         entry page within = c.entries page (subst (λ k. page < k) (sym h.pages) within)
             ∙ ap (λ b. if b then touched_at (entry_at old.pages page) (old.seq + 1) else entry_at old.pages page) (names_page_is t ranges canonical has segment page)
 
-    slot_counted : (segment : ℕ) (token : Token) (old new : Slot) → sets segment t ≡ true → old.token.token ≡ Some token → FitsSlot m n segment (beside old) s x → CountsSlot segment ranges token old new
+    slot_counted : (segment : ℕ) (token : Token) (old new : Slot) → sets segment t ≡ true → old.token.token ≡ Some token → token.seq < 2 ^ 60 → FitsSlot m n segment (beside old) s x → CountsSlot segment ranges token old new
         → FitsSlot m n segment (beside new) after y
-    slot_counted segment token old new set is h c = record {
+    slot_counted segment token old new set is few h c = record {
       applied = ap (λ (p : Backlog). p.applied) c.parts_are ∙ ap (λ k. k + 1) fits.number ∙ sym (applied_set segment set);
       within = omega (arith, applied_set segment set, number_set segment set);
       waiting = ap (map (λ (p : Part). p.seq)) none_after ∙ sym (ap (map (λ (p : Part). p.seq)) none) ∙ h.waiting;
       ascends = subst (Ascends new.parts.applied) (sym none_after) tt;
       parts = subst (All (Awaits m after y segment)) (sym none_after) (All-nil (Awaits m after y segment));
       token = λ other at. (
-        subst (λ k. FitsToken m segment k after y) (same_some c.after other (sym (ap (λ (p : Standing). p.token) c.token_is) ∙ at)) (token_counted segment token c.after set fits c.counts),
+        subst (λ k. FitsToken m segment k after y) (same_some c.after other (sym (ap (λ (p : Standing). p.token) c.token_is) ∙ at)) (token_counted segment token c.after set few fits c.counts),
         applied_set segment set ∙ sym (number_set segment set),
       );
       image = λ image at. absurd (let no : None ≡ Some image = sym (ap (λ (p : Standing). hidden (number_in p.token) new.image) c.token_is) ∙ at in cc);
@@ -458,11 +460,12 @@ module _ (m : Setting) (n i : ℕ) (s : State) (x : Numbers) (t : Transaction) (
         | true ↦ λ set.
             let at : (token : Token) × (old.token.token ≡ Some token) = token_in old.token.token (here set) in
             let fits = h.token at.0 at.1 in
+            let low : at.0.seq < 2 ^ 60 = subst (λ k. k < 2 ^ 60) (sym fits.0.number) (few segment set) in
             let one : CountsSlot segment ranges at.0 old new =
             subst (λ o. MatchOption o (new ≡ old) (λ token. CountsSlot segment ranges token old new))
-            (counts old at.0 at.1 (subst (λ k. k < 2 ^ 60) (sym fits.0.number) (few segment set)) (fits.0.number ∙ sym fits.1 ∙ sym h.applied))
+            (counts old at.0 at.1 low (fits.0.number ∙ sym fits.1 ∙ sym h.applied))
             (subst (λ b. MatchBool b (MatchOption (countable old) (new ≡ old) (λ token. CountsSlot segment ranges token old new)) (new ≡ old)) (names_is t ranges canonical has segment ∙ set) c) in
-            slot_counted segment at.0 old new set at.1 h one
+            slot_counted segment at.0 old new set at.1 low h one
         | false ↦ λ unset.
             let same : new ≡ old = subst (λ b. MatchBool b (MatchOption (countable old) (new ≡ old) (λ token. CountsSlot segment ranges token old new)) (new ≡ old)) (names_is t ranges canonical has segment ∙ unset) c in
             slot_kept segment (beside new) unset (subst (λ z. FitsSlot m n segment (beside z) s x) (sym same) h)

@@ -81,7 +81,7 @@ only_reset m node s x Reset = record {
 }
 only_reset m node s x _ = same_numbers node x
 
-stays_or_halts : (node : ℕ) (s : State) → SameButLog node s (halting s node)
+pub stays_or_halts : (node : ℕ) (s : State) → SameButLog node s (halting s node)
 stays_or_halts node s = record {
   earlier = refl;
   history = refl;
@@ -93,7 +93,7 @@ stays_or_halts node s = record {
   flush = λ other differ. refl;
 }
 
-stays_itself : (node : ℕ) (s : State) → SameButLog node s s
+pub stays_itself : (node : ℕ) (s : State) → SameButLog node s s
 stays_itself node s = record {
   earlier = refl;
   history = refl;

@@ -19,13 +19,14 @@ use Rattle.lc_recover.specs.declared.progress.Progress.{Progress}
 use Rattle.lc_recover.specs.declared.progress.Progress.TheVariants.{Stepped as HasStepped, Recovered as HasRecovered}
 use Rattle.lc_recover.proofs.Images.{count-areas}
 use Rattle.lc_core.specs.FaultReplies.{CountsFaults, FailsOnce, is_fault}
-use Rattle.lc_core.specs.Faults.{CountsAll, CountsPhase, SameLogs, area_failures, log_failures, logs_of, phase_failures}
+use Rattle.lc_core.specs.Faults.{CountsAll, CountsLogs, CountsPhase, SameLogs, area_failures, log_failures, logs_of, phase_failures}
 use Rattle.lc_core.specs.Log.{area_of}
 use Rattle.lc_core.specs.Pages.{areas_of}
 use Rattle.lc_core.specs.Places.{same_map_set}
 use Rattle.lc_core.specs.Recovering.{ComesUp, RepliesTo}
 use Rattle.lc_core.specs.declared.log.Log.{Log}
 use Rattle.lc_core.specs.declared.node.Node.{Node}
+use Rattle.lc_core.specs.declared.pages.Pages.{Pages}
 use Rattle.lc_core.specs.declared.phase.Phase.{Phase}
 use Rattle.lc_core.specs.declared.phase.Phase.TheVariants.{Down, Up}
 use Rattle.lc_core.specs.declared.running.Running.{Running}
@@ -126,15 +127,22 @@ module _ {D : Type 0} (a : Ghosts D) where
       ap (λ (o : Option ℕ). o ∷ log_failures a (logs_of a nodes)) (ap (option_map a.failures) (each zero node refl))
       ∙ ap (λ (os : List (Option ℕ)). failures_at area ∷ os) (fronts nodes areas (λ n other got. each (suc n) other got) (omega (arith, few)))
 
+  -- those of the logs and those of the segments behind them are those of all areas
+  pub beside_segments : (nodes : List (Node D a)) (segments : List (Pages D a)) (areas : List D) (n : ℕ)
+      → ((k : ℕ) (node : Node D a) → slice_get nodes k ≡ Some node → area_of a node.journal.log ≡ slice_get areas k) → areas_of a segments ≡ drop n areas → length nodes ≡ n → n ≤ length areas
+      → log_failures a (logs_of a nodes) ++ area_failures a (areas_of a segments) ≡ area_failures a areas
+  beside_segments nodes segments areas n each are number few =
+      ap (λ (os : List (Option ℕ)). os ++ area_failures a (areas_of a segments))
+      (fronts nodes areas each (omega (arith, few, number)) ∙ ap (λ (k : ℕ). area_failures a (take k areas)) number)
+      ∙ ap (λ (behind : List D). area_failures a (take n areas) ++ area_failures a behind) are
+      ∙ sym (map-append failures_at (take n areas) (drop n areas))
+      ∙ ap (area_failures a) (take-append-drop n areas)
+
   pub up_failures : (r : Recovering D) (up : Rising D a) → ComesUp a r up → phase_failures a (Up up) ≡ area_failures a r.areas
   up_failures r up came =
       let counted : length r.areas ≡ area_count r.geometry = count-areas a r.geometry r.areas came.lengths in
-      let number : length up.running.nodes.items ≡ r.geometry.nodes = sym up.running.nodes.ok.0 ∙ up.running.all_nodes ∙ ap (λ (g : Geometry). g.nodes) came.same_geometry in
-      ap (λ (os : List (Option ℕ)). os ++ area_failures a (areas_of a up.segments.items))
-      (fronts up.running.nodes.items r.areas came.log_areas (omega (arith, counted, number)) ∙ ap (λ (n : ℕ). area_failures a (take n r.areas)) number)
-      ∙ ap (λ (areas : List D). area_failures a (take r.geometry.nodes r.areas) ++ area_failures a areas) came.segments
-      ∙ sym (map-append failures_at (take r.geometry.nodes r.areas) (drop r.geometry.nodes r.areas))
-      ∙ ap (area_failures a) (take-append-drop r.geometry.nodes r.areas)
+      beside_segments up.running.nodes.items up.segments.items r.areas r.geometry.nodes came.log_areas came.segments
+      (sym up.running.nodes.ok.0 ∙ up.running.all_nodes ∙ ap (λ (g : Geometry). g.nodes) came.same_geometry) (omega (arith, counted))
 
   pub risen_counts : (old : Phase D a) (r new : Recovering D) → old ≡ Down r → (result : Result Progress RecoverFault) → ((fault : RecoverFault) → result ≡ Err fault → ⊥) → StepCalls r new result
       → (up : Rising D a) → ComesUp a new up → CountsPhase a old Recovered (Up up)
@@ -144,9 +152,9 @@ module _ {D : Type 0} (a : Ghosts D) where
 
   -- A step of a store that is up
 
-  pub up_counts : (old : Phase D a) (up : Rising D a) (reply : Reply) (new : Running D a) → old ≡ Up up
-      → CountsFaults reply (log_failures a (logs_of a up.running.nodes.items)) (log_failures a (logs_of a new.nodes.items)) → CountsPhase a old reply (Up (record up { running = new }))
-  up_counts old up reply new is counts = subst (λ (q : Phase D a). CountsPhase a q reply (Up (record up { running = new }))) (sym is) (beside counts)
+  pub up_counts : (up : Rising D a) (reply : Reply) (new : Running D a) → CountsLogs a up.running reply new
+      → CountsFaults reply (phase_failures a (Up up)) (log_failures a (logs_of a new.nodes.items) ++ area_failures a (areas_of a up.segments.items))
+  up_counts up reply new counts = beside counts.counts
     where
       rest : List (Option ℕ)
       rest = area_failures a (areas_of a up.segments.items)
@@ -172,6 +180,6 @@ module _ {D : Type 0} (a : Ghosts D) where
         none = λ is. ap (λ (os : List (Option ℕ)). os ++ rest) (counts.none is);
       }
 
-  pub up_still_failed : (old : Phase D a) (up : Rising D a) (new : Running D a) → old ≡ Up up → SameLogs a up.running new → phase_failures a (Up (record up { running = new })) ≡ phase_failures a old
-  up_still_failed old up new is same =
-      ap (λ (logs : List (Log D a)). log_failures a logs ++ area_failures a (areas_of a up.segments.items)) same ∙ ap (phase_failures a) (sym is)
+  pub up_still_failed : (up : Rising D a) (new : Running D a) → SameLogs a up.running new
+      → log_failures a (logs_of a new.nodes.items) ++ area_failures a (areas_of a up.segments.items) ≡ phase_failures a (Up up)
+  up_still_failed up new same = ap (λ (logs : List (Log D a)). log_failures a logs ++ area_failures a (areas_of a up.segments.items)) same.logs

@@ -1,5 +1,5 @@
 -- Which replies tell of a failure, and what the calls of a device count.
-use Rattle.std.proofs.Common.{◌≡◌, ℕ, ◌+◌, Bool, true, false, List, Option, Some, slice_get, slice_set, refl, sym, ap, subst, ◌∙◌, true≢false}
+use Rattle.std.proofs.Common.{◌≡◌, ℕ, ◌+◌, Bool, true, false, List, length, Option, Some, slice_get, slice_set, refl, sym, ap, subst, ◌∙◌, true≢false}
 use Rattle.std.specs.Prelude.{option_map, if◌then◌else◌}
 use Rattle.std.proofs.lemmas.List.{map-set}
 use Rattle.std.proofs.lemmas.Option.{slice_get-map}
@@ -9,8 +9,8 @@ use Rattle.lc_model.specs.declared.refusal.Refusal.TheVariants.{NotHere, Held, W
 use Rattle.lc_model.specs.declared.reply.Reply.{Reply}
 use Rattle.lc_token.specs.declared.fault.TokenFault.{TokenFault}
 use Rattle.lc_token.specs.declared.fault.TokenFault.TheVariants.{NotHere as IsNotHere, Held as IsHeld, Writing as IsWriting, Unflushed as IsUnflushed, Behind as IsBehind, NoMemory}
-use Rattle.lc_core.specs.FaultReplies.{CountsFaults, TellsFault, failures_of, is_device_fault, is_fault}
-use Rattle.lc_core.specs.Faults.{CountsLogs, SameLogs, log_failures, logs_of}
+use Rattle.lc_core.specs.FaultReplies.{CountsFaults, TellsFault, device_kind, failures_of, is_device_fault, is_fault, kind_of}
+use Rattle.lc_core.specs.Faults.{CountsLogs, SameDevices, SameLogs, log_failures, log_kinds, logs_of}
 use Rattle.lc_core.specs.Journal.{reply_of}
 use Rattle.lc_core.specs.Log.{CallsOnce, IsCalled, area_of, is_failed}
 use Rattle.lc_core.specs.Places.{same_map_set, same_some}
@@ -44,17 +44,27 @@ module _ {D : Type 0} (a : Ghosts D) where
   one_more Taken taken count = refl
 
   called : (area : D) (new : Log D a) (taken : ℕ) → IsCalled a area new
-      → failures_of a new ≡ (if is_fault (reply_of a new taken) then Some (a.failures area + 1) else Some (a.failures area))
-  called area new taken call = ap (option_map a.failures) call.there ∙ ap (λ (n : ℕ). Some n) call.failures ∙ one_more new taken (a.failures area)
+      → (failures_of a new ≡ (if is_fault (reply_of a new taken) then Some (a.failures area + 1) else Some (a.failures area))) × (kind_of a new ≡ Some (device_kind a area))
+  called area new taken call = (
+    ap (option_map a.failures) call.there ∙ ap (λ (n : ℕ). Some n) call.failures ∙ one_more new taken (a.failures area),
+    ap (option_map (device_kind a)) call.there ∙ ap (λ (b : Bool). Some (b, length (a.now call.after))) call.device.honest ∙ ap (λ (n : ℕ). Some (a.honest area, n)) call.device.same_length,
+  )
+
+  of_call : (old : Log D a) (area : D) (new : Log D a) (taken : ℕ) → failures_of a old ≡ Some (a.failures area) → kind_of a old ≡ Some (device_kind a area)
+      → (failures_of a new ≡ (if is_fault (reply_of a new taken) then Some (a.failures area + 1) else Some (a.failures area))) × (kind_of a new ≡ Some (device_kind a area)) → TellsFault a (reply_of a new taken) old new
+  of_call old area new taken failures kind are = record {
+    failures = are.0 ∙ sym (ap (λ (o : Option ℕ). if is_fault (reply_of a new taken) then option_map (λ (count : ℕ). count + 1) o else o) failures);
+    kind = are.1 ∙ sym kind;
+  }
 
   pub call_tells : (old new : Log D a) (taken : ℕ) → is_failed a old ≡ false → CallsOnce a old new → TellsFault a (reply_of a new taken) old new
-  call_tells (Idle log) new taken up call = called log.area new taken call
-  call_tells (Written log) new taken up call = called log.area new taken call
-  call_tells (Synced log) new taken up call = called log.area new taken call
-  call_tells (Opened log) new taken up call = called log.area new taken call
-  call_tells (Sealed log) new taken up call = called log.area new taken call
-  call_tells (Closing log) new taken up call = called log.area new taken call
-  call_tells (Emptied log) new taken up call = called log.area new taken call
+  call_tells (Idle log) new taken up call = of_call (Idle log) log.area new taken refl refl (called log.area new taken call)
+  call_tells (Written log) new taken up call = of_call (Written log) log.area new taken refl refl (called log.area new taken call)
+  call_tells (Synced log) new taken up call = of_call (Synced log) log.area new taken refl refl (called log.area new taken call)
+  call_tells (Opened log) new taken up call = of_call (Opened log) log.area new taken refl refl (called log.area new taken call)
+  call_tells (Sealed log) new taken up call = of_call (Sealed log) log.area new taken refl refl (called log.area new taken call)
+  call_tells (Closing log) new taken up call = of_call (Closing log) log.area new taken refl refl (called log.area new taken call)
+  call_tells (Emptied log) new taken up call = of_call (Emptied log) log.area new taken refl refl (called log.area new taken call)
   call_tells (Failed log) new taken up call = absurd (true≢false up)
   call_tells (Torn log) new taken up call = absurd (true≢false up)
   call_tells Taken new taken up call = absurd (true≢false up)
@@ -75,10 +85,24 @@ module _ {D : Type 0} (a : Ghosts D) where
   pub logs_stay : (nodes : List (Node D a)) (n : ℕ) (old new : Node D a) → slice_get nodes n ≡ Some old → new.journal.log ≡ old.journal.log → logs_of a (slice_set nodes n new) ≡ logs_of a nodes
   logs_stay nodes n old new at same = same_map_set (λ (node : Node D a). node.journal.log) nodes n old new at same
 
+  -- what leaves a node's device as it is does so for all
+  pub same_kinds_at : (nodes : List (Node D a)) (n : ℕ) (old new : Node D a) → slice_get nodes n ≡ Some old → kind_of a new.journal.log ≡ kind_of a old.journal.log
+      → log_kinds a (logs_of a (slice_set nodes n new)) ≡ log_kinds a (logs_of a nodes)
+  same_kinds_at nodes n old new at same =
+      ap (log_kinds a) (map-set (λ (node : Node D a). node.journal.log) nodes n new)
+      ∙ same_map_set (kind_of a) (logs_of a nodes) n old.journal.log new.journal.log
+      (slice_get-map (λ (node : Node D a). node.journal.log) nodes n ∙ ap (option_map (λ (node : Node D a). node.journal.log)) at) same
+
+  pub same_devices : (old new : Running D a) → SameLogs a old new → SameDevices a old new
+  same_devices old new same = record { geometry = same.geometry; kinds = ap (log_kinds a) same.logs }
+
   pub quiet : (old : Running D a) (reply : Reply) (new : Running D a) → is_fault reply ≡ false → SameLogs a old new → CountsLogs a old reply new
   quiet old reply new plain same = record {
-    fault = λ is. absurd (true≢false (sym is ∙ plain));
-    none = λ _. ap (log_failures a) same;
+    counts = record {
+      fault = λ is. absurd (true≢false (sym is ∙ plain));
+      none = λ _. ap (log_failures a) same.logs;
+    };
+    devices = same_devices old new same;
   }
 
   -- a step of a flush at one node
@@ -91,7 +115,10 @@ module _ {D : Type 0} (a : Ghosts D) where
     logs_are = map-set (λ (node : Node D a). node.journal.log) nodes n new
 
     told : (b : Bool) → is_fault reply ≡ b → failures_of a new.journal.log ≡ (if b then option_map (λ (count : ℕ). count + 1) (failures_of a old.journal.log) else failures_of a old.journal.log)
-    told b is = subst (λ (v : Bool). failures_of a new.journal.log ≡ (if v then option_map (λ (count : ℕ). count + 1) (failures_of a old.journal.log) else failures_of a old.journal.log)) is tells
+    told b is = subst (λ (v : Bool). failures_of a new.journal.log ≡ (if v then option_map (λ (count : ℕ). count + 1) (failures_of a old.journal.log) else failures_of a old.journal.log)) is tells.failures
+
+    pub same_kinds : log_kinds a (logs_of a (slice_set nodes n new)) ≡ log_kinds a (logs_of a nodes)
+    same_kinds = same_kinds_at nodes n old new at tells.kind
 
     pub flush_counts : is_failed a old.journal.log ≡ false → CountsFaults reply (log_failures a (logs_of a nodes)) (log_failures a (logs_of a (slice_set nodes n new)))
     flush_counts up =

@@ -47,7 +47,7 @@ module _ (m : Setting) (s : State) (x : Numbers) (applied : ℕ → ℕ → ℕ)
   awaits_still segment part h = record { place = h.place; whole = h.whole; found = h.found; part_is = h.part_is; closed = h.closed }
 
   token_still : (segment : ℕ) (token : Token) → FitsToken m segment token s x → FitsToken m segment token s y
-  token_still segment token h = record { segment_is = h.segment_is; number = h.number; clean = h.clean; pages = h.pages; touched = h.touched; stable_is = h.stable_is; text_is = h.text_is; uncounted = h.uncounted }
+  token_still segment token h = record { segment_is = h.segment_is; number = h.number; small = h.small; clean = h.clean; pages = h.pages; touched = h.touched; stable_is = h.stable_is; text_is = h.text_is; uncounted = h.uncounted }
 
   pub slot_still : (n segment : ℕ) (b : Besides) → applied n segment ≡ x.applied n segment → waiting n segment ≡ x.waiting n segment → FitsSlot m n segment b s x → FitsSlot m n segment b s y
   slot_still n segment b same_applied same_waiting h = slot_kept m n segment b s x s y same_applied same_waiting (omega arith) (awaits_still segment) (λ number within. refl)

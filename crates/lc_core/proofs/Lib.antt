@@ -60,6 +60,8 @@ pub mod Away
 pub mod Gained
 pub mod Caught
 pub mod Delivered
+mod Devices
+mod Gathering
 pub mod OneSlot
 pub mod TwoNodes
 pub mod Travels
@@ -80,3 +82,15 @@ pub mod Faults
 pub mod Failures
 pub mod Zeroed
 pub mod Recovers
+pub mod ImagesOfLogs
+pub mod ImagesOfPages
+pub mod ImagesFit
+pub mod Stopped
+pub mod Noted
+pub mod Calling
+pub mod PageAnswers
+pub mod NodeWritten
+pub mod Paged
+pub mod LogAreas
+pub mod PagesTurned
+pub mod UpPages

@@ -25,10 +25,16 @@ use Rattle.lc_recover.proofs.SameArea.{same-functions}
 use Rattle.lc_core.specs.Desk.{FitsDesk}
 use Rattle.lc_core.specs.Journal.{FitsLog}
 use Rattle.lc_trunc.specs.KnownClean.{known as known_of}
-use Rattle.lc_core.specs.Log.{Stands, HasReset, area_of, is_failed}
+use Rattle.lc_core.specs.Log.{Stands, HasReset, IsLeft, area_of, is_failed}
 use Rattle.lc_core.specs.LogWords.{AreLogged, AreWordsOf, IsNodeKept, IsNodeRead, IsSameBut, ReadsLog, ReadsNone, has_failed, log_area, log_in}
 use Rattle.lc_core.specs.Node.{FitsNode}
 use Rattle.lc_core.specs.Numbers.{Numbers, stable_records}
+use Rattle.lc_core.specs.Devices.{HonestLogs}
+use Rattle.lc_core.specs.Paging.{HaltAll}
+use Rattle.lc_core.specs.Faults.{SameDevices}
+use Rattle.lc_core.specs.Pages.{FitsPages, areas_of}
+use Rattle.lc_core.specs.Paging.{HaltAll}
+use Rattle.lc_core.proofs.Devices.{honest_kept}
 use Rattle.lc_core.specs.Places.{get_set_other, get_set_same, same_some}
 use Rattle.lc_core.specs.Records.{Kept}
 use Rattle.lc_core.specs.Running.{FitsAll, FitsRunning}
@@ -129,12 +135,13 @@ module _ {D : Type 0} (a : Ghosts D) where
       ];
     }
 
-    still_down : (m : Setting) (s : State) (x : Numbers) → FitsDown a m r s x → FitsDown a m new s x
-    still_down m s x h = record {
+    still_down : HaveLengths a r.geometry news → (m : Setting) (s : State) (x : Numbers) → FitsDown a m r s x → FitsDown a m new s x
+    still_down lengths_now m s x h = record {
       geometry_is = h.geometry_is;
       cut = h.cut;
       down = h.down;
       sound = h.sound;
+      lengths = lengths_now;
       honest = honest_still h.honest;
       merges = λ images are. h.merges images (images_still h.honest images are);
       steps_are = h.steps_are;
@@ -144,11 +151,11 @@ module _ {D : Type 0} (a : Ghosts D) where
     known = lt-ltb node r.geometry.nodes below
 
     -- the area of a node's log, and no other, was read
-    pub down_same : IsSameBut a node (Down r) (Down new)
-    down_same = record {
+    down_same : HaveLengths a r.geometry news → IsSameBut a node (Down r) (Down new)
+    down_same lengths_now = record {
       others = λ other differ. ap (λ o. if nat_lt other r.geometry.nodes then o else None) (others other differ);
       segments = ap (drop r.geometry.nodes) read.call.is ∙ drop_set r.areas r.geometry.nodes node read.call.new below;
-      still = still_down;
+      still = still_down lengths_now;
     }
 
     down_there : (next : D) → next ≡ read.call.new → log_area a (Down new) node ≡ Some next
@@ -166,7 +173,7 @@ module _ {D : Type 0} (a : Ghosts D) where
         same_dirty = read.same_dirty;
         counted = read.call.counted ∙ counts failed is;
       };
-      same = down_same;
+      same = down_same lengths_now;
     }
       where
         long : (l : List D) (k : ℕ) (d : D) → slice_get l k ≡ Some d → slice_get (map (λ e. length (a.now e)) l) k ≡ Some (length (a.now d))
@@ -266,8 +273,36 @@ module _ {D : Type 0} (a : Ghosts D) where
     other_logs : (other : ℕ) → (other ≡ n → ⊥) → log_in a new.nodes.items other ≡ log_in a old.nodes.items other
     other_logs other differ = ap (λ nodes. log_in a nodes other) kept.nodes ∙ ap (option_and_then (λ (its : Node D a). area_of a its.journal.log)) (get_set_other old.nodes.items n other kept.now differ)
 
-    up_same : (segments : Vec (Pages D a) Global) → IsSameBut a n (Up (record { running = old; segments = segments })) (Up (record { running = new; segments = segments }))
-    up_same segments = record { others = other_logs; segments = refl; still = λ m s x fits. (all_still m s x fits.0, fits.1) }
+  -- the segments of a store that is up are as before, and its nodes have the same devices
+  record IsLater (up later : Rising D a) : Type 0 where
+    pub segments : later.segments ≡ up.segments
+    pub devices : SameDevices a up.running later.running
+
+  up_same : (n : ℕ) (node : Node D a) (up later : Rising D a) (kept : IsNodeKept a n node up.running later.running) (at : slice_get up.running.nodes.items n ≡ Some node) → IsLater up later
+      → IsSameBut a n (Up up) (Up later)
+  up_same n node up later kept at is = record {
+    others = other_logs n node up.running later.running kept at;
+    segments = ap (λ (segments : Vec (Pages D a) Global). areas_of a segments.items) is.segments;
+    still = λ m s x fits. record {
+      running = all_still n node up.running later.running kept at m s x fits.running;
+      pages = subst (λ (segments : Vec (Pages D a) Global). FitsPages a m segments.items x) (sym is.segments) fits.pages;
+      honest = honest_kept a up.running.nodes.items later.running.nodes.items is.devices.kinds fits.honest;
+      failed = subst (λ (segments : Vec (Pages D a) Global). HaltAll a s segments.items) (sym is.segments) fits.failed;
+    };
+  }
+
+  -- the nodes are as before
+  none_same : (n : ℕ) (up later : Rising D a) → later.running ≡ up.running → IsLater up later → IsSameBut a n (Up up) (Up later)
+  none_same n up later same is = record {
+    others = λ other differ. ap (λ (w : Running D a). log_in a w.nodes.items other) same;
+    segments = ap (λ (segments : Vec (Pages D a) Global). areas_of a segments.items) is.segments;
+    still = λ m s x fits. record {
+      running = subst (λ (w : Running D a). FitsRunning a m w s x) (sym same) fits.running;
+      pages = subst (λ (segments : Vec (Pages D a) Global). FitsPages a m segments.items x) (sym is.segments) fits.pages;
+      honest = subst (λ (w : Running D a). HonestLogs a w.nodes.items) (sym same) fits.honest;
+      failed = subst (λ (segments : Vec (Pages D a) Global). HaltAll a s segments.items) (sym is.segments) fits.failed;
+    };
+  }
 
   node_of : (nodes : List (Node D a)) (n : ℕ) (area : D) → log_in a nodes n ≡ Some area → (its : Node D a) × (slice_get nodes n ≡ Some its) × (area_of a its.journal.log ≡ Some area)
   node_of nodes n area there = elim (slice_get nodes n) as (λ (o : Option (Node D a)). slice_get nodes n ≡ o → option_and_then (λ (its : Node D a). area_of a its.journal.log) o ≡ Some area
@@ -282,37 +317,42 @@ module _ {D : Type 0} (a : Ghosts D) where
   pub down_none : (r late : Recovering D) (node : ℕ) → late ≡ r → log_area a (Down r) node ≡ None → ReadsNone a node (Down r) (Down late)
   down_none r late node same none = subst (λ (n : Recovering D). ReadsNone a node (Down r) (Down n)) (sym same) (record { there = none; same = same_phase node (Down r) })
 
-  pub up_reads : (old new : Running D a) (segments : Vec (Pages D a) Global) (n : ℕ) (R : Type 0) (failed : Bool)
-      → ((area : D) (its : Node D a) → slice_get old.nodes.items n ≡ Some its → area_of a its.journal.log ≡ Some area → R × IsNodeRead a n its area old new failed)
-      → (area : D) → log_in a old.nodes.items n ≡ Some area → R × ReadsLog a n area (Up (record { running = old; segments = segments })) (Up (record { running = new; segments = segments })) failed
-  up_reads old new segments n R failed each area there =
-      let its = node_of old.nodes.items n area there in
+  pub up_reads : (up later : Rising D a) (n : ℕ) (R : Type 0) (failed : Bool) → later.segments ≡ up.segments → SameDevices a up.running later.running
+      → ((area : D) (its : Node D a) → slice_get up.running.nodes.items n ≡ Some its → area_of a its.journal.log ≡ Some area → R × IsNodeRead a n its area up.running later.running failed)
+      → (area : D) → log_in a up.running.nodes.items n ≡ Some area → R × ReadsLog a n area (Up up) (Up later) failed
+  up_reads up later n R failed segments devices each area there =
+      let its = node_of up.running.nodes.items n area there in
       let one = each area its.0 its.1 its.2 in (
         one.0,
         record {
           next = one.1.next;
-          there = own_log n its.0 old new one.1.kept its.1 ∙ one.1.there;
+          there = own_log n its.0 up.running later.running one.1.kept its.1 ∙ one.1.there;
           read = one.1.read;
-          same = up_same n its.0 old new one.1.kept its.1 segments;
+          same = up_same n its.0 up later one.1.kept its.1 (record { segments = segments; devices = devices });
         },
       )
 
-  pub up_none : (old new : Running D a) (segments : Vec (Pages D a) Global) (n : ℕ) (R : Type 0)
-      → (slice_get old.nodes.items n ≡ None → R × (new ≡ old))
-      → ((its : Node D a) → slice_get old.nodes.items n ≡ Some its → area_of a its.journal.log ≡ None → R × (kept : IsNodeKept a n its old new) × (area_of a kept.now.journal.log ≡ None))
-      → log_in a old.nodes.items n ≡ None → R × ReadsNone a n (Up (record { running = old; segments = segments })) (Up (record { running = new; segments = segments }))
-  up_none old new segments n R outside inside none = elim (slice_get old.nodes.items n) as (λ (o : Option (Node D a)). slice_get old.nodes.items n ≡ o → option_and_then (λ (its : Node D a). area_of a its.journal.log) o ≡ None
-      → R × ReadsNone a n (Up (record { running = old; segments = segments })) (Up (record { running = new; segments = segments }))) [
+  pub up_none : (up later : Rising D a) (n : ℕ) (R : Type 0) → later.segments ≡ up.segments → SameDevices a up.running later.running
+      → (slice_get up.running.nodes.items n ≡ None → R × (later.running ≡ up.running))
+      → ((its : Node D a) → slice_get up.running.nodes.items n ≡ Some its → area_of a its.journal.log ≡ None → R × (kept : IsNodeKept a n its up.running later.running) × (area_of a kept.now.journal.log ≡ None))
+      → log_in a up.running.nodes.items n ≡ None → R × ReadsNone a n (Up up) (Up later)
+  up_none up later n R segments devices outside inside none = elim (slice_get up.running.nodes.items n) as (λ (o : Option (Node D a)). slice_get up.running.nodes.items n ≡ o
+      → option_and_then (λ (its : Node D a). area_of a its.journal.log) o ≡ None → R × ReadsNone a n (Up up) (Up later)) [
         | None ↦ λ e h.
             (let same = outside e in (
               same.0,
-              subst (λ (w : Running D a). ReadsNone a n (Up (record { running = old; segments = segments })) (Up (record { running = w; segments = segments }))) (sym same.1)
-                  (record { there = none; same = same_phase n (Up (record { running = old; segments = segments })) }),
+              record {
+                there = ap (λ (w : Running D a). log_in a w.nodes.items n) same.1 ∙ none;
+                same = none_same n up later same.1 (record { segments = segments; devices = devices });
+              },
             ))
         | Some its ↦ λ e h.
             (let one = inside its e h in (
               one.0,
-              record { there = own_log n its old new one.1 e ∙ one.2; same = up_same n its old new one.1 e segments },
+              record {
+                there = own_log n its up.running later.running one.1 e ∙ one.2;
+                same = up_same n its up later one.1 e (record { segments = segments; devices = devices });
+              },
             ))
       ] refl none
 
@@ -375,9 +415,9 @@ module _ {D : Type 0} (a : Ghosts D) where
   fails_as (Closing log) area reset steps stable group is honest fits failed at stands = absurd cc
   fails_as (Emptied log) area reset steps stable group is honest fits failed at stands = absurd cc
   fails_as (Failed log) area reset steps stable group is honest fits failed at stands =
-      elim (own_image (IsWithOrWithout stable group) log.area area (same_some log.area area is) honest fits stands) [
+      elim (own_image (IsLeft steps stable group) log.area area (same_some log.area area is) honest fits stands) [
         | inl without ↦ inl without
-        | inr with_group ↦ inr (inl with_group)
+        | inr with_group ↦ inr (inl with_group.1)
       ]
   fails_as (Torn log) area reset steps stable group is honest fits failed at stands =
       elim (own_image (IsWithOrWithout [] stable) log.area area (same_some log.area area is) honest fits stands.2) [
@@ -423,12 +463,13 @@ module _ {D : Type 0} (a : Ghosts D) where
           ∙ ap (λ k. drop k (take taken records)) h.dropped_is ∙ ap (λ k. drop (x.disks.dropped n) (take k records)) (sym h.taken_is)
 
   pub show_records : (phase : Phase D a) (n : ℕ) (area : D) (words : List ℕ) → log_area a phase n ≡ Some area
-      → ((up : Rising D a) → phase ≡ Up up → log_in a up.running.nodes.items n ≡ Some area → (k : ℕ) → slice_index_or (a.now area) k 0 < 256)
-      → AreWordsOf a area words → a.honest area ≡ true
+      → ((up : Rising D a) → phase ≡ Up up → log_in a up.running.nodes.items n ≡ Some area → a.honest area ≡ true → (k : ℕ) → slice_index_or (a.now area) k 0 < 256)
+      → AreWordsOf a area words
       → (m : Setting) (s : State) (x : Numbers) → FitsPhase a m phase s x → s.phase ≡ IsUpNow → AreLogged m s x n words
-  show_records (Down r) n area words there fits shows honest m s x h up = absurd (let both : DownAt h.cut ≡ IsUpNow = sym h.down ∙ up in cc)
-  show_records IsTaken n area words there fits shows honest m s x h up = absurd h
-  show_records (Up up) n area words there fits shows honest m s x h is_up =
+  show_records (Down r) n area words there fits shows m s x h up = absurd (let both : DownAt h.cut ≡ IsUpNow = sym h.down ∙ up in cc)
+  show_records IsTaken n area words there fits shows m s x h up = absurd h
+  show_records (Up up) n area words there fits shows m s x h is_up =
       let its = node_of up.running.nodes.items n area there in
+      let honest = h.honest n its.0 area its.1 its.2 in
       let j = its.0.journal in
-      logged m n j.log j.records j.dropped j.trimmed j.taken j.acked s x area words (h.0.each n its.0 its.1).journal j.dropped_acked j.acked_taken its.2 honest (fits up refl there) shows
+      logged m n j.log j.records j.dropped j.trimmed j.taken j.acked s x area words (h.running.each n its.0 its.1).journal j.dropped_acked j.acked_taken its.2 honest (fits up refl there honest) shows

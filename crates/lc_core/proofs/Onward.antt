@@ -5,7 +5,6 @@ use Rattle.std.specs.Prelude.{slice_get, slice_set, vec_len}
 use Rattle.lc_disk.specs.declared.area.Area.{Ghosts}
 use Rattle.lc_record.specs.declared.geometry.Geometry.{Geometry}
 use Rattle.lc_token.specs.declared.token.Token.{Token}
-use Rattle.lc_model.specs.Machine.{Step}
 use Rattle.lc_model.specs.Refusals.{common_refusal}
 use Rattle.lc_model.specs.State.{At, Travelling, Setting, State}
 use Rattle.lc_model.specs.declared.event.Event.{Event}
@@ -65,8 +64,8 @@ module _ {D : Type 0} (a : Ghosts D) where
   module _ (m : Setting) (n : ℕ) (event : Event) (s : State) (x : Numbers) (reply : Reply) (geometry : Geometry) (nodes : List (Node D a)) (travelling : List (Option Token))
       (h : FitsAll a m geometry nodes travelling s x) (common : common_refusal m.geometry s event ≡ None) (old : Node D a) (at : slice_get nodes n ≡ Some old) (new : Node D a)
       (goes : GoesOn a m n event s x reply new) where
-    pub onward : (late : List (Option Token)) → FitsTravelling m late goes.after goes.next → Onward a m event s x reply geometry (slice_set nodes n new) late
-    onward late on_the_way = record {
+    unfoldable pub onward : (late : List (Option Token)) → FitsTravelling m late goes.after goes.next → Onward a m event s x reply geometry (slice_set nodes n new) late
+    onward late on_the_way = let step = step-row m s event reply goes.after common goes.row in record {
       after = goes.after;
       next = goes.next;
       row = goes.row;
@@ -83,9 +82,6 @@ module _ {D : Type 0} (a : Ghosts D) where
         on_the_way = on_the_way;
       };
     }
-      where
-        step : Step m s event reply goes.after
-        step = step-row m s event reply goes.after common goes.row
 
     travels_not : (k : ℕ) → s.place (k + 1) ≡ Travelling → s.place (k + 1) ≡ At n → ⊥
     travels_not k travels there = (let both : Travelling ≡ At n = sym travels ∙ there in cc)

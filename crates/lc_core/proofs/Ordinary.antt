@@ -15,7 +15,7 @@ use Rattle.lc_core.specs.Refuses.{Refuses}
 use Rattle.lc_model.proofs.Rows.{known}
 use Rattle.lc_core.specs.Running.{FitsRunning, FollowsLeaving, FollowsRow, Onward}
 use Rattle.lc_core.specs.Settled.{open_answer}
-use Rattle.lc_core.specs.Stepping.{FollowsStep, StepsOn, TellsWriting, is_plain}
+use Rattle.lc_core.specs.Stepping.{FollowsStep, StepsOn, TellsWriting, is_plain, works_up}
 use Rattle.lc_core.specs.Turns.{Turns}
 use Rattle.lc_core.specs.declared.running.Running.{Running}
 use Rattle.lc_core.proofs.Travels.{segment_known}
@@ -38,6 +38,25 @@ turns_refused m s x (PageStep node segment page) refusal plain = absurd cc
 turns_refused m s x (ResetStep node) refusal plain = refl
 turns_refused m s x (Stop choices) refusal plain = absurd cc
 turns_refused m s x RecoverStep refusal plain = absurd cc
+
+-- what a node does but for pages
+pub plain_of : (event : Event) → works_up event ≡ true → ((node segment page : ℕ) → event ≡ PageStep node segment page → ⊥) → is_plain event ≡ true
+plain_of (Begin node thread segments reading) works other = refl
+plain_of (SetRange node thread segment offset len) works other = refl
+plain_of (Write node thread segment offset bytes) works other = refl
+plain_of (Read node thread segment offset len) works other = refl
+plain_of (Abort node thread) works other = refl
+plain_of (Reserve node thread) works other = refl
+plain_of (Close node thread) works other = refl
+plain_of (FlushStep node) works other = refl
+plain_of (Leave node segment) works other = refl
+plain_of (Arrive node segment) works other = refl
+plain_of (Deliver sender number segment to) works other = refl
+plain_of (Trim node) works other = refl
+plain_of (PageStep node segment page) works other = absurd (other node segment page refl)
+plain_of (ResetStep node) works other = refl
+plain_of (Stop choices) works other = absurd cc
+plain_of RecoverStep works other = absurd cc
 
 module _ {D : Type 0} (a : Ghosts D) (old : Running D a) (event : Event) (o : Option Refusal) (refuses : Refuses a old event o) (writing : Bool) where
   -- where nothing refuses it at once

@@ -82,7 +82,7 @@ module _ {D : Type 0} (a : Ghosts D) where
 
   -- One segment of all
 
-  pages_set : (m : Setting) (segments : List (Pages D a)) (k : ℕ) (old new : Pages D a) (x y : Numbers) → slice_get segments k ≡ Some old → ((other page : ℕ) → other ≢ k + 1 → SameAt other page x y)
+  pub pages_set : (m : Setting) (segments : List (Pages D a)) (k : ℕ) (old new : Pages D a) (x y : Numbers) → slice_get segments k ≡ Some old → ((other page : ℕ) → other ≢ k + 1 → SameAt other page x y)
       → FitsArea a m.geometry (k + 1) new y → FitsPages a m segments x → FitsPages a m (slice_set segments k new) y
   pages_set m segments k old new x y at same own h = record {
     all_segments = length-set segments k new ∙ h.all_segments;

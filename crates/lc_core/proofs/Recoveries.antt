@@ -1,8 +1,10 @@
 -- How a store that is down follows the machine.
-use Rattle.std.proofs.Common.{◌≡◌, ℕ, ◌+◌, ◌<◌, ◌⊎◌, inl, inr, Bool, true, ◌++◌, List, length, Option, Some, None, refl, sym, ap, subst, ◌∙◌, arith}
+use Rattle.std.proofs.Common.{◌≡◌, ℕ, ◌+◌, ◌<◌, ◌⊎◌, inl, inr, Bool, true, ◌++◌, List, vec_items, length, Option, Some, None, refl, sym, ap, subst, ◌∙◌, arith}
 use Rattle.std.proofs.lemmas.Result.{IfOk-from_err}
 use Rattle.std.specs.Prelude.{◌-◌, Result, Ok, Err, IfOk, IfErr, OnOk, OnErr, find, is_some, if◌then◌else◌, replicate, slice_get, slice_index_or}
+use Rattle.std.specs.Global.{Vec}
 use Rattle.lc_disk.specs.declared.area.Area.{Ghosts}
+use Rattle.lc_disk.specs.declared.choice.Choice.{Choice}
 use Rattle.lc_record.specs.Content.{Content}
 use Rattle.lc_record.specs.declared.geometry.Geometry.{Geometry}
 use Rattle.lc_record.specs.Transaction.{Transaction, effects}
@@ -12,11 +14,13 @@ use Rattle.lc_page.specs.Page.{slot_at}
 use Rattle.lc_page.specs.PageWrite.{IsSettled}
 use Rattle.lc_page.specs.declared.page_text.PageText.{PageText}
 use Rattle.lc_page.proofs.StateLemmas.{clean_settled}
-use Rattle.lc_recover.specs.Reads.{AreHonest, AreOfBytes, AllMergeTo, area_count}
+use Rattle.lc_recover.specs.Reads.{AreHonest, AreOfBytes, AllMergeTo, HaveLengths, area_count}
 use Rattle.lc_recover.specs.Recovered.{IsFinished, page_read_of}
 use Rattle.lc_recover.proofs.Images.{count-areas, get-drop}
 use Rattle.lc_core.proofs.Closes.{get-map}
+use Rattle.lc_core.proofs.Devices.{honest_kept}
 use Rattle.lc_core.proofs.PageWrites.{of_pages, pages_same}
+use Rattle.lc_core.proofs.PagesTurned.{halts_still}
 use Rattle.lc_core.proofs.Rising.{get-replicate, rises}
 use Rattle.lc_core.proofs.Cohering.{coherent_apart}
 use Rattle.lc_recover.specs.Recovery.{Recovering, begun, IsDone, TakesMemory, Tells}
@@ -37,68 +41,88 @@ use Rattle.lc_model.specs.declared.reply.Reply.{Reply}
 use Rattle.lc_model.specs.declared.reply.Reply.TheVariants.{Ok as Accepted, Stepped, Applied, HeldBack, Trimmed, Recovered, Refused, Reset}
 use Rattle.lc_model.specs.Stored.{records_of}
 use Rattle.lc_model.proofs.Keeps.{sound-step}
+use Rattle.lc_core.specs.Faults.{SameDevices}
 use Rattle.lc_core.specs.Fresh.{text_read_of}
 use Rattle.lc_core.specs.Numbers.{Numbers, recovered_numbers}
 use Rattle.lc_core.specs.Running.{FitsRunning}
 use Rattle.lc_core.specs.Settled.{CountsSteps, number_of, open_answer, settled_answer}
 use Rattle.lc_core.specs.Slots.{besides_of}
 use Rattle.lc_core.specs.Node.{FitsNode}
-use Rattle.lc_core.specs.Stepping.{FollowsStep, TellsWriting, is_plain}
+use Rattle.lc_core.specs.Stepping.{FollowsStep, TellsWriting, is_plain, works_up}
 use Rattle.lc_core.specs.Turns.{Turns, closed_with, held_back, kept_numbers, numbers_after}
 use Rattle.lc_core.specs.Recovering.{ComesUp, RepliesTo}
 use Rattle.lc_core.specs.Pages.{FitsArea, FitsPages, IsAtRest, IsPageAt, areas_of}
-use Rattle.lc_core.specs.World.{FitsDown, FitsPhase, FollowsUp, Leads, StillFitsUp, is_common}
+use Rattle.lc_core.specs.World.{FitsDown, FitsPhase, FollowsUp, Leads, StillFitsUp}
 use Rattle.lc_core.proofs.Refusing.{on_err}
 use Rattle.lc_core.specs.declared.phase.Phase.{Phase}
 use Rattle.lc_core.specs.declared.phase.Phase.TheVariants.{Down, Up, Taken}
 use Rattle.lc_core.specs.declared.page_state.PageState.{PageState}
-use Rattle.lc_core.specs.declared.page_state.PageState.TheVariants.{AtRest}
+use Rattle.lc_core.specs.declared.page_state.PageState.TheVariants.{AtRest, Failed as HasFailed}
 use Rattle.lc_core.specs.declared.pages.Pages.{Pages}
 use Rattle.lc_core.specs.declared.up.Up.{Up as Rising}
 use Rattle.lc_core.specs.declared.node.Node.{Node}
 use Rattle.lc_core.specs.declared.running.Running.{Running}
-use Rattle.lc_core.proofs.Ordinary.{turns_refused}
 use Rattle.lc_core.proofs.Slotted.{Stays, slots_stay, stays_where}
 
 pub stepped_same : (a b : ℕ) → Stepped a ≡ Stepped b → a ≡ b
 stepped_same a b same = ap (λ (reply : Reply). elim reply as (λ (reply : Reply). ℕ) [ Stepped steps ↦ steps | _ ↦ a ]) same
 
 -- what is refused at once where it is down
-refused_down : (m : Setting) (s : State) (cut : Cut) (event : Event) → s.phase ≡ DownAt cut → is_plain event ≡ true → common_refusal m.geometry s event ≡ Some IsDownNow
-refused_down m s cut (Begin node thread segments reading) down plain = rw down refl
-refused_down m s cut (SetRange node thread segment offset len) down plain = rw down refl
-refused_down m s cut (Write node thread segment offset bytes) down plain = rw down refl
-refused_down m s cut (Read node thread segment offset len) down plain = rw down refl
-refused_down m s cut (Abort node thread) down plain = rw down refl
-refused_down m s cut (Reserve node thread) down plain = rw down refl
-refused_down m s cut (Close node thread) down plain = rw down refl
-refused_down m s cut (FlushStep node) down plain = rw down refl
-refused_down m s cut (Leave node segment) down plain = rw down refl
-refused_down m s cut (Arrive node segment) down plain = rw down refl
-refused_down m s cut (Deliver sender number segment to) down plain = rw down refl
-refused_down m s cut (Trim node) down plain = rw down refl
-refused_down m s cut (PageStep node segment page) down plain = absurd cc
-refused_down m s cut (ResetStep node) down plain = rw down refl
-refused_down m s cut (Stop choices) down plain = absurd cc
-refused_down m s cut RecoverStep down plain = absurd cc
+refused_down : (m : Setting) (s : State) (cut : Cut) (event : Event) → s.phase ≡ DownAt cut → works_up event ≡ true → common_refusal m.geometry s event ≡ Some IsDownNow
+refused_down m s cut (Begin node thread segments reading) down works = rw down refl
+refused_down m s cut (SetRange node thread segment offset len) down works = rw down refl
+refused_down m s cut (Write node thread segment offset bytes) down works = rw down refl
+refused_down m s cut (Read node thread segment offset len) down works = rw down refl
+refused_down m s cut (Abort node thread) down works = rw down refl
+refused_down m s cut (Reserve node thread) down works = rw down refl
+refused_down m s cut (Close node thread) down works = rw down refl
+refused_down m s cut (FlushStep node) down works = rw down refl
+refused_down m s cut (Leave node segment) down works = rw down refl
+refused_down m s cut (Arrive node segment) down works = rw down refl
+refused_down m s cut (Deliver sender number segment to) down works = rw down refl
+refused_down m s cut (Trim node) down works = rw down refl
+refused_down m s cut (PageStep node segment page) down works = rw down refl
+refused_down m s cut (ResetStep node) down works = rw down refl
+refused_down m s cut (Stop choices) down works = absurd cc
+refused_down m s cut RecoverStep down works = absurd cc
 
-pub common_plain : (event : Event) → is_common event ≡ true → (event ≡ RecoverStep → ⊥) → is_plain event ≡ true
-common_plain (Begin node thread segments reading) common other = refl
-common_plain (SetRange node thread segment offset len) common other = refl
-common_plain (Write node thread segment offset bytes) common other = refl
-common_plain (Read node thread segment offset len) common other = refl
-common_plain (Abort node thread) common other = refl
-common_plain (Reserve node thread) common other = refl
-common_plain (Close node thread) common other = refl
-common_plain (FlushStep node) common other = refl
-common_plain (Leave node segment) common other = refl
-common_plain (Arrive node segment) common other = refl
-common_plain (Deliver sender number segment to) common other = refl
-common_plain (Trim node) common other = refl
-common_plain (PageStep node segment page) common other = absurd cc
-common_plain (ResetStep node) common other = refl
-common_plain (Stop choices) common other = absurd cc
-common_plain RecoverStep common other = absurd (other refl)
+-- what is neither a step of a recovery nor a stop
+pub else_works : (event : Event) → (event ≡ RecoverStep → ⊥) → ((choices : List (List Choice)) → event ≡ Stop choices → ⊥) → works_up event ≡ true
+else_works (Begin node thread segments reading) other going = refl
+else_works (SetRange node thread segment offset len) other going = refl
+else_works (Write node thread segment offset bytes) other going = refl
+else_works (Read node thread segment offset len) other going = refl
+else_works (Abort node thread) other going = refl
+else_works (Reserve node thread) other going = refl
+else_works (Close node thread) other going = refl
+else_works (FlushStep node) other going = refl
+else_works (Leave node segment) other going = refl
+else_works (Arrive node segment) other going = refl
+else_works (Deliver sender number segment to) other going = refl
+else_works (Trim node) other going = refl
+else_works (PageStep node segment page) other going = refl
+else_works (ResetStep node) other going = refl
+else_works (Stop choices) other going = absurd (going choices refl)
+else_works RecoverStep other going = absurd (other refl)
+
+-- and the numbers stay
+turns_down : (m : Setting) (s : State) (x : Numbers) (event : Event) → works_up event ≡ true → Turns m s x event (Refused IsDownNow) x
+turns_down m s x (Begin node thread segments reading) works = refl
+turns_down m s x (SetRange node thread segment offset len) works = refl
+turns_down m s x (Write node thread segment offset bytes) works = refl
+turns_down m s x (Read node thread segment offset len) works = refl
+turns_down m s x (Abort node thread) works = refl
+turns_down m s x (Reserve node thread) works = refl
+turns_down m s x (Close node thread) works = refl
+turns_down m s x (FlushStep node) works = refl
+turns_down m s x (Leave node segment) works = refl
+turns_down m s x (Arrive node segment) works = refl
+turns_down m s x (Deliver sender number segment to) works = refl
+turns_down m s x (Trim node) works = refl
+turns_down m s x (PageStep node segment page) works = refl
+turns_down m s x (ResetStep node) works = refl
+turns_down m s x (Stop choices) works = absurd cc
+turns_down m s x RecoverStep works = absurd cc
 
 pub if_ok_at : {A E : Type 0} (res : Result A E) (x : A) (P : A → Type 0) → res ≡ Ok x → P x → IfOk res P
 if_ok_at res x P is p = subst (λ (r : Result _ _). IfOk r P) (sym is) p
@@ -114,9 +138,9 @@ none_common m s = elim s.phase as (λ (p : Condition). common_refusal m.geometry
 ]
 
 module _ {D : Type 0} (a : Ghosts D) (m : Setting) (s : State) (x : Numbers) where
-  pub down_refuses : (r : Recovering D) (event : Event) → is_plain event ≡ true → FitsDown a m r s x → Leads a m event s x (Refused IsDownNow) (Down r)
-  down_refuses r event plain h =
-      let common : common_refusal m.geometry s event ≡ Some IsDownNow = refused_down m s h.cut event h.down plain in
+  pub down_refuses : (r : Recovering D) (event : Event) → works_up event ≡ true → FitsDown a m r s x → Leads a m event s x (Refused IsDownNow) (Down r)
+  down_refuses r event works h =
+      let common : common_refusal m.geometry s event ≡ Some IsDownNow = refused_down m s h.cut event h.down works in
       record {
         after = s;
         next = x;
@@ -125,7 +149,7 @@ module _ {D : Type 0} (a : Ghosts D) (m : Setting) (s : State) (x : Numbers) whe
           λ answer is. (let none : None ≡ Some answer = sym (ap (λ (c : Option Refusal). if is_some c then None else open_answer m s x event) common) ∙ is in absurd cc),
           λ recovers steps same. absurd cc,
         );
-        turns = turns_refused m s x event IsDownNow plain;
+        turns = turns_down m s x event works;
         fits = h;
       }
 
@@ -147,6 +171,7 @@ module _ {D : Type 0} (a : Ghosts D) (m : Setting) (s : State) (x : Numbers) whe
   -- what a step of the recovery keeps
   pub record Keeps (r new : Recovering D) : Type 0 where
     pub geometry : new.geometry ≡ r.geometry
+    pub lengths : HaveLengths a new.geometry new.areas
     pub honest : AreHonest a new.areas
     pub merges : (content : Content) (numbers : ℕ → ℕ) → AllMergeTo a r.geometry r.areas content numbers → AllMergeTo a r.geometry new.areas content numbers
 
@@ -161,6 +186,7 @@ module _ {D : Type 0} (a : Ghosts D) (m : Setting) (s : State) (x : Numbers) whe
       cut = h.cut;
       down = h.down;
       sound = h.sound;
+      lengths = keeps.lengths;
       honest = keeps.honest;
       merges = still_merges;
       steps_are = refl;
@@ -223,8 +249,9 @@ module _ {D : Type 0} (a : Ghosts D) (m : Setting) (s : State) (x : Numbers) whe
   -- up: a step of a recovery is out of turn
   pub up_refuses : (up : Rising D a) → FitsPhase a m (Up up) s x → Leads a m RecoverStep s x (Refused OutOfTurn) (Up up)
   up_refuses up h = leads_by_row (Refused OutOfTurn) s (record x { steps = 0 }) (Up up)
-      (subst (λ (p : Condition). RecoverRow p m.geometry s (Refused OutOfTurn) s) (sym h.0.up) (refl, refl))
-      (λ steps same. absurd cc) refl (all_stay up.running h.0, pages_same a m up.segments.items x (record x { steps = 0 }) refl h.1)
+      (subst (λ (p : Condition). RecoverRow p m.geometry s (Refused OutOfTurn) s) (sym h.running.up) (refl, refl))
+      (λ steps same. absurd cc) refl
+      (record { running = all_stay up.running h.running; pages = pages_same a m up.segments.items x (record x { steps = 0 }) refl h.pages; honest = h.honest; failed = h.failed })
 
   -- no other event of a store that is up changes its pages
   closed_pages : (node : ℕ) (e : Option Entry) → of_pages (closed_with s x node e) ≡ of_pages x
@@ -271,17 +298,24 @@ module _ {D : Type 0} (a : Ghosts D) (m : Setting) (s : State) (x : Numbers) whe
   turned_pages RecoverStep reply next plain turns = absurd cc
 
   -- a step of a store that is up
-  pub runs_up : (up : Rising D a) (event : Event) (reply : Reply) (writing : Bool) (new : Running D a) → is_plain event ≡ true → FollowsStep a writing up.running event reply new
-      → TellsWriting m x event writing → FitsPhase a m (Up up) s x → Leads a m event s x reply (Up (record up { running = new }))
-  runs_up up event reply writing new plain follows told h =
-      let on = follows m s x h.0 told in
+  pub runs_up : (up later : Rising D a) (event : Event) (reply : Reply) (writing : Bool) → is_plain event ≡ true → later.segments ≡ up.segments → SameDevices a up.running later.running
+      → FollowsStep a writing up.running event reply later.running → TellsWriting m x event writing → FitsPhase a m (Up up) s x → Leads a m event s x reply (Up later)
+  runs_up up later event reply writing plain segments devices follows told h =
+      let on = follows m s x h.running told in
       record {
         after = on.after;
         next = on.next;
         step = on.step;
         settled = on.settled;
         turns = on.turns;
-        fits = (on.fits, pages_same a m up.segments.items x on.next (turned_pages event reply on.next plain on.turns) h.1);
+        fits = record {
+          running = on.fits;
+          pages = subst (λ (segments : List (Pages D a)). FitsPages a m segments on.next) (ap vec_items (sym segments))
+              (pages_same a m up.segments.items x on.next (turned_pages event reply on.next plain on.turns) h.pages);
+          honest = honest_kept a up.running.nodes.items later.running.nodes.items devices.kinds h.honest;
+          failed = λ k pages got. halts_still a m s event reply on.after h.running.up on.fits.up on.step (k + 1) pages
+              (h.failed k pages (ap (λ (v : Vec (Pages D a)). slice_get v.items k) (sym segments) ∙ got));
+        };
       }
 
 module _ {D : Type 0} (a : Ghosts D) where
@@ -300,10 +334,10 @@ module _ {D : Type 0} (a : Ghosts D) where
   down_same r other same = ap (λ (p : Phase D a). elim p as (λ (p : Phase D a). Recovering D) [ Down it ↦ it | _ ↦ r ]) same
 
   -- not up
-  pub not_up : (old : Phase D a) (event : Event) → ((up : Rising D a) → old ≡ Up up → ⊥) → is_plain event ≡ true → FollowsPhase old event (Refused IsDownNow) old
-  not_up (Down r) event not plain = λ m s x h. down_refuses a m s x r event plain h
-  not_up (Up up) event not plain = absurd (not up refl)
-  not_up Taken event not plain = λ m s x h. absurd h
+  pub not_up : (old : Phase D a) (event : Event) → ((up : Rising D a) → old ≡ Up up → ⊥) → works_up event ≡ true → FollowsPhase old event (Refused IsDownNow) old
+  not_up (Down r) event not works = λ m s x h. down_refuses a m s x r event works h
+  not_up (Up up) event not works = absurd (not up refl)
+  not_up Taken event not works = λ m s x h. absurd h
 
   -- not down
   pub not_down : (old : Phase D a) → ((r : Recovering D) → old ≡ Down r → ⊥) → FollowsPhase old RecoverStep (Refused OutOfTurn) old
@@ -314,6 +348,7 @@ module _ {D : Type 0} (a : Ghosts D) where
   -- what a step of a recovery leaves
   pub record StepLeaves (r new : Recovering D) (result : Result Progress RecoverFault) : Type 0 where
     pub geometry : new.geometry ≡ r.geometry
+    pub lengths : HaveLengths a new.geometry new.areas
     pub progress : IfOk result (λ progress. Tells progress new)
     pub steps : OnOk result (new.steps ≡ r.steps + 1)
     pub no_memory : result ≡ Err NoMemory → TakesMemory r × (new ≡ r)
@@ -329,7 +364,7 @@ module _ {D : Type 0} (a : Ghosts D) where
     keeps_of : {result : Result Progress RecoverFault} → StepLeaves r new result → (m : Setting) (s : State) (x : Numbers) → FitsDown a m r s x → Keeps a m s x r new
     keeps_of leaves m s x h =
         let honest : AreHonest a new.areas = leaves.honest h.honest in
-        record { geometry = leaves.geometry; honest = honest; merges = λ content numbers. leaves.merges content numbers honest }
+        record { geometry = leaves.geometry; lengths = leaves.lengths; honest = honest; merges = λ content numbers. leaves.merges content numbers honest }
 
     -- what is refused in a merge is not refused where all images merge
     only_fails : (fault : RecoverFault) → StepLeaves r new (Err fault) → (m : Setting) (s : State) (x : Numbers) → FitsDown a m r s x → (fault ≡ NoMemory) ⊎ (fault ≡ Failed)
@@ -436,6 +471,11 @@ module _ {D : Type 0} (a : Ghosts D) where
         none_writes : pages.writes.items ≡ replicate m.geometry.pages AtRest
         none_writes = risen.rest k pages got ∙ ap (λ (g : Geometry). replicate g.pages AtRest) (sym risen.geometry ∙ sym same_geometry)
 
+        none_failed : (page : ℕ) → slice_get pages.writes.items page ≡ Some HasFailed → ⊥
+        none_failed page failed =
+            let is : AtRest ≡ HasFailed = get-replicate m.geometry.pages page AtRest HasFailed (ap (λ (states : List PageState). slice_get states page) (sym none_writes) ∙ failed) in
+            absurd cc
+
         area_up : FitsArea a m.geometry (k + 1) pages next_numbers
         area_up = record {
           honest = honest_store (risen.store.geometry.nodes + k) pages.area its_area;
@@ -457,11 +497,13 @@ module _ {D : Type 0} (a : Ghosts D) where
 
       comes_up_with : Leads a m RecoverStep s x Recovered (Up up)
       comes_up_with = leads_by_row a m s x Recovered up_now next_numbers (Up up) up_row (λ steps same. absurd cc)
-          (page_read_of risen.store, text_read_of risen.store, ap (λ (p : Condition). recovered_numbers m.geometry (kept_numbers p s x) (page_read_of risen.store) (text_read_of risen.store)) (sym h.down)) (
-            rises a m kept_now (kept_numbers (DownAt h.cut) s x) risen.store up.running same_geometry up_sound honest_store
-                (subst (λ (areas : List D). AreOfBytes a areas) (sym risen.areas) risen.bytes) finished all_merge (risen.fresh keeps.honest),
-            pages_up,
-          )
+          (page_read_of risen.store, text_read_of risen.store, ap (λ (p : Condition). recovered_numbers m.geometry (kept_numbers p s x) (page_read_of risen.store) (text_read_of risen.store)) (sym h.down)) (record {
+            running = rises a m kept_now (kept_numbers (DownAt h.cut) s x) risen.store up.running same_geometry up_sound honest_store
+                (subst (λ (areas : List D). AreOfBytes a areas) (sym risen.areas) risen.bytes) finished all_merge (risen.fresh keeps.honest);
+            pages = pages_up;
+            honest = λ n node area at there. keeps.honest n area (sym (risen.log_areas n node at) ∙ there);
+            failed = λ k pages got page failed. absurd (none_failed k pages got page failed);
+          })
 
     pub comes_up : {result : Result Progress RecoverFault} (up : Rising D a) → StepLeaves r new result → ComesUp a new up → FollowsPhase old RecoverStep Recovered (Up up)
     comes_up up leaves risen m s x h =

@@ -1,10 +1,12 @@
 -- A step of a recovery answers by what it has made, whatever the areas hold.
-use Rattle.std.proofs.Common.{◌≡◌, ◌⊎◌, ℕ, ◌+◌, true, false, List, map, None, Some, refl, sym, ap, subst, ◌∙◌, inl, inr, arith}
-use Rattle.std.specs.Prelude.{Result, Ok, Err, IfOk, IfErr, OnOk}
+use Rattle.std.proofs.Common.{◌≡◌, ◌⊎◌, ℕ, ◌+◌, ◌*◌, ◌<◌, ◌≤◌, Bool, true, false, List, map, Option, None, Some, refl, sym, ap, subst, ◌∙◌, inl, inr, arith}
+use Rattle.std.specs.Prelude.{if◌then◌else◌, Result, Ok, Err, IfOk, IfErr, OnOk}
 use Rattle.std.proofs.lemmas.Result.{IfOk-from_err, IfOk-weaker}
 use Rattle.lc_disk.specs.declared.area.Area.{Ghosts}
 use Rattle.lc_record.specs.declared.geometry.Geometry.{Geometry}
 use Rattle.lc_model.specs.Merge.{Store, MergesTo}
+use Rattle.lc_disk.specs.declared.choice.Choice.{Choice}
+use Rattle.lc_core.specs.Stepping.{works_up}
 use Rattle.lc_model.specs.declared.event.Event.{Event}
 use Rattle.lc_model.specs.declared.event.Event.TheVariants.{Begin, SetRange, Write, Read, Abort, Reserve, Close, FlushStep, Leave, Arrive, Deliver, Trim, PageStep, ResetStep, Stop, RecoverStep}
 use Rattle.lc_model.specs.declared.refusal.Refusal.{Refusal}
@@ -13,7 +15,8 @@ use Rattle.lc_model.specs.declared.reply.Reply.{Reply}
 use Rattle.lc_model.specs.declared.reply.Reply.TheVariants.{Stepped, Recovered, Refused}
 use Rattle.lc_recover.specs.Fault.{IsRefusal}
 use Rattle.lc_recover.specs.Reads.{AreHonest, store_of}
-use Rattle.lc_recover.specs.Recovery.{Recovering, begun, IsDone, IsLast, IsMerged, IsMergeNext, Tells}
+use Rattle.lc_recover.specs.Recovery.{Recovering, begun, IsDone, IsLast, IsMerged, IsMergeNext, Tells, all_steps}
+use Rattle.lc_recover.specs.Steps.{first_steps}
 use Rattle.lc_recover.specs.declared.fault.RecoverFault.{RecoverFault}
 use Rattle.lc_recover.specs.declared.fault.RecoverFault.TheVariants.{BadGeometry, Gap, Twice, OutOfSegment, DeviceFault as Failed, NoMemory}
 use Rattle.lc_recover.specs.declared.progress.Progress.{Progress}
@@ -59,6 +62,9 @@ module _ {D : Type 0} (a : Ghosts D) where
     pub fault : IfErr result (λ fault. (IsMergeNext r → ⊥) → (fault ≡ NoMemory) ⊎ (fault ≡ Failed))
     pub merged : OnOk result (IsMergeNext r → AreHonest a r.areas → IsMerged a new)
     pub refused : IfErr result (λ fault. IsMergeNext r → AreHonest a r.areas → IsRefusal (store_of r.geometry (map a.now r.areas)) fault)
+    pub bound : new.steps ≤ all_steps new.geometry (new.geometry.segments * new.geometry.pages)
+    pub honest : AreHonest a r.areas → AreHonest a new.areas
+    pub reads : r.steps + 1 < first_steps r.geometry → AreHonest a r.areas → map a.now new.areas ≡ map a.now r.areas
 
   module _ (r new : Recovering D) where
     -- the merge changes no area
@@ -81,6 +87,10 @@ module _ {D : Type 0} (a : Ghosts D) where
             (steps, refl),
           ));
       called = λ other. inl (steps, refl);
+      few = λ other same. subst (λ (k : ℕ). k ≤ all_steps r.geometry (r.geometry.segments * r.geometry.pages)) (sym says.progress.0 ∙ stepped_same steps other same)
+          (subst (λ (g : Geometry). new.steps ≤ all_steps g (g.segments * g.pages)) says.geometry says.bound);
+      reads = λ later is early honest other same. subst (λ (v : Recovering D). AreHonest a v.areas × (map a.now v.areas ≡ map a.now r.areas)) (down_same a new later is)
+          (says.honest honest, says.reads early honest);
     }
 
     fault_answers : (fault : RecoverFault) (refusal : Refusal) → refusal_to fault ≡ Some refusal → (fault ≡ NoMemory → ⊥) → StepSays r new (Err fault) → AnswersRecovery a r (Refused refusal) (Down new)
@@ -93,6 +103,8 @@ module _ {D : Type 0} (a : Ghosts D) where
         | inl none ↦ absurd (some none)
         | inr failed ↦ inr (inr (ap (λ (v : Refusal). Refused v) (same_some refusal DeviceFault (sym is ∙ ap refusal_to failed))))
       ];
+      few = λ steps same. absurd cc;
+      reads = λ later is early honest steps same. absurd cc;
     }
 
     refusal_answers : {E : Type 0} (fault : RecoverFault) (answer : Result Reply E) → RepliesTo (Err fault) answer → StepSays r new (Err fault) → IfOk answer (λ reply. AnswersRecovery a r reply (Down new))
@@ -126,6 +138,8 @@ module _ {D : Type 0} (a : Ghosts D) where
     refused = λ refusal same. absurd cc;
     merged = λ next honest. absurd (last_apart r last next);
     called = λ apart. inr (inl refl);
+    few = λ steps same. absurd cc;
+    reads = λ later is early honest steps same. absurd cc;
   })
 
   -- What is refused at once
@@ -135,18 +149,31 @@ module _ {D : Type 0} (a : Ghosts D) where
   up_refuses (Up up) not_down refusal is = (ap (λ (v : Refusal). Refused v) (same_some OutOfTurn refusal is), refl)
   up_refuses Taken not_down refusal is = (ap (λ (v : Refusal). Refused v) (same_some OutOfTurn refusal is), refl)
 
-  pub down_refuses : (phase : Phase D a) (event : Event) → ((up : Rising D a) → phase ≡ Up up → ⊥) → (event ≡ RecoverStep → ⊥) → RefusesAtOnce a phase event (Refused IsDown) phase
-  down_refuses phase event not_up other refusal is = one phase not_up (ap (at_once a phase) (sym (no_recovery event other)) ∙ is)
+  pub down_refuses : (phase : Phase D a) (event : Event) → ((up : Rising D a) → phase ≡ Up up → ⊥) → works_up event ≡ true → RefusesAtOnce a phase event (Refused IsDown) phase
+  down_refuses phase event not_up works refusal is = one phase not_up is
     where
-      one : (p : Phase D a) → ((up : Rising D a) → p ≡ Up up → ⊥) → at_once a p false ≡ Some refusal → (Refused IsDown ≡ Refused refusal) × (phase ≡ phase)
-      one (Down r) not_up is = (ap (λ (v : Refusal). Refused v) (same_some IsDown refusal is), refl)
+      down_is : (rest : Option Refusal) → (if works_up event then Some IsDown else rest) ≡ Some refusal → Refused IsDown ≡ Refused refusal
+      down_is rest is = ap (λ (v : Refusal). Refused v) (same_some IsDown refusal (sym (ap (λ (b : Bool). if b then Some IsDown else rest) works) ∙ is))
+
+      one : (p : Phase D a) → ((up : Rising D a) → p ≡ Up up → ⊥) → at_once a p event ≡ Some refusal → (Refused IsDown ≡ Refused refusal) × (phase ≡ phase)
+      one (Down r) not_up is = (down_is None is, refl)
       one (Up up) not_up is = absurd (not_up up refl)
-      one Taken not_up is = (ap (λ (v : Refusal). Refused v) (same_some IsDown refusal is), refl)
+      one Taken not_up is = (down_is _ is, refl)
 
   -- a store that is down recovers, and one that is up does all else
   pub down_asks : (phase : Phase D a) (r : Recovering D) → phase ≡ Down r → (reply : Reply) (new : Phase D a) → RefusesAtOnce a phase RecoverStep reply new
-  down_asks phase r is reply new refusal refused = absurd (let no : None ≡ Some refusal = ap (λ p. at_once a p true) (sym is) ∙ refused in cc)
+  down_asks phase r is reply new refusal refused = absurd (let no : None ≡ Some refusal = ap (λ p. at_once a p RecoverStep) (sym is) ∙ refused in cc)
 
   pub up_asks : (phase : Phase D a) (up : Rising D a) → phase ≡ Up up → (event : Event) → (event ≡ RecoverStep → ⊥) → (reply : Reply) (new : Phase D a) → RefusesAtOnce a phase event reply new
   up_asks phase up is event other reply new refusal refused =
-      absurd (let no : None ≡ Some refusal = ap (λ p. at_once a p false) (sym is) ∙ ap (at_once a phase) (sym (no_recovery event other)) ∙ refused in cc)
+      absurd (let no : None ≡ Some refusal = sym (ap (λ (b : Bool). if b then Some OutOfTurn else None) (no_recovery event other)) ∙ ap (λ p. at_once a p event) (sym is) ∙ refused in cc)
+
+  -- any store takes a stop
+  pub stop_asks : (phase : Phase D a) (event : Event) (choices : List (List Choice)) → event ≡ Stop choices → (reply : Reply) (new : Phase D a) → RefusesAtOnce a phase event reply new
+  stop_asks phase event choices is reply new refusal refused =
+      absurd (let no : None ≡ Some refusal = sym (none phase) ∙ ap (at_once a phase) (sym is) ∙ refused in cc)
+    where
+      none : (p : Phase D a) → at_once a p (Stop choices) ≡ None
+      none (Down r) = refl
+      none (Up up) = refl
+      none Taken = refl

@@ -21,6 +21,14 @@ pub on_err : {A E : Type 0} (res : Result A E) (P : Type 0) → P → OnErr res 
 on_err (Ok x) P p = tt
 on_err (Err e) P p = p
 
+pub on_err_both : {A E : Type 0} (res : Result A E) (P Q : Type 0) → OnErr res P → OnErr res Q → OnErr res (P × Q)
+on_err_both (Ok x) P Q p q = tt
+on_err_both (Err e) P Q p q = (p, q)
+
+pub if_ok_both : {A E : Type 0} (res : Result A E) (P Q : A → Type 0) → IfOk res P → IfOk res Q → IfOk res (λ x. P x × Q x)
+if_ok_both (Ok x) P Q p q = (p, q)
+if_ok_both (Err e) P Q p q = tt
+
 pub le-false : (x y : ℕ) → y < x → nat_le x y ≡ false
 le-false x y less = grind (arith, nat_tests)
 

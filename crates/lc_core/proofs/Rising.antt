@@ -1,6 +1,6 @@
 -- What comes up behind a recovery fits the machine's fresh state.
 use Rattle.std.proofs.Common.{◌≡◌, ℕ, zero, suc, ◌+◌, ◌-◌, ◌*◌, ◌%◌, ◌<◌, ◌≤◌, Bool, true, false, ◌==◌, List, [], ◌++◌, map, length, take, drop, replicate, All, Option, Some, None, refl, sym, ap, subst, ◌∙◌, inl, inr, arith, eqb-true, true≢false}
-use Rattle.std.specs.Prelude.{slice_get, IsSome, if◌then◌else◌}
+use Rattle.std.specs.Prelude.{◌^◌, slice_get, IsSome, if◌then◌else◌}
 use Rattle.std.specs.List.{flat_map}
 use Rattle.std.proofs.Math.ListN.{drop_of_length-le}
 use Rattle.std.proofs.Math.Nat.{le_refl}
@@ -249,6 +249,7 @@ module _ {D : Type 0} (a : Ghosts D) (start : Content) (earlier : List Transacti
     its_token segment first last = record {
       segment_is = refl;
       number = sequence_is segment first last;
+      small = subst (λ (k : ℕ). k ≤ 2 ^ 60) (sym (done.sequences segment first last)) (done.small segment first last);
       clean = sequence_is segment first last;
       pages = length-map (counting 0 r.geometry.pages) entry ∙ length-counting 0 r.geometry.pages;
       touched = λ page within. ap (λ (e : Entry). e.touched) (entry_is page within);

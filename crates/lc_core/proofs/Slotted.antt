@@ -168,6 +168,7 @@ stays_where m s after x y earlier history numbers pages applied waiting clean to
   tokens = λ segment token h. record {
     segment_is = h.segment_is;
     number = h.number ∙ sym (number segment);
+    small = h.small;
     clean = h.clean ∙ sym (ap (λ f. f segment) clean);
     pages = h.pages;
     touched = λ page below. h.touched page below ∙ sym (ap (λ f. f segment page) touched);
@@ -277,6 +278,7 @@ stays_appended m s x t = record {
   tokens = λ segment token h. record {
     segment_is = h.segment_is;
     number = h.number ∙ sym (number segment);
+    small = h.small;
     clean = h.clean;
     pages = h.pages;
     touched = h.touched;

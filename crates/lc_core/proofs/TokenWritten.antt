@@ -1,5 +1,5 @@
 -- What the end of a page write makes of the segment's token.
-use Rattle.std.proofs.Common.{◌≡◌, ◌≢◌, ℕ, ◌<◌, List, Option, Some, length, sym, ap, ◌∙◌, arith, inl, inr, get_or-set_other, get_or-set_same, length-set}
+use Rattle.std.proofs.Common.{◌≡◌, ◌≢◌, ℕ, ◌^◌, ◌<◌, ◌≤◌, List, Option, Some, length, sym, ap, subst, ◌∙◌, arith, inl, inr, get_or-set_other, get_or-set_same, length-set}
 use Rattle.std.specs.Prelude.{max, nat_lt}
 use Rattle.std.specs.Option.{unwrap_or}
 use Rattle.std.proofs.lemmas.Bool.{cases_eq}
@@ -90,6 +90,7 @@ module _ (m : Setting) (s : State) (x : Numbers) (node segment page : ℕ) (old 
   token_written_fits = record {
     segment_is = is.segment ∙ h.segment_is;
     number = is.seq ∙ h.number ∙ sym token_number_is;
+    small = subst (λ (k : ℕ). k ≤ 2 ^ 60) (sym is.seq) h.small;
     clean = clean_now;
     pages = count;
     touched = touched_now;

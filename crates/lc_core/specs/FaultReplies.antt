@@ -1,5 +1,5 @@
 -- Which replies tell that a device has failed, and how often devices have failed then.
-use Rattle.std.specs.Prelude.{◌≡◌, ℕ, ◌+◌, Bool, true, false, List, Option, Some, option_map, slice_get, slice_set, if◌then◌else◌}
+use Rattle.std.specs.Prelude.{◌≡◌, ℕ, ◌+◌, Bool, true, false, List, length, Option, Some, option_map, slice_get, slice_set, if◌then◌else◌}
 use Rattle.lc_disk.specs.declared.area.Area.{Ghosts}
 use Rattle.lc_model.specs.declared.refusal.Refusal.{Refusal}
 use Rattle.lc_model.specs.declared.refusal.Refusal.TheVariants.{DeviceFault}
@@ -41,6 +41,15 @@ module _ {D : Type 0} (a : Ghosts D) where
   abbrev pub failures_of : Log D a → Option ℕ
   failures_of log = option_map a.failures (area_of a log)
 
-  -- it has failed once more just where the reply tells of it
-  abbrev pub TellsFault : Reply → Log D a → Log D a → Type 0
-  TellsFault reply old new = failures_of new ≡ (if is_fault reply then option_map (λ count. count + 1) (failures_of old) else failures_of old)
+  -- what stays of a device: whether it keeps to the model of a disk, and its length
+  abbrev pub device_kind : D → Bool × ℕ
+  device_kind area = (a.honest area, length (a.now area))
+
+  -- of that of a log
+  abbrev pub kind_of : Log D a → Option (Bool × ℕ)
+  kind_of log = option_map device_kind (area_of a log)
+
+  -- it is the same device, which has failed once more just where the reply tells of it
+  pub record TellsFault (reply : Reply) (old new : Log D a) : Type 0 where
+    pub failures : failures_of new ≡ (if is_fault reply then option_map (λ count. count + 1) (failures_of old) else failures_of old)
+    pub kind : kind_of new ≡ kind_of old

@@ -1,8 +1,9 @@
 -- How often the devices of a store have failed, and what its replies tell of it.
-use Rattle.std.specs.Prelude.{◌≡◌, ℕ, List, [], ◌∷◌, ◌++◌, map, Option, Some}
+use Rattle.std.specs.Prelude.{◌≡◌, ℕ, Bool, List, [], ◌∷◌, ◌++◌, map, Option, Some}
 use Rattle.lc_disk.specs.declared.area.Area.{Ghosts}
 use Rattle.lc_model.specs.declared.reply.Reply.{Reply}
-use Rattle.lc_core.specs.FaultReplies.{CountsFaults, failures_of}
+use Rattle.lc_core.specs.FaultReplies.{CountsFaults, failures_of, kind_of}
+use Rattle.lc_core.specs.Log.{area_of}
 use Rattle.lc_core.specs.Pages.{areas_of}
 use Rattle.lc_core.specs.declared.log.Log.{Log}
 use Rattle.lc_core.specs.declared.node.Node.{Node}
@@ -21,12 +22,22 @@ module _ {D : Type 0} (a : Ghosts D) where
   logs_of nodes = map (λ node. node.journal.log) nodes
 
   -- no node's log has changed
-  abbrev pub SameLogs : Running D a → Running D a → Type 0
-  SameLogs old new = logs_of new.nodes.items ≡ logs_of old.nodes.items
+  pub record SameLogs (old new : Running D a) : Type 0 where
+    pub geometry : new.geometry ≡ old.geometry
+    pub logs : logs_of new.nodes.items ≡ logs_of old.nodes.items
+
+  -- nor its area
+  pub record SameLogAreas (old new : Running D a) : Type 0 where
+    pub geometry : new.geometry ≡ old.geometry
+    pub areas : map (area_of a) (logs_of new.nodes.items) ≡ map (area_of a) (logs_of old.nodes.items)
 
   -- how often the device of each has failed
   abbrev pub log_failures : List (Log D a) → List (Option ℕ)
   log_failures logs = map (failures_of a) logs
+
+  -- what stays of the device of each
+  abbrev pub log_kinds : List (Log D a) → List (Option (Bool × ℕ))
+  log_kinds logs = map (kind_of a) logs
 
   -- how often each of these areas has failed
   abbrev pub area_failures : List D → List (Option ℕ)
@@ -38,9 +49,15 @@ module _ {D : Type 0} (a : Ghosts D) where
   phase_failures (Up up) = log_failures (logs_of up.running.nodes.items) ++ area_failures (areas_of a up.segments.items)
   phase_failures Taken = []
 
+  -- the nodes have the same devices
+  pub record SameDevices (old new : Running D a) : Type 0 where
+    pub geometry : new.geometry ≡ old.geometry
+    pub kinds : log_kinds (logs_of new.nodes.items) ≡ log_kinds (logs_of old.nodes.items)
+
   -- what a reply of running nodes tells of their devices
-  abbrev pub CountsLogs : Running D a → Reply → Running D a → Type 0
-  CountsLogs old reply new = CountsFaults reply (log_failures (logs_of old.nodes.items)) (log_failures (logs_of new.nodes.items))
+  pub record CountsLogs (old : Running D a) (reply : Reply) (new : Running D a) : Type 0 where
+    pub counts : CountsFaults reply (log_failures (logs_of old.nodes.items)) (log_failures (logs_of new.nodes.items))
+    pub devices : SameDevices old new
 
   -- and of a store of its areas
   abbrev pub CountsPhase : Phase D a → Reply → Phase D a → Type 0

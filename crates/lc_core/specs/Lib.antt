@@ -7,6 +7,8 @@ pub mod Here
 pub mod Seat
 pub mod Seats
 pub mod Desk
+pub mod Devices
+pub mod Drafts
 pub mod Log
 pub mod FaultReplies
 pub mod Records
@@ -32,9 +34,11 @@ pub mod Trimming
 pub mod Receives
 pub mod Delivers
 pub mod Stepping
+pub mod Stops
 pub mod Runs
 pub mod PageState
 pub mod Pages
+pub mod Paging
 pub mod World
 pub mod Faults
 pub mod Recovering
@@ -45,3 +49,4 @@ pub mod LogWords
 pub mod Recovers
 pub mod Uncommitted
 pub mod Resets
+pub mod Areas

@@ -2,9 +2,15 @@
 use Rattle.std.specs.Prelude.{◌≡◌, ⊤, ◌⊎◌, ℕ, ◌+◌, ◌*◌, ◌<◌, ◌≤◌, Bool, true, false, List, [], ◌++◌, length, Option, Some, None, if◌then◌else◌}
 use Rattle.lc_disk.specs.declared.area.Area.{Ghosts}
 use Rattle.lc_record.specs.declared.record.Record.{Record}
+use Rattle.lc_log.specs.LogText.{IsLogText}
 use Rattle.lc_log.specs.NodeLog.{IsIdle, IsWritten, IsSynced, IsOpened, IsClosing, IsGroup, IsWithOrWithout, LeavesOnly, Continues}
 use Rattle.lc_core.specs.declared.log.Log.{Log}
 use Rattle.lc_core.specs.declared.log.Log.TheVariants.{Idle, Written, Synced, Opened, Sealed, Closing, Emptied, Failed, Torn, Taken}
+
+-- the words are the text of the stable records, or, where so many steps of a flush, with the one that failed, reach the one
+-- that opens the gate, of these and the whole group
+abbrev pub IsLeft : ℕ → List Record → List Record → List ℕ → Type 0
+IsLeft steps stable group words = IsLogText words stable ⊎ ((3 ≤ steps) × IsLogText words (stable ++ group))
 
 module _ {D : Type 0} (a : Ghosts D) where
   -- so many steps of a flush are done: the records are stable, and the group is on its way; of a log that is being reset
@@ -17,7 +23,7 @@ module _ {D : Type 0} (a : Ghosts D) where
   Stands (Sealed log) steps stable group = (steps ≡ 0) × (group ≡ []) × IsIdle a log.area log.end stable
   Stands (Closing log) steps stable group = (steps ≡ 0) × (group ≡ []) × IsClosing a log.area stable
   Stands (Emptied log) steps stable group = (steps ≡ 0) × (group ≡ []) × IsIdle a log.area log.end []
-  Stands (Failed log) steps stable group = LeavesOnly a log.area (IsWithOrWithout stable group)
+  Stands (Failed log) steps stable group = LeavesOnly a log.area (IsLeft steps stable group)
   Stands (Torn log) steps stable group = (steps ≡ 0) × (group ≡ []) × LeavesOnly a log.area (IsWithOrWithout [] stable)
   Stands Taken steps stable group = ⊥
 

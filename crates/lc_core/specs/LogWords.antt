@@ -6,6 +6,7 @@ use Rattle.lc_record.specs.declared.record.Record.{Record}
 use Rattle.lc_log.specs.LogText.{IsLogText, joined}
 use Rattle.lc_model.specs.State.{Up as IsUp, Setting, State}
 use Rattle.lc_model.specs.Stored.{records_of}
+use Rattle.lc_core.specs.FaultReplies.{kind_of}
 use Rattle.lc_core.specs.Log.{Stands, HasReset, area_of, end_of, is_failed, is_idle, is_sealed, size, under_way}
 use Rattle.lc_core.specs.Numbers.{Numbers, stable_records}
 use Rattle.lc_core.specs.Pages.{areas_of}
@@ -62,6 +63,7 @@ module _ {D : Type 0} (a : Ghosts D) where
     pub end : end_of a new ≡ end_of a old
     pub under_way : under_way a new ≡ under_way a old
     pub size : size a new ≡ size a old
+    pub kind : kind_of a new ≡ kind_of a old
 
   -- the area of a log was read
   pub record IsLogRead (area : D) (old new : Log D a) (failed : Bool) : Type 0 where
@@ -136,6 +138,6 @@ module _ {D : Type 0} (a : Ghosts D) where
   AreWordsOf area words = a.honest area ≡ true → (records : List Record) → IsLogText (words_of (a.now area)) records → words ≡ joined records
 
   -- and of the records that the machine's node has logged, while it is up
-  abbrev pub ShowRecords : Phase D a → ℕ → D → List ℕ → Type 0
-  ShowRecords phase node area words =
-      (m : Setting) (s : State) (x : Numbers) → FitsPhase a m phase s x → s.phase ≡ IsUp → a.honest area ≡ true → AreLogged m s x node words
+  abbrev pub ShowRecords : Phase D a → ℕ → List ℕ → Type 0
+  ShowRecords phase node words =
+      (m : Setting) (s : State) (x : Numbers) → FitsPhase a m phase s x → s.phase ≡ IsUp → AreLogged m s x node words

@@ -1,5 +1,5 @@
 -- What a step of a recovery answers, whatever its areas hold.
-use Rattle.std.specs.Prelude.{◌≡◌, ◌⊎◌, ℕ, ◌+◌, Bool, true, false, List, map, Option, None, Some}
+use Rattle.std.specs.Prelude.{◌≡◌, ◌⊎◌, ℕ, ◌+◌, ◌*◌, ◌<◌, ◌≤◌, Bool, true, false, List, map, Option, None, Some, if◌then◌else◌}
 use Rattle.lc_disk.specs.declared.area.Area.{Ghosts}
 use Rattle.lc_record.specs.Content.{Content}
 use Rattle.lc_model.specs.Merge.{Store, MergesTo}
@@ -11,9 +11,11 @@ use Rattle.lc_model.specs.declared.reply.Reply.{Reply}
 use Rattle.lc_model.specs.declared.reply.Reply.TheVariants.{Stepped, Recovered, Refused}
 use Rattle.lc_recover.specs.Fault.{IsRefusal}
 use Rattle.lc_recover.specs.Reads.{AreHonest, store_of}
-use Rattle.lc_recover.specs.Recovery.{Recovering, begun, IsLast, IsMergeNext}
+use Rattle.lc_recover.specs.Recovery.{Recovering, begun, IsLast, IsMergeNext, all_steps}
+use Rattle.lc_recover.specs.Steps.{first_steps}
 use Rattle.lc_recover.specs.declared.fault.RecoverFault.{RecoverFault}
 use Rattle.lc_core.specs.Recovering.{refusal_to}
+use Rattle.lc_core.specs.Stepping.{works_up}
 use Rattle.lc_core.specs.declared.phase.Phase.{Phase}
 use Rattle.lc_core.specs.declared.phase.Phase.TheVariants.{Down, Up, Taken}
 use Rattle.lc_core.specs.declared.up.Up.{Up as Rising}
@@ -42,20 +44,21 @@ module _ {D : Type 0} (a : Ghosts D) where
     -- the merge is of what the areas read as
     pub merged : IsMergeNext r → AreHonest a r.areas → AnswersMerge (store_of r.geometry (map a.now r.areas)) reply
     pub called : (IsMergeNext r → ⊥) → AnswersCall reply
+    -- by the geometry alone there is an end to the steps, and what honest areas read as stays while they are synced and read
+    pub few : (steps : ℕ) → reply ≡ Stepped steps → steps ≤ all_steps r.geometry (r.geometry.segments * r.geometry.pages)
+    pub reads : (later : Recovering D) → new ≡ Down later → r.steps + 1 < first_steps r.geometry → AreHonest a r.areas → (steps : ℕ) → reply ≡ Stepped steps
+        → AreHonest a later.areas × (map a.now later.areas ≡ map a.now r.areas)
 
   -- so does a store that is down
   abbrev pub RecoversDown : Phase D a → Reply → Phase D a → Type 0
   RecoversDown old reply new = (r : Recovering D) → old ≡ Down r → AnswersRecovery r reply new
 
-  -- why a store refuses an event at once: only one that is down recovers, and it does nothing else
-  abbrev pub at_once : Phase D a → Bool → Option Refusal
-  at_once (Down r) true = None
-  at_once (Down r) false = Some IsDown
-  at_once (Up up) true = Some OutOfTurn
-  at_once (Up up) false = None
-  at_once Taken true = Some OutOfTurn
-  at_once Taken false = Some IsDown
+  -- why a store refuses an event at once: one that is down recovers or stops again, and one that is up does not recover
+  abbrev pub at_once : Phase D a → Event → Option Refusal
+  at_once (Down r) event = if works_up event then Some IsDown else None
+  at_once (Up up) event = if is_recovery event then Some OutOfTurn else None
+  at_once Taken event = if works_up event then Some IsDown else if is_recovery event then Some OutOfTurn else None
 
   -- that is the reply, and nothing changes
   abbrev pub RefusesAtOnce : Phase D a → Event → Reply → Phase D a → Type 0
-  RefusesAtOnce old event reply new = (refusal : Refusal) → at_once old (is_recovery event) ≡ Some refusal → (reply ≡ Refused refusal) × (new ≡ old)
+  RefusesAtOnce old event reply new = (refusal : Refusal) → at_once old event ≡ Some refusal → (reply ≡ Refused refusal) × (new ≡ old)

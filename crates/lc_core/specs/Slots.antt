@@ -1,5 +1,5 @@
 -- What stands in a node's slots beside the images of its transactions, against the machine and the numbers.
-use Rattle.std.specs.Prelude.{◌≡◌, ◌≤◌, ◌<◌, ℕ, ◌+◌, List, [], map, length, All, Option, Some, slice_get}
+use Rattle.std.specs.Prelude.{◌≡◌, ◌≤◌, ◌<◌, ℕ, ◌+◌, ◌^◌, List, [], map, length, All, Option, Some, slice_get}
 use Rattle.std.specs.Option.{ForSome}
 use Rattle.lc_page.specs.PageVector.{entry_at, entry_text}
 use Rattle.lc_record.specs.Content.{segment_of}
@@ -39,6 +39,8 @@ segment_to m s d segment number = segment_of segment (effects (up_to d s segment
 pub record FitsToken (m : Setting) (segment : ℕ) (token : Token) (s : State) (x : Numbers) : Type 0 where
   pub segment_is : token.segment ≡ segment
   pub number : token.seq ≡ token_number s x segment
+  -- a page can have it
+  pub small : token.seq ≤ 2 ^ 60
   pub clean : token.clean ≡ x.clean segment
   pub pages : length token.pages ≡ m.geometry.pages
   pub touched : (page : ℕ) → page < m.geometry.pages → (entry_at token.pages page).touched ≡ x.touched segment page

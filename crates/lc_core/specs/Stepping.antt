@@ -1,10 +1,11 @@
 -- What it is that a running store follows the machine and the numbers, step by step.
-use Rattle.std.specs.Prelude.{◌≡◌, ◌<◌, ◌≤◌, ◌⊎◌, ℕ, Bool, true, false, List, length, Option}
+use Rattle.std.specs.Prelude.{◌≡◌, ◌<◌, ◌≤◌, ◌⊎◌, ℕ, Bool, true, false, List, length, Option, is_some}
 use Rattle.lc_disk.specs.declared.area.Area.{Ghosts}
 use Rattle.lc_record.specs.declared.geometry.Geometry.{Geometry}
 use Rattle.lc_token.specs.declared.token.Token.{Token}
 use Rattle.lc_tx.specs.Tx.{IsSetOf, none_of}
 use Rattle.lc_model.specs.Machine.{Step}
+use Rattle.lc_model.specs.Refusals.{named}
 use Rattle.lc_model.specs.State.{Setting, State}
 use Rattle.lc_model.specs.declared.event.Event.{Event}
 use Rattle.lc_model.specs.declared.event.Event.TheVariants.{Begin, SetRange, Read, Reserve, Leave, Deliver, PageStep, Stop, RecoverStep}
@@ -17,7 +18,11 @@ use Rattle.lc_core.specs.Turns.{Turns}
 use Rattle.lc_core.specs.declared.node.Node.{Node}
 use Rattle.lc_core.specs.declared.running.Running.{Running}
 
--- the events of a running store but page steps
+-- the event is of a node, and so for a store that is up
+abbrev pub works_up : Event → Bool
+works_up event = is_some (named event)
+
+-- of these all but page steps
 abbrev pub is_plain : Event → Bool
 is_plain (PageStep node segment page) = false
 is_plain (Stop choices) = false

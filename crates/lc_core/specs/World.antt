@@ -1,8 +1,8 @@
 -- A store that is down or up, against the machine and the numbers.
-use Rattle.std.specs.Prelude.{◌≡◌, ◌⊎◌, ◌++◌, Bool, true}
+use Rattle.std.specs.Prelude.{◌≡◌, ◌⊎◌, ◌++◌, Bool, true, false}
 use Rattle.lc_disk.specs.declared.area.Area.{Ghosts}
 use Rattle.lc_record.specs.Transaction.{effects}
-use Rattle.lc_recover.specs.Reads.{AreHonest, AllMergeTo}
+use Rattle.lc_recover.specs.Reads.{AreHonest, AllMergeTo, HaveLengths}
 use Rattle.lc_recover.specs.Recovery.{Recovering, IsLast, TakesMemory}
 use Rattle.lc_model.specs.History.{Cut, kept}
 use Rattle.lc_model.specs.Machine.{Step}
@@ -11,21 +11,18 @@ use Rattle.lc_model.specs.State.{DownAt, Setting, State}
 use Rattle.lc_model.specs.declared.event.Event.{Event}
 use Rattle.lc_model.specs.declared.event.Event.TheVariants.{RecoverStep}
 use Rattle.lc_model.specs.declared.reply.Reply.{Reply}
+use Rattle.lc_core.specs.Devices.{HonestLogs}
 use Rattle.lc_core.specs.Numbers.{Numbers}
 use Rattle.lc_core.specs.Pages.{FitsPages}
+use Rattle.lc_core.specs.Paging.{HaltAll}
 use Rattle.lc_core.specs.Running.{FitsRunning}
 use Rattle.lc_core.specs.Settled.{Settled}
-use Rattle.lc_core.specs.Stepping.{AsksMemory, is_plain}
+use Rattle.lc_core.specs.Stepping.{AsksMemory}
 use Rattle.lc_core.specs.Turns.{Turns, kept_numbers}
 use Rattle.lc_core.specs.declared.phase.Phase.{Phase}
 use Rattle.lc_core.specs.declared.phase.Phase.TheVariants.{Down, Up, Taken}
 use Rattle.lc_core.specs.declared.world.World.{World}
 use Rattle.lc_core.specs.declared.up.Up.{Up as UpStore}
-
--- the events but page steps, and but a stop
-abbrev pub is_common : Event → Bool
-is_common RecoverStep = true
-is_common event = is_plain event
 
 module _ {D : Type 0} (a : Ghosts D) where
   -- whatever a stop leaves of the areas merges to what the cut keeps, also while their recovery goes on
@@ -34,13 +31,21 @@ module _ {D : Type 0} (a : Ghosts D) where
     pub cut : Cut
     pub down : s.phase ≡ DownAt cut
     pub sound : Sound m.geometry s
+    pub lengths : HaveLengths a r.geometry r.areas
     pub honest : AreHonest a r.areas
     pub merges : AllMergeTo a m.geometry r.areas (effects (s.earlier ++ kept s.history cut) m.start) (kept_numbers (DownAt cut) s x)
     pub steps_are : x.steps ≡ r.steps
 
+  -- the nodes, the pages and the areas of a store that is up
+  pub record FitsUp (m : Setting) (up : UpStore D a) (s : State) (x : Numbers) : Type 0 where
+    pub running : FitsRunning a m up.running s x
+    pub pages : FitsPages a m up.segments.items x
+    pub honest : HonestLogs a up.running.nodes.items
+    pub failed : HaltAll a s up.segments.items
+
   abbrev pub FitsPhase : Setting → Phase D a → State → Numbers → Type 0
   FitsPhase m (Down recovery) s x = FitsDown m recovery s x
-  FitsPhase m (Up up) s x = FitsRunning a m up.running s x × FitsPages a m up.segments.items x
+  FitsPhase m (Up up) s x = FitsUp m up s x
   FitsPhase m Taken s x = ⊥
 
   abbrev pub FitsWorld : Setting → World D a → State → Numbers → Type 0

@@ -1,26 +1,27 @@
 //! What a store does.
-ghost use Rattle.std.specs.Prelude.{◌≡◌, true, IfOk, OnErr};
-ghost use Rattle.lc_model.specs.declared.event.Event.TheVariants.{RecoverStep};
-ghost use Rattle.lc_core.specs.World.{is_common};
+ghost use Rattle.std.specs.Prelude.{◌≡◌, List, IfOk, OnErr};
+ghost use Rattle.lc_disk.specs.declared.choice.Choice.{Choice};
+ghost use Rattle.lc_model.specs.declared.event.Event.TheVariants.{RecoverStep, Stop};
+ghost use Rattle.lc_model.specs.declared.reply.Reply.TheVariants.{Down as IsDown};
+ghost use Rattle.lc_core.specs.Stops.{StopsAll};
 
 use crate::phase::Phase;
 use crate::world::World;
 use crate::{Event, Refusal, Reply};
-use lc_disk::Area;
+use lc_disk::Stoppable;
 use std::alloc::{AllocError, Global};
 
-impl<D: Area + Drop> World<D> {
+impl<D: Stoppable + Drop> World<D> {
     ghost use Rattle.lc_core.specs.World.{AsksIn, FollowsWorld, StillFitsWorld};
     ghost use Rattle.lc_core.specs.Faults.{CountsPhase, phase_failures};
     ghost use Rattle.lc_core.specs.Recovers.{RecoversDown, RefusesAtOnce};
 
-    /// An event that is no step of a page write or of a reset, and no stop. It makes at most one call of an area.
+    /// An event. It makes at most one call of an area; a stop stops each area, and calls none.
     ///
     /// # Errors
     ///
     /// Where memory is wanted nothing has changed, and no area was called.
     pub fn step(&mut self, alloc: Global, event: &Event) -> Result<Reply, AllocError>
-        requires common { is_common event.now ≡ true }
         ensures follows { IfOk result (λ reply. FollowsWorld D.Area self.old event.now reply self.new) }
         ensures memory { OnErr result (AsksIn D.Area self.old.phase event.now) }
         ensures err { OnErr result (StillFitsWorld D.Area self.old self.new) }
@@ -29,12 +30,19 @@ impl<D: Area + Drop> World<D> {
         ensures at_once { IfOk result (λ reply. RefusesAtOnce D.Area self.old.phase event.now reply self.new.phase) }
         ensures recovers { event.now ≡ RecoverStep → IfOk result (λ reply. RecoversDown D.Area self.old.phase reply self.new.phase) }
 
+        // Behind a stop the areas are stopped, and a recovery begins on them.
+        ensures stops { (choices : List (List Choice)) → event.now ≡ Stop choices
+            → IfOk result (λ reply. (reply ≡ IsDown) × StopsAll D.Area self.old.phase self.new.phase) }
+
         // How often the devices of the areas have failed: once more for each device fault that is answered, and not else.
         ensures faults { IfOk result (λ reply. CountsPhase D.Area self.old.phase reply self.new.phase) }
         ensures no_fault { OnErr result (phase_failures D.Area self.new.phase ≡ phase_failures D.Area self.old.phase) }
     {
         if let Event::RecoverStep = event {
             return self.recover_step(alloc);
+        }
+        if let Event::Stop { choices } = event {
+            return Ok(self.stop(choices.as_slice()));
         }
         match &mut self.phase {
             Phase::Up(up) => up.step(alloc, event),

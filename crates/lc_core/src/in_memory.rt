@@ -1,12 +1,11 @@
 //! A store of zeros in memory.
-ghost use Rattle.std.specs.Prelude.{◌≡◌, ◌<◌, ℕ, All, IfOk, false, length, take, true};
+ghost use Rattle.std.specs.Prelude.{◌≡◌, ◌<◌, ℕ, IfOk, false, length, take, true};
 ghost use Rattle.lc_disk.specs.contracts.mem_area.MemAreaArea.TheImpl.{ghosts};
 ghost use Rattle.lc_model.specs.Recovered.{zero_content};
 ghost use Rattle.lc_model.specs.State.{State, first_state};
 ghost use Rattle.lc_recover.specs.Reads.{AreZeros, HaveLengths};
 ghost use Rattle.lc_core.specs.Numbers.{Numbers};
 ghost use Rattle.lc_core.specs.Runs.{RunsOn};
-ghost use Rattle.lc_core.specs.World.{is_common};
 
 use crate::world::World;
 use crate::{Event, RunResult};
@@ -38,7 +37,6 @@ pub fn run_in_memory(
     geometry: Geometry,
     events: &[Event],
 ) -> Result<RunResult, AllocError>
-    requires common { All (λ event. is_common event ≡ true) events.now }
     ensures follows { IfOk result (λ run. (x : Numbers) → x.disks.numbers ≡ (λ segment. 0) → x.steps ≡ 0
         → (after : State) × (next : Numbers) × RunsOn (record { geometry = geometry; start = zero_content geometry }) (first_state geometry) x
         (take (length run.replies.items) events.now) run.replies.items after next) }

@@ -9,8 +9,10 @@ mod blank;
 mod common;
 mod delivering;
 mod desk;
+mod drafting;
 mod ending;
 mod filling;
+mod giving_up;
 mod here;
 mod in_memory;
 mod journal;
@@ -27,6 +29,7 @@ mod page_calls;
 mod page_progress;
 mod page_state;
 mod pages;
+mod paging;
 mod phase;
 mod place;
 mod preparing;
@@ -51,6 +54,7 @@ mod slot;
 mod starting;
 mod step;
 mod stepping;
+mod stopping;
 mod token_refused;
 mod trimming;
 mod uncommitted;
@@ -72,6 +76,8 @@ mod journal_tests;
 mod node_tests;
 #[cfg(test)]
 mod nodes_tests;
+#[cfg(test)]
+mod page_tests;
 #[cfg(test)]
 mod pages_tests;
 #[cfg(test)]

@@ -1,6 +1,7 @@
 //! What a store shows of its logs.
 ghost use Rattle.std.specs.Prelude.{◌≡◌, ◌≢◌, ◌<◌, ℕ, None, Some, Err, IfOk, slice_get, slice_index_or, true};
 ghost use Rattle.lc_recover.specs.Recovery.{Recovering};
+ghost use Rattle.lc_core.specs.Faults.{SameDevices};
 ghost use Rattle.lc_core.specs.Log.{area_of};
 ghost use Rattle.lc_core.specs.LogWords.{IsLogRead, IsNodeKept, IsNodeRead, IsRead, ReadsLog, ReadsNone, StandsOn, has_failed, log_area, log_in};
 ghost use Rattle.lc_core.specs.declared.node.Node.{Node as TheNode};
@@ -33,7 +34,7 @@ impl<D: Area + Drop> World<D> {
             → (result ≢ Err Unknown) × ReadsLog D.Area node area self.old.phase self.new.phase (has_failed result) }
         ensures words { IfOk result (λ words. (area : D) → log_area D.Area self.old.phase node ≡ Some area → AreWordsOf D.Area area words.items) }
         ensures records { IfOk result (λ words. (area : D) → log_area D.Area self.old.phase node ≡ Some area
-            → ShowRecords D.Area self.old.phase node area words.items) }
+            → ShowRecords D.Area self.old.phase node words.items) }
     {
         let bytes = self.phase.log_bytes(alloc, node)?;
         let mut words = words_in(alloc, bytes.as_slice())?;
@@ -93,6 +94,7 @@ impl<D: Area + Drop> Running<D> {
             → (result ≡ Err Unknown) × (kept : IsNodeKept D.Area node its self.old self.new) × (area_of D.Area kept.now.journal.log ≡ None) }
         ensures read { (area : D) (its : TheNode D D.Area) → slice_get self.old.nodes.items node ≡ Some its → area_of D.Area its.journal.log ≡ Some area
             → (result ≢ Err Unknown) × IsNodeRead D.Area node its area self.old self.new (has_failed result) }
+        ensures devices { SameDevices D.Area self.old self.new }
         ensures bytes { IfOk result (λ bytes. (area : D) → log_in D.Area self.old.nodes.items node ≡ Some area
             → D.honest area ≡ true → (bytes.items ≡ D.now area) × ((k : ℕ) → slice_index_or (D.now area) k 0 < 256)) }
     {

@@ -8,7 +8,6 @@ ghost use Rattle.lc_core.specs.declared.phase.Phase.TheVariants.{Down};
 use crate::phase::Phase;
 use crate::recovered_reply::{reply_to, stopped};
 use crate::room::Room;
-use crate::up::Up;
 use crate::world::World;
 use crate::{Refusal, Reply};
 use lc_disk::Area;
@@ -58,7 +57,6 @@ impl<D: Area + Drop> Phase<D> {
         let Phase::Down(recovery) = self else {
             return self;
         };
-        let (running, segments) = room.furnish(alloc, recovery.finish());
-        Phase::Up(Up { running, segments })
+        Phase::Up(room.furnish(alloc, recovery.finish()))
     }
 }

@@ -19,6 +19,7 @@ use crate::node::Node;
 use crate::page_state::PageState;
 use crate::pages::Pages;
 use crate::running::Running;
+use crate::up::Up;
 use lc_disk::Area;
 use lc_log::Idle;
 use lc_record::Geometry;
@@ -67,20 +68,16 @@ impl<D: Area + Drop> Room<D> {
 
     /// The store that a recovery has made, on areas with empty logs, and the areas of its segments, of which no page is
     /// being written. It takes no memory.
-    pub(crate) fn furnish(
-        self,
-        alloc: Global,
-        recovered: Recovered<D>,
-    ) -> (Running<D>, Vec<Pages<D>>)
+    pub(crate) fn furnish(self, alloc: Global, recovered: Recovered<D>) -> Up<D>
         requires geometry { recovered.geometry ≡ self.geometry }
         requires lengths { HaveLengths D.Area recovered.geometry recovered.areas }
         requires finished { AreHonest D.Area recovered.areas → IsFinished D.Area recovered }
-        ensures fresh { AreHonest D.Area recovered.areas → IsFresh D.Area recovered result.0 }
-        ensures geometry { result.0.geometry ≡ recovered.geometry }
-        ensures log_areas { (n : ℕ) (node : Node D D.Area) → slice_get result.0.nodes.items n ≡ Some node → area_of D.Area node.journal.log ≡ slice_get recovered.areas n }
+        ensures fresh { AreHonest D.Area recovered.areas → IsFresh D.Area recovered result.running }
+        ensures geometry { result.running.geometry ≡ recovered.geometry }
+        ensures log_areas { (n : ℕ) (node : Node D D.Area) → slice_get result.running.nodes.items n ≡ Some node → area_of D.Area node.journal.log ≡ slice_get recovered.areas n }
         ensures bytes { AreOfBytes D.Area recovered.areas }
-        ensures areas { areas_of D.Area result.1.items ≡ drop recovered.geometry.nodes recovered.areas }
-        ensures rest { RestsAll D.Area recovered.geometry result.1.items }
+        ensures areas { areas_of D.Area result.segments.items ≡ drop recovered.geometry.nodes recovered.areas }
+        ensures rest { RestsAll D.Area recovered.geometry result.segments.items }
     {
         let Room {
             geometry,
@@ -91,12 +88,17 @@ impl<D: Area + Drop> Room<D> {
         } = self;
         fill_nodes(nodes.as_mut_slice(), alloc, &recovered);
         let areas = open_logs(nodes.as_mut_slice(), recovered);
+        let (segments, spare) = with_areas(segments, writes, areas);
         let running = Running {
             geometry,
             nodes,
             travelling,
         };
-        (running, with_areas(segments, writes, areas))
+        Up {
+            running,
+            segments,
+            spare,
+        }
     }
 }
 
@@ -154,6 +156,7 @@ fn open_logs<D: Area + Drop>(nodes: &mut [Node<D>], recovered: Recovered<D>) -> 
         Stands D.Area node.journal.log 0 [] [] × (is_idle D.Area node.journal.log ≡ true) }
     ensures bytes { AreOfBytes D.Area recovered.areas }
     ensures areas { result.items ≡ drop recovered.geometry.nodes recovered.areas }
+    ensures room { length recovered.areas ≤ vec_capacity result }
 {
     let mut areas = recovered.areas();
     ask_lengths(areas.as_slice());
@@ -164,27 +167,29 @@ fn open_logs<D: Area + Drop>(nodes: &mut [Node<D>], recovered: Recovered<D>) -> 
     areas
 }
 
-// Each area of a segment goes with the states of its pages.
+// Each area of a segment goes with the states of its pages. The room that they had is left.
 fn with_areas<D: Area + Drop>(
     mut segments: Vec<Pages<D>>,
     mut writes: Vec<Vec<PageState>>,
     mut areas: Vec<D>,
-) -> Vec<Pages<D>>
+) -> (Vec<Pages<D>>, Vec<D>)
     requires empty { segments.items ≡ [] }
     requires place { vec_len areas ≤ vec_capacity segments }
     requires count { vec_len writes ≡ vec_len areas }
     requires long { (k : ℕ) (area : D) (states : TheVec TheState) → slice_get areas.items k ≡ Some area → slice_get writes.items k ≡ Some states
         → 2 * 272 * vec_len states ≤ length (D.now area) }
     requires named { (k : ℕ) (states : TheVec TheState) → slice_get writes.items k ≡ Some states → AreNamed states.items }
-    ensures areas { areas_of D.Area result.items ≡ areas.items }
-    ensures writes { map (λ (pages : ThePages D D.Area). pages.writes) result.items ≡ writes.items }
+    ensures areas { areas_of D.Area result.0.items ≡ areas.items }
+    ensures writes { map (λ (pages : ThePages D D.Area). pages.writes) result.0.items ≡ writes.items }
+    ensures none { result.1.items ≡ [] }
+    ensures room { vec_capacity result.1 ≡ vec_capacity areas }
 {
     for _ in 0..areas.len() {
         let area = areas.remove(0);
         let writes = writes.remove(0);
         segments.push_reserved(Pages { area, writes });
     }
-    segments
+    (segments, areas)
 }
 
 // Asks each area for its length: what an honest one holds are bytes.

@@ -1,19 +1,17 @@
 //! What a store does with a list of events.
-ghost use Rattle.std.specs.Prelude.{◌≡◌, ◌<◌, All, length, take, true, false};
+ghost use Rattle.std.specs.Prelude.{◌≡◌, ◌<◌, length, take, true, false};
 ghost use Rattle.lc_core.specs.Faults.{CountsAll, phase_failures};
 ghost use Rattle.lc_core.specs.Runs.{FollowsRun};
-ghost use Rattle.lc_core.specs.World.{is_common};
 
 use crate::world::World;
 use crate::{Event, RunResult};
-use lc_disk::Area;
+use lc_disk::Stoppable;
 use std::alloc::{AllocError, Global};
 
-impl<D: Area + Drop> World<D> {
+impl<D: Stoppable + Drop> World<D> {
     /// These events, one after another, as far as there is memory: a reply's room is taken before its event. The store
     /// stands behind the events that were answered.
     pub fn run(&mut self, alloc: Global, events: &[Event]) -> RunResult
-        requires common { All (λ event. is_common event ≡ true) events.now }
         ensures follows { FollowsRun D.Area self.old (take (length result.replies.items) events.now) result.replies.items self.new }
         ensures faults { CountsAll result.replies.items (phase_failures D.Area self.old.phase) (phase_failures D.Area self.new.phase) }
         ensures all { result.out_of_memory ≡ false → length result.replies.items ≡ length events.now }

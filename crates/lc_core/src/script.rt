@@ -1,6 +1,5 @@
 //! Scripts for tests: what a store is asked, line by line, and what it has to answer.
 ghost use Rattle.std.specs.Prelude.{◌≡◌, true, IfOk};
-ghost use Rattle.lc_core.specs.World.{is_common};
 
 use crate::world::World;
 use crate::{Event, Refusal, Reply};
@@ -36,6 +35,8 @@ pub(crate) enum Line {
     /// Sender, number, segment, receiver.
     Deliver(u16, u64, u32, u16),
     Trim(u16),
+    /// A step of a page write: node, segment, page.
+    Page(u16, u32, u32),
     /// A step of a reset.
     Reset(u16),
     Recover,
@@ -56,14 +57,14 @@ pub(crate) enum Answer<'a> {
     HeldBack,
     Ignored,
     Trimmed(u64),
+    Written(u64),
+    Reset,
     Refused(Refusal),
     Other,
 }
 
 // The event of a line, and of several the first.
-fn event_of(alloc: Global, line: Line) -> Result<Event, AllocError>
-    ensures { IfOk result (λ event. is_common event ≡ true) }
-{
+fn event_of(alloc: Global, line: Line) -> Result<Event, AllocError> {
     Ok(match line {
         Line::Begin(node, thread, segments, reading) => Event::Begin {
             node,
@@ -105,6 +106,11 @@ fn event_of(alloc: Global, line: Line) -> Result<Event, AllocError>
             to,
         },
         Line::Trim(node) => Event::Trim { node },
+        Line::Page(node, segment, page) => Event::PageStep {
+            node,
+            segment,
+            page,
+        },
         Line::Reset(node) => Event::ResetStep { node },
         Line::Recover => Event::RecoverStep,
     })
@@ -124,6 +130,8 @@ pub(crate) fn answer_of(reply: &Reply) -> Answer<'_> {
         Reply::HeldBack => Answer::HeldBack,
         Reply::Ignored => Answer::Ignored,
         Reply::Trimmed(count) => Answer::Trimmed(*count),
+        Reply::Written(number) => Answer::Written(*number),
+        Reply::Reset => Answer::Reset,
         Reply::Refused(refusal) => Answer::Refused(*refusal),
         _ => Answer::Other,
     }
@@ -189,23 +197,36 @@ fn zeros(alloc: Global, len: usize, failing: u32) -> Result<Fuse, AllocError> {
     Ok(Fuse::new(area, When::At(u64::from(failing))))
 }
 
-// This call of the first log fails, none where it is 0.
-fn areas_of(alloc: Global, geometry: &Geometry, failing: u32) -> Result<Vec<Fuse>, AllocError> {
+// This call of the first log fails, and this one of the first segment, none where it is 0.
+fn areas_of(
+    alloc: Global,
+    geometry: &Geometry,
+    in_log: u32,
+    in_pages: u32,
+) -> Result<Vec<Fuse>, AllocError> {
+    let pages_len = geometry.pages as usize * 544;
     let mut areas = Vec::new(alloc);
-    areas.push(zeros(alloc, geometry.log_len(), failing)?)?;
+    areas.push(zeros(alloc, geometry.log_len(), in_log)?)?;
     for _ in 1..geometry.nodes {
         areas.push(zeros(alloc, geometry.log_len(), 0)?)?;
     }
-    for _ in 0..geometry.segments {
-        areas.push(zeros(alloc, geometry.pages as usize * 544, 0)?)?;
+    areas.push(zeros(alloc, pages_len, in_pages)?)?;
+    for _ in 1..geometry.segments {
+        areas.push(zeros(alloc, pages_len, 0)?)?;
     }
     Ok(areas)
 }
 
-/// A store of zeros that is up. This call of the first log's device fails, none where it is 0.
-pub(crate) fn up(alloc: Global, geometry: Geometry, failing: u32) -> Result<World<Fuse>, Fail> {
-    let areas = match areas_of(alloc, &geometry, failing) {
-        Err(AllocError) => areas_of(alloc, &geometry, failing)?,
+/// A store of zeros that is up. This call of the first log's device fails, and this one of the first segment's, none where
+/// it is 0.
+pub(crate) fn up_with(
+    alloc: Global,
+    geometry: Geometry,
+    in_log: u32,
+    in_pages: u32,
+) -> Result<World<Fuse>, Fail> {
+    let areas = match areas_of(alloc, &geometry, in_log, in_pages) {
+        Err(AllocError) => areas_of(alloc, &geometry, in_log, in_pages)?,
         Ok(areas) => areas,
     };
     let Ok(mut world) = World::new(geometry, areas) else {
@@ -219,6 +240,11 @@ pub(crate) fn up(alloc: Global, geometry: Geometry, failing: u32) -> Result<Worl
         }
     }
     Err(Fail::from("a recovery ends"))
+}
+
+/// A store of zeros that is up. This call of the first log's device fails, none where it is 0.
+pub(crate) fn up(alloc: Global, geometry: Geometry, failing: u32) -> Result<World<Fuse>, Fail> {
+    up_with(alloc, geometry, failing, 0)
 }
 
 /// A store of zeros answers all lines so.

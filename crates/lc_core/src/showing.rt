@@ -35,7 +35,7 @@ impl<D: Area + Drop> World<D> {
 }
 
 // The bytes of a page of a segment, as far as it has them.
-fn page_in(bytes: &[u8], page: u32) -> &[u8]
+pub(crate) fn page_in(bytes: &[u8], page: u32) -> &[u8]
     ensures { result.now ≡ page_of bytes.now page }
 {
     let start = (page as usize * PAGE_BYTES).min(bytes.len());

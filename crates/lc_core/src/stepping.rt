@@ -1,13 +1,16 @@
 //! The events of a store that is up, each by the row of the machine.
-ghost use Rattle.std.specs.Prelude.{◌≡◌, ◌<◌, ◌≤◌, ◌+◌, ◌⊎◌, ℕ, List, length, true, false, IfOk, OnErr};
+ghost use Rattle.std.specs.Prelude.{◌≡◌, ◌<◌, ◌≤◌, ◌+◌, ◌⊎◌, ℕ, List, length, true, false, not, vec_len, IfOk, OnErr};
 ghost use Rattle.lc_tx.specs.Tx.{IsSetOf, none_of};
 ghost use Rattle.lc_model.specs.Refusals.{is_known};
-ghost use Rattle.lc_model.specs.declared.event.Event.TheVariants.{Abort, Begin, Close, FlushStep, Read, Reserve, ResetStep, SetRange, Trim, Write};
+ghost use Rattle.lc_model.specs.declared.event.Event.TheVariants.{Abort, Begin, Close, FlushStep, PageStep, Read, Reserve, ResetStep, SetRange, Trim, Write};
 ghost use Rattle.lc_core.specs.Running.{FollowsRow, IsRunning, StillFitsAll, WantsPlaceAt, WantsRange};
 ghost use Rattle.lc_core.specs.FaultReplies.{is_fault};
-ghost use Rattle.lc_core.specs.Faults.{CountsLogs, SameLogs};
+ghost use Rattle.lc_core.specs.Faults.{CountsLogs, SameLogAreas, SameLogs};
+ghost use Rattle.lc_core.specs.Paging.{FollowsPaging};
+ghost use Rattle.lc_page.specs.PageWrite.{Continues};
 
 use crate::Reply;
+use crate::pages::Pages;
 use crate::running::Running;
 use crate::trimming::applied_in_front;
 use lc_disk::Area;
@@ -157,6 +160,25 @@ impl<D: Area + Drop> Running<D> {
         ensures faults { CountsLogs D.Area self.old result self.new }
     {
         self.nodes[node as usize].reset_step()
+    }
+
+    /// One of the six device calls of a write of a page of a segment, whose area and page writes these are.
+    pub(crate) fn page_step(
+        &mut self,
+        node: u16,
+        segment: u32,
+        page: u32,
+        pages: &mut Pages<D>,
+    ) -> Reply
+        requires known { is_known self.old.geometry (PageStep node segment page) ≡ true }
+        requires page { page < vec_len pages.old.writes }
+        ensures follows { FollowsPaging D.Area node segment page self.old pages.old result self.new pages.new }
+
+        // One call of the segment's device, or none, and none of a log's.
+        ensures device { Continues D.Area pages.old.area pages.new.area (not (is_fault result)) }
+        ensures logs { SameLogAreas D.Area self.old self.new }
+    {
+        self.nodes[node as usize].page_step(segment, page, pages)
     }
 
     /// A node drops of its published records those in front that every node has applied.

@@ -1,31 +1,60 @@
 //! What a store that is up does.
 ghost use Rattle.std.specs.Prelude.{◌≡◌, ℕ, true, IfOk, OnErr};
 ghost use Rattle.lc_model.specs.State.{Setting};
+ghost use Rattle.lc_model.specs.declared.event.Event.TheVariants.{PageStep};
 ghost use Rattle.lc_core.specs.Faults.{CountsPhase, phase_failures};
 ghost use Rattle.lc_core.specs.Numbers.{Numbers};
 ghost use Rattle.lc_core.specs.Pages.{FitsPages};
-ghost use Rattle.lc_core.specs.Stepping.{AsksMemory, TellsWriting, is_plain};
+ghost use Rattle.lc_core.specs.Stepping.{AsksMemory, TellsWriting, works_up};
 ghost use Rattle.lc_core.specs.World.{FollowsUp, StillFitsUp};
 ghost use Rattle.lc_core.specs.declared.phase.Phase.TheVariants.{Up as IsUp};
 
 use crate::up::Up;
-use crate::{Event, Reply};
+use crate::{Event, Refusal, Reply};
 use lc_disk::Area;
 use std::alloc::{AllocError, Global};
 
 impl<D: Area + Drop> Up<D> {
-    /// An event that is no step of a page write or of a reset, no stop and no step of a recovery. Where memory is wanted
-    /// nothing has changed.
+    /// An event that is no stop and no step of a recovery. Where memory is wanted nothing has changed.
     pub(crate) fn step(&mut self, alloc: Global, event: &Event) -> Result<Reply, AllocError>
-        requires plain { is_plain event.now ≡ true }
+        requires up { works_up event.now ≡ true }
         ensures follows { IfOk result (λ reply. FollowsUp D.Area self.old event.now reply self.new) }
         ensures memory { OnErr result (AsksMemory D.Area self.old.running event.now) }
         ensures err { OnErr result (StillFitsUp D.Area self.old self.new) }
         ensures faults { IfOk result (λ reply. CountsPhase D.Area (IsUp self.old) reply (IsUp self.new)) }
         ensures no_fault { OnErr result (phase_failures D.Area (IsUp self.new) ≡ phase_failures D.Area (IsUp self.old)) }
     {
+        if let Event::PageStep {
+            node,
+            segment,
+            page,
+        } = event
+        {
+            return Ok(self.page_step(*node, *segment, *page));
+        }
         let writing = self.is_writing(event);
         self.running.step(alloc, event, writing)
+    }
+
+    // One of the six device calls of a page write.
+    fn page_step(&mut self, node: u16, segment: u32, page: u32) -> Reply
+        ensures follows { FollowsUp D.Area self.old (PageStep node segment page) result self.new }
+        ensures faults { CountsPhase D.Area (IsUp self.old) result (IsUp self.new) }
+    {
+        let event = Event::PageStep {
+            node,
+            segment,
+            page,
+        };
+        if let Some(refusal) = self.running.refusal(&event) {
+            return Reply::Refused(refusal);
+        }
+        let place = segment as usize - 1;
+        if page as usize >= self.segments[place].writes.len() {
+            return Reply::Refused(Refusal::Unknown);
+        }
+        let pages = &mut self.segments[place];
+        self.running.page_step(node, segment, page, pages)
     }
 
     // Whether a page is being written of the segment whose token is to leave.

@@ -1,6 +1,5 @@
 //! A store of two nodes on areas of zeros, from its recovery on.
 ghost use Rattle.std.specs.Prelude.{◌≡◌, true, IfOk};
-ghost use Rattle.lc_core.specs.World.{is_common};
 
 use crate::in_memory::run_in_memory;
 use crate::world::World;
@@ -21,9 +20,7 @@ fn zeros(alloc: Global) -> Result<Vec<MemArea>, AllocError> {
 }
 
 // The only thread of node 0 locks segment 2.
-fn begin(alloc: Global) -> Result<Event, AllocError>
-    ensures { IfOk result (λ event. is_common event ≡ true) }
-{
+fn begin(alloc: Global) -> Result<Event, AllocError> {
     Ok(Event::Begin {
         node: 0,
         thread: 0,

@@ -1,8 +1,9 @@
 -- A list of areas of which one is called.
-use Rattle.std.proofs.Common.{◌≡◌, ◌≢◌, ◌⊎◌, ℕ, zero, suc, ◌+◌, ◌<◌, Bool, true, false, Option, Some, List, [], ◌∷◌, ◌++◌, length, take, drop, refl, sym, ◌∙◌, ap, subst, arith, inl, inr}
+use Rattle.std.proofs.Common.{◌≡◌, ◌≢◌, ◌⊎◌, ℕ, zero, suc, ◌+◌, ◌<◌, Bool, true, false, Option, Some, List, [], ◌∷◌, ◌++◌, map, length, take, drop, refl, sym, ◌∙◌, ap, subst, arith, inl, inr}
 use Rattle.std.specs.Prelude.{slice_get, slice_set, slice_index_or, Result, Ok, Err, OnOk, OnErr, IsErr, is_ok}
 use Rattle.std.specs.Option.{unwrap_or}
-use Rattle.std.proofs.lemmas.Option.{none-some, slice_get_within}
+use Rattle.std.proofs.lemmas.Option.{none-some, slice_get_within, get_or_from_slice_get}
+use Rattle.std.proofs.Math.Seq.{map-set_same}
 use Rattle.std.proofs.lemmas.List.{length-set, length-append, take-append-le, take_all}
 use Rattle.std.specs.Prelude.{if◌then◌else◌}
 use Rattle.std.proofs.lemmas.Bool.{cases_eq, cases_lt}
@@ -106,6 +107,10 @@ module _ {D : Type 0} (a : Ghosts D) (g : Geometry) where
                 | inr differ ↦ are.each j area (set-others areas k new j area differ is)
               ];
         })
+
+    pub quiet-reads : Quiet a old new → AreHonest a areas → map a.now (slice_set areas k new) ≡ map a.now areas
+    quiet-reads quiet honest =
+        map-set_same a.now areas k new old (quiet.same (honest k old was) ∙ ap a.now (sym (get_or_from_slice_get areas k old old was)))
 
     pub one-call : (ok : Bool) → a.honest new ≡ a.honest old → a.failures new ≡ (if ok then a.failures old else a.failures old + 1) → OneCall a k areas (slice_set areas k new) ok
     one-call ok honest counted = record { old = old; new = new; was = was; is = refl; honest = honest; counted = counted }

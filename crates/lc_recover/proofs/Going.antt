@@ -90,7 +90,7 @@ left-writes g w i less =
     let left : 0 < length (pages_of (drop w.next w.merged.changes.items)) = some-pages (drop w.next w.merged.changes.items) (omega (arith, less, length-drop w.next w.merged.changes.items)) in
     omega (arith, left, five-calls w.current)
 
-few-resets : (g : Geometry) (r : LogResets) → r.next < g.nodes → resets_done r < 2 * g.nodes
+pub few-resets : (g : Geometry) (r : LogResets) → r.next < g.nodes → resets_done r < 2 * g.nodes
 few-resets g r less =
     let go : (b : Bool) → 2 * r.next + (if b then 1 else 0) < 2 * g.nodes = λ b.
     elim b as (λ b. 2 * r.next + (if b then 1 else 0) < 2 * g.nodes) [
@@ -299,3 +299,10 @@ pub call-carried : {D : Type 0} (a : Ghosts D) (g : Geometry) (olds news after :
     MakesItsCall a (recovering g olds stage) news ok → MakesItsCall a view after ok
 call-carried {D = D} a g olds news after stage view ok start same call =
     subst (λ (l : List D). MakesItsCall a view l ok) (sym same) (subst (λ (r : Recovering D). MakesItsCall a r news ok) start call)
+
+pub reads-carried : {D : Type 0} (a : Ghosts D) (g : Geometry) (olds news after : List D) (stage : Stage) (view : Recovering D) → recovering g olds stage ≡ view → after ≡ news →
+    (steps_of g stage + 1 < first_steps g → AreHonest a olds → map a.now news ≡ map a.now olds) →
+    view.steps + 1 < first_steps view.geometry → AreHonest a view.areas → map a.now after ≡ map a.now view.areas
+reads-carried {D = D} a g olds news after stage view start same reads =
+    subst (λ (r : Recovering D). r.steps + 1 < first_steps r.geometry → AreHonest a r.areas → map a.now after ≡ map a.now r.areas) start
+    (λ before honest. ap (map a.now) same ∙ reads before honest)

@@ -33,3 +33,4 @@ pub mod Renewing
 pub mod Exclusive
 pub mod StillHonest
 pub mod Blank
+pub mod StepsBound

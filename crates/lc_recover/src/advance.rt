@@ -7,7 +7,7 @@ ghost use Rattle.lc_recover.specs.Reads.{AreHonest, AllMergeTo, store_of};
 ghost use Rattle.lc_recover.specs.Recovery.{begun, recovering, Renews, IsGoing, IsMerged, IsMergeNext, MakesItsCall, TakesMemory};
 ghost use Rattle.lc_recover.specs.Stopped.{IsStopped};
 ghost use Rattle.lc_recover.specs.Stage.{AreasFit, Fits};
-ghost use Rattle.lc_recover.specs.Steps.{steps_of, all_pages, pages_in, HasNext, IsOver};
+ghost use Rattle.lc_recover.specs.Steps.{first_steps, steps_of, all_pages, pages_in, HasNext, IsOver};
 ghost use Rattle.lc_recover.specs.declared.fault.RecoverFault.TheVariants.{NoMemory, DeviceFault as Failed};
 ghost use Rattle.lc_recover.specs.declared.stage.Stage.{Stage};
 
@@ -49,6 +49,8 @@ pub(crate) fn advance<D: Area>(
     ensures failed { IfErr result (λ stopped. (IsMergeNext (recovering geometry.now areas.old stage) → ⊥)
         → (stopped.fault ≡ NoMemory) ⊎ ((stopped.fault ≡ Failed) × MakesItsCall D.Area (recovering geometry.now areas.old stage) areas.new false)) }
     ensures no_call { IsMergeNext (recovering geometry.now areas.old stage) → areas.new ≡ areas.old }
+    ensures reads { steps_of geometry.now stage + 1 < first_steps geometry.now → AreHonest D.Area areas.old
+        → map D.now areas.new ≡ map D.now areas.old }
     ensures merged { IfOk result (λ next. IsMergeNext (recovering geometry.now areas.old stage) → AreHonest D.Area areas.old
         → IsMerged D.Area (recovering geometry.now areas.old next)) }
     ensures refused { IfErr result (λ stopped. IsMergeNext (recovering geometry.now areas.old stage) → AreHonest D.Area areas.old
@@ -87,6 +89,7 @@ pub(crate) fn sync_step<D: Area>(
         → Renews D.Area (recovering geometry.now areas.old (Stage.Syncing synced)) (recovering geometry.now areas.new next)) }
     ensures areas { AreasFit D.Area geometry.now (Stage.Syncing 0) areas.new }
     ensures call { MakesItsCall D.Area (recovering geometry.now areas.old (Stage.Syncing synced)) areas.new (is_ok result) }
+    ensures reads { AreHonest D.Area areas.old → map D.now areas.new ≡ map D.now areas.old }
     ensures merges { (content : Content) (numbers : ℕ → ℕ) → AreHonest D.Area areas.new
         → AllMergeTo D.Area geometry.now areas.old content numbers → AllMergeTo D.Area geometry.now areas.new content numbers }
 {
@@ -116,6 +119,7 @@ pub(crate) fn read_step<D: Area>(
     ensures call { IfOk result (λ stage. MakesItsCall D.Area (recovering geometry.now areas.old (Stage.Reading read)) areas.new true) }
     ensures fault { IfErr result (λ stopped. (stopped.fault ≡ NoMemory)
         ⊎ ((stopped.fault ≡ Failed) × MakesItsCall D.Area (recovering geometry.now areas.old (Stage.Reading read)) areas.new false)) }
+    ensures reads { AreHonest D.Area areas.old → map D.now areas.new ≡ map D.now areas.old }
     ensures merges { (content : Content) (numbers : ℕ → ℕ) → AreHonest D.Area areas.new
         → AllMergeTo D.Area geometry.now areas.old content numbers → AllMergeTo D.Area geometry.now areas.new content numbers }
 {

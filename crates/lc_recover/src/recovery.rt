@@ -1,5 +1,5 @@
 //! The recovery of a store, step by step.
-ghost use Rattle.std.specs.Prelude.{[], ◌≡◌, ◌≢◌, ◌+◌, ◌<◌, ◌≤◌, ◌↔◌, ◌⊎◌, ℕ, List, length, map, take, drop, false, true, Some, None, Err, IfOk, IfErr, OnOk, OnErr, IsTrue, is_ok, slice_get};
+ghost use Rattle.std.specs.Prelude.{[], ◌≡◌, ◌≢◌, ◌+◌, ◌*◌, ◌<◌, ◌≤◌, ◌↔◌, ◌⊎◌, ℕ, List, length, map, take, drop, false, true, Some, None, Err, IfOk, IfErr, OnOk, OnErr, IsTrue, is_ok, slice_get};
 ghost use Rattle.lc_model.specs.Merge.{IsLeast};
 ghost use Rattle.lc_record.specs.Content.{Content};
 ghost use Rattle.lc_recover.specs.Fault.{IsRefusal};
@@ -44,7 +44,7 @@ impl<D: Area> Model for Recovery<D> {
 
 impl<D: Area> Recovery<D> {
     ghost use Rattle.lc_recover.specs.Recovered.{IsFinished, page_read};
-    ghost use Rattle.lc_recover.specs.Recovery.{Recovering, begun, IsDone, IsLast, IsMergeNext, IsMerged, IsReadFrom, MakesItsCall, Renews, TakesMemory, Tells};
+    ghost use Rattle.lc_recover.specs.Recovery.{Recovering, all_steps, begun, IsDone, IsLast, IsMergeNext, IsMerged, IsReadFrom, MakesItsCall, Renews, TakesMemory, Tells};
 
     /// Begins the recovery of these areas. It takes no memory and calls no area. Where one has a length that is not
     /// that of the geometry, is missing, or is too many, the least such index is named, and the areas come back.
@@ -84,6 +84,7 @@ impl<D: Area> Recovery<D> {
         ensures honest_before { AreHonest D.Area self.new.areas → AreHonest D.Area self.old.areas }
         ensures progress { IfOk result (λ progress. Tells progress self.new) }
         ensures steps { OnOk result (self.new.steps ≡ self.old.steps + 1) }
+        ensures bound { self.new.steps ≤ all_steps self.new.geometry (self.new.geometry.segments * self.new.geometry.pages) }
         ensures last { IfOk result (λ progress. IsDone self.new → IsLast self.old) }
         ensures no_memory { result ≡ Err NoMemory → TakesMemory self.old × (self.new ≡ self.old) }
         ensures again { IfErr result (λ fault. (fault ≡ NoMemory → ⊥) → self.new ≡ begun self.old.geometry self.new.areas) }
@@ -93,6 +94,10 @@ impl<D: Area> Recovery<D> {
             → MakesItsCall D.Area self.old self.new.areas (is_ok result) }
         ensures no_call { IsMergeNext self.old → self.new.areas ≡ self.old.areas }
         ensures fault { IfErr result (λ fault. (IsMergeNext self.old → ⊥) → (fault ≡ NoMemory) ⊎ (fault ≡ Failed)) }
+
+        // A sync or a read, also one that fails, leaves what the areas read as.
+        ensures reads { self.old.steps + 1 < first_steps self.old.geometry → AreHonest D.Area self.old.areas
+            → map D.now self.new.areas ≡ map D.now self.old.areas }
 
         // The merge of what the areas read as is refused just where it has to be. What was read of an area that is not
         // honest may be anything.

@@ -1,5 +1,5 @@
 //! The steps that sync the areas and read them.
-ghost use Rattle.std.specs.Prelude.{◌≡◌, ◌+◌, ◌<◌, ◌⊎◌, ℕ, Ok, Err, IfOk, IfErr, OnOk, OnErr, length, is_ok, true, if◌then◌else◌};
+ghost use Rattle.std.specs.Prelude.{◌≡◌, ◌+◌, ◌<◌, ◌⊎◌, ℕ, Ok, Err, IfOk, IfErr, OnOk, OnErr, length, map, is_ok, true, if◌then◌else◌};
 ghost use Rattle.lc_record.specs.Content.{Content};
 ghost use Rattle.lc_recover.specs.Reads.{AreHonest, AllMergeTo};
 ghost use Rattle.lc_recover.specs.Stage.{AreasFit, Fits, OneCall, Quiet};
@@ -21,6 +21,7 @@ pub(crate) fn sync_area<D: Area>(
     ensures fits { OnOk result (AreasFit D.Area geometry.now (Stage.Syncing (synced + 1)) areas.new) }
     ensures areas { AreasFit D.Area geometry.now (Stage.Syncing 0) areas.new }
     ensures call { OneCall D.Area synced areas.old areas.new (is_ok result) }
+    ensures reads { AreHonest D.Area areas.old → map D.now areas.new ≡ map D.now areas.old }
     ensures merges { (content : Content) (numbers : ℕ → ℕ) → AreHonest D.Area areas.new
         → AllMergeTo D.Area geometry.now areas.old content numbers → AllMergeTo D.Area geometry.now areas.new content numbers }
 {
@@ -41,6 +42,7 @@ pub(crate) fn read_area<D: Area>(
     ensures no_memory { result ≡ Err NoMemory → (areas.new ≡ areas.old) × (read.new.items ≡ read.old.items) }
     ensures areas { AreasFit D.Area geometry.now (Stage.Syncing 0) areas.new }
     ensures call { (result ≡ Err NoMemory → ⊥) → OneCall D.Area (length read.old.items) areas.old areas.new (is_ok result) }
+    ensures reads { AreHonest D.Area areas.old → map D.now areas.new ≡ map D.now areas.old }
     ensures merges { (content : Content) (numbers : ℕ → ℕ) → AreHonest D.Area areas.new
         → AllMergeTo D.Area geometry.now areas.old content numbers → AllMergeTo D.Area geometry.now areas.new content numbers }
     ensures fault { IfErr result (λ fault. (fault ≡ NoMemory) ⊎ (fault ≡ Failed)) }

@@ -60,6 +60,7 @@ loop-node-preserved g c =
     let new : Node g.row.D.Denot g.D.Area = record { desk = node.desk; journal = c.open.new.self; known = node.known } in
     let filled = c.loop-node.invariant.filled place node there in
     record {
+      room = omega (arith, c.remove-area.ensures.capacity, c.loop-node.invariant.room);
       areas = c.remove-area.ensures.items ∙ ap (drop 1) c.loop-node.invariant.areas ∙ drop-drop 1 place r.areas;
       filled = each_set (λ n x. IsFilledNode g.D.Area r n x) nodes place new c.loop-node.invariant.filled (record {
         desk = filled.desk;

@@ -1,4 +1,4 @@
-use Rattle.std.proofs.Common.{◌≡◌, ℕ, ◌<◌, true, [], drop, Some}
+use Rattle.std.proofs.Common.{◌≡◌, ℕ, ◌<◌, ◌≤◌, true, [], drop, length, Some, vec_capacity}
 use Rattle.std.specs.Prelude.{slice_get}
 use Rattle.lc_recover.specs.Reads.{AreHonest}
 use Rattle.lc_recover.specs.Recovered.{IsFinished}
@@ -10,6 +10,7 @@ use Rattle.lc_core.proofs.room.open_logs.Given as goal
 abbrev pub invariant-loop-node : goal.invariant-loop-node
 invariant-loop-node g l = record {
   areas : l.areas.items ≡ drop l.node-index l.fn.recovered.areas;
+  room : length l.fn.recovered.areas ≤ vec_capacity l.areas;
   filled : AreFilledNodes g.D.Area l.fn.recovered l.nodes;
   log_areas : (n : ℕ) (node : Node g.row.D.Denot g.D.Area) → n < l.node-index → slice_get l.nodes n ≡ Some node
       → area_of g.D.Area node.journal.log ≡ slice_get l.fn.recovered.areas n;

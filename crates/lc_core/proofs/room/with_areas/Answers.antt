@@ -19,6 +19,7 @@ loop-preserved g c =
       left = omega (arith, c.remove-area.ensures.len, h.left);
       left_writes = omega (arith, c.remove-writes.ensures.len, h.left_writes);
       place = c.push_reserved.ensures.capacity ∙ h.place;
+      room = c.remove-area.ensures.capacity ∙ h.room;
       long = λ k area states there got. h.long (1 + k) area states
           (sym (at_drop 1 k c.loop.areas.items) ∙ ap (λ l. slice_get l k) (sym c.remove-area.ensures.items) ∙ there)
           (sym (at_drop 1 k c.loop.writes.items) ∙ ap (λ l. slice_get l k) (sym c.remove-writes.ensures.items) ∙ got);

@@ -15,6 +15,7 @@ invariant-loop g l = record {
   left : vec_len l.areas + l.counter ≡ vec_len l.fn.areas;
   left_writes : vec_len l.writes + l.counter ≡ vec_len l.fn.writes;
   place : vec_capacity l.segments ≡ vec_capacity l.fn.segments;
+  room : vec_capacity l.areas ≡ vec_capacity l.fn.areas;
   long : (k : ℕ) (area : g.row.D.Denot) (states : Vec PageState) → slice_get l.areas.items k ≡ Some area → slice_get l.writes.items k ≡ Some states
       → 2 * 272 * vec_len states ≤ length (g.D.Area.now area);
   named : (k : ℕ) (states : Vec PageState) → slice_get l.writes.items k ≡ Some states → AreNamed states.items;

@@ -3,7 +3,7 @@ use Rattle.std.specs.Prelude.{slice_get, slice_set}
 use Rattle.std.proofs.lemmas.List.{length-append}
 use Rattle.std.proofs.lemmas.Option.{slice_get-get_or}
 use Rattle.lc_disk.specs.Area.{IsClean}
-use Rattle.lc_recover.proofs.AreaLemmas.{begins as starts, quiet-begins, quiet-bytes, quiet-merges, one-call, fits-set, read-other, read-own, read-lengths, not_ok}
+use Rattle.lc_recover.proofs.AreaLemmas.{begins as starts, quiet-begins, quiet-bytes, quiet-merges, quiet-reads, one-call, fits-set, read-other, read-own, read-lengths, not_ok}
 use Rattle.lc_recover.specs.Reads.{area_len, area_count}
 use Rattle.lc_recover.specs.Stage.{Quiet, AreasFit, AreaFits, ReadsSo, OneCall}
 use Rattle.lc_recover.specs.declared.stage.Stage.TheVariants.{Syncing, Reading}
@@ -43,6 +43,9 @@ returns-in_err-read_whole-clause-call g c some =
 
 pub returns-in_err-read_whole-clause-merges : goal.returns-in_err-read_whole-clause-merges
 returns-in_err-read_whole-clause-merges g c content numbers = quiet-merges g.D.Area c.args.geometry.now c.args.areas.now c.len-place.result (f_old g c) c.read_whole.new.area (f_was g c) content numbers (f_quiet g c)
+
+pub returns-in_err-read_whole-clause-reads : goal.returns-in_err-read_whole-clause-reads
+returns-in_err-read_whole-clause-reads g c = quiet-reads g.D.Area c.args.geometry.now c.args.areas.now c.len-place.result (f_old g c) c.read_whole.new.area (f_was g c) (f_quiet g c)
 
 module _ (g : Over) (c : goal.After-push_reserved g) where
   abbrev old : g.row.D.Denot
@@ -126,3 +129,6 @@ returns-clause-call g c some =
 
 pub returns-clause-merges : goal.returns-clause-merges
 returns-clause-merges g c content numbers = quiet-merges g.D.Area c.args.geometry.now c.args.areas.now c.len-place.result (old g c) c.read_whole.new.area (was g c) content numbers (quiet g c)
+
+pub returns-clause-reads : goal.returns-clause-reads
+returns-clause-reads g c = quiet-reads g.D.Area c.args.geometry.now c.args.areas.now c.len-place.result (old g c) c.read_whole.new.area (was g c) (quiet g c)

@@ -2,7 +2,7 @@ use Rattle.std.proofs.Common.{◌≡◌, ◌∙◌, ◌<◌, ◌+◌, sym, ap, a
 use Rattle.std.specs.Prelude.{slice_get}
 use Rattle.std.proofs.lemmas.Option.{slice_get-get_or}
 use Rattle.lc_log.proofs.ResetLemmas.{on_ok}
-use Rattle.lc_recover.proofs.AreaLemmas.{quiet-begins, quiet-bytes, quiet-merges, one-call, fits-set, cleaner}
+use Rattle.lc_recover.proofs.AreaLemmas.{quiet-begins, quiet-bytes, quiet-merges, quiet-reads, one-call, fits-set, cleaner}
 use Rattle.lc_recover.specs.Stage.{Quiet}
 use Rattle.lc_recover.specs.declared.stage.Stage.TheVariants.{Syncing}
 use Rattle.lc_recover.proofs.syncing.sync_area.Given.{Over}
@@ -46,3 +46,6 @@ returns-clause-call g c = one-call g.D.Area c.args.geometry.now c.args.areas.now
 
 pub returns-clause-merges : goal.returns-clause-merges
 returns-clause-merges g c content numbers = quiet-merges g.D.Area c.args.geometry.now c.args.areas.now c.args.synced (old g c) c.sync.new.self (was g c) content numbers (quiet g c)
+
+pub returns-clause-reads : goal.returns-clause-reads
+returns-clause-reads g c = quiet-reads g.D.Area c.args.geometry.now c.args.areas.now c.args.synced (old g c) c.sync.new.self (was g c) (quiet g c)

@@ -1,5 +1,12 @@
-use Rattle.std.proofs.Common.{refl, inl, inr, arith}
+use Rattle.std.proofs.Common.{ℕ, ◌≤◌, List, refl, inl, inr, arith}
+use Rattle.lc_log.specs.NodeLog.{IsWithOrWithout}
+use Rattle.lc_record.specs.declared.record.Record.{Record}
+use Rattle.lc_core.specs.Log.{IsLeft}
 use Rattle.lc_core.proofs.log.Log.flush_step.Goals as goal
+
+gate_open : (steps : ℕ) (stable group : List Record) (words : List ℕ) → 3 ≤ steps → IsWithOrWithout stable group words → IsLeft steps stable group words
+gate_open steps stable group words late (inl without) = inl without
+gate_open steps stable group words late (inr whole) = inr (late, whole)
 
 pub returns-in-Ok : goal.returns-in-Ok
 returns-in-Ok g c = rw c.in-Idle.is (record {
@@ -19,7 +26,7 @@ returns-in-Ok-sync_gate g c = rw c.in-Opened.is (record {
 
 pub returns-in-Err-sync_gate : goal.returns-in-Err-sync_gate
 returns-in-Err-sync_gate g c = rw c.in-Opened.is (record {
-  steps = λ stable group opened. inr (refl, c.in-Err-sync_gate.ensures.failed stable group opened);
+  steps = λ stable group opened. inr (refl, λ honest image is. gate_open 4 stable group _ (omega arith) (c.in-Err-sync_gate.ensures.failed stable group opened honest image is));
   room = λ more fits up. absurd cc;
   ends = λ up. absurd cc;
   device = record { after = _; there = refl; device = c.in-Err-sync_gate.ensures.failed_device; failures = c.in-Err-sync_gate.ensures.cause };

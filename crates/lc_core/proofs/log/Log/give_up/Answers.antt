@@ -1,4 +1,4 @@
-use Rattle.std.proofs.Common.{[], inl, inr}
+use Rattle.std.proofs.Common.{[], inl, inr, arith}
 use Rattle.lc_log.proofs.StateLemmas.{rest_image, opening_image}
 use Rattle.lc_core.proofs.log.Log.give_up.Goals as goal
 
@@ -16,7 +16,10 @@ returns-in-Synced-clause-stands g c = rw c.in-Synced.is (λ steps stable group s
 
 pub returns-in-Opened-clause-stands : goal.returns-in-Opened-clause-stands
 returns-in-Opened-clause-stands g c = rw c.in-Opened.is (λ steps stable group stands honest image is.
-    opening_image 165 (g.D.Area.now c.in-Opened.log.area) (g.D.Area.dirty c.in-Opened.log.area) c.in-Opened.log.end c.in-Opened.log.words stable group (stands.1 honest) image is)
+    elim (opening_image 165 (g.D.Area.now c.in-Opened.log.area) (g.D.Area.dirty c.in-Opened.log.area) c.in-Opened.log.end c.in-Opened.log.words stable group (stands.1 honest) image is) [
+      | inl without ↦ inl without
+      | inr whole ↦ inr (omega (arith, stands.0), whole)
+    ])
 
 pub returns-in-Sealed-clause-stands : goal.returns-in-Sealed-clause-stands
 returns-in-Sealed-clause-stands g c = rw c.in-Sealed.is (λ steps stable group stands. (

@@ -60,7 +60,7 @@ returns-in_default g c = record {
       (none_arrives g.D.Area m c.args.node c.args.segment s x w.geometry w.nodes.items w.travelling.items h
       (λ travels. h.on_the_way.none (c.args.segment - 1) (was ∙ ap (λ o. Some o) none) (ap s.place named ∙ travels)));
   answer = refl;
-  logs = refl;
+  logs = record { geometry = refl; logs = refl };
 }
 
 pub invariant_of-self-in-Ok : goal.invariant_of-self-in-Ok
@@ -134,7 +134,7 @@ returns-in-Ok g c = record {
       let node = c.index_mut-2.result.now in
       let within : c.args.node < w.nodes.len = omega (arith, w.all_nodes, node_known w.geometry c.args.node (c.args.segment ∷ []) [] c.requires.known) in
       let at = slice_get_read w.nodes.items w.nodes.len c.args.node node w.nodes.ok.0 within c.index_mut-2.ensures.value in
-      logs_stay g.D.Area w.nodes.items c.args.node node c.arrive.new.self at c.arrive.ensures.log;
+      record { geometry = refl; logs = logs_stay g.D.Area w.nodes.items c.args.node node c.arrive.new.self at c.arrive.ensures.log };
 }
 
 pub returns-in-Err : goal.returns-in-Err
@@ -164,5 +164,5 @@ returns-in-Err g c = record {
       let node = c.index_mut-2.result.now in
       let within : c.args.node < w.nodes.len = omega (arith, w.all_nodes, node_known w.geometry c.args.node (c.args.segment ∷ []) [] c.requires.known) in
       let at = slice_get_read w.nodes.items w.nodes.len c.args.node node w.nodes.ok.0 within c.index_mut-2.ensures.value in
-      logs_stay g.D.Area w.nodes.items c.args.node node c.arrive.new.self at c.arrive.ensures.log;
+      record { geometry = refl; logs = logs_stay g.D.Area w.nodes.items c.args.node node c.arrive.new.self at c.arrive.ensures.log };
 }

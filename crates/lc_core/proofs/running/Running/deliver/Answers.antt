@@ -62,7 +62,7 @@ returns-in_err-received-in-New-clause-logs g c =
     let node = c.index_mut.result.now in
     let known = delivery_known w.geometry c.args.sender c.args.number c.args.segment c.args.to c.requires.known in
     let at = node_at g.D.Area w c.args.to node known.0 c.index_mut.ensures.value in
-    logs_stay g.D.Area w.nodes.items c.args.to node (record { desk = c.receive.new.self; journal = node.journal; known = node.known }) at refl
+    record { geometry = refl; logs = logs_stay g.D.Area w.nodes.items c.args.to node (record { desk = c.receive.new.self; journal = node.journal; known = node.known }) at refl }
 
 pub returns-in_ok-received-in-New-clause-logs : goal.returns-in_ok-received-in-New-clause-logs
 returns-in_ok-received-in-New-clause-logs g c =
@@ -70,4 +70,4 @@ returns-in_ok-received-in-New-clause-logs g c =
     let node = c.index_mut.result.now in
     let known = delivery_known w.geometry c.args.sender c.args.number c.args.segment c.args.to c.requires.known in
     let at = node_at g.D.Area w c.args.to node known.0 c.index_mut.ensures.value in
-    logs_stay g.D.Area w.nodes.items c.args.to node (record { desk = c.receive.new.self; journal = node.journal; known = node.known }) at refl
+    record { geometry = refl; logs = logs_stay g.D.Area w.nodes.items c.args.to node (record { desk = c.receive.new.self; journal = node.journal; known = node.known }) at refl }

@@ -73,7 +73,7 @@ returns-in-Ok g c = record {
       let node = c.index_mut.result.now in
       let within : c.args.node < w.nodes.len = omega (arith, w.all_nodes, node_known w.geometry c.args.node (c.args.segment ∷ []) [] c.requires.known) in
       let at = slice_get_read w.nodes.items w.nodes.len c.args.node node w.nodes.ok.0 within c.index_mut.ensures.value in
-      logs_stay g.D.Area w.nodes.items c.args.node node c.leave.new.self at c.leave.ensures.log;
+      record { geometry = refl; logs = logs_stay g.D.Area w.nodes.items c.args.node node c.leave.new.self at c.leave.ensures.log };
 }
 
 pub returns-in-Err : goal.returns-in-Err
@@ -94,5 +94,5 @@ returns-in-Err g c = record {
       let node = c.index_mut.result.now in
       let within : c.args.node < w.nodes.len = omega (arith, w.all_nodes, node_known w.geometry c.args.node (c.args.segment ∷ []) [] c.requires.known) in
       let at = slice_get_read w.nodes.items w.nodes.len c.args.node node w.nodes.ok.0 within c.index_mut.ensures.value in
-      logs_stay g.D.Area w.nodes.items c.args.node node c.leave.new.self at c.leave.ensures.log;
+      record { geometry = refl; logs = logs_stay g.D.Area w.nodes.items c.args.node node c.leave.new.self at c.leave.ensures.log };
 }

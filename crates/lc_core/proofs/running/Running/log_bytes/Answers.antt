@@ -7,6 +7,7 @@ use Rattle.lc_core.specs.LogWords.{StandsOn}
 use Rattle.lc_core.specs.Places.{same_some}
 use Rattle.lc_core.proofs.running.Running.log_bytes.Given.{Over}
 use Rattle.std.proofs.lemmas.Option.{slice_get_read}
+use Rattle.lc_core.proofs.Faults.{same_kinds_at}
 use Rattle.lc_core.proofs.Onward.{whole_set}
 use Rattle.lc_core.proofs.running.Running.log_bytes.Goals as goal
 
@@ -54,6 +55,14 @@ module _ (g : Over) (c : goal.After-self-2-1 g) where
       let w = c.args.self.now in
       let within : c.args.node < w.nodes.len = omega (arith, c.if-node-len.false, c.len.ensures) in
       slice_get_read w.nodes.items w.nodes.len c.args.node c.index_mut.result.now w.nodes.ok.0 within c.index_mut.ensures.value
+
+pub returns-clause-devices : goal.returns-clause-devices
+returns-clause-devices g c =
+    let node = c.index_mut.result.now in
+    record {
+      geometry = refl;
+      kinds = same_kinds_at g.D.Area c.args.self.now.nodes.items c.args.node node _ (at g c) c.bytes.ensures.keeps.kind;
+    }
 
 pub returns-clause-unknown : goal.returns-clause-unknown
 returns-clause-unknown g c its there none =

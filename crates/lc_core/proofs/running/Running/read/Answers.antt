@@ -50,4 +50,4 @@ returns-clause-logs g c =
     let node = c.index_mut.result.now in
     let within : c.args.node < w.nodes.len = omega (arith, w.all_nodes, (seat_known w.geometry c.args.node c.args.thread (c.args.segment ∷ []) c.requires.known).0) in
     let at = slice_get_read w.nodes.items w.nodes.len c.args.node node w.nodes.ok.0 within c.index_mut.ensures.value in
-    logs_stay g.D.Area w.nodes.items c.args.node node (record { desk = c.read.new.self; journal = node.journal; known = node.known }) at refl
+    record { geometry = refl; logs = logs_stay g.D.Area w.nodes.items c.args.node node (record { desk = c.read.new.self; journal = node.journal; known = node.known }) at refl }

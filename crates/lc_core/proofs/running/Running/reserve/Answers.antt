@@ -1,4 +1,4 @@
-use Rattle.std.proofs.Common.{◌<◌, [], arith}
+use Rattle.std.proofs.Common.{refl, ◌<◌, [], arith}
 use Rattle.std.proofs.lemmas.Option.{slice_get_read}
 use Rattle.std.proofs.lemmas.Result.{IfOk-weaker}
 use Rattle.lc_model.proofs.Rows.{seat_known}
@@ -56,4 +56,4 @@ returns-clause-logs g c =
     let node = c.index_mut.result.now in
     let within : c.args.node < w.nodes.len = omega (arith, w.all_nodes, (seat_known w.geometry c.args.node c.args.thread ([]) c.requires.known).0) in
     let at = slice_get_read w.nodes.items w.nodes.len c.args.node node w.nodes.ok.0 within c.index_mut.ensures.value in
-    logs_stay g.D.Area w.nodes.items c.args.node node c.reserve.new.self at c.reserve.ensures.log
+    record { geometry = refl; logs = logs_stay g.D.Area w.nodes.items c.args.node node c.reserve.new.self at c.reserve.ensures.log }

@@ -1,9 +1,9 @@
-use Rattle.std.proofs.Common.{◌<◌, [], arith}
+use Rattle.std.proofs.Common.{refl, ◌<◌, [], arith}
 use Rattle.std.proofs.lemmas.Option.{slice_get_read}
 use Rattle.lc_model.proofs.Rows.{node_known}
 use Rattle.lc_model.specs.declared.event.Event.TheVariants.{ResetStep}
 use Rattle.lc_core.proofs.Onward.{stays_onward, whole_set}
-use Rattle.lc_core.proofs.Faults.{flush_counts}
+use Rattle.lc_core.proofs.Faults.{flush_counts, same_kinds}
 use Rattle.lc_core.proofs.running.Running.reset_step.Goals as goal
 
 pub invariant_of-self : goal.invariant_of-self
@@ -34,5 +34,5 @@ returns g c = record {
       let node = c.index_mut.result.now in
       let within : c.args.node < w.nodes.len = omega (arith, w.all_nodes, node_known w.geometry c.args.node [] [] c.requires.known) in
       let at = slice_get_read w.nodes.items w.nodes.len c.args.node node w.nodes.ok.0 within c.index_mut.ensures.value in
-      flush_counts g.D.Area w.nodes.items c.args.node node c.reset_step.new.self c.reset_step.result at c.reset_step.ensures.device (c.requires.running node at);
+      record { counts = flush_counts g.D.Area w.nodes.items c.args.node node c.reset_step.new.self c.reset_step.result at c.reset_step.ensures.device (c.requires.running node at); devices = record { geometry = refl; kinds = same_kinds g.D.Area w.nodes.items c.args.node node c.reset_step.new.self c.reset_step.result at c.reset_step.ensures.device } };
 }

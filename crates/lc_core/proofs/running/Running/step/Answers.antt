@@ -70,7 +70,7 @@ pub returns-in-Trim-clause-follows : goal.returns-in-Trim-clause-follows
 returns-in-Trim-clause-follows g c = follows_step g.D.Area c.args.self.now c.args.event.now c.refusal.result c.refusal.ensures.refused c.args.writing (Trim c.in-Trim.node) c.trim.result c.trim.new.self c.in_default.is (c.in-Trim.is) c.trim.ensures.follows
 
 pub returns-in-Some-clause-faults : goal.returns-in-Some-clause-faults
-returns-in-Some-clause-faults g c = quiet g.D.Area c.args.self.now _ c.args.self.now (c.refusal.ensures.answer c.in-Some.refusal c.in-Some.is) refl
+returns-in-Some-clause-faults g c = quiet g.D.Area c.args.self.now _ c.args.self.now (c.refusal.ensures.answer c.in-Some.refusal c.in-Some.is) (record { geometry = refl; logs = refl })
 
 pub returns-in-Begin-clause-faults : goal.returns-in-Begin-clause-faults
 returns-in-Begin-clause-faults g c = IfOk-weaker c.begin.result _ _ (λ reply plain. quiet g.D.Area c.args.self.now reply c.begin.new.self plain c.begin.ensures.logs) c.begin.ensures.answer

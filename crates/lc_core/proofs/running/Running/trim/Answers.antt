@@ -58,5 +58,5 @@ returns g c = record {
       let node = c.index_mut.result.now in
       let within : c.args.node < w.nodes.len = omega (arith, w.all_nodes, node_known w.geometry c.args.node [] [] c.requires.known) in
       let at = slice_get_read w.nodes.items w.nodes.len c.args.node node w.nodes.ok.0 within c.index_mut.ensures.value in
-      logs_stay g.D.Area w.nodes.items c.args.node node (record { desk = node.desk; journal = c.trim.new.self; known = node.known }) at c.trim.ensures.log;
+      record { geometry = refl; logs = logs_stay g.D.Area w.nodes.items c.args.node node (record { desk = node.desk; journal = c.trim.new.self; known = node.known }) at c.trim.ensures.log };
 }

@@ -1,23 +1,39 @@
-use Rattle.std.proofs.Common.{refl}
+use Rattle.std.proofs.Common.{refl, ap}
 use Rattle.std.proofs.lemmas.Result.{IfOk-weaker}
-use Rattle.lc_core.specs.declared.phase.Phase.TheVariants.{Up as IsUp}
 use Rattle.lc_core.proofs.Failures.{up_counts, up_still_failed}
 use Rattle.lc_core.proofs.Logged.{err_then}
 use Rattle.lc_core.proofs.Recoveries.{runs_up}
+use Rattle.lc_core.specs.Faults.{log_kinds}
+use Rattle.lc_core.proofs.Devices.{honest_kept, steps_devices, up_whole}
+use Rattle.lc_core.proofs.Refusing.{if_ok_both, on_err_both}
+use Rattle.lc_core.proofs.Ordinary.{plain_of}
 use Rattle.lc_core.proofs.up.Up.step.Goals as goal
 
 pub returns-clause-follows : goal.returns-clause-follows
 returns-clause-follows g c = IfOk-weaker c.step.result _ _
-    (λ reply follows m s x h. runs_up g.D.Area m s x c.args.self.now c.args.event.now reply c.is_writing-writing.result c.step.new.self c.requires.plain follows (c.is_writing-writing.ensures m x h.1) h)
-    c.step.ensures.follows
+    (λ reply both m s x h. runs_up g.D.Area m s x c.args.self.now _ c.args.event.now reply c.is_writing-writing.result (plain_of c.args.event.now c.requires.up c.in_default.not-PageStep) refl both.1.devices both.0 (c.is_writing-writing.ensures m x h.pages) h)
+    (if_ok_both c.step.result _ _ c.step.ensures.follows c.step.ensures.faults)
 
 pub returns-clause-err : goal.returns-clause-err
-returns-clause-err g c = err_then c.step.result c.step.ensures.err (λ still m s x h. (still m s x h.0, h.1))
+returns-clause-err g c = err_then c.step.result (on_err_both c.step.result _ _ c.step.ensures.err c.step.ensures.no_fault) (λ both m s x h. record {
+  running = both.0 m s x h.running;
+  pages = h.pages;
+  honest = honest_kept g.D.Area c.args.self.now.running.nodes.items c.step.new.self.nodes.items (ap (log_kinds g.D.Area) both.1.logs) h.honest;
+  failed = h.failed;
+})
 
 pub returns-clause-faults : goal.returns-clause-faults
 returns-clause-faults g c = IfOk-weaker c.step.result _ _
-    (λ reply counts. up_counts g.D.Area (IsUp c.args.self.now) c.args.self.now reply c.step.new.self refl counts)
+    (λ reply counts. up_counts g.D.Area c.args.self.now reply c.step.new.self counts)
     c.step.ensures.faults
 
 pub returns-clause-no_fault : goal.returns-clause-no_fault
-returns-clause-no_fault g c = err_then c.step.result c.step.ensures.no_fault (up_still_failed g.D.Area (IsUp c.args.self.now) c.args.self.now c.step.new.self refl)
+returns-clause-no_fault g c = err_then c.step.result c.step.ensures.no_fault (up_still_failed g.D.Area c.args.self.now c.step.new.self)
+
+pub invariant_of-self : goal.invariant_of-self
+invariant_of-self g c =
+    let w = up_whole g.D.Area c.args.self.now c.step.new.self (steps_devices g.D.Area c.args.self.now.running c.step.new.self c.step.result c.step.ensures.faults c.step.ensures.no_fault) in
+    record { all_segments = w.all_segments; logs = w.logs; lengths = w.lengths; none = w.none; room = w.room }
+
+pub step-requires : goal.step-requires
+step-requires g c = record { plain = plain_of c.args.event.now c.requires.up c.in_default.not-PageStep }

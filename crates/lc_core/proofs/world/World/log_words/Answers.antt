@@ -29,11 +29,11 @@ returns-clause-words g c area there honest records text =
     c.as_slice-2.ensures.value c.text_len.ensures.1 c.text_len.ensures.2 c.truncate.ensures.items records text
 
 pub returns-clause-records : goal.returns-clause-records
-returns-clause-records g c area there m s x fits up honest =
+returns-clause-records g c area there m s x fits up =
     show_records g.D.Area c.args.self.now.phase c.args.node area c.truncate.new.self.items there
-    (λ up is there. c.in_ok-bytes.ensures.fits up area is there honest)
+    (λ up is there honest. c.in_ok-bytes.ensures.fits up area is there honest)
     (λ honest records text. front_shown (g.D.Area.now area) c.in_ok-bytes.bytes.items c.in_ok-words.words.items c.as_slice-2.result.now c.truncate.new.self.items c.text_len.ensures.0 c.text_len.result
     (c.in_ok-bytes.ensures.bytes area there honest)
     (c.in_ok-words.ensures.words ∙ ap words_of c.as_slice.ensures.value)
     c.as_slice-2.ensures.value c.text_len.ensures.1 c.text_len.ensures.2 c.truncate.ensures.items records text)
-    honest m s x fits up
+    m s x fits up

@@ -17,6 +17,7 @@ returns-clause-fits g c m x same honest merges none =
       cut = replicate c.args.geometry.nodes 0;
       down = refl;
       sound = subst (λ (v : Geometry). Sound v (first_state c.args.geometry)) (sym same) (sound-first c.args.geometry);
+      lengths = c.in_ok-recovery.ensures.right;
       honest = honest;
       merges = subst (λ (v : Geometry). AllMergeTo g.D.Area v c.args.areas.items m.start x.disks.numbers) (sym same) merges;
       steps_are = none;

@@ -28,11 +28,11 @@ returns-clause-shows g c = λ m s x fits.
     let whole = w.whole c.args.node node at in
     let inside : c.args.segment - 1 < slots.len = omega (arith, whole.slots, known.1, known.2) in
     let there = slice_get_read slots.items slots.len (c.args.segment - 1) slot slots.ok.0 inside c.index-2.ensures in
-    let one = its.0.each c.args.node node at in
-    let below : c.args.segment - 1 < m.geometry.segments = omega (arith, inside, known.1, known.2, ap (λ (geometry : Geometry). geometry.segments) its.0.geometry_is) in
+    let one = its.running.each c.args.node node at in
+    let below : c.args.segment - 1 < m.geometry.segments = omega (arith, inside, known.1, known.2, ap (λ (geometry : Geometry). geometry.segments) its.running.geometry_is) in
     let same : suc (c.args.segment - 1) ≡ c.args.segment = omega (arith, known.1) in
     c.page_in.ensures
     ∙ ap (λ bytes. page_of bytes c.args.page)
     (c.bytes.ensures
     ∙ subst (λ (n : ℕ). slot.image.bytes.items ≡ image_of m s x c.args.node n) same
-    (slot_shows m c.args.node node.desk.here node.desk.seats.items s its.0.sound one.desk x one.slots (c.args.segment - 1) slot there below))
+    (slot_shows m c.args.node node.desk.here node.desk.seats.items s its.running.sound one.desk x one.slots (c.args.segment - 1) slot there below))

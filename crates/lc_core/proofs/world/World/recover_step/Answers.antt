@@ -30,6 +30,7 @@ module _ (g : Over) (c : goal.After-reply_to g) where
   leaves : StepLeaves g.D.Area c.in-Down.recovery c.step.new.self c.step.result
   leaves = record {
     geometry = c.step.ensures.geometry;
+    lengths = c.step.ensures.lengths;
     progress = c.step.ensures.progress;
     steps = c.step.ensures.steps;
     no_memory = c.step.ensures.no_memory;
@@ -72,6 +73,7 @@ module _ (g : Over) (c : goal.After-drop-room-in-Err-3 g) where
   leaves-last : StepLeaves g.D.Area c.in-Down.recovery c.step-2.new.self c.step-2.result
   leaves-last = record {
     geometry = c.step-2.ensures.geometry;
+    lengths = c.step-2.ensures.lengths;
     progress = c.step-2.ensures.progress;
     steps = c.step-2.ensures.steps;
     no_memory = c.step-2.ensures.no_memory;
@@ -106,6 +108,7 @@ module _ (g : Over) (c : goal.Joined-self-risen g) where
   leaves-done : StepLeaves g.D.Area c.in-Down.recovery c.step-2.new.self c.step-2.result
   leaves-done = record {
     geometry = c.step-2.ensures.geometry;
+    lengths = c.step-2.ensures.lengths;
     progress = c.step-2.ensures.progress;
     steps = c.step-2.ensures.steps;
     no_memory = c.step-2.ensures.no_memory;
@@ -191,6 +194,9 @@ module _ (g : Over) (c : goal.After-reply_to g) where
     fault = c.step.ensures.fault;
     merged = c.step.ensures.merged;
     refused = c.step.ensures.refused;
+    bound = c.step.ensures.bound;
+    honest = c.step.ensures.honest;
+    reads = c.step.ensures.reads;
   }
 
 pub returns-then-not-is_last-clause-recovers : goal.returns-then-not-is_last-clause-recovers
@@ -208,6 +214,9 @@ module _ (g : Over) (c : goal.After-drop-room-in-Err-3 g) where
     fault = c.step-2.ensures.fault;
     merged = c.step-2.ensures.merged;
     refused = c.step-2.ensures.refused;
+    bound = c.step-2.ensures.bound;
+    honest = c.step-2.ensures.honest;
+    reads = c.step-2.ensures.reads;
   }
 
 pub returns-in-Err-clause-recovers : goal.returns-in-Err-clause-recovers

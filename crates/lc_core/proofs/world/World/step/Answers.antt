@@ -1,15 +1,18 @@
 use Rattle.std.proofs.lemmas.Result.{IfOk-weaker}
 use Rattle.std.proofs.Common.{sym, ap, subst, ◌∙◌}
+use Rattle.lc_model.specs.declared.event.Event.{Event}
+use Rattle.lc_model.specs.declared.event.Event.TheVariants.{Stop}
+use Rattle.lc_core.specs.World.{Leads}
 use Rattle.lc_core.specs.Faults.{CountsPhase, phase_failures}
 use Rattle.lc_core.specs.declared.phase.Phase.{Phase}
 use Rattle.lc_core.proofs.Logged.{err_then}
-use Rattle.lc_core.proofs.Recovers.{IfOk-any, down_refuses, up_asks}
+use Rattle.lc_core.proofs.Recovers.{IfOk-any, down_refuses, stop_asks, up_asks}
 use Rattle.lc_core.specs.declared.phase.Phase.TheVariants.{Up}
-use Rattle.lc_core.proofs.Recoveries.{common_plain, up_follows, up_still}
+use Rattle.lc_core.proofs.Recoveries.{else_works, up_follows, up_still}
 use Rattle.lc_core.proofs.world.World.step.Goals as goal
 
 pub step-requires : goal.step-requires
-step-requires g c = record { plain = common_plain c.args.event.now c.requires.common c.in_default.not-RecoverStep }
+step-requires g c = record { up = else_works c.args.event.now c.in_default.not-RecoverStep c.in_default-event.not-Stop }
 
 pub returns-in-Up-clause-follows : goal.returns-in-Up-clause-follows
 returns-in-Up-clause-follows g c = IfOk-weaker c.step.result _ _
@@ -35,7 +38,17 @@ pub returns-in-Up-clause-recovers : goal.returns-in-Up-clause-recovers
 returns-in-Up-clause-recovers g c is = absurd (c.in_default.not-RecoverStep is)
 
 pub returns-in_default-phase-clause-at_once : goal.returns-in_default-phase-clause-at_once
-returns-in_default-phase-clause-at_once g c = down_refuses g.D.Area c.args.self.now.phase c.args.event.now c.in_default-phase.not-Up c.in_default.not-RecoverStep
+returns-in_default-phase-clause-at_once g c = down_refuses g.D.Area c.args.self.now.phase c.args.event.now c.in_default-phase.not-Up (else_works c.args.event.now c.in_default.not-RecoverStep c.in_default-event.not-Stop)
 
 pub returns-in_default-phase-clause-recovers : goal.returns-in_default-phase-clause-recovers
 returns-in_default-phase-clause-recovers g c is = absurd (c.in_default.not-RecoverStep is)
+
+pub returns-in-Stop-clause-follows : goal.returns-in-Stop-clause-follows
+returns-in-Stop-clause-follows g c = λ m s x h.
+    subst (λ (event : Event). Leads g.D.Area m event s x c.stop.result c.stop.new.self.phase) (sym (c.in-Stop.is ∙ sym (ap Stop c.as_slice.ensures))) (c.stop.ensures.follows m s x h)
+
+pub returns-in-Stop-clause-at_once : goal.returns-in-Stop-clause-at_once
+returns-in-Stop-clause-at_once g c = stop_asks g.D.Area c.args.self.now.phase c.args.event.now c.in-Stop.choices c.in-Stop.is c.stop.result c.stop.new.self.phase
+
+pub returns-in-Stop-clause-stops : goal.returns-in-Stop-clause-stops
+returns-in-Stop-clause-stops g c = λ choices is. (c.stop.ensures.answer, c.stop.ensures.stops)

@@ -4,7 +4,8 @@ use Rattle.lc_recover.specs.Reads.{AreHonest, AreOfBytes, AllMergeTo, HaveLength
 use Rattle.lc_recover.specs.Steps.{first_steps}
 use Rattle.lc_recover.proofs.Exclusive.{merge-accepted}
 use Rattle.lc_recover.proofs.StillHonest.{AsHonest, step-honest}
-use Rattle.lc_recover.proofs.Going.{over-done, done-last, started, merges-carried, written-back, call-carried, clean-so_far}
+use Rattle.lc_recover.proofs.Going.{over-done, done-last, started, merges-carried, written-back, call-carried, reads-carried, clean-so_far}
+use Rattle.lc_recover.proofs.StepsBound.{steps-bound}
 use Rattle.lc_recover.proofs.Showing.{have-lengths}
 use Rattle.lc_recover.specs.Recovery.{Recovering, recovering, IsDone, IsLast, IsMergeNext, IsMerged, IsGoing, Renews}
 use Rattle.lc_recover.specs.declared.stage.Stage.{Stage}
@@ -165,3 +166,23 @@ returns-in-Ok-clause-last g c done =
     (subst (λ (l : List g.row.D.Denot). IsGoing g.D.Area c.self.inside.geometry c.replace-stage.result l) (ap (λ (r : Recovering g.row.D.Denot). r.areas) (c.self.view_is ∙ sym (start g c)))
     (subst (λ (stage : Stage). IsGoing g.D.Area c.self.inside.geometry stage c.self.inside.areas.items) (sym c.replace-stage.ensures.value) c.self.invariant))
     c.in-Ok.ensures.pages c.in-Ok.ensures.steps done)
+
+-- So many steps are done at most
+
+pub returns-in-Ok-clause-bound : goal.returns-in-Ok-clause-bound
+returns-in-Ok-clause-bound g c = steps-bound g.D.Area c.self.inside.geometry c.advance.new.areas c.in-Ok.stage c.in-Ok.ensures.going
+
+pub returns-in-Err-clause-bound : goal.returns-in-Err-clause-bound
+returns-in-Err-clause-bound g c = steps-bound g.D.Area c.self.inside.geometry c.advance.new.areas c.in-Err.stopped.stage c.in-Err.ensures.stopped
+
+-- What the areas read as stays before the merge
+
+pub returns-in-Ok-clause-reads : goal.returns-in-Ok-clause-reads
+returns-in-Ok-clause-reads g c =
+    reads-carried g.D.Area c.self.inside.geometry c.as_mut_slice.result.now c.advance.new.areas (take c.self.inside.areas.len (c.advance.new.areas ++ drop (length c.advance.new.areas) c.self.inside.areas.items)) c.replace-stage.result c.args.self.now
+    (start g c) (after g c) c.in-Ok.ensures.reads
+
+pub returns-in-Err-clause-reads : goal.returns-in-Err-clause-reads
+returns-in-Err-clause-reads g c =
+    reads-carried g.D.Area c.self.inside.geometry c.as_mut_slice.result.now c.advance.new.areas (take c.self.inside.areas.len (c.advance.new.areas ++ drop (length c.advance.new.areas) c.self.inside.areas.items)) c.replace-stage.result c.args.self.now
+    (start-stopped g c) (after-stopped g c) c.in-Err.ensures.reads

@@ -1,0 +1,61 @@
+use Rattle.std.proofs.Common.{◌*◌, ◌-◌, ◌<◌, refl, arith}
+use Rattle.std.proofs.lemmas.Option.{slice_get_read}
+use Rattle.lc_model.specs.declared.refusal.Refusal.TheVariants.{Unknown}
+use Rattle.lc_model.specs.declared.reply.Reply.TheVariants.{Refused}
+use Rattle.lc_core.proofs.Devices.{up_whole}
+use Rattle.lc_core.proofs.Paged.{page_known}
+use Rattle.lc_core.proofs.UpPages.{lengths_set, page_counts, page_follows_up, page_refused_up, page_unknown, same_devices}
+use Rattle.lc_core.proofs.up.Up.page_step.Goals as goal
+
+pub returns-in-Some-clause-follows : goal.returns-in-Some-clause-follows
+returns-in-Some-clause-follows g c =
+    page_refused_up g.D.Area c.args.self.now _ refl refl c.args.node c.args.segment c.args.page c.refusal.result c.in-Some.refusal c.refusal.ensures.refused c.in-Some.is (c.refusal.ensures.answer c.in-Some.refusal c.in-Some.is)
+
+pub returns-then-page-len-clause-follows : goal.returns-then-page-len-clause-follows
+returns-then-page-len-clause-follows g c =
+    let w = c.args.self.now in
+    let segments = w.segments in
+    let named = page_known w.running.geometry c.args.node c.args.segment c.args.page (c.refusal.ensures.known c.in_default.is) in
+    let within : c.args.segment - 1 < segments.len = omega (arith, named.0, named.1, w.all_segments) in
+    let old = c.index.result.now in
+    let at = slice_get_read segments.items segments.len (c.args.segment - 1) old segments.ok.0 within c.index.ensures in
+    page_unknown g.D.Area w _ c.args.node c.args.segment (c.args.segment - 1) c.args.page (Refused Unknown) old (omega (arith, named.0)) at (omega (arith, c.if-page-len.true, c.len.ensures, old.writes.ok.0)) c.refusal.result
+    c.refusal.ensures.refused c.in_default.is
+
+pub invariant_of-self-2 : goal.invariant_of-self-2
+invariant_of-self-2 g c =
+    let w = c.args.self.now in
+    let segments = w.segments in
+    let named = page_known w.running.geometry c.args.node c.args.segment c.args.page (c.refusal.ensures.known c.in_default.is) in
+    let within : c.args.segment - 1 < segments.len = omega (arith, named.0, named.1, w.all_segments) in
+    let old = c.index_mut-pages.result.now in
+    let at = slice_get_read segments.items segments.len (c.args.segment - 1) old segments.ok.0 within c.index_mut-pages.ensures.value in
+    let whole = up_whole g.D.Area w c.page_step.new.self (same_devices g.D.Area w.running c.page_step.new.self c.page_step.ensures.logs) in
+    record {
+      all_segments = whole.all_segments;
+      logs = whole.logs;
+      lengths = lengths_set g.D.Area (2 * 272 * c.page_step.new.self.geometry.pages) segments.items (c.args.segment - 1) old c.page_step.new.pages at c.page_step.ensures.device.same_length whole.lengths;
+      none = whole.none;
+      room = whole.room;
+    }
+
+pub returns-clause-follows : goal.returns-clause-follows
+returns-clause-follows g c =
+    let w = c.args.self.now in
+    let segments = w.segments in
+    let named = page_known w.running.geometry c.args.node c.args.segment c.args.page (c.refusal.ensures.known c.in_default.is) in
+    let within : c.args.segment - 1 < segments.len = omega (arith, named.0, named.1, w.all_segments) in
+    let old = c.index_mut-pages.result.now in
+    let at = slice_get_read segments.items segments.len (c.args.segment - 1) old segments.ok.0 within c.index_mut-pages.ensures.value in
+    page_follows_up g.D.Area w _ c.args.node c.args.segment (c.args.segment - 1) c.args.page c.page_step.result old c.page_step.new.pages (omega (arith, named.0)) at refl
+    (same_devices g.D.Area w.running c.page_step.new.self c.page_step.ensures.logs) c.refusal.result c.refusal.ensures.refused c.in_default.is c.page_step.ensures.follows
+
+pub returns-clause-faults : goal.returns-clause-faults
+returns-clause-faults g c =
+    let w = c.args.self.now in
+    let segments = w.segments in
+    let named = page_known w.running.geometry c.args.node c.args.segment c.args.page (c.refusal.ensures.known c.in_default.is) in
+    let within : c.args.segment - 1 < segments.len = omega (arith, named.0, named.1, w.all_segments) in
+    let old = c.index_mut-pages.result.now in
+    let at = slice_get_read segments.items segments.len (c.args.segment - 1) old segments.ok.0 within c.index_mut-pages.ensures.value in
+    page_counts g.D.Area w.running c.page_step.new.self segments.items (c.args.segment - 1) c.page_step.result old c.page_step.new.pages at c.page_step.ensures.logs c.page_step.ensures.device

@@ -1,0 +1,16 @@
+use Rattle.std.proofs.Common.{subst}
+use Rattle.lc_core.proofs.Stopped.{stop_counts, stop_leads}
+use Rattle.lc_core.specs.Stops.{StopsAll}
+use Rattle.lc_core.specs.declared.phase.Phase.{Phase}
+use Rattle.lc_core.proofs.world.World.stop.Given.{Over}
+use Rattle.lc_core.proofs.world.World.stop.Goals as goal
+
+module _ (g : Over) (c : goal.Joined-self-stopped g) where
+  stops : StopsAll g.D.Area c.args.self.now.phase c.stopped.result
+  stops = subst (λ (p : Phase g.row.D.Denot g.D.Area). StopsAll g.D.Area p c.stopped.result) c.replace.ensures.value c.stopped.ensures
+
+pub returns-clause-follows : goal.returns-clause-follows
+returns-clause-follows g c = λ m s x h. stop_leads g.D.Area m s x c.args.choices.now c.args.self.now.phase c.stopped.result (stops g c) h
+
+pub returns-clause-counts : goal.returns-clause-counts
+returns-clause-counts g c = stop_counts g.D.Area c.args.self.now.phase c.stopped.result (stops g c)

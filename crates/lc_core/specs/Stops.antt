@@ -1,0 +1,29 @@
+-- What a stop makes of a store.
+use Rattle.std.specs.Prelude.{◌≡◌, List}
+use Rattle.lc_disk.specs.declared.area.Area.{Ghosts}
+use Rattle.lc_record.specs.declared.geometry.Geometry.{Geometry}
+use Rattle.lc_recover.specs.Recovery.{begun}
+use Rattle.lc_core.specs.Areas.{AreOf, AreStopped}
+use Rattle.lc_core.specs.declared.phase.Phase.{Phase}
+use Rattle.lc_core.specs.declared.phase.Phase.TheVariants.{Down, Up, Taken}
+
+module _ {D : Type 0} (a : Ghosts D) where
+  -- a store has these areas, in their order
+  abbrev pub HasAreas : Phase D a → Geometry → List D → Type 0
+  HasAreas (Down recovery) g areas = (g ≡ recovery.geometry) × (areas ≡ recovery.areas)
+  HasAreas (Up up) g areas = (g ≡ up.running.geometry) × AreOf a up areas
+  HasAreas Taken g areas = ⊥
+
+  -- each of its areas was stopped, and a recovery begins on them
+  pub record Stops (old new : Phase D a) : Type 0 where
+    pub geometry : Geometry
+    pub olds : List D
+    pub news : List D
+    pub were : HasAreas old geometry olds
+    pub stopped : AreStopped a olds news
+    pub recovers : new ≡ Down (begun geometry news)
+
+  abbrev pub StopsAll : Phase D a → Phase D a → Type 0
+  StopsAll (Down recovery) new = Stops (Down recovery) new
+  StopsAll (Up up) new = Stops (Up up) new
+  StopsAll Taken new = new ≡ Taken

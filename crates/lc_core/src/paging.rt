@@ -1,0 +1,101 @@
+//! The device calls of a page write, one by one.
+ghost use Rattle.std.specs.Prelude.{◌≡◌, ◌<◌, ◌≤◌, ◌-◌, not, Some, IsSome, vec_len, slice_get};
+ghost use Rattle.lc_page.specs.PageWrite.{Continues};
+ghost use Rattle.lc_page.specs.declared.writing.Writing.{Writing};
+ghost use Rattle.lc_core.specs.FaultReplies.{is_fault};
+ghost use Rattle.lc_core.specs.Log.{area_of};
+ghost use Rattle.lc_core.specs.declared.page_state.PageState.TheVariants.{AtRest as Rests, UnderWay as IsUnderWay};
+ghost use Rattle.lc_core.specs.declared.slot.Slot.{Slot};
+
+use crate::node::Node;
+use crate::page_progress::PageProgress;
+use crate::page_state::PageState;
+use crate::pages::Pages;
+use crate::{Refusal, Reply};
+use lc_disk::Area;
+
+impl<D: Area + Drop> Node<D> {
+    ghost use Rattle.lc_core.specs.Node.{HasSameRoom};
+    ghost use Rattle.lc_core.specs.Paging.{FollowsPage};
+
+    /// One of the six device calls of a write of a page of a segment, from 1, where the segment's token stands here. The first
+    /// takes the page as it is. It takes no memory.
+    pub(crate) fn page_step(&mut self, segment: u32, page: u32, pages: &mut Pages<D>) -> Reply
+        requires first { 1 ≤ segment }
+        requires slot { segment ≤ vec_len self.old.desk.here.slots }
+        requires page { page < vec_len pages.old.writes }
+        ensures follows { FollowsPage D.Area segment page self.old pages.old result self.new pages.new }
+        ensures whole { HasSameRoom D.Area self.old self.new }
+
+        // One call of the device, or none, and none of the log's.
+        ensures device { Continues D.Area pages.old.area pages.new.area (not (is_fault result)) }
+        ensures log { area_of D.Area self.new.journal.log ≡ area_of D.Area self.old.journal.log }
+    {
+        let slot = &self.desk.here.slots[segment as usize - 1];
+        if slot.token.is_empty() {
+            return Reply::Refused(Refusal::NotHere { segment });
+        }
+        match pages.writes[page as usize] {
+            PageState::AtRest => self.begin_page(segment, page, pages),
+            PageState::UnderWay(_) => self.next_page_call(segment, page, pages),
+            // The node is halted since.
+            PageState::Failed => Reply::Refused(Refusal::Halted),
+        }
+    }
+
+    // The first call, where nothing stands against it.
+    fn begin_page(&mut self, segment: u32, page: u32, pages: &mut Pages<D>) -> Reply
+        requires first { 1 ≤ segment }
+        requires slot { segment ≤ vec_len self.old.desk.here.slots }
+        requires page { page < vec_len pages.old.writes }
+        requires here { (slot : Slot) → slice_get self.old.desk.here.slots.items (segment - 1) ≡ Some slot → IsSome slot.token.token }
+        requires rests { slice_get pages.old.writes.items page ≡ Some Rests }
+        ensures follows { FollowsPage D.Area segment page self.old pages.old result self.new pages.new }
+        ensures whole { HasSameRoom D.Area self.old self.new }
+        ensures device { Continues D.Area pages.old.area pages.new.area (not (is_fault result)) }
+        ensures log { area_of D.Area self.new.journal.log ≡ area_of D.Area self.old.journal.log }
+    {
+        if self.desk.is_uncommitted(segment, page) {
+            return Reply::Refused(Refusal::Uncommitted);
+        }
+        if self.journal.records.count() > self.journal.acked {
+            return Reply::Refused(Refusal::Unflushed);
+        }
+        let Some(write) = self.desk.draft(segment, page) else {
+            return Reply::Refused(Refusal::NotNewer);
+        };
+        match pages.begin(write) {
+            Ok(()) => Reply::Stepped(1),
+            Err(_) => {
+                self.journal.give_up();
+                Reply::Refused(Refusal::DeviceFault)
+            }
+        }
+    }
+
+    // The next call of a write that is under way. Behind the last the token knows that the page is written.
+    fn next_page_call(&mut self, segment: u32, page: u32, pages: &mut Pages<D>) -> Reply
+        requires first { 1 ≤ segment }
+        requires slot { segment ≤ vec_len self.old.desk.here.slots }
+        requires page { page < vec_len pages.old.writes }
+        requires here { (slot : Slot) → slice_get self.old.desk.here.slots.items (segment - 1) ≡ Some slot → IsSome slot.token.token }
+        requires begun { (write : Writing) × (slice_get pages.old.writes.items page ≡ Some (IsUnderWay write)) }
+        ensures follows { FollowsPage D.Area segment page self.old pages.old result self.new pages.new }
+        ensures whole { HasSameRoom D.Area self.old self.new }
+        ensures device { Continues D.Area pages.old.area pages.new.area (not (is_fault result)) }
+        ensures log { area_of D.Area self.new.journal.log ≡ area_of D.Area self.old.journal.log }
+    {
+        match pages.step(page) {
+            Ok(PageProgress::Stepped(calls)) => Reply::Stepped(u64::from(calls)),
+            Ok(PageProgress::Written(number)) => {
+                self.desk.note_written(segment, page, number);
+                self.see(segment);
+                Reply::Written(number)
+            }
+            Err(_) => {
+                self.journal.give_up();
+                Reply::Refused(Refusal::DeviceFault)
+            }
+        }
+    }
+}
