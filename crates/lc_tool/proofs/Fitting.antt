@@ -1,5 +1,5 @@
 -- What a store that fits knows of its nodes, and of the areas of its logs.
-use Rattle.std.proofs.Common.{◌≡◌, ◌∙◌, ℕ, ◌+◌, ◌*◌, ◌<◌, ◌≤◌, List, length, map, Option, Some, None, refl, sym, ap, inl, inr, arith}
+use Rattle.std.proofs.Common.{◌≡◌, ◌∙◌, ℕ, ◌+◌, ◌*◌, ◌<◌, ◌≤◌, List, length, map, Option, Some, None, refl, sym, ap, inl, inr, arith, lt-ltb, length-map}
 use Rattle.std.proofs.lemmas.Option.{slice_get_cases, slice_get_past}
 use Rattle.std.specs.Prelude.{slice_get, vec_len}
 use Rattle.std.specs.List.{AllByRecursion}
@@ -30,16 +30,23 @@ use Rattle.lc_core.specs.declared.up.Up.{Up as Rising}
 
 module _ {D : Type 0} (a : Ghosts D) where
   pub running_fits : (up : Rising D a) (m : Setting) (s : State) (x : Numbers) → FitsPhase a m (Up up) s x → FitsRunning a m up.running s x
-  running_fits up m s x fits = fits.0
+  running_fits up m s x fits = fits.running
 
   -- a store that is down has an area for each log
   pub down_log : (r : Recovering D) (m : Setting) (s : State) (x : Numbers) (node : ℕ) → FitsDown a m r s x → node < m.geometry.nodes → (area : D) × (slice_get r.areas node ≡ Some area)
-  down_log r m s x node fits below = ?
+  down_log r m s x node fits below =
+      let same : r.geometry.nodes ≡ m.geometry.nodes = ap (λ (g : Geometry). g.nodes) fits.geometry_is in
+      let len : slice_get (map (λ (d : D). length (a.now d)) r.areas) node ≡ Some (8 * (r.geometry.words + 1)) =
+      fits.lengths node ∙ rw (lt-ltb node r.geometry.nodes (omega (arith, below, same))) refl in
+      elim ((slice_get_cases r.areas node).1) [
+        | inl found ↦ (found.0, found.2)
+        | inr past ↦ let none = slice_get_past (map (λ (d : D). length (a.now d)) r.areas) node (omega (arith, past.0, length-map (λ (d : D). length (a.now d)) r.areas)) in absurd cc
+      ]
 
   -- the words that one shows that is up are those of the records that are logged
-  pub words_logged : (up : Rising D a) (m : Setting) (s : State) (x : Numbers) (node : ℕ) (area : D) (words : List ℕ) → FitsPhase a m (Up up) s x → log_area a (Up up) node ≡ Some area
-      → ShowRecords a (Up up) node area words → AreLogged m s x node words
-  words_logged up m s x node area words fits there show = show m s x fits fits.0.up ?
+  pub words_logged : (up : Rising D a) (m : Setting) (s : State) (x : Numbers) (node : ℕ) (words : List ℕ) → FitsPhase a m (Up up) s x
+      → ShowRecords a (Up up) node words → AreLogged m s x node words
+  words_logged up m s x node words fits show = show m s x fits fits.running.up
 
   area_there : (log : Log D a) (steps : ℕ) (stable group : List Record) → Stands a log steps stable group → (area : D) × (area_of a log ≡ Some area)
   area_there (Idle log) steps stable group stands = (log.area, refl)
@@ -82,8 +89,8 @@ module _ {D : Type 0} (a : Ghosts D) where
   -- the areas that were read as they are, before the merge
   pub reads_same : (r later : Recovering D) (reply : Reply) (new : Phase D a) (steps : ℕ) → AnswersRecovery a r reply new → new ≡ Down later → r.steps + 1 < first_steps r.geometry
       → AreHonest a r.areas → reply ≡ Stepped steps → AreHonest a later.areas × (map a.now later.areas ≡ map a.now r.areas)
-  reads_same r later reply new steps answers down before honest is = ?
+  reads_same r later reply new steps answers down before honest is = answers.reads later down before honest steps is
 
   -- a recovery has so many steps at most
   pub few_steps : (r : Recovering D) (reply : Reply) (new : Phase D a) (steps : ℕ) → AnswersRecovery a r reply new → reply ≡ Stepped steps → steps ≤ all_steps r.geometry (r.geometry.segments * r.geometry.pages)
-  few_steps r reply new steps answers is = ?
+  few_steps r reply new steps answers is = answers.few steps is

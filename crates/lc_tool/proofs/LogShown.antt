@@ -48,7 +48,7 @@ one_list records found whole text =
 module _ {D : Type 0} (a : Ghosts D) where
   -- the words that a store has of a log are those of the records in it
   words_in_log : (phase : Phase D a) (m : Setting) (s : State) (x : Numbers) (node : ℕ) (area : D) (words : List ℕ) → FitsPhase a m phase s x → is_node m.geometry node ≡ true
-      → log_area a phase node ≡ Some area → AreWordsOf a area words → ShowRecords a phase node area words → HasWords (AreInLog s.phase m s x node) words
+      → log_area a phase node ≡ Some area → AreWordsOf a area words → ShowRecords a phase node words → HasWords (AreInLog s.phase m s x node) words
   words_in_log (Down r) m s x node area words fits known there are show =
       let text = text_in (words_of (a.now area)) in
       record {
@@ -59,7 +59,7 @@ module _ {D : Type 0} (a : Ghosts D) where
       }
   words_in_log (Up up) m s x node area words fits known there are show =
       let whole = records_whole a up m s x node (running_fits a up m s x fits) (ltb-true node m.geometry.nodes known) in
-      rw (running_fits a up m s x fits).up (are_logged m s x node whole words (words_logged a up m s x node area words fits there show))
+      rw (running_fits a up m s x fits).up (are_logged m s x node whole words (words_logged a up m s x node words fits show))
   words_in_log Taken m s x node area words fits known there are show = absurd fits
 
   -- what is told of a log that is asked for
@@ -82,12 +82,12 @@ module _ {D : Type 0} (a : Ghosts D) where
     known_by words is false unknown = let bad = sym is ∙ (told.unknown (unknown_log a old.phase m s x node fits unknown)).0 in absurd cc
 
     pub shows_words : (words : Vec ℕ) → result ≡ Ok words → ((area : D) → log_area a old.phase node ≡ Some area → AreWordsOf a area words.items)
-        → ((area : D) → log_area a old.phase node ≡ Some area → ShowRecords a old.phase node area words.items)
+        → ShowRecords a old.phase node words.items
         → (is_node m.geometry node ≡ true) × HasWords (AreInLog s.phase m s x node) words.items
     shows_words words is are show =
         let known = known_by words is (is_node m.geometry node) refl in
         let there = known_log a old.phase m s x node fits known in
-        (known, words_in_log old.phase m s x node there.0 words.items fits known there.1 (are there.0 there.1) (show there.0 there.1))
+        (known, words_in_log old.phase m s x node there.0 words.items fits known there.1 (are there.0 there.1) show)
 
     pub shows_fault : (fault : ShowFault) (refusal : Refusal) (text_of : List Record → List ℕ) → result ≡ Err fault → refusal_to fault ≡ Some refusal → (b : Bool) → is_node m.geometry node ≡ b
         → ShowsLog m s x node text_of (refusal_text refusal) (verdict_on refusal)
@@ -104,7 +104,7 @@ module _ {D : Type 0} (a : Ghosts D) where
 
   module _ (node : ℕ) (old new : World D a) (result : Result (Vec ℕ) ShowFault) (told : Told node old new result) where
     pub log_performs : (words : Vec ℕ) (held holds : Option (List ℕ)) → result ≡ Ok words → ((area : D) → log_area a old.phase node ≡ Some area → AreWordsOf a area words.items)
-        → ((area : D) → log_area a old.phase node ≡ Some area → ShowRecords a old.phase node area words.items)
+        → ShowRecords a old.phase node words.items
         → Appends held holds (words_text words.items) → Performs a old (Log node) held holds Done new
     log_performs words held holds is are show shown m s x fits =
         let has = shows_words node old new result told m s x fits words is are show in (
@@ -119,7 +119,7 @@ module _ {D : Type 0} (a : Ghosts D) where
         )
 
     pub inspect_performs : (words : Vec ℕ) (held holds : Option (List ℕ)) → result ≡ Ok words → ((area : D) → log_area a old.phase node ≡ Some area → AreWordsOf a area words.items)
-        → ((area : D) → log_area a old.phase node ≡ Some area → ShowRecords a old.phase node area words.items)
+        → ShowRecords a old.phase node words.items
         → Inspects (words_of (bytes_of words.items)) held holds → Performs a old (Inspect node) held holds Done new
     inspect_performs words held holds is are show inspects m s x fits =
         let has = shows_words node old new result told m s x fits words is are show in

@@ -1,113 +1,14 @@
--- A command that a line asks for is one of a script; and lines, one after another.
+-- The lines of a script, one after another.
 use Rattle.std.proofs.Common.{◌≡◌, ℕ, ◌+◌, Bool, true, false, ◌||◌, ◌==◌, List, [], ◌∷◌, ◌++◌, length, Option, Some, None, IfSome, take, refl, sym, ◌∙◌, ap, subst, arith, inl, inr, ◌<◌, ◌≤◌, nat_lt, min, le-ltb, lt-ltb}
 use Rattle.std.proofs.lemmas.List.{length-take, take_all}
 use Rattle.std.specs.Prelude.{if◌then◌else◌, bytes_eq, codes, option_map}
 use Rattle.std.specs.Io.KnownBytes.{Appends, Keeps}
 use Rattle.lc_model.specs.State.{Setting, State}
 use Rattle.lc_core.specs.Numbers.{Numbers}
-use Rattle.lc_tool.specs.Line.{◌>>=◌, first, u16_of, u32_of, u64_of, all_locks, no_more, bytes_of, thread_of, spot_of, node_of, thread_alone, segment_alone, begin_of, range_of, write_of, read_of, deliver_of, show_of, thread_command_of, node_command_of, shown_of, command_of, option_or, words, asked, line_of}
 use Rattle.lc_tool.specs.Script.{Going, GoesOn, Runs, Prints, script_lines}
 use Rattle.lc_tool.specs.Outcome.{GoesBehind, IsDone, Passes, Breaks}
-use Rattle.lc_tool.specs.Fits.{IsOfScript}
-use Rattle.lc_tool.specs.declared.command.Command.{Command}
-use Rattle.lc_tool.specs.declared.command.Command.TheVariants.{Flush, Log, Inspect}
-use Rattle.lc_tool.specs.declared.command.Line.{Line}
-use Rattle.lc_tool.specs.declared.command.Line.TheVariants.{Skipped, Command as Commanded}
 use Rattle.lc_tool.specs.declared.verdict.Verdict.{Verdict}
 use Rattle.lc_tool.specs.declared.verdict.Verdict.TheVariants.{Done, Refused, Faulted}
-
-bind_fine : {A : Type 0} (o : Option A) (f : A → Option Command) → ((x : A) → IfSome (f x) IsOfScript) → IfSome (o >>= f) IsOfScript
-bind_fine None f each = tt
-bind_fine (Some x) f each = each x
-
-if_fine : (b : Bool) (x y : Option Command) → IfSome x IsOfScript → IfSome y IsOfScript → IfSome (if b then x else y) IsOfScript
-if_fine true x y p q = p
-if_fine false x y p q = q
-
-or_fine : (x y : Option Command) → IfSome x IsOfScript → IfSome y IsOfScript → IfSome (option_or x y) IsOfScript
-or_fine None y p q = q
-or_fine (Some x) y p q = p
-
-map_fine : {A : Type 0} (make : A → Command) (o : Option A) → ((x : A) → IsOfScript (make x)) → IfSome (option_map make o) IsOfScript
-map_fine make None each = tt
-map_fine make (Some x) each = each x
-
-begin_fine : (fields : List (List ℕ)) → IfSome (begin_of fields) IsOfScript
-unfolding begin_of
-begin_fine fields = bind_fine (thread_of fields) _ (λ who. bind_fine (all_locks who.1) _ (λ locks. refl))
-
-range_fine : (fields : List (List ℕ)) → IfSome (range_of fields) IsOfScript
-unfolding range_of
-range_fine fields = bind_fine (spot_of fields) _ (λ spot. bind_fine (u32_of spot.1) _ (λ len. bind_fine (no_more len.1) _ (λ end. refl)))
-
-write_fine : (fields : List (List ℕ)) → IfSome (write_of fields) IsOfScript
-unfolding write_of
-write_fine fields = bind_fine (spot_of fields) _ (λ spot. bind_fine (first bytes_of spot.1) _ (λ bytes. bind_fine (no_more bytes.1) _ (λ end. refl)))
-
-read_fine : (fields : List (List ℕ)) → IfSome (read_of fields) IsOfScript
-unfolding read_of
-read_fine fields = bind_fine (spot_of fields) _ (λ spot. bind_fine (u32_of spot.1) _ (λ len. bind_fine (no_more len.1) _ (λ end. refl)))
-
-deliver_fine : (fields : List (List ℕ)) → IfSome (deliver_of fields) IsOfScript
-unfolding deliver_of
-deliver_fine fields =
-    bind_fine (u16_of fields) _ (λ sender. bind_fine (u64_of sender.1) _ (λ number. bind_fine (u32_of number.1) _ (λ segment. bind_fine (u16_of segment.1) _ (λ to. bind_fine (no_more to.1) _ (λ end. refl)))))
-
-show_fine : (fields : List (List ℕ)) → IfSome (show_of fields) IsOfScript
-unfolding show_of
-show_fine fields = bind_fine (u16_of fields) _ (λ node. bind_fine (u32_of node.1) _ (λ segment. bind_fine (u32_of segment.1) _ (λ page. bind_fine (no_more page.1) _ (λ end. tt))))
-
-thread_fine : (keyword : List ℕ) (fields : List (List ℕ)) → IfSome (thread_command_of keyword fields) IsOfScript
-unfolding thread_command_of
-thread_fine keyword fields =
-    if_fine (bytes_eq keyword (codes "begin")) _ _ (begin_fine fields)
-    (if_fine (bytes_eq keyword (codes "range")) _ _ (range_fine fields)
-    (if_fine (bytes_eq keyword (codes "write")) _ _ (write_fine fields)
-    (if_fine (bytes_eq keyword (codes "read")) _ _ (read_fine fields)
-    (if_fine (bytes_eq keyword (codes "abort")) _ _ (map_fine _ (thread_alone fields) (λ who. refl))
-    (if_fine (bytes_eq keyword (codes "reserve")) _ _ (map_fine _ (thread_alone fields) (λ who. refl))
-    (if_fine (bytes_eq keyword (codes "close")) _ _ (map_fine _ (thread_alone fields) (λ who. refl))
-    (if_fine (bytes_eq keyword (codes "end")) _ _ (map_fine _ (thread_alone fields) (λ who. tt)) tt)))))))
-
-node_fine : (keyword : List ℕ) (fields : List (List ℕ)) → IfSome (node_command_of keyword fields) IsOfScript
-unfolding node_command_of
-node_fine keyword fields =
-    if_fine (bytes_eq keyword (codes "step")) _ _ (map_fine _ (node_of fields) (λ node. refl))
-    (if_fine (bytes_eq keyword (codes "flush")) _ _ (map_fine Flush (node_of fields) (λ node. tt))
-    (if_fine (bytes_eq keyword (codes "leave")) _ _ (map_fine _ (segment_alone fields) (λ token. refl))
-    (if_fine (bytes_eq keyword (codes "arrive")) _ _ (map_fine _ (segment_alone fields) (λ token. refl))
-    (if_fine (bytes_eq keyword (codes "deliver")) _ _ (deliver_fine fields)
-    (if_fine (bytes_eq keyword (codes "trim")) _ _ (map_fine _ (node_of fields) (λ node. refl))
-    (if_fine (bytes_eq keyword (codes "reset")) _ _ (map_fine _ (node_of fields) (λ node. refl))
-    (if_fine (bytes_eq keyword (codes "rstep")) _ _ (map_fine _ (no_more fields) (λ end. refl))
-    (if_fine (bytes_eq keyword (codes "recover")) _ _ (map_fine _ (no_more fields) (λ end. tt)) tt))))))))
-
-shown_fine : (keyword : List ℕ) (fields : List (List ℕ)) → IfSome (shown_of keyword fields) IsOfScript
-unfolding shown_of
-shown_fine keyword fields =
-    if_fine (bytes_eq keyword (codes "log")) _ _ (map_fine Log (node_of fields) (λ node. tt))
-    (if_fine (bytes_eq keyword (codes "inspect")) _ _ (map_fine Inspect (node_of fields) (λ node. tt))
-    (if_fine (bytes_eq keyword (codes "show")) _ _ (show_fine fields) tt))
-
-command_fine : (ws : List (List ℕ)) → IfSome (command_of ws) IsOfScript
-unfolding command_of
-command_fine [] = tt
-command_fine (keyword ∷ fields) =
-    or_fine (thread_command_of keyword fields) _ (thread_fine keyword fields)
-    (or_fine (node_command_of keyword fields) _ (node_fine keyword fields) (shown_fine keyword fields))
-
-asked_fine : (o : Option Command) (command : Command) → IfSome o IsOfScript → asked o ≡ Commanded command → IsOfScript command
-asked_fine None command fine e = absurd cc
-asked_fine (Some c) command fine e = let same : c ≡ command = cc in subst IsOfScript same fine
-
-line_fine : (b : Bool) (o : Option Command) (command : Command) → IfSome o IsOfScript → (if b then Skipped else asked o) ≡ Commanded command → IsOfScript command
-line_fine true o command fine e = absurd cc
-line_fine false o command fine e = asked_fine o command fine e
-
-pub of_script : (line : List ℕ) (command : Command) → line_of line ≡ Commanded command → IsOfScript command
-unfolding line_of
-of_script [] command e = absurd cc
-of_script (byte ∷ bytes) command e = line_fine (byte == 35) (command_of (words (byte ∷ bytes))) command (command_fine (words (byte ∷ bytes))) e
 
 -- what is read through a limit
 pub limited : (o : Option (List ℕ)) (n : ℕ) (read : List ℕ) → IfSome (option_map (take n) o) (λ xs. read ≡ [] ++ xs) → IfSome o (λ all. read ≡ take n all)

@@ -1,5 +1,5 @@
 -- What it is that a store follows the machine and the numbers over the commands of a script.
-use Rattle.std.specs.Prelude.{◌≡◌, ◌⊎◌, ℕ, List, Option, true}
+use Rattle.std.specs.Prelude.{◌≡◌, ◌⊎◌, ℕ, List, Option}
 use Rattle.std.specs.Io.KnownBytes.{Appends}
 use Rattle.lc_disk.specs.declared.area.Area.{Ghosts}
 use Rattle.lc_record.specs.declared.geometry.Geometry.{Geometry}
@@ -13,7 +13,7 @@ use Rattle.lc_model.specs.declared.reply.Reply.TheVariants.{Refused}
 use Rattle.lc_recover.specs.Reads.{AreHonest, ReadsRefused}
 use Rattle.lc_recover.specs.Recovery.{begun}
 use Rattle.lc_core.specs.Numbers.{Numbers}
-use Rattle.lc_core.specs.World.{FitsWorld, is_common}
+use Rattle.lc_core.specs.World.{FitsWorld}
 use Rattle.lc_core.specs.declared.phase.Phase.TheVariants.{Down}
 use Rattle.lc_core.specs.declared.world.World.{World}
 use Rattle.lc_tool.specs.Answers.{Answers, Ends, Finishes}
@@ -21,13 +21,7 @@ use Rattle.lc_tool.specs.Memory.{AsksMemory}
 use Rattle.lc_tool.specs.Session.{Does}
 use Rattle.lc_tool.specs.Store.{merge_refusal}
 use Rattle.lc_tool.specs.declared.command.Command.{Command}
-use Rattle.lc_tool.specs.declared.command.Command.TheVariants.{Step as Asks}
 use Rattle.lc_tool.specs.declared.verdict.Verdict.{Verdict}
-
--- the store takes each event that a line stands for
-abbrev pub IsOfScript : Command → Type 0
-IsOfScript (Asks event) = is_common event ≡ true
-IsOfScript command = Unit {0}
 
 module _ {D : Type 0} (a : Ghosts D) where
   -- from whatever state and numbers the old one fits to such that the new one fits

@@ -2,7 +2,7 @@
 ghost use Rattle.std.specs.Prelude.{◌≡◌, ◌≢◌, IfOk, OnOk, Some};
 ghost use Rattle.std.specs.Io.KnownBytes.{Appends, Keeps};
 ghost use Rattle.lc_model.specs.declared.refusal.Refusal.{Refusal};
-ghost use Rattle.lc_tool.specs.Fits.{AsksFor, IsOfScript, Performs};
+ghost use Rattle.lc_tool.specs.Fits.{AsksFor, Performs};
 ghost use Rattle.lc_tool.specs.Session.{Says, end_text};
 ghost use Rattle.lc_tool.specs.Shown.{refusal_to};
 ghost use Rattle.lc_tool.specs.Text.{refusal_text, reply_text, words_text};
@@ -19,18 +19,17 @@ use crate::stop::Stop;
 use crate::text::write_closed;
 use crate::verdict::Verdict;
 use lc_core::{Refusal, Reply, ShowFault, World};
-use lc_disk::Area;
+use lc_disk::Stoppable;
 use std::alloc::Global;
 use std::io::Write;
 
 /// One line of a script. An `Err` has written nothing where there was no memory.
-pub(crate) fn perform<D: Area + Drop, W: Write>(
+pub(crate) fn perform<D: Stoppable + Drop, W: Write>(
     world: &mut World<D>,
     alloc: Global,
     command: Command,
     writer: &mut W,
 ) -> Result<Verdict, Stop>
-    requires { IsOfScript command }
     ensures done { IfOk result (λ verdict. Performs D.Area world.old command (W.contents writer.old) (W.contents writer.new) verdict world.new) }
     ensures memory { result ≡ Err Stop.NoMemory → Keeps (W.contents writer.old) (W.contents writer.new) }
     ensures asks { result ≡ Err Stop.NoMemory → AsksFor D.Area world.old command }
@@ -74,7 +73,7 @@ fn show_end<W: Write>(writer: &mut W, reply: &Reply) -> Result<Verdict, Stop>
 }
 
 // The words of the log's records.
-fn show_log<D: Area + Drop, W: Write>(
+fn show_log<D: Stoppable + Drop, W: Write>(
     world: &mut World<D>,
     alloc: Global,
     node: u16,
@@ -94,7 +93,7 @@ fn show_log<D: Area + Drop, W: Write>(
 }
 
 // The log's records, one a line.
-fn show_records<D: Area + Drop, W: Write>(
+fn show_records<D: Stoppable + Drop, W: Write>(
     world: &mut World<D>,
     alloc: Global,
     node: u16,
@@ -130,7 +129,7 @@ fn show_fault<W: Write>(writer: &mut W, fault: ShowFault) -> Result<Verdict, Sto
 }
 
 // The bytes of a page, with those of the open transaction.
-fn show_page<D: Area + Drop, W: Write>(
+fn show_page<D: Stoppable + Drop, W: Write>(
     world: &mut World<D>,
     node: u16,
     segment: u32,

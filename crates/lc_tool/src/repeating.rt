@@ -5,7 +5,7 @@ ghost use Rattle.lc_tool.specs.Fits.{AsksFor, FollowsAll, FollowsEnd, RefusesAll
 ghost use Rattle.lc_tool.specs.declared.command.Command.TheVariants.{End, Recover};
 
 use lc_core::{Event, Reply, World};
-use lc_disk::Area;
+use lc_disk::Stoppable;
 use std::alloc::{AllocError, Global};
 
 // The steps of a flush that say that more are to come.
@@ -15,7 +15,7 @@ const FLUSH_STEPS: u32 = 3;
 const RECOVERY_STEPS: u32 = 1 << 20;
 
 /// A thread's transaction is reserved, and closed where it was. Only the reservation may want memory.
-pub(crate) fn end<D: Area + Drop>(
+pub(crate) fn end<D: Stoppable + Drop>(
     world: &mut World<D>,
     alloc: Global,
     node: u16,
@@ -35,7 +35,7 @@ pub(crate) fn end<D: Area + Drop>(
 }
 
 /// The steps of a flush of a node, up to the one that is answered otherwise than that more are to come.
-pub(crate) fn flush<D: Area + Drop>(
+pub(crate) fn flush<D: Stoppable + Drop>(
     world: &mut World<D>,
     alloc: Global,
     node: u16,
@@ -53,7 +53,7 @@ pub(crate) fn flush<D: Area + Drop>(
 }
 
 /// The steps of a recovery, up to the one that is answered otherwise than that more are to come.
-pub(crate) fn recover<D: Area + Drop>(
+pub(crate) fn recover<D: Stoppable + Drop>(
     world: &mut World<D>,
     alloc: Global,
 ) -> Result<Reply, AllocError>

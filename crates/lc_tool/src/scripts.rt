@@ -19,7 +19,7 @@ use crate::stop::Stop;
 use crate::text::{write_no_memory, write_not_understood, write_too_long};
 use crate::verdict::Verdict;
 use lc_core::{Refusal, Reply, World};
-use lc_disk::{Area, Stoppable};
+use lc_disk::Stoppable;
 use lc_record::Geometry;
 use lc_recover::RecoverFault;
 use std::alloc::Global;
@@ -75,7 +75,7 @@ pub fn run_script<D: Stoppable + Drop, R: Read, W: Write>(
 }
 
 // Recovers the store, and says nothing where that is done: otherwise the status is answered.
-fn open<D: Area + Drop, W: Write>(
+fn open<D: Stoppable + Drop, W: Write>(
     alloc: Global,
     world: &mut World<D>,
     writer: &mut W,
@@ -127,7 +127,7 @@ fn read_script<R: Read>(alloc: Global, reader: &mut R) -> Result<Vec<u8>, ToolFa
 }
 
 // Each line in turn.
-fn run_lines<D: Area + Drop, W: Write>(
+fn run_lines<D: Stoppable + Drop, W: Write>(
     alloc: Global,
     world: &mut World<D>,
     script: &[u8],
@@ -159,7 +159,7 @@ fn status_of(refused: bool) -> u8
 }
 
 // One line.
-fn run_line<D: Area + Drop, W: Write>(
+fn run_line<D: Stoppable + Drop, W: Write>(
     alloc: Global,
     world: &mut World<D>,
     line: &[u8],

@@ -8,4 +8,4 @@ pub returns-in-Unknown-clause-shown : goal.returns-in-Unknown-clause-shown
 returns-in-Unknown-clause-shown g c = IfOk-weaker c.show.result _ _ (λ verdict shown. (Unknown, ap refusal_to c.in-Unknown.is, shown.0, shown.1)) c.show.ensures.shown
 
 pub returns-in-DeviceFault-clause-shown : goal.returns-in-DeviceFault-clause-shown
-returns-in-DeviceFault-clause-shown g c = IfOk-weaker c.show.result _ _ (λ verdict shown. (DeviceFault, ap refusal_to c.in-DeviceFault.is, shown.0, shown.1)) c.show.ensures.shown
+returns-in-DeviceFault-clause-shown g c = IfOk-weaker c.show-in-DeviceFault.result _ _ (λ verdict shown. (DeviceFault, ap refusal_to c.in-DeviceFault.is, shown.0, shown.1)) c.show-in-DeviceFault.ensures.shown
