@@ -60,7 +60,7 @@ moves_on s node steps taken k after row =
     (λ some later.
     pick (nat_lt steps 3) _ _ _ later
     (λ few moved. (ltb-true steps 3 few, moves s node (steps + 1) taken k after moved))
-    (λ many last. elim last [ | inl h ↦ let bad = h.0 in cc | inr h ↦ let bad = h.0 in cc ]))
+    (λ many last. elim last [ inl h ↦ let bad = h.0 in cc | inr h ↦ let bad = h.0 in cc ]))
 
 unless_not : (o : Option Refusal) (s : State) (k : ℕ) (after : State) (P : Type 0) → Unless o s (Stepped k) after P → P
 unless_not None s k after P h = h
@@ -99,10 +99,12 @@ reserved_here : (o : Option Refusal) (r : Option Transaction) (s : State) (place
     → (o ≡ None) × ((t : Transaction) × (r ≡ Some t) × (mid ≡ appended s t))
 reserved_here (Some refusal) r s place words mid h = let bad = h.0 in cc
 reserved_here None None s place words mid h = let bad = h.0 in cc
-reserved_here None (Some t) s place words mid h =
-    (refl, pick (is_empty t.marks) _ _ _ h
-    (λ none ended. let bad = ended.0 in cc)
-    (λ some row. elim row [ | inl made ↦ (t, refl, made.3) | inr refused ↦ let bad = refused.2 in cc ]))
+reserved_here None (Some t) s place words mid h = (
+  refl,
+  pick (is_empty t.marks) _ _ _ h
+      (λ none ended. let bad = ended.0 in cc)
+      (λ some row. elim row [ inl made ↦ (t, refl, made.3) | inr refused ↦ let bad = refused.2 in cc ]),
+)
 
 close_row : (o : Option Refusal) (b : Bool) (mid : State) (reply : Reply) (after : State) (P : Type 0) → o ≡ None → b ≡ true
     → Unless o mid reply after (Unless (refuse_if (not b) OutOfTurn None) mid reply after ((reply ≡ Accepted) × P)) → reply ≡ Accepted

@@ -82,12 +82,12 @@ module _ {D : Type 0} (a : Ghosts D) where
     known_by words is false unknown = let bad = sym is ∙ (told.unknown (unknown_log a old.phase m s x node fits unknown)).0 in absurd cc
 
     pub shows_words : (words : Vec ℕ) → result ≡ Ok words → ((area : D) → log_area a old.phase node ≡ Some area → AreWordsOf a area words.items)
-        → ShowRecords a old.phase node words.items
+        → ((area : D) → log_area a old.phase node ≡ Some area → ShowRecords a old.phase node words.items)
         → (is_node m.geometry node ≡ true) × HasWords (AreInLog s.phase m s x node) words.items
     shows_words words is are show =
         let known = known_by words is (is_node m.geometry node) refl in
         let there = known_log a old.phase m s x node fits known in
-        (known, words_in_log old.phase m s x node there.0 words.items fits known there.1 (are there.0 there.1) show)
+        (known, words_in_log old.phase m s x node there.0 words.items fits known there.1 (are there.0 there.1) (show there.0 there.1))
 
     pub shows_fault : (fault : ShowFault) (refusal : Refusal) (text_of : List Record → List ℕ) → result ≡ Err fault → refusal_to fault ≡ Some refusal → (b : Bool) → is_node m.geometry node ≡ b
         → ShowsLog m s x node text_of (refusal_text refusal) (verdict_on refusal)
@@ -104,7 +104,7 @@ module _ {D : Type 0} (a : Ghosts D) where
 
   module _ (node : ℕ) (old new : World D a) (result : Result (Vec ℕ) ShowFault) (told : Told node old new result) where
     pub log_performs : (words : Vec ℕ) (held holds : Option (List ℕ)) → result ≡ Ok words → ((area : D) → log_area a old.phase node ≡ Some area → AreWordsOf a area words.items)
-        → ShowRecords a old.phase node words.items
+        → ((area : D) → log_area a old.phase node ≡ Some area → ShowRecords a old.phase node words.items)
         → Appends held holds (words_text words.items) → Performs a old (Log node) held holds Done new
     log_performs words held holds is are show shown m s x fits =
         let has = shows_words node old new result told m s x fits words is are show in (
@@ -119,7 +119,7 @@ module _ {D : Type 0} (a : Ghosts D) where
         )
 
     pub inspect_performs : (words : Vec ℕ) (held holds : Option (List ℕ)) → result ≡ Ok words → ((area : D) → log_area a old.phase node ≡ Some area → AreWordsOf a area words.items)
-        → ShowRecords a old.phase node words.items
+        → ((area : D) → log_area a old.phase node ≡ Some area → ShowRecords a old.phase node words.items)
         → Inspects (words_of (bytes_of words.items)) held holds → Performs a old (Inspect node) held holds Done new
     inspect_performs words held holds is are show inspects m s x fits =
         let has = shows_words node old new result told m s x fits words is are show in

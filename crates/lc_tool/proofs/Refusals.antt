@@ -15,8 +15,8 @@ one_least Such m n a b = omega (arith, a.least n b.is, b.least m a.is)
 one_pair : (Such : ℕ → ℕ → Type 0) (k l m n : ℕ) → IsLeastPair Such k l → IsLeastPair Such m n → (k ≡ m) × (l ≡ n)
 one_pair Such k l m n a b =
     elim (a.least m n b.is) [
-      | inl less ↦ elim (b.least k l a.is) [ | inl more ↦ absurd (omega (arith, less, more)) | inr same ↦ absurd (omega (arith, less, same.0)) ]
-      | inr same ↦ elim (b.least k l a.is) [ | inl more ↦ absurd (omega (arith, same.0, more)) | inr also ↦ (same.0, omega (arith, same.1, also.1)) ]
+      | inl less ↦ elim (b.least k l a.is) [ inl more ↦ absurd (omega (arith, less, more)) | inr same ↦ absurd (omega (arith, less, same.0)) ]
+      | inr same ↦ elim (b.least k l a.is) [ inl more ↦ absurd (omega (arith, same.0, more)) | inr also ↦ (same.0, omega (arith, same.1, also.1)) ]
     ]
 
 -- what merges is not refused

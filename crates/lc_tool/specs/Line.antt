@@ -1,7 +1,9 @@
 -- What each line of a script says.
-use Rattle.std.specs.Prelude.{◌≡◌, ℕ, ◌+◌, ◌-◌, ◌*◌, ◌^◌, ◌==◌, nat_lt, nat_le, ◌&&◌, ◌||◌, Bool, true, false, if◌then◌else◌, List, [], ◌∷◌, length, codes, bytes_eq, filter, Option, Some, None, option_and_then, option_map}
+use Rattle.std.specs.Prelude.{◌≡◌, ℕ, ◌+◌, ◌-◌, ◌*◌, ◌^◌, ◌==◌, nat_lt, nat_le, ◌&&◌, ◌||◌, Bool, true, false, if◌then◌else◌, List, [], ◌∷◌, length, codes, bytes_eq, filter, replicate, Option, Some, None, option_and_then, option_map}
 use Rattle.std.specs.List.{slice_split, list_all}
-use Rattle.lc_model.specs.declared.event.Event.TheVariants.{Begin, SetRange, Write, Read, Abort, Reserve, Close, FlushStep, Leave, Arrive, Deliver, Trim, ResetStep, RecoverStep}
+use Rattle.lc_disk.specs.declared.choice.Choice.{Choice}
+use Rattle.lc_disk.specs.declared.choice.Choice.TheVariants.{Keep, Stable, Byte}
+use Rattle.lc_model.specs.declared.event.Event.TheVariants.{Begin, SetRange, Write, Read, Abort, Reserve, Close, FlushStep, Leave, Arrive, Deliver, Trim, PageStep, ResetStep, Stop, RecoverStep}
 use Rattle.lc_tool.specs.declared.command.Command.{Command}
 use Rattle.lc_tool.specs.declared.command.Command.TheVariants.{Step, End, Flush, Recover, Log, Inspect, Show}
 use Rattle.lc_tool.specs.declared.command.Line.{Line}
@@ -178,13 +180,14 @@ deliver_of fields = do
   end ← no_more to.1
   Some (Step (Deliver sender.0 number.0 segment.0 to.0))
 
-unfoldable pub show_of : List (List ℕ) → Option Command
-show_of fields = do
+-- a node, a segment and a page alone
+unfoldable pub page_alone : List (List ℕ) → Option (ℕ × ℕ × ℕ)
+page_alone fields = do
   node ← u16_of fields
   segment ← u32_of node.1
   page ← u32_of segment.1
   end ← no_more page.1
-  Some (Show node.0 segment.0 page.0)
+  Some (node.0, segment.0, page.0)
 
 -- a node alone
 unfoldable pub node_of : List (List ℕ) → Option ℕ
@@ -210,7 +213,7 @@ thread_command_of keyword fields =
     else if bytes_eq keyword (codes "end") then option_map (λ who. End who.0 who.1) (thread_alone fields)
     else None
 
--- what a node or the store does
+-- what a node does
 unfoldable pub node_command_of : List ℕ → List (List ℕ) → Option Command
 node_command_of keyword fields =
     if bytes_eq keyword (codes "step") then option_map (λ node. Step (FlushStep node)) (node_of fields)
@@ -219,7 +222,39 @@ node_command_of keyword fields =
     else if bytes_eq keyword (codes "arrive") then option_map (λ token. Step (Arrive token.0 token.1)) (segment_alone fields)
     else if bytes_eq keyword (codes "deliver") then deliver_of fields
     else if bytes_eq keyword (codes "trim") then option_map (λ node. Step (Trim node)) (node_of fields)
+    else if bytes_eq keyword (codes "page") then option_map (λ p. Step (PageStep p.0 p.1 p.2)) (page_alone fields)
     else if bytes_eq keyword (codes "reset") then option_map (λ node. Step (ResetStep node)) (node_of fields)
+    else None
+
+-- two digits
+abbrev pub byte_choice : List ℕ → Option Choice
+byte_choice [] = None
+byte_choice (digit ∷ []) = None
+byte_choice (high ∷ low ∷ []) = option_map Byte (pair_of high low)
+byte_choice (high ∷ low ∷ digit ∷ digits) = None
+
+-- what is found at each dirty position behind a stop: what was read, what was stable, or a byte
+unfoldable pub choice_of : List ℕ → Option Choice
+choice_of word =
+    if bytes_eq word (codes "keep") then Some Keep
+    else if bytes_eq word (codes "stable") then Some Stable
+    else byte_choice word
+
+-- areas that a store may have: those of 8 logs and of 16 segments
+abbrev pub most_areas : ℕ
+most_areas = 24
+
+-- the same choice for each area
+unfoldable pub stop_of : List (List ℕ) → Option Command
+stop_of fields = do
+  choice ← first choice_of fields
+  end ← no_more choice.1
+  Some (Step (Stop (replicate most_areas (choice.0 ∷ []))))
+
+-- what the whole store does
+unfoldable pub store_command_of : List ℕ → List (List ℕ) → Option Command
+store_command_of keyword fields =
+    if bytes_eq keyword (codes "stop") then stop_of fields
     else if bytes_eq keyword (codes "rstep") then alone (Step RecoverStep) fields
     else if bytes_eq keyword (codes "recover") then alone Recover fields
     else None
@@ -229,7 +264,7 @@ unfoldable pub shown_of : List ℕ → List (List ℕ) → Option Command
 shown_of keyword fields =
     if bytes_eq keyword (codes "log") then option_map Log (node_of fields)
     else if bytes_eq keyword (codes "inspect") then option_map Inspect (node_of fields)
-    else if bytes_eq keyword (codes "show") then show_of fields
+    else if bytes_eq keyword (codes "show") then option_map (λ p. Show p.0 p.1 p.2) (page_alone fields)
     else None
 
 -- the first that is some
@@ -240,13 +275,15 @@ option_or (Some x) other = Some x
 unfoldable pub command_of : List (List ℕ) → Option Command
 command_of [] = None
 command_of (keyword ∷ fields) =
-    option_or (thread_command_of keyword fields) (option_or (node_command_of keyword fields) (shown_of keyword fields))
+    option_or (thread_command_of keyword fields)
+    (option_or (node_command_of keyword fields) (option_or (store_command_of keyword fields) (shown_of keyword fields)))
 
--- its fields take memory: a begin with a segment, or a write with bytes
+-- its fields take memory: a begin with a segment, a write with bytes, or a stop with a choice
 abbrev pub is_open_ended : List (List ℕ) → Bool
 is_open_ended [] = false
 is_open_ended (keyword ∷ fields) =
     (bytes_eq keyword (codes "begin") && nat_lt 2 (length fields)) || (bytes_eq keyword (codes "write") && nat_lt 4 (length fields))
+    || (bytes_eq keyword (codes "stop") && nat_lt 0 (length fields))
 
 -- Lines
 

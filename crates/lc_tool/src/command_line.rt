@@ -41,11 +41,29 @@ fn program<'a>(alloc: Global) -> Result<Command<'a>, AllocError>
     ensures { IfOk result (λ command. app_of command ≡ program_app) }
 {
     let few = value_parser!(u32).range(1..=8);
-    let nodes = option(alloc, "nodes", "Nodes that share the store: 1 to 8", "1", few);
+    let nodes = option(
+        alloc,
+        "nodes",
+        "Nodes that share the store: 1 to 8",
+        "1",
+        few,
+    );
     let several = value_parser!(u32).range(1..=16);
-    let threads = option(alloc, "threads", "Threads of each node: 1 to 16", "1", several);
+    let threads = option(
+        alloc,
+        "threads",
+        "Threads of each node: 1 to 16",
+        "1",
+        several,
+    );
     let several = value_parser!(u32).range(1..=16);
-    let segments = option(alloc, "segments", "Segments of the store: 1 to 16", "1", several);
+    let segments = option(
+        alloc,
+        "segments",
+        "Segments of the store: 1 to 16",
+        "1",
+        several,
+    );
     let some = value_parser!(u32).range(1..=1024);
     let pages = option(
         alloc,

@@ -52,7 +52,7 @@ fn digit(byte: u8) -> Option<u8>
 
 /// The byte of two hexadecimal digits.
 #[tactic(auto, unfolding(crate::specs::Line::pair_of))]
-fn pair(high: u8, low: u8) -> Option<u8>
+pub fn pair(high: u8, low: u8) -> Option<u8>
     ensures { result ≡ pair_of high low }
 {
     let high = digit(high)?;

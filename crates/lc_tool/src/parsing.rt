@@ -1,12 +1,17 @@
 //! Lines of a script.
-ghost use Rattle.std.specs.Prelude.{◌≡◌, ◌<◌, ◌∷◌, length, option_map, IfOk, OnErr, IsTrue};
-ghost use Rattle.lc_tool.specs.Line.{words, Takes, thread_of, spot_of, thread_alone, segment_alone, alone, begin_of, range_of, write_of, read_of, deliver_of, show_of, node_of, thread_command_of, node_command_of, shown_of, command_of, is_open_ended, line_of};
+ghost use Rattle.std.specs.Prelude.{◌≡◌, ◌<◌, [], ◌∷◌, length, replicate, option_map, IfOk, OnErr, IsTrue};
+ghost use Rattle.lc_tool.specs.Line.{words, Takes, thread_of, spot_of, thread_alone, segment_alone, alone, begin_of, range_of, write_of, read_of, deliver_of, page_alone, choice_of, stop_of, node_of, thread_command_of, node_command_of, store_command_of, shown_of, command_of, is_open_ended, line_of};
 
 use crate::command::{Command, Line};
+use crate::digits::pair;
 use crate::fields::Fields;
 use lc_core::Event;
+use lc_disk::Choice;
 use lc_record::Items;
 use std::alloc::{AllocError, Global};
+
+// The areas that a store may have: those of 8 logs and of 16 segments.
+const MOST_AREAS: usize = 24;
 
 /// A node and its thread.
 #[tactic(auto, unfolding(crate::specs::Line::thread_of))]
@@ -152,19 +157,16 @@ fn deliver(mut fields: Fields) -> Option<Command>
     }))
 }
 
-#[tactic(auto, unfolding(crate::specs::Line::show_of))]
-fn show(mut fields: Fields) -> Option<Command>
-    ensures { result ≡ show_of (words fields.entry.rest.now) }
+/// A node, a segment and a page alone.
+#[tactic(auto, unfolding(crate::specs::Line::page_alone))]
+fn lone_page(mut fields: Fields) -> Option<(u16, u32, u32)>
+    ensures { result ≡ page_alone (words fields.entry.rest.now) }
 {
     let node = fields.u16()?;
     let segment = fields.u32()?;
     let page = fields.u32()?;
     fields.end()?;
-    Some(Command::Show {
-        node,
-        segment,
-        page,
-    })
+    Some((node, segment, page))
 }
 
 /// What a thread is to do, by the first word.
@@ -210,7 +212,7 @@ fn thread_command(
     Ok(None)
 }
 
-/// What a node or the whole store is to do.
+/// What a node is to do.
 #[tactic(auto, unfolding(crate::specs::Line::node_command_of))]
 fn node_command(keyword: &[u8], fields: Fields) -> Option<Command>
     ensures { result ≡ node_command_of keyword.now (words fields.entry.rest.now) }
@@ -237,16 +239,88 @@ fn node_command(keyword: &[u8], fields: Fields) -> Option<Command>
     if keyword == b"trim".as_slice() {
         return lone_node(fields).map(|node| Command::Step(Event::Trim { node }));
     }
+    if keyword == b"page".as_slice() {
+        return lone_page(fields).map(|(node, segment, page)| {
+            Command::Step(Event::PageStep {
+                node,
+                segment,
+                page,
+            })
+        });
+    }
     if keyword == b"reset".as_slice() {
         return lone_node(fields).map(|node| Command::Step(Event::ResetStep { node }));
     }
+    None
+}
+
+/// What is found behind a stop.
+#[tactic(auto, unfolding(crate::specs::Line::choice_of))]
+fn choice(word: &[u8]) -> Option<Choice>
+    ensures { result ≡ choice_of word.now }
+{
+    if word == b"keep".as_slice() {
+        return Some(Choice::Keep);
+    }
+    if word == b"stable".as_slice() {
+        return Some(Choice::Stable);
+    }
+    match word {
+        [high, low] => pair(*high, *low).map(Choice::Byte),
+        _ => None,
+    }
+}
+
+/// The same choice for each area that a store may have.
+fn for_all_areas(alloc: Global, choice: Choice) -> Result<Vec<Items<Choice>>, AllocError>
+    ensures { IfOk result (λ choices. choices.items ≡ replicate MOST_AREAS (choice ∷ [])) }
+{
+    let mut choices = Vec::new(alloc);
+    for _ in 0..MOST_AREAS {
+        choices.push(Items::new([choice].to_vec(alloc)?))?;
+    }
+    Ok(choices)
+}
+
+#[tactic(auto, unfolding(crate::specs::Line::stop_of))]
+fn stop(alloc: Global, mut fields: Fields) -> Result<Option<Command>, AllocError>
+    ensures value { IfOk result (λ command. command ≡ stop_of (words fields.entry.rest.now)) }
+    ensures memory { OnErr result (0 < length (words fields.entry.rest.now)) }
+{
+    let Some(word) = fields.word() else {
+        return Ok(None);
+    };
+    let Some(choice) = choice(word) else {
+        return Ok(None);
+    };
+    let Some(()) = fields.end() else {
+        return Ok(None);
+    };
+    Ok(Some(Command::Step(Event::Stop {
+        choices: Items::new(for_all_areas(alloc, choice)?),
+    })))
+}
+
+/// What the whole store is to do.
+#[tactic(auto, unfolding(crate::specs::Line::store_command_of))]
+fn store_command(
+    alloc: Global,
+    keyword: &[u8],
+    fields: Fields,
+) -> Result<Option<Command>, AllocError>
+    ensures value { IfOk result (λ command. command ≡ store_command_of keyword.now (words fields.entry.rest.now)) }
+    ensures memory { OnErr result (IsTrue (is_open_ended (keyword.now ∷ words fields.entry.rest.now))) }
+{
+    if keyword == b"stop".as_slice() {
+        return stop(alloc, fields);
+    }
     if keyword == b"rstep".as_slice() {
-        return alone(fields, Command::Step(Event::RecoverStep));
+        return Ok(alone(fields, Command::Step(Event::RecoverStep)));
     }
     if keyword == b"recover".as_slice() {
-        return alone(fields, Command::Recover);
+        return Ok(alone(fields, Command::Recover));
     }
-    None
+    Ok(None)
 }
 
 /// A command without fields.
@@ -269,7 +343,11 @@ fn shown(keyword: &[u8], fields: Fields) -> Option<Command>
         return lone_node(fields).map(|node| Command::Inspect { node });
     }
     if keyword == b"show".as_slice() {
-        return show(fields);
+        return lone_page(fields).map(|(node, segment, page)| Command::Show {
+            node,
+            segment,
+            page,
+        });
     }
     None
 }
@@ -289,10 +367,13 @@ fn command(alloc: Global, mut fields: Fields) -> Result<Option<Command>, AllocEr
     if let Some(command) = node_command(keyword, fields) {
         return Ok(Some(command));
     }
+    if let Some(command) = store_command(alloc, keyword, fields)? {
+        return Ok(Some(command));
+    }
     Ok(shown(keyword, fields))
 }
 
-/// What a line asks for, without what ends it. Only a `begin` with segments and a `write` with bytes take memory.
+/// What a line asks for, without what ends it. Only a `begin` with segments, a `write` with bytes and a `stop` take memory.
 #[tactic(auto, unfolding(crate::specs::Line::line_of))]
 pub fn parse(alloc: Global, line: &[u8]) -> Result<Line, AllocError>
     ensures value { IfOk result (λ read. read ≡ line_of line.now) }

@@ -99,7 +99,11 @@ fn bad_geometry<W: Write>(writer: &mut W, area: u32) -> Result<u8, ToolFault>
     ensures shown { IfOk result (λ status. (status ≡ 1) × Appends (W.contents writer.old) (W.contents writer.new) (refusal_text (BadGeometry area))) }
     ensures memory { result ≢ Err ToolFault.NoMemory }
 {
-    printed(writer, &Reply::Refused(Refusal::BadGeometry { area }), REFUSED)
+    printed(
+        writer,
+        &Reply::Refused(Refusal::BadGeometry { area }),
+        REFUSED,
+    )
 }
 
 // Writes the line of a reply, behind which nothing more is done, and gives the status.

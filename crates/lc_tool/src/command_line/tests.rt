@@ -45,10 +45,7 @@ fn bounds_of_words(rt: HostRuntime) -> Result<(), AllocError> {
 }
 
 // The nodes, threads and segments of the run that is asked for.
-fn counts_of(
-    alloc: Global,
-    words: &[&str],
-) -> Result<Option<(u16, u16, u32)>, AllocError> {
+fn counts_of(alloc: Global, words: &[&str]) -> Result<Option<(u16, u16, u32)>, AllocError> {
     match read_command_line(alloc, words)? {
         Asked::Run(geometry) => Ok(Some((geometry.nodes, geometry.threads, geometry.segments))),
         _ => Ok(None),

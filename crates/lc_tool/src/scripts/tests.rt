@@ -1,7 +1,7 @@
 use super::{LONGEST, run_script};
 use crate::ToolFault;
-use crate::zeros::zero_areas;
 use crate::inspector::inspect;
+use crate::zeros::zero_areas;
 use lc_disk::{Fuse, MemArea, Stoppable, When};
 use lc_record::Geometry;
 use std::io::{self, Error, ErrorKind, Read, Write};
@@ -482,7 +482,8 @@ fn a_log_is_reset_step_by_step(rt: HostRuntime) -> Result<(), Fail> {
 fn a_flush_that_is_under_way_is_finished(rt: HostRuntime) -> Result<(), Fail> {
     let commit = "begin 0 0 1\nrange 0 0 1 0 1\nend 0 0\n";
     let script = format!(in rt.alloc();
-        "{commit}step 0\nlog 0\nstep 0\ninspect 0\n{commit}step 0\ninspect 0\nflush 0\nflush 0\nflush 0\ninspect 0\n")?;
+        "{commit}step 0\nlog 0\nstep 0\ninspect 0\n{commit}step 0\ninspect 0\nflush 0\nflush 0\nflush 0\ninspect 0\n"
+    )?;
     let want =
         "ok\nok\nclosed 0 8\nstep 1\nstep 2\nok\nok\nclosed 8 8\nstep 3\n0 8 node 0 locks 1:1 ranges 1:0+1\nacked 1\nacked 2\nnothing\n0 8 node 0 locks 1:1 ranges 1:0+1\n8 8 node 0 locks 1:2 ranges 1:0+1\n";
     check_store(&rt, ONE, script.as_str().as_bytes(), want, 0)
@@ -509,16 +510,15 @@ fn check_found(
     bytes.resize(520, 0)?;
     let mut pages = page.to_vec(alloc)?;
     pages.resize(544, 0)?;
-    let areas =
-        vec![in alloc; MemArea::from_bytes(alloc, bytes.as_slice())?, MemArea::from_bytes(alloc, pages.as_slice())?]?;
+    let areas = vec![in alloc;
+        MemArea::from_bytes(alloc, bytes.as_slice())?,
+        MemArea::from_bytes(alloc, pages.as_slice())?,
+    ]?;
     check_areas(rt, ONE, areas, script, want, want_status)
 }
 
 // With some of the record's bytes changed.
-fn record_with(
-    rt: &(impl Abort + AllocGlobal),
-    changes: &[(usize, u8)],
-) -> Result<Vec<u8>, Fail> {
+fn record_with(rt: &(impl Abort + AllocGlobal), changes: &[(usize, u8)]) -> Result<Vec<u8>, Fail> {
     let mut bytes = RECORD.to_vec(rt.alloc())?;
     for (at, byte) in changes {
         let Some(place) = bytes.get_mut(*at) else {
@@ -554,7 +554,8 @@ fn what_is_no_record_is_no_refusal(rt: HostRuntime) -> Result<(), Fail> {
 
 #[test]
 fn a_found_record_is_recovered(rt: HostRuntime) -> Result<(), Fail> {
-    let script = b"begin 0 0 1\nread 0 0 1 2 7\nlog 0\nrange 0 0 1 0 1\nend 0 0\nflush 0\ninspect 0\n";
+    let script =
+        b"begin 0 0 1\nread 0 0 1 2 7\nlog 0\nrange 0 0 1 0 1\nend 0 0\nflush 0\ninspect 0\n";
     let want =
         "ok\nbytes 0068656c6c6f00\nok\nclosed 0 8\nacked 1\n0 8 node 0 locks 1:2 ranges 1:0+1\n";
     check_found(&rt, &RECORD, &[], script, want, 0)
@@ -617,7 +618,102 @@ fn a_device_fault_ends_a_script(rt: HostRuntime) -> Result<(), Fail> {
     for call in [5, 6, 7, 8] {
         check_fused(&rt, call, script, "ok\nok\nclosed 0 8\ndevice fault\n", 3)?;
     }
-    check_fused(&rt, 9, script, "ok\nok\nclosed 0 8\nacked 1\ndevice fault\n", 3)?;
+    check_fused(
+        &rt,
+        9,
+        script,
+        "ok\nok\nclosed 0 8\nacked 1\ndevice fault\n",
+        3,
+    )?;
     check_fused(&rt, 9, b"inspect 0\nlog 1\n", "refused Unknown\n", 1)?;
     check_fused(&rt, 5, b"inspect 0\n", "device fault\n", 3)
+}
+
+const COMMIT: &str = "begin 0 0 1\nrange 0 0 1 3 5\nwrite 0 0 1 3 68656c6c6f\nend 0 0\n";
+
+const COMMITTED: &str = "ok\nok\nok\nclosed 0 8\n";
+
+// The lines of a page that begins with row 1's bytes, or is zeros.
+fn page_text(rt: &(impl Abort + AllocGlobal), first: &str) -> Result<String, Fail> {
+    let mut text = first.to_string(rt.alloc())?;
+    for _ in 0..15 {
+        text.push_str(ZERO_LINE)?;
+    }
+    Ok(text)
+}
+
+#[test]
+fn a_stop_after_each_step_of_a_flush(rt: HostRuntime) -> Result<(), Fail> {
+    let hello = page_text(&rt, "00000068656c6c6f0000000000000000\n")?;
+    let zeros = page_text(&rt, ZERO_LINE)?;
+    for (steps, replies, choice, kept) in [
+        ("step 0\n", "step 1\n", "a5", false),
+        (
+            "step 0\nstep 0\nstep 0\n",
+            "step 1\nstep 2\nstep 3\n",
+            "a5",
+            true,
+        ),
+        (
+            "step 0\nstep 0\nstep 0\n",
+            "step 1\nstep 2\nstep 3\n",
+            "keep",
+            true,
+        ),
+        (
+            "step 0\nstep 0\nstep 0\n",
+            "step 1\nstep 2\nstep 3\n",
+            "stable",
+            false,
+        ),
+        (
+            "step 0\nstep 0\nstep 0\n",
+            "step 1\nstep 2\nstep 3\n",
+            "00",
+            false,
+        ),
+        (
+            "step 0\nstep 0\nstep 0\n",
+            "step 1\nstep 2\nstep 3\n",
+            "7F",
+            false,
+        ),
+    ] {
+        let script = format!(in rt.alloc();
+            "{COMMIT}{steps}stop {choice}\nshow 0 1 0\nrecover\nlog 0\nshow 0 1 0\n"
+        )?;
+        let page = if kept { hello.as_str() } else { zeros.as_str() };
+        let want = format!(in rt.alloc();
+            "{COMMITTED}{replies}down\nrefused Down\nrecovered\n{page}"
+        )?;
+        check_run(&rt, 1, 64, script.as_str().as_bytes(), want.as_str(), 1)?;
+    }
+    Ok(())
+}
+
+#[test]
+fn a_log_is_reset_once_its_pages_are_written(rt: HostRuntime) -> Result<(), Fail> {
+    let geometry = Geometry {
+        nodes: 1,
+        threads: 1,
+        segments: 2,
+        pages: 1,
+        words: 64,
+    };
+    let pages =
+        "begin 0 0 1 2\nrange 0 0 1 0 1\nrange 0 0 2 0 1\nwrite 0 0 1 0 11\nwrite 0 0 2 0 22\nend 0 0\nflush 0\npage 0 1 0\npage 0 1 0\npage 0 1 0\npage 0 1 0\npage 0 1 0\npage 0 1 0\nreset 0\n";
+    let replies =
+        "ok\nok\nok\nok\nok\nclosed 0 13\nacked 1\nstep 1\nstep 2\nstep 3\nstep 4\nstep 5\nwritten 1\nrefused Unclean 2 1\n";
+    let script = format!(in rt.alloc();
+        "{pages}stop stable\nrecover\nbegin 0 0 1 2\nread 0 0 1 0 1\nread 0 0 2 0 1\n"
+    )?;
+    let want = format!(in rt.alloc(); "{replies}down\nrecovered\nok\nbytes 11\nbytes 22\n")?;
+    check_store(&rt, geometry, script.as_str().as_bytes(), want.as_str(), 1)?;
+    let script = format!(in rt.alloc();
+        "{pages}page 0 2 0\npage 0 2 0\npage 0 2 0\npage 0 2 0\npage 0 2 0\npage 0 2 0\npage 0 2 0\nbegin 0 0 1\nrange 0 0 1 0 1\npage 0 1 0\nreset 0\nend 0 0\nreset 0\nreset 0\nreset 0\nlog 0\nend 0 0\nflush 0\n"
+    )?;
+    let want = format!(in rt.alloc();
+        "{replies}step 1\nstep 2\nstep 3\nstep 4\nstep 5\nwritten 1\nrefused NotNewer\nok\nok\nrefused Uncommitted\nstep 1\nrefused Sealed\nstep 2\nstep 3\nreset\nclosed 0 8\nacked 2\n"
+    )?;
+    check_store(&rt, geometry, script.as_str().as_bytes(), want.as_str(), 1)
 }
