@@ -13,9 +13,13 @@ use Rattle.lc_core.specs.World.{FitsWorld}
 use Rattle.lc_core.specs.declared.world.World.{World}
 use Rattle.lc_tool.specs.Answers.{Finishes}
 use Rattle.lc_tool.specs.Fits.{FollowsAll, IsRefused, RefusesAll}
-use Rattle.lc_tool.specs.Outcome.{EndsWith, IsGivenUp, IsRecovered, OpensStore, RefusesFirst}
+use Rattle.lc_tool.specs.Outcome.{EndsWith, IsGivenUp, IsRecovered, OpensStore, RefusesFirst, RunsLines}
 use Rattle.lc_tool.specs.Script.{NoMemory, Opens, Runs, RunsScript, script_lines}
-use Rattle.lc_tool.specs.Store.{Adds, RefusesStore, merge_refusal}
+use Rattle.lc_recover.specs.Reads.{AllMergeTo, AreHonest, HaveLengths}
+use Rattle.lc_recover.specs.Recovery.{begun}
+use Rattle.lc_core.specs.declared.phase.Phase.TheVariants.{Down}
+use Rattle.lc_tool.specs.Store.{Adds, AreKnown, AreRefused, RefusesLengths, RefusesMerge, RefusesStore, RunsStore, merge_refusal}
+use Rattle.lc_tool.proofs.ScriptLemmas.{keeps_then}
 use Rattle.lc_tool.specs.Text.{no_memory_text, reply_text, too_long_text}
 use Rattle.lc_tool.specs.Verdict.{verdict_of}
 use Rattle.lc_tool.specs.declared.verdict.Verdict.{Verdict}
@@ -89,3 +93,53 @@ module _ {D : Type 0} (a : Ghosts D) (old new : World D a) (held holds : Option 
           | inl merge ↦ let bad : Faulted ≡ Refused = is ∙ ap verdict_of merge ∙ merge_verdict fault in absurd cc
           | inr device ↦ (reply_text reply, inr (inl (ap reply_text device, by)), shown)
         ]
+
+-- The whole script
+
+pub some_all : {A : Type 0} (o : Option A) (P : A → Type 0) → ((x : A) → P x) → IfSome o P
+some_all None P all = tt
+some_all (Some x) P all = all x
+
+module _ {D : Type 0} (a : Ghosts D) (g : Geometry) (areas : List D) (world : World D a) (held holds : Option (List ℕ)) (status : ℕ) where
+  -- a store of these areas fits the first state
+  abbrev pub FitsFirst : Type 0
+  FitsFirst = (m : Setting) (x : Numbers) → m.geometry ≡ g → AreHonest a areas → AllMergeTo a g areas m.start x.disks.numbers → x.steps ≡ 0 → FitsWorld a m world (first_state g) x
+
+  start_fits : FitsFirst → (m : Setting) (x : Numbers) → m.geometry ≡ g → AreKnown a m areas x → FitsWorld a m world (first_state g) x
+  start_fits fits m x same known = fits m x same known.honest (subst (λ (h : Geometry). AllMergeTo a h areas m.start x.disks.numbers) same known.merges) known.first
+
+  -- the recovery did not come to its end
+  pub stopped_runs : (new : World D a) (script : List ℕ) → FitsFirst → OpensStore a world held holds (Some status) new → RunsStore a g areas script held holds status
+  stopped_runs new script fits opens m x same known =
+      let ends = opens m (first_state g) x (start_fits fits m x same known) in
+      (ends.0, given_up m (first_state g) x script ends.0 status ends.1, ends.2)
+
+  its_refusal : world.phase ≡ Down (begun g areas) → (fault : MergeFault) → AreRefused a g areas fault → IsRefused a world fault
+  its_refusal down fault refused = record { geometry = g; areas = areas; down = down; honest = refused.honest; refused = refused.refused }
+
+  pub stopped_refuses : world.phase ≡ Down (begun g areas) → RefusesFirst a world held holds (Some status) → RefusesMerge a g areas held holds status
+  stopped_refuses down first fault refused = first fault (its_refusal down fault refused)
+
+  -- or it did
+  pub never_refuses : (mid : Option (List ℕ)) → world.phase ≡ Down (begun g areas) → RefusesFirst a world held mid None → RefusesMerge a g areas held holds status
+  never_refuses mid down first fault refused = absurd (first fault (its_refusal down fault refused))
+
+  -- its areas are those of the geometry
+  pub never_wrong : HaveLengths a g areas → RefusesLengths a g areas held holds status
+  never_wrong right area wrong = absurd (wrong.is (right area))
+
+  pub memory_runs : (mid : Option (List ℕ)) (new : World D a) (script : List ℕ) → FitsFirst → OpensStore a world held mid None new → status ≡ 1 → Appends mid holds no_memory_text → RunsStore a g areas script held holds status
+  memory_runs mid new script fits opens is shown m x same known = (no_memory_text, inl (refl, is), keeps_then held mid holds no_memory_text opens.1 shown)
+
+  pub long_runs : (mid : Option (List ℕ)) (new : World D a) (script : List ℕ) → FitsFirst → OpensStore a world held mid None new → nat_lt 1048576 (length script) ≡ true → status ≡ 2
+      → Appends mid holds too_long_text → RunsStore a g areas script held holds status
+  long_runs mid new script fits opens long is shown m x same known =
+      let up = opens.0 m (first_state g) x (start_fits fits m x same known) in
+      (too_long_text, too_long m (first_state g) x script up.0 up.1 status up.2 long is, keeps_then held mid holds too_long_text opens.1 shown)
+
+  pub lines_run : (mid : Option (List ℕ)) (new : World D a) (script : List ℕ) → FitsFirst → OpensStore a world held mid None new → nat_lt 1048576 (length script) ≡ false
+      → RunsLines a new script mid holds status → RunsStore a g areas script held holds status
+  lines_run mid new script fits opens short lines m x same known =
+      let up = opens.0 m (first_state g) x (start_fits fits m x same known) in
+      let run = lines m up.0 up.1 up.3 in
+      (run.0, all_lines m (first_state g) x script up.0 up.1 run.0 status up.2 short run.1, keeps_then held mid holds run.0 opens.1 run.2)

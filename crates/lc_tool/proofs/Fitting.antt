@@ -1,5 +1,6 @@
 -- What a store that fits knows of its nodes, and of the areas of its logs.
-use Rattle.std.proofs.Common.{◌≡◌, ◌∙◌, ℕ, ◌+◌, ◌*◌, ◌<◌, ◌≤◌, List, length, map, Option, Some, None, refl, sym, ap, inl, inr, arith, lt-ltb, length-map}
+use Rattle.std.proofs.Common.{◌≡◌, ◌∙◌, ℕ, ◌+◌, ◌*◌, ◌<◌, ◌≤◌, List, length, map, Option, Some, None, refl, sym, ap, inl, inr, arith, lt-ltb}
+use Rattle.std.proofs.lemmas.List.{length-map}
 use Rattle.std.proofs.lemmas.Option.{slice_get_cases, slice_get_past}
 use Rattle.std.specs.Prelude.{slice_get, vec_len}
 use Rattle.std.specs.List.{AllByRecursion}
@@ -40,7 +41,7 @@ module _ {D : Type 0} (a : Ghosts D) where
       fits.lengths node ∙ rw (lt-ltb node r.geometry.nodes (omega (arith, below, same))) refl in
       elim ((slice_get_cases r.areas node).1) [
         | inl found ↦ (found.0, found.2)
-        | inr past ↦ let none = slice_get_past (map (λ (d : D). length (a.now d)) r.areas) node (omega (arith, past.0, length-map (λ (d : D). length (a.now d)) r.areas)) in absurd cc
+        | inr past ↦ let none = slice_get_past (map (λ (d : D). length (a.now d)) r.areas) node (omega (arith, past.0, length-map r.areas (λ (d : D). length (a.now d)))) in absurd cc
       ]
 
   -- the words that one shows that is up are those of the records that are logged

@@ -15,6 +15,7 @@ use Rattle.lc_core.specs.declared.phase.Phase.{Phase as ItsPhase}
 use Rattle.lc_core.specs.declared.phase.Phase.TheVariants.{Down, Up, Taken}
 use Rattle.lc_core.specs.declared.world.World.{World}
 use Rattle.lc_tool.proofs.Fitting.{running_fits}
+use Rattle.lc_tool.proofs.Setting.{sets_more}
 use Rattle.lc_tool.specs.Memory.{EventAsks, TakesRoom}
 
 module _ {D : Type 0} (a : Ghosts D) where
@@ -33,7 +34,7 @@ module _ {D : Type 0} (a : Ghosts D) where
   asks_in (Down r) RecoverStep m s x asks fits = (down_fits r m s x fits, room_taken r m s x fits asks)
   asks_in (Down r) event m s x asks fits = absurd asks
   asks_in (Up up) (Begin node thread segments reading) m s x asks fits = asks
-  asks_in (Up up) (SetRange node thread segment offset len) m s x asks fits = ?
+  asks_in (Up up) (SetRange node thread segment offset len) m s x asks fits = sets_more a up m s x node thread segment offset len (running_fits a up m s x fits) asks
   asks_in (Up up) (Read node thread segment offset len) m s x asks fits = asks
   asks_in (Up up) (Reserve node thread) m s x asks fits = asks m s x (running_fits a up m s x fits)
   asks_in (Up up) (Deliver sender number segment to) m s x asks fits = asks m s x (running_fits a up m s x fits)
