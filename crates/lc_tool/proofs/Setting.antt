@@ -52,6 +52,6 @@ module _ {D : Type 0} (a : Ghosts D) where
       elim ((slice_get_cases its.0.desk.seats.items thread).1) [
         | inl found ↦
             more_in its.0.desk.here node thread (value m.start s.earlier s.history) s found.0 t segment offset len (its.2.desk.threads thread found.0 found.2) running
-            (λ tx open. wants its.0 tx its.1 (found.2 ∙ ap (λ seat. Some seat) open))
+            (λ tx is. wants its.0 tx its.1 (found.2 ∙ ap (λ seat. Some seat) is))
         | inr past ↦ absurd (omega (arith, past.0, its.2.desk.all_seats, by.1, proper.thread_known))
       ]
