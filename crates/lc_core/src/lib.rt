@@ -91,6 +91,8 @@ mod script;
 #[cfg(test)]
 mod shown_tests;
 #[cfg(test)]
+mod stop_tests;
+#[cfg(test)]
 mod tests;
 #[cfg(test)]
 mod transaction_tests;
