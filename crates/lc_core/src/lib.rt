@@ -71,6 +71,8 @@ pub use show_fault::ShowFault;
 pub use world::World;
 
 #[cfg(test)]
+mod hostile_tests;
+#[cfg(test)]
 mod journal_tests;
 #[cfg(test)]
 mod node_tests;
