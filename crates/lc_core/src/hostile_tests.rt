@@ -1,6 +1,7 @@
 //! Two nodes whose store stops, or whose disks fail, at any moment.
 ghost use Rattle.lc_disk.specs.When.{IsCountable};
 
+use crate::phase::Phase;
 use crate::script::Answer::{
     Acked, Applied, Done, Down, Recovered, Refused, Reserved, Stepped, Written,
 };
@@ -205,37 +206,57 @@ fn recovers<D: Stoppable + Drop>(
 // More steps than any of these recoveries has.
 const MOST_STEPS: u64 = 100;
 
-// A store of zeros has answered these lines, has stopped, and has made so many steps of its recovery. What it reads as
-// behind another stop, and whether it was up.
-fn stopped_twice(
+// The areas of a store of zeros that has answered these lines and has stopped.
+fn stopped_behind(
     rt: &impl Abort,
     alloc: Global,
     events: &[(Line, Answer<'_>)],
     choice: Choice,
-    steps: u64,
-) -> Result<((u8, u8), bool), Fail> {
+) -> Result<Vec<MemArea>, Fail> {
     let mut world = World::in_memory(alloc, TWO_NODES)?;
     play(rt, alloc, &mut world, &[(Recover, Recovered)])?;
     play(rt, alloc, &mut world, events)?;
     play(rt, alloc, &mut world, &[(Stop(choice), Down)])?;
-    let is_up = recovers(rt, alloc, &mut world, steps)?;
-    let bytes = behind_a_stop(rt, alloc, &mut world, choice)?;
-    let again = behind_a_stop(rt, alloc, &mut world, choice)?;
-    assert_eq!(rt; again, bytes);
-    Ok((bytes, is_up))
+    let World { phase } = world;
+    match phase {
+        Phase::Down(recovery) => Ok(recovery.areas()),
+        _ => Err(Fail::from("the store is down")),
+    }
 }
 
-// A store that stops behind these lines comes to the same, behind whichever step of its recovery it is stopped again.
+// A store of these areas, of which all is stable, that makes so many steps of its recovery and is stopped. What it comes
+// to behind that, and whether it was up.
+fn stopped_again(
+    rt: &impl Abort,
+    alloc: Global,
+    stable: &[MemArea],
+    choice: Choice,
+    steps: u64,
+) -> Result<((u8, u8), bool), Fail> {
+    let mut areas = Vec::new(alloc);
+    for area in stable {
+        areas.push(MemArea::from_bytes(alloc, area.bytes())?)?;
+    }
+    let Ok(mut world) = World::new(TWO_NODES, areas) else {
+        return Err(Fail::from("the areas fit the geometry"));
+    };
+    let is_up = recovers(rt, alloc, &mut world, steps)?;
+    Ok((behind_a_stop(rt, alloc, &mut world, choice)?, is_up))
+}
+
+// A store that stops behind these lines comes to the same, behind whichever step of its recovery it is stopped again, the
+// last one too.
 fn comes_to_the_same(
     rt: &impl Abort,
     alloc: Global,
     events: &[(Line, Answer<'_>)],
     choice: Choice,
 ) -> Result<(), Fail> {
-    let (bytes, _is_up) = stopped_twice(rt, alloc, events, choice, 0)?;
+    let stable = stopped_behind(rt, alloc, events, choice)?;
+    let (bytes, _is_up) = stopped_again(rt, alloc, stable.as_slice(), choice, 0)?;
     Seen::of(events).allows(rt, bytes);
     for steps in 1..MOST_STEPS {
-        let (again, is_up) = stopped_twice(rt, alloc, events, choice, steps)?;
+        let (again, is_up) = stopped_again(rt, alloc, stable.as_slice(), choice, steps)?;
         assert_eq!(rt; again, bytes);
         if is_up {
             return Ok(());
