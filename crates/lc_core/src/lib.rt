@@ -73,6 +73,8 @@ pub use show_fault::ShowFault;
 pub use world::World;
 
 #[cfg(test)]
+mod hostile_tests;
+#[cfg(test)]
 mod journal_tests;
 #[cfg(test)]
 mod node_tests;
@@ -92,6 +94,8 @@ mod records_tests;
 mod script;
 #[cfg(test)]
 mod shown_tests;
+#[cfg(test)]
+mod stop_tests;
 #[cfg(test)]
 mod tests;
 #[cfg(test)]

@@ -3,11 +3,20 @@ ghost use Rattle.std.specs.Prelude.{◌≡◌, true, IfOk};
 
 use crate::world::World;
 use crate::{Event, Refusal, Reply};
-use lc_disk::{Fuse, MemArea, When};
+use lc_disk::{Choice, Fuse, MemArea, Stoppable, When};
 use lc_record::{Geometry, Items};
 use std::alloc::{AllocError, Global};
 use std::process::Abort;
 use std::test::*;
+
+/// What a stop may do to what is not stable.
+pub(crate) const CHOICES: [Choice; 5] = [
+    Choice::Keep,
+    Choice::Stable,
+    Choice::Byte(0),
+    Choice::Byte(0x7f),
+    Choice::Byte(0xa5),
+];
 
 /// What a store is asked.
 #[derive(Clone, Copy)]
@@ -39,8 +48,21 @@ pub(crate) enum Line {
     Page(u16, u32, u32),
     /// A step of a reset.
     Reset(u16),
+    /// A stop with this choice for all that is not stable.
+    Stop(Choice),
+    /// A stop with these choices, of each area in the order of the store.
+    StopEach(&'static [&'static [Choice]]),
+    /// A step of a recovery.
+    RecoverStep,
+    /// The steps of a recovery.
     Recover,
 }
+
+// No store has more areas: eight logs and sixteen segments.
+const MOST_AREAS: u32 = 24;
+
+// No recovery of these tests has more steps.
+const MOST_STEPS: u32 = 100;
 
 /// What it has to answer.
 #[derive(Clone, Copy, PartialEq, Eq)]
@@ -59,8 +81,30 @@ pub(crate) enum Answer<'a> {
     Trimmed(u64),
     Written(u64),
     Reset,
+    Down,
+    Recovered,
     Refused(Refusal),
-    Other,
+}
+
+// A list of this choice alone, for each area that a store can have.
+fn of_all_areas(alloc: Global, choice: Choice) -> Result<Vec<Items<Choice>>, AllocError> {
+    let mut lists = Vec::new(alloc);
+    for _ in 0..MOST_AREAS {
+        lists.push(Items::new(vec![in alloc; choice]?))?;
+    }
+    Ok(lists)
+}
+
+// A list of each area.
+fn of_each_area(
+    alloc: Global,
+    choices: &[&'static [Choice]],
+) -> Result<Vec<Items<Choice>>, AllocError> {
+    let mut lists = Vec::new(alloc);
+    for list in choices {
+        lists.push(Items::new(list.to_vec(alloc)?))?;
+    }
+    Ok(lists)
 }
 
 // The event of a line, and of several the first.
@@ -112,7 +156,13 @@ fn event_of(alloc: Global, line: Line) -> Result<Event, AllocError> {
             page,
         },
         Line::Reset(node) => Event::ResetStep { node },
-        Line::Recover => Event::RecoverStep,
+        Line::Stop(choice) => Event::Stop {
+            choices: Items::new(of_all_areas(alloc, choice)?),
+        },
+        Line::StopEach(choices) => Event::Stop {
+            choices: Items::new(of_each_area(alloc, choices)?),
+        },
+        Line::RecoverStep | Line::Recover => Event::RecoverStep,
     })
 }
 
@@ -132,26 +182,39 @@ pub(crate) fn answer_of(reply: &Reply) -> Answer<'_> {
         Reply::Trimmed(count) => Answer::Trimmed(*count),
         Reply::Written(number) => Answer::Written(*number),
         Reply::Reset => Answer::Reset,
+        Reply::Down => Answer::Down,
+        Reply::Recovered => Answer::Recovered,
         Reply::Refused(refusal) => Answer::Refused(*refusal),
-        _ => Answer::Other,
     }
 }
 
-fn ask(alloc: Global, world: &mut World<Fuse>, line: Line) -> Result<Reply, AllocError> {
+fn ask<D: Stoppable + Drop>(
+    alloc: Global,
+    world: &mut World<D>,
+    line: Line,
+) -> Result<Reply, AllocError> {
     let event = event_of(alloc, line)?;
     world.step(alloc, &event)
 }
 
 // Where there is no memory nothing has changed, so it is asked once more.
-fn insist(alloc: Global, world: &mut World<Fuse>, line: Line) -> Result<Reply, AllocError> {
+fn insist<D: Stoppable + Drop>(
+    alloc: Global,
+    world: &mut World<D>,
+    line: Line,
+) -> Result<Reply, AllocError> {
     match ask(alloc, world, line) {
         Err(AllocError) => ask(alloc, world, line),
         reply => reply,
     }
 }
 
-// The last reply to a line.
-fn reply_to(alloc: Global, world: &mut World<Fuse>, line: Line) -> Result<Reply, AllocError> {
+/// The last reply to a line.
+pub(crate) fn reply_to<D: Stoppable + Drop>(
+    alloc: Global,
+    world: &mut World<D>,
+    line: Line,
+) -> Result<Reply, AllocError> {
     let mut reply = insist(alloc, world, line)?;
     match line {
         Line::End(node, thread) => {
@@ -169,16 +232,23 @@ fn reply_to(alloc: Global, world: &mut World<Fuse>, line: Line) -> Result<Reply,
                 }
             }
         }
+        Line::Recover => {
+            for _ in 0..MOST_STEPS {
+                if let Reply::Stepped(_) = reply {
+                    reply = insist(alloc, world, line)?;
+                }
+            }
+        }
         _ => {}
     }
     Ok(reply)
 }
 
 /// The store answers all lines so.
-pub(crate) fn play(
+pub(crate) fn play<D: Stoppable + Drop>(
     rt: &impl Abort,
     alloc: Global,
-    world: &mut World<Fuse>,
+    world: &mut World<D>,
     script: &[(Line, Answer<'_>)],
 ) -> Result<(), Fail> {
     for (number, (line, wanted)) in script.iter().enumerate() {
@@ -229,17 +299,22 @@ pub(crate) fn up_with(
         Err(AllocError) => areas_of(alloc, &geometry, in_log, in_pages)?,
         Ok(areas) => areas,
     };
+    up_on(alloc, geometry, areas)
+}
+
+/// The store of these areas, which are recovered.
+pub(crate) fn up_on<D: Stoppable + Drop>(
+    alloc: Global,
+    geometry: Geometry,
+    areas: Vec<D>,
+) -> Result<World<D>, Fail> {
     let Ok(mut world) = World::new(geometry, areas) else {
         return Err(Fail::from("the areas fit the geometry"));
     };
-    for _ in 0..100 {
-        match insist(alloc, &mut world, Line::Recover)? {
-            Reply::Stepped(_) => {}
-            Reply::Recovered => return Ok(world),
-            _ => return Err(Fail::from("zeros are recovered")),
-        }
+    match reply_to(alloc, &mut world, Line::Recover)? {
+        Reply::Recovered => Ok(world),
+        _ => Err(Fail::from("the store comes up")),
     }
-    Err(Fail::from("a recovery ends"))
 }
 
 /// A store of zeros that is up. This call of the first log's device fails, none where it is 0.

@@ -30,7 +30,7 @@ same_options c m words is has =
 pub asked : (asked : Asked) (found : Option (Text × List Row)) (words : List Text) → IsReadOf found asked → found ≡ subcommand_of program_app words
     → fault_of program_app words ≡ [] → IsAskedBy words asked
 asked (Run g) found words read same none =
-    (read.0, none, subst (λ (o : Option (Text × List Row)). HasNumbersAt (option_map_or (λ f. f.1) o []) g) same read.1)
+    (none, subst (λ (o : Option (Text × List Row)). HasNumbersAt (option_map_or (λ f. f.1) o []) g) same read)
 asked (Help text) found words read same none = absurd read
 asked NotUnderstood found words read same none =
     let run = faultless_words words none in

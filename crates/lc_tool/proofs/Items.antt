@@ -1,9 +1,9 @@
 -- Reading items one behind the other, as a loop does.
-use Rattle.std.proofs.Common.{◌≡◌, ℕ, ◌≤◌, ◌^◌, List, [], ◌∷◌, ◌++◌, take, drop, length, get_or, Option, Some, None, refl, sym, ap, ◌∙◌, arith, append_assoc}
+use Rattle.std.proofs.Common.{◌≡◌, ℕ, ◌≤◌, ◌^◌, List, [], ◌∷◌, ◌++◌, take, drop, length, get_or, Option, Some, None, refl, sym, ap, ap₂, ◌∙◌, true, false, arith, append_assoc}
 use Rattle.std.specs.Prelude.{option_map, option_and_then}
 use Rattle.std.proofs.lemmas.List.{append-nil}
 use Rattle.std.proofs.lemmas.Option.{some_pair_parts}
-use Rattle.lc_tool.specs.Line.{words, number_of, all_numbers, pair_of, bytes_of, first}
+use Rattle.lc_tool.specs.Line.{words, Locks, with_lock, lock_of, all_locks, pair_of, bytes_of, first}
 
 -- what was read before, and what is still read
 abbrev pub with_front : List ℕ → Option (List ℕ) → Option (List ℕ)
@@ -25,27 +25,52 @@ none_first : (ws : List (List ℕ)) → first (λ w. Some w) ws ≡ None → ws 
 none_first [] e = refl
 none_first (v ∷ vs) e = cc
 
-pub next_number : (front line rest word : List ℕ) (n : ℕ) (total : Option (List ℕ)) → first (λ w. Some w) (words line) ≡ Some (word, words rest) → number_of (2 ^ 32) word ≡ Some n
-    → with_front front (all_numbers (words line)) ≡ total → with_front (front ++ n ∷ []) (all_numbers (words rest)) ≡ total
-unfolding all_numbers
-next_number front line rest word n total taken e so_far =
-    let one : with_front front (all_numbers (words line)) ≡ with_front (front ++ n ∷ []) (all_numbers (words rest)) =
-    rw (first_is (words line) (words rest) word taken, e) (regroup front n (all_numbers (words rest))) in
+-- the locks before, and those that are still read
+abbrev pub with_locks : Locks → Option Locks → Option Locks
+with_locks front read = option_map (λ locks. (front.0 ++ locks.0, front.1 ++ locks.1)) read
+
+regroup_write : (writing reading : List ℕ) (n : ℕ) (read : Option Locks) → with_locks (writing, reading) (option_and_then (λ locks. Some (with_lock (false, n) locks)) read) ≡ with_locks (writing ++ n ∷ [], reading) read
+regroup_write writing reading n None = refl
+regroup_write writing reading n (Some locks) = ap (λ (l : List ℕ). Some (l, reading ++ locks.1)) (simp append_assoc)
+
+regroup_read : (writing reading : List ℕ) (n : ℕ) (read : Option Locks) → with_locks (writing, reading) (option_and_then (λ locks. Some (with_lock (true, n) locks)) read) ≡ with_locks (writing, reading ++ n ∷ []) read
+regroup_read writing reading n None = refl
+regroup_read writing reading n (Some locks) = ap (λ (l : List ℕ). Some (writing ++ locks.0, l)) (simp append_assoc)
+
+pub next_write : (writing reading line rest word : List ℕ) (n : ℕ) (total : Option Locks) → first (λ w. Some w) (words line) ≡ Some (word, words rest) → lock_of word ≡ Some (false, n)
+    → with_locks (writing, reading) (all_locks (words line)) ≡ total → with_locks (writing ++ n ∷ [], reading) (all_locks (words rest)) ≡ total
+unfolding all_locks
+next_write writing reading line rest word n total taken e so_far =
+    let one : with_locks (writing, reading) (all_locks (words line)) ≡ with_locks (writing ++ n ∷ [], reading) (all_locks (words rest)) =
+    rw (first_is (words line) (words rest) word taken, e) (regroup_write writing reading n (all_locks (words rest))) in
     sym one ∙ so_far
 
-pub no_number : (front line rest word : List ℕ) (total : Option (List ℕ)) → first (λ w. Some w) (words line) ≡ Some (word, words rest) → number_of (2 ^ 32) word ≡ None
-    → with_front front (all_numbers (words line)) ≡ total → None ≡ total
-unfolding all_numbers
-no_number front line rest word total taken e so_far =
-    let one : with_front front (all_numbers (words line)) ≡ None = rw (first_is (words line) (words rest) word taken, e) refl in
+pub next_read : (writing reading line rest word : List ℕ) (n : ℕ) (total : Option Locks) → first (λ w. Some w) (words line) ≡ Some (word, words rest) → lock_of word ≡ Some (true, n)
+    → with_locks (writing, reading) (all_locks (words line)) ≡ total → with_locks (writing, reading ++ n ∷ []) (all_locks (words rest)) ≡ total
+unfolding all_locks
+next_read writing reading line rest word n total taken e so_far =
+    let one : with_locks (writing, reading) (all_locks (words line)) ≡ with_locks (writing, reading ++ n ∷ []) (all_locks (words rest)) =
+    rw (first_is (words line) (words rest) word taken, e) (regroup_read writing reading n (all_locks (words rest))) in
     sym one ∙ so_far
 
-pub last_number : (front line : List ℕ) (total : Option (List ℕ)) → first (λ w. Some w) (words line) ≡ None
-    → with_front front (all_numbers (words line)) ≡ total → Some front ≡ total
-unfolding all_numbers
-last_number front line total over so_far =
-    let one : with_front front (all_numbers (words line)) ≡ Some front = rw (none_first (words line) over) (ap (λ (ys : List ℕ). Some ys) (append-nil front)) in
+pub no_lock : (front : Locks) (line rest word : List ℕ) (total : Option Locks) → first (λ w. Some w) (words line) ≡ Some (word, words rest) → lock_of word ≡ None
+    → with_locks front (all_locks (words line)) ≡ total → None ≡ total
+unfolding all_locks
+no_lock front line rest word total taken e so_far =
+    let one : with_locks front (all_locks (words line)) ≡ None = rw (first_is (words line) (words rest) word taken, e) refl in
     sym one ∙ so_far
+
+pub last_lock : (writing reading line : List ℕ) (total : Option Locks) → first (λ w. Some w) (words line) ≡ None
+    → with_locks (writing, reading) (all_locks (words line)) ≡ total → Some (writing, reading) ≡ total
+unfolding all_locks
+last_lock writing reading line total over so_far =
+    let one : with_locks (writing, reading) (all_locks (words line)) ≡ Some (writing, reading) =
+    rw (none_first (words line) over) (ap₂ (λ (w r : List ℕ). Some (w, r)) (append-nil writing) (append-nil reading)) in
+    sym one ∙ so_far
+
+pub first_lock : (read : Option Locks) → with_locks ([], []) read ≡ read
+first_lock None = refl
+first_lock (Some locks) = refl
 
 -- The digits of a word
 

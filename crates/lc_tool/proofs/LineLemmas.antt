@@ -2,7 +2,7 @@
 use Rattle.std.proofs.Common.{◌≡◌, ℕ, suc, ◌+◌, ◌<◌, List, [], ◌∷◌, ◌++◌, length, get_or, take, drop, refl, sym, ◌∙◌, ap, arith, append_assoc, append-nil, take-append-drop, ne_eqb}
 use Rattle.std.proofs.lemmas.List.{drop_more, get_or-take, length-take-le}
 use Rattle.std.specs.Str.Lines.{strip_carriage_return}
-use Rattle.lc_tool.specs.Session.{last_line, lines_behind, script_lines}
+use Rattle.lc_tool.specs.Script.{last_line, lines_behind, script_lines}
 
 -- no line feed stands there
 abbrev pub HasNoFeed : List ℕ → Type 0

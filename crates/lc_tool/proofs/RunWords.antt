@@ -45,11 +45,11 @@ option_fits name default least most is passed = record {
 
 run_fits : AllFit taken run.rules
 run_fits = (
-  inl (option_fits (codes "nodes") (codes "1") 1 1 refl refl),
+  inl (option_fits (codes "nodes") (codes "1") 1 8 refl refl),
   (
-    inl (option_fits (codes "threads") (codes "1") 1 1 refl refl),
+    inl (option_fits (codes "threads") (codes "1") 1 16 refl refl),
     (
-      inl (option_fits (codes "segments") (codes "1") 1 1 refl refl),
+      inl (option_fits (codes "segments") (codes "1") 1 16 refl refl),
       (
         inl (option_fits (codes "pages") (codes "1") 1 1024 refl refl),
         (
@@ -101,9 +101,9 @@ size_at : (words : List Text) → level_fault run [] nothing_held words false []
 size_at words none =
     let all = rows_hold taken run words run_fits no_positional none in
     record {
-      nodes = number_in (codes "nodes") 1 1 words refl (omega arith) refl all;
-      threads = number_in (codes "threads") 1 1 words refl (omega arith) refl all;
-      segments = number_in (codes "segments") 1 1 words refl (omega arith) refl all;
+      nodes = number_in (codes "nodes") 1 8 words refl (omega arith) refl all;
+      threads = number_in (codes "threads") 1 16 words refl (omega arith) refl all;
+      segments = number_in (codes "segments") 1 16 words refl (omega arith) refl all;
       pages = number_in (codes "pages") 1 1024 words refl (omega arith) refl all;
       words = number_in (codes "words") 64 4096 words refl (omega arith) refl all;
     }

@@ -9,7 +9,6 @@ use Rattle.clap.specs.declared.error.kind.ErrorKind.TheVariants.{DisplayHelp}
 use Rattle.clap.specs.declared.builder.value_parser.ValueParser.{ValueParser}
 use Rattle.clap.specs.declared.builder.value_parser.ValueParser.TheVariants.{Signed}
 use Rattle.lc_record.specs.declared.geometry.Geometry.{Geometry}
-use Rattle.lc_tool.specs.OneNode.{IsOne}
 use Rattle.lc_tool.specs.declared.command_line.Asked.{Asked}
 use Rattle.lc_tool.specs.declared.command_line.Asked.TheVariants.{Run, Help, NotUnderstood}
 
@@ -30,9 +29,9 @@ from_to least most = Signed (pos least) (pos most)
 abbrev pub run_app : App
 run_app =
     with_rule (with_rule (with_rule (with_rule (with_rule (new_app (codes "run"))
-    (option_rule (codes "nodes") (codes "1") (from_to 1 1)))
-    (option_rule (codes "threads") (codes "1") (from_to 1 1)))
-    (option_rule (codes "segments") (codes "1") (from_to 1 1)))
+    (option_rule (codes "nodes") (codes "1") (from_to 1 8)))
+    (option_rule (codes "threads") (codes "1") (from_to 1 16)))
+    (option_rule (codes "segments") (codes "1") (from_to 1 16)))
     (option_rule (codes "pages") (codes "1") (from_to 1 1024)))
     (option_rule (codes "words") (codes "64") (from_to 64 4096))
 
@@ -70,9 +69,9 @@ pub record HasNumberIn (name : Text) (least most : ℕ) (rows : List Row) : Type
 
 -- each option has a number in its range
 pub record HasSizeAt (rows : List Row) : Type 0 where
-  pub nodes : HasNumberIn (codes "nodes") 1 1 rows
-  pub threads : HasNumberIn (codes "threads") 1 1 rows
-  pub segments : HasNumberIn (codes "segments") 1 1 rows
+  pub nodes : HasNumberIn (codes "nodes") 1 8 rows
+  pub threads : HasNumberIn (codes "threads") 1 16 rows
+  pub segments : HasNumberIn (codes "segments") 1 16 rows
   pub pages : HasNumberIn (codes "pages") 1 1024 rows
   pub words : HasNumberIn (codes "words") 64 4096 rows
 
@@ -83,13 +82,13 @@ options_of words = option_map_or (λ found. found.1) (subcommand_of program_app 
 -- a run is asked for by words with no fault, and has their numbers; help by words that ask for it;
 -- words that are not understood have another fault
 abbrev pub IsAskedBy : List Text → Asked → Type 0
-IsAskedBy words (Run g) = IsOne g × (fault_of program_app words ≡ []) × HasNumbersAt (options_of words) g
+IsAskedBy words (Run g) = (fault_of program_app words ≡ []) × HasNumbersAt (options_of words) g
 IsAskedBy words (Help text) = IsAmong DisplayHelp (fault_of program_app words)
 IsAskedBy words NotUnderstood =
     (kind : ErrorKind) × IsAmong kind (fault_of program_app words) × (kind ≡ DisplayHelp → ⊥)
 
 -- the same of the subcommand that was found, with its options
 abbrev pub IsReadOf : Option (Text × List Row) → Asked → Type 0
-IsReadOf found (Run g) = IsOne g × HasNumbersAt (option_map_or (λ f. f.1) found []) g
+IsReadOf found (Run g) = HasNumbersAt (option_map_or (λ f. f.1) found []) g
 IsReadOf found (Help text) = ⊥
 IsReadOf found NotUnderstood = (rows : List Row) → found ≡ Some (codes "run", rows) → HasSizeAt rows → ⊥

@@ -2,11 +2,13 @@ pub mod Text
 pub mod Line
 pub mod Fault
 pub mod Inspector
+pub mod Verdict
+pub mod Answers
+pub mod Shown
 pub mod Session
-pub mod Areas
-pub mod OneNode
+pub mod Memory
+pub mod Script
+pub mod Store
 pub mod Fits
 pub mod Outcome
 pub mod CommandLine
-pub mod Refused
-pub mod Settled

@@ -1,9 +1,11 @@
 -- What each line of a script says.
-use Rattle.std.specs.Prelude.{◌≡◌, ℕ, ◌+◌, ◌-◌, ◌*◌, ◌^◌, ◌==◌, nat_lt, nat_le, ◌&&◌, ◌||◌, Bool, true, false, if◌then◌else◌, List, [], ◌∷◌, length, codes, bytes_eq, filter, Option, Some, None, option_and_then, option_map}
+use Rattle.std.specs.Prelude.{◌≡◌, ℕ, ◌+◌, ◌-◌, ◌*◌, ◌^◌, ◌==◌, nat_lt, nat_le, ◌&&◌, ◌||◌, Bool, true, false, if◌then◌else◌, List, [], ◌∷◌, length, codes, bytes_eq, filter, replicate, Option, Some, None, option_and_then, option_map}
 use Rattle.std.specs.List.{slice_split, list_all}
-use Rattle.lc_model.specs.declared.event.Event.TheVariants.{Begin, SetRange, Write, Read, Abort}
+use Rattle.lc_disk.specs.declared.choice.Choice.{Choice}
+use Rattle.lc_disk.specs.declared.choice.Choice.TheVariants.{Keep, Stable, Byte}
+use Rattle.lc_model.specs.declared.event.Event.TheVariants.{Begin, SetRange, Write, Read, Abort, Reserve, Close, FlushStep, Leave, Arrive, Deliver, Trim, PageStep, ResetStep, Stop, RecoverStep}
 use Rattle.lc_tool.specs.declared.command.Command.{Command}
-use Rattle.lc_tool.specs.declared.command.Command.TheVariants.{Step, End, Flush, Log, Inspect, Show}
+use Rattle.lc_tool.specs.declared.command.Command.TheVariants.{Step, End, Flush, Recover, Log, Inspect, Show}
 use Rattle.lc_tool.specs.declared.command.Line.{Line}
 use Rattle.lc_tool.specs.declared.command.Line.TheVariants.{Skipped, Command as Asks, NotUnderstood}
 
@@ -81,13 +83,31 @@ u16_of = first (number_of (2 ^ 16))
 abbrev pub u32_of : List (List ℕ) → Option (ℕ × List (List ℕ))
 u32_of = first (number_of (2 ^ 32))
 
--- a number of each word
-unfoldable pub all_numbers : List (List ℕ) → Option (List ℕ)
-all_numbers [] = Some []
-all_numbers (word ∷ later) = do
-  n ← number_of (2 ^ 32) word
-  ns ← all_numbers later
-  Some (n ∷ ns)
+-- how many records there were
+abbrev pub u64_of : List (List ℕ) → Option (ℕ × List (List ℕ))
+u64_of = first (number_of (2 ^ 64))
+
+-- a segment that is locked, and whether it is for reading: that is said by an `r` in front of its number
+unfoldable pub lock_of : List ℕ → Option (Bool × ℕ)
+lock_of [] = None
+lock_of (byte ∷ bytes) =
+    if byte == 114 then option_map (λ n. (true, n)) (number_of (2 ^ 32) bytes)
+    else option_map (λ n. (false, n)) (number_of (2 ^ 32) (byte ∷ bytes))
+
+-- the segments for writing, and those for reading
+abbrev pub Locks : Type 0
+Locks = List ℕ × List ℕ
+
+abbrev pub with_lock : Bool × ℕ → Locks → Locks
+with_lock lock locks = if lock.0 then (locks.0, lock.1 ∷ locks.1) else (lock.1 ∷ locks.0, locks.1)
+
+-- a lock of each word
+unfoldable pub all_locks : List (List ℕ) → Option Locks
+all_locks [] = Some ([], [])
+all_locks (word ∷ later) = do
+  lock ← lock_of word
+  locks ← all_locks later
+  Some (with_lock lock locks)
 
 -- no word follows
 abbrev pub no_more : List (List ℕ) → Option (Unit {0})
@@ -112,8 +132,8 @@ spot_of fields = do
 unfoldable pub begin_of : List (List ℕ) → Option Command
 begin_of fields = do
   who ← thread_of fields
-  segments ← all_numbers who.1
-  Some (Step (Begin who.0.0 who.0.1 segments []))
+  locks ← all_locks who.1
+  Some (Step (Begin who.0.0 who.0.1 locks.0 locks.1))
 
 unfoldable pub range_of : List (List ℕ) → Option Command
 range_of fields = do
@@ -136,25 +156,38 @@ read_of fields = do
   end ← no_more len.1
   Some (Step (Read spot.0.0 spot.0.1 spot.0.2 spot.0.3 len.0))
 
-unfoldable pub abort_of : List (List ℕ) → Option Command
-abort_of fields = do
+-- a node and its thread alone
+unfoldable pub thread_alone : List (List ℕ) → Option (ℕ × ℕ)
+thread_alone fields = do
   who ← thread_of fields
   end ← no_more who.1
-  Some (Step (Abort who.0.0 who.0.1))
+  Some who.0
 
-unfoldable pub end_of : List (List ℕ) → Option Command
-end_of fields = do
-  who ← thread_of fields
-  end ← no_more who.1
-  Some (End who.0.0 who.0.1)
+-- a node and a segment alone
+unfoldable pub segment_alone : List (List ℕ) → Option (ℕ × ℕ)
+segment_alone fields = do
+  node ← u16_of fields
+  segment ← u32_of node.1
+  end ← no_more segment.1
+  Some (node.0, segment.0)
 
-unfoldable pub show_of : List (List ℕ) → Option Command
-show_of fields = do
+unfoldable pub deliver_of : List (List ℕ) → Option Command
+deliver_of fields = do
+  sender ← u16_of fields
+  number ← u64_of sender.1
+  segment ← u32_of number.1
+  to ← u16_of segment.1
+  end ← no_more to.1
+  Some (Step (Deliver sender.0 number.0 segment.0 to.0))
+
+-- a node, a segment and a page alone
+unfoldable pub page_alone : List (List ℕ) → Option (ℕ × ℕ × ℕ)
+page_alone fields = do
   node ← u16_of fields
   segment ← u32_of node.1
   page ← u32_of segment.1
   end ← no_more page.1
-  Some (Show node.0 segment.0 page.0)
+  Some (node.0, segment.0, page.0)
 
 -- a node alone
 unfoldable pub node_of : List (List ℕ) → Option ℕ
@@ -163,27 +196,94 @@ node_of fields = do
   end ← no_more node.1
   Some node.0
 
--- by the first word
-unfoldable pub command_of : List (List ℕ) → Option Command
-command_of [] = None
-command_of (keyword ∷ fields) =
+-- of a line without fields
+abbrev pub alone : Command → List (List ℕ) → Option Command
+alone command fields = option_map (λ end. command) (no_more fields)
+
+-- by the first word: what one thread does
+unfoldable pub thread_command_of : List ℕ → List (List ℕ) → Option Command
+thread_command_of keyword fields =
     if bytes_eq keyword (codes "begin") then begin_of fields
     else if bytes_eq keyword (codes "range") then range_of fields
     else if bytes_eq keyword (codes "write") then write_of fields
     else if bytes_eq keyword (codes "read") then read_of fields
-    else if bytes_eq keyword (codes "abort") then abort_of fields
-    else if bytes_eq keyword (codes "end") then end_of fields
-    else if bytes_eq keyword (codes "flush") then option_map Flush (node_of fields)
-    else if bytes_eq keyword (codes "log") then option_map Log (node_of fields)
-    else if bytes_eq keyword (codes "inspect") then option_map Inspect (node_of fields)
-    else if bytes_eq keyword (codes "show") then show_of fields
+    else if bytes_eq keyword (codes "abort") then option_map (λ who. Step (Abort who.0 who.1)) (thread_alone fields)
+    else if bytes_eq keyword (codes "reserve") then option_map (λ who. Step (Reserve who.0 who.1)) (thread_alone fields)
+    else if bytes_eq keyword (codes "close") then option_map (λ who. Step (Close who.0 who.1)) (thread_alone fields)
+    else if bytes_eq keyword (codes "end") then option_map (λ who. End who.0 who.1) (thread_alone fields)
     else None
 
--- its fields take memory: a begin with a segment, or a write with bytes
+-- what a node does
+unfoldable pub node_command_of : List ℕ → List (List ℕ) → Option Command
+node_command_of keyword fields =
+    if bytes_eq keyword (codes "step") then option_map (λ node. Step (FlushStep node)) (node_of fields)
+    else if bytes_eq keyword (codes "flush") then option_map Flush (node_of fields)
+    else if bytes_eq keyword (codes "leave") then option_map (λ token. Step (Leave token.0 token.1)) (segment_alone fields)
+    else if bytes_eq keyword (codes "arrive") then option_map (λ token. Step (Arrive token.0 token.1)) (segment_alone fields)
+    else if bytes_eq keyword (codes "deliver") then deliver_of fields
+    else if bytes_eq keyword (codes "trim") then option_map (λ node. Step (Trim node)) (node_of fields)
+    else if bytes_eq keyword (codes "page") then option_map (λ p. Step (PageStep p.0 p.1 p.2)) (page_alone fields)
+    else if bytes_eq keyword (codes "reset") then option_map (λ node. Step (ResetStep node)) (node_of fields)
+    else None
+
+-- two digits
+abbrev pub byte_choice : List ℕ → Option Choice
+byte_choice [] = None
+byte_choice (digit ∷ []) = None
+byte_choice (high ∷ low ∷ []) = option_map Byte (pair_of high low)
+byte_choice (high ∷ low ∷ digit ∷ digits) = None
+
+-- what is found at each dirty position behind a stop: what was read, what was stable, or a byte
+unfoldable pub choice_of : List ℕ → Option Choice
+choice_of word =
+    if bytes_eq word (codes "keep") then Some Keep
+    else if bytes_eq word (codes "stable") then Some Stable
+    else byte_choice word
+
+-- areas that a store may have: those of 8 logs and of 16 segments
+abbrev pub most_areas : ℕ
+most_areas = 24
+
+-- the same choice for each area
+unfoldable pub stop_of : List (List ℕ) → Option Command
+stop_of fields = do
+  choice ← first choice_of fields
+  end ← no_more choice.1
+  Some (Step (Stop (replicate most_areas (choice.0 ∷ []))))
+
+-- what the whole store does
+unfoldable pub store_command_of : List ℕ → List (List ℕ) → Option Command
+store_command_of keyword fields =
+    if bytes_eq keyword (codes "stop") then stop_of fields
+    else if bytes_eq keyword (codes "rstep") then alone (Step RecoverStep) fields
+    else if bytes_eq keyword (codes "recover") then alone Recover fields
+    else None
+
+-- what is shown
+unfoldable pub shown_of : List ℕ → List (List ℕ) → Option Command
+shown_of keyword fields =
+    if bytes_eq keyword (codes "log") then option_map Log (node_of fields)
+    else if bytes_eq keyword (codes "inspect") then option_map Inspect (node_of fields)
+    else if bytes_eq keyword (codes "show") then option_map (λ p. Show p.0 p.1 p.2) (page_alone fields)
+    else None
+
+-- the first that is some
+abbrev pub option_or : {A : Type 0} → Option A → Option A → Option A
+option_or None other = other
+option_or (Some x) other = Some x
+
+unfoldable pub command_of : List (List ℕ) → Option Command
+command_of [] = None
+command_of (keyword ∷ fields) =
+    option_or (thread_command_of keyword fields)
+    (option_or (node_command_of keyword fields) (option_or (store_command_of keyword fields) (shown_of keyword fields)))
+
+-- its fields take memory: a begin with a segment, a write with bytes, or a stop with a choice
 abbrev pub is_open_ended : List (List ℕ) → Bool
 is_open_ended [] = false
 is_open_ended (keyword ∷ fields) =
     (bytes_eq keyword (codes "begin") && nat_lt 2 (length fields)) || (bytes_eq keyword (codes "write") && nat_lt 4 (length fields))
+    || (bytes_eq keyword (codes "stop") && nat_lt 0 (length fields))
 
 -- Lines
 

@@ -1,38 +1,92 @@
 -- What a line did, and what it printed.
-use Rattle.std.specs.Prelude.{◌≡◌, ◌⊎◌, ℕ, Bool, false, List, [], Option}
-use Rattle.std.specs.Io.KnownBytes.{Appends}
+use Rattle.std.specs.Prelude.{◌≡◌, ◌⊎◌, ℕ, Bool, true, false, List, [], Option, None, Some}
+use Rattle.std.specs.Io.KnownBytes.{Appends, Keeps}
+use Rattle.lc_disk.specs.declared.area.Area.{Ghosts}
+use Rattle.lc_model.specs.Merge.{MergeFault}
 use Rattle.lc_model.specs.State.{Setting, State}
+use Rattle.lc_model.specs.declared.event.Event.TheVariants.{RecoverStep}
+use Rattle.lc_model.specs.declared.reply.Reply.{Reply}
+use Rattle.lc_core.specs.Numbers.{Numbers}
+use Rattle.lc_core.specs.World.{FitsWorld}
+use Rattle.lc_core.specs.declared.world.World.{World}
+use Rattle.lc_tool.specs.Memory.{LineAsksMemory}
+use Rattle.lc_tool.specs.Answers.{Finishes}
+use Rattle.lc_tool.specs.Fits.{Leads, IsRefused}
 use Rattle.lc_tool.specs.Line.{line_of}
-use Rattle.lc_tool.specs.Text.{not_understood_text}
-use Rattle.lc_tool.specs.Session.{Does, LineAsksMemory, NoMemory, Runs, script_lines}
-use Rattle.lc_tool.specs.Fits.{Fits}
+use Rattle.lc_tool.specs.Script.{NoMemory, Runs, script_lines}
+use Rattle.lc_tool.specs.Session.{Does}
+use Rattle.lc_tool.specs.Store.{Adds, RefusesStore}
+use Rattle.lc_tool.specs.Text.{not_understood_text, reply_text}
+use Rattle.lc_tool.specs.Verdict.{verdict_of}
 use Rattle.lc_tool.specs.declared.command.Command.{Command}
 use Rattle.lc_tool.specs.declared.command.Line.TheVariants.{Skipped, Command as Commanded, NotUnderstood}
 use Rattle.lc_tool.specs.declared.outcome.Outcome.{Outcome}
 use Rattle.lc_tool.specs.declared.outcome.Outcome.TheVariants.{Goes, Ends}
-use Rattle.lc_tool.specs.declared.solo.Solo.{Solo}
+use Rattle.lc_tool.specs.declared.verdict.Verdict.{Verdict}
+use Rattle.lc_tool.specs.declared.verdict.Verdict.TheVariants.{Done, Refused, Faulted}
+
+-- the script goes on behind the command, which was refused or not
+abbrev pub GoesBehind : Verdict → Bool → Type 0
+GoesBehind Done was = was ≡ false
+GoesBehind Refused was = was ≡ true
+GoesBehind Faulted was = ⊥
+
+-- the line's command was done
+pub record IsDone (m : Setting) (s : State) (x : Numbers) (line shown : List ℕ) (verdict : Verdict) (after : State) (next : Numbers) : Type 0 where
+  pub command : Command
+  pub read : line_of line ≡ Commanded command
+  pub done : Does m s x command shown verdict after next
 
 -- the line was skipped, or its command was done
-abbrev pub Passes : Setting → State → List ℕ → List ℕ → Bool → State → Type 0
-Passes m before line shown refused after =
-    ((line_of line ≡ Skipped) × (shown ≡ []) × (refused ≡ false) × (after ≡ before))
-    ⊎ ((command : Command) × (line_of line ≡ Commanded command) × Does m before command shown refused after)
+abbrev pub Passes : Setting → State → Numbers → List ℕ → List ℕ → Bool → State → Numbers → Type 0
+Passes m s x line shown was after next =
+    ((line_of line ≡ Skipped) × (shown ≡ []) × (was ≡ false) × (after ≡ s) × (next ≡ x))
+    ⊎ ((verdict : Verdict) × IsDone m s x line shown verdict after next × GoesBehind verdict was)
 
--- there was no memory for a line that asks for some, or the line was not understood
-abbrev pub Breaks : Setting → State → List ℕ → ℕ → List ℕ → ℕ → Type 0
-Breaks m before line number shown status =
-    (LineAsksMemory m before line × NoMemory shown status) ⊎ ((line_of line ≡ NotUnderstood) × (shown ≡ not_understood_text number) × (status ≡ 2))
+-- there was no memory for a line that asks for some, the line was not understood, or a device failed at its command
+abbrev pub Breaks : Setting → State → Numbers → List ℕ → ℕ → List ℕ → ℕ → Type 0
+Breaks m s x line number shown status =
+    (LineAsksMemory m s x line × NoMemory shown status)
+    ⊎ (((line_of line ≡ NotUnderstood) × (shown ≡ not_understood_text number) × (status ≡ 2))
+    ⊎ ((after : State) × (next : Numbers) × IsDone m s x line shown Faulted after next × (status ≡ 3)))
 
--- from a store, with what a writer held and holds
-abbrev pub LeavesLine : Solo → List ℕ → ℕ → Option (List ℕ) → Option (List ℕ) → Outcome → Type 0
-LeavesLine old line number held holds (Goes new refused) =
-    (m : Setting) (before : State) → Fits m old before →
-    (shown : List ℕ) × (after : State) × Passes m before line shown refused after × Appends held holds shown × Fits m new after
-LeavesLine old line number held holds (Ends status) =
-    (m : Setting) (before : State) → Fits m old before → (shown : List ℕ) × Breaks m before line number shown status × Appends held holds shown
+-- the recovery came to its end
+abbrev pub IsRecovered : Setting → State → Numbers → State → Numbers → Type 0
+IsRecovered m s x after next = (reply : Reply) × Finishes m s x RecoverStep reply after next × (verdict_of reply ≡ Done)
 
--- all lines, from this store on
-abbrev pub RunsLines : Solo → List ℕ → Option (List ℕ) → Option (List ℕ) → ℕ → Type 0
-RunsLines old script held holds status =
-    (m : Setting) (before : State) → Fits m old before →
-    (text : List ℕ) × Runs m before 1 false (script_lines script) text status × Appends held holds text
+-- the line of a reply that ends the script, and the status
+abbrev pub EndsWith : Verdict → Reply → List ℕ → ℕ → Type 0
+EndsWith Done reply text status = ⊥
+EndsWith Refused reply text status = (text ≡ reply_text reply) × (status ≡ 1)
+EndsWith Faulted reply text status = (text ≡ reply_text reply) × (status ≡ 3)
+
+-- it was refused, or there was no memory
+abbrev pub IsGivenUp : Setting → State → Numbers → List ℕ → ℕ → Type 0
+IsGivenUp m s x text status =
+    NoMemory text status
+    ⊎ ((reply : Reply) × (after : State) × (next : Numbers) × Finishes m s x RecoverStep reply after next × EndsWith (verdict_of reply) reply text status)
+
+module _ {D : Type 0} (a : Ghosts D) where
+  -- with what a writer held and holds
+  abbrev pub LeavesLine : World D a → List ℕ → ℕ → Option (List ℕ) → Option (List ℕ) → Outcome → World D a → Type 0
+  LeavesLine old line number held holds (Goes was) new =
+      Leads a (λ m s x after next. (shown : List ℕ) × Passes m s x line shown was after next × Appends held holds shown) old new
+  LeavesLine old line number held holds (Ends status) new =
+      (m : Setting) (s : State) (x : Numbers) → FitsWorld a m old s x → (shown : List ℕ) × Breaks m s x line number shown status × Appends held holds shown
+
+  -- all lines, from this store on
+  abbrev pub RunsLines : World D a → List ℕ → Option (List ℕ) → Option (List ℕ) → ℕ → Type 0
+  RunsLines old script held holds status =
+      (m : Setting) (s : State) (x : Numbers) → FitsWorld a m old s x →
+      (text : List ℕ) × Runs m s x 1 false (script_lines script) text status × Appends held holds text
+
+  -- the recovery that comes first: the store goes on behind it, or this is the status
+  abbrev pub OpensStore : World D a → Option (List ℕ) → Option (List ℕ) → Option ℕ → World D a → Type 0
+  OpensStore old held holds None new = Leads a IsRecovered old new × Keeps held holds
+  OpensStore old held holds (Some status) new =
+      (m : Setting) (s : State) (x : Numbers) → FitsWorld a m old s x → Adds (IsGivenUp m s x) held holds status
+
+  -- where the merge is refused it is not done
+  abbrev pub RefusesFirst : World D a → Option (List ℕ) → Option (List ℕ) → Option ℕ → Type 0
+  RefusesFirst old held holds None = (fault : MergeFault) → IsRefused a old fault → ⊥
+  RefusesFirst old held holds (Some status) = (fault : MergeFault) → IsRefused a old fault → Adds (RefusesStore fault) held holds status

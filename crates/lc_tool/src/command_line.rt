@@ -2,7 +2,6 @@
 ghost use Rattle.std.specs.Prelude.{◌≡◌, IfOk, IfSome, IsNone, false, map};
 ghost use Rattle.clap.specs.Words.{app_of, found_of, rows_of, rule_of, subcommand_rows_of};
 ghost use Rattle.lc_tool.specs.CommandLine.{HasNumbersAt, HasSizeAt, IsAskedBy, IsReadOf, number_at, option_rule, program_app};
-ghost use Rattle.lc_tool.specs.OneNode.{IsOne};
 
 use clap::builder::ValueParser;
 use clap::error::ErrorKind;
@@ -41,12 +40,30 @@ pub fn read_command_line<'a, S: AsStr>(alloc: Global, words: &'a [S]) -> Result<
 fn program<'a>(alloc: Global) -> Result<Command<'a>, AllocError>
     ensures { IfOk result (λ command. app_of command ≡ program_app) }
 {
-    let one = value_parser!(u32).range(1..=1);
-    let nodes = option(alloc, "nodes", "Nodes that share the store: 1", "1", one);
-    let one = value_parser!(u32).range(1..=1);
-    let threads = option(alloc, "threads", "Threads of each node: 1", "1", one);
-    let one = value_parser!(u32).range(1..=1);
-    let segments = option(alloc, "segments", "Segments of the store: 1", "1", one);
+    let few = value_parser!(u32).range(1..=8);
+    let nodes = option(
+        alloc,
+        "nodes",
+        "Nodes that share the store: 1 to 8",
+        "1",
+        few,
+    );
+    let several = value_parser!(u32).range(1..=16);
+    let threads = option(
+        alloc,
+        "threads",
+        "Threads of each node: 1 to 16",
+        "1",
+        several,
+    );
+    let several = value_parser!(u32).range(1..=16);
+    let segments = option(
+        alloc,
+        "segments",
+        "Segments of the store: 1 to 16",
+        "1",
+        several,
+    );
     let some = value_parser!(u32).range(1..=1024);
     let pages = option(
         alloc,
@@ -111,7 +128,6 @@ fn asked_of(matches: &ArgMatches<'_>) -> Asked
 
 // The store's size that the options of a run give.
 fn geometry_of(options: &ArgMatches<'_>) -> Option<Geometry>
-    ensures one { IfSome result (λ g. IsOne g) }
     ensures numbers { IfSome result (HasNumbersAt (rows_of (found_of options.now))) }
     ensures none { IsNone result → HasSizeAt (rows_of (found_of options.now)) → ⊥ }
 {
@@ -120,10 +136,13 @@ fn geometry_of(options: &ArgMatches<'_>) -> Option<Geometry>
     let segments = number_of(options, "segments")?;
     let pages = number_of(options, "pages")?;
     let words = number_of(options, "words")?;
-    if nodes != 1 || threads != 1 || segments != 1 {
-        return None;
-    }
-    Geometry::new(1, 1, 1, pages, words)
+    Geometry::new(
+        u16::try_from(nodes).ok()?,
+        u16::try_from(threads).ok()?,
+        segments,
+        pages,
+        words,
+    )
 }
 
 // The number that the option has.

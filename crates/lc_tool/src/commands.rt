@@ -1,197 +1,150 @@
 //! What each command does to the store, and what it prints.
-ghost use Rattle.std.specs.Prelude.{◌≡◌, ◌≢◌, ◌≤◌, ◌<◌, ◌*◌, ◌+◌, IfOk, OnOk, OnErr, IsTrue};
+ghost use Rattle.std.specs.Prelude.{◌≡◌, ◌≢◌, IfOk, OnOk, Some};
 ghost use Rattle.std.specs.Io.KnownBytes.{Appends, Keeps};
-ghost use Rattle.lc_tool.specs.Session.{is_refused, end_text};
-ghost use Rattle.lc_tool.specs.Text.{reply_text, words_text};
+ghost use Rattle.lc_model.specs.declared.refusal.Refusal.{Refusal};
+ghost use Rattle.lc_tool.specs.Fits.{AsksFor, Performs};
+ghost use Rattle.lc_tool.specs.Session.{Says, end_text};
+ghost use Rattle.lc_tool.specs.Shown.{refusal_to};
+ghost use Rattle.lc_tool.specs.Text.{refusal_text, reply_text, words_text};
+ghost use Rattle.lc_tool.specs.Verdict.{verdict_of, verdict_on};
+ghost use Rattle.lc_tool.specs.declared.command.Command.TheVariants.{Inspect, Log, Show};
 
 use crate::ToolFault;
 use crate::command::Command;
 use crate::hex::{write_page, write_word};
-use crate::inspector::inspect;
+use crate::inspector::{inspect, log_bytes};
+use crate::repeating::{end, flush, recover};
 use crate::replies::write_reply;
-use crate::solo::Solo;
 use crate::stop::Stop;
 use crate::text::write_closed;
-use lc_core::{Event, Refusal, Reply};
-use lc_log::words_in;
-use lc_record::PAGE;
-use std::alloc::{AllocError, Global};
+use crate::verdict::Verdict;
+use lc_core::{Refusal, Reply, ShowFault, World};
+use lc_disk::Stoppable;
+use std::alloc::Global;
 use std::io::Write;
 
-const WORD_BYTES: usize = 8;
-
-const PAGE_BYTES: usize = PAGE as usize;
-
-impl Solo {
-    ghost use Rattle.lc_tool.specs.declared.command.Command.TheVariants.{Step};
-    ghost use Rattle.lc_tool.specs.Fits.{AsksFor, Follows, is_of_script};
-
-    /// One event of a script.
-    fn step(&mut self, alloc: Global, event: &Event) -> Result<Reply, AllocError>
-        requires { IsTrue (is_of_script event.now) }
-        ensures follows { IfOk result (λ reply. Follows self.old event.now reply self.new) }
-        ensures memory { OnErr result (AsksFor self.old (Step event.now)) }
-    {
-        match event {
-            Event::Begin {
-                node,
-                thread,
-                segments,
-                ..
-            } => self.begin(alloc, *node, *thread, segments.as_slice()),
-            Event::SetRange {
-                node,
-                thread,
-                segment,
-                offset,
-                len,
-            } => self.set_range(*node, *thread, *segment, *offset, *len),
-            Event::Write {
-                node,
-                thread,
-                segment,
-                offset,
-                bytes,
-            } => Ok(self.write(*node, *thread, *segment, *offset, bytes.as_slice())),
-            Event::Read {
-                node,
-                thread,
-                segment,
-                offset,
-                len,
-            } => self.read(alloc, *node, *thread, *segment, *offset, *len),
-            Event::Abort { node, thread } => Ok(self.abort(*node, *thread)),
-            _ => unreachable!(),
-        }
+/// One line of a script. An `Err` has written nothing where there was no memory.
+pub(crate) fn perform<D: Stoppable + Drop, W: Write>(
+    world: &mut World<D>,
+    alloc: Global,
+    command: Command,
+    writer: &mut W,
+) -> Result<Verdict, Stop>
+    ensures done { IfOk result (λ verdict. Performs D.Area world.old command (W.contents writer.old) (W.contents writer.new) verdict world.new) }
+    ensures memory { result ≡ Err Stop.NoMemory → Keeps (W.contents writer.old) (W.contents writer.new) }
+    ensures asks { result ≡ Err Stop.NoMemory → AsksFor D.Area world.old command }
+{
+    match command {
+        Command::Step(event) => show(writer, &world.step(alloc, &event)?),
+        Command::End { node, thread } => show_end(writer, &end(world, alloc, node, thread)?),
+        Command::Flush { node } => show(writer, &flush(world, alloc, node)?),
+        Command::Recover => show(writer, &recover(world, alloc)?),
+        Command::Log { node } => show_log(world, alloc, node, writer),
+        Command::Inspect { node } => show_records(world, alloc, node, writer),
+        Command::Show {
+            node,
+            segment,
+            page,
+        } => show_page(world, node, segment, page, writer),
     }
 }
 
-// Writes the line of a reply, and tells whether it is a refusal.
-fn show<W: Write>(writer: &mut W, reply: &Reply) -> Result<bool, Stop>
-    ensures shown { IfOk result (λ refused. (refused ≡ is_refused reply.now) × Appends (W.contents writer.old) (W.contents writer.new) (reply_text reply.now)) }
+/// Writes the line of a reply, and tells what became of its command.
+pub(crate) fn show<W: Write>(writer: &mut W, reply: &Reply) -> Result<Verdict, Stop>
+    ensures shown { IfOk result (λ verdict. (verdict ≡ verdict_of reply.now) × Appends (W.contents writer.old) (W.contents writer.new) (reply_text reply.now)) }
     ensures memory { result ≢ Err Stop.NoMemory }
 {
     write_reply(writer, reply)?;
-    Ok(matches!(reply, Reply::Refused(_)))
-}
-
-impl Solo {
-    ghost use Rattle.lc_tool.specs.declared.command.Command.TheVariants.{Log, Inspect, Show};
-    ghost use Rattle.lc_tool.specs.Fits.{AsksFor, Performs, IsOfScript};
-
-    /// One line of a script. An `Err` has written nothing where there was no memory.
-    pub(crate) fn perform<W: Write>(
-        self,
-        alloc: Global,
-        command: Command,
-        writer: &mut W,
-    ) -> Result<(Solo, bool), Stop>
-        requires { IsOfScript command }
-        ensures done { IfOk result (λ done. Performs self command (W.contents writer.old) (W.contents writer.new) done.1 done.0) }
-        ensures memory { result ≡ Err Stop.NoMemory → Keeps (W.contents writer.old) (W.contents writer.new) }
-        ensures asks { result ≡ Err Stop.NoMemory → AsksFor self command }
-    {
-        let mut solo = self;
-        match command {
-            Command::Step(event) => {
-                let reply = solo.step(alloc, &event)?;
-                let refused = show(writer, &reply)?;
-                Ok((solo, refused))
-            }
-            Command::End { node, thread } => {
-                let reply = solo.end(alloc, node, thread)?;
-                let refused = show_end(writer, &reply)?;
-                Ok((solo, refused))
-            }
-            Command::Flush { node } => {
-                let (solo, reply) = solo.flush(node);
-                let refused = show(writer, &reply)?;
-                Ok((solo, refused))
-            }
-            Command::Log { node } => {
-                let refused = solo.show_log(alloc, node, writer)?;
-                Ok((solo, refused))
-            }
-            Command::Inspect { node } => {
-                let refused = solo.show_records(alloc, node, writer)?;
-                Ok((solo, refused))
-            }
-            Command::Show {
-                node,
-                segment,
-                page,
-            } => {
-                let refused = solo.show_page(node, segment, page, writer)?;
-                Ok((solo, refused))
-            }
-        }
-    }
-
-    // The words of the log's records.
-    fn show_log<W: Write>(&self, alloc: Global, node: u16, writer: &mut W) -> Result<bool, Stop>
-        ensures done { IfOk result (λ refused. Performs self.now (Log node) (W.contents writer.old) (W.contents writer.new) refused self.now) }
-        ensures memory { result ≡ Err Stop.NoMemory → Keeps (W.contents writer.old) (W.contents writer.new) }
-        ensures asks { result ≡ Err Stop.NoMemory → AsksFor self.now (Log node) }
-    {
-        if node != 0 {
-            return show(writer, &Reply::Refused(Refusal::Unknown));
-        }
-        let stable = &self.log.area.bytes()[..WORD_BYTES * self.log.end];
-        let words = words_in(alloc, stable)?;
-        show_words(writer, &words)?;
-        Ok(false)
-    }
-
-    // The log's records, one a line.
-    fn show_records<W: Write>(&self, alloc: Global, node: u16, writer: &mut W) -> Result<bool, Stop>
-        ensures done { IfOk result (λ refused. Performs self.now (Inspect node) (W.contents writer.old) (W.contents writer.new) refused self.now) }
-        ensures memory { result ≡ Err Stop.NoMemory → Keeps (W.contents writer.old) (W.contents writer.new) }
-        ensures asks { result ≡ Err Stop.NoMemory → AsksFor self.now (Inspect node) }
-    {
-        if node != 0 {
-            return show(writer, &Reply::Refused(Refusal::Unknown));
-        }
-        match inspect(alloc, self.log.area.bytes(), writer) {
-            Ok(()) => Ok(false),
-            Err(ToolFault::NoMemory) => Err(Stop::NoMemory),
-            Err(_) => Err(Stop::Write),
-        }
-    }
-
-    // The bytes of a page, with those of the open transaction.
-    fn show_page<W: Write>(
-        &self,
-        node: u16,
-        segment: u32,
-        page: u32,
-        writer: &mut W,
-    ) -> Result<bool, Stop>
-        ensures done { IfOk result (λ refused. Performs self.now (Show node segment page) (W.contents writer.old) (W.contents writer.new) refused self.now) }
-        ensures memory { result ≢ Err Stop.NoMemory }
-    {
-        if node != 0 || segment != 1 || page >= self.geometry.pages {
-            return show(writer, &Reply::Refused(Refusal::Unknown));
-        }
-        let start = PAGE_BYTES * page as usize;
-        write_page(
-            writer,
-            &self.segment.image.bytes()[start..start + PAGE_BYTES],
-        )?;
-        Ok(false)
-    }
+    Ok(Verdict::of(reply))
 }
 
 // Writes the line of a reservation that was closed, or of the reply in its place.
-fn show_end<W: Write>(writer: &mut W, reply: &Reply) -> Result<bool, Stop>
-    ensures shown { IfOk result (λ refused. (refused ≡ is_refused reply.now) × Appends (W.contents writer.old) (W.contents writer.new) (end_text reply.now)) }
+fn show_end<W: Write>(writer: &mut W, reply: &Reply) -> Result<Verdict, Stop>
+    ensures shown { IfOk result (λ verdict. (verdict ≡ verdict_of reply.now) × Appends (W.contents writer.old) (W.contents writer.new) (end_text reply.now)) }
     ensures memory { result ≢ Err Stop.NoMemory }
 {
     match reply {
         Reply::Reserved { place, words } => {
             write_closed(writer, *place, *words)?;
-            Ok(false)
+            Ok(Verdict::Done)
         }
         _ => show(writer, reply),
+    }
+}
+
+// The words of the log's records.
+fn show_log<D: Stoppable + Drop, W: Write>(
+    world: &mut World<D>,
+    alloc: Global,
+    node: u16,
+    writer: &mut W,
+) -> Result<Verdict, Stop>
+    ensures done { IfOk result (λ verdict. Performs D.Area world.old (Log node) (W.contents writer.old) (W.contents writer.new) verdict world.new) }
+    ensures memory { result ≡ Err Stop.NoMemory → Keeps (W.contents writer.old) (W.contents writer.new) }
+    ensures asks { result ≡ Err Stop.NoMemory → AsksFor D.Area world.old (Log node) }
+{
+    match world.log_words(alloc, node) {
+        Ok(words) => {
+            show_words(writer, words.as_slice())?;
+            Ok(Verdict::Done)
+        }
+        Err(fault) => show_fault(writer, fault),
+    }
+}
+
+// The log's records, one a line.
+fn show_records<D: Stoppable + Drop, W: Write>(
+    world: &mut World<D>,
+    alloc: Global,
+    node: u16,
+    writer: &mut W,
+) -> Result<Verdict, Stop>
+    ensures done { IfOk result (λ verdict. Performs D.Area world.old (Inspect node) (W.contents writer.old) (W.contents writer.new) verdict world.new) }
+    ensures memory { result ≡ Err Stop.NoMemory → Keeps (W.contents writer.old) (W.contents writer.new) }
+    ensures asks { result ≡ Err Stop.NoMemory → AsksFor D.Area world.old (Inspect node) }
+{
+    let words = match world.log_words(alloc, node) {
+        Ok(words) => words,
+        Err(fault) => return show_fault(writer, fault),
+    };
+    let bytes = log_bytes(alloc, words.as_slice())?;
+    match inspect(alloc, bytes.as_slice(), writer) {
+        Ok(()) => Ok(Verdict::Done),
+        Err(ToolFault::NoMemory) => Err(Stop::NoMemory),
+        Err(_) => Err(Stop::Write),
+    }
+}
+
+// Writes why a log is not shown.
+fn show_fault<W: Write>(writer: &mut W, fault: ShowFault) -> Result<Verdict, Stop>
+    ensures shown { IfOk result (λ verdict. (refusal : Refusal) × (refusal_to fault ≡ Some refusal) × (verdict ≡ verdict_on refusal)
+        × Appends (W.contents writer.old) (W.contents writer.new) (refusal_text refusal)) }
+    ensures memory { result ≡ Err Stop.NoMemory → (fault ≡ ShowFault.NoMemory) × Keeps (W.contents writer.old) (W.contents writer.new) }
+{
+    match fault {
+        ShowFault::Unknown => show(writer, &Reply::Refused(Refusal::Unknown)),
+        ShowFault::DeviceFault => show(writer, &Reply::Refused(Refusal::DeviceFault)),
+        ShowFault::NoMemory => Err(Stop::NoMemory),
+    }
+}
+
+// The bytes of a page, with those of the open transaction.
+fn show_page<D: Stoppable + Drop, W: Write>(
+    world: &mut World<D>,
+    node: u16,
+    segment: u32,
+    page: u32,
+    writer: &mut W,
+) -> Result<Verdict, Stop>
+    ensures done { IfOk result (λ verdict. Performs D.Area world.old (Show node segment page) (W.contents writer.old) (W.contents writer.new) verdict world.new) }
+    ensures memory { result ≢ Err Stop.NoMemory }
+{
+    match world.page(node, segment, page) {
+        Ok(bytes) => {
+            write_page(writer, bytes)?;
+            Ok(Verdict::Done)
+        }
+        Err(refusal) => show(writer, &Reply::Refused(refusal)),
     }
 }
 

@@ -6,7 +6,7 @@ use std::alloc::{AllocError, Global};
 
 /// A number in 1 to 20 decimal digits, below 2^64.
 #[tactic(auto, using(crate::proofs::Numbers::steps), unfolding(crate::specs::Line::number_of))]
-fn number(word: &[u8]) -> Option<u64>
+pub fn number(word: &[u8]) -> Option<u64>
     ensures { result ≡ number_of (2 ^ 64) word.now }
 {
     if word.is_empty() || word.len() > 20 {
@@ -52,7 +52,7 @@ fn digit(byte: u8) -> Option<u8>
 
 /// The byte of two hexadecimal digits.
 #[tactic(auto, unfolding(crate::specs::Line::pair_of))]
-fn pair(high: u8, low: u8) -> Option<u8>
+pub fn pair(high: u8, low: u8) -> Option<u8>
     ensures { result ≡ pair_of high low }
 {
     let high = digit(high)?;

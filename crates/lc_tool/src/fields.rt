@@ -1,9 +1,9 @@
 //! What is left of a line, taken word by word.
 ghost use Rattle.std.specs.Prelude.{◌≡◌, ◌<◌, length, option_map, vec_items, IfOk, OnErr, OnSome};
 ghost use Rattle.std.specs.List.{prefix_len, position_or_len};
-ghost use Rattle.lc_tool.specs.Line.{is_space, words, bytes_of, first, u16_of, u32_of, all_numbers, no_more, Takes};
+ghost use Rattle.lc_tool.specs.Line.{is_space, words, bytes_of, first, u16_of, u32_of, u64_of, lock_of, all_locks, no_more, Takes};
 
-use crate::digits::{bytes, u16_number, u32_number};
+use crate::digits::{bytes, number, u16_number, u32_number};
 use std::alloc::{AllocError, Global};
 
 /// What is left of a line.
@@ -62,6 +62,13 @@ impl<'a> Fields<'a> {
         u32_number(self.word()?)
     }
 
+    /// A number of records, where the next word is one.
+    pub fn u64(&mut self) -> Option<u64>
+        ensures { Takes (u64_of (words self.old.rest.now)) result self.new.rest.now }
+    {
+        number(self.word()?)
+    }
+
     /// Bytes, where the next word is hexadecimal digits.
     pub fn bytes(&mut self, alloc: Global) -> Result<Option<Vec<u8>>, AllocError>
         ensures value { IfOk result (λ found. Takes (first bytes_of (words self.old.rest.now)) (option_map vec_items found) self.new.rest.now) }
@@ -73,19 +80,24 @@ impl<'a> Fields<'a> {
         }
     }
 
-    /// A number for each word that is left, where each is one.
-    pub fn all_u32(&mut self, alloc: Global) -> Result<Option<Vec<u32>>, AllocError>
-        ensures value { IfOk result (λ found. option_map vec_items found ≡ all_numbers (words self.old.rest.now)) }
+    /// A lock for each word that is left, where each is one: the segments to write, and those to read.
+    pub fn locks(&mut self, alloc: Global) -> Result<Option<(Vec<u32>, Vec<u32>)>, AllocError>
+        ensures value { IfOk result (λ found. option_map (λ locks. (locks.0.items, locks.1.items)) found ≡ all_locks (words self.old.rest.now)) }
         ensures memory { OnErr result (0 < length (words self.old.rest.now)) }
     {
-        let mut numbers = Vec::new(alloc);
+        let mut segments = Vec::new(alloc);
+        let mut reading = Vec::new(alloc);
         while let Some(word) = self.word() {
-            let Some(number) = u32_number(word) else {
+            let Some((is_read, segment)) = lock(word) else {
                 return Ok(None);
             };
-            numbers.push(number)?;
+            if is_read {
+                reading.push(segment)?;
+            } else {
+                segments.push(segment)?;
+            }
         }
-        Ok(Some(numbers))
+        Ok(Some((segments, reading)))
     }
 
     /// No word is left.
@@ -96,5 +108,20 @@ impl<'a> Fields<'a> {
             None => Some(()),
             Some(_) => None,
         }
+    }
+}
+
+// A segment to lock, and whether it is for reading.
+#[tactic(auto, unfolding(crate::specs::Line::lock_of))]
+fn lock(word: &[u8]) -> Option<(bool, u32)>
+    ensures { result ≡ lock_of word.now }
+{
+    let [first, digits @ ..] = word else {
+        return None;
+    };
+    if *first == b'r' {
+        Some((true, u32_number(digits)?))
+    } else {
+        Some((false, u32_number(word)?))
     }
 }

@@ -1,13 +1,13 @@
 //! The records of a log, one a line.
-ghost use Rattle.std.specs.Prelude.{◌≡◌, ◌≢◌, ◌≤◌, OnOk, length};
+ghost use Rattle.std.specs.Prelude.{◌≡◌, ◌≢◌, ◌≤◌, IfOk, OnOk, length};
 ghost use Rattle.std.specs.Io.KnownBytes.{Appends, Keeps};
-ghost use Rattle.lc_record.specs.Words.{words_of};
+ghost use Rattle.lc_record.specs.Words.{bytes_of, words_of};
 ghost use Rattle.lc_tool.specs.Inspector.{Inspects};
 
 use crate::ToolFault;
 use crate::records::write_records;
 use lc_log::walk;
-use std::alloc::Global;
+use std::alloc::{AllocError, Global};
 use std::io::Write;
 
 /// Writes a line for each record of a log's bytes, in order, with its place and its words, and nothing else. It is
@@ -25,4 +25,15 @@ pub fn inspect<W: Write>(alloc: Global, bytes: &[u8], writer: &mut W) -> Result<
         Ok(()) => Ok(()),
         Err(_) => Err(ToolFault::Write),
     }
+}
+
+/// The bytes of words, the lowest byte of each first.
+pub(crate) fn log_bytes(alloc: Global, words: &[u64]) -> Result<Vec<u8>, AllocError>
+    ensures { IfOk result (λ bytes. bytes.items ≡ bytes_of words.now) }
+{
+    let mut bytes = Vec::new(alloc);
+    for word in words {
+        bytes.extend_from_slice(&word.to_le_bytes())?;
+    }
+    Ok(bytes)
 }

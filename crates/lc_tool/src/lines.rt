@@ -1,7 +1,7 @@
 //! The lines of a script.
 ghost use Rattle.std.specs.Prelude.{◌≡◌, ◌≢◌, ◌<◌, ◌≤◌, ◌++◌, [], ◌∷◌, length, slice_index, ℕ};
 ghost use Rattle.std.specs.Str.Lines.{strip_carriage_return};
-ghost use Rattle.lc_tool.specs.Session.{script_lines};
+ghost use Rattle.lc_tool.specs.Script.{script_lines};
 
 /// The first line, without what ends it, and what stands behind it.
 pub(crate) fn first_line(script: &[u8]) -> (&[u8], &[u8])

@@ -1,11 +1,10 @@
 //! What a line of a script leaves.
-use crate::solo::Solo;
 
 /// How the script goes on behind a line.
-#[derive(Drop)]
+#[derive(Clone, Copy, Debug, PartialEq, Eq)]
 pub(crate) enum Outcome {
-    /// With this store; and whether the line was refused.
-    Goes { solo: Solo, refused: bool },
+    /// With the next line; and whether this one was refused.
+    Goes { refused: bool },
     /// It ends with this status.
     Ends(u8),
 }

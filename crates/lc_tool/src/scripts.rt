@@ -1,23 +1,27 @@
-//! A whole script.
-ghost use Rattle.std.specs.Prelude.{◌≡◌, ◌≢◌, ◌+◌, ℕ, List, IfOk, IfSome, take, if◌then◌else◌};
+//! Runs a script.
+ghost use Rattle.std.specs.Prelude.{◌≡◌, ◌≢◌, ◌+◌, ℕ, IfOk, IfSome, Some, None, take, if◌then◌else◌};
 ghost use Rattle.std.specs.Io.KnownBytes.{Appends};
-ghost use Rattle.lc_tool.specs.Areas.{AreZeros};
-ghost use Rattle.lc_tool.specs.OneNode.{IsOne};
-ghost use Rattle.lc_tool.specs.Session.{RunsScript};
-ghost use Rattle.lc_tool.specs.Text.{no_memory_text, too_long_text};
-ghost use Rattle.lc_tool.specs.Outcome.{LeavesLine, RunsLines};
+ghost use Rattle.lc_model.specs.declared.refusal.Refusal.TheVariants.{BadGeometry};
+ghost use Rattle.lc_tool.specs.Outcome.{LeavesLine, OpensStore, RefusesFirst, RunsLines};
+ghost use Rattle.lc_tool.specs.Store.{RefusesLengths, RefusesMerge, RunsStore};
+ghost use Rattle.lc_tool.specs.Text.{no_memory_text, refusal_text, reply_text, too_long_text};
 
 use crate::ToolFault;
 use crate::command::Line;
+use crate::commands::perform;
 use crate::lines::first_line;
 use crate::outcome::Outcome;
 use crate::parsing::parse;
-use crate::solo::Solo;
+use crate::repeating::recover;
+use crate::replies::write_reply;
 use crate::source::Source;
 use crate::stop::Stop;
 use crate::text::{write_no_memory, write_not_understood, write_too_long};
-use lc_disk::MemArea;
+use crate::verdict::Verdict;
+use lc_core::{Refusal, Reply, World};
+use lc_disk::Stoppable;
 use lc_record::Geometry;
+use lc_recover::RecoverFault;
 use std::alloc::Global;
 use std::io::{Read, Write};
 
@@ -30,22 +34,35 @@ const REFUSED: u8 = 1;
 
 const NOT_UNDERSTOOD: u8 = 2;
 
-/// Runs a script on a new store of one node, one thread and one segment, and answers the status: 0 where all was
-/// done, 1 where something was refused or there was no memory, 2 where a line or the script was not understood.
-/// An `Err` is a fault of the reader or of the writer, and says nothing of what was written.
-pub fn run_script<R: Read, W: Write>(
+const FAULTED: u8 = 3;
+
+/// Runs a script on a store of these areas, once it is recovered, and answers the status: 0 where all was done, 1 where
+/// something was refused or there was no memory, 2 where a line or the script was not understood, 3 where a device
+/// failed. An `Err` is a fault of the reader or of the writer, and says nothing of what was written.
+pub fn run_script<D: Stoppable + Drop, R: Read, W: Write>(
     alloc: Global,
     geometry: Geometry,
-    areas: Vec<MemArea>,
+    areas: Vec<D>,
     reader: &mut R,
     writer: &mut W,
 ) -> Result<u8, ToolFault>
-    requires one { IsOne geometry }
-    requires zeros { AreZeros geometry areas.items }
+    // Areas that merge to one result, whatever a stop leaves of them.
     ensures runs { IfOk result (λ status. IfSome (R.remaining reader.old) (λ script.
-        (text : List ℕ) × RunsScript geometry script text status × Appends (W.contents writer.old) (W.contents writer.new) text)) }
+        RunsStore D.Area geometry areas.items script (W.contents writer.old) (W.contents writer.new) status)) }
+
+    // Areas whose merge is refused, and areas that are not those of the geometry.
+    ensures refused { IfOk result (λ status. RefusesMerge D.Area geometry areas.items (W.contents writer.old) (W.contents writer.new) status) }
+    ensures wrong { IfOk result (λ status. RefusesLengths D.Area geometry areas.items (W.contents writer.old) (W.contents writer.new) status) }
     ensures memory { result ≢ Err ToolFault.NoMemory }
 {
+    let mut world = match World::new(geometry, areas) {
+        Ok(world) => world,
+        Err((_, RecoverFault::BadGeometry { area })) => return bad_geometry(writer, area),
+        Err(_) => unreachable!(),
+    };
+    if let Some(status) = open(alloc, &mut world, writer)? {
+        return Ok(status);
+    }
     let script = match read_script(alloc, reader) {
         Ok(script) => script,
         Err(ToolFault::NoMemory) => return no_memory(writer),
@@ -54,10 +71,50 @@ pub fn run_script<R: Read, W: Write>(
     if script.len() > LONGEST {
         return too_long(writer);
     }
-    let Ok(solo) = Solo::new(alloc, geometry, areas) else {
-        return no_memory(writer);
+    run_lines(alloc, &mut world, &script, writer)
+}
+
+// Recovers the store, and says nothing where that is done: otherwise the status is answered.
+fn open<D: Stoppable + Drop, W: Write>(
+    alloc: Global,
+    world: &mut World<D>,
+    writer: &mut W,
+) -> Result<Option<u8>, ToolFault>
+    ensures opens { IfOk result (λ status. OpensStore D.Area world.old (W.contents writer.old) (W.contents writer.new) status world.new) }
+    ensures refused { IfOk result (λ status. RefusesFirst D.Area world.old (W.contents writer.old) (W.contents writer.new) status) }
+    ensures memory { result ≢ Err ToolFault.NoMemory }
+{
+    let Ok(reply) = recover(world, alloc) else {
+        return Ok(Some(no_memory(writer)?));
     };
-    run_lines(alloc, solo, &script, writer)
+    match Verdict::of(&reply) {
+        Verdict::Done => Ok(None),
+        Verdict::Refused => Ok(Some(printed(writer, &reply, REFUSED)?)),
+        Verdict::Faulted => Ok(Some(printed(writer, &reply, FAULTED)?)),
+    }
+}
+
+// Writes that an area is not one of the geometry, and gives the status.
+fn bad_geometry<W: Write>(writer: &mut W, area: u32) -> Result<u8, ToolFault>
+    ensures shown { IfOk result (λ status. (status ≡ 1) × Appends (W.contents writer.old) (W.contents writer.new) (refusal_text (BadGeometry area))) }
+    ensures memory { result ≢ Err ToolFault.NoMemory }
+{
+    printed(
+        writer,
+        &Reply::Refused(Refusal::BadGeometry { area }),
+        REFUSED,
+    )
+}
+
+// Writes the line of a reply, behind which nothing more is done, and gives the status.
+fn printed<W: Write>(writer: &mut W, reply: &Reply, status: u8) -> Result<u8, ToolFault>
+    ensures shown { IfOk result (λ given. (given ≡ status) × Appends (W.contents writer.old) (W.contents writer.new) (reply_text reply.now)) }
+    ensures memory { result ≢ Err ToolFault.NoMemory }
+{
+    match write_reply(writer, reply) {
+        Ok(()) => Ok(status),
+        Err(_) => Err(ToolFault::Write),
+    }
 }
 
 // The bytes of the script, and one more where there are too many.
@@ -74,29 +131,22 @@ fn read_script<R: Read>(alloc: Global, reader: &mut R) -> Result<Vec<u8>, ToolFa
 }
 
 // Each line in turn.
-fn run_lines<W: Write>(
+fn run_lines<D: Stoppable + Drop, W: Write>(
     alloc: Global,
-    solo: Solo,
+    world: &mut World<D>,
     script: &[u8],
     writer: &mut W,
 ) -> Result<u8, ToolFault>
-    ensures runs { IfOk result (λ status. RunsLines solo script.now (W.contents writer.old) (W.contents writer.new) status) }
+    ensures runs { IfOk result (λ status. RunsLines D.Area world.old script.now (W.contents writer.old) (W.contents writer.new) status) }
     ensures memory { result ≢ Err ToolFault.NoMemory }
 {
-    let mut solo = solo;
     let mut rest = script;
     let mut number = 1;
     let mut refused = false;
     while !rest.is_empty() {
         let (line, behind) = first_line(rest);
-        match run_line(alloc, solo, line, number, writer)? {
-            Outcome::Goes {
-                solo: next,
-                refused: was,
-            } => {
-                solo = next;
-                refused |= was;
-            }
+        match run_line(alloc, world, line, number, writer)? {
+            Outcome::Goes { refused: was } => refused |= was,
             Outcome::Ends(status) => return Ok(status),
         }
         rest = behind;
@@ -113,30 +163,29 @@ fn status_of(refused: bool) -> u8
 }
 
 // One line.
-fn run_line<W: Write>(
+fn run_line<D: Stoppable + Drop, W: Write>(
     alloc: Global,
-    solo: Solo,
+    world: &mut World<D>,
     line: &[u8],
     number: u64,
     writer: &mut W,
 ) -> Result<Outcome, ToolFault>
-    ensures leaves { IfOk result (λ outcome. LeavesLine solo line.now number (W.contents writer.old) (W.contents writer.new) outcome) }
+    ensures leaves { IfOk result (λ outcome. LeavesLine D.Area world.old line.now number (W.contents writer.old) (W.contents writer.new) outcome world.new) }
     ensures memory { result ≢ Err ToolFault.NoMemory }
 {
     let Ok(read) = parse(alloc, line) else {
         return Ok(Outcome::Ends(no_memory(writer)?));
     };
     match read {
-        Line::Skipped => Ok(Outcome::Goes {
-            solo,
-            refused: false,
-        }),
+        Line::Skipped => Ok(Outcome::Goes { refused: false }),
         Line::NotUnderstood => match write_not_understood(writer, number) {
             Ok(()) => Ok(Outcome::Ends(NOT_UNDERSTOOD)),
             Err(_) => Err(ToolFault::Write),
         },
-        Line::Command(command) => match solo.perform(alloc, command, writer) {
-            Ok((solo, refused)) => Ok(Outcome::Goes { solo, refused }),
+        Line::Command(command) => match perform(world, alloc, command, writer) {
+            Ok(Verdict::Done) => Ok(Outcome::Goes { refused: false }),
+            Ok(Verdict::Refused) => Ok(Outcome::Goes { refused: true }),
+            Ok(Verdict::Faulted) => Ok(Outcome::Ends(FAULTED)),
             Err(Stop::NoMemory) => Ok(Outcome::Ends(no_memory(writer)?)),
             Err(Stop::Write) => Err(ToolFault::Write),
         },

@@ -44,18 +44,28 @@ fn bounds_of_words(rt: HostRuntime) -> Result<(), AllocError> {
     Ok(())
 }
 
+// The nodes, threads and segments of the run that is asked for.
+fn counts_of(alloc: Global, words: &[&str]) -> Result<Option<(u16, u16, u32)>, AllocError> {
+    match read_command_line(alloc, words)? {
+        Asked::Run(geometry) => Ok(Some((geometry.nodes, geometry.threads, geometry.segments))),
+        _ => Ok(None),
+    }
+}
+
 #[test]
-fn one_of_nodes_threads_and_segments(rt: HostRuntime) -> Result<(), AllocError> {
+fn bounds_of_nodes_threads_and_segments(rt: HostRuntime) -> Result<(), AllocError> {
     let alloc = rt.alloc();
-    assert!(rt; size_of(alloc, &["lcrvm", "run", "--nodes", "1"])? == Some((1, 64)));
+    assert!(rt; counts_of(alloc, &["lcrvm", "run", "--nodes", "1"])? == Some((1, 1, 1)));
+    assert!(rt; counts_of(alloc, &["lcrvm", "run", "--nodes=8"])? == Some((8, 1, 1)));
     assert!(rt; is_refused(alloc, &["lcrvm", "run", "--nodes", "0"])?);
-    assert!(rt; is_refused(alloc, &["lcrvm", "run", "--nodes=2"])?);
-    assert!(rt; size_of(alloc, &["lcrvm", "run", "--threads=1"])? == Some((1, 64)));
+    assert!(rt; is_refused(alloc, &["lcrvm", "run", "--nodes=9"])?);
+    assert!(rt; is_refused(alloc, &["lcrvm", "run", "--nodes=65537"])?);
+    assert!(rt; counts_of(alloc, &["lcrvm", "run", "--threads=16"])? == Some((1, 16, 1)));
     assert!(rt; is_refused(alloc, &["lcrvm", "run", "--threads", "0"])?);
-    assert!(rt; is_refused(alloc, &["lcrvm", "run", "--threads", "2"])?);
-    assert!(rt; size_of(alloc, &["lcrvm", "run", "--segments", "1"])? == Some((1, 64)));
+    assert!(rt; is_refused(alloc, &["lcrvm", "run", "--threads", "17"])?);
+    assert!(rt; counts_of(alloc, &["lcrvm", "run", "--segments", "16"])? == Some((1, 1, 16)));
     assert!(rt; is_refused(alloc, &["lcrvm", "run", "--segments=0"])?);
-    assert!(rt; is_refused(alloc, &["lcrvm", "run", "--segments", "2"])?);
+    assert!(rt; is_refused(alloc, &["lcrvm", "run", "--segments", "17"])?);
     Ok(())
 }
 
@@ -76,7 +86,7 @@ fn refuses_what_is_no_number(rt: HostRuntime) -> Result<(), AllocError> {
 fn refuses_an_option_that_is_given_twice(rt: HostRuntime) -> Result<(), AllocError> {
     let alloc = rt.alloc();
     assert!(rt; is_refused(alloc, &["lcrvm", "run", "--pages", "2", "--pages", "2"])?);
-    assert!(rt; is_refused(alloc, &["lcrvm", "run", "--nodes", "1", "--nodes=1"])?);
+    assert!(rt; is_refused(alloc, &["lcrvm", "run", "--nodes", "2", "--nodes=2"])?);
     Ok(())
 }
 
@@ -105,15 +115,15 @@ fn all_options(rt: HostRuntime) -> Result<(), AllocError> {
         "100",
         "--pages=3",
         "--segments",
-        "1",
-        "--threads=1",
+        "7",
+        "--threads=5",
         "--nodes",
-        "1",
+        "2",
     ];
     let Asked::Run(geometry) = read_command_line(rt.alloc(), &words)? else {
         panic!(rt; "no run");
     };
-    assert!(rt; Some(geometry) == Geometry::new(1, 1, 1, 3, 100));
+    assert!(rt; Some(geometry) == Geometry::new(2, 5, 7, 3, 100));
     Ok(())
 }
 

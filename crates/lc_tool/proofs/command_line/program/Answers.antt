@@ -11,9 +11,9 @@ needs_subcommand a = record { top = record a.top { subcommand_required = true };
 
 pub returns : goal.returns
 returns c =
-    let nodes_take : c.range-one.result ≡ from_to 1 1 = rw (c.value_parser.ensures, c.new.ensures.start, c.new.ensures.end) at c.range-one.ensures in
-    let threads_take : c.range-one-2.result ≡ from_to 1 1 = rw (c.value_parser-2.ensures, c.new-2.ensures.start, c.new-2.ensures.end) at c.range-one-2.ensures in
-    let segments_take : c.range-one-3.result ≡ from_to 1 1 = rw (c.value_parser-3.ensures, c.new-3.ensures.start, c.new-3.ensures.end) at c.range-one-3.ensures in
+    let nodes_take : c.range-few.result ≡ from_to 1 8 = rw (c.value_parser.ensures, c.new.ensures.start, c.new.ensures.end) at c.range-few.ensures in
+    let threads_take : c.range-several.result ≡ from_to 1 16 = rw (c.value_parser-2.ensures, c.new-2.ensures.start, c.new-2.ensures.end) at c.range-several.ensures in
+    let segments_take : c.range-several-2.result ≡ from_to 1 16 = rw (c.value_parser-3.ensures, c.new-3.ensures.start, c.new-3.ensures.end) at c.range-several-2.ensures in
     let pages_take : c.range-some.result ≡ from_to 1 1024 = rw (c.value_parser-4.ensures, c.new-4.ensures.start, c.new-4.ensures.end) at c.range-some.ensures in
     let words_take : c.range-many.result ≡ from_to 64 4096 = rw (c.value_parser-5.ensures, c.new-5.ensures.start, c.new-5.ensures.end) at c.range-many.ensures in
     let nodes_is = c.option-nodes.ensures.rule ∙ ap (option_rule (codes "nodes") (codes "1")) nodes_take in

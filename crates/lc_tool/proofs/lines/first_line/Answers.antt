@@ -1,6 +1,6 @@
 use Rattle.std.proofs.Common.{ℕ, ◌+◌, ◌<◌, List, length, ◌∷◌, sym, ◌∙◌, ap₂, arith}
 use Rattle.std.proofs.lemmas.List.{take_rest}
-use Rattle.lc_tool.specs.Session.{script_lines}
+use Rattle.lc_tool.specs.Script.{script_lines}
 use Rattle.lc_tool.proofs.LineLemmas.{one_line, cut_line}
 use Rattle.lc_tool.proofs.lines.first_line.Goals as goal
 

@@ -1,0 +1,145 @@
+-- What a script prints behind the recovery that comes first, and where that does not come to its end.
+use Rattle.std.proofs.Common.{◌≡◌, ◌∙◌, ℕ, true, false, nat_lt, List, length, Option, Some, None, IfSome, refl, sym, ap, subst, inl, inr}
+use Rattle.std.specs.Io.KnownBytes.{Appends, Keeps}
+use Rattle.lc_disk.specs.declared.area.Area.{Ghosts}
+use Rattle.lc_record.specs.declared.geometry.Geometry.{Geometry}
+use Rattle.lc_model.specs.Merge.{MergeFault, BadGeometry, OutOfSegment, Twice, Gap}
+use Rattle.lc_model.specs.State.{Setting, State, first_state}
+use Rattle.lc_model.specs.declared.refusal.Refusal.TheVariants.{DeviceFault}
+use Rattle.lc_model.specs.declared.reply.Reply.{Reply}
+use Rattle.lc_model.specs.declared.reply.Reply.TheVariants.{Refused as IsRefusal}
+use Rattle.lc_core.specs.Numbers.{Numbers}
+use Rattle.lc_core.specs.World.{FitsWorld}
+use Rattle.lc_core.specs.declared.world.World.{World}
+use Rattle.lc_tool.specs.Answers.{Finishes}
+use Rattle.lc_tool.specs.Fits.{FollowsAll, IsRefused, RefusesAll}
+use Rattle.lc_tool.specs.Outcome.{EndsWith, IsGivenUp, IsRecovered, OpensStore, RefusesFirst, RunsLines}
+use Rattle.lc_tool.specs.Script.{NoMemory, Opens, Runs, RunsScript, script_lines}
+use Rattle.lc_recover.specs.Reads.{AllMergeTo, AreHonest, HaveLengths}
+use Rattle.lc_recover.specs.Recovery.{begun}
+use Rattle.lc_core.specs.declared.phase.Phase.TheVariants.{Down}
+use Rattle.lc_tool.specs.Store.{Adds, AreKnown, AreRefused, RefusesLengths, RefusesMerge, RefusesStore, RunsStore, merge_refusal}
+use Rattle.lc_tool.proofs.ScriptLemmas.{keeps_then}
+use Rattle.lc_tool.specs.Text.{no_memory_text, reply_text, too_long_text}
+use Rattle.lc_tool.specs.Verdict.{verdict_of}
+use Rattle.lc_tool.specs.declared.verdict.Verdict.{Verdict}
+use Rattle.lc_tool.specs.declared.verdict.Verdict.TheVariants.{Done, Refused, Faulted}
+use Rattle.lc_model.specs.declared.event.Event.TheVariants.{RecoverStep}
+
+module _ (m : Setting) (s : State) (x : Numbers) (script : List ℕ) where
+  ends_so : (after : State) (next : Numbers) (reply : Reply) (verdict : Verdict) (text : List ℕ) (status : ℕ) → EndsWith verdict reply text status → Opens m after next reply verdict script text status
+  ends_so after next reply Done text status ends = absurd ends
+  ends_so after next reply Refused text status ends = ends
+  ends_so after next reply Faulted text status ends = ends
+
+  pub given_up : (text : List ℕ) (status : ℕ) → IsGivenUp m s x text status → RunsScript m s x script text status
+  given_up text status (inl none) = inl none
+  given_up text status (inr ends) = inr (ends.0, ends.1, ends.2, ends.3, ends_so ends.1 ends.2 ends.0 (verdict_of ends.0) text status ends.4)
+
+  pub too_long : (after : State) (next : Numbers) (status : ℕ) → IsRecovered m s x after next → nat_lt 1048576 (length script) ≡ true → status ≡ 2 → RunsScript m s x script too_long_text status
+  too_long after next status up long is = inr (up.0, after, next, up.1, rw (up.2, long) (refl, is))
+
+  pub all_lines : (after : State) (next : Numbers) (text : List ℕ) (status : ℕ) → IsRecovered m s x after next → nat_lt 1048576 (length script) ≡ false
+      → Runs m after next 1 false (script_lines script) text status → RunsScript m s x script text status
+  all_lines after next text status up short run = inr (up.0, after, next, up.1, rw (up.2, short) run)
+
+-- the refusal of a merge is no device fault
+merge_verdict : (fault : MergeFault) → verdict_of (IsRefusal (merge_refusal fault)) ≡ Refused
+merge_verdict (BadGeometry area) = refl
+merge_verdict (OutOfSegment area) = refl
+merge_verdict (Twice segment seq) = refl
+merge_verdict (Gap segment seq) = refl
+
+module _ {D : Type 0} (a : Ghosts D) (old new : World D a) (held holds : Option (List ℕ)) where
+  -- there was no memory
+  pub no_memory_opens : (status : ℕ) → status ≡ 1 → Appends held holds no_memory_text → OpensStore a old held holds (Some status) new
+  no_memory_opens status is shown m s x fits = (no_memory_text, inl (refl, is), shown)
+
+  pub no_memory_first : (status : ℕ) → status ≡ 1 → Appends held holds no_memory_text → RefusesFirst a old held holds (Some status)
+  no_memory_first status is shown fault refused = (no_memory_text, inr (inr (refl, is)), shown)
+
+  module _ (reply : Reply) (follows : FollowsAll a old RecoverStep reply new) (refuses : RefusesAll a old reply) where
+    pub done_opens : Done ≡ verdict_of reply → Keeps held holds → OpensStore a old held holds None new
+    done_opens is keeps = (
+      (λ m s x fits. let led = follows m s x fits in (led.0, led.1, (reply, led.2, sym is), led.3)),
+      keeps,
+    )
+
+    pub done_first : Done ≡ verdict_of reply → RefusesFirst a old held holds None
+    done_first is fault refused =
+        elim (refuses fault refused) [
+          | inl merge ↦ let bad : Done ≡ Refused = is ∙ ap verdict_of merge ∙ merge_verdict fault in absurd cc
+          | inr device ↦ let bad : Done ≡ Faulted = is ∙ ap verdict_of device in absurd cc
+        ]
+
+    pub refused_opens : (status : ℕ) → Refused ≡ verdict_of reply → status ≡ 1 → Appends held holds (reply_text reply) → OpensStore a old held holds (Some status) new
+    refused_opens status is by shown m s x fits =
+        let led = follows m s x fits in (reply_text reply, inr (reply, led.0, led.1, led.2, rw (← is) (refl, by)), shown)
+
+    pub refused_first : (status : ℕ) → Refused ≡ verdict_of reply → status ≡ 1 → Appends held holds (reply_text reply) → RefusesFirst a old held holds (Some status)
+    refused_first status is by shown fault refused =
+        elim (refuses fault refused) [
+          | inl merge ↦ (reply_text reply, inl (ap reply_text merge, by), shown)
+          | inr device ↦ let bad : Refused ≡ Faulted = is ∙ ap verdict_of device in absurd cc
+        ]
+
+    pub faulted_opens : (status : ℕ) → Faulted ≡ verdict_of reply → status ≡ 3 → Appends held holds (reply_text reply) → OpensStore a old held holds (Some status) new
+    faulted_opens status is by shown m s x fits =
+        let led = follows m s x fits in (reply_text reply, inr (reply, led.0, led.1, led.2, rw (← is) (refl, by)), shown)
+
+    pub faulted_first : (status : ℕ) → Faulted ≡ verdict_of reply → status ≡ 3 → Appends held holds (reply_text reply) → RefusesFirst a old held holds (Some status)
+    faulted_first status is by shown fault refused =
+        elim (refuses fault refused) [
+          | inl merge ↦ let bad : Faulted ≡ Refused = is ∙ ap verdict_of merge ∙ merge_verdict fault in absurd cc
+          | inr device ↦ (reply_text reply, inr (inl (ap reply_text device, by)), shown)
+        ]
+
+-- The whole script
+
+pub some_all : {A : Type 0} (o : Option A) (P : A → Type 0) → ((x : A) → P x) → IfSome o P
+some_all None P all = tt
+some_all (Some x) P all = all x
+
+module _ {D : Type 0} (a : Ghosts D) (g : Geometry) (areas : List D) (world : World D a) (held holds : Option (List ℕ)) (status : ℕ) where
+  -- a store of these areas fits the first state
+  abbrev pub FitsFirst : Type 0
+  FitsFirst = (m : Setting) (x : Numbers) → m.geometry ≡ g → AreHonest a areas → AllMergeTo a g areas m.start x.disks.numbers → x.steps ≡ 0 → FitsWorld a m world (first_state g) x
+
+  start_fits : FitsFirst → (m : Setting) (x : Numbers) → m.geometry ≡ g → AreKnown a m areas x → FitsWorld a m world (first_state g) x
+  start_fits fits m x same known = fits m x same known.honest (subst (λ (h : Geometry). AllMergeTo a h areas m.start x.disks.numbers) same known.merges) known.first
+
+  -- the recovery did not come to its end
+  pub stopped_runs : (new : World D a) (script : List ℕ) → FitsFirst → OpensStore a world held holds (Some status) new → RunsStore a g areas script held holds status
+  stopped_runs new script fits opens m x same known =
+      let ends = opens m (first_state g) x (start_fits fits m x same known) in
+      (ends.0, given_up m (first_state g) x script ends.0 status ends.1, ends.2)
+
+  its_refusal : world.phase ≡ Down (begun g areas) → (fault : MergeFault) → AreRefused a g areas fault → IsRefused a world fault
+  its_refusal down fault refused = record { geometry = g; areas = areas; down = down; honest = refused.honest; refused = refused.refused }
+
+  pub stopped_refuses : world.phase ≡ Down (begun g areas) → RefusesFirst a world held holds (Some status) → RefusesMerge a g areas held holds status
+  stopped_refuses down first fault refused = first fault (its_refusal down fault refused)
+
+  -- or it did
+  pub never_refuses : (mid : Option (List ℕ)) → world.phase ≡ Down (begun g areas) → RefusesFirst a world held mid None → RefusesMerge a g areas held holds status
+  never_refuses mid down first fault refused = absurd (first fault (its_refusal down fault refused))
+
+  -- its areas are those of the geometry
+  pub never_wrong : HaveLengths a g areas → RefusesLengths a g areas held holds status
+  never_wrong right area wrong = absurd (wrong.is (right area))
+
+  pub memory_runs : (mid : Option (List ℕ)) (new : World D a) (script : List ℕ) → FitsFirst → OpensStore a world held mid None new → status ≡ 1 → Appends mid holds no_memory_text → RunsStore a g areas script held holds status
+  memory_runs mid new script fits opens is shown m x same known = (no_memory_text, inl (refl, is), keeps_then held mid holds no_memory_text opens.1 shown)
+
+  pub long_runs : (mid : Option (List ℕ)) (new : World D a) (script : List ℕ) → FitsFirst → OpensStore a world held mid None new → nat_lt 1048576 (length script) ≡ true → status ≡ 2
+      → Appends mid holds too_long_text → RunsStore a g areas script held holds status
+  long_runs mid new script fits opens long is shown m x same known =
+      let up = opens.0 m (first_state g) x (start_fits fits m x same known) in
+      (too_long_text, too_long m (first_state g) x script up.0 up.1 status up.2 long is, keeps_then held mid holds too_long_text opens.1 shown)
+
+  pub lines_run : (mid : Option (List ℕ)) (new : World D a) (script : List ℕ) → FitsFirst → OpensStore a world held mid None new → nat_lt 1048576 (length script) ≡ false
+      → RunsLines a new script mid holds status → RunsStore a g areas script held holds status
+  lines_run mid new script fits opens short lines m x same known =
+      let up = opens.0 m (first_state g) x (start_fits fits m x same known) in
+      let run = lines m up.0 up.1 up.3 in
+      (run.0, all_lines m (first_state g) x script up.0 up.1 run.0 status up.2 short run.1, keeps_then held mid holds run.0 opens.1 run.2)

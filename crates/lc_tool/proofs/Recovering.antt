@@ -1,0 +1,104 @@
+-- A recovery, step by step, up to the step that does not say that more are to come.
+use Rattle.std.proofs.Common.{◌≡◌, ◌∙◌, ◌⊎◌, ℕ, ◌+◌, ◌*◌, ◌≤◌, ◌<◌, false, List, refl, sym, ap, subst, arith, inl, inr}
+use Rattle.std.specs.Prelude.{Result, Ok, Err, IfOk}
+use Rattle.std.proofs.Math.Nat.{mul-le-mul_right}
+use Rattle.lc_disk.specs.declared.area.Area.{Ghosts}
+use Rattle.lc_record.specs.declared.geometry.Geometry.{Geometry}
+use Rattle.lc_recover.specs.Recovery.{Recovering, all_steps}
+use Rattle.lc_model.specs.Merge.{MergeFault}
+use Rattle.lc_model.specs.Refusals.{is_up}
+use Rattle.lc_model.specs.State.{Setting, State}
+use Rattle.lc_model.specs.declared.event.Event.TheVariants.{RecoverStep}
+use Rattle.lc_model.specs.declared.refusal.Refusal.TheVariants.{OutOfTurn}
+use Rattle.lc_model.specs.declared.reply.Reply.{Reply}
+use Rattle.lc_model.specs.declared.reply.Reply.TheVariants.{Stepped}
+use Rattle.lc_core.specs.Numbers.{Numbers}
+use Rattle.lc_core.specs.Recovers.{RecoversDown, RefusesAtOnce}
+use Rattle.lc_core.specs.World.{AsksIn, FitsWorld, FollowsWorld}
+use Rattle.lc_core.specs.declared.phase.Phase.{Phase}
+use Rattle.lc_core.specs.declared.phase.Phase.TheVariants.{Down, Up, Taken}
+use Rattle.lc_core.specs.declared.world.World.{World}
+use Rattle.lc_tool.specs.Answers.{IsStepped}
+use Rattle.lc_tool.specs.Fits.{AsksFor, FollowsAll, IsRefused, RefusesAll}
+use Rattle.lc_tool.specs.declared.command.Command.TheVariants.{Recover}
+use Rattle.lc_tool.proofs.Again.{all_still, stepped_is}
+use Rattle.lc_tool.proofs.Fitting.{few_steps}
+use Rattle.lc_tool.proofs.Memory.{asks}
+use Rattle.lc_tool.proofs.Opening.{IsBefore, ends_refused, first_before, next_before}
+use Rattle.lc_tool.proofs.Performing.{ComesTo, comes_to_end, first_comes, more_comes}
+
+-- no recovery has so many steps
+few_in_all : (g : Geometry) → all_steps g (g.segments * g.pages) ≤ 1048576
+few_in_all g =
+    let few = mul-le-mul_right g.pages g.few_segments in
+    omega (arith, few, g.few_pages, g.few_segments, g.few_nodes)
+
+module _ {D : Type 0} (a : Ghosts D) where
+  -- so many steps were made from a store on
+  pub record HasGone (old now : World D a) (done : ℕ) : Type 0 where
+    pub comes : (m : Setting) (s : State) (x : Numbers) → FitsWorld a m old s x → ComesTo a old now RecoverStep m s x
+    pub count : (r : Recovering D) → now.phase ≡ Down r → done ≤ r.steps
+    pub before : (fault : MergeFault) (refused : IsRefused a old fault) → IsBefore a refused.geometry refused.areas fault now.phase
+
+  pub first_gone : (w : World D a) → HasGone w w 0
+  first_gone w = record {
+    comes = λ m s x fits. first_comes a RecoverStep m s x w fits;
+    count = λ r is. omega arith;
+    before = λ fault refused. subst (λ (p : Phase D a). IsBefore a refused.geometry refused.areas fault p) (sym refused.down) (first_before a refused.geometry refused.areas fault refused.honest);
+  }
+
+  -- what answers with a step is down
+  down_there : (phase : Phase D a) (steps : ℕ) (new : Phase D a) → RefusesAtOnce a phase RecoverStep (Stepped steps) new → (r : Recovering D) × (phase ≡ Down r)
+  down_there (Down r) steps new at_once = (r, refl)
+  down_there (Up up) steps new at_once = let bad = (at_once OutOfTurn refl).0 in absurd cc
+  down_there Taken steps new at_once = let bad = (at_once OutOfTurn refl).0 in absurd cc
+
+  pub more_gone : (old mid new : World D a) (done steps : ℕ) → HasGone old mid done → FollowsWorld a mid RecoverStep (Stepped steps) new → RecoversDown a mid.phase (Stepped steps) new.phase
+      → RefusesAtOnce a mid.phase RecoverStep (Stepped steps) new.phase → HasGone old new (done + 1)
+  more_gone old mid new done steps gone follows recovers at_once =
+      let down = down_there mid.phase steps new.phase at_once in
+      let stepped = (recovers down.0 down.1).stepped steps refl in
+      let was = gone.count down.0 down.1 in
+      record {
+        comes = λ m s x fits. more_comes a RecoverStep m s x old mid new steps (gone.comes m s x fits) follows;
+        count = λ r is.
+            let same : stepped.1.0 ≡ r = cc in
+            omega (arith, was, stepped.0, stepped.1.3, ap (λ (q : Recovering D). q.steps) same);
+        before = λ fault refused. next_before a refused.geometry refused.areas fault refused.refused mid.phase new.phase steps (gone.before fault refused) recovers;
+      }
+
+  module _ (old mid new : World D a) (done : ℕ) (reply : Reply) (gone : HasGone old mid done) (follows : FollowsWorld a mid RecoverStep reply new) (recovers : RecoversDown a mid.phase reply new.phase) where
+    pub gone_follows : (IsStepped reply → ⊥) → FollowsAll a old RecoverStep reply new
+    gone_follows over m s x fits = comes_to_end a RecoverStep m s x old mid new reply (gone.comes m s x fits) follows over
+
+    pub gone_refuses : (IsStepped reply → ⊥) → RefusesAll a old reply
+    gone_refuses over fault refused = ends_refused a refused.geometry refused.areas fault refused.refused mid.phase new.phase reply (gone.before fault refused) recovers over
+
+    -- behind so many steps none says that more are to come
+    pub gone_over : 1048576 ≤ done → RefusesAtOnce a mid.phase RecoverStep reply new.phase → IsStepped reply → ⊥
+    gone_over all at_once is =
+        let steps = stepped_is reply is in
+        let down = down_there mid.phase steps.0 new.phase (subst (λ (r : Reply). RefusesAtOnce a mid.phase RecoverStep r new.phase) steps.1 at_once) in
+        let answers = recovers down.0 down.1 in
+        let few = few_steps a down.0 reply new.phase steps.0 answers steps.1 in
+        let count = (answers.stepped steps.0 steps.1).0 in
+        omega (arith, all, few, count, gone.count down.0 down.1, few_in_all down.0.geometry)
+
+  -- want of memory is that of a store that is down
+  pub gone_asks : (old mid : World D a) (done : ℕ) → HasGone old mid done → AsksIn a mid.phase RecoverStep → AsksFor a old Recover
+  gone_asks old mid done gone wants m s x fits =
+      let come = gone.comes m s x fits in
+      sym (ap (λ (z : State). is_up z.phase) (all_still m s x come.steps come.after come.next come.goes)) ∙ (asks a mid RecoverStep m come.after come.next wants come.fits).0
+
+  -- the last step, behind all of them
+  pub all_gone : {E : Type 0} (old mid new : World D a) (done : ℕ) (result : Result Reply E) → HasGone old mid done → 1048576 ≤ done → IfOk result (λ reply. FollowsWorld a mid RecoverStep reply new)
+      → IfOk result (λ reply. RecoversDown a mid.phase reply new.phase) → IfOk result (λ reply. RefusesAtOnce a mid.phase RecoverStep reply new.phase) → IfOk result (λ reply. FollowsAll a old RecoverStep reply new)
+  all_gone old mid new done (Err e) gone all follows recovers at_once = tt
+  all_gone old mid new done (Ok reply) gone all follows recovers at_once =
+      gone_follows old mid new done reply gone follows recovers (gone_over old mid new done reply gone follows recovers all at_once)
+
+  pub all_refused : {E : Type 0} (old mid new : World D a) (done : ℕ) (result : Result Reply E) → HasGone old mid done → 1048576 ≤ done → IfOk result (λ reply. FollowsWorld a mid RecoverStep reply new)
+      → IfOk result (λ reply. RecoversDown a mid.phase reply new.phase) → IfOk result (λ reply. RefusesAtOnce a mid.phase RecoverStep reply new.phase) → IfOk result (λ reply. RefusesAll a old reply)
+  all_refused old mid new done (Err e) gone all follows recovers at_once = tt
+  all_refused old mid new done (Ok reply) gone all follows recovers at_once =
+      gone_refuses old mid new done reply gone follows recovers (gone_over old mid new done reply gone follows recovers all at_once)

@@ -1,0 +1,23 @@
+use Rattle.std.proofs.Common.{◌∙◌, List, ℕ, ap, subst, Err}
+use Rattle.std.proofs.lemmas.Result.{IfOk-weaker}
+use Rattle.std.specs.Io.KnownBytes.{Appends}
+use Rattle.lc_tool.specs.Text.{words_text}
+use Rattle.lc_tool.proofs.LogShown.{log_asks, log_fault, log_performs}
+use Rattle.lc_tool.proofs.commands.show_log.Goals as goal
+
+pub returns-in_ok-show_words-in-Ok-clause-done : goal.returns-in_ok-show_words-in-Ok-clause-done
+returns-in_ok-show_words-in-Ok-clause-done g c =
+    log_performs g.D.Area c.args.node c.args.world.now c.log_words.new.self c.log_words.result (record { unknown = c.log_words.ensures.unknown; read = c.log_words.ensures.read })
+    c.in-Ok.words (g.W.Write.contents c.args.writer.now) (g.W.Write.contents c.show_words.new.writer) c.in-Ok.is c.in-Ok.ensures.words c.in-Ok.ensures.records
+    (subst (λ (l : List ℕ). Appends (g.W.Write.contents c.args.writer.now) (g.W.Write.contents c.show_words.new.writer) (words_text l)) c.as_slice.ensures.value c.in_ok-show_words-in-Ok.ensures.shown)
+
+pub returns-in-Err-clause-done : goal.returns-in-Err-clause-done
+returns-in-Err-clause-done g c =
+    IfOk-weaker c.show_fault.result _ _ (λ verdict shown.
+    log_fault g.D.Area c.args.node c.args.world.now c.log_words.new.self c.log_words.result (record { unknown = c.log_words.ensures.unknown; read = c.log_words.ensures.read })
+    c.in-Err.fault shown.0 (g.W.Write.contents c.args.writer.now) (g.W.Write.contents c.show_fault.new.writer) verdict c.in-Err.is shown.1 shown.2 shown.3) c.show_fault.ensures.shown
+
+pub returns-in-Err-clause-asks : goal.returns-in-Err-clause-asks
+returns-in-Err-clause-asks g c = λ want.
+    log_asks g.D.Area c.args.node c.args.world.now c.log_words.new.self c.log_words.result (record { unknown = c.log_words.ensures.unknown; read = c.log_words.ensures.read })
+    (c.in-Err.is ∙ ap (λ fault. Err fault) (c.show_fault.ensures.memory want).0)

@@ -1,0 +1,32 @@
+use Rattle.std.proofs.Common.{◌≡◌, ◌∙◌, List, ℕ, ap, subst, Err}
+use Rattle.std.proofs.lemmas.Result.{IfOk-weaker}
+use Rattle.lc_record.specs.Words.{bytes_of, words_of}
+use Rattle.lc_tool.specs.Inspector.{Inspects}
+use Rattle.lc_tool.proofs.LogShown.{inspect_asks, inspect_fault, inspect_had, inspect_performs}
+use Rattle.lc_tool.proofs.commands.show_records.Goals as goal
+
+pub returns-in-Err-clause-done : goal.returns-in-Err-clause-done
+returns-in-Err-clause-done g c =
+    IfOk-weaker c.show_fault.result _ _ (λ verdict shown.
+    inspect_fault g.D.Area c.args.node c.args.world.now c.log_words.new.self c.log_words.result (record { unknown = c.log_words.ensures.unknown; read = c.log_words.ensures.read })
+    c.in-Err.fault shown.0 (g.W.Write.contents c.args.writer.now) (g.W.Write.contents c.show_fault.new.writer) verdict c.in-Err.is shown.1 shown.2 shown.3) c.show_fault.ensures.shown
+
+pub returns-in-Err-clause-asks : goal.returns-in-Err-clause-asks
+returns-in-Err-clause-asks g c = λ want.
+    inspect_asks g.D.Area c.args.node c.args.world.now c.log_words.new.self c.log_words.result (record { unknown = c.log_words.ensures.unknown; read = c.log_words.ensures.read })
+    (c.in-Err.is ∙ ap (λ fault. Err fault) (c.show_fault.ensures.memory want).0)
+
+pub returns-in_err-bytes-clause-asks : goal.returns-in_err-bytes-clause-asks
+returns-in_err-bytes-clause-asks g c = λ want.
+    inspect_had g.D.Area c.args.node c.args.world.now c.log_words.new.self c.log_words.result (record { unknown = c.log_words.ensures.unknown; read = c.log_words.ensures.read }) c.in-Ok.words c.in-Ok.is
+
+pub returns-in-Ok-inspect-clause-done : goal.returns-in-Ok-inspect-clause-done
+returns-in-Ok-inspect-clause-done g c =
+    let bytes : c.as_slice-2.result.now ≡ bytes_of c.in-Ok.words.items = c.as_slice-2.ensures.value ∙ c.in_ok-bytes.ensures ∙ ap bytes_of c.as_slice.ensures.value in
+    inspect_performs g.D.Area c.args.node c.args.world.now c.log_words.new.self c.log_words.result (record { unknown = c.log_words.ensures.unknown; read = c.log_words.ensures.read })
+    c.in-Ok.words (g.W.Write.contents c.args.writer.now) (g.W.Write.contents c.inspect.new.writer) c.in-Ok.is c.in-Ok.ensures.words c.in-Ok.ensures.records
+    (subst (λ (l : List ℕ). Inspects (words_of l) (g.W.Write.contents c.args.writer.now) (g.W.Write.contents c.inspect.new.writer)) bytes c.in-Ok-inspect.ensures.shown)
+
+pub returns-in-Err-NoMemory-clause-asks : goal.returns-in-Err-NoMemory-clause-asks
+returns-in-Err-NoMemory-clause-asks g c = λ want.
+    inspect_had g.D.Area c.args.node c.args.world.now c.log_words.new.self c.log_words.result (record { unknown = c.log_words.ensures.unknown; read = c.log_words.ensures.read }) c.in-Ok.words c.in-Ok.is

@@ -1,0 +1,20 @@
+use Rattle.std.proofs.Common.{subst}
+use Rattle.lc_model.specs.declared.event.Event.TheVariants.{Reserve}
+use Rattle.lc_model.specs.declared.reply.Reply.{Reply}
+use Rattle.lc_core.specs.World.{FollowsWorld}
+use Rattle.lc_tool.proofs.Performing.{never_refused, not_reserved}
+use Rattle.lc_tool.proofs.repeating.end.Goals as goal
+
+pub returns-in_default : goal.returns-in_default
+returns-in_default g c = record {
+  follows = not_reserved g.D.Area c.args.world.now c.step.new.self c.args.node c.args.thread c.in_ok-reserved.reserved c.in_ok-reserved.ensures.follows c.in_default.not-Reserved;
+  memory = tt;
+}
+
+pub returns : goal.returns
+returns g c = record {
+  follows = never_refused g.D.Area c.args.world.now c.step.new.self c.step-2.new.self c.args.node c.args.thread c.in-Reserved.place c.in-Reserved.words c.in_ok-other.other
+      (subst (λ (r : Reply). FollowsWorld g.D.Area c.args.world.now (Reserve c.args.node c.args.thread) r c.step.new.self) c.in-Reserved.is c.in_ok-reserved.ensures.follows)
+      c.in_ok-other.ensures.follows c.in_default-2.not-Ok;
+  memory = tt;
+}

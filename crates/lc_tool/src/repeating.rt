@@ -1,0 +1,71 @@
+//! What takes several steps of a store.
+ghost use Rattle.std.specs.Prelude.{◌≡◌, IfOk, OnErr};
+ghost use Rattle.lc_model.specs.declared.event.Event.TheVariants.{FlushStep, RecoverStep};
+ghost use Rattle.lc_tool.specs.Fits.{AsksFor, FollowsAll, FollowsEnd, RefusesAll};
+ghost use Rattle.lc_tool.specs.declared.command.Command.TheVariants.{End, Recover};
+
+use lc_core::{Event, Reply, World};
+use lc_disk::Stoppable;
+use std::alloc::{AllocError, Global};
+
+// The steps of a flush that say that more are to come.
+const FLUSH_STEPS: u32 = 3;
+
+// More than any recovery has.
+const RECOVERY_STEPS: u32 = 1 << 20;
+
+/// A thread's transaction is reserved, and closed where it was. Only the reservation may want memory.
+pub(crate) fn end<D: Stoppable + Drop>(
+    world: &mut World<D>,
+    alloc: Global,
+    node: u16,
+    thread: u16,
+) -> Result<Reply, AllocError>
+    ensures follows { IfOk result (λ reply. FollowsEnd D.Area world.old node thread reply world.new) }
+    ensures memory { OnErr result (AsksFor D.Area world.old (End node thread)) }
+{
+    let reserved = world.step(alloc, &Event::Reserve { node, thread })?;
+    let Reply::Reserved { .. } = reserved else {
+        return Ok(reserved);
+    };
+    match world.step(alloc, &Event::Close { node, thread })? {
+        Reply::Ok => Ok(reserved),
+        other => Ok(other),
+    }
+}
+
+/// The steps of a flush of a node, up to the one that is answered otherwise than that more are to come.
+pub(crate) fn flush<D: Stoppable + Drop>(
+    world: &mut World<D>,
+    alloc: Global,
+    node: u16,
+) -> Result<Reply, AllocError>
+    ensures follows { IfOk result (λ reply. FollowsAll D.Area world.old (FlushStep node) reply world.new) }
+    ensures memory { OnErr result ⊥ }
+{
+    for _ in 0..FLUSH_STEPS {
+        match world.step(alloc, &Event::FlushStep { node })? {
+            Reply::Stepped(_) => {}
+            reply => return Ok(reply),
+        }
+    }
+    world.step(alloc, &Event::FlushStep { node })
+}
+
+/// The steps of a recovery, up to the one that is answered otherwise than that more are to come.
+pub(crate) fn recover<D: Stoppable + Drop>(
+    world: &mut World<D>,
+    alloc: Global,
+) -> Result<Reply, AllocError>
+    ensures follows { IfOk result (λ reply. FollowsAll D.Area world.old RecoverStep reply world.new) }
+    ensures refused { IfOk result (λ reply. RefusesAll D.Area world.old reply) }
+    ensures memory { OnErr result (AsksFor D.Area world.old Recover) }
+{
+    for _ in 0..RECOVERY_STEPS {
+        match world.step(alloc, &Event::RecoverStep)? {
+            Reply::Stepped(_) => {}
+            reply => return Ok(reply),
+        }
+    }
+    world.step(alloc, &Event::RecoverStep)
+}
