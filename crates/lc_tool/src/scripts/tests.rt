@@ -633,7 +633,7 @@ const COMMIT: &str = "begin 0 0 1\nrange 0 0 1 3 5\nwrite 0 0 1 3 68656c6c6f\nen
 
 const COMMITTED: &str = "ok\nok\nok\nclosed 0 8\n";
 
-// The lines of a page that begins with row 1's bytes, or is zeros.
+// The lines of a page that begins with these sixteen bytes, or is zeros.
 fn page_text(rt: &(impl Abort + AllocGlobal), first: &str) -> Result<String, Fail> {
     let mut text = first.to_string(rt.alloc())?;
     for _ in 0..15 {
