@@ -596,13 +596,13 @@ fn areas_of_another_store(rt: HostRuntime) -> Result<(), Fail> {
 // What a script prints on a new store of which one call of the log's device fails.
 fn check_fused(
     rt: &(impl Abort + AllocGlobal),
-    fails_at: u64,
+    fails_at: u8,
     script: &[u8],
     want: &str,
     want_status: u8,
 ) -> Result<(), Fail> {
     let alloc = rt.alloc();
-    let log = Fuse::new(MemArea::new(alloc, 520)?, When::At(fails_at));
+    let log = Fuse::new(MemArea::new(alloc, 520)?, When::At(u64::from(fails_at)));
     let pages = Fuse::new(MemArea::new(alloc, 544)?, When::At(0));
     let areas = vec![in alloc; log, pages]?;
     check_areas(rt, ONE, areas, script, want, want_status)
