@@ -3,7 +3,7 @@ use Rattle.std.specs.Prelude.{◌≡◌, ◌↔◌, ℕ, ◌+◌, ◌-◌, ◌^�
 use Rattle.lc_disk.specs.declared.fuse.Fuse.{Fuse}
 use Rattle.lc_disk.specs.declared.mem_area.MemArea.{MemArea}
 use Rattle.lc_disk.specs.declared.when.When.{When}
-use Rattle.lc_disk.specs.Failures.{failure_count}
+use Rattle.lc_disk.specs.FaultCount.{fault_count}
 use Rattle.lc_disk.specs.When.{Fails}
 
 -- its area
@@ -20,7 +20,7 @@ fuse_calls f = f.calls
 
 -- how many of them failed
 abbrev pub fuse_failures : Fuse → ℕ
-fuse_failures f = failure_count f.failures
+fuse_failures f = fault_count f.faults
 
 -- a call was counted, and failed or not as it was told to
 pub record IsCounted (old new : Fuse) (failed : Bool) : Type 0 where

@@ -1,11 +1,11 @@
 //! An area in memory of which chosen calls fail.
-ghost use Rattle.std.specs.Prelude.{◌≡◌, ◌+◌, ◌-◌, ◌<◌, ◌≤◌, ◌^◌, ◌↔◌, ℕ, true, false, length, min, take, drop, Err, OnOk, OnErr, is_ok, not, slice_index_or};
+ghost use Rattle.std.specs.Prelude.{◌≡◌, ◌+◌, ◌<◌, ◌≤◌, ℕ, true, false, length, take, drop, Err, OnOk, OnErr, is_ok, not, slice_index_or};
 ghost use Rattle.lc_disk.specs.Area.{IsImage, IsSameOutside, BecomeDirty, overlaid};
-ghost use Rattle.lc_disk.specs.Failures.{failure_count};
+ghost use Rattle.lc_disk.specs.FaultCount.{fault_count};
 ghost use Rattle.lc_disk.specs.Stop.{left_by_stop};
 ghost use Rattle.lc_disk.specs.When.{IsCountable};
 
-use crate::failures::Failures;
+use crate::fault_count::FaultCount;
 use crate::{Area, Choice, DeviceFault, MemArea, Stoppable, When};
 
 /// An area in memory, always honest, that counts the calls `read`, `write_at` and `sync` from 1 and fails those that
@@ -16,11 +16,9 @@ pub struct Fuse {
     area: MemArea,
     when: When,
     calls: u64,
-    // How many calls failed, at most 2^64 - 1.
-    faults: u64,
-    failures: Failures,
+    // How many calls failed.
+    faults: FaultCount,
     ghost countable: { IsCountable when },
-    ghost counted: { faults ≡ min (failure_count failures) (2 ^ 64 - 1) },
 }
 
 impl Fuse {
@@ -38,8 +36,7 @@ impl Fuse {
             area,
             when,
             calls: 0,
-            faults: 0,
-            failures: Failures::none(),
+            faults: FaultCount::none(),
         }
     }
 
@@ -58,8 +55,7 @@ impl Fuse {
         self.calls = self.calls.saturating_add(1);
         let fails = self.when.fails(self.calls);
         if fails {
-            self.faults = self.faults.saturating_add(1);
-            self.failures.count();
+            self.faults.count();
         }
         fails
     }
@@ -73,7 +69,7 @@ impl Area for Fuse {
 
     ghost dirty = { λ f. memory_dirty f.area };
 
-    ghost failures = { λ f. failure_count f.failures };
+    ghost failures = { λ f. fault_count f.faults };
 
     ghost honest = { λ f. true };
 
@@ -125,7 +121,7 @@ impl Area for Fuse {
     }
 
     fn faults(&self) -> u64 {
-        self.faults
+        self.faults.shown()
     }
 }
 

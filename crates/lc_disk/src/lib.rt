@@ -5,18 +5,23 @@ mod area;
 mod choice;
 mod device_fault;
 mod failures;
+mod fault_count;
+mod file_area;
 mod fuse;
 mod laws;
 mod mem_area;
+mod open_fault;
 mod stoppable;
 mod when;
 
 pub use area::Area;
 pub use choice::Choice;
 pub use device_fault::DeviceFault;
+pub use file_area::FileArea;
 pub use fuse::Fuse;
 pub use laws::{clean_image, image_of_image, images_kept, reads_as_image};
 pub use mem_area::MemArea;
+pub use open_fault::OpenFault;
 pub use stoppable::Stoppable;
 pub use when::When;
 

@@ -1,0 +1,12 @@
+-- An area over a file, as contracts see it.
+use Rattle.std.specs.Prelude.{ℕ}
+use Rattle.lc_disk.specs.declared.file_area.FileArea.{FileArea}
+use Rattle.lc_disk.specs.FaultCount.{fault_count}
+
+-- its length
+abbrev pub file_len : {F : Type 0} → FileArea F → ℕ
+file_len a = a.len
+
+-- how often it failed
+abbrev pub file_failures : {F : Type 0} → FileArea F → ℕ
+file_failures a = fault_count a.faults
