@@ -40,20 +40,9 @@ impl<F: FileExt + OpenFile + Drop> FileArea<F> {
         ensures failures { IfOk result (λ area. file_failures area ≡ 0) }
         ensures exists { result ≢ Err OpenFault.Exists }
     {
-        // What is no regular file is not even opened: a pipe without a reader would block.
-        if !fs::metadata(rt, path).map_err(not_opened)?.is_file() {
-            return Err(OpenFault::NotOpened);
-        }
-        let file = OpenOptions::new()
-            .read(true)
-            .write(true)
-            .open(rt, path)
-            .map_err(not_opened)?;
-        let metadata = file.metadata().map_err(not_opened)?;
-        if !metadata.is_file() {
-            return Err(OpenFault::NotOpened);
-        }
-        let Ok(len) = usize::try_from(metadata.len()) else {
+        let mut options = OpenOptions::new();
+        let (file, len) = open_regular(rt, options.read(true).write(true), path)?;
+        let Ok(len) = usize::try_from(len) else {
             return Err(OpenFault::NotOpened);
         };
         Ok(FileArea::over(file, len))
@@ -86,7 +75,7 @@ impl<F: FileExt + OpenFile + Drop> FileArea<F> {
     }
 
     // A file of this length, which has not failed yet.
-    fn over(file: F, len: usize) -> FileArea<F>
+    pub(crate) fn over(file: F, len: usize) -> FileArea<F>
         ensures len { file_len result ≡ len }
         ensures failures { file_failures result ≡ 0 }
     {
@@ -111,6 +100,31 @@ impl<F: FileExt + OpenFile + Drop> FileArea<F> {
             }
         }
     }
+}
+
+/// The regular file at this path, opened so, and how many bytes it has now. What is no regular file is not even opened: a
+/// pipe without a writer would wait. This project's own.
+///
+/// # Errors
+///
+/// `NotOpened` where there is no regular file that can be opened so; `NoMemory` where the system has none.
+pub fn open_regular<R: Files>(
+    rt: &R,
+    options: &OpenOptions,
+    path: &str,
+) -> Result<(R::File, u64), OpenFault>
+    ensures exists { result ≢ Err OpenFault.Exists }
+{
+    if !fs::metadata(rt, path).map_err(not_opened)?.is_file() {
+        return Err(OpenFault::NotOpened);
+    }
+    let file = options.open(rt, path).map_err(not_opened)?;
+    let metadata = file.metadata().map_err(not_opened)?;
+    if !metadata.is_file() {
+        return Err(OpenFault::NotOpened);
+    }
+    let len = metadata.len();
+    Ok((file, len))
 }
 
 // Zeros from the front of a file on.

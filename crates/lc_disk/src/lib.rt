@@ -17,7 +17,7 @@ mod when;
 pub use area::Area;
 pub use choice::Choice;
 pub use device_fault::DeviceFault;
-pub use file_area::FileArea;
+pub use file_area::{FileArea, open_regular};
 pub use fuse::Fuse;
 pub use laws::{clean_image, image_of_image, images_kept, reads_as_image};
 pub use mem_area::MemArea;
@@ -25,5 +25,9 @@ pub use open_fault::OpenFault;
 pub use stoppable::Stoppable;
 pub use when::When;
 
+#[cfg(test)]
+mod fake_file;
+#[cfg(test)]
+mod file_tests;
 #[cfg(test)]
 mod tests;

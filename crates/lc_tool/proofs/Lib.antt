@@ -22,3 +22,4 @@ mod OptionNumbers
 mod OptionRows
 mod RunWords
 mod Asking
+pub mod FilesMade

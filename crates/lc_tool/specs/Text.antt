@@ -97,6 +97,9 @@ too_long_text = codes "script too long\n"
 abbrev pub no_memory_text : List ℕ
 no_memory_text = codes "refused NoMemory\n"
 
+abbrev pub exists_text : List ℕ
+exists_text = codes "refused Exists\n"
+
 -- Logs and pages
 
 -- the bytes of a word, the lowest first

@@ -95,7 +95,7 @@ fn open<D: Stoppable + Drop, W: Write>(
 }
 
 // Writes that an area is not one of the geometry, and gives the status.
-fn bad_geometry<W: Write>(writer: &mut W, area: u32) -> Result<u8, ToolFault>
+pub(crate) fn bad_geometry<W: Write>(writer: &mut W, area: u32) -> Result<u8, ToolFault>
     ensures shown { IfOk result (λ status. (status ≡ 1) × Appends (W.contents writer.old) (W.contents writer.new) (refusal_text (BadGeometry area))) }
     ensures memory { result ≢ Err ToolFault.NoMemory }
 {
@@ -162,8 +162,26 @@ fn status_of(refused: bool) -> u8
     if refused { REFUSED } else { DONE }
 }
 
-// One line.
+// One line, of which all that is printed has gone out before the next is begun.
 fn run_line<D: Stoppable + Drop, W: Write>(
+    alloc: Global,
+    world: &mut World<D>,
+    line: &[u8],
+    number: u64,
+    writer: &mut W,
+) -> Result<Outcome, ToolFault>
+    ensures leaves { IfOk result (λ outcome. LeavesLine D.Area world.old line.now number (W.contents writer.old) (W.contents writer.new) outcome world.new) }
+    ensures memory { result ≢ Err ToolFault.NoMemory }
+{
+    let outcome = do_line(alloc, world, line, number, writer)?;
+    match writer.flush() {
+        Ok(()) => Ok(outcome),
+        Err(_) => Err(ToolFault::Write),
+    }
+}
+
+// One line.
+fn do_line<D: Stoppable + Drop, W: Write>(
     alloc: Global,
     world: &mut World<D>,
     line: &[u8],
@@ -193,7 +211,7 @@ fn run_line<D: Stoppable + Drop, W: Write>(
 }
 
 // The line that tells of want of memory, and its status.
-fn no_memory<W: Write>(writer: &mut W) -> Result<u8, ToolFault>
+pub(crate) fn no_memory<W: Write>(writer: &mut W) -> Result<u8, ToolFault>
     ensures shown { IfOk result (λ status. (status ≡ 1) × Appends (W.contents writer.old) (W.contents writer.new) no_memory_text) }
     ensures memory { result ≢ Err ToolFault.NoMemory }
 {

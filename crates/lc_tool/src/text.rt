@@ -1,7 +1,7 @@
 //! Lines of words and numbers.
 ghost use Rattle.std.specs.Prelude.{OnOk};
 ghost use Rattle.std.specs.Io.KnownBytes.{Appends};
-ghost use Rattle.lc_tool.specs.Text.{line, closed_text, not_understood_text, too_long_text, no_memory_text};
+ghost use Rattle.lc_tool.specs.Text.{line, closed_text, not_understood_text, too_long_text, no_memory_text, exists_text};
 
 use std::io;
 
@@ -43,4 +43,11 @@ pub fn write_no_memory<W: io::Write>(writer: &mut W) -> io::Result<()>
     ensures { OnOk result (Appends (W.contents writer.old) (W.contents writer.new) no_memory_text) }
 {
     writer.write_all(b"refused NoMemory\n")
+}
+
+/// Writes that a file of the store is there already.
+pub fn write_exists<W: io::Write>(writer: &mut W) -> io::Result<()>
+    ensures { OnOk result (Appends (W.contents writer.old) (W.contents writer.new) exists_text) }
+{
+    writer.write_all(b"refused Exists\n")
 }

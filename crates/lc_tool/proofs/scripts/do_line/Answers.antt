@@ -1,7 +1,7 @@
 use Rattle.std.proofs.Common.{◌∙◌, refl, sym, ap, inl, inr, Err}
 use Rattle.lc_tool.specs.Text.{no_memory_text}
 use Rattle.lc_tool.proofs.ScriptLemmas.{keeps_then}
-use Rattle.lc_tool.proofs.scripts.run_line.Goals as goal
+use Rattle.lc_tool.proofs.scripts.do_line.Goals as goal
 
 pub returns-in_ok-no_memory-in-Err-NoMemory-clause-leaves : goal.returns-in_ok-no_memory-in-Err-NoMemory-clause-leaves
 returns-in_ok-no_memory-in-Err-NoMemory-clause-leaves g c = λ m s x h.

@@ -1,0 +1,88 @@
+//! A file in memory, whose calls may be short, interrupted or fail.
+use std::cell::Cell;
+use std::fs::{Metadata, OpenFile};
+use std::io::{self, Error, ErrorKind};
+use std::os::unix::fs::FileExt;
+
+/// What a file does at its calls.
+#[derive(Clone, Copy, PartialEq, Eq)]
+pub(crate) enum Manner {
+    /// Each call moves one byte, and every second one is interrupted.
+    Slow,
+    /// The call of this number, from 1, fails; the others do all.
+    Fails(u32),
+    /// No byte can be read or written.
+    Ends,
+}
+
+/// A file of eight bytes.
+#[derive(Drop)]
+pub(crate) struct FakeFile {
+    bytes: Cell<[u8; 8]>,
+    manner: Manner,
+    calls: Cell<u32>,
+}
+
+impl FakeFile {
+    /// Zeros.
+    pub(crate) fn new(manner: Manner) -> FakeFile {
+        FakeFile {
+            bytes: Cell::new([0; 8]),
+            manner,
+            calls: Cell::new(0),
+        }
+    }
+
+    // How many bytes of so many a call may move.
+    fn allowed(&self, len: usize) -> io::Result<usize> {
+        let call = self.calls.get().wrapping_add(1);
+        self.calls.set(call);
+        match self.manner {
+            Manner::Slow if call % 2 == 0 => Err(Error::from(ErrorKind::Interrupted)),
+            Manner::Slow => Ok(len.min(1)),
+            Manner::Fails(failing) if call == failing => Err(Error::from(ErrorKind::Other)),
+            Manner::Fails(_) => Ok(len),
+            Manner::Ends => Ok(0),
+        }
+    }
+}
+
+impl FileExt for FakeFile {
+    fn read_at(&self, buf: &mut [u8], offset: u64) -> io::Result<usize> {
+        let allowed = self.allowed(buf.len())?;
+        let bytes = self.bytes.get();
+        let at = bytes.len().min(offset as usize);
+        let moved = allowed.min(bytes.len() - at).min(buf.len());
+        buf[..moved].copy_from_slice(&bytes[at..at + moved]);
+        Ok(moved)
+    }
+
+    fn write_at(&self, buf: &[u8], offset: u64) -> io::Result<usize> {
+        let allowed = self.allowed(buf.len())?;
+        let mut bytes = self.bytes.get();
+        let at = bytes.len().min(offset as usize);
+        let moved = allowed.min(bytes.len() - at).min(buf.len());
+        bytes[at..at + moved].copy_from_slice(&buf[..moved]);
+        self.bytes.set(bytes);
+        Ok(moved)
+    }
+}
+
+impl OpenFile for FakeFile {
+    fn metadata(&self) -> io::Result<Metadata> {
+        Ok(Metadata::of_file(8))
+    }
+
+    fn set_len(&self, _size: u64) -> io::Result<()> {
+        Err(Error::from(ErrorKind::Unsupported))
+    }
+
+    fn sync_all(&self) -> io::Result<()> {
+        self.sync_data()
+    }
+
+    fn sync_data(&self) -> io::Result<()> {
+        self.allowed(0)?;
+        Ok(())
+    }
+}

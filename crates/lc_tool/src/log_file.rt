@@ -1,0 +1,98 @@
+//! The inspection of a log's file.
+ghost use Rattle.std.specs.Prelude.{◌≡◌, ◌≢◌, ◌↔◌, ◌⊎◌, IfOk, IfErr, IsTrue};
+ghost use Rattle.std.specs.Io.KnownBytes.{Appends};
+ghost use Rattle.lc_record.specs.Words.{words_of};
+ghost use Rattle.lc_tool.specs.Files.{IsLogLen};
+ghost use Rattle.lc_tool.specs.Inspector.{Inspects};
+ghost use Rattle.lc_tool.specs.Text.{no_memory_text};
+
+use crate::ToolFault;
+use crate::folder::FolderFault;
+use crate::inspector::inspect;
+use crate::making::stopped;
+use crate::scripts::{bad_geometry, no_memory};
+use lc_disk::open_regular;
+use lc_record::Geometry;
+use std::alloc::Global;
+use std::fs::{OpenFile, OpenOptions};
+use std::io::Write;
+use std::os::unix::fs::FileExt;
+use std::rt::Files;
+
+const WORD_BYTES: u64 = 8;
+
+// What a file has.
+enum LogFile {
+    Bytes(Vec<u8>),
+    // It is longer or shorter than any log.
+    OtherLen,
+}
+
+/// Writes a line for each record of the log in a file, the last first where `reverse` is set. The status is 0 where that
+/// is done, 1 where the file has not the length of a log or there was no memory, 3 where it could not be read. The file is
+/// opened for reading alone, and takes memory only where it is as long as a log. An `Err` is a fault of the writer.
+pub fn inspect_file<R: Files, W: Write>(
+    alloc: Global,
+    rt: &R,
+    path: &str,
+    reverse: bool,
+    writer: &mut W,
+) -> Result<u8, ToolFault>
+where
+    R::File: FileExt,
+    ensures memory { result ≢ Err ToolFault.NoMemory }
+    ensures reads { result ≢ Err ToolFault.Read }
+{
+    match read_log(alloc, rt, path) {
+        Ok(LogFile::Bytes(bytes)) => show(alloc, &bytes, reverse, writer),
+        Ok(LogFile::OtherLen) => bad_geometry(writer, 0),
+        Err(fault) => stopped(writer, fault),
+    }
+}
+
+// The bytes of a log's file.
+fn read_log<R: Files>(alloc: Global, rt: &R, path: &str) -> Result<LogFile, FolderFault>
+where
+    R::File: FileExt,
+{
+    let mut options = OpenOptions::new();
+    let (file, len) = open_regular(rt, options.read(true), path)?;
+    if !is_log_len(len) {
+        return Ok(LogFile::OtherLen);
+    }
+    let mut bytes = vec![in alloc; 0; len as usize]?;
+    file.read_exact_at(&mut bytes, 0)?;
+    Ok(LogFile::Bytes(bytes))
+}
+
+// Whether some log is so many bytes long.
+fn is_log_len(len: u64) -> bool
+    ensures { IsTrue result ↔ IsLogLen len }
+{
+    if len % WORD_BYTES != 0 || len / WORD_BYTES == 0 {
+        return false;
+    }
+    let Ok(words) = u32::try_from(len / WORD_BYTES - 1) else {
+        return false;
+    };
+    Geometry::new(1, 1, 1, 1, words).is_some()
+}
+
+// The lines of these bytes, or that of want of memory.
+fn show<W: Write>(
+    alloc: Global,
+    bytes: &[u8],
+    reverse: bool,
+    writer: &mut W,
+) -> Result<u8, ToolFault>
+    ensures shown { IfOk result (λ status.
+        ((status ≡ 0) × Inspects reverse (words_of bytes.now) (W.contents writer.old) (W.contents writer.new))
+        ⊎ ((status ≡ 1) × Appends (W.contents writer.old) (W.contents writer.new) no_memory_text)) }
+    ensures writes { IfErr result (λ fault. fault ≡ ToolFault.Write) }
+{
+    match inspect(alloc, bytes, reverse, writer) {
+        Ok(()) => Ok(0),
+        Err(ToolFault::NoMemory) => no_memory(writer),
+        Err(_) => Err(ToolFault::Write),
+    }
+}
