@@ -20,5 +20,5 @@ mod Beginning
 mod Refusals
 mod OptionNumbers
 mod OptionRows
-mod RunWords
+mod FaultlessWords
 mod Asking
