@@ -1,10 +1,9 @@
 -- What the words ask for.
-use Rattle.std.proofs.Common.{◌≡◌, ◌∙◌, ◌⊎◌, List, [], ◌∷◌, Option, Some, true, refl, sym, ap, ap₂, subst, false, inl, inr, codes}
+use Rattle.std.proofs.Common.{◌≡◌, ◌∙◌, ◌⊎◌, List, [], Option, Some, true, refl, sym, ap, ap₂, subst, false, inl, inr, codes}
 use Rattle.std.specs.Option.{option_map_or}
-use Rattle.clap.specs.Words.{AddsArg, AddsSubcommand, App, Rule, rule_of, shape_of, with_rule, with_subcommand, HasMatchesOf, IsAmong, Row, Text, app_of, fault_of, is_simple, is_simple_and_free, subcommand_of, subcommand_rows_of}
+use Rattle.clap.specs.Words.{AddsArg, AddsSubcommand, App, Rule, rule_of, with_rule, with_subcommand, HasMatchesOf, IsAmong, Row, Text, app_of, fault_of, is_simple, is_simple_and_free, subcommand_of, subcommand_rows_of}
 use Rattle.clap.specs.declared.builder.arg.Arg.{Arg}
 use Rattle.clap.specs.declared.builder.command.Command.{Command}
-use Rattle.clap.specs.declared.builder.command.Command.TheViews.{out-Command as fields_of}
 use Rattle.clap.specs.declared.parser.matches.ArgMatches.{ArgMatches}
 use Rattle.clap.specs.declared.error.kind.ErrorKind.{ErrorKind}
 use Rattle.clap.specs.declared.error.kind.ErrorKind.TheVariants.{DisplayHelp, OutOfMemory}
@@ -12,7 +11,7 @@ use Rattle.clap.proofs.OnLiterals.{clap_on_literals}
 use Rattle.lc_tool.proofs.FaultlessWords.{IsSubcommand, entered_run, entered_init, entered_recover, entered_inspect, faultless_words}
 use Rattle.lc_tool.specs.CommandLine.{HasNumbersAt, HasSizeAt, HasText, HasWord, IsAskedBy, IsCallOf, IsInitOf, IsInspectOf, IsLike, IsReadOf, IsRecoverOf, IsRunOf, options_of, program_app}
 use Rattle.lc_tool.specs.declared.command_line.asked.Asked.{Asked}
-use Rattle.lc_tool.specs.declared.command_line.asked.Asked.TheVariants.{Run, Init, Recover, Inspect, Help, NotUnderstood}
+use Rattle.lc_tool.specs.declared.command_line.asked.Asked.TheVariants.{Run, Init, Recover, Inspect, NotUnderstood}
 
 pub program_is_simple : is_simple program_app ≡ true
 unfolding clap_on_literals

@@ -1,21 +1,20 @@
 -- Words with no fault name one of the subcommands, with a number in its range for each option of a size, and the word
 -- that the subcommand wants.
-use Rattle.std.proofs.Common.{◌≡◌, ◌<◌, ◌^◌, ◌||◌, ◌&&◌, ◌⊎◌, ℕ, Bool, List, [], Option, Some, None, true, false, is_some, refl, sym, ap, cond, inl, inr, codes, nat_lt, arith}
-use Rattle.std.specs.List.{list_all, list_any, slice_index_or}
+use Rattle.std.proofs.Common.{◌≡◌, ◌<◌, ◌^◌, ◌||◌, ◌&&◌, ℕ, Bool, List, [], Option, Some, None, true, false, is_some, refl, sym, cond, inl, inr, codes, arith}
+use Rattle.std.specs.List.{list_any, slice_index_or}
 use Rattle.std.specs.Option.{option_map, option_map_or}
 use Rattle.std.specs.Str.{bytes_eq}
 use Rattle.std.proofs.lemmas.Slice.Eq.{bytes_eq-Decides}
 use Rattle.clap.specs.Facts.{parser_of_value}
 use Rattle.clap.specs.Faults.{entered_fault, level_fault}
 use Rattle.clap.specs.Simple.{App, Shape, argument_words, built, entered, filled, label_of, names_of, new_shape, rows_at, with_index}
-use Rattle.clap.specs.Values.{read_as, reading_of}
 use Rattle.clap.specs.ValueTests.{accepts}
-use Rattle.clap.specs.Walk.{answers_to, arg_by_id, finished, has_row, nothing_held, rows_after, settled, walk, walk_from}
-use Rattle.clap.specs.Words.{Row, Rule, Text, fault_of, one_of, subcommand_of}
+use Rattle.clap.specs.Walk.{answers_to, arg_by_id, finished, nothing_held, rows_after, settled, walk, walk_from}
+use Rattle.clap.specs.Words.{Row, Text, fault_of, subcommand_of}
 use Rattle.clap.specs.declared.builder.value_parser.ValueParser.{ValueParser}
 use Rattle.clap.specs.declared.builder.value_parser.ValueParser.TheVariants as vp
 use Rattle.lc_tool.specs.CommandLine.{HasNumberIn, HasSizeAt, HasWord, from_to, option_rule, program_app, reverse_rule, store_rule, word_rule}
-use Rattle.lc_tool.proofs.OptionRows.{AllFit, AllHold, Fits, IsValueRule, StopsElse, defaults_made, has_default, level_parts, needs_subcommand, nothing_missing, required_has_row, row_read, rows_hold, walk_stops}
+use Rattle.lc_tool.proofs.OptionRows.{AllFit, AllHold, Fits, StopsElse, defaults_made, has_default, level_parts, needs_subcommand, nothing_missing, required_has_row, row_read, rows_hold, walk_stops}
 use Rattle.lc_tool.proofs.OptionNumbers.{in_range}
 
 abbrev program : App
@@ -189,7 +188,7 @@ module _ (s : Shape) (fits : AllFit (taken s) s.rules) where
 
 -- ---- the subcommand that was entered
 
--- the words name this subcommand, with these options
+-- the name and the options of the subcommand
 abbrev Found : Type 0
 Found = Option (Text × List Row)
 
@@ -205,6 +204,7 @@ IsRecover found = (rows : List Row) × (found ≡ Some (codes "recover", rows)) 
 abbrev pub IsInspect : Found → Type 0
 IsInspect found = (rows : List Row) × (found ≡ Some (codes "inspect", rows)) × HasWord (codes "file") rows
 
+-- one of the subcommands, with what it wants
 pub data IsSubcommand (found : Option (Text × List Row)) : Type 0 where
   entered_run : IsRun found → IsSubcommand found
   entered_init : IsInit found → IsSubcommand found

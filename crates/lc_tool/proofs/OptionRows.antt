@@ -1,6 +1,6 @@
 -- The rows of a command after words with no fault: each has a value that its option takes.
-use Rattle.std.proofs.Common.{◌≡◌, ◌⊎◌, eqb-true, ◌&&◌, ◌||◌, ◌==◌, ℕ, Bool, zero, suc, List, [], ◌∷◌, ◌++◌, Option, Some, None, true, false, not, refl, sym, ap, subst, inl, inr, cond, codes, length, drop, is_some, nat_lt, arith}
-use Rattle.std.specs.Prelude.{⊤, encode_utf8, option_and_then, slice_get, find}
+use Rattle.std.proofs.Common.{◌≡◌, ◌⊎◌, ◌&&◌, ◌||◌, ℕ, Bool, zero, suc, List, [], ◌∷◌, ◌++◌, Option, Some, None, true, false, not, refl, sym, ap, subst, inl, inr, cond, codes, length, drop, is_some, nat_lt}
+use Rattle.std.specs.Prelude.{⊤, encode_utf8, slice_get, find}
 use Rattle.std.specs.List.{fold, list_all, list_any}
 use Rattle.std.specs.Option.{option_map_or}
 use Rattle.std.specs.Str.{bytes_eq, chars}
@@ -13,13 +13,12 @@ use Rattle.clap.specs.ValueTests.{accepts}
 use Rattle.clap.specs.Words.{Row, Rule, Text, first_of, one_of}
 use Rattle.clap.specs.Values.{read_as, reading_of}
 use Rattle.clap.specs.Simple.{Shape}
-use Rattle.clap.specs.Walk.{Held, Names, Outcome, Step, Waiting, Walk, action_of, after_flag, after_step, arg_by_id, arg_by_index, arg_by_long, arg_by_short, bundle, default_rows, flag_met, option_word, row_text, subcommand_or_other, to_positional, used_by_id, values_or_missing, at_row, attached_value, bundle_met, bundle_step, done, finished, has_row, idle, is_empty, is_pending, long_met, long_or_other, more_values, most_values, nothing_held, rows_after, next, option, option_met, plain, plain_word, positional, reacted, reading_by, refused, settled, settled_rows, short_met, short_or_plain, subcommand, subcommand_met, takes_values, takes_several, trailing, used, used_as, value, waits, walk, walk_from, walked, walked_from, with_default, with_values, without, word_met}
+use Rattle.clap.specs.Walk.{Held, Names, Outcome, Step, Waiting, Walk, action_of, after_flag, after_step, arg_by_id, arg_by_index, arg_by_long, arg_by_short, bundle, default_rows, flag_met, option_word, subcommand_or_other, to_positional, used_by_id, values_or_missing, at_row, attached_value, bundle_met, bundle_step, done, finished, has_row, idle, is_empty, is_pending, long_met, long_or_other, more_values, most_values, nothing_held, rows_after, next, option, option_met, plain, plain_word, positional, reacted, reading_by, refused, settled, settled_rows, short_met, short_or_plain, subcommand, subcommand_met, takes_values, takes_several, trailing, used, used_as, value, waits, walk, walk_from, walked, walked_from, with_default, with_values, without, word_met}
 use Rattle.clap.specs.Faults.{action_fault, bundle_fault, check_fault, defaults_fault, level_fault, flag_word_fault, values_fault, bundle_step_fault, flags_fault, long_fault, option_fault, other_fault, react_fault, settle_fault, short_fault, step_fault, positional_fault, stray_fault, turn_fault, use_fault, walk_fault, word_fault}
 use Rattle.clap.specs.declared.builder.action.ArgAction.TheVariants.{Help, Set, SetTrue}
-use Rattle.clap.specs.declared.builder.value_parser.Reading.{Reading}
 use Rattle.clap.specs.declared.builder.value_parser.ValueParser.{ValueParser}
 use Rattle.clap.specs.declared.error.kind.ErrorKind.{ErrorKind}
-use Rattle.clap.specs.declared.error.kind.ErrorKind.TheVariants.{DisplayHelp, InvalidSubcommand, InvalidValue, TooManyValues, WrongNumberOfValues}
+use Rattle.clap.specs.declared.error.kind.ErrorKind.TheVariants.{DisplayHelp, InvalidSubcommand, InvalidValue, TooManyValues}
 use Rattle.clap.specs.declared.parser.matches.ValueSource.{ValueSource}
 use Rattle.clap.specs.declared.parser.matches.ValueSource.TheVariants.{CommandLine, DefaultValue}
 use Rattle.clap.proofs.WalkLemmas.{both}
