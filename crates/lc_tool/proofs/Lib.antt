@@ -20,6 +20,6 @@ mod Beginning
 mod Refusals
 mod OptionNumbers
 mod OptionRows
-mod RunWords
+mod FaultlessWords
 mod Asking
 pub mod FilesMade

@@ -1,7 +1,7 @@
--- The rows of a command whose options have one number each, after words with no fault.
-use Rattle.std.proofs.Common.{◌≡◌, ◌⊎◌, eqb-true, ◌&&◌, ◌||◌, ◌==◌, ℕ, Bool, zero, suc, List, [], ◌∷◌, ◌++◌, Option, Some, None, true, false, not, refl, sym, ap, subst, inl, inr, cond, codes, length, drop, is_some, arith}
-use Rattle.std.specs.Prelude.{⊤, encode_utf8, option_and_then, slice_get, find}
-use Rattle.std.specs.List.{fold, list_any}
+-- The rows of a command after words with no fault: each has a value that its option takes.
+use Rattle.std.proofs.Common.{◌≡◌, ◌⊎◌, ◌&&◌, ◌||◌, ℕ, Bool, zero, suc, List, [], ◌∷◌, ◌++◌, Option, Some, None, true, false, not, refl, sym, ap, subst, inl, inr, cond, codes, length, drop, is_some, nat_lt}
+use Rattle.std.specs.Prelude.{⊤, encode_utf8, slice_get, find}
+use Rattle.std.specs.List.{fold, list_all, list_any}
 use Rattle.std.specs.Option.{option_map_or}
 use Rattle.std.specs.Str.{bytes_eq, chars}
 use Rattle.std.proofs.lemmas.Slice.Eq.{bytes_eq-Decides}
@@ -10,15 +10,15 @@ use Rattle.clap.specs.Takes.{is_given}
 use Rattle.clap.specs.Facts.{explicit_source, parser_of_value, unwrap_or_range}
 use Rattle.clap.specs.Kinds.{Kinds, check_kinds, or_else, range_kinds}
 use Rattle.clap.specs.ValueTests.{accepts}
-use Rattle.clap.specs.Words.{Row, Rule, Text, one_of, without_minus}
+use Rattle.clap.specs.Words.{Row, Rule, Text, first_of, one_of}
+use Rattle.clap.specs.Values.{read_as, reading_of}
 use Rattle.clap.specs.Simple.{Shape}
-use Rattle.clap.specs.Walk.{Held, Names, Outcome, Step, Waiting, Walk, action_of, after_flag, after_step, arg_by_id, arg_by_index, arg_by_long, arg_by_short, bundle, default_rows, flag_met, option_word, row_text, subcommand_or_other, to_positional, used_by_id, values_or_missing, at_row, attached_value, bundle_met, bundle_step, done, finished, has_row, idle, is_empty, long_met, long_or_other, more_values, most_values, nothing_held, rows_after, next, option, option_met, plain, plain_word, positional, reacted, reading_by, refused, settled, settled_rows, short_met, short_or_plain, subcommand, subcommand_met, takes_values, trailing, used, used_as, value, waits, walk, walk_from, walked, walked_from, with_default, with_values, without, word_met}
-use Rattle.clap.specs.Faults.{action_fault, bundle_fault, check_fault, defaults_fault, level_fault, flag_word_fault, values_fault, bundle_step_fault, flags_fault, long_fault, option_fault, other_fault, react_fault, settle_fault, short_fault, step_fault, turn_fault, use_fault, walk_fault, word_fault}
-use Rattle.clap.specs.declared.builder.action.ArgAction.TheVariants.{Help, Set}
-use Rattle.clap.specs.declared.builder.value_parser.Reading.TheVariants.{WithoutMinus}
+use Rattle.clap.specs.Walk.{Held, Names, Outcome, Step, Waiting, Walk, action_of, after_flag, after_step, arg_by_id, arg_by_index, arg_by_long, arg_by_short, bundle, default_rows, flag_met, option_word, subcommand_or_other, to_positional, used_by_id, values_or_missing, at_row, attached_value, bundle_met, bundle_step, done, finished, has_row, idle, is_empty, is_pending, long_met, long_or_other, more_values, most_values, nothing_held, rows_after, next, option, option_met, plain, plain_word, positional, reacted, reading_by, refused, settled, settled_rows, short_met, short_or_plain, subcommand, subcommand_met, takes_values, takes_several, trailing, used, used_as, value, waits, walk, walk_from, walked, walked_from, with_default, with_values, without, word_met}
+use Rattle.clap.specs.Faults.{action_fault, bundle_fault, check_fault, defaults_fault, level_fault, flag_word_fault, values_fault, bundle_step_fault, flags_fault, long_fault, option_fault, other_fault, react_fault, settle_fault, short_fault, step_fault, positional_fault, stray_fault, turn_fault, use_fault, walk_fault, word_fault}
+use Rattle.clap.specs.declared.builder.action.ArgAction.TheVariants.{Help, Set, SetTrue}
 use Rattle.clap.specs.declared.builder.value_parser.ValueParser.{ValueParser}
 use Rattle.clap.specs.declared.error.kind.ErrorKind.{ErrorKind}
-use Rattle.clap.specs.declared.error.kind.ErrorKind.TheVariants.{DisplayHelp, InvalidSubcommand, InvalidValue, TooManyValues, WrongNumberOfValues}
+use Rattle.clap.specs.declared.error.kind.ErrorKind.TheVariants.{DisplayHelp, InvalidSubcommand, InvalidValue, TooManyValues}
 use Rattle.clap.specs.declared.parser.matches.ValueSource.{ValueSource}
 use Rattle.clap.specs.declared.parser.matches.ValueSource.TheVariants.{CommandLine, DefaultValue}
 use Rattle.clap.proofs.WalkLemmas.{both}
@@ -155,7 +155,7 @@ module _ (taken : Text → ValueParser) where
     pub first : Text
     pub more : List Text
     pub values : r.values ≡ first ∷ more
-    pub reading : r.reading ≡ WithoutMinus
+    pub reading : r.reading ≡ reading_of (taken r.id)
     pub passes : accepts false (taken r.id) first ≡ true
 
   abbrev pub AllHold : List Row → Type 0
@@ -179,14 +179,14 @@ module _ (taken : Text → ValueParser) where
   without_holds : (id : Text) (rows : List Row) → AllHold rows → AllHold (without id rows)
   without_holds id rows all = at_row_holds id (λ _. []) [] rows (λ r h. tt) tt all
 
-  with_value_holds : (id : Text) (s : ValueSource) (v : Text) (rows : List Row) → accepts false (taken id) v ≡ true → AllHold rows
-      → AllHold (with_values id WithoutMinus s (v ∷ []) rows)
-  with_value_holds id s v rows passed all = at_row_holds id (more_values s (v ∷ [])) _ rows
+  with_values_holds : (id : Text) (s : ValueSource) (v : Text) (vs : List Text) (rows : List Row) → accepts false (taken id) v ≡ true → AllHold rows
+      → AllHold (with_values id (reading_of (taken id)) s (v ∷ vs) rows)
+  with_values_holds id s v vs rows passed all = at_row_holds id (more_values s (v ∷ vs)) _ rows
       (λ r h. (
         record {
           first = h.first;
-          more = h.more ++ v ∷ [];
-          values = ap (λ vs. vs ++ v ∷ []) h.values;
+          more = h.more ++ v ∷ vs;
+          values = ap (λ old. old ++ v ∷ vs) h.values;
           reading = h.reading;
           passes = h.passes;
         },
@@ -194,7 +194,7 @@ module _ (taken : Text → ValueParser) where
       )) (
         record {
           first = v;
-          more = [];
+          more = vs;
           values = refl;
           reading = refl;
           passes = passed;
@@ -202,24 +202,20 @@ module _ (taken : Text → ValueParser) where
         tt,
       ) all
 
-  -- an option of one number, with its default
-  pub record IsNumberRule (a : Rule) : Type 0 where
-    pub action : action_of a ≡ Set
-    pub reading : reading_by a ≡ WithoutMinus
+  -- each use has a value, and that and each default pass
+  pub record IsValueRule (a : Rule) : Type 0 where
+    pub action : (action_of a ≡ Set) ⊎ (action_of a ≡ SetTrue)
     pub parser : parser_of_value a.parser ≡ taken a.id
     pub case : a.ignore_case ≡ false
-    pub least : (unwrap_or_range a.range).start_inclusive ≡ 1
-    pub most : most_values a ≡ 1
-    pub default : Text
-    pub defaults : a.defaults ≡ default ∷ []
-    pub passes : accepts false (taken a.id) default ≡ true
+    pub some : (is_empty a.missing ≡ false) ⊎ (nat_lt 0 (unwrap_or_range a.range).start_inclusive ≡ true)
+    pub defaults : list_all (accepts false (taken a.id)) a.defaults ≡ true
 
   pub record IsHelpRule (a : Rule) : Type 0 where
     pub action : action_of a ≡ Help
     pub defaults : a.defaults ≡ []
 
   abbrev pub Fits : Rule → Type 0
-  Fits a = IsNumberRule a ⊎ IsHelpRule a
+  Fits a = IsValueRule a ⊎ IsHelpRule a
 
   abbrev pub AllFit : List Rule → Type 0
   AllFit [] = ⊤
@@ -233,18 +229,50 @@ module _ (taken : Text → ValueParser) where
       go true is later = let same : x ≡ a = cc in subst Fits same all.0
       go false is later = later is
 
-  one_value : (n : ℕ) → range_kinds 1 1 n ≡ [] → n ≡ 1
-  one_value n e = go (n == 0) (1 == n) refl e
+  -- a use has a value
+  some_value : (a : Rule) → IsValueRule a → (values : List Text)
+      → range_kinds (unwrap_or_range a.range).start_inclusive (most_values a) (length values) ≡ []
+      → (v : Text) × (vs : List Text) × (values_or_missing a values ≡ v ∷ vs)
+  some_value a n (v ∷ vs) range = (v, vs, refl)
+  some_value a n [] range = go n.some
     where
-      go : (a b : Bool) → (1 == n) ≡ b → cond (true && a) (InvalidValue ∷ []) (cond b [] (WrongNumberOfValues ∷ [])) ≡ [] → n ≡ 1
-      go true b is none = cc
-      go false true is none = sym (eqb-true 1 n is)
-      go false false is none = cc
+      missing_is : (ms : List Text) → is_empty ms ≡ false → (v : Text) × (vs : List Text) × (ms ≡ v ∷ vs)
+      missing_is [] none = cc
+      missing_is (m ∷ ms) none = (m, ms, refl)
 
-  value_accepted : (a : Rule) → IsNumberRule a → (v : Text) → values_fault a (v ∷ []) ≡ [] → accepts false (taken a.id) v ≡ true
-  value_accepted a n v none =
+      refuses : nat_lt 0 (unwrap_or_range a.range).start_inclusive ≡ true → ⊥
+      refuses least = let bad : InvalidValue ∷ [] ≡ [] = rw least at range in cc
+
+      go : (is_empty a.missing ≡ false) ⊎ (nat_lt 0 (unwrap_or_range a.range).start_inclusive ≡ true)
+          → (v : Text) × (vs : List Text) × (a.missing ≡ v ∷ vs)
+      go (inl missing) = missing_is a.missing missing
+      go (inr least) = absurd (refuses least)
+
+  -- a use that sets its values passes each
+  set_passes : (a : Rule) → IsValueRule a → (again : Bool) (values : List Text) (rows : List Row) → action_fault (action_of a) again a values rows ≡ []
+      → values_fault a values ≡ []
+  set_passes a n again values rows none = go n.action
+    where
+      go : (action_of a ≡ Set) ⊎ (action_of a ≡ SetTrue) → values_fault a values ≡ []
+      go (inl is) =
+          let acts : action_fault Set again a values rows ≡ [] = rw is at none in
+          (none_both _ _ acts).1
+      go (inr is) =
+          let acts : action_fault SetTrue again a values rows ≡ [] = rw is at none in
+          (none_both _ _ acts).1
+
+  first_accepted : (a : Rule) → IsValueRule a → (v : Text) (vs : List Text) → values_fault a (v ∷ vs) ≡ [] → accepts false (taken a.id) v ≡ true
+  first_accepted a n v vs none =
       let passed = test_passes (accepts a.ignore_case (parser_of_value a.parser) v) _ (none_both _ _ none).0 in
       rw (n.case, n.parser) at passed
+
+  set_holds : (a : Rule) → IsValueRule a → (values : List Text) (rows : List Row)
+      → AllHold (with_values a.id (reading_by a) CommandLine values (without a.id rows)) → AllHold (used_as (action_of a) a.id (reading_by a) values rows)
+  set_holds a n values rows all = go n.action
+    where
+      go : (action_of a ≡ Set) ⊎ (action_of a ≡ SetTrue) → AllHold (used_as (action_of a) a.id (reading_by a) values rows)
+      go (inl is) = subst (λ x. AllHold (used_as x a.id (reading_by a) values rows)) (sym is) all
+      go (inr is) = subst (λ x. AllHold (used_as x a.id (reading_by a) values rows)) (sym is) all
 
   used_holds : (again : Bool) (a : Rule) (values : List Text) (rows : List Row) → Fits a → use_fault again a values rows ≡ [] → AllHold rows
       → AllHold (used a values rows)
@@ -253,19 +281,12 @@ module _ (taken : Text → ValueParser) where
   used_holds again a values rows (inl n) none all =
       let parts = none_both (range_kinds (unwrap_or_range a.range).start_inclusive (most_values a) (length values))
       (action_fault (action_of a) again a (values_or_missing a values) rows) none in
-      let range : range_kinds 1 1 (length values) ≡ [] = rw (n.least, n.most) at parts.0 in
-      let acts : action_fault Set again a (values_or_missing a values) rows ≡ [] = rw n.action at parts.1 in
-      subst (λ x. AllHold (used_as x a.id (reading_by a) (values_or_missing a values) rows)) (sym n.action)
-      (go values (one_value (length values) range) acts)
-    where
-      go : (vs : List Text) → length vs ≡ 1 → action_fault Set again a (values_or_missing a vs) rows ≡ []
-          → AllHold (with_values a.id (reading_by a) CommandLine (values_or_missing a vs) (without a.id rows))
-      go [] one acts = absurd (omega arith)
-      go (v ∷ w ∷ vs) one acts = absurd (omega arith)
-      go (v ∷ []) one acts =
-          let passed = value_accepted a n v (none_both _ _ acts).1 in
-          subst (λ how. AllHold (with_values a.id how CommandLine (v ∷ []) (without a.id rows))) (sym n.reading)
-          (with_value_holds a.id CommandLine v (without a.id rows) passed (without_holds a.id rows all))
+      let some = some_value a n values parts.0 in
+      let passed = first_accepted a n some.0 some.1 (subst (λ vs. values_fault a vs ≡ []) some.2 (set_passes a n again (values_or_missing a values) rows parts.1)) in
+      set_holds a n (values_or_missing a values) rows
+      (subst (λ vs. AllHold (with_values a.id (reading_by a) CommandLine vs (without a.id rows))) (sym some.2)
+      (subst (λ p. AllHold (with_values a.id (reading_of p) CommandLine (some.0 ∷ some.1) (without a.id rows))) (sym n.parser)
+      (with_values_holds a.id CommandLine some.0 some.1 (without a.id rows) passed (without_holds a.id rows all))))
 
   -- ---- one use, of a command with these rules
 
@@ -364,7 +385,7 @@ module _ (taken : Text → ValueParser) where
             let met = bundle c flags h in
             after_flag_holds waiting word met.0 met.1 (bundle_holds (length flags) flags h.skip plain (record h { skip = 0 }) e all)
 
-  module _ (s : Shape) (fit : AllFit s.rules) (no_positional : (i : ℕ) → arg_by_index s.rules i ≡ None) (names : Names) where
+  module _ (s : Shape) (fit : AllFit s.rules) (names : Names) where
     other_holds : (o : Option Text) (waiting : Waiting) (position : ℕ) (word : Text) (h : Held) → other_fault s o word h ≡ [] → AllHold h.rows
         → AllHold (subcommand_or_other s.rules o waiting position word h).0.rows
     other_holds (Some name) waiting position word h none all = all
@@ -380,12 +401,22 @@ module _ (taken : Text → ValueParser) where
     word_holds true waiting position word h none all = all
     word_holds false waiting position word h none all = other_holds (subcommand_met names waiting word) waiting position word h none all
 
-    step_holds : (word : Text) (w : Walk) (h : Held) (step : Step) → AllHold h.rows → AllHold (after_step s.rules word w h step).held.rows
-    step_holds word w h (next waiting) all = all
-    step_holds word w h (trailing position) all = all
-    step_holds word w h (subcommand name) all = all
-    step_holds word w h value all =
-        subst (λ o. AllHold (to_positional s.rules o word w h).held.rows) (sym (no_positional w.position)) all
+    step_holds : (word : Text) (w : Walk) (h : Held) (step : Step) → step_fault s w.position h step ≡ [] → AllHold h.rows
+        → AllHold (after_step s.rules word w h step).held.rows
+    step_holds word w h (next waiting) none all = all
+    step_holds word w h (trailing position) none all = all
+    step_holds word w h (subcommand name) none all = all
+    step_holds word w h value none all = go (arg_by_index s.rules w.position) none
+      where
+        held : (a : Rule) (b : Bool) → cond b [] (settle_fault s.rules s.args_override_self h) ≡ []
+            → AllHold (cond b h (settled s.rules h)).rows
+        held a true e = all
+        held a false e = settled_holds s.rules fit s.args_override_self h e all
+
+        go : (o : Option Rule) → option_map_or (λ a. positional_fault s.rules s.args_override_self a h) o (stray_fault s) ≡ []
+            → AllHold (to_positional s.rules o word w h).held.rows
+        go None e = all
+        go (Some a) e = held a (is_pending a h.pending && takes_several a) e
 
     turn_holds : (w : Walk) (word : Text) → turn_fault s names w word ≡ [] → AllHold w.held.rows → AllHold (walked s.rules names w word).held.rows
     unfolding walked
@@ -398,7 +429,9 @@ module _ (taken : Text → ValueParser) where
             → cond (is_some o) [] (or_else (word_fault s names w.is_trailing w.waiting word w.held) (step_fault s w.position met.0 met.1)) ≡ []
             → AllHold (walked_from s.rules names o w word).held.rows
         go (Some p) e = all
-        go None e = step_holds word w met.0 met.1 (word_holds w.is_trailing w.waiting w.position word w.held (none_both _ _ e).0 all)
+        go None e =
+            let parts = none_both _ _ e in
+            step_holds word w met.0 met.1 parts.1 (word_holds w.is_trailing w.waiting w.position word w.held parts.0 all)
 
     walk_holds : (words : List Text) (w : Walk) → walk_fault s names w words ≡ [] → AllHold w.held.rows → AllHold (fold (walked s.rules names) w words).held.rows
     unfolding walk_fault
@@ -407,42 +440,64 @@ module _ (taken : Text → ValueParser) where
         let parts = none_both _ _ none in
         walk_holds words (walked s.rules names w word) parts.1 (turn_holds w word parts.0 all)
 
+  default_rows_hold : (a : Rule) (ds : List Text) (rows : List Row) → parser_of_value a.parser ≡ taken a.id → list_all (accepts false (taken a.id)) ds ≡ true
+      → AllHold rows → AllHold (default_rows a.id (reading_by a) ds rows)
+  default_rows_hold a [] rows is passed all = all
+  default_rows_hold a (d ∷ ds) rows is passed all =
+      subst (λ p. AllHold (with_values a.id (reading_of p) DefaultValue (d ∷ ds) rows)) (sym is)
+      (with_values_holds a.id DefaultValue d ds rows (both _ _ passed).0 all)
+
   default_holds : (rows : List Row) (a : Rule) → Fits a → AllHold rows → AllHold (with_default rows a)
   default_holds rows a fits all = go (has_row a.id rows) fits
     where
       go : (b : Bool) → Fits a → AllHold (cond b rows (default_rows a.id (reading_by a) a.defaults rows))
       go true f = all
-      go false (inl n) = rw (n.defaults, n.reading) (with_value_holds a.id DefaultValue n.default rows n.passes all)
+      go false (inl n) = default_rows_hold a a.defaults rows n.parser n.defaults all
       go false (inr help) = rw help.defaults all
 
   defaults_hold : (xs : List Rule) (rows : List Row) → AllFit xs → AllHold rows → AllHold (fold with_default rows xs)
   defaults_hold [] rows fit all = all
   defaults_hold (a ∷ xs) rows fit all = defaults_hold xs (with_default rows a) fit.1 (default_holds rows a fit.0 all)
 
-  -- the rows of a command with no positional, after words with no fault
-  pub rows_hold : (s : Shape) (words : List Text) → AllFit s.rules → ((i : ℕ) → arg_by_index s.rules i ≡ None)
-      → level_fault s [] nothing_held words false [] ≡ [] → AllHold (rows_after s.rules [] words)
-  rows_hold s words fit no_positional none =
+  -- the rows of a command after words with no fault
+  pub rows_hold : (s : Shape) (words : List Text) → AllFit s.rules → level_fault s [] nothing_held words false [] ≡ []
+      → AllHold (rows_after s.rules [] words)
+  rows_hold s words fit none =
       let parts = level_parts s [] nothing_held words false [] none in
       let end = (walk s.rules [] nothing_held words).held in
       defaults_hold s.rules (settled s.rules end).rows fit
       (settled_holds s.rules fit s.args_override_self end parts.2
-      (walk_holds s fit no_positional [] words (walk_from nothing_held) parts.0 tt))
+      (walk_holds s fit [] words (walk_from nothing_held) parts.0 tt))
 
-  -- the value that is read of a row
-  pub row_read : (id : Text) (rows : List Row) → has_row id rows ≡ true → AllHold rows
-      → (v : Text) × (one_of id rows ≡ Some (without_minus v)) × (accepts false (taken id) v ≡ true)
+  -- what is read of a row
+  pub record IsRowOf (id : Text) (rows : List Row) : Type 0 where
+    pub value : Text
+    pub first : first_of id rows ≡ Some value
+    pub one : one_of id rows ≡ Some (read_as (reading_of (taken id)) value)
+    pub passes : accepts false (taken id) value ≡ true
+
+  pub row_read : (id : Text) (rows : List Row) → has_row id rows ≡ true → AllHold rows → IsRowOf id rows
   row_read id [] has all = cc
   row_read id (r ∷ rs) has all = go (bytes_eq r.id id) refl has (λ e. row_read id rs e all.1)
     where
-      go : (b : Bool) → bytes_eq r.id id ≡ b → (b || has_row id rs) ≡ true
-          → (has_row id rs ≡ true → (v : Text) × (one_of id rs ≡ Some (without_minus v)) × (accepts false (taken id) v ≡ true))
-          → (v : Text) × (option_and_then row_text (cond b (Some r) (find (λ x. bytes_eq x.id id) rs)) ≡ Some (without_minus v)) × (accepts false (taken id) v ≡ true)
-      go false is e later = later e
+      go : (b : Bool) → bytes_eq r.id id ≡ b → (b || has_row id rs) ≡ true → (has_row id rs ≡ true → IsRowOf id rs) → IsRowOf id (r ∷ rs)
+      go false is e later =
+          let l = later e in
+          record {
+            value = l.value;
+            first = rw is l.first;
+            one = rw is l.one;
+            passes = l.passes;
+          }
       go true is e later =
           let h = all.0 in
           let same : r.id ≡ id = (bytes_eq-Decides r.id id).0 is in
-          (h.first, rw (h.values, h.reading) refl, subst (λ i. accepts false (taken i) h.first ≡ true) same h.passes)
+          record {
+            value = h.first;
+            first = rw (is, h.values) refl;
+            one = rw (is, h.values, h.reading, same) refl;
+            passes = subst (λ i. accepts false (taken i) h.first ≡ true) same h.passes;
+          }
 
 -- ---- every option has a row
 
@@ -505,3 +560,51 @@ defaults_made id (a ∷ xs) rows e = go (has_default id a) refl e (λ rest. defa
         let parts = both _ _ is in
         let same : a.id ≡ id = (bytes_eq-Decides a.id id).0 parts.0 in
         defaults_kept id xs (with_default rows a) (subst (λ i. has_row i (with_default rows a) ≡ true) same (default_made rows a parts.1))
+
+-- ---- what is required has a row
+
+-- the checks at the end pass what is required
+pub nothing_missing : (s : Shape) (rows : List Row) → s.subcommand_negates_reqs ≡ false → check_fault s rows false ≡ []
+    → list_any (λ a. a.required && not (is_given a.id rows)) s.rules ≡ false
+nothing_missing s rows negates none = go (s.arg_required_else_help && not (list_any (λ r. explicit_source r.source) rows)) s.subcommand_required (rw negates at none)
+  where
+    missing : Bool
+    missing = list_any (λ a. a.required && not (is_given a.id rows)) s.rules
+
+    go : (help sub : Bool) → check_kinds help sub (true && missing) ≡ [] → missing ≡ false
+    go true sub e = cc
+    go false true e = cc
+    go false false e = test_fails missing [] _ e
+
+given_has_row : (id : Text) (rows : List Row) → is_given id rows ≡ true → has_row id rows ≡ true
+given_has_row id [] given = cc
+given_has_row id (r ∷ rs) given = go (bytes_eq r.id id) given (λ e. given_has_row id rs e)
+  where
+    go : (b : Bool) → option_map_or (λ x. explicit_source x.source) (cond b (Some r) (find (λ x. bytes_eq x.id id) rs)) false ≡ true
+        → (is_given id rs ≡ true → has_row id rs ≡ true) → (b || has_row id rs) ≡ true
+    go true e later = refl
+    go false e later = later e
+
+neither : (a b : Bool) → (a || b) ≡ false → (a ≡ false) × (b ≡ false)
+neither true b e = cc
+neither false b e = (refl, e)
+
+pub required_has_row : (id : Text) (xs : List Rule) (rows : List Row) → list_any (λ a. bytes_eq a.id id && a.required) xs ≡ true
+    → list_any (λ a. a.required && not (is_given a.id rows)) xs ≡ false → has_row id rows ≡ true
+required_has_row id [] rows some none = cc
+required_has_row id (a ∷ xs) rows some none =
+    go (bytes_eq a.id id && a.required) refl some (neither _ _ none).0 (λ e. required_has_row id xs rows e (neither _ _ none).1)
+  where
+    given : (x y : Bool) → x ≡ true → (x && not y) ≡ false → y ≡ true
+    given true true e n = refl
+    given true false e n = cc
+    given false y e n = cc
+
+    go : (b : Bool) → (bytes_eq a.id id && a.required) ≡ b → (b || list_any (λ x. bytes_eq x.id id && x.required) xs) ≡ true
+        → (a.required && not (is_given a.id rows)) ≡ false
+        → (list_any (λ x. bytes_eq x.id id && x.required) xs ≡ true → has_row id rows ≡ true) → has_row id rows ≡ true
+    go false is e here later = later e
+    go true is e here later =
+        let parts = both _ _ is in
+        let same : a.id ≡ id = (bytes_eq-Decides a.id id).0 parts.0 in
+        given_has_row id rows (subst (λ i. is_given i rows ≡ true) same (given a.required (is_given a.id rows) parts.1 here))

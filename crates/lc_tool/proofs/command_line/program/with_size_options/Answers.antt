@@ -1,16 +1,11 @@
-use Rattle.std.proofs.Common.{◌≡◌, ◌∙◌, ap, ap₂, codes, true}
+use Rattle.std.proofs.Common.{◌≡◌, ◌∙◌, ap, codes}
 use Rattle.std.proofs.lemmas.Result.{IfOk-weaker}
-use Rattle.clap.specs.Simple.{app_of_fields}
-use Rattle.clap.specs.Words.{App, new_app, with_subcommand}
-use Rattle.lc_tool.specs.CommandLine.{from_to, option_rule, run_app}
-use Rattle.lc_tool.proofs.Asking.{IsLike, adds_option}
-use Rattle.lc_tool.proofs.command_line.program.Goals as goal
-
-abbrev needs_subcommand : App → App
-needs_subcommand a = record { top = record a.top { subcommand_required = true }; subs = a.subs }
+use Rattle.lc_tool.specs.CommandLine.{from_to, option_rule}
+use Rattle.lc_tool.proofs.Asking.{adds_option}
+use Rattle.lc_tool.proofs.command_line.program.with_size_options.Goals as goal
 
 pub returns : goal.returns
-returns c =
+returns c = λ app start.
     let nodes_take : c.range-few.result ≡ from_to 1 8 = rw (c.value_parser.ensures, c.new.ensures.start, c.new.ensures.end) at c.range-few.ensures in
     let threads_take : c.range-several.result ≡ from_to 1 16 = rw (c.value_parser-2.ensures, c.new-2.ensures.start, c.new-2.ensures.end) at c.range-several.ensures in
     let segments_take : c.range-several-2.result ≡ from_to 1 16 = rw (c.value_parser-3.ensures, c.new-3.ensures.start, c.new-3.ensures.end) at c.range-several-2.ensures in
@@ -21,13 +16,8 @@ returns c =
     let segments_is = c.option-segments.ensures.rule ∙ ap (option_rule (codes "segments") (codes "1")) segments_take in
     let pages_is = c.option-pages.ensures.rule ∙ ap (option_rule (codes "pages") (codes "1")) pages_take in
     let words_is = c.option-words.ensures.rule ∙ ap (option_rule (codes "words") (codes "64")) words_take in
-    let start : IsLike c.about.result (new_app (codes "run")) =
-    (ap app_of_fields c.about.ensures ∙ c.new-6.ensures.app, ap (λ f. f.has_globals) c.about.ensures ∙ c.new-6.ensures.local) in
     let one = adds_option _ c.in_ok-arg.field-0 _ _ _ c.in_ok-arg.ensures start nodes_is c.option-nodes.ensures.local in
     let two = adds_option _ c.in_ok-arg-2.field-0 _ _ _ c.in_ok-arg-2.ensures one threads_is c.option-threads.ensures.local in
     let three = adds_option _ c.in_ok-arg-3.field-0 _ _ _ c.in_ok-arg-3.ensures two segments_is c.option-segments.ensures.local in
     let four = adds_option _ c.in_ok-arg-4.field-0 _ _ _ c.in_ok-arg-4.ensures three pages_is c.option-pages.ensures.local in
-    let run : IsLike c.in_ok-run.run' run_app = adds_option _ c.in_ok-run.run' _ _ _ c.in_ok-run.ensures four words_is c.option-words.ensures.local in
-    let top_is = ap app_of_fields c.subcommand_required.ensures
-    ∙ ap needs_subcommand (ap app_of_fields c.about-2.ensures ∙ ap app_of_fields c.in_ok-bin_name.ensures.0 ∙ c.new-7.ensures.app) in
-    IfOk-weaker c.subcommand.result _ _ (λ m h. h.shape run.1 ∙ ap₂ with_subcommand top_is (ap (λ (a : App). a.top) run.0)) c.subcommand.ensures
+    IfOk-weaker c.arg-5.result _ _ (λ r added. adds_option _ r _ _ _ added four words_is c.option-words.ensures.local) c.arg-5.ensures

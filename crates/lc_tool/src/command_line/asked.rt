@@ -1,0 +1,40 @@
+//! What a command line asks for.
+
+use lc_record::Geometry;
+
+/// What a command line asks for. Each word is kept as it was written, an empty one too.
+#[derive(Debug, Drop)]
+pub enum Asked {
+    /// A run of the script on standard input: over the store in this folder, or over a new one in memory.
+    Run {
+        /// The numbers of the options, each in its range.
+        geometry: Geometry,
+        /// The word of `--store`, or None where it is not there.
+        store: Option<String>,
+    },
+    /// A new store of this size in this folder.
+    Init {
+        /// The word behind `init`.
+        folder: String,
+        /// The numbers of the options, each in its range.
+        geometry: Geometry,
+    },
+    /// The recovery of the store in this folder, which has this size.
+    Recover {
+        /// The word behind `recover`.
+        folder: String,
+        /// The numbers of the options, each in its range.
+        geometry: Geometry,
+    },
+    /// The records of this log file, the last one first where `reverse` is set.
+    Inspect {
+        /// The word behind `inspect`.
+        file: String,
+        /// Whether `--reverse` is there.
+        reverse: bool,
+    },
+    /// This help.
+    Help(String),
+    /// Nothing that is known.
+    NotUnderstood,
+}
