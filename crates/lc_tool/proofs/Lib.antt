@@ -22,3 +22,5 @@ mod OptionNumbers
 mod OptionRows
 mod RunWords
 mod Asking
+mod Backwards
+mod AreasRecovered

@@ -12,3 +12,4 @@ pub mod Store
 pub mod Fits
 pub mod Outcome
 pub mod CommandLine
+pub mod Recovers

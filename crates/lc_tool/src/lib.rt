@@ -12,6 +12,7 @@ mod lines;
 mod outcome;
 mod parsing;
 mod records;
+mod recovery;
 mod repeating;
 mod replies;
 mod scripts;
@@ -24,6 +25,7 @@ mod zeros;
 
 pub use command_line::{Asked, read_command_line};
 pub use inspector::inspect;
+pub use recovery::recover_areas;
 pub use scripts::run_script;
 pub use tool_fault::ToolFault;
 pub use zeros::zero_areas;
