@@ -22,4 +22,6 @@ mod OptionNumbers
 mod OptionRows
 mod FaultlessWords
 mod Asking
-pub mod FilesMade
+mod FilesMade
+mod Backwards
+mod AreasRecovered

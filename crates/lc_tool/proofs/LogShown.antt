@@ -120,7 +120,7 @@ module _ {D : Type 0} (a : Ghosts D) where
 
     pub inspect_performs : (words : Vec ℕ) (held holds : Option (List ℕ)) → result ≡ Ok words → ((area : D) → log_area a old.phase node ≡ Some area → AreWordsOf a area words.items)
         → ((area : D) → log_area a old.phase node ≡ Some area → ShowRecords a old.phase node words.items)
-        → Inspects (words_of (bytes_of words.items)) held holds → Performs a old (Inspect node) held holds Done new
+        → Inspects false (words_of (bytes_of words.items)) held holds → Performs a old (Inspect node) held holds Done new
     inspect_performs words held holds is are show inspects m s x fits =
         let has = shows_words node old new result told m s x fits words is are show in
         let same : words_of (bytes_of words.items) ≡ joined has.1.records =

@@ -13,3 +13,4 @@ pub mod Fits
 pub mod Outcome
 pub mod CommandLine
 pub mod Files
+pub mod Recovers

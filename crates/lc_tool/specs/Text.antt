@@ -3,7 +3,9 @@ use Rattle.std.specs.Prelude.{ℕ, zero, suc, ◌/◌, ◌%◌, ◌-◌, ◌^◌
 use Rattle.std.specs.List.{join_by}
 use Rattle.std.specs.Fmt.{digit_glyph}
 use Rattle.std.specs.Int.{w64, to_le_bytes}
+use Rattle.lc_record.specs.Marks.{counting}
 use Rattle.lc_record.specs.Record.{record_len}
+use Rattle.lc_record.specs.declared.geometry.Geometry.{Geometry}
 use Rattle.lc_record.specs.declared.record.Record.{Record}
 use Rattle.lc_record.specs.declared.record.Lock.{Lock}
 use Rattle.lc_record.specs.declared.record.RangeData.{RangeData}
@@ -99,6 +101,20 @@ no_memory_text = codes "refused NoMemory\n"
 
 abbrev pub exists_text : List ℕ
 exists_text = codes "refused Exists\n"
+
+-- A recovery on its own
+
+-- a segment and its number
+abbrev pub segment_text : ℕ → ℕ → List ℕ
+segment_text segment number = codes "segment " ++ decimal segment ++ codes " sequence " ++ decimal number ++ codes "\n"
+
+-- each segment in ascending order, with its number
+abbrev pub segments_text : Geometry → (ℕ → ℕ) → List ℕ
+segments_text g numbers = flat_map (λ segment. segment_text segment (numbers segment)) (counting 1 g.segments)
+
+-- and then that the store is recovered
+abbrev pub recovered_text : Geometry → (ℕ → ℕ) → List ℕ
+recovered_text g numbers = segments_text g numbers ++ reply_text Recovered
 
 -- Logs and pages
 

@@ -108,7 +108,7 @@ fn show_records<D: Stoppable + Drop, W: Write>(
         Err(fault) => return show_fault(writer, fault),
     };
     let bytes = log_bytes(alloc, words.as_slice())?;
-    match inspect(alloc, bytes.as_slice(), writer) {
+    match inspect(alloc, bytes.as_slice(), false, writer) {
         Ok(()) => Ok(Verdict::Done),
         Err(ToolFault::NoMemory) => Err(Stop::NoMemory),
         Err(_) => Err(Stop::Write),

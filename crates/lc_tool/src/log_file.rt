@@ -10,7 +10,7 @@ use crate::ToolFault;
 use crate::folder::FolderFault;
 use crate::inspector::inspect;
 use crate::making::stopped;
-use crate::scripts::{bad_geometry, no_memory};
+use crate::scripts::{DONE, bad_geometry, no_memory};
 use lc_disk::open_regular;
 use lc_record::Geometry;
 use std::alloc::Global;
@@ -91,7 +91,7 @@ fn show<W: Write>(
     ensures writes { IfErr result (λ fault. fault ≡ ToolFault.Write) }
 {
     match inspect(alloc, bytes, reverse, writer) {
-        Ok(()) => Ok(0),
+        Ok(()) => Ok(DONE),
         Err(ToolFault::NoMemory) => no_memory(writer),
         Err(_) => Err(ToolFault::Write),
     }

@@ -9,17 +9,12 @@ ghost use Rattle.lc_tool.specs.Store.{Adds};
 use crate::ToolFault;
 use crate::folder::{Folder, FolderFault};
 use crate::replies::write_reply;
+use crate::scripts::{DONE, FAULTED, REFUSED};
 use crate::store_file::StoreFile;
 use crate::text::{write_exists, write_no_memory};
 use lc_core::{Refusal, Reply};
 use lc_record::Geometry;
 use std::io::Write;
-
-const DONE: u8 = 0;
-
-const REFUSED: u8 = 1;
-
-const FAULTED: u8 = 3;
 
 /// Makes the files of a new store in a folder, unless something stands under one of their names: that is looked at of all
 /// before the first is made. The status is 0 where all are made, 1 where one is there or there was no memory, 3 where the

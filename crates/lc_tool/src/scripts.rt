@@ -28,13 +28,13 @@ use std::io::{Read, Write};
 // The bytes of the longest script.
 const LONGEST: usize = 1_048_576;
 
-const DONE: u8 = 0;
+pub(crate) const DONE: u8 = 0;
 
-const REFUSED: u8 = 1;
+pub(crate) const REFUSED: u8 = 1;
 
 const NOT_UNDERSTOOD: u8 = 2;
 
-const FAULTED: u8 = 3;
+pub(crate) const FAULTED: u8 = 3;
 
 /// Runs a script on a store of these areas, once it is recovered, and answers the status: 0 where all was done, 1 where
 /// something was refused or there was no memory, 2 where a line or the script was not understood, 3 where a device

@@ -326,11 +326,11 @@ fn a_writer_that_fails(rt: HostRuntime) -> Result<(), Fail> {
     ];
     for room in [0, 20, 33] {
         assert_eq!(rt;
-            inspect(rt.alloc(), &log, &mut Narrow { room }),
+            inspect(rt.alloc(), &log, false, &mut Narrow { room }),
             Err(ToolFault::Write)
         );
     }
-    assert_eq!(rt; inspect(rt.alloc(), &log, &mut Narrow { room: 34 }), Ok(()));
+    assert_eq!(rt; inspect(rt.alloc(), &log, false, &mut Narrow { room: 34 }), Ok(()));
     Ok(())
 }
 
@@ -368,9 +368,9 @@ fn records_of_bytes(rt: HostRuntime) -> Result<(), Fail> {
         0, 0, 8, 0, 0, 0, 0, 0, 0, 0,
     ];
     let mut text = Vec::new(rt.alloc());
-    inspect(rt.alloc(), &log, &mut text)?;
-    inspect(rt.alloc(), &log[..63], &mut text)?;
-    inspect(rt.alloc(), &log[8..], &mut text)?;
+    inspect(rt.alloc(), &log, false, &mut text)?;
+    inspect(rt.alloc(), &log[..63], false, &mut text)?;
+    inspect(rt.alloc(), &log[8..], false, &mut text)?;
     assert_eq!(rt;
         text.as_slice(),
         b"0 8 node 0 locks 1:1 ranges 1:3+5\n".as_slice()

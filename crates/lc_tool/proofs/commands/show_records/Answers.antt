@@ -1,4 +1,4 @@
-use Rattle.std.proofs.Common.{◌≡◌, ◌∙◌, List, ℕ, ap, subst, Err}
+use Rattle.std.proofs.Common.{◌≡◌, ◌∙◌, List, ℕ, ap, subst, false, Err}
 use Rattle.std.proofs.lemmas.Result.{IfOk-weaker}
 use Rattle.lc_record.specs.Words.{bytes_of, words_of}
 use Rattle.lc_tool.specs.Inspector.{Inspects}
@@ -25,7 +25,7 @@ returns-in-Ok-inspect-clause-done g c =
     let bytes : c.as_slice-2.result.now ≡ bytes_of c.in-Ok.words.items = c.as_slice-2.ensures.value ∙ c.in_ok-bytes.ensures ∙ ap bytes_of c.as_slice.ensures.value in
     inspect_performs g.D.Area c.args.node c.args.world.now c.log_words.new.self c.log_words.result (record { unknown = c.log_words.ensures.unknown; read = c.log_words.ensures.read })
     c.in-Ok.words (g.W.Write.contents c.args.writer.now) (g.W.Write.contents c.inspect.new.writer) c.in-Ok.is c.in-Ok.ensures.words c.in-Ok.ensures.records
-    (subst (λ (l : List ℕ). Inspects (words_of l) (g.W.Write.contents c.args.writer.now) (g.W.Write.contents c.inspect.new.writer)) bytes c.in-Ok-inspect.ensures.shown)
+    (subst (λ (l : List ℕ). Inspects false (words_of l) (g.W.Write.contents c.args.writer.now) (g.W.Write.contents c.inspect.new.writer)) bytes c.in-Ok-inspect.ensures.shown)
 
 pub returns-in-Err-NoMemory-clause-asks : goal.returns-in-Err-NoMemory-clause-asks
 returns-in-Err-NoMemory-clause-asks g c = λ want.
