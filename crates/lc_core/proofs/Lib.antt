@@ -96,3 +96,5 @@ pub mod Paged
 pub mod LogAreas
 pub mod PagesTurned
 pub mod UpPages
+pub mod FewLocked
+pub mod Asking

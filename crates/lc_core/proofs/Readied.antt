@@ -67,20 +67,21 @@ below [] k x is = absurd cc
 below (y ∷ ys) zero x is = omega arith
 below (y ∷ ys) (suc k) x is = (let less : k < length ys = below ys k x is in omega (arith, less))
 
+-- a segment that is here is one of 16
+pub known_here : (here : Here) → vec_len here.slots ≤ 16 → (segment : ℕ) → IsHere the_images here segment → (1 ≤ segment) × (segment ≤ 16)
+known_here here few zero is = absurd cc
+known_here here few (suc k) is = at (slice_get here.slots.items k) refl is
+  where
+    at : (o : Option Slot) → slice_get here.slots.items k ≡ o → IsSome (number_at o) → (1 ≤ suc k) × (suc k ≤ 16)
+    at None same some = absurd cc
+    at (Some slot) same some = (let less : k < length here.slots.items = below here.slots.items k slot same in (omega arith, omega (arith, less, few, here.slots.ok.0)))
+
 pub small_here : (here : Here) (tx : Tx) → RunsOn the_images here tx → vec_len here.slots ≤ 16 → AreShort here → AreSmall the_images here tx.locked.items
 small_here here tx runs few short = record {
-  some = λ segment lock. (known segment (runs.here segment lock)).0;
-  few = λ segment lock. (known segment (runs.here segment lock)).1;
+  some = λ segment lock. (known_here here few segment (runs.here segment lock)).0;
+  few = λ segment lock. (known_here here few segment (runs.here segment lock)).1;
   short = λ segment lock. short segment;
 }
-  where
-    known : (segment : ℕ) → IsHere the_images here segment → (1 ≤ segment) × (segment ≤ 16)
-    known zero is = absurd cc
-    known (suc k) is = at (slice_get here.slots.items k) refl is
-      where
-        at : (o : Option Slot) → slice_get here.slots.items k ≡ o → IsSome (number_at o) → (1 ≤ suc k) × (suc k ≤ 16)
-        at None same some = absurd cc
-        at (Some slot) same some = (let less : k < length here.slots.items = below here.slots.items k slot same in (omega arith, omega (arith, less, few, here.slots.ok.0)))
 
 -- The number of a token counts all that set its segment, where the open transaction has its lock
 

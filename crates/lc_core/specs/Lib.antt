@@ -34,6 +34,8 @@ pub mod Published
 pub mod Trimming
 pub mod Receives
 pub mod Delivers
+pub mod Growing
+pub mod Asks
 pub mod Stepping
 pub mod Stops
 pub mod Runs

@@ -12,6 +12,7 @@ use Rattle.lc_model.specs.declared.event.Event.{Event}
 use Rattle.lc_model.specs.declared.event.Event.TheVariants.{Leave}
 use Rattle.lc_model.specs.declared.reply.Reply.{Reply}
 use Rattle.lc_core.specs.Coherent.{AreCoherent}
+use Rattle.lc_core.specs.Growing.{MayReadSome, MaySetMore}
 use Rattle.lc_core.specs.Log.{is_failed}
 use Rattle.lc_core.specs.Node.{FitsNode}
 use Rattle.lc_core.specs.Numbers.{Numbers}
@@ -19,9 +20,6 @@ use Rattle.lc_core.specs.Prepares.{GetsPlace}
 use Rattle.lc_core.specs.Settled.{Settled, is_writing}
 use Rattle.lc_core.specs.Slots.{FitsToken}
 use Rattle.lc_core.specs.Turns.{Turns}
-use Rattle.lc_range.specs.RangeSet.{MissesSome}
-use Rattle.lc_tx.specs.declared.tx.Tx.{Tx}
-use Rattle.lc_core.specs.declared.seat.Seat.TheVariants.{Open}
 use Rattle.lc_core.specs.declared.node.Node.{Node}
 use Rattle.lc_core.specs.declared.running.Running.{Running}
 
@@ -74,10 +72,15 @@ module _ {D : Type 0} (a : Ghosts D) where
   abbrev pub IsRunning : ℕ → List (Node D a) → Type 0
   IsRunning n nodes = (node : Node D a) → slice_get nodes n ≡ Some node → is_failed a node.journal.log ≡ false
 
-  -- some of these positions is not set yet in the thread's open transaction
+  -- the thread's open transaction at that node may set these positions, of which some is not set yet
   abbrev pub WantsRange : ℕ → ℕ → ℕ → ℕ → ℕ → Running D a → Type 0
   WantsRange n thread segment offset len old =
-      (node : Node D a) (tx : Tx) → slice_get old.nodes.items n ≡ Some node → slice_get node.desk.seats.items thread ≡ Some (Open tx) → MissesSome tx.set segment offset len
+      (node : Node D a) × (slice_get old.nodes.items n ≡ Some node) × MaySetMore thread segment offset len node.desk
+
+  -- it may read these bytes, of which there is one at least
+  abbrev pub WantsBytes : ℕ → ℕ → ℕ → ℕ → ℕ → Running D a → Type 0
+  WantsBytes n thread segment offset len old =
+      (node : Node D a) × (slice_get old.nodes.items n ≡ Some node) × MayReadSome thread segment offset len node.desk
 
   -- the thread's transaction gets its place at that node, in each state and with the numbers that this fits
   abbrev pub WantsPlaceAt : ℕ → ℕ → Running D a → Type 0

@@ -1,18 +1,18 @@
 -- What it is that a running store follows the machine and the numbers, step by step.
-use Rattle.std.specs.Prelude.{◌≡◌, ◌<◌, ◌≤◌, ◌⊎◌, ℕ, Bool, true, false, List, length, Option, is_some}
+use Rattle.std.specs.Prelude.{◌≡◌, ◌≤◌, Bool, true, false, List, Option, None, is_some}
 use Rattle.lc_disk.specs.declared.area.Area.{Ghosts}
 use Rattle.lc_record.specs.declared.geometry.Geometry.{Geometry}
 use Rattle.lc_token.specs.declared.token.Token.{Token}
-use Rattle.lc_tx.specs.Tx.{IsSetOf, none_of}
 use Rattle.lc_model.specs.Machine.{Step}
 use Rattle.lc_model.specs.Refusals.{named}
 use Rattle.lc_model.specs.State.{Setting, State}
 use Rattle.lc_model.specs.declared.event.Event.{Event}
-use Rattle.lc_model.specs.declared.event.Event.TheVariants.{Begin, SetRange, Read, Reserve, Leave, Deliver, PageStep, Stop, RecoverStep}
+use Rattle.lc_model.specs.declared.event.Event.TheVariants.{SetRange, Read, Reserve, Leave, Deliver, PageStep, Stop, RecoverStep}
 use Rattle.lc_model.specs.declared.reply.Reply.{Reply}
 use Rattle.lc_core.specs.Delivers.{WantsPart}
 use Rattle.lc_core.specs.Numbers.{Numbers}
-use Rattle.lc_core.specs.Running.{FitsAll, FitsRunning, WantsPlaceAt, WantsRange}
+use Rattle.lc_core.specs.Refuses.{Refuses}
+use Rattle.lc_core.specs.Running.{FitsAll, FitsRunning, WantsBytes, WantsPlaceAt, WantsRange}
 use Rattle.lc_core.specs.Settled.{Settled, is_writing}
 use Rattle.lc_core.specs.Turns.{Turns}
 use Rattle.lc_core.specs.declared.node.Node.{Node}
@@ -50,12 +50,14 @@ module _ {D : Type 0} (a : Ghosts D) where
       (m : Setting) (s : State) (x : Numbers) → FitsRunning a m old s x → TellsWriting m x event writing
       → StepsOn m event s x reply new.geometry new.nodes.items new.travelling.items
 
-  -- when an event may want memory
+  -- what an event may want memory for
+  abbrev pub Wants : Running D a → Event → Type 0
+  Wants w (SetRange node thread segment offset len) = WantsRange a node thread segment offset len w
+  Wants w (Read node thread segment offset len) = WantsBytes a node thread segment offset len w
+  Wants w (Reserve node thread) = WantsPlaceAt a node thread w
+  Wants w (Deliver sender number segment to) = WantsPart a sender number segment to w
+  Wants w event = ⊥
+
+  -- it does so only where nothing refuses it at once
   abbrev pub AsksMemory : Running D a → Event → Type 0
-  AsksMemory w (Begin node thread segments reading) =
-      ((set : List ℕ) × IsSetOf segments set × (16 < length set)) ⊎ ((set : List ℕ) × IsSetOf (none_of segments reading) set × (16 < length set))
-  AsksMemory w (SetRange node thread segment offset len) = WantsRange a node thread segment offset len w
-  AsksMemory w (Read node thread segment offset len) = 0 < len
-  AsksMemory w (Reserve node thread) = WantsPlaceAt a node thread w
-  AsksMemory w (Deliver sender number segment to) = WantsPart a sender number segment to w
-  AsksMemory w event = ⊥
+  AsksMemory w event = Refuses a w event None × Wants w event

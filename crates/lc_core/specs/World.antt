@@ -11,6 +11,7 @@ use Rattle.lc_model.specs.State.{DownAt, Setting, State}
 use Rattle.lc_model.specs.declared.event.Event.{Event}
 use Rattle.lc_model.specs.declared.event.Event.TheVariants.{RecoverStep}
 use Rattle.lc_model.specs.declared.reply.Reply.{Reply}
+use Rattle.lc_core.specs.Asks.{EventAsks}
 use Rattle.lc_core.specs.Devices.{HonestLogs}
 use Rattle.lc_core.specs.Numbers.{Numbers}
 use Rattle.lc_core.specs.Pages.{FitsPages}
@@ -74,6 +75,10 @@ module _ {D : Type 0} (a : Ghosts D) where
   -- whatever it fitted, it still fits
   abbrev pub StillFitsWorld : World D a → World D a → Type 0
   StillFitsWorld old new = (m : Setting) (s : State) (x : Numbers) → FitsWorld m old s x → FitsWorld m new s x
+
+  -- in whatever state and with the numbers that it fits, the event asks for memory
+  abbrev pub AsksWorld : World D a → Event → Type 0
+  AsksWorld old event = (m : Setting) (s : State) (x : Numbers) → FitsWorld m old s x → EventAsks m s x event
 
   -- a step of a recovery may want memory, and the last of them that of all that comes up
   abbrev pub AsksAtAll : Recovering D → Event → Type 0

@@ -12,7 +12,7 @@ use lc_disk::Stoppable;
 use std::alloc::{AllocError, Global};
 
 impl<D: Stoppable + Drop> World<D> {
-    ghost use Rattle.lc_core.specs.World.{AsksIn, FollowsWorld, StillFitsWorld};
+    ghost use Rattle.lc_core.specs.World.{AsksIn, AsksWorld, FollowsWorld, StillFitsWorld};
     ghost use Rattle.lc_core.specs.Faults.{CountsPhase, phase_failures};
     ghost use Rattle.lc_core.specs.Recovers.{RecoversDown, RefusesAtOnce};
 
@@ -20,13 +20,16 @@ impl<D: Stoppable + Drop> World<D> {
     ///
     /// # Errors
     ///
-    /// Where memory is wanted nothing has changed, and no area was called.
+    /// Memory is wanted only where nothing refuses the event and something grows: for a position more that is set, bytes
+    /// that are read, a record that gets its place, a record that is new to its receiver, and for what a recovery reads,
+    /// merges and brings up. Nothing has changed then, and no area was called.
     pub fn step(&mut self, alloc: Global, event: &Event) -> Result<Reply, AllocError>
         ensures follows { IfOk result (λ reply. FollowsWorld D.Area self.old event.now reply self.new) }
-        ensures memory { OnErr result (AsksIn D.Area self.old.phase event.now) }
+        ensures asks { OnErr result (AsksWorld D.Area self.old event.now) }
         ensures err { OnErr result (StillFitsWorld D.Area self.old self.new) }
 
-        // Whatever the areas hold: what is refused at once, and what a step of a recovery answers.
+        // Whatever the areas hold: what may want memory at all, what is refused at once, and what a step of a recovery answers.
+        ensures memory { OnErr result (AsksIn D.Area self.old.phase event.now) }
         ensures at_once { IfOk result (λ reply. RefusesAtOnce D.Area self.old.phase event.now reply self.new.phase) }
         ensures recovers { event.now ≡ RecoverStep → IfOk result (λ reply. RecoversDown D.Area self.old.phase reply self.new.phase) }
 

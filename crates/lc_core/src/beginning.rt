@@ -1,6 +1,5 @@
 //! How a thread begins.
-ghost use Rattle.std.specs.Prelude.{◌≡◌, ◌<◌, ◌⊎◌, ℕ, List, length, vec_len, IfOk, OnErr, false};
-ghost use Rattle.lc_tx.specs.Tx.{IsSetOf, none_of};
+ghost use Rattle.std.specs.Prelude.{◌≡◌, ◌<◌, ℕ, vec_len, IfOk, OnErr, false};
 ghost use Rattle.lc_model.specs.declared.event.Event.TheVariants.{Begin};
 ghost use Rattle.lc_core.specs.FollowsDesk.{FollowsOpen, StillFits};
 ghost use Rattle.lc_core.specs.Here.{the_images};
@@ -14,8 +13,8 @@ use lc_tx::Tx;
 use std::alloc::{AllocError, Global};
 
 impl Desk {
-    /// A thread begins a transaction: it locks `segments` for writing and `reading` for reading. It takes memory only for
-    /// more than 16 of one kind, and only where all can be locked.
+    /// A thread begins a transaction: it locks `segments` for writing and `reading` for reading. No more than 16 can be
+    /// locked, so it takes no memory.
     pub(crate) fn begin(
         &mut self,
         alloc: Global,
@@ -27,8 +26,7 @@ impl Desk {
         ensures follows { IfOk result (λ reply. (node : ℕ) → FollowsOpen node self.old (Begin node thread segments.now reading.now) reply self.new) }
         ensures beside { the_images.IsSameBeside self.old.here self.new.here }
         ensures err { OnErr result (StillFits self.old self.new) }
-        ensures memory { OnErr result (((set : List ℕ) × IsSetOf segments.now set × (16 < length set))
-            ⊎ ((set : List ℕ) × IsSetOf (none_of segments.now reading.now) set × (16 < length set))) }
+        ensures memory { OnErr result ⊥ }
         ensures seats { vec_len self.new.seats ≡ vec_len self.old.seats }
         ensures answer { IfOk result (λ reply. is_fault reply ≡ false) }
     {

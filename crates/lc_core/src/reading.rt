@@ -2,6 +2,7 @@
 ghost use Rattle.std.specs.Prelude.{◌≡◌, ◌<◌, ℕ, vec_len, IfOk, OnErr, false};
 ghost use Rattle.lc_model.specs.declared.event.Event.TheVariants.{Read};
 ghost use Rattle.lc_core.specs.FollowsDesk.{FollowsOpen, StillFits};
+ghost use Rattle.lc_core.specs.Growing.{MayReadSome};
 ghost use Rattle.lc_core.specs.Here.{the_images};
 ghost use Rattle.lc_core.specs.FaultReplies.{is_fault};
 
@@ -12,7 +13,7 @@ use lc_record::Items;
 use std::alloc::{AllocError, Global};
 
 impl Desk {
-    /// A thread reads bytes of a segment that it locked. No bytes take no memory.
+    /// A thread reads bytes of a segment that it locked. It takes memory only where it is not refused; no bytes take none.
     pub(crate) fn read(
         &mut self,
         alloc: Global,
@@ -25,7 +26,7 @@ impl Desk {
         ensures follows { IfOk result (λ reply. (node : ℕ) → FollowsOpen node self.old (Read node thread segment offset len) reply self.new) }
         ensures beside { the_images.IsSameBeside self.old.here self.new.here }
         ensures err { OnErr result (StillFits self.old self.new) }
-        ensures memory { OnErr result (0 < len) }
+        ensures memory { OnErr result (MayReadSome thread segment offset len self.old) }
         ensures seats { vec_len self.new.seats ≡ vec_len self.old.seats }
         ensures answer { IfOk result (λ reply. is_fault reply ≡ false) }
     {

@@ -1,8 +1,5 @@
 //! The ranges that a thread sets.
-ghost use Rattle.std.specs.Prelude.{◌≡◌, ◌<◌, ℕ, vec_len, Some, slice_get, IfOk, OnErr, false};
-ghost use Rattle.lc_range.specs.RangeSet.{MissesSome};
-ghost use Rattle.lc_tx.specs.declared.tx.Tx.{Tx as Kept};
-ghost use Rattle.lc_core.specs.declared.seat.Seat.TheVariants.{Open};
+ghost use Rattle.std.specs.Prelude.{◌≡◌, ◌<◌, ℕ, vec_len, IfOk, OnErr, false};
 ghost use Rattle.lc_model.specs.declared.event.Event.TheVariants.{SetRange};
 ghost use Rattle.lc_core.specs.Here.{the_images};
 ghost use Rattle.lc_core.specs.FaultReplies.{is_fault};
@@ -15,9 +12,10 @@ use std::alloc::AllocError;
 
 impl Desk {
     ghost use Rattle.lc_core.specs.FollowsDesk.{FollowsOpen, StillFits};
+    ghost use Rattle.lc_core.specs.Growing.{MaySetMore};
 
     /// A thread is about to change `len` bytes of a segment from `offset` on, in its open transaction. It takes memory only
-    /// where a position is not set yet.
+    /// where it is not refused and a position is not set yet.
     pub(crate) fn set_range(
         &mut self,
         thread: u16,
@@ -29,7 +27,7 @@ impl Desk {
         ensures follows { IfOk result (λ reply. (node : ℕ) → FollowsOpen node self.old (SetRange node thread segment offset len) reply self.new) }
         ensures beside { the_images.IsSameBeside self.old.here self.new.here }
         ensures err { OnErr result (StillFits self.old self.new) }
-        ensures memory { OnErr result ((tx : Kept) → slice_get self.old.seats.items thread ≡ Some (Open tx) → MissesSome tx.set segment offset len) }
+        ensures memory { OnErr result (MaySetMore thread segment offset len self.old) }
         ensures seats { vec_len self.new.seats ≡ vec_len self.old.seats }
         ensures answer { IfOk result (λ reply. is_fault reply ≡ false) }
     {

@@ -1,9 +1,8 @@
 //! The events of a store that is up, each by the row of the machine.
-ghost use Rattle.std.specs.Prelude.{◌≡◌, ◌<◌, ◌≤◌, ◌+◌, ◌⊎◌, ℕ, List, length, true, false, not, vec_len, IfOk, OnErr};
-ghost use Rattle.lc_tx.specs.Tx.{IsSetOf, none_of};
+ghost use Rattle.std.specs.Prelude.{◌≡◌, ◌<◌, ◌≤◌, ◌+◌, true, false, not, vec_len, IfOk, OnErr};
 ghost use Rattle.lc_model.specs.Refusals.{is_known};
 ghost use Rattle.lc_model.specs.declared.event.Event.TheVariants.{Abort, Begin, Close, FlushStep, PageStep, Read, Reserve, ResetStep, SetRange, Trim, Write};
-ghost use Rattle.lc_core.specs.Running.{FollowsRow, IsRunning, StillFitsAll, WantsPlaceAt, WantsRange};
+ghost use Rattle.lc_core.specs.Running.{FollowsRow, IsRunning, StillFitsAll, WantsBytes, WantsPlaceAt, WantsRange};
 ghost use Rattle.lc_core.specs.FaultReplies.{is_fault};
 ghost use Rattle.lc_core.specs.Faults.{CountsLogs, SameLogAreas, SameLogs};
 ghost use Rattle.lc_core.specs.Paging.{FollowsPaging};
@@ -17,8 +16,8 @@ use lc_disk::Area;
 use std::alloc::{AllocError, Global};
 
 impl<D: Area + Drop> Running<D> {
-    /// A thread begins a transaction: it locks `segments` for writing and `reading` for reading. It takes memory only for
-    /// more than 16 of one kind, and only where all can be locked.
+    /// A thread begins a transaction: it locks `segments` for writing and `reading` for reading. No more than 16 can be
+    /// locked, so it takes no memory.
     pub(crate) fn begin(
         &mut self,
         alloc: Global,
@@ -29,8 +28,7 @@ impl<D: Area + Drop> Running<D> {
     ) -> Result<Reply, AllocError>
         requires known { is_known self.old.geometry (Begin node thread segments.now reading.now) ≡ true }
         ensures follows { IfOk result (λ reply. FollowsRow D.Area self.old (Begin node thread segments.now reading.now) reply self.new) }
-        ensures memory { OnErr result (((set : List ℕ) × IsSetOf segments.now set × (16 < length set))
-            ⊎ ((set : List ℕ) × IsSetOf (none_of segments.now reading.now) set × (16 < length set))) }
+        ensures memory { OnErr result ⊥ }
         ensures err { OnErr result (StillFitsAll D.Area self.old self.new) }
         ensures answer { IfOk result (λ reply. is_fault reply ≡ false) }
         ensures logs { SameLogs D.Area self.old self.new }
@@ -41,7 +39,7 @@ impl<D: Area + Drop> Running<D> {
     }
 
     /// A thread is about to change `len` bytes of a segment from `offset` on, in its open transaction. It takes memory only
-    /// where a position is not set yet.
+    /// where it is not refused and a position is not set yet.
     pub(crate) fn set_range(
         &mut self,
         node: u16,
@@ -91,7 +89,7 @@ impl<D: Area + Drop> Running<D> {
         self.nodes[node as usize].desk.abort(thread)
     }
 
-    /// A thread reads bytes of a segment that it locked. No bytes take no memory.
+    /// A thread reads bytes of a segment that it locked. It takes memory only where it is not refused; no bytes take none.
     pub(crate) fn read(
         &mut self,
         alloc: Global,
@@ -103,7 +101,7 @@ impl<D: Area + Drop> Running<D> {
     ) -> Result<Reply, AllocError>
         requires known { is_known self.old.geometry (Read node thread segment offset len) ≡ true }
         ensures follows { IfOk result (λ reply. FollowsRow D.Area self.old (Read node thread segment offset len) reply self.new) }
-        ensures memory { OnErr result (0 < len) }
+        ensures memory { OnErr result (WantsBytes D.Area node thread segment offset len self.old) }
         ensures err { OnErr result (StillFitsAll D.Area self.old self.new) }
         ensures answer { IfOk result (λ reply. is_fault reply ≡ false) }
         ensures logs { SameLogs D.Area self.old self.new }

@@ -7,7 +7,6 @@ mod Writes
 mod Again
 mod Performing
 mod Fitting
-mod Setting
 mod Memory
 mod Logs
 mod LogShown

@@ -18,12 +18,12 @@ use Rattle.lc_core.specs.World.{AsksIn, FitsWorld, FollowsWorld}
 use Rattle.lc_core.specs.declared.phase.Phase.{Phase}
 use Rattle.lc_core.specs.declared.phase.Phase.TheVariants.{Down, Up, Taken}
 use Rattle.lc_core.specs.declared.world.World.{World}
+use Rattle.lc_core.proofs.Asking.{asks_world}
 use Rattle.lc_tool.specs.Answers.{IsStepped}
 use Rattle.lc_tool.specs.Fits.{AsksFor, FollowsAll, IsRefused, RefusesAll}
 use Rattle.lc_tool.specs.declared.command.Command.TheVariants.{Recover}
 use Rattle.lc_tool.proofs.Again.{all_still, stepped_is}
 use Rattle.lc_tool.proofs.Fitting.{few_steps}
-use Rattle.lc_tool.proofs.Memory.{asks}
 use Rattle.lc_tool.proofs.Opening.{IsBefore, ends_refused, first_before, next_before}
 use Rattle.lc_tool.proofs.Performing.{ComesTo, comes_to_end, first_comes, more_comes}
 
@@ -88,7 +88,7 @@ module _ {D : Type 0} (a : Ghosts D) where
   pub gone_asks : (old mid : World D a) (done : ℕ) → HasGone old mid done → AsksIn a mid.phase RecoverStep → AsksFor a old Recover
   gone_asks old mid done gone wants m s x fits =
       let come = gone.comes m s x fits in
-      sym (ap (λ (z : State). is_up z.phase) (all_still m s x come.steps come.after come.next come.goes)) ∙ (asks a mid RecoverStep m come.after come.next wants come.fits).0
+      sym (ap (λ (z : State). is_up z.phase) (all_still m s x come.steps come.after come.next come.goes)) ∙ (asks_world a mid RecoverStep wants m come.after come.next come.fits).1.0
 
   -- the last step, behind all of them
   pub all_gone : {E : Type 0} (old mid new : World D a) (done : ℕ) (result : Result Reply E) → HasGone old mid done → 1048576 ≤ done → IfOk result (λ reply. FollowsWorld a mid RecoverStep reply new)

@@ -22,7 +22,7 @@ use Rattle.lc_tool.specs.declared.verdict.Verdict.{Verdict}
 use Rattle.lc_tool.specs.declared.verdict.Verdict.TheVariants.{Refused}
 use Rattle.std.specs.Io.KnownBytes.{Appends}
 use Rattle.lc_tool.proofs.Fitting.{running_fits}
-use Rattle.lc_tool.proofs.Memory.{down_fits}
+use Rattle.lc_core.proofs.Asking.{down_fits}
 
 known_or : (b : Bool) → (if b then None else Some Unknown) ≡ refuse_if (not b) Unknown None
 known_or true = refl

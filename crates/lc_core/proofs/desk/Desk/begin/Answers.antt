@@ -8,6 +8,7 @@ use Rattle.std.specs.Prelude.{Err}
 use Rattle.lc_core.proofs.Refusing.{memory_wanted}
 use Rattle.std.proofs.Common.{ap}
 use Rattle.lc_core.proofs.Shortness.{few_slots, in_place_same, short_same, short_locked}
+use Rattle.lc_core.proofs.FewLocked.{never_many}
 use Rattle.lc_core.proofs.desk.Desk.begin.Goals as goal
 
 pub returns-then-not-is_free-clause-follows : goal.returns-then-not-is_free-clause-follows
@@ -55,7 +56,11 @@ returns-in-Err-clause-err c =
     on_err c.refused.result _ (λ m node s h. desk_seen m node w.here c.begin.new.images w.seats.items s w.runs c.in-Err.ensures.err h)
 
 pub returns-in-Err-clause-memory : goal.returns-in-Err-clause-memory
-returns-in-Err-clause-memory c = memory_wanted c.in-Err.fault c.refused.result _ c.refused.ensures (λ none. (c.begin.ensures.no_memory (c.in-Err.is ∙ ap (λ f. Err f) none)).1)
+returns-in-Err-clause-memory c =
+    let w = c.args.self.now in
+    memory_wanted c.in-Err.fault c.refused.result _ c.refused.ensures (λ none.
+    let wanted = c.begin.ensures.no_memory (c.in-Err.is ∙ ap (λ f. Err f) none) in
+    never_many w.here c.args.segments.now c.args.reading.now w.few_slots wanted.0 wanted.1)
 
 pub invariant_of-self-clause-few_slots : goal.invariant_of-self-clause-few_slots
 invariant_of-self-clause-few_slots c = few_slots c.args.self.now.here c.begin.new.images c.in-Ok.ensures.begins.held.same.beside c.args.self.now.few_slots

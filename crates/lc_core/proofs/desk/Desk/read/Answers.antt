@@ -9,6 +9,8 @@ use Rattle.std.specs.Prelude.{Err}
 use Rattle.lc_core.proofs.Refusing.{memory_wanted}
 use Rattle.std.proofs.Common.{ap}
 use Rattle.lc_core.proofs.Shortness.{in_place_same, few_slots, short_same}
+use Rattle.std.specs.Prelude.{Some}
+use Rattle.lc_core.proofs.Seating.{is_open}
 use Rattle.lc_core.proofs.desk.Desk.read.Goals as goal
 
 pub returns-in_default-clause-follows : goal.returns-in_default-clause-follows
@@ -62,7 +64,18 @@ returns-in-Err-clause-err c =
     on_err c.refused.result _ (λ m node s h. desk_seen m node w.here c.read.new.images w.seats.items s w.runs c.read.ensures.images h)
 
 pub returns-in-Err-clause-memory : goal.returns-in-Err-clause-memory
-returns-in-Err-clause-memory c = memory_wanted c.in-Err.fault c.refused.result _ c.refused.ensures (λ none. (c.read.ensures.no_memory (c.in-Err.is ∙ ap (λ f. Err f) none)).1)
+returns-in-Err-clause-memory c = memory_wanted c.in-Err.fault c.refused.result _ c.refused.ensures (λ none.
+    let w = c.args.self.now in
+    let seat = c.index.result.now in
+    let at = slice_get_read w.seats.items w.seats.len c.args.thread seat w.seats.ok.0 c.requires.seat c.index.ensures in
+    let wanted = c.read.ensures.no_memory (c.in-Err.is ∙ ap (λ f. Err f) none) in
+    record {
+      tx = c.in-Some.tx.now;
+      sits = at ∙ ap (λ x. Some x) (is_open seat c.in-Some.tx.now (sym c.in-Some.ensures));
+      holds = wanted.0;
+      some = wanted.1;
+      inside = wanted.2;
+    })
 
 pub invariant_of-self-2-clause-few_slots : goal.invariant_of-self-2-clause-few_slots
 invariant_of-self-2-clause-few_slots c = few_slots c.args.self.now.here c.read.new.images c.read.ensures.images.beside c.args.self.now.few_slots

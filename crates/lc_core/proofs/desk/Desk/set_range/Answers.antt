@@ -19,10 +19,7 @@ use Rattle.lc_core.proofs.Changing.{unopened, seen_held, seen_keeps, changed_own
 use Rattle.lc_core.proofs.RangeRows.{RangeAnswers, same_thread, range_fault, range_lock, range_done}
 use Rattle.lc_core.proofs.Refusing.{by_refusal, on_err}
 use Rattle.std.specs.Prelude.{Err}
-use Rattle.lc_range.specs.RangeSet.{MissesSome}
-use Rattle.lc_core.specs.Places.{same_some}
 use Rattle.lc_core.proofs.Refusing.{memory_wanted}
-use Rattle.lc_core.proofs.Seating.{same_open}
 use Rattle.std.proofs.Common.{ap}
 use Rattle.lc_core.proofs.Shortness.{few_slots, in_place_same, short_same}
 use Rattle.lc_core.proofs.desk.Desk.set_range.Goals as goal
@@ -139,12 +136,19 @@ returns-in-Err-clause-err c =
     subst (λ (l : List Seat). FitsDesk m node c.set_range.new.images l s) (sym back) (desk_seen m node w.here c.set_range.new.images w.seats.items s w.runs c.set_range.ensures.images h))
 
 pub returns-in-Err-clause-memory : goal.returns-in-Err-clause-memory
-returns-in-Err-clause-memory c = memory_wanted c.in-Err.fault c.refused.result _ c.refused.ensures (λ none tx sits.
+returns-in-Err-clause-memory c = memory_wanted c.in-Err.fault c.refused.result _ c.refused.ensures (λ none.
     let w = c.args.self.now in
-    let seat = c.index_mut.result.now in
-    let at = slice_get_read w.seats.items w.seats.len c.args.thread seat w.seats.ok.0 c.requires.seat c.index_mut.ensures.value in
-    let same : c.in-Open.tx ≡ tx = same_open c.in-Open.tx tx (same_some (Open c.in-Open.tx) (Open tx) (ap (λ x. Some x) (sym c.in-Open.is) ∙ sym at ∙ sits)) in
-    subst (λ (x : Tx). MissesSome x.set c.args.segment c.args.offset c.args.len) same (c.set_range.ensures.no_memory (c.in-Err.is ∙ ap (λ f. Err f) none)).4)
+    let at = slice_get_read w.seats.items w.seats.len c.args.thread c.index_mut.result.now w.seats.ok.0 c.requires.seat c.index_mut.ensures.value in
+    let wanted = c.set_range.ensures.no_memory (c.in-Err.is ∙ ap (λ f. Err f) none) in
+    record {
+      tx = c.in-Open.tx;
+      sits = at ∙ ap (λ x. Some x) c.in-Open.is;
+      locked = wanted.0;
+      some = wanted.1;
+      inside = wanted.2;
+      few = wanted.3;
+      more = wanted.4;
+    })
 
 pub invariant_of-self-2-clause-few_slots : goal.invariant_of-self-2-clause-few_slots
 invariant_of-self-2-clause-few_slots c = few_slots c.args.self.now.here c.set_range.new.images c.set_range.ensures.images.beside c.args.self.now.few_slots

@@ -44,6 +44,14 @@ returns-clause-err g c =
     still_onward g.D.Area m c.args.node s x w.geometry w.nodes.items w.travelling.items node (record { desk = c.read.new.self; journal = node.journal; known = node.known }) at
     (desk_still g.D.Area m c.args.node s x node c.read.new.self still c.read.ensures.beside) h)
 
+pub returns-clause-memory : goal.returns-clause-memory
+returns-clause-memory g c =
+    let w = c.args.self.now in
+    let node = c.index_mut.result.now in
+    let within : c.args.node < w.nodes.len = omega (arith, w.all_nodes, (seat_known w.geometry c.args.node c.args.thread (c.args.segment ∷ []) c.requires.known).0) in
+    let at = slice_get_read w.nodes.items w.nodes.len c.args.node node w.nodes.ok.0 within c.index_mut.ensures.value in
+    err_then c.read.result c.read.ensures.memory (λ wants. (node, at, wants))
+
 pub returns-clause-logs : goal.returns-clause-logs
 returns-clause-logs g c =
     let w = c.args.self.now in

@@ -1,11 +1,7 @@
-use Rattle.std.proofs.Common.{◌≡◌, Some, sym, subst, ◌<◌, [], ◌∷◌, refl, arith, ◌∙◌}
+use Rattle.std.proofs.Common.{◌<◌, [], ◌∷◌, refl, arith}
 use Rattle.std.proofs.lemmas.Option.{slice_get_read}
 use Rattle.std.proofs.lemmas.Result.{IfOk-weaker}
-use Rattle.std.specs.Prelude.{slice_get}
 use Rattle.lc_model.proofs.Rows.{seat_known}
-use Rattle.lc_core.specs.Places.{same_some}
-use Rattle.lc_core.specs.declared.node.Node.{Node}
-use Rattle.lc_core.specs.declared.seat.Seat.TheVariants.{Open}
 use Rattle.lc_core.proofs.Logged.{err_then}
 use Rattle.lc_core.proofs.Shortness.{same_count}
 use Rattle.lc_model.specs.declared.event.Event.TheVariants.{SetRange}
@@ -54,7 +50,7 @@ returns-clause-memory g c =
     let node = c.index_mut.result.now in
     let within : c.args.node < w.nodes.len = omega (arith, w.all_nodes, (seat_known w.geometry c.args.node c.args.thread (c.args.segment ∷ []) c.requires.known).0) in
     let at = slice_get_read w.nodes.items w.nodes.len c.args.node node w.nodes.ok.0 within c.index_mut.ensures.value in
-    err_then c.set_range.result c.set_range.ensures.memory (λ misses other tx got sits. misses tx (subst (λ (n : Node g.row.D.Denot g.D.Area). slice_get n.desk.seats.items c.args.thread ≡ Some (Open tx)) (same_some other node (sym got ∙ at)) sits))
+    err_then c.set_range.result c.set_range.ensures.memory (λ wants. (node, at, wants))
 
 pub returns-clause-logs : goal.returns-clause-logs
 returns-clause-logs g c =

@@ -1,8 +1,8 @@
-use Rattle.std.proofs.Common.{OnErr, refl, sym, ap, subst, ◌∙◌}
+use Rattle.std.proofs.Common.{refl, sym, ap, ◌∙◌}
 use Rattle.std.proofs.lemmas.Result.{IfOk-weaker}
-use Rattle.lc_model.specs.declared.event.Event.{Event}
 use Rattle.lc_model.specs.declared.event.Event.TheVariants.{Begin, SetRange, Write, Read, Abort, Reserve, Close, FlushStep, Arrive, Deliver, Trim, ResetStep}
-use Rattle.lc_core.specs.Stepping.{AsksMemory}
+use Rattle.lc_core.proofs.Asking.{asks_behind}
+use Rattle.lc_core.proofs.Logged.{err_then}
 use Rattle.lc_core.proofs.Ordinary.{follows_step, leaving_step, refused_step}
 use Rattle.lc_core.proofs.Faults.{quiet}
 use Rattle.lc_core.proofs.Refusing.{on_err}
@@ -16,13 +16,17 @@ returns-in-Begin-clause-follows g c = IfOk-weaker c.begin.result _ _
     (λ reply follows. follows_step g.D.Area c.args.self.now c.args.event.now c.refusal.result c.refusal.ensures.refused c.args.writing (Begin c.in-Begin.node c.in-Begin.thread c.as_slice.result.now c.as_slice-in-Begin.result.now) reply c.begin.new.self c.in_default.is (c.in-Begin.is ∙ ap (λ l. Begin c.in-Begin.node c.in-Begin.thread l c.in-Begin.reading) (sym c.as_slice.ensures) ∙ ap (λ l. Begin c.in-Begin.node c.in-Begin.thread c.as_slice.result.now l) (sym c.as_slice-in-Begin.ensures)) follows)
     c.begin.ensures.follows
 
+pub returns-in-Begin-clause-memory : goal.returns-in-Begin-clause-memory
+returns-in-Begin-clause-memory g c = err_then c.begin.result c.begin.ensures.memory (λ never. absurd never)
+
 pub returns-in-SetRange-clause-follows : goal.returns-in-SetRange-clause-follows
 returns-in-SetRange-clause-follows g c = IfOk-weaker c.set_range.result _ _
     (λ reply follows. follows_step g.D.Area c.args.self.now c.args.event.now c.refusal.result c.refusal.ensures.refused c.args.writing (SetRange c.in-SetRange.node c.in-SetRange.thread c.in-SetRange.segment c.in-SetRange.offset c.in-SetRange.len) reply c.set_range.new.self c.in_default.is (c.in-SetRange.is) follows)
     c.set_range.ensures.follows
 
 pub returns-in-SetRange-clause-memory : goal.returns-in-SetRange-clause-memory
-returns-in-SetRange-clause-memory g c = subst (λ (v : Event). OnErr c.set_range.result (AsksMemory g.D.Area c.args.self.now v)) (sym c.in-SetRange.is) c.set_range.ensures.memory
+returns-in-SetRange-clause-memory g c = err_then c.set_range.result c.set_range.ensures.memory
+    (asks_behind g.D.Area c.args.self.now c.args.event.now (SetRange c.in-SetRange.node c.in-SetRange.thread c.in-SetRange.segment c.in-SetRange.offset c.in-SetRange.len) c.refusal.result c.refusal.ensures.refused c.in_default.is c.in-SetRange.is)
 
 pub returns-in-Write-clause-follows : goal.returns-in-Write-clause-follows
 returns-in-Write-clause-follows g c = follows_step g.D.Area c.args.self.now c.args.event.now c.refusal.result c.refusal.ensures.refused c.args.writing (Write c.in-Write.node c.in-Write.thread c.in-Write.segment c.in-Write.offset c.as_slice-in-Write.result.now) c.write.result c.write.new.self c.in_default.is (c.in-Write.is ∙ ap (λ l. Write c.in-Write.node c.in-Write.thread c.in-Write.segment c.in-Write.offset l) (sym c.as_slice-in-Write.ensures)) c.write.ensures.follows
@@ -31,6 +35,10 @@ pub returns-in-Read-clause-follows : goal.returns-in-Read-clause-follows
 returns-in-Read-clause-follows g c = IfOk-weaker c.read.result _ _
     (λ reply follows. follows_step g.D.Area c.args.self.now c.args.event.now c.refusal.result c.refusal.ensures.refused c.args.writing (Read c.in-Read.node c.in-Read.thread c.in-Read.segment c.in-Read.offset c.in-Read.len) reply c.read.new.self c.in_default.is (c.in-Read.is) follows)
     c.read.ensures.follows
+
+pub returns-in-Read-clause-memory : goal.returns-in-Read-clause-memory
+returns-in-Read-clause-memory g c = err_then c.read.result c.read.ensures.memory
+    (asks_behind g.D.Area c.args.self.now c.args.event.now (Read c.in-Read.node c.in-Read.thread c.in-Read.segment c.in-Read.offset c.in-Read.len) c.refusal.result c.refusal.ensures.refused c.in_default.is c.in-Read.is)
 
 pub returns-in-Abort-clause-follows : goal.returns-in-Abort-clause-follows
 returns-in-Abort-clause-follows g c = follows_step g.D.Area c.args.self.now c.args.event.now c.refusal.result c.refusal.ensures.refused c.args.writing (Abort c.in-Abort.node c.in-Abort.thread) c.abort.result c.abort.new.self c.in_default.is (c.in-Abort.is) c.abort.ensures.follows
@@ -41,7 +49,8 @@ returns-in-Reserve-clause-follows g c = IfOk-weaker c.reserve.result _ _
     c.reserve.ensures.follows
 
 pub returns-in-Reserve-clause-memory : goal.returns-in-Reserve-clause-memory
-returns-in-Reserve-clause-memory g c = subst (λ (v : Event). OnErr c.reserve.result (AsksMemory g.D.Area c.args.self.now v)) (sym c.in-Reserve.is) c.reserve.ensures.memory
+returns-in-Reserve-clause-memory g c = err_then c.reserve.result c.reserve.ensures.memory
+    (asks_behind g.D.Area c.args.self.now c.args.event.now (Reserve c.in-Reserve.node c.in-Reserve.thread) c.refusal.result c.refusal.ensures.refused c.in_default.is c.in-Reserve.is)
 
 pub returns-in-Close-clause-follows : goal.returns-in-Close-clause-follows
 returns-in-Close-clause-follows g c = follows_step g.D.Area c.args.self.now c.args.event.now c.refusal.result c.refusal.ensures.refused c.args.writing (Close c.in-Close.node c.in-Close.thread) c.close.result c.close.new.self c.in_default.is (c.in-Close.is) c.close.ensures.follows
@@ -64,7 +73,8 @@ returns-in-Deliver-clause-follows g c = IfOk-weaker c.deliver.result _ _
     c.deliver.ensures.follows
 
 pub returns-in-Deliver-clause-memory : goal.returns-in-Deliver-clause-memory
-returns-in-Deliver-clause-memory g c = subst (λ (v : Event). OnErr c.deliver.result (AsksMemory g.D.Area c.args.self.now v)) (sym c.in-Deliver.is) c.deliver.ensures.memory
+returns-in-Deliver-clause-memory g c = err_then c.deliver.result c.deliver.ensures.memory
+    (asks_behind g.D.Area c.args.self.now c.args.event.now (Deliver c.in-Deliver.sender c.in-Deliver.number c.in-Deliver.segment c.in-Deliver.to) c.refusal.result c.refusal.ensures.refused c.in_default.is c.in-Deliver.is)
 
 pub returns-in-Trim-clause-follows : goal.returns-in-Trim-clause-follows
 returns-in-Trim-clause-follows g c = follows_step g.D.Area c.args.self.now c.args.event.now c.refusal.result c.refusal.ensures.refused c.args.writing (Trim c.in-Trim.node) c.trim.result c.trim.new.self c.in_default.is (c.in-Trim.is) c.trim.ensures.follows

@@ -2,9 +2,10 @@ use Rattle.std.proofs.lemmas.Result.{IfOk-weaker}
 use Rattle.std.proofs.Common.{sym, ap, subst, ◌∙◌}
 use Rattle.lc_model.specs.declared.event.Event.{Event}
 use Rattle.lc_model.specs.declared.event.Event.TheVariants.{Stop}
-use Rattle.lc_core.specs.World.{Leads}
+use Rattle.lc_core.specs.World.{AsksIn, Leads}
 use Rattle.lc_core.specs.Faults.{CountsPhase, phase_failures}
 use Rattle.lc_core.specs.declared.phase.Phase.{Phase}
+use Rattle.lc_core.proofs.Asking.{asks_world}
 use Rattle.lc_core.proofs.Logged.{err_then}
 use Rattle.lc_core.proofs.Recovers.{IfOk-any, down_refuses, stop_asks, up_asks}
 use Rattle.lc_core.specs.declared.phase.Phase.TheVariants.{Up}
@@ -18,6 +19,14 @@ pub returns-in-Up-clause-follows : goal.returns-in-Up-clause-follows
 returns-in-Up-clause-follows g c = IfOk-weaker c.step.result _ _
     (λ reply follows. up_follows g.D.Area c.args.self.now.phase c.in-Up.up c.step.new.self c.args.event.now reply c.in-Up.is follows)
     c.step.ensures.follows
+
+pub returns-in-RecoverStep-clause-asks : goal.returns-in-RecoverStep-clause-asks
+returns-in-RecoverStep-clause-asks g c = err_then c.recover_step.result c.recover_step.ensures.memory (λ wants.
+    asks_world g.D.Area c.args.self.now c.args.event.now (subst (λ (event : Event). AsksIn g.D.Area c.args.self.now.phase event) (sym c.in-RecoverStep.is) wants))
+
+pub returns-in-Up-clause-asks : goal.returns-in-Up-clause-asks
+returns-in-Up-clause-asks g c = err_then c.step.result c.step.ensures.memory (λ wants.
+    asks_world g.D.Area c.args.self.now c.args.event.now (subst (λ (p : Phase g.row.D.Denot g.D.Area). AsksIn g.D.Area p c.args.event.now) (sym c.in-Up.is) wants))
 
 pub returns-in-Up-clause-err : goal.returns-in-Up-clause-err
 returns-in-Up-clause-err g c = err_then c.step.result c.step.ensures.err (up_still g.D.Area c.args.self.now.phase c.in-Up.up c.step.new.self c.in-Up.is)
