@@ -33,10 +33,14 @@ impl<'a, R: Files> Directory<'a, R> {
         Directory { alloc, rt, path }
     }
 
-    // The path of a file in it.
-    fn path_of(&self, name: FileName) -> Result<String, AllocError> {
+    // The path of a file in it. The empty text is the path of no folder.
+    fn path_of(&self, name: FileName) -> Result<String, FolderFault> {
         let folder = self.path;
-        format!(in self.alloc; "{folder}/{name}")
+        if folder.is_empty() {
+            return Err(FolderFault::Failed);
+        }
+        let path = format!(in self.alloc; "{folder}/{name}")?;
+        Ok(path)
     }
 }
 

@@ -70,3 +70,6 @@ where
         Err(fault) => stopped(writer, fault),
     }
 }
+
+#[cfg(test)]
+mod tests;

@@ -1,32 +1,65 @@
-//! Runs a script of commands over a new store in memory.
+//! Runs scripts of commands over a store in memory or in a folder; makes, recovers and inspects stores in folders.
 #![tactic(auto)]
 
 ghost use Rattle.std.specs.Prelude.{◌≡◌, ◌⊎◌};
 
 mod stop;
 
-use lc_tool::{Asked, read_command_line, run_script, zero_areas};
+use lc_tool::{
+    Asked, init_store, inspect_file, read_command_line, recover_store, run_script, run_store,
+    zero_areas,
+};
 use std::env;
 use std::io::{self, BufWriter, Write};
+use std::os::unix::fs::FileExt;
 use std::process::ExitCode;
-use std::rt::Env;
+use std::rt::{Env, Files};
 use stop::Stop;
 
 // What the command line asks for is done, and this is the status that the program ends with.
-fn ended<R: AllocGlobal + Env + Input + Print>(rt: &R) -> Result<u8, Stop> {
+fn ended<R: AllocGlobal + Env + Files + Input + Print>(rt: &R) -> Result<u8, Stop>
+where
+    R::File: FileExt,
+{
     let alloc = rt.alloc();
     let words: Vec<String> = env::args(rt).map_err(Stop::of_words)?.collect(alloc)?;
-    match read_command_line(alloc, words.as_slice())? {
-        Asked::Run(geometry) => {
+    let asked = read_command_line(alloc, words.as_slice())?;
+    let mut writer = BufWriter::new(alloc, io::writer(rt))?;
+    let status = answered(rt, asked, &mut writer)?;
+    writer.flush()?;
+    Ok(status)
+}
+
+// The same, once the command line is read.
+fn answered<R: AllocGlobal + Files + Input, W: Write>(
+    rt: &R,
+    asked: Asked,
+    writer: &mut W,
+) -> Result<u8, Stop>
+where
+    R::File: FileExt,
+{
+    let alloc = rt.alloc();
+    let mut reader = rt.reader();
+    match asked {
+        Asked::Run {
+            geometry,
+            store: None,
+        } => {
             let areas = zero_areas(alloc, &geometry)?;
-            let mut reader = rt.reader();
-            let mut writer = BufWriter::new(alloc, io::writer(rt))?;
-            let status = run_script(alloc, geometry, areas, &mut reader, &mut writer)?;
-            writer.flush()?;
-            Ok(status)
+            Ok(run_script(alloc, geometry, areas, &mut reader, writer)?)
         }
+        Asked::Run {
+            geometry,
+            store: Some(folder),
+        } => Ok(run_store(alloc, rt, &folder, geometry, &mut reader, writer)?),
+        Asked::Init { folder, geometry } => Ok(init_store(alloc, rt, &folder, geometry, writer)?),
+        Asked::Recover { folder, geometry } => {
+            Ok(recover_store(alloc, rt, &folder, geometry, writer)?)
+        }
+        Asked::Inspect { file, reverse } => Ok(inspect_file(alloc, rt, &file, reverse, writer)?),
         Asked::Help(text) => {
-            rt.print(text)?;
+            writer.write_all(text.as_bytes())?;
             Ok(0)
         }
         Asked::NotUnderstood => Err(Stop::NotUnderstood),

@@ -9,8 +9,8 @@ loop-file-preserved g c =
       honest = c.in_ok-is_taken.ensures.honest ∙ before.honest;
       same = λ honest. c.in_ok-is_taken.ensures.same (before.honest ∙ honest) ∙ before.same honest;
       none = λ honest. below_more _ _ (before.none honest)
-      (not_taken c.args.geometry.now c.loop-file.area (g.F.Folder.files c.args.folder.now) (g.F.Folder.files c.loop-file.folder) c.in-Some.file c.in_ok-is_taken.field-0
-      (before.same honest) c.in-Some.ensures.file.1 c.if-branch.false (c.in_ok-is_taken.ensures.told (before.honest ∙ honest)));
+          (not_taken c.args.geometry.now c.loop-file.area (g.F.Folder.files c.args.folder.now) (g.F.Folder.files c.loop-file.folder) c.in-Some.file c.in_ok-is_taken.field-0
+          (before.same honest) c.in-Some.ensures.file.1 c.if-branch.false (c.in_ok-is_taken.ensures.told (before.honest ∙ honest)));
     }
 
 pub returns-clause-told : goal.returns-clause-told
