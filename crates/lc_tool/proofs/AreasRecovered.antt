@@ -3,6 +3,7 @@ use Rattle.std.proofs.Common.{◌≡◌, ◌∙◌, ◌⊎◌, ℕ, zero, suc, �
 use Rattle.std.specs.Prelude.{Result, Ok, Err, IfOk, OnOk, MatchResult, flat_map, slice_get}
 use Rattle.std.specs.Io.KnownBytes.{Appends}
 use Rattle.std.proofs.KnownBytes.{Appends-trans}
+use Rattle.std.proofs.lemmas.Bool.{cases_lt}
 use Rattle.std.proofs.lemmas.List.{flat_map_more, length-drop, length-map}
 use Rattle.lc_disk.specs.declared.area.Area.{Ghosts}
 use Rattle.lc_record.specs.Content.{Content}
@@ -31,27 +32,13 @@ use Rattle.lc_tool.specs.declared.tool_fault.ToolFault.TheVariants.{Write as Not
 use Rattle.lc_tool.proofs.Refusals.{one_least, same_refusal}
 use Rattle.lc_tool.proofs.Writes.{same_bytes}
 
-same_or_not : (k n : ℕ) → (k ≡ n) ⊎ (k ≡ n → ⊥)
-same_or_not k n = go (k == n) refl
-  where
-    go : (b : Bool) → (k == n) ≡ b → (k ≡ n) ⊎ (k ≡ n → ⊥)
-    go true e = inl (eqb-true k n e)
-    go false e = inr (λ same. let bad : true ≡ false = sym (eq-eqb k n same) ∙ e in cc)
-
-less_or_same : (k n : ℕ) → k ≤ n → (k ≡ n → ⊥) → k < n
-less_or_same k n within other = go (nat_lt k n) refl
-  where
-    go : (b : Bool) → nat_lt k n ≡ b → k < n
-    go true e = ltb-true k n e
-    go false e = absurd (other (omega (arith, within, ltb-false k n e)))
-
 -- what is no step is the end
 pub done_of : {D : Type 0} (progress : Progress) (r : Recovering D) → ((steps : ℕ) → progress ≡ Stepped steps → ⊥) → Tells progress r → IsDone r
 done_of (Stepped steps) r not tells = absurd (not steps refl)
 done_of IsEnd r not tells = tells
 
 module _ {D : Type 0} (a : Ghosts D) (g : Geometry) (areas : List D) where
-  -- Where their merge is refused, that is still to come, and the areas read as they did.
+  -- where their merge is refused: it is still to come, and the areas read as they did
   pub record IsBefore (r : Recovering D) : Type 0 where
     pub honest : AreHonest a r.areas
     pub same : map a.now r.areas ≡ map a.now areas
@@ -103,12 +90,14 @@ module _ {D : Type 0} (a : Ghosts D) (g : Geometry) (areas : List D) where
       still_before fault is refused =
           let at = goes.before fault is refused in
           let early : old.steps + 1 ≤ first_steps old.geometry = subst (λ (h : Geometry). old.steps + 1 ≤ first_steps h) (sym goes.geometry) at.early in
-          let earlier : old.steps + 1 < first_steps old.geometry = less_or_same (old.steps + 1) (first_steps old.geometry) early (not_merged fault is refused) in
-          record {
-            honest = still_honest is;
-            same = reads earlier at.honest ∙ at.same;
-            early = subst (λ (h : Geometry). new.steps + 1 ≤ first_steps h) goes.geometry (omega (arith, steps, earlier));
-          }
+          elim (cases_lt (old.steps + 1) (first_steps old.geometry)) [
+            | inl earlier ↦ record {
+              honest = still_honest is;
+              same = reads earlier at.honest ∙ at.same;
+              early = subst (λ (h : Geometry). new.steps + 1 ≤ first_steps h) goes.geometry (omega (arith, steps, earlier));
+            }
+            | inr late ↦ absurd (not_merged fault is refused (omega (arith, early, late)))
+          ]
 
       pub next_goes : (IsDone new → ⊥) → Goes new
       next_goes left = record {
@@ -174,9 +163,10 @@ module _ {D : Type 0} (a : Ghosts D) (g : Geometry) (areas : List D) where
           (subst (λ (h : Geometry). AllMergeTo a h old.areas known.content numbers) (sym goes.geometry) (goes.merges known.content numbers known.honest known.merges));
       refused = λ merge refused.
           let at = goes.before merge refused.honest refused.refused in
-          elim (same_or_not (old.steps + 1) (first_steps old.geometry)) [
-            | inl next ↦ inl (subst (λ (s : Store). IsRefusal s fault) (there old goes.geometry at.same) (refuses next at.honest))
-            | inr call ↦ inr (calls call)
+          let early : old.steps + 1 ≤ first_steps old.geometry = subst (λ (h : Geometry). old.steps + 1 ≤ first_steps h) (sym goes.geometry) at.early in
+          elim (cases_lt (old.steps + 1) (first_steps old.geometry)) [
+            | inl earlier ↦ inr (calls (λ next. omega (arith, earlier, next)))
+            | inr late ↦ inl (subst (λ (s : Store). IsRefusal s fault) (there old goes.geometry at.same) (refuses (omega (arith, early, late)) at.honest))
           ];
       wrong = λ area wrong. absurd (wrong.is (lengths area));
     }
