@@ -18,7 +18,7 @@ use std::process::Abort;
 use std::test::*;
 
 // The token of segment 1 is at node 1, and that of segment 2 at node 0.
-const TWO_NODES: Geometry = Geometry {
+pub(crate) const TWO_NODES: Geometry = Geometry {
     nodes: 2,
     threads: 1,
     segments: 2,
@@ -28,7 +28,7 @@ const TWO_NODES: Geometry = Geometry {
 
 // Node 0 commits 1 and then 2 on segment 2, and node 1 commits 3 on segment 1. The token of segment 2 goes to node 1,
 // which commits 4 on both, writes both pages, and resets its log.
-const EVENTS: [(Line, Answer<'static>); 58] = [
+pub(crate) const EVENTS: [(Line, Answer<'static>); 58] = [
     (Begin(0, 0, &[2], &[]), Done),
     (Range(0, 0, 2, 0, 1), Done),
     (Write(0, 0, 2, 0, &[1]), Done),
@@ -90,7 +90,7 @@ const EVENTS: [(Line, Answer<'static>); 58] = [
 ];
 
 // All four commits are flushed, and no page is written yet.
-const FLUSHED: usize = 42;
+pub(crate) const FLUSHED: usize = 42;
 
 // The first bytes of both segments, as the commits make them one after another.
 const ORDINARY: [(u8, u8); 5] = [(0, 0), (0, 1), (3, 1), (3, 2), (4, 4)];

@@ -73,6 +73,8 @@ pub use show_fault::ShowFault;
 pub use world::World;
 
 #[cfg(test)]
+mod growth_tests;
+#[cfg(test)]
 mod hostile_tests;
 #[cfg(test)]
 mod journal_tests;

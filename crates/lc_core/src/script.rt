@@ -107,8 +107,8 @@ fn of_each_area(
     Ok(lists)
 }
 
-// The event of a line, and of several the first.
-fn event_of(alloc: Global, line: Line) -> Result<Event, AllocError> {
+/// The event of a line, and of several the first.
+pub(crate) fn event_of(alloc: Global, line: Line) -> Result<Event, AllocError> {
     Ok(match line {
         Line::Begin(node, thread, segments, reading) => Event::Begin {
             node,
