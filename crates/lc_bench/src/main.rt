@@ -2,6 +2,7 @@
 //! the plain work done by hand in the same run, and prints both and their ratio.
 #![tactic(auto)]
 
+mod files;
 mod measurement;
 mod recoveries;
 mod staging;

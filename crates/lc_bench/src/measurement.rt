@@ -1,7 +1,8 @@
 //! What can be measured.
-use crate::{recoveries, staging, transactions};
+use crate::{files, recoveries, staging, transactions};
 use std::io;
-use std::rt::Clock;
+use std::os::unix::fs::FileExt;
+use std::rt::{Clock, Files};
 use std::thread::Threads;
 
 /// One measurement.
@@ -19,17 +20,29 @@ pub(crate) enum Measurement {
     FewPages,
     /// A recovery of segments of 1024 pages.
     ManyPages,
+    /// Commits to files, each made durable on its own.
+    OneDurable,
+    /// Commits to files, made durable in groups of 8.
+    FewDurable,
+    /// Commits to files, made durable in groups of 64.
+    ManyDurable,
+    /// The opening of a store in files.
+    Reopening,
 }
 
 impl Measurement {
     /// All that there are.
-    pub(crate) const ALL: [Measurement; 6] = [
+    pub(crate) const ALL: [Measurement; 10] = [
         Measurement::OneRange,
         Measurement::ManyRanges,
         Measurement::OneThread,
         Measurement::FourThreads,
         Measurement::FewPages,
         Measurement::ManyPages,
+        Measurement::OneDurable,
+        Measurement::FewDurable,
+        Measurement::ManyDurable,
+        Measurement::Reopening,
     ];
 
     /// The word that asks for it.
@@ -41,6 +54,10 @@ impl Measurement {
             Measurement::FourThreads => "staging-4-threads",
             Measurement::FewPages => "recovery-64-pages",
             Measurement::ManyPages => "recovery-1024-pages",
+            Measurement::OneDurable => "durable-commits",
+            Measurement::FewDurable => "durable-commits-by-8",
+            Measurement::ManyDurable => "durable-commits-by-64",
+            Measurement::Reopening => "reopening-400-commits",
         }
     }
 
@@ -53,10 +70,13 @@ impl Measurement {
     }
 
     /// Measures, and prints what it found.
-    pub(crate) fn run<R: AllocGlobal + Clock + Print + Threads + Sync>(
+    pub(crate) fn run<R: AllocGlobal + Clock + Files + Print + Threads + Sync>(
         self,
         rt: &R,
-    ) -> io::Result<()> {
+    ) -> io::Result<()>
+    where
+        R::File: FileExt,
+    {
         match self {
             Measurement::OneRange => transactions::measure(rt, 1),
             Measurement::ManyRanges => transactions::measure(rt, 64),
@@ -64,6 +84,10 @@ impl Measurement {
             Measurement::FourThreads => staging::measure(rt, 4),
             Measurement::FewPages => recoveries::measure(rt, 64),
             Measurement::ManyPages => recoveries::measure(rt, 1024),
+            Measurement::OneDurable => files::measure_commits(rt, 1),
+            Measurement::FewDurable => files::measure_commits(rt, 8),
+            Measurement::ManyDurable => files::measure_commits(rt, 64),
+            Measurement::Reopening => files::measure_reopening(rt),
         }
     }
 }

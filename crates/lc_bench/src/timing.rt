@@ -11,6 +11,7 @@ pub(crate) fn print<R: Print>(
 ) -> io::Result<()> {
     let each = work.as_nanos() / u128::from(repetitions.max(1));
     let by_hand = plain.as_nanos() / u128::from(repetitions.max(1));
-    let ratio = work.as_nanos() / plain.as_nanos().max(1);
-    println!(rt; "{each} ns, by hand {by_hand} ns, ratio {ratio}")
+    let hundredths = work.as_nanos().saturating_mul(100) / plain.as_nanos().max(1);
+    let (whole, part) = (hundredths / 100, hundredths % 100);
+    println!(rt; "{each} ns, by hand {by_hand} ns, ratio {whole}.{part:02}")
 }
