@@ -1,5 +1,5 @@
 //! The inspection of a log's file.
-ghost use Rattle.std.specs.Prelude.{◌≡◌, ◌≢◌, ◌↔◌, ◌⊎◌, IfOk, IfErr, IsTrue};
+ghost use Rattle.std.specs.Prelude.{◌≡◌, ◌≢◌, ◌↔◌, ◌⊎◌, IfOk, IsTrue};
 ghost use Rattle.std.specs.Io.KnownBytes.{Appends};
 ghost use Rattle.lc_record.specs.Words.{words_of};
 ghost use Rattle.lc_tool.specs.Files.{IsLogLen};
@@ -88,7 +88,8 @@ fn show<W: Write>(
     ensures shown { IfOk result (λ status.
         ((status ≡ 0) × Inspects reverse (words_of bytes.now) (W.contents writer.old) (W.contents writer.new))
         ⊎ ((status ≡ 1) × Appends (W.contents writer.old) (W.contents writer.new) no_memory_text)) }
-    ensures writes { IfErr result (λ fault. fault ≡ ToolFault.Write) }
+    ensures memory { result ≢ Err ToolFault.NoMemory }
+    ensures reads { result ≢ Err ToolFault.Read }
 {
     match inspect(alloc, bytes, reverse, writer) {
         Ok(()) => Ok(DONE),

@@ -97,3 +97,6 @@ pub(crate) fn stopped<W: Write>(writer: &mut W, fault: FolderFault) -> Result<u8
         Err(_) => Err(ToolFault::Write),
     }
 }
+
+#[cfg(test)]
+mod tests;

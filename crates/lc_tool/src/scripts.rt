@@ -98,6 +98,7 @@ fn open<D: Stoppable + Drop, W: Write>(
 pub(crate) fn bad_geometry<W: Write>(writer: &mut W, area: u32) -> Result<u8, ToolFault>
     ensures shown { IfOk result (λ status. (status ≡ 1) × Appends (W.contents writer.old) (W.contents writer.new) (refusal_text (BadGeometry area))) }
     ensures memory { result ≢ Err ToolFault.NoMemory }
+    ensures reads { result ≢ Err ToolFault.Read }
 {
     printed(
         writer,
@@ -110,6 +111,7 @@ pub(crate) fn bad_geometry<W: Write>(writer: &mut W, area: u32) -> Result<u8, To
 fn printed<W: Write>(writer: &mut W, reply: &Reply, status: u8) -> Result<u8, ToolFault>
     ensures shown { IfOk result (λ given. (given ≡ status) × Appends (W.contents writer.old) (W.contents writer.new) (reply_text reply.now)) }
     ensures memory { result ≢ Err ToolFault.NoMemory }
+    ensures reads { result ≢ Err ToolFault.Read }
 {
     match write_reply(writer, reply) {
         Ok(()) => Ok(status),
@@ -214,6 +216,7 @@ fn do_line<D: Stoppable + Drop, W: Write>(
 pub(crate) fn no_memory<W: Write>(writer: &mut W) -> Result<u8, ToolFault>
     ensures shown { IfOk result (λ status. (status ≡ 1) × Appends (W.contents writer.old) (W.contents writer.new) no_memory_text) }
     ensures memory { result ≢ Err ToolFault.NoMemory }
+    ensures reads { result ≢ Err ToolFault.Read }
 {
     match write_no_memory(writer) {
         Ok(()) => Ok(REFUSED),
