@@ -1,6 +1,6 @@
 //! The subcommands of the program, with their options and their help.
 ghost use Rattle.std.specs.Prelude.{◌≡◌, IfOk, false};
-ghost use Rattle.clap.specs.Words.{app_of, rule_of};
+ghost use Rattle.clap.specs.Words.{App, app_of, rule_of};
 ghost use Rattle.lc_tool.specs.CommandLine.{IsLike, init_app, inspect_app, option_rule, program_app, recover_app, run_app, with_sizes, word_rule};
 
 use clap::builder::ValueParser;
@@ -75,7 +75,7 @@ fn inspect<'a>(alloc: Global) -> Result<Command<'a>, AllocError>
 
 // The command with the five options of a store's size.
 fn with_size_options<'a>(alloc: Global, command: Command<'a>) -> Result<Command<'a>, AllocError>
-    ensures { (app : _) → IsLike command.entry app → IfOk result (λ larger. IsLike larger (with_sizes app)) }
+    ensures { (app : App) → IsLike command.entry app → IfOk result (λ larger. IsLike larger (with_sizes app)) }
 {
     let few = value_parser!(u32).range(1..=8);
     let nodes = option(
