@@ -330,7 +330,10 @@ fn a_writer_that_fails(rt: HostRuntime) -> Result<(), Fail> {
             Err(ToolFault::Write)
         );
     }
-    assert_eq!(rt; inspect(rt.alloc(), &log, false, &mut Narrow { room: 34 }), Ok(()));
+    assert_eq!(rt;
+        inspect(rt.alloc(), &log, false, &mut Narrow { room: 34 }),
+        Ok(())
+    );
     Ok(())
 }
 
