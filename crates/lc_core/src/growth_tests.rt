@@ -9,7 +9,7 @@ use crate::script::Line::{
     Stop, Trim, Write,
 };
 use crate::script::{Answer, Line, answer_of, event_of};
-use crate::{Event, Refusal, World};
+use crate::{Event, Refusal, Reply, World};
 use lc_disk::{Choice, MemArea};
 use std::alloc::{AllocError, Global};
 use std::process::Abort;
@@ -153,8 +153,25 @@ fn made(alloc: Global, script: &[(Line, Answer<'_>)]) -> Result<Vec<Event>, Allo
     }
 }
 
-// The store answers so in one run or in several: each begins with the event that the run before had no memory for, which
-// is one that may ask for some, unless there was no room for its reply.
+// These are the first replies to these lines.
+fn begin_so(rt: &impl Abort, replies: &[Reply], script: &[(Line, Answer<'_>)]) {
+    assert!(rt; replies.len() <= script.len());
+    for (number, (_, wanted)) in script.iter().enumerate() {
+        if let Some(reply) = replies.get(number) {
+            assert!(rt; answer_of(reply) == *wanted, "line {number}");
+        }
+    }
+}
+
+// There was no memory for this line, which is one that may ask for some, or no room for its reply.
+fn may_stop_at(rt: &impl Abort, line: Option<&(Line, Answer<'_>)>, had_room: bool) {
+    match line {
+        Some((line, _)) => assert!(rt; may_ask(line) || !had_room),
+        None => assert!(rt; false, "all lines are answered"),
+    }
+}
+
+// The store answers so in one run or in several: each begins with the line that the run before had no memory for.
 fn answers(
     rt: &impl Abort,
     alloc: Global,
@@ -162,24 +179,20 @@ fn answers(
     script: &[(Line, Answer<'_>)],
 ) -> Result<(), Fail> {
     let events = made(alloc, script)?;
-    let mut rest = script;
+    let mut done: usize = 0;
     for _ in 0..MOST_RUNS {
-        let done = script.len() - rest.len();
-        let ran = world.run(alloc, &events[done..]);
-        for (reply, (_, wanted)) in ran.replies.iter().zip(rest) {
-            assert!(rt; answer_of(reply) == *wanted);
-        }
-        let Some(behind) = rest.get(ran.replies.len()..) else {
-            return Err(Fail::from("no event has two replies"));
+        let (Some(left), Some(lines)) = (events.get(done..), script.get(done..)) else {
+            return Err(Fail::from("no line has two replies"));
         };
-        rest = behind;
-        let Some((line, _)) = rest.first() else {
-            assert!(rt; !ran.out_of_memory);
+        let ran = world.run(alloc, left);
+        begin_so(rt, ran.replies.as_slice(), lines);
+        done = done.saturating_add(ran.replies.len());
+        if !ran.out_of_memory {
+            assert_eq!(rt; done, script.len());
             return Ok(());
-        };
-        assert!(rt; ran.out_of_memory);
+        }
         let had_room = ran.replies.len() < ran.replies.capacity();
-        assert!(rt; may_ask(line) || !had_room);
+        may_stop_at(rt, script.get(done), had_room);
     }
     Err(Fail::from("there is memory in the end"))
 }
