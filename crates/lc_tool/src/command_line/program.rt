@@ -68,7 +68,7 @@ fn inspect<'a>(alloc: Global) -> Result<Command<'a>, AllocError>
         .help("Prints the last record first; without it the first one comes first");
     Command::new(alloc, "inspect")
         .about("Prints the records of a log, one a line")
-        .after_help("Example:\n  lcrvm inspect bank/log.0 --reverse")
+        .after_help("Example:\n  lcrvm inspect bank/log0 --reverse")
         .arg(word(alloc, "file", "FILE", "File of the log"))?
         .arg(reverse)
 }

@@ -330,7 +330,7 @@ fn help_of_a_subcommand_names_each_option_and_shows_an_example(
             _ => (
                 "inspect [OPTIONS] <FILE>",
                 "--reverse",
-                "inspect bank/log.0 --reverse",
+                "inspect bank/log0 --reverse",
             ),
         };
         for call in calls {
