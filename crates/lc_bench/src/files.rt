@@ -55,7 +55,10 @@ where
     let work = start.elapsed(rt)?;
     let plain = plain_writes(rt, group, COMMITS.div_ceil(group.max(1)))?;
     fs::remove_dir_all(rt, FOLDER)?;
-    println!(rt; "{commits} commits in groups of {group}, {} a second", per_second(commits, work))?;
+    println!(rt;
+        "{commits} commits in groups of {group}, {} a second",
+        per_second(commits, work)
+    )?;
     timing::print(rt, work, plain, commits)
 }
 
