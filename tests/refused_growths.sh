@@ -1,53 +1,64 @@
 #!/bin/sh
-# Runs the tests of crates/lc_core/src/growth_tests.rt with one of their allocations failing in turn, and no other test: the
-# first to the last of these, 1 to 400 where none are given. It proves nothing. It fails where a run does. A run takes about
-# 40 seconds, since each is built anew.
-# Usage: tests/refused_growths.sh [FIRST LAST]
+# Refuses each allocation in turn, one a run, and sees that want of memory is said and changes nothing else:
+# - tests/two_nodes.script, which the program runs: what is printed is the front of what a run with enough memory prints, and
+#   then `refused NoMemory`, with status 1;
+# - the tests of crates/lc_core/src/growth_tests.rt, which run their events again from the one that wanted memory on, and
+#   compare all replies with the expected ones.
+#
+# usage: tests/refused_growths.sh     (a C compiler `cc` is wanted)
+#
+# The program and the tests have to be built: `(cd crates/lcrvm && rt run -- run < /dev/null)` and `(cd crates/lc_core && rt test)`.
+# LCRVM and LC_CORE_TESTS may name them elsewhere.
 set -eu
 
-first=${1:-1}
-last=${2:-400}
-
 top=$(cd "$(dirname "$0")/.." && pwd)
-copy=$(mktemp -d)
-trap 'rm -rf "$copy"' EXIT
-trap 'exit 1' HUP INT TERM
+program=${LCRVM:-$top/crates/lcrvm/out/lcrvm}
+tests=${LC_CORE_TESTS:-$top/crates/lc_core/out/lc_core_tests}
+most=100000
 
-# The sources alone, in a copy.
-cd "$top"
-git ls-files crates.txt HANDLES 'crates/*/src/*' 'crates/*/specs/*' | while IFS= read -r file; do
-    mkdir -p "$copy/$(dirname "$file")"
-    cp "$file" "$copy/$file"
-done
+work=$(mktemp -d "${TMPDIR:-/tmp}/lcrvm-growths.XXXXXX")
+trap 'rm -rf "$work"' EXIT
+cc -shared -fPIC -O2 -o "$work/refuse.so" "$top/tests/refused_allocation.c" -ldl
 
-# The modules of other tests are left out. What growth_tests cites of hostile_tests stays, and its tests are not run.
-cd "$copy/crates/lc_core"
-awk '
-    $0 == "#[cfg(test)]" { held = $0; next }
-    held != "" {
-        if ($0 ~ /^mod (growth_tests|hostile_tests|script);$/) print held "\n" $0
-        held = ""
-        next
-    }
-    { print }
-' src/lib.rt > src/lib.new
-mv src/lib.new src/lib.rt
-for file in src/*tests.rt; do
-    case $file in
-        src/growth_tests.rt | src/hostile_tests.rt) ;;
-        *) rm "$file" ;;
-    esac
-done
-awk '{ print } $0 == "#[test]" { print "#[ignore]" }' src/hostile_tests.rt > src/hostile.new
-mv src/hostile.new src/hostile_tests.rt
+fail() {
+    echo "failed: $*" >&2
+    echo "0 passed, 1 failed"
+    exit 1
+}
 
-number=$first
-while [ "$number" -le "$last" ]; do
-    if ! rt try --test --fail-alloc "$number" > try.log 2>&1 || ! grep -q '^test result: ok\. 3 passed' try.log; then
-        cat try.log
-        echo "allocation $number: a test fails"
-        exit 1
-    fi
-    echo "allocation $number: all go on"
+# Runs a command with one allocation refused; its status is that of the command.
+refusing() {
+    number=$1
+    shift
+    rm -f "$work/mark"
+    REFUSED_ALLOCATION=$number REFUSED_MARK=$work/mark LD_PRELOAD=$work/refuse.so "$@"
+}
+
+size='--nodes 2 --segments 2'
+"$program" run $size < "$top/tests/two_nodes.script" > "$work/whole" || fail "the script is not done"
+number=1
+while [ $number -le $most ]; do
+    status=0
+    refusing $number "$program" run $size < "$top/tests/two_nodes.script" > "$work/text" 2> "$work/errors" || status=$?
+    [ -e "$work/mark" ] || break
+    [ $status -eq 1 ] || fail "allocation $number of the script: status $status"
+    [ "$(tail -n 1 "$work/text")" = 'refused NoMemory' ] || fail "allocation $number of the script: want of memory is not said"
+    lines=$(($(wc -l < "$work/text") - 1))
+    head -n $lines "$work/text" > "$work/front"
+    head -n $lines "$work/whole" | cmp -s - "$work/front" || fail "allocation $number of the script: other replies"
     number=$((number + 1))
 done
+[ $number -gt 1 ] || fail "the script makes no allocation"
+echo "a script of two nodes: each of $((number - 1)) allocations was refused once"
+
+for test in $("$tests" --list | sed -n 's/^\(growth_tests::[a-z_]*\): test$/\1/p'); do
+    number=1
+    while [ $number -le $most ]; do
+        refusing $number "$tests" "$test" > "$work/text" 2>&1 || fail "allocation $number of $test: $(tail -n 3 "$work/text")"
+        [ -e "$work/mark" ] || break
+        number=$((number + 1))
+    done
+    [ $number -gt 1 ] || fail "$test makes no allocation"
+    echo "$test: each of $((number - 1)) allocations was refused once"
+done
+echo "1 passed, 0 failed"
