@@ -4,6 +4,7 @@ use crate::inspector::inspect;
 use crate::zeros::zero_areas;
 use lc_disk::{Fuse, MemArea, Stoppable, When};
 use lc_record::Geometry;
+use std::alloc::{AllocError, Global};
 use std::io::{self, Error, ErrorKind, Read, Write};
 use std::process::Abort;
 use std::test::*;
@@ -547,6 +548,59 @@ fn stores_that_are_refused(rt: HostRuntime) -> Result<(), Fail> {
     let mut twice = RECORD.to_vec(rt.alloc())?;
     twice.extend_from_slice(&RECORD)?;
     check_found(&rt, twice.as_slice(), &[], show, "refused Twice 1 1\n", 1)
+}
+
+// An open slot of this sequence, with a page of one byte again and again.
+fn slot(alloc: Global, sequence: u64, byte: u8) -> Result<Vec<u8>, AllocError> {
+    let mut bytes = vec![in alloc; 0; 8]?;
+    if let Some(gate) = bytes.first_mut() {
+        *gate = 0xa5;
+    }
+    bytes.extend_from_slice(&sequence.to_le_bytes())?;
+    bytes.resize(272, byte)?;
+    Ok(bytes)
+}
+
+// The lines of a page of one byte, as two digits.
+fn same_page(alloc: Global, digits: &str) -> Result<String, AllocError> {
+    let mut text = String::new(alloc);
+    for _ in 0..16 {
+        for _ in 0..16 {
+            text.push_str(digits)?;
+        }
+        text.push_str("\n")?;
+    }
+    Ok(text)
+}
+
+#[test]
+fn a_page_may_be_newer_than_the_log(rt: HostRuntime) -> Result<(), Fail> {
+    let alloc = rt.alloc();
+    let show = b"show 0 1 0\n".as_slice();
+    let behind = record_with(&rt, &[(24, 5)])?;
+    let third = slot(alloc, 3, 0)?;
+    check_found(&rt, &behind, &third, show, "refused Gap 1 4\n", 1)?;
+    let zeros = same_page(alloc, "00")?;
+    check_found(&rt, &RECORD, &third, show, &zeros, 0)?;
+    let commit = b"begin 0 0 1\nrange 0 0 1 0 1\nend 0 0\nflush 0\ninspect 0\n".as_slice();
+    let fourth = "ok\nok\nclosed 0 8\nacked 1\n0 8 node 0 locks 1:4 ranges 1:0+1\n";
+    check_found(&rt, &RECORD, &third, commit, fourth, 0)?;
+    let no_record = record_with(&rt, &[(4, 9)])?;
+    check_found(&rt, &no_record, &[], show, &zeros, 0)
+}
+
+#[test]
+fn slots_of_the_same_and_of_the_greatest_sequence(rt: HostRuntime) -> Result<(), Fail> {
+    let alloc = rt.alloc();
+    let show = b"show 0 1 0\n".as_slice();
+    let mut both = slot(alloc, 5, 0x11)?;
+    both.extend_from_slice(&slot(alloc, 5, 0x22)?)?;
+    check_found(&rt, &[], &both, show, &same_page(alloc, "11")?, 0)?;
+    let greatest = slot(alloc, 1 << 60, 0)?;
+    check_found(&rt, &[], &greatest, show, &same_page(alloc, "00")?, 0)?;
+    let commit = b"begin 0 0 1\nrange 0 0 1 0 1\nend 0 0\n".as_slice();
+    let spent = "ok\nok\nrefused SequenceSpent 1\n";
+    check_found(&rt, &[], &greatest, commit, spent, 1)
 }
 
 #[test]
