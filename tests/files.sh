@@ -5,7 +5,7 @@
 # usage: tests/files.sh [PROGRAM [SEED]]     (default: crates/lcrvm/out/lcrvm, 1)
 #
 # A kill shows in which order the calls were made. It does not show that the syncs work: what a killed process wrote
-# is in the system's memory, and stays. It takes about two minutes, and works in a folder of its own below TMPDIR.
+# is in the system's memory, and stays. It takes about a minute, and works in a folder of its own below TMPDIR.
 set -eu
 
 program=${1:-crates/lcrvm/out/lcrvm}
@@ -98,18 +98,20 @@ random_below() {
 }
 
 # Commit K puts the two bytes of K at offset 0 of each segment, and is acknowledged before the next begins.
-awk -v commits=$commits 'BEGIN {
+segments=8
+all_segments=$(awk -v n=$segments 'BEGIN { for (s = 1; s <= n; s++) printf " %d", s }')
+awk -v commits=$commits -v segments=$segments -v all="$all_segments" 'BEGIN {
     for (k = 1; k <= commits; k++) {
-        print "begin 0 0 1 2"
-        for (s = 1; s <= 2; s++) { print "range 0 0 " s " 0 2"; printf "write 0 0 %d 0 %04x\n", s, k }
+        print "begin 0 0" all
+        for (s = 1; s <= segments; s++) { print "range 0 0 " s " 0 2"; printf "write 0 0 %d 0 %04x\n", s, k }
         print "end 0 0"; print "flush 0"
         if (k % 50 == 0) {
-            for (s = 1; s <= 2; s++) for (i = 0; i < 6; i++) print "page 0 " s " 0"
+            for (s = 1; s <= segments; s++) for (i = 0; i < 6; i++) print "page 0 " s " 0"
             for (i = 0; i < 4; i++) print "reset 0"
         }
     }
 }' > commits.script
-store_size='--segments 2 --words 1024'
+store_size="--segments $segments --words 4096"
 
 # Starts a run whose replies come through a pipe into the file `replies`.
 start_run() {
@@ -129,13 +131,13 @@ acknowledged() {
 check_store() {
     "$program" recover store $store_size > recovered || fail "kill $1: no recovery"
     kept=$(sed -n 's/^segment 1 sequence //p' recovered)
-    [ "$kept" = "$(sed -n 's/^segment 2 sequence //p' recovered)" ] || fail "kill $1: half of a commit"
+    [ "$(grep -c " sequence $kept\$" recovered)" -eq $segments ] || fail "kill $1: a part of a commit"
     [ "$kept" -ge "$2" ] || fail "kill $1: $2 commits were acknowledged, and $kept are there"
     [ "$kept" -le $commits ] || fail "kill $1: more commits than were made"
-    { echo 'begin 0 0 1 2'; echo 'read 0 0 1 0 2'; echo 'read 0 0 2 0 2'; } > look
+    { echo "begin 0 0$all_segments"; for s in $all_segments; do echo "read 0 0 $s 0 2"; done; } > look
     "$program" run --store store $store_size < look > looked || fail "kill $1: the store cannot be read"
     want=$(printf 'bytes %04x' "$kept")
-    [ "$(grep -c -x "$want" looked)" -eq 2 ] || fail "kill $1: the bytes are not those of commit $kept"
+    [ "$(grep -c -x "$want" looked)" -eq $segments ] || fail "kill $1: the bytes are not those of commit $kept"
 }
 
 # Kills a process, and tells whether it still ran.
@@ -161,9 +163,9 @@ while [ $kill -le $((kills_in_runs + kills_in_recoveries)) ]; do
     count=$(acknowledged)
     [ $cut = yes ] && [ "$count" -ge 1 ] && behind=$((behind + 1))
     if [ $kill -gt $kills_in_runs ]; then
+        turns=$(random_below $((seed * 2000 + kill)) 4000)
         "$program" recover store $store_size > /dev/null &
         recovering=$!
-        turns=$(random_below $((seed * 2000 + kill)) 4000)
         while [ "$turns" -gt 0 ]; do turns=$((turns - 1)); done
         killed $recovering && in_recoveries=$((in_recoveries + 1))
     fi
@@ -173,4 +175,5 @@ while [ $kill -le $((kills_in_runs + kills_in_recoveries)) ]; do
 done
 echo "$behind runs were killed behind an acknowledged commit, $in_recoveries recoveries in their midst"
 [ $behind -ge $kills_wanted ] || fail "too few kills fell behind an acknowledged commit"
+[ $in_recoveries -ge 1 ] || fail "no kill fell in a recovery"
 echo "1 passed, 0 failed"
