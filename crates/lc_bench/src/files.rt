@@ -43,17 +43,17 @@ where
 {
     make_folder(rt)?;
     let mut world = opened(rt, made(rt)?)?;
+    let groups = COMMITS.div_ceil(group.max(1));
+    let commits = groups.saturating_mul(group);
     let start = Instant::now(rt)?;
-    let mut commits = 0;
-    while commits < COMMITS {
+    for _ in 0..groups {
         for _ in 0..group {
             commit(rt.alloc(), &mut world)?;
         }
         flush(rt.alloc(), &mut world)?;
-        commits = commits.saturating_add(group.max(1));
     }
     let work = start.elapsed(rt)?;
-    let plain = plain_writes(rt, group, COMMITS.div_ceil(group.max(1)))?;
+    let plain = plain_writes(rt, group, groups)?;
     fs::remove_dir_all(rt, FOLDER)?;
     println!(rt;
         "{commits} commits in groups of {group}, {} a second",
