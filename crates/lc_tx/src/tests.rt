@@ -72,7 +72,7 @@ fn two_images(alloc: Global, len: usize) -> Result<TwoImages, AllocError> {
     })
 }
 
-// The end of a transaction on images of 16,384 bytes at most.
+// The end of a transaction on images of 262,144 bytes at most.
 fn prepare(alloc: Global, images: &mut TwoImages, tx: &Tx, node: u16) -> Result<Prepared, TxFault>
     requires runs { RunsOn ⟦<TwoImages as Images>⟧ images.old tx.now }
     requires node { node ≤ 7 }
@@ -84,7 +84,7 @@ fn prepare(alloc: Global, images: &mut TwoImages, tx: &Tx, node: u16) -> Result<
     tx.prepare_end(alloc, images, node)
 }
 
-// What the end needs, on images of 16,384 bytes at most.
+// What the end needs, on images of 262,144 bytes at most.
 fn needs(images: &TwoImages, tx: &Tx) -> Result<Option<u32>, TxFault>
     requires { RunsOn ⟦<TwoImages as Images>⟧ images.now tx.now }
 {
