@@ -68,6 +68,7 @@ pub use headline::run_areas;
 pub use in_memory::run_in_memory;
 pub use laws::{next_life, settled_answers, settled_runs};
 pub use lc_model::{Event, Refusal, Reply};
+pub use recovered_reply::recovery_refusal;
 pub use run_result::RunResult;
 pub use show_fault::ShowFault;
 pub use world::World;

@@ -22,13 +22,23 @@ pub(crate) fn reply_to(step: Result<Progress, RecoverFault>) -> Result<Reply, Al
 pub(crate) fn stopped(fault: RecoverFault) -> Result<Reply, AllocError>
     ensures { MatchOption (refusal_to fault) (IsErr result) (λ refusal. result ≡ Ok (Refused refusal)) }
 {
-    let refusal = match fault {
-        RecoverFault::BadGeometry { area } => Refusal::BadGeometry { area },
-        RecoverFault::Gap { segment, seq } => Refusal::Gap { segment, seq },
-        RecoverFault::Twice { segment, seq } => Refusal::Twice { segment, seq },
-        RecoverFault::OutOfSegment { area } => Refusal::OutOfSegment { area: Some(area) },
-        RecoverFault::DeviceFault => Refusal::DeviceFault,
-        RecoverFault::NoMemory => return Err(AllocError),
-    };
-    Ok(Reply::Refused(refusal))
+    match recovery_refusal(fault) {
+        Some(refusal) => Ok(Reply::Refused(refusal)),
+        None => Err(AllocError),
+    }
+}
+
+/// The refusal with which a store answers a fault of its recovery: that of the same name and fields. Want of memory is no
+/// refusal.
+pub fn recovery_refusal(fault: RecoverFault) -> Option<Refusal>
+    ensures { result ≡ refusal_to fault }
+{
+    match fault {
+        RecoverFault::BadGeometry { area } => Some(Refusal::BadGeometry { area }),
+        RecoverFault::Gap { segment, seq } => Some(Refusal::Gap { segment, seq }),
+        RecoverFault::Twice { segment, seq } => Some(Refusal::Twice { segment, seq }),
+        RecoverFault::OutOfSegment { area } => Some(Refusal::OutOfSegment { area: Some(area) }),
+        RecoverFault::DeviceFault => Some(Refusal::DeviceFault),
+        RecoverFault::NoMemory => None,
+    }
 }

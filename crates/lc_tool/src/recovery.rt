@@ -2,7 +2,6 @@
 ghost use Rattle.std.specs.Prelude.{◌≡◌, ◌≢◌, IfErr, IfOk, MatchResult, OnOk};
 ghost use Rattle.std.specs.Io.KnownBytes.{Appends};
 ghost use Rattle.lc_recover.specs.Recovered.{sequence_of};
-ghost use Rattle.lc_core.specs.Recovering.{refusal_to};
 ghost use Rattle.lc_tool.specs.Recovers.{Explains, Recovers, RecoversAreas, stop_status, stop_text};
 ghost use Rattle.lc_tool.specs.Store.{RefusesLengths, RefusesMerge};
 ghost use Rattle.lc_tool.specs.Text.{recovered_text, segment_text};
@@ -11,7 +10,7 @@ use crate::ToolFault;
 use crate::replies::write_reply;
 use crate::scripts::{DONE, FAULTED, REFUSED};
 use crate::text::write_no_memory;
-use lc_core::{Refusal, Reply};
+use lc_core::{Reply, recovery_refusal};
 use lc_disk::Area;
 use lc_record::Geometry;
 use lc_recover::{Progress, RecoverFault, Recovered, Recovery};
@@ -92,23 +91,9 @@ fn write_segment<W: Write>(writer: &mut W, segment: u32, number: u64) -> io::Res
 fn write_stop<W: Write>(writer: &mut W, fault: RecoverFault) -> io::Result<()>
     ensures { OnOk result (Appends (W.contents writer.old) (W.contents writer.new) (stop_text fault)) }
 {
-    match refusal_of(fault) {
+    match recovery_refusal(fault) {
         Some(refusal) => write_reply(writer, &Reply::Refused(refusal)),
         None => write_no_memory(writer),
-    }
-}
-
-// The refusal to a fault; there is none to want of memory.
-fn refusal_of(fault: RecoverFault) -> Option<Refusal>
-    ensures { result ≡ refusal_to fault }
-{
-    match fault {
-        RecoverFault::BadGeometry { area } => Some(Refusal::BadGeometry { area }),
-        RecoverFault::Gap { segment, seq } => Some(Refusal::Gap { segment, seq }),
-        RecoverFault::Twice { segment, seq } => Some(Refusal::Twice { segment, seq }),
-        RecoverFault::OutOfSegment { area } => Some(Refusal::OutOfSegment { area: Some(area) }),
-        RecoverFault::DeviceFault => Some(Refusal::DeviceFault),
-        RecoverFault::NoMemory => None,
     }
 }
 
