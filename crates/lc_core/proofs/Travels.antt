@@ -1,9 +1,10 @@
 -- The tokens that are on their way.
-use Rattle.std.proofs.Common.{◌≡◌, ◌⊎◌, ℕ, zero, suc, ◌+◌, List, [], ◌∷◌, true, ◌≤◌, leb-true, Option, Some, None, refl, sym, ap, subst, ◌∙◌, inl, inr, arith}
+use Rattle.std.proofs.Common.{◌≡◌, ◌⊎◌, ℕ, zero, suc, ◌+◌, ◌-◌, List, [], ◌∷◌, get_or, true, ◌≤◌, leb-true, Option, Some, None, refl, sym, ap, subst, ◌∙◌, inl, inr, arith}
 use Rattle.std.specs.Prelude.{slice_get, slice_set, nat_le, ◌&&◌}
 use Rattle.std.specs.Option.{ForSome}
 use Rattle.std.proofs.lemmas.Bool.{cases_eq}
 use Rattle.std.proofs.lemmas.List.{length-set}
+use Rattle.std.proofs.lemmas.Option.{slice_get_read}
 use Rattle.lc_disk.specs.declared.area.Area.{Ghosts}
 use Rattle.lc_record.specs.declared.geometry.Geometry.{Geometry}
 use Rattle.lc_token.specs.declared.token.Token.{Token}
@@ -14,7 +15,7 @@ use Rattle.lc_model.specs.declared.refusal.Refusal.TheVariants.{OutOfTurn}
 use Rattle.lc_model.specs.declared.reply.Reply.{Reply}
 use Rattle.lc_model.specs.declared.reply.Reply.TheVariants.{Refused}
 use Rattle.lc_model.specs.Refusals.{are_known, by_node, is_node, is_segment}
-use Rattle.lc_model.proofs.Rows.{and-both, arrive-no_turn}
+use Rattle.lc_model.proofs.Rows.{and-both, arrive-no_turn, node_known}
 use Rattle.lc_core.specs.Node.{GoesOn, moved_by}
 use Rattle.lc_core.specs.Nodes.{AreNamed}
 use Rattle.lc_core.specs.Numbers.{Numbers}
@@ -23,6 +24,7 @@ use Rattle.lc_core.specs.Running.{FitsAll, FitsTravelling, Onward}
 use Rattle.lc_core.specs.Settled.{arrive_answer}
 use Rattle.lc_core.specs.Slots.{FitsToken}
 use Rattle.lc_core.specs.declared.node.Node.{Node}
+use Rattle.lc_core.specs.declared.running.Running.{Running}
 use Rattle.lc_core.proofs.Going.{settled_by}
 
 -- what is at a place after a write to one
@@ -100,3 +102,49 @@ pub set_it : {A : Type 0} (xs : List A) (k : ℕ) (was again : A) → slice_get 
 set_it [] k was again at same = refl
 set_it (x ∷ xs) zero was again at same = ap (λ y. y ∷ xs) (same ∙ sym (same_some x was at))
 set_it (x ∷ xs) (suc k) was again at same = ap (λ ys. x ∷ ys) (set_it xs k was again at same)
+
+module _ {D : Type 0} (a : Ghosts D) (w : Running D a) (node segment : ℕ) where
+  -- what is read at the place of the segment
+  pub record IsPlace (found : Option Token) : Type 0 where
+    pub named : (segment - 1) + 1 ≡ segment
+    pub was : slice_get w.travelling.items (segment - 1) ≡ Some found
+
+  -- the node and the token that an arrival finds
+  pub record Arriving (old : Node D a) (found : Option Token) (token : Token) : Type 0 where
+    pub place : IsPlace found
+    pub open place use *
+    pub at : slice_get w.nodes.items node ≡ Some old
+    pub stood : found ≡ Some token
+    pub its : token.segment ≡ segment
+    pub first : 1 ≤ segment
+    pub last : segment ≤ w.geometry.segments
+
+  module _ (known : are_known w.geometry (by_node node (segment ∷ []) []) ≡ true) where
+    pub place_read : (found : Option Token) → found ≡ get_or w.travelling.items (segment - 1) found → IsPlace found
+    place_read found read =
+        let its = segment_known w.geometry node segment known in
+        record {
+          named = omega (arith, its.0);
+          was = slice_get_read w.travelling.items w.travelling.len (segment - 1) found w.travelling.ok.0 (omega (arith, its.0, its.1, w.all_places)) read;
+        }
+
+    pub arriving : (old : Node D a) (found : Option Token) (token : Token) → old ≡ get_or w.nodes.items node old → found ≡ get_or w.travelling.items (segment - 1) found → found ≡ Some token
+        → Arriving old found token
+    arriving old found token same read stood =
+        let place = place_read found read in
+        let its = segment_known w.geometry node segment known in
+        record {
+          place = place;
+          at = slice_get_read w.nodes.items w.nodes.len node old w.nodes.ok.0 (omega (arith, w.all_nodes, node_known w.geometry node (segment ∷ []) [] known)) same;
+          stood = stood;
+          its = w.named (segment - 1) token (place.was ∙ ap (λ o. Some o) stood) ∙ place.named;
+          first = its.0;
+          last = its.1;
+        }
+
+  -- the token travels, and fits
+  pub arriving_travels : (m : Setting) (s : State) (x : Numbers) (old : Node D a) (found : Option Token) (token : Token) → FitsAll a m w.geometry w.nodes.items w.travelling.items s x → Arriving old found token
+      → (s.place token.segment ≡ Travelling) × FitsToken m token.segment token s x
+  arriving_travels m s x old found token h it =
+      let there = h.on_the_way.some (segment - 1) token (it.was ∙ ap (λ o. Some o) it.stood) in
+      (ap s.place (it.its ∙ sym it.named) ∙ there.0, subst (λ (i : ℕ). FitsToken m i token s x) (it.named ∙ sym it.its) there.1)

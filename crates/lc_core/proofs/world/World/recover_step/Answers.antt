@@ -21,6 +21,7 @@ use Rattle.lc_core.proofs.Recoveries.{FollowsPhase, StepLeaves, comes_up, down_s
 use Rattle.lc_core.specs.Recovers.{RecoversDown}
 use Rattle.lc_core.proofs.Recovers.{IfOk-any, StepSays, down_asks, down_recovers, risen_recovers, up_refuses}
 use Rattle.lc_core.proofs.world.World.recover_step.Given.{Over}
+use Rattle.lc_core.proofs.world.World.recover_step.Goals.{After-step-2}
 use Rattle.lc_core.proofs.world.World.recover_step.Goals as goal
 
 pub returns-in_default-clause-follows : goal.returns-in_default-clause-follows
@@ -69,7 +70,7 @@ pub returns-then-not-is_last-clause-err : goal.returns-then-not-is_last-clause-e
 returns-then-not-is_last-clause-err g c =
     err_then c.reply_to.result (wants g c) (λ asks. same_still g.D.Area c.args.self.now.phase c.in-Down.recovery c.step.new.self c.in-Down.is asks.1)
 
-module _ (g : Over) (c : goal.After-drop-room-in-Err-3 g) where
+module _ (g : Over) (c : After-step-2 g) where
   leaves-last : StepLeaves g.D.Area c.in-Down.recovery c.step-2.new.self c.step-2.result
   leaves-last = record {
     geometry = c.step-2.ensures.geometry;
@@ -91,46 +92,25 @@ module _ (g : Over) (c : goal.After-drop-room-in-Err-3 g) where
     merge_fault = c.step-2.ensures.merge_fault;
   }
 
+module _ (g : Over) (c : goal.After-drop-room-in-Err-3 g) where
   replies-last : RepliesTo c.step-2.result c.stopped.result
   replies-last = subst (λ (r : Result Progress RecoverFault). RepliesTo r c.stopped.result) (sym c.in-Err.is) c.stopped.ensures
 
 pub returns-in-Err-clause-follows : goal.returns-in-Err-clause-follows
 returns-in-Err-clause-follows g c =
-    down_follows g.D.Area c.args.self.now.phase c.in-Down.recovery c.step-2.new.self c.in-Down.is c.step-2.result c.stopped.result (replies-last g c) (leaves-last g c)
+    down_follows g.D.Area c.args.self.now.phase c.in-Down.recovery c.step-2.new.self c.in-Down.is c.step-2.result c.stopped.result (replies-last g c) (leaves-last g (goal.at.returns-in-Err-clause-follows g c).After-step-2)
     (λ p is done. (let none : Ok p ≡ Err c.in-Err.fault = sym is ∙ c.in-Err.is in absurd cc))
 
 pub returns-in-Err-clause-err : goal.returns-in-Err-clause-err
 returns-in-Err-clause-err g c =
-    err_then c.stopped.result (down_wants g.D.Area c.args.self.now.phase c.in-Down.recovery c.step-2.new.self c.in-Down.is c.step-2.result c.stopped.result (replies-last g c) (leaves-last g c))
+    err_then c.stopped.result (down_wants g.D.Area c.args.self.now.phase c.in-Down.recovery c.step-2.new.self c.in-Down.is c.step-2.result c.stopped.result (replies-last g c) (leaves-last g (goal.at.returns-in-Err-clause-err g c).After-step-2))
     (λ asks. same_still g.D.Area c.args.self.now.phase c.in-Down.recovery c.step-2.new.self c.in-Down.is asks.1)
-
-module _ (g : Over) (c : goal.Joined-self-risen g) where
-  leaves-done : StepLeaves g.D.Area c.in-Down.recovery c.step-2.new.self c.step-2.result
-  leaves-done = record {
-    geometry = c.step-2.ensures.geometry;
-    lengths = c.step-2.ensures.lengths;
-    progress = c.step-2.ensures.progress;
-    steps = c.step-2.ensures.steps;
-    no_memory = c.step-2.ensures.no_memory;
-    again = c.step-2.ensures.again;
-    honest = c.step-2.ensures.honest;
-    merges = c.step-2.ensures.merges;
-    accepted = c.step-2.ensures.accepted;
-  }
-
-  calls-done : StepCalls g.D.Area c.in-Down.recovery c.step-2.new.self c.step-2.result
-  calls-done = record {
-    call = c.step-2.ensures.call;
-    no_call = c.step-2.ensures.no_call;
-    fault = c.step-2.ensures.fault;
-    merge_fault = c.step-2.ensures.merge_fault;
-  }
 
 pub returns-clause-follows : goal.returns-clause-follows
 returns-clause-follows g c =
     let up = c.risen.ensures c.step-2.new.self c.replace.ensures.value in
     subst (λ (p : Phase g.row.D.Denot g.D.Area). FollowsPhase g.D.Area c.args.self.now.phase RecoverStep Recovered p) (sym up.1)
-    (comes_up g.D.Area c.args.self.now.phase c.in-Down.recovery c.step-2.new.self c.in-Down.is up.0 (leaves-done g c) up.2)
+    (comes_up g.D.Area c.args.self.now.phase c.in-Down.recovery c.step-2.new.self c.in-Down.is up.0 (leaves-last g (goal.at.returns-clause-follows g c).After-step-2) up.2)
 
 pub risen-requires-clause-done : goal.risen-requires-clause-done
 risen-requires-clause-done g c r is =
@@ -167,18 +147,18 @@ returns-then-not-is_last-clause-no_fault g c =
 
 pub returns-in-Err-clause-faults : goal.returns-in-Err-clause-faults
 returns-in-Err-clause-faults g c =
-    phase_counts g.D.Area c.in-Down.recovery c.step-2.new.self c.args.self.now.phase c.in-Down.is c.step-2.result c.stopped.result (replies-last g c) (calls-last g c)
+    phase_counts g.D.Area c.in-Down.recovery c.step-2.new.self c.args.self.now.phase c.in-Down.is c.step-2.result c.stopped.result (replies-last g c) (calls-last g (goal.at.returns-in-Err-clause-faults g c).After-step-2)
 
 pub returns-in-Err-clause-no_fault : goal.returns-in-Err-clause-no_fault
 returns-in-Err-clause-no_fault g c =
-    err_then c.stopped.result (down_wants g.D.Area c.args.self.now.phase c.in-Down.recovery c.step-2.new.self c.in-Down.is c.step-2.result c.stopped.result (replies-last g c) (leaves-last g c))
+    err_then c.stopped.result (down_wants g.D.Area c.args.self.now.phase c.in-Down.recovery c.step-2.new.self c.in-Down.is c.step-2.result c.stopped.result (replies-last g c) (leaves-last g (goal.at.returns-in-Err-clause-no_fault g c).After-step-2))
     (λ asks. down_failures g.D.Area c.args.self.now.phase c.in-Down.recovery c.step-2.new.self c.in-Down.is asks.1)
 
 pub returns-clause-faults : goal.returns-clause-faults
 returns-clause-faults g c =
     let up = c.risen.ensures c.step-2.new.self c.replace.ensures.value in
     subst (λ (p : Phase g.row.D.Denot g.D.Area). CountsPhase g.D.Area c.args.self.now.phase Recovered p) (sym up.1)
-    (risen_counts g.D.Area c.args.self.now.phase c.in-Down.recovery c.step-2.new.self c.in-Down.is c.step-2.result c.in_default-step.not-Err (calls-done g c) up.0 up.2)
+    (risen_counts g.D.Area c.args.self.now.phase c.in-Down.recovery c.step-2.new.self c.in-Down.is c.step-2.result c.in_default-step.not-Err (calls-last g (goal.at.returns-clause-faults g c).After-step-2) up.0 up.2)
 
 pub returns-in_default-clause-recovers : goal.returns-in_default-clause-recovers
 returns-in_default-clause-recovers g c r is = absurd (c.in_default.not-Down r is)
