@@ -1,9 +1,9 @@
 -- The same event again and again: a flush that has made three steps ends with the next, and a reservation is closed.
-use Rattle.std.proofs.Common.{◌≡◌, ◌∙◌, ℕ, ◌+◌, ◌≤◌, ◌<◌, Bool, true, false, ◌==◌, nat_lt, List, [], ◌∷◌, ◌++◌, Option, Some, None, refl, sym, ap, subst, arith, inl, inr, ltb-true, eqb-true, eq-eqb, not}
+use Rattle.std.proofs.Common.{◌≡◌, ◌∙◌, ℕ, ◌+◌, ◌≤◌, ◌<◌, Bool, true, false, ◌==◌, nat_lt, List, [], ◌∷◌, ◌++◌, Option, Some, None, refl, ap, subst, arith, inl, inr, ltb-true, eqb-true, eq-eqb, not}
 use Rattle.std.specs.Prelude.{MatchBool}
 use Rattle.lc_model.specs.History.{front}
 use Rattle.lc_record.specs.declared.geometry.Geometry.{Geometry}
-use Rattle.lc_model.specs.Machine.{Step, FlushRow, RecoverRow, ReserveRow, Moves, appended, flushed_to}
+use Rattle.lc_model.specs.Machine.{Step, FlushRow, RecoverRow, ReserveRow, Moves, appended}
 use Rattle.lc_record.specs.Marks.{is_empty}
 use Rattle.lc_record.specs.Transaction.{Transaction}
 use Rattle.lc_model.specs.Refusals.{Unless, OfRunning, common_refusal, refuse_if}

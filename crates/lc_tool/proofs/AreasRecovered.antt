@@ -1,6 +1,6 @@
 -- A recovery on its own, step by step, and what is printed behind it.
-use Rattle.std.proofs.Common.{◌≡◌, ◌∙◌, ◌⊎◌, ℕ, zero, suc, ◌+◌, ◌-◌, ◌*◌, ◌≤◌, ◌<◌, ◌==◌, Bool, true, false, nat_lt, List, [], ◌∷◌, ◌++◌, map, length, drop, Option, None, Some, refl, sym, ap, ap₂, subst, arith, inl, inr, eqb-true, eq-eqb, ltb-true, ltb-false}
-use Rattle.std.specs.Prelude.{Result, Ok, Err, IfOk, OnOk, MatchResult, flat_map, slice_get}
+use Rattle.std.proofs.Common.{◌≡◌, ◌∙◌, ℕ, zero, suc, ◌+◌, ◌-◌, ◌≤◌, ◌<◌, List, [], ◌∷◌, ◌++◌, map, length, drop, Option, Some, refl, sym, ap, ap₂, subst, arith, inl, inr}
+use Rattle.std.specs.Prelude.{Result, Ok, Err, IfOk, OnOk, MatchResult, flat_map}
 use Rattle.std.specs.Io.KnownBytes.{Appends}
 use Rattle.std.proofs.KnownBytes.{Appends-trans}
 use Rattle.std.proofs.lemmas.Bool.{cases_lt}
@@ -9,7 +9,7 @@ use Rattle.lc_disk.specs.declared.area.Area.{Ghosts}
 use Rattle.lc_record.specs.Content.{Content}
 use Rattle.lc_record.specs.Marks.{counting}
 use Rattle.lc_record.specs.declared.geometry.Geometry.{Geometry}
-use Rattle.lc_model.specs.Merge.{MergeFault, MergesTo, Refuses, Store, BadGeometry as IsOther, OutOfSegment as IsOutside, Twice as AreTwice, Gap as IsGap}
+use Rattle.lc_model.specs.Merge.{MergeFault, MergesTo, Refuses, Store}
 use Rattle.lc_model.proofs.Outcome.{fault-apart, one-value}
 use Rattle.lc_model.specs.declared.refusal.Refusal.{Refusal}
 use Rattle.lc_model.specs.declared.reply.Reply.TheVariants.{Recovered as IsReply}
@@ -24,9 +24,9 @@ use Rattle.lc_recover.specs.declared.fault.RecoverFault.TheVariants.{BadGeometry
 use Rattle.lc_recover.specs.declared.progress.Progress.{Progress}
 use Rattle.lc_recover.specs.declared.progress.Progress.TheVariants.{Stepped, Recovered as IsEnd}
 use Rattle.lc_recover.proofs.Images.{count-areas, own-image}
-use Rattle.lc_tool.specs.Recovers.{AreNumbered, Explains, IsOutward, Recovers, RecoversAreas, RecoversStore, stop_status, stop_text}
-use Rattle.lc_tool.specs.Store.{Adds, AreRefused, IsFirstWrong, RefusesLengths, RefusesMerge, RefusesStore}
-use Rattle.lc_tool.specs.Text.{recovered_text, refusal_text, reply_text, segment_text, segments_text}
+use Rattle.lc_tool.specs.Recovers.{AreNumbered, Explains, IsOutward, Recovers, RecoversAreas, stop_status, stop_text}
+use Rattle.lc_tool.specs.Store.{AreRefused, IsFirstWrong, RefusesLengths, RefusesMerge, RefusesStore}
+use Rattle.lc_tool.specs.Text.{recovered_text, refusal_text, reply_text, segment_text}
 use Rattle.lc_tool.specs.declared.tool_fault.ToolFault.{ToolFault}
 use Rattle.lc_tool.specs.declared.tool_fault.ToolFault.TheVariants.{Write as NotWritten}
 use Rattle.lc_tool.proofs.Refusals.{one_least, same_refusal}

@@ -5,22 +5,23 @@ use Rattle.lc_disk.specs.declared.area.Area.{Ghosts}
 use Rattle.lc_record.specs.declared.geometry.Geometry.{Geometry}
 use Rattle.lc_model.specs.Merge.{MergeFault, BadGeometry, OutOfSegment, Twice, Gap}
 use Rattle.lc_model.specs.State.{Setting, State, first_state}
-use Rattle.lc_model.specs.declared.refusal.Refusal.TheVariants.{DeviceFault}
+use Rattle.lc_model.specs.declared.refusal.Refusal.TheVariants.{BadGeometry as WrongArea, DeviceFault}
 use Rattle.lc_model.specs.declared.reply.Reply.{Reply}
 use Rattle.lc_model.specs.declared.reply.Reply.TheVariants.{Refused as IsRefusal}
 use Rattle.lc_core.specs.Numbers.{Numbers}
 use Rattle.lc_core.specs.World.{FitsWorld}
 use Rattle.lc_core.specs.declared.world.World.{World}
-use Rattle.lc_tool.specs.Answers.{Finishes}
+use Rattle.lc_tool.specs.Files.{Stops}
 use Rattle.lc_tool.specs.Fits.{FollowsAll, IsRefused, RefusesAll}
 use Rattle.lc_tool.specs.Outcome.{EndsWith, IsGivenUp, IsRecovered, OpensStore, RefusesFirst, RunsLines}
-use Rattle.lc_tool.specs.Script.{NoMemory, Opens, Runs, RunsScript, script_lines}
+use Rattle.lc_tool.specs.Script.{Opens, Runs, RunsScript, script_lines}
 use Rattle.lc_recover.specs.Reads.{AllMergeTo, AreHonest, HaveLengths}
 use Rattle.lc_recover.specs.Recovery.{begun}
 use Rattle.lc_core.specs.declared.phase.Phase.TheVariants.{Down}
-use Rattle.lc_tool.specs.Store.{Adds, AreKnown, AreRefused, RefusesLengths, RefusesMerge, RefusesStore, RunsStore, merge_refusal}
+use Rattle.lc_tool.specs.Store.{Adds, AreKnown, AreRefused, RefusesLengths, RefusesMerge, RunsStore, merge_refusal}
 use Rattle.lc_tool.proofs.ScriptLemmas.{keeps_then}
-use Rattle.lc_tool.specs.Text.{no_memory_text, reply_text, too_long_text}
+use Rattle.lc_tool.specs.Tells.{TellsLines, TellsScript, TellsStop}
+use Rattle.lc_tool.specs.Text.{no_memory_text, refusal_text, reply_text, too_long_text}
 use Rattle.lc_tool.specs.Verdict.{verdict_of}
 use Rattle.lc_tool.specs.declared.verdict.Verdict.{Verdict}
 use Rattle.lc_tool.specs.declared.verdict.Verdict.TheVariants.{Done, Refused, Faulted}
@@ -143,3 +144,29 @@ module _ {D : Type 0} (a : Ghosts D) (g : Geometry) (areas : List D) (world : Wo
       let up = opens.0 m (first_state g) x (start_fits fits m x same known) in
       let run = lines m up.0 up.1 up.3 in
       (run.0, all_lines m (first_state g) x script up.0 up.1 run.0 status up.2 short run.1, keeps_then held mid holds run.0 opens.1 run.2)
+
+-- The same of any areas
+module _ (held holds : Option (List ℕ)) (status : ℕ) (script : List ℕ) where
+  pub stopped_tells : Adds TellsStop held holds status → Adds (TellsScript script) held holds status
+  stopped_tells stop = (stop.0, inl stop.1, stop.2)
+
+  -- files that could not be opened
+  pub not_opened_tells : Adds Stops held holds status → Adds (TellsScript script) held holds status
+  not_opened_tells stop =
+      elim stop.1 [
+        | inl device ↦ (stop.0, inl (inr (IsRefusal DeviceFault, device)), stop.2)
+        | inr memory ↦ (stop.0, inl (inl memory), stop.2)
+      ]
+
+  pub wrong_tells : (area : ℕ) → status ≡ 1 → Appends held holds (refusal_text (WrongArea area)) → Adds (TellsScript script) held holds status
+  wrong_tells area is shown = (refusal_text (WrongArea area), inl (inr (IsRefusal (WrongArea area), (refl, is))), shown)
+
+  module _ (mid : Option (List ℕ)) (keeps : Keeps held mid) where
+    pub memory_tells : status ≡ 1 → Appends mid holds no_memory_text → Adds (TellsScript script) held holds status
+    memory_tells is shown = (no_memory_text, inl (inl (refl, is)), keeps_then held mid holds no_memory_text keeps shown)
+
+    pub long_tells : nat_lt 1048576 (length script) ≡ true → status ≡ 2 → Appends mid holds too_long_text → Adds (TellsScript script) held holds status
+    long_tells long is shown = (too_long_text, inr (rw long (refl, is)), keeps_then held mid holds too_long_text keeps shown)
+
+    pub lines_tell : nat_lt 1048576 (length script) ≡ false → Adds (TellsLines 1 false (script_lines script)) mid holds status → Adds (TellsScript script) held holds status
+    lines_tell short lines = (lines.0, inr (rw short lines.1), keeps_then held mid holds lines.0 keeps lines.2)

@@ -1,6 +1,5 @@
 -- What the making of a store's files has found and made.
-use Rattle.std.proofs.Common.{◌≡◌, ◌⊎◌, ◌↔◌, ℕ, ◌+◌, ◌<◌, ◌≤◌, Bool, true, false, IsTrue, List, [], ◌∷◌, ◌++◌, refl, sym, subst, ap, inl, inr, rules, arith, ◌∙◌, Contains, Option}
-use Rattle.std.specs.Io.KnownBytes.{Appends}
+use Rattle.std.proofs.Common.{◌≡◌, ◌↔◌, ℕ, ◌≤◌, Bool, false, IsTrue, List, sym, subst, ap, inr, rules, arith, Contains, Option}
 use Rattle.lc_record.specs.declared.geometry.Geometry.{Geometry}
 use Rattle.lc_recover.specs.Reads.{area_count}
 use Rattle.lc_tool.specs.Files.{Inits, MadeSome, NoneTaken, Stops, file_at, name_at, names_of}

@@ -1,6 +1,6 @@
 -- The lines of a log: its records', or that of a refusal.
 use Rattle.std.proofs.Common.{◌≡◌, ◌≢◌, ◌∙◌, ℕ, ltb-true, Bool, true, false, nat_lt, List, [], Option, Some, None, append-nil, refl, sym, ap, subst, inl, inr}
-use Rattle.std.specs.Prelude.{Result, Ok, Err, if◌then◌else◌, slice_get, vec_items}
+use Rattle.std.specs.Prelude.{Result, Ok, Err, if◌then◌else◌, slice_get}
 use Rattle.std.specs.List.{AllByRecursion}
 use Rattle.std.specs.Global.{Vec}
 use Rattle.std.specs.Io.KnownBytes.{Appends}
@@ -32,7 +32,7 @@ use Rattle.lc_tool.specs.Text.{records_text, refusal_text, words_text}
 use Rattle.lc_tool.specs.Verdict.{verdict_on}
 use Rattle.lc_tool.specs.declared.command.Command.TheVariants.{Inspect, Log}
 use Rattle.lc_tool.specs.declared.verdict.Verdict.{Verdict}
-use Rattle.lc_tool.specs.declared.verdict.Verdict.TheVariants.{Done, Refused, Faulted}
+use Rattle.lc_tool.specs.declared.verdict.Verdict.TheVariants.{Done}
 use Rattle.lc_tool.proofs.Fitting.{records_whole, running_fits, words_logged}
 use Rattle.lc_tool.proofs.Logs.{HasWords, are_logged, known_log, unknown_log}
 

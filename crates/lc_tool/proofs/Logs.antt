@@ -1,28 +1,19 @@
 -- The records that a store shows of a log are those that the machine's node has in it.
-use Rattle.std.proofs.Common.{◌≡◌, ◌∙◌, ℕ, ◌<◌, ◌≤◌, Bool, true, false, nat_lt, List, [], ◌∷◌, ◌++◌, length, take, drop, Option, Some, None, refl, sym, ap, subst, inl, inr, arith, append-nil, lt-ltb, ltb-true, ltb-false, zero, suc}
-use Rattle.std.proofs.lemmas.Option.{slice_get_cases, slice_get_past}
-use Rattle.std.specs.Prelude.{MatchBool, if◌then◌else◌, slice_get, vec_len}
+use Rattle.std.proofs.Common.{◌≡◌, ◌∙◌, ℕ, Bool, true, false, nat_lt, List, [], ◌∷◌, take, drop, Some, None, refl, ap, inl, inr, ltb-true, ltb-false, zero, suc}
+use Rattle.std.specs.Prelude.{if◌then◌else◌}
 use Rattle.std.specs.List.{AllByRecursion}
 use Rattle.lc_disk.specs.declared.area.Area.{Ghosts}
-use Rattle.lc_record.specs.Words.{bytes_of, words_of}
 use Rattle.lc_record.specs.declared.geometry.Geometry.{Geometry}
 use Rattle.lc_record.specs.declared.record.Record.{Record}
-use Rattle.lc_record.proofs.WordLemmas.{words_of-bytes_of-all}
-use Rattle.lc_log.specs.LogText.{IsLogText, IsWhole, joined}
-use Rattle.lc_log.proofs.LogLemmas.{joined_words, one_text-by}
+use Rattle.lc_log.specs.LogText.{IsWhole, joined}
 use Rattle.lc_model.specs.Refusals.{is_node}
-use Rattle.lc_model.specs.State.{Phase, Up as IsUp, DownAt, Setting, State}
+use Rattle.lc_model.specs.State.{Up as IsUp, Setting, State}
 use Rattle.lc_model.specs.Stored.{records_of}
-use Rattle.lc_core.specs.Log.{Stands, area_of}
-use Rattle.lc_core.specs.LogWords.{AreLogged, log_area, log_in, logged_records}
+use Rattle.lc_core.specs.LogWords.{AreLogged, log_area, logged_records}
 use Rattle.lc_core.specs.Numbers.{Numbers, stable_records}
 use Rattle.lc_core.specs.World.{FitsPhase}
-use Rattle.lc_core.specs.declared.log.Log.{Log}
-use Rattle.lc_core.specs.declared.log.Log.TheVariants.{Idle, Written, Synced, Opened, Sealed, Closing, Emptied, Failed, Torn, Taken as NoLog}
-use Rattle.lc_core.specs.declared.node.Node.{Node}
 use Rattle.lc_core.specs.declared.phase.Phase.{Phase as ItsPhase}
 use Rattle.lc_core.specs.declared.phase.Phase.TheVariants.{Down, Up, Taken}
-use Rattle.lc_core.specs.declared.up.Up.{Up as Rising}
 use Rattle.lc_tool.specs.Shown.{AreInLog}
 use Rattle.lc_tool.proofs.Fitting.{down_log, running_fits, up_log, up_none}
 

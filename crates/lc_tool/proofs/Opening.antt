@@ -1,17 +1,17 @@
 -- The recovery that comes before a script: where the store's areas read as one whose merge is refused, that refusal ends it.
-use Rattle.std.proofs.Common.{◌≡◌, ◌∙◌, ◌⊎◌, ℕ, ◌+◌, ◌*◌, ◌≤◌, ◌<◌, List, map, Some, refl, sym, ap, ap₂, subst, arith, inl, inr, eqb-true, eq-eqb, ltb-true, ltb-false, nat_lt, ◌==◌, Bool, true, false}
+use Rattle.std.proofs.Common.{◌≡◌, ◌∙◌, ◌⊎◌, ℕ, ◌+◌, ◌≤◌, ◌<◌, List, map, refl, sym, ap, ap₂, subst, arith, inl, inr, eqb-true, eq-eqb, ltb-true, ltb-false, nat_lt, ◌==◌, Bool, true, false}
 use Rattle.lc_disk.specs.declared.area.Area.{Ghosts}
 use Rattle.lc_record.specs.declared.geometry.Geometry.{Geometry}
 use Rattle.lc_model.specs.Merge.{MergeFault, Refuses, Store}
 use Rattle.lc_model.specs.declared.refusal.Refusal.TheVariants.{DeviceFault}
 use Rattle.lc_model.specs.declared.reply.Reply.{Reply}
-use Rattle.lc_model.specs.declared.reply.Reply.TheVariants.{Stepped, Recovered, Refused}
+use Rattle.lc_model.specs.declared.reply.Reply.TheVariants.{Stepped, Refused}
 use Rattle.lc_recover.specs.Reads.{AreHonest, ReadsRefused, store_of}
 use Rattle.lc_recover.specs.Recovery.{Recovering, begun, IsMergeNext}
 use Rattle.lc_recover.specs.Steps.{first_steps}
 use Rattle.lc_core.specs.Recovers.{AnswersMerge, AnswersRecovery, RecoversDown}
 use Rattle.lc_core.specs.declared.phase.Phase.{Phase}
-use Rattle.lc_core.specs.declared.phase.Phase.TheVariants.{Down, Up, Taken}
+use Rattle.lc_core.specs.declared.phase.Phase.TheVariants.{Down}
 use Rattle.lc_tool.specs.Answers.{IsStepped}
 use Rattle.lc_tool.specs.Store.{merge_refusal}
 use Rattle.lc_tool.proofs.Fitting.{reads_same}

@@ -8,9 +8,9 @@ use Rattle.lc_model.specs.declared.event.Event.TheVariants.{Reserve, Close, Flus
 use Rattle.lc_model.specs.declared.reply.Reply.{Reply}
 use Rattle.lc_model.specs.declared.reply.Reply.TheVariants.{Ok as Accepted, Reserved, Stepped}
 use Rattle.lc_core.specs.Numbers.{Numbers}
-use Rattle.lc_core.specs.World.{FitsWorld, FollowsWorld, Leads as LeadsOn}
+use Rattle.lc_core.specs.World.{FitsWorld, FollowsWorld}
 use Rattle.lc_core.specs.declared.world.World.{World}
-use Rattle.lc_tool.specs.Answers.{Answers, Ends, Finishes, GoesOnWith, IsStepped}
+use Rattle.lc_tool.specs.Answers.{Ends, Finishes, GoesOnWith, IsStepped}
 use Rattle.lc_tool.specs.Fits.{FollowsAll, FollowsEnd, Performs}
 use Rattle.lc_tool.specs.Session.{end_text}
 use Rattle.lc_tool.specs.Text.{reply_text}

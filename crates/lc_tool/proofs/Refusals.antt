@@ -1,7 +1,7 @@
 -- A store is refused in one way alone, and one that is refused does not merge.
-use Rattle.std.proofs.Common.{◌≡◌, ◌∙◌, ℕ, ◌≤◌, ◌<◌, Option, Some, None, refl, sym, ap, ap₂, subst, arith, inl, inr}
+use Rattle.std.proofs.Common.{◌≡◌, ◌∙◌, ℕ, Some, sym, ap, ap₂, arith, inl, inr}
 use Rattle.lc_record.specs.Content.{Content}
-use Rattle.lc_model.specs.Merge.{Store, MergesTo, IsLeast, IsLeastPair, HasGap, IsTwice, Refuses, MergeFault, BadGeometry, OutOfSegment, Twice, Gap}
+use Rattle.lc_model.specs.Merge.{Store, MergesTo, IsLeast, IsLeastPair, Refuses, MergeFault, BadGeometry, OutOfSegment, Twice, Gap}
 use Rattle.lc_model.specs.declared.refusal.Refusal.{Refusal}
 use Rattle.lc_recover.specs.Fault.{IsRefusal}
 use Rattle.lc_recover.specs.declared.fault.RecoverFault.{RecoverFault}

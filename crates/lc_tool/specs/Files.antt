@@ -1,12 +1,16 @@
 -- The files of a store, and what the making of them leaves in a folder.
 use Rattle.std.specs.Prelude.{◌≡◌, ◌⊎◌, ℕ, zero, suc, ◌+◌, ◌-◌, ◌*◌, ◌<◌, ◌≤◌, nat_lt, if◌then◌else◌, List, [], ◌∷◌, ◌++◌, map, codes, decimal, Contains}
+use Rattle.lc_disk.specs.declared.open_fault.OpenFault.{OpenFault}
+use Rattle.lc_disk.specs.declared.open_fault.OpenFault.TheVariants.{NotOpened, Exists, NoMemory as HasNone}
 use Rattle.lc_record.specs.declared.geometry.Geometry.{Geometry}
-use Rattle.lc_model.specs.declared.refusal.Refusal.TheVariants.{DeviceFault}
+use Rattle.lc_model.specs.declared.refusal.Refusal.TheVariants.{BadGeometry, DeviceFault}
 use Rattle.lc_recover.specs.Reads.{area_count}
 use Rattle.lc_tool.specs.Script.{NoMemory}
 use Rattle.lc_tool.specs.Text.{exists_text, refusal_text}
 use Rattle.lc_tool.specs.declared.file_name.FileName.{FileName}
 use Rattle.lc_tool.specs.declared.file_name.FileName.TheVariants.{Log, Segment}
+use Rattle.lc_tool.specs.declared.folder.FolderFault.{FolderFault}
+use Rattle.lc_tool.specs.declared.folder.FolderFault.TheVariants.{Failed, NoMemory as WantsMemory}
 use Rattle.lc_tool.specs.declared.store_file.StoreFile.{StoreFile}
 
 abbrev pub name_text : FileName → List ℕ
@@ -54,6 +58,20 @@ MadeSome g old new = (areas : ℕ) × (areas ≤ area_count g) × StaysOrBegins 
 -- the line of a device that failed, or of want of memory
 abbrev pub Stops : List ℕ → ℕ → Type 0
 Stops text status = ((text ≡ refusal_text DeviceFault) × (status ≡ 3)) ⊎ NoMemory text status
+
+-- whatever the folder: the line of a file that is there, or nothing, or why there is no store
+abbrev pub TellsInit : List ℕ → ℕ → Type 0
+TellsInit text status = ((text ≡ exists_text) × (status ≡ 1)) ⊎ (((text ≡ []) × (status ≡ 0)) ⊎ Stops text status)
+
+-- the line of a file that has not the length of a log, or that could not be read
+abbrev pub TellsFile : List ℕ → ℕ → Type 0
+TellsFile text status = ((text ≡ refusal_text (BadGeometry 0)) × (status ≡ 1)) ⊎ Stops text status
+
+-- what a file that was not opened is to its folder
+abbrev pub fault_of : OpenFault → FolderFault
+fault_of NotOpened = Failed
+fault_of Exists = Failed
+fault_of HasNone = WantsMemory
 
 -- A new store, where none of its files is there; else nothing is made. What was made before a fault stays.
 abbrev pub Inits : Geometry → List StoreFile → List StoreFile → List ℕ → ℕ → Type 0

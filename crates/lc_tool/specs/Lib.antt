@@ -11,6 +11,7 @@ pub mod Script
 pub mod Store
 pub mod Fits
 pub mod Outcome
+pub mod Tells
 pub mod CommandLine
 pub mod Files
 pub mod Recovers

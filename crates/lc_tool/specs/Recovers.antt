@@ -30,6 +30,12 @@ abbrev pub stop_status : RecoverFault → ℕ
 stop_status DeviceFault = 3
 stop_status fault = 1
 
+-- whatever the areas: the numbers of some store, and that it is recovered, or why it is not
+abbrev pub TellsRecovery : Geometry → List ℕ → ℕ → Type 0
+TellsRecovery g text status =
+    ((numbers : ℕ → ℕ) × (text ≡ recovered_text g numbers) × (status ≡ 0))
+    ⊎ ((fault : RecoverFault) × (text ≡ stop_text fault) × (status ≡ stop_status fault))
+
 -- there was no memory, or a device has failed
 abbrev pub IsOutward : RecoverFault → Type 0
 IsOutward fault = (fault ≡ NoMemory) ⊎ (fault ≡ DeviceFault)

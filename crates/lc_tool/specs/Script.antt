@@ -16,15 +16,19 @@ use Rattle.lc_tool.specs.declared.command.Line.TheVariants.{Skipped, Command as 
 use Rattle.lc_tool.specs.declared.verdict.Verdict.{Verdict}
 use Rattle.lc_tool.specs.declared.verdict.Verdict.TheVariants.{Done, Refused, Faulted}
 
--- what goes on from a state and numbers: whether something was refused before, and the text and the status then
+-- what the lines behind print: whether something was refused before, and the text and the status then
+abbrev pub Rest : Type 1
+Rest = Bool → List ℕ → ℕ → Type 0
+
+-- the same from a state and numbers on
 abbrev pub Going : Type 1
-Going = State → Numbers → Bool → List ℕ → ℕ → Type 0
+Going = State → Numbers → Rest
 
 -- behind the text of a command: where a device has failed nothing more is done
-abbrev pub GoesOn : Going → State → Numbers → Bool → List ℕ → Verdict → List ℕ → ℕ → Type 0
-GoesOn next s x refused shown Done text status = (rest : List ℕ) × (text ≡ shown ++ rest) × next s x refused rest status
-GoesOn next s x refused shown Refused text status = (rest : List ℕ) × (text ≡ shown ++ rest) × next s x true rest status
-GoesOn next s x refused shown Faulted text status = (text ≡ shown) × (status ≡ 3)
+abbrev pub GoesOn : Rest → Bool → List ℕ → Verdict → List ℕ → ℕ → Type 0
+GoesOn next refused shown Done text status = (rest : List ℕ) × (text ≡ shown ++ rest) × next refused rest status
+GoesOn next refused shown Refused text status = (rest : List ℕ) × (text ≡ shown ++ rest) × next true rest status
+GoesOn next refused shown Faulted text status = (text ≡ shown) × (status ≡ 3)
 
 -- What the rest of a script prints and which status it ends with, by what a line says: `next` is the same of the
 -- lines behind it.
@@ -33,7 +37,7 @@ Prints next m s x number refused Skipped text status = next s x refused text sta
 Prints next m s x number refused NotUnderstood text status = (text ≡ not_understood_text number) × (status ≡ 2)
 Prints next m s x number refused (Commanded command) text status =
     (shown : List ℕ) × (verdict : Verdict) × (after : State) × (later : Numbers)
-    × Does m s x command shown verdict after later × GoesOn next after later refused shown verdict text status
+    × Does m s x command shown verdict after later × GoesOn (next after later) refused shown verdict text status
 
 -- there was no memory
 abbrev pub NoMemory : List ℕ → ℕ → Type 0

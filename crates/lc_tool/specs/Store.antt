@@ -29,9 +29,9 @@ RefusesStore fault text status =
 abbrev pub RefusesArea : ℕ → List ℕ → ℕ → Type 0
 RefusesArea area text status = (text ≡ refusal_text (BadGeometry area)) × (status ≡ 1)
 
--- to what a writer held a text is added which with the status is such
-abbrev pub Adds : (List ℕ → ℕ → Type 0) → Option (List ℕ) → Option (List ℕ) → ℕ → Type 0
-Adds Such held holds status = (text : List ℕ) × Such text status × Appends held holds text
+-- to what a writer held a text is added which with the status, or with what else was answered, is such
+abbrev pub Adds : {A : Type 0} → (List ℕ → A → Type 0) → Option (List ℕ) → Option (List ℕ) → A → Type 0
+Adds Such held holds answer = (text : List ℕ) × Such text answer × Appends held holds text
 
 module _ {D : Type 0} (a : Ghosts D) where
   -- the first area that has not its length

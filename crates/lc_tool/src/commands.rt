@@ -5,6 +5,8 @@ ghost use Rattle.lc_model.specs.declared.refusal.Refusal.{Refusal};
 ghost use Rattle.lc_tool.specs.Fits.{AsksFor, Performs};
 ghost use Rattle.lc_tool.specs.Session.{Says, end_text};
 ghost use Rattle.lc_tool.specs.Shown.{refusal_to};
+ghost use Rattle.lc_tool.specs.Store.{Adds};
+ghost use Rattle.lc_tool.specs.Tells.{TellsCommand};
 ghost use Rattle.lc_tool.specs.Text.{refusal_text, reply_text, words_text};
 ghost use Rattle.lc_tool.specs.Verdict.{verdict_of, verdict_on};
 ghost use Rattle.lc_tool.specs.declared.command.Command.TheVariants.{Inspect, Log, Show};
@@ -31,6 +33,7 @@ pub(crate) fn perform<D: Stoppable + Drop, W: Write>(
     writer: &mut W,
 ) -> Result<Verdict, Stop>
     ensures done { IfOk result (λ verdict. Performs D.Area world.old command (W.contents writer.old) (W.contents writer.new) verdict world.new) }
+    ensures tells { IfOk result (λ verdict. Adds (TellsCommand command) (W.contents writer.old) (W.contents writer.new) verdict) }
     ensures memory { result ≡ Err Stop.NoMemory → Keeps (W.contents writer.old) (W.contents writer.new) }
     ensures asks { result ≡ Err Stop.NoMemory → AsksFor D.Area world.old command }
 {
@@ -80,6 +83,7 @@ fn show_log<D: Stoppable + Drop, W: Write>(
     writer: &mut W,
 ) -> Result<Verdict, Stop>
     ensures done { IfOk result (λ verdict. Performs D.Area world.old (Log node) (W.contents writer.old) (W.contents writer.new) verdict world.new) }
+    ensures tells { IfOk result (λ verdict. Adds (TellsCommand (Log node)) (W.contents writer.old) (W.contents writer.new) verdict) }
     ensures memory { result ≡ Err Stop.NoMemory → Keeps (W.contents writer.old) (W.contents writer.new) }
     ensures asks { result ≡ Err Stop.NoMemory → AsksFor D.Area world.old (Log node) }
 {
@@ -100,6 +104,7 @@ fn show_records<D: Stoppable + Drop, W: Write>(
     writer: &mut W,
 ) -> Result<Verdict, Stop>
     ensures done { IfOk result (λ verdict. Performs D.Area world.old (Inspect node) (W.contents writer.old) (W.contents writer.new) verdict world.new) }
+    ensures tells { IfOk result (λ verdict. Adds (TellsCommand (Inspect node)) (W.contents writer.old) (W.contents writer.new) verdict) }
     ensures memory { result ≡ Err Stop.NoMemory → Keeps (W.contents writer.old) (W.contents writer.new) }
     ensures asks { result ≡ Err Stop.NoMemory → AsksFor D.Area world.old (Inspect node) }
 {
@@ -137,6 +142,7 @@ fn show_page<D: Stoppable + Drop, W: Write>(
     writer: &mut W,
 ) -> Result<Verdict, Stop>
     ensures done { IfOk result (λ verdict. Performs D.Area world.old (Show node segment page) (W.contents writer.old) (W.contents writer.new) verdict world.new) }
+    ensures tells { IfOk result (λ verdict. Adds (TellsCommand (Show node segment page)) (W.contents writer.old) (W.contents writer.new) verdict) }
     ensures memory { result ≢ Err Stop.NoMemory }
 {
     match world.page(node, segment, page) {

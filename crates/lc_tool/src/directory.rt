@@ -1,4 +1,8 @@
 //! A folder of the system.
+ghost use Rattle.std.specs.Prelude.{◌≡◌};
+ghost use Rattle.lc_tool.specs.Files.{fault_of};
+ghost use Rattle.lc_tool.specs.declared.folder.FolderFault.TheVariants.{NoMemory};
+
 use crate::file_name::FileName;
 use crate::folder::{Folder, FolderFault};
 use crate::store_file::StoreFile;
@@ -97,6 +101,8 @@ where
 }
 
 impl From<AllocError> for FolderFault {
+    ghost from_gives = { λ _ fault. fault ≡ NoMemory };
+
     fn from(_error: AllocError) -> FolderFault {
         FolderFault::NoMemory
     }
@@ -112,6 +118,8 @@ impl From<io::Error> for FolderFault {
 }
 
 impl From<OpenFault> for FolderFault {
+    ghost from_gives = { λ opening fault. fault ≡ fault_of opening };
+
     fn from(fault: OpenFault) -> FolderFault {
         match fault {
             // All names were looked at: one that is taken by now was taken by somebody else.

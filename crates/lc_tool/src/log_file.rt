@@ -1,9 +1,10 @@
 //! The inspection of a log's file.
-ghost use Rattle.std.specs.Prelude.{◌≡◌, ◌≢◌, ◌↔◌, ◌⊎◌, IfOk, IsTrue};
+ghost use Rattle.std.specs.Prelude.{◌≡◌, ◌≢◌, ◌↔◌, ◌⊎◌, ℕ, List, IfOk, IsTrue};
 ghost use Rattle.std.specs.Io.KnownBytes.{Appends};
 ghost use Rattle.lc_record.specs.Words.{words_of};
-ghost use Rattle.lc_tool.specs.Files.{IsLogLen};
+ghost use Rattle.lc_tool.specs.Files.{IsLogLen, TellsFile};
 ghost use Rattle.lc_tool.specs.Inspector.{Inspects};
+ghost use Rattle.lc_tool.specs.Store.{Adds};
 ghost use Rattle.lc_tool.specs.Text.{no_memory_text};
 
 use crate::ToolFault;
@@ -40,6 +41,9 @@ pub fn inspect_file<R: Files, W: Write>(
 ) -> Result<u8, ToolFault>
 where
     R::File: FileExt,
+    // The lines of some bytes, or why there are none.
+    ensures tells { IfOk result (λ status. ((status ≡ 0) × ((words : List ℕ) × Inspects reverse words (W.contents writer.old) (W.contents writer.new)))
+        ⊎ Adds TellsFile (W.contents writer.old) (W.contents writer.new) status) }
     ensures memory { result ≢ Err ToolFault.NoMemory }
     ensures reads { result ≢ Err ToolFault.Read }
 {

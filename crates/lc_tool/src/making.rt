@@ -1,7 +1,7 @@
 //! The making of a store's files.
 ghost use Rattle.std.specs.Prelude.{◌≡◌, ◌≢◌, ◌++◌, true, IfErr, IfOk, OnOk, OnErr, MatchBool};
 ghost use Rattle.lc_recover.specs.Reads.{area_count};
-ghost use Rattle.lc_tool.specs.Files.{Inits, MadeSome, NoneTaken, SomeTaken, Stops, store_files};
+ghost use Rattle.lc_tool.specs.Files.{Inits, MadeSome, NoneTaken, SomeTaken, Stops, TellsInit, store_files};
 ghost use Rattle.lc_tool.specs.Text.{exists_text};
 ghost use Rattle.std.specs.Io.KnownBytes.{Appends};
 ghost use Rattle.lc_tool.specs.Store.{Adds};
@@ -26,6 +26,7 @@ pub(crate) fn init_in<F: Folder, W: Write>(
 ) -> Result<u8, ToolFault>
     ensures inits { IfOk result (λ status. F.honest folder.old ≡ true →
         Adds (Inits geometry.now (F.files folder.old) (F.files folder.new)) (W.contents writer.old) (W.contents writer.new) status) }
+    ensures tells { IfOk result (λ status. Adds TellsInit (W.contents writer.old) (W.contents writer.new) status) }
     ensures memory { result ≢ Err ToolFault.NoMemory }
     ensures reads { result ≢ Err ToolFault.Read }
 {

@@ -2,8 +2,8 @@
 ghost use Rattle.std.specs.Prelude.{◌≡◌, ◌≢◌, IfErr, IfOk, MatchResult, OnOk};
 ghost use Rattle.std.specs.Io.KnownBytes.{Appends};
 ghost use Rattle.lc_recover.specs.Recovered.{sequence_of};
-ghost use Rattle.lc_tool.specs.Recovers.{Explains, Recovers, RecoversAreas, stop_status, stop_text};
-ghost use Rattle.lc_tool.specs.Store.{RefusesLengths, RefusesMerge};
+ghost use Rattle.lc_tool.specs.Recovers.{Explains, Recovers, RecoversAreas, TellsRecovery, stop_status, stop_text};
+ghost use Rattle.lc_tool.specs.Store.{Adds, RefusesLengths, RefusesMerge};
 ghost use Rattle.lc_tool.specs.Text.{recovered_text, segment_text};
 
 use crate::ToolFault;
@@ -33,6 +33,9 @@ pub fn recover_areas<D: Area + Drop, W: Write>(
     // Areas whose merge is refused, and areas that are not those of the geometry.
     ensures refused { IfOk result (λ status. RefusesMerge D.Area geometry areas.items (W.contents writer.old) (W.contents writer.new) status) }
     ensures wrong { IfOk result (λ status. RefusesLengths D.Area geometry areas.items (W.contents writer.old) (W.contents writer.new) status) }
+
+    // Any areas.
+    ensures tells { IfOk result (λ status. Adds (TellsRecovery geometry) (W.contents writer.old) (W.contents writer.new) status) }
     ensures memory { result ≢ Err ToolFault.NoMemory }
     ensures reads { result ≢ Err ToolFault.Read }
 {

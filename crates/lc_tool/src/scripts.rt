@@ -1,9 +1,11 @@
 //! Runs a script.
-ghost use Rattle.std.specs.Prelude.{◌≡◌, ◌≢◌, ◌+◌, ℕ, IfOk, IfSome, Some, None, take, if◌then◌else◌};
+ghost use Rattle.std.specs.Prelude.{◌≡◌, ◌≢◌, ◌+◌, ℕ, false, IfOk, IfSome, Some, None, take, if◌then◌else◌};
 ghost use Rattle.std.specs.Io.KnownBytes.{Appends};
 ghost use Rattle.lc_model.specs.declared.refusal.Refusal.TheVariants.{BadGeometry};
 ghost use Rattle.lc_tool.specs.Outcome.{LeavesLine, OpensStore, RefusesFirst, RunsLines};
-ghost use Rattle.lc_tool.specs.Store.{RefusesLengths, RefusesMerge, RunsStore};
+ghost use Rattle.lc_tool.specs.Script.{script_lines};
+ghost use Rattle.lc_tool.specs.Store.{Adds, RefusesLengths, RefusesMerge, RunsStore};
+ghost use Rattle.lc_tool.specs.Tells.{TellsLine, TellsLines, TellsOpening, TellsScript};
 ghost use Rattle.lc_tool.specs.Text.{no_memory_text, refusal_text, reply_text, too_long_text};
 
 use crate::ToolFault;
@@ -53,6 +55,9 @@ pub fn run_script<D: Stoppable + Drop, R: Read, W: Write>(
     // Areas whose merge is refused, and areas that are not those of the geometry.
     ensures refused { IfOk result (λ status. RefusesMerge D.Area geometry areas.items (W.contents writer.old) (W.contents writer.new) status) }
     ensures wrong { IfOk result (λ status. RefusesLengths D.Area geometry areas.items (W.contents writer.old) (W.contents writer.new) status) }
+
+    // Any areas.
+    ensures tells { IfOk result (λ status. IfSome (R.remaining reader.old) (λ script. Adds (TellsScript script) (W.contents writer.old) (W.contents writer.new) status)) }
     ensures memory { result ≢ Err ToolFault.NoMemory }
 {
     let mut world = match World::new(geometry, areas) {
@@ -82,6 +87,7 @@ fn open<D: Stoppable + Drop, W: Write>(
 ) -> Result<Option<u8>, ToolFault>
     ensures opens { IfOk result (λ status. OpensStore D.Area world.old (W.contents writer.old) (W.contents writer.new) status world.new) }
     ensures refused { IfOk result (λ status. RefusesFirst D.Area world.old (W.contents writer.old) (W.contents writer.new) status) }
+    ensures tells { IfOk result (λ status. TellsOpening (W.contents writer.old) (W.contents writer.new) status) }
     ensures memory { result ≢ Err ToolFault.NoMemory }
 {
     let Ok(reply) = recover(world, alloc) else {
@@ -140,6 +146,7 @@ fn run_lines<D: Stoppable + Drop, W: Write>(
     writer: &mut W,
 ) -> Result<u8, ToolFault>
     ensures runs { IfOk result (λ status. RunsLines D.Area world.old script.now (W.contents writer.old) (W.contents writer.new) status) }
+    ensures tells { IfOk result (λ status. Adds (TellsLines 1 false (script_lines script.now)) (W.contents writer.old) (W.contents writer.new) status) }
     ensures memory { result ≢ Err ToolFault.NoMemory }
 {
     let mut rest = script;
@@ -173,6 +180,7 @@ fn run_line<D: Stoppable + Drop, W: Write>(
     writer: &mut W,
 ) -> Result<Outcome, ToolFault>
     ensures leaves { IfOk result (λ outcome. LeavesLine D.Area world.old line.now number (W.contents writer.old) (W.contents writer.new) outcome world.new) }
+    ensures tells { IfOk result (λ outcome. Adds (TellsLine line.now number) (W.contents writer.old) (W.contents writer.new) outcome) }
     ensures memory { result ≢ Err ToolFault.NoMemory }
 {
     let outcome = do_line(alloc, world, line, number, writer)?;
@@ -191,6 +199,7 @@ fn do_line<D: Stoppable + Drop, W: Write>(
     writer: &mut W,
 ) -> Result<Outcome, ToolFault>
     ensures leaves { IfOk result (λ outcome. LeavesLine D.Area world.old line.now number (W.contents writer.old) (W.contents writer.new) outcome world.new) }
+    ensures tells { IfOk result (λ outcome. Adds (TellsLine line.now number) (W.contents writer.old) (W.contents writer.new) outcome) }
     ensures memory { result ≢ Err ToolFault.NoMemory }
 {
     let Ok(read) = parse(alloc, line) else {

@@ -1,5 +1,9 @@
 //! Stores in folders.
-ghost use Rattle.std.specs.Prelude.{◌≡◌, ◌≢◌};
+ghost use Rattle.std.specs.Prelude.{◌≡◌, ◌≢◌, IfOk, IfSome};
+ghost use Rattle.lc_tool.specs.Files.{TellsInit};
+ghost use Rattle.lc_tool.specs.Recovers.{TellsRecovery};
+ghost use Rattle.lc_tool.specs.Store.{Adds};
+ghost use Rattle.lc_tool.specs.Tells.{TellsScript};
 
 use crate::ToolFault;
 use crate::directory::Directory;
@@ -25,6 +29,7 @@ pub fn init_store<R: Files, W: Write>(
 ) -> Result<u8, ToolFault>
 where
     R::File: FileExt,
+    ensures tells { IfOk result (λ status. Adds TellsInit (W.contents writer.old) (W.contents writer.new) status) }
     ensures memory { result ≢ Err ToolFault.NoMemory }
     ensures reads { result ≢ Err ToolFault.Read }
 {
@@ -42,6 +47,7 @@ pub fn recover_store<R: Files, W: Write>(
 ) -> Result<u8, ToolFault>
 where
     R::File: FileExt,
+    ensures tells { IfOk result (λ status. Adds (TellsRecovery geometry) (W.contents writer.old) (W.contents writer.new) status) }
     ensures memory { result ≢ Err ToolFault.NoMemory }
     ensures reads { result ≢ Err ToolFault.Read }
 {
@@ -63,6 +69,7 @@ pub fn run_store<R: Files, I: Read, W: Write>(
 ) -> Result<u8, ToolFault>
 where
     R::File: FileExt,
+    ensures tells { IfOk result (λ status. IfSome (I.remaining reader.old) (λ script. Adds (TellsScript script) (W.contents writer.old) (W.contents writer.new) status)) }
     ensures memory { result ≢ Err ToolFault.NoMemory }
 {
     match Directory::new(alloc, rt, folder).open_areas(&geometry) {

@@ -1,7 +1,7 @@
-use Rattle.std.proofs.Common.{◌∙◌, List, ℕ, ap, subst, Err}
+use Rattle.std.proofs.Common.{◌∙◌, List, ℕ, refl, ap, subst, inl, inr, Err}
 use Rattle.std.proofs.lemmas.Result.{IfOk-weaker}
 use Rattle.std.specs.Io.KnownBytes.{Appends}
-use Rattle.lc_tool.specs.Text.{words_text}
+use Rattle.lc_tool.specs.Text.{refusal_text, words_text}
 use Rattle.lc_tool.proofs.LogShown.{log_asks, log_fault, log_performs}
 use Rattle.lc_tool.proofs.commands.show_log.Goals as goal
 
@@ -21,3 +21,9 @@ pub returns-in-Err-clause-asks : goal.returns-in-Err-clause-asks
 returns-in-Err-clause-asks g c = λ want.
     log_asks g.D.Area c.args.node c.args.world.now c.log_words.new.self c.log_words.result (record { unknown = c.log_words.ensures.unknown; read = c.log_words.ensures.read })
     (c.in-Err.is ∙ ap (λ fault. Err fault) (c.show_fault.ensures.memory want).0)
+
+pub returns-in_ok-show_words-in-Ok-clause-tells : goal.returns-in_ok-show_words-in-Ok-clause-tells
+returns-in_ok-show_words-in-Ok-clause-tells g c = (words_text c.as_slice.result.now, inl (c.as_slice.result.now, refl, refl), c.in_ok-show_words-in-Ok.ensures.shown)
+
+pub returns-in-Err-clause-tells : goal.returns-in-Err-clause-tells
+returns-in-Err-clause-tells g c = IfOk-weaker c.show_fault.result _ _ (λ verdict shown. (refusal_text shown.0, inr (shown.0, refl, shown.2), shown.3)) c.show_fault.ensures.shown

@@ -1,7 +1,9 @@
-use Rattle.std.proofs.Common.{◌≡◌, ◌∙◌, List, ℕ, ap, subst, false, Err}
+use Rattle.std.proofs.Common.{◌≡◌, ◌∙◌, List, ℕ, refl, ap, subst, inl, inr, false, Err}
 use Rattle.std.proofs.lemmas.Result.{IfOk-weaker}
 use Rattle.lc_record.specs.Words.{bytes_of, words_of}
+use Rattle.lc_log.specs.LogText.{placed}
 use Rattle.lc_tool.specs.Inspector.{Inspects}
+use Rattle.lc_tool.specs.Text.{records_text, refusal_text}
 use Rattle.lc_tool.proofs.LogShown.{inspect_asks, inspect_fault, inspect_had, inspect_performs}
 use Rattle.lc_tool.proofs.commands.show_records.Goals as goal
 
@@ -30,3 +32,9 @@ returns-in-Ok-inspect-clause-done g c =
 pub returns-in-Err-NoMemory-clause-asks : goal.returns-in-Err-NoMemory-clause-asks
 returns-in-Err-NoMemory-clause-asks g c = λ want.
     inspect_had g.D.Area c.args.node c.args.world.now c.log_words.new.self c.log_words.result (record { unknown = c.log_words.ensures.unknown; read = c.log_words.ensures.read }) c.in-Ok.words c.in-Ok.is
+
+pub returns-in-Ok-inspect-clause-tells : goal.returns-in-Ok-inspect-clause-tells
+returns-in-Ok-inspect-clause-tells g c = let shown = c.in-Ok-inspect.ensures.shown in (records_text (placed 0 shown.0), inl (shown.0, refl, refl), shown.2)
+
+pub returns-in-Err-clause-tells : goal.returns-in-Err-clause-tells
+returns-in-Err-clause-tells g c = IfOk-weaker c.show_fault.result _ _ (λ verdict shown. (refusal_text shown.0, inr (shown.0, refl, shown.2), shown.3)) c.show_fault.ensures.shown

@@ -1,10 +1,8 @@
-use Rattle.std.proofs.Common.{◌≡◌, ◌∙◌, ℕ, List, true, false, length, sym, ap, subst}
-use Rattle.std.specs.Prelude.{IfOk, reverse, if◌then◌else◌}
+use Rattle.std.proofs.Common.{◌≡◌, ◌∙◌, ℕ, List, length, subst}
 use Rattle.std.proofs.lemmas.Result.{IfOk-weaker}
 use Rattle.lc_record.specs.Words.{words_of}
 use Rattle.lc_record.specs.declared.record.Record.{Record}
 use Rattle.lc_log.specs.LogText.{IsLogText, joined, placed}
-use Rattle.lc_tool.specs.Inspector.{AreFound}
 use Rattle.lc_tool.proofs.Backwards.{some_word, walk_of}
 use Rattle.lc_tool.proofs.FieldLemmas.{on_err_weaker}
 use Rattle.lc_tool.proofs.inspector.find.Goals as goal

@@ -1,4 +1,4 @@
-use Rattle.std.proofs.Common.{◌≡◌, ◌∙◌, ℕ, ◌+◌, List, [], ◌∷◌, ◌++◌, get_or, take, sym, ap, append-nil}
+use Rattle.std.proofs.Common.{◌∙◌, ℕ, List, [], ◌∷◌, ◌++◌, get_or, take, sym, ap, append-nil}
 use Rattle.std.proofs.lemmas.List.{take_all, take_more}
 use Rattle.lc_record.specs.Words.{bytes_of}
 use Rattle.lc_record.proofs.WordLemmas.{bytes_of-append}

@@ -1,4 +1,4 @@
-use Rattle.std.proofs.Common.{◌∙◌, ap, sym, subst, List}
+use Rattle.std.proofs.Common.{◌∙◌, subst, List}
 use Rattle.std.proofs.lemmas.Result.{IfOk-weaker}
 use Rattle.lc_tool.specs.Files.{MadeSome}
 use Rattle.lc_tool.specs.declared.store_file.StoreFile.{StoreFile}

@@ -1,10 +1,8 @@
-use Rattle.std.proofs.Common.{◌≡◌, ◌∙◌, List, ℕ, Option, ap, sym, subst}
+use Rattle.std.proofs.Common.{◌∙◌, List, ℕ, Option, ap, sym, subst}
 use Rattle.std.specs.Prelude.{OnOk}
 use Rattle.std.specs.Option.{option_map_or}
 use Rattle.std.specs.Io.KnownBytes.{Appends}
 use Rattle.lc_model.specs.declared.refusal.Refusal.{Refusal}
-use Rattle.lc_core.specs.Recovering.{refusal_to}
-use Rattle.lc_tool.specs.Recovers.{stop_text}
 use Rattle.lc_tool.specs.Text.{no_memory_text, refusal_text}
 use Rattle.lc_tool.proofs.recovery.write_stop.Goals as goal
 

@@ -1,16 +1,19 @@
-use Rattle.std.proofs.Common.{◌+◌, ◌≤◌, length}
+use Rattle.std.proofs.Common.{◌+◌, ◌≤◌, false, length}
 use Rattle.lc_model.specs.State.{Setting, State}
 use Rattle.lc_core.specs.Numbers.{Numbers}
 use Rattle.lc_core.specs.World.{FitsWorld}
+use Rattle.lc_tool.specs.Script.{Runs, script_lines}
+use Rattle.lc_tool.specs.Tells.{TellsLines}
 use Rattle.lc_tool.proofs.ScriptLemmas.{SoFar}
 use Rattle.lc_tool.proofs.scripts.run_lines.Given as goal
 
 abbrev pub invariant-loop-rest : goal.invariant-loop-rest
 invariant-loop-rest g l = record {
   count : l.number + length l.rest ≤ length l.fn.script + 1;
+  told : SoFar (TellsLines 1 false (script_lines l.fn.script)) (TellsLines l.number l.refused (script_lines l.rest)) (g.W.Write.contents l.fn.writer) (g.W.Write.contents l.writer);
   runs : (m : Setting) (first : State) (start : Numbers) → FitsWorld g.D.Area m l.fn.world first start →
       (s : State) × (x : Numbers) × FitsWorld g.D.Area m l.world s x
-      × SoFar m first start s x l.fn.script l.rest l.number l.refused (g.W.Write.contents l.fn.writer) (g.W.Write.contents l.writer);
+      × SoFar (Runs m first start 1 false (script_lines l.fn.script)) (Runs m s x l.number l.refused (script_lines l.rest)) (g.W.Write.contents l.fn.writer) (g.W.Write.contents l.writer);
 }
 
 abbrev pub decreases-loop-rest : goal.decreases-loop-rest
