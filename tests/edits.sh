@@ -1,0 +1,50 @@
+#!/usr/bin/env bash
+# Tries wrong bodies that the prover has to refuse. Six of a crate at most stand in crates/NAME/must-fail/, where the gate tries
+# them; the others stand in crates/NAME/by-hand/, in the same form, and are tried here.
+#
+# usage: tests/edits.sh [-j N] [NAME..]   tries those of by-hand/, of these crates or of all, N crates side by side (one, if
+#                                         left out); the last line is 'N refused, M not'
+#        tests/edits.sh --fits            looks that each edit of both folders can be applied (seconds; proves nothing)
+#        tests/edits.sh --bare NAME EDIT  prints what an edit leaves open where no answer that is written by hand is in the way
+#
+# It works on a copy of the sources whose out/ folders are those of the repository, so what is proved is not proved again.
+# Nothing is put into the repository but kept work in out/. A crate takes one check, and then 10 to 40 seconds an edit.
+set -euo pipefail
+top=$(cd "$(dirname "$0")/.." && pwd)
+reader=$top/tests/edits.py
+
+case "${1:-}" in
+--fits | --bare) exec python3 "$reader" "$top" "$@" ;;
+esac
+
+lanes=1
+if [ "${1:-}" = -j ]; then
+    lanes=$2
+    shift 2
+fi
+if [ $# -eq 0 ]; then
+    # the longest first
+    set -- $(cd "$top/crates" && for it in */by-hand; do echo "$(ls "$it" | wc -l) ${it%/by-hand}"; done | sort -rn | cut -d ' ' -f 2)
+fi
+
+copy=$(mktemp -d "${TMPDIR:-/tmp}/lcrvm-edits.XXXXXX")
+trap 'rm -rf "$copy"' EXIT
+cp "$top/crates.txt" "$top/HANDLES" "$copy"
+for crate in "$top"/crates/*/; do
+    to=$copy/crates/$(basename "$crate")
+    mkdir -p "$to" "$crate/out"
+    for part in src specs proofs; do
+        [ ! -d "$crate/$part" ] || cp -r "$crate/$part" "$to"
+    done
+    ln -s "${crate}out" "$to/out"
+done
+for name in "$@"; do
+    cp -r "$top/crates/$name/by-hand" "$copy/crates/$name/must-fail"
+done
+
+cd "$copy"
+printf '%s\n' "$@" | xargs -P "$lanes" -I NAME sh -c 'rt must-fail NAME > NAME.said 2>&1 || true; cat NAME.said'
+wanted=$(for name in "$@"; do ls "crates/$name/must-fail"; done | grep -c '\.edit$' || true)
+refused=$(cat ./*.said | grep -c 'refused, as it must be\(: \|$\)' || true)
+echo "$refused refused, $((wanted - refused)) not"
+[ "$refused" -eq "$wanted" ]
