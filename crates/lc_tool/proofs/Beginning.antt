@@ -14,14 +14,15 @@ use Rattle.lc_core.specs.declared.world.World.{World}
 use Rattle.lc_tool.specs.Files.{Stops}
 use Rattle.lc_tool.specs.Fits.{FollowsAll, IsRefused, RefusesAll}
 use Rattle.lc_tool.specs.Outcome.{EndsWith, IsGivenUp, IsRecovered, OpensStore, RefusesFirst, RunsLines}
-use Rattle.lc_tool.specs.Script.{Opens, Runs, RunsScript, script_lines}
+use Rattle.lc_text.specs.Lines.{script_lines}
+use Rattle.lc_tool.specs.Script.{Opens, Runs, RunsScript}
 use Rattle.lc_recover.specs.Reads.{AllMergeTo, AreHonest, HaveLengths}
 use Rattle.lc_recover.specs.Recovery.{begun}
 use Rattle.lc_core.specs.declared.phase.Phase.TheVariants.{Down}
 use Rattle.lc_tool.specs.Store.{Adds, AreKnown, AreRefused, RefusesLengths, RefusesMerge, RunsStore, merge_refusal}
 use Rattle.lc_tool.proofs.ScriptLemmas.{keeps_then}
 use Rattle.lc_tool.specs.Tells.{TellsLines, TellsScript, TellsStop}
-use Rattle.lc_tool.specs.Text.{no_memory_text, refusal_text, reply_text, too_long_text}
+use Rattle.lc_text.specs.Text.{no_memory_text, refusal_text, reply_text, too_long_text}
 use Rattle.lc_tool.specs.Verdict.{verdict_of}
 use Rattle.lc_tool.specs.declared.verdict.Verdict.{Verdict}
 use Rattle.lc_tool.specs.declared.verdict.Verdict.TheVariants.{Done, Refused, Faulted}

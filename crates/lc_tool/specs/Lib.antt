@@ -1,7 +1,3 @@
-pub mod Text
-pub mod Line
-pub mod Fault
-pub mod Inspector
 pub mod Verdict
 pub mod Answers
 pub mod Shown
@@ -12,6 +8,5 @@ pub mod Store
 pub mod Fits
 pub mod Outcome
 pub mod Tells
-pub mod CommandLine
 pub mod Files
 pub mod Recovers

@@ -12,14 +12,15 @@ use Rattle.lc_core.specs.declared.world.World.{World}
 use Rattle.lc_tool.specs.Memory.{LineAsksMemory}
 use Rattle.lc_tool.specs.Answers.{Finishes}
 use Rattle.lc_tool.specs.Fits.{Leads, IsRefused}
-use Rattle.lc_tool.specs.Line.{line_of}
-use Rattle.lc_tool.specs.Script.{NoMemory, Runs, script_lines}
+use Rattle.lc_text.specs.Line.{line_of}
+use Rattle.lc_text.specs.Lines.{script_lines}
+use Rattle.lc_tool.specs.Script.{NoMemory, Runs}
 use Rattle.lc_tool.specs.Session.{Does}
 use Rattle.lc_tool.specs.Store.{Adds, RefusesStore}
-use Rattle.lc_tool.specs.Text.{not_understood_text, reply_text}
+use Rattle.lc_text.specs.Text.{not_understood_text, reply_text}
 use Rattle.lc_tool.specs.Verdict.{verdict_of}
-use Rattle.lc_tool.specs.declared.command.Command.{Command}
-use Rattle.lc_tool.specs.declared.command.Line.TheVariants.{Skipped, Command as Commanded, NotUnderstood}
+use Rattle.lc_text.specs.declared.command.Command.{Command}
+use Rattle.lc_text.specs.declared.command.Line.TheVariants.{Skipped, Command as Commanded, NotUnderstood}
 use Rattle.lc_tool.specs.declared.outcome.Outcome.{Outcome}
 use Rattle.lc_tool.specs.declared.outcome.Outcome.TheVariants.{Goes, Ends}
 use Rattle.lc_tool.specs.declared.verdict.Verdict.{Verdict}

@@ -6,17 +6,18 @@ use Rattle.lc_record.specs.declared.record.Record.{Record}
 use Rattle.lc_log.specs.LogText.{placed}
 use Rattle.lc_model.specs.declared.refusal.Refusal.{Refusal}
 use Rattle.lc_model.specs.declared.reply.Reply.{Reply}
-use Rattle.lc_tool.specs.Line.{line_of}
+use Rattle.lc_text.specs.Line.{line_of}
 use Rattle.lc_tool.specs.Outcome.{EndsWith, GoesBehind}
-use Rattle.lc_tool.specs.Script.{GoesOn, NoMemory, Rest, script_lines}
+use Rattle.lc_text.specs.Lines.{script_lines}
+use Rattle.lc_tool.specs.Script.{GoesOn, NoMemory, Rest}
 use Rattle.lc_tool.specs.Session.{Says, end_text}
 use Rattle.lc_tool.specs.Store.{Adds}
-use Rattle.lc_tool.specs.Text.{not_understood_text, page_text, records_text, refusal_text, too_long_text, words_text}
+use Rattle.lc_text.specs.Text.{not_understood_text, page_text, records_text, refusal_text, too_long_text, words_text}
 use Rattle.lc_tool.specs.Verdict.{verdict_of, verdict_on}
-use Rattle.lc_tool.specs.declared.command.Command.{Command}
-use Rattle.lc_tool.specs.declared.command.Command.TheVariants.{Step as Asks, End, Flush, Recover, Log, Inspect, Show}
-use Rattle.lc_tool.specs.declared.command.Line.{Line}
-use Rattle.lc_tool.specs.declared.command.Line.TheVariants.{Skipped, Command as Commanded, NotUnderstood}
+use Rattle.lc_text.specs.declared.command.Command.{Command}
+use Rattle.lc_text.specs.declared.command.Command.TheVariants.{Step as Asks, End, Flush, Recover, Log, Inspect, Show}
+use Rattle.lc_text.specs.declared.command.Line.{Line}
+use Rattle.lc_text.specs.declared.command.Line.TheVariants.{Skipped, Command as Commanded, NotUnderstood}
 use Rattle.lc_tool.specs.declared.outcome.Outcome.{Outcome}
 use Rattle.lc_tool.specs.declared.outcome.Outcome.TheVariants.{Goes, Ends}
 use Rattle.lc_tool.specs.declared.verdict.Verdict.{Verdict}

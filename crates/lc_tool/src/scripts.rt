@@ -3,27 +3,25 @@ ghost use Rattle.std.specs.Prelude.{◌≡◌, ◌≢◌, ◌+◌, ℕ, false, I
 ghost use Rattle.std.specs.Io.KnownBytes.{Appends};
 ghost use Rattle.lc_model.specs.declared.refusal.Refusal.TheVariants.{BadGeometry};
 ghost use Rattle.lc_tool.specs.Outcome.{LeavesLine, OpensStore, RefusesFirst, RunsLines};
-ghost use Rattle.lc_tool.specs.Script.{script_lines};
+ghost use Rattle.lc_text.specs.Lines.{script_lines};
 ghost use Rattle.lc_tool.specs.Store.{Adds, RefusesLengths, RefusesMerge, RunsStore};
 ghost use Rattle.lc_tool.specs.Tells.{TellsLine, TellsLines, TellsOpening, TellsScript};
-ghost use Rattle.lc_tool.specs.Text.{no_memory_text, refusal_text, reply_text, too_long_text};
+ghost use Rattle.lc_text.specs.Text.{no_memory_text, refusal_text, reply_text, too_long_text};
 
 use crate::ToolFault;
-use crate::command::Line;
 use crate::commands::perform;
-use crate::lines::first_line;
 use crate::outcome::Outcome;
-use crate::parsing::parse;
 use crate::repeating::recover;
-use crate::replies::write_reply;
 use crate::source::Source;
 use crate::stop::Stop;
-use crate::text::{write_no_memory, write_not_understood, write_too_long};
 use crate::verdict::Verdict;
 use lc_core::{Refusal, Reply, World};
 use lc_disk::Stoppable;
 use lc_record::Geometry;
 use lc_recover::RecoverFault;
+use lc_text::{
+    Line, first_line, parse, write_no_memory, write_not_understood, write_reply, write_too_long,
+};
 use std::alloc::Global;
 use std::io::{Read, Write};
 
@@ -244,5 +242,3 @@ fn too_long<W: Write>(writer: &mut W) -> Result<u8, ToolFault>
     }
 }
 
-#[cfg(test)]
-mod tests;

@@ -78,5 +78,3 @@ where
     }
 }
 
-#[cfg(test)]
-mod tests;

@@ -1,7 +1,7 @@
 use Rattle.std.proofs.Common.{ℕ, false, List, Option, arith, subst, ◌∙◌}
 use Rattle.std.proofs.lemmas.Result.{IfOk-weaker}
 use Rattle.lc_tool.specs.Outcome.{OpensStore, RefusesFirst, RunsLines}
-use Rattle.lc_tool.specs.Script.{script_lines}
+use Rattle.lc_text.specs.Lines.{script_lines}
 use Rattle.lc_tool.specs.Store.{Adds}
 use Rattle.lc_tool.specs.Tells.{TellsLines, TellsOpening}
 use Rattle.lc_tool.proofs.Beginning.{lines_run, lines_tell, long_runs, long_tells, memory_runs, memory_tells, never_refuses, never_wrong, some_all, stopped_refuses, stopped_runs, stopped_tells, wrong_tells}

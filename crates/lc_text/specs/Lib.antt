@@ -1,0 +1,5 @@
+pub mod Text
+pub mod Line
+pub mod Lines
+pub mod Fault
+pub mod Inspector
