@@ -51,11 +51,15 @@ Runs m s x number refused (line ∷ lines) text status =
     (LineAsksMemory m s x line × NoMemory text status)
     ⊎ Prints (λ after later was rest end. Runs m after later (number + 1) was lines rest end) m s x number refused (line_of line) text status
 
--- behind the recovery that comes first, which says nothing where it is done: where it is refused nothing more is done
-abbrev pub Opens : Setting → State → Numbers → Reply → Verdict → List ℕ → List ℕ → ℕ → Type 0
-Opens m s x reply Done script text status = MatchBool (nat_lt 1048576 (length script))
+-- the script, unless it is too long
+abbrev pub RunsRead : Setting → State → Numbers → List ℕ → List ℕ → ℕ → Type 0
+RunsRead m s x script text status = MatchBool (nat_lt 1048576 (length script))
     ((text ≡ too_long_text) × (status ≡ 2))
     (Runs m s x 1 false (script_lines script) text status)
+
+-- behind the recovery that comes first, which says nothing where it is done: where it is refused nothing more is done
+abbrev pub Opens : Setting → State → Numbers → Reply → Verdict → List ℕ → List ℕ → ℕ → Type 0
+Opens m s x reply Done script text status = RunsRead m s x script text status
 Opens m s x reply Refused script text status = (text ≡ reply_text reply) × (status ≡ 1)
 Opens m s x reply Faulted script text status = (text ≡ reply_text reply) × (status ≡ 3)
 

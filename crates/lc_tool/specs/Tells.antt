@@ -72,8 +72,14 @@ abbrev pub TellsOpening : Option (List ℕ) → Option (List ℕ) → Option ℕ
 TellsOpening held holds None = Keeps held holds
 TellsOpening held holds (Some status) = Adds TellsStop held holds status
 
+-- a script, unless it is too long
+abbrev pub TellsRead : List ℕ → List ℕ → ℕ → Type 0
+TellsRead script text status = MatchBool (nat_lt 1048576 (length script)) ((text ≡ too_long_text) × (status ≡ 2)) (TellsLines 1 false (script_lines script) text status)
+
+-- behind the recovery: there may be no memory for the script
+abbrev pub TellsRecovered : List ℕ → List ℕ → ℕ → Type 0
+TellsRecovered script text status = NoMemory text status ⊎ TellsRead script text status
+
 -- what a script prints, and the status that it ends with
 abbrev pub TellsScript : List ℕ → List ℕ → ℕ → Type 0
-TellsScript script text status =
-    TellsStop text status
-    ⊎ MatchBool (nat_lt 1048576 (length script)) ((text ≡ too_long_text) × (status ≡ 2)) (TellsLines 1 false (script_lines script) text status)
+TellsScript script text status = TellsStop text status ⊎ TellsRead script text status
