@@ -1,3 +1,4 @@
+pub use Rattle.lc_record.specs.Words
 pub mod Text
 pub mod Line
 pub mod Lines

@@ -1,3 +1,5 @@
+pub use Rattle.lc_recover.specs.Reads
+pub use Rattle.lc_text.specs.Inspector
 pub mod Verdict
 pub mod Answers
 pub mod Shown

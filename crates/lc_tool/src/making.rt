@@ -97,4 +97,3 @@ pub(crate) fn stopped<W: Write>(writer: &mut W, fault: FolderFault) -> Result<u8
         Err(_) => Err(ToolFault::Write),
     }
 }
-

@@ -108,4 +108,3 @@ fn status_of(fault: RecoverFault) -> u8
         _ => REFUSED,
     }
 }
-

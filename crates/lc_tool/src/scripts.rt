@@ -256,4 +256,3 @@ fn too_long<W: Write>(writer: &mut W) -> Result<u8, ToolFault>
         Err(_) => Err(ToolFault::Write),
     }
 }
-

@@ -77,4 +77,3 @@ where
         Err(fault) => stopped(writer, fault),
     }
 }
-
