@@ -26,11 +26,11 @@ use Rattle.lc_recover.specs.declared.progress.Progress.TheVariants.{Stepped, Rec
 use Rattle.lc_recover.proofs.Images.{count-areas, own-image}
 use Rattle.lc_tool.specs.Recovers.{AreNumbered, Explains, IsOutward, Recovers, RecoversAreas, stop_status, stop_text}
 use Rattle.lc_tool.specs.Store.{AreRefused, IsFirstWrong, RefusesLengths, RefusesMerge, RefusesStore}
-use Rattle.lc_tool.specs.Text.{recovered_text, refusal_text, reply_text, segment_text}
-use Rattle.lc_tool.specs.declared.tool_fault.ToolFault.{ToolFault}
-use Rattle.lc_tool.specs.declared.tool_fault.ToolFault.TheVariants.{Write as NotWritten}
+use Rattle.lc_text.specs.Text.{recovered_text, refusal_text, reply_text, segment_text}
+use Rattle.lc_text.specs.declared.tool_fault.ToolFault.{ToolFault}
+use Rattle.lc_text.specs.declared.tool_fault.ToolFault.TheVariants.{Write as NotWritten}
 use Rattle.lc_tool.proofs.Refusals.{one_least, same_refusal}
-use Rattle.lc_tool.proofs.Writes.{same_bytes}
+use Rattle.lc_text.proofs.Writes.{same_bytes}
 
 -- what is no step is the end
 pub done_of : {D : Type 0} (progress : Progress) (r : Recovering D) → ((steps : ℕ) → progress ≡ Stepped steps → ⊥) → Tells progress r → IsDone r

@@ -1,5 +1,5 @@
 -- What a script prints behind the recovery that comes first, and where that does not come to its end.
-use Rattle.std.proofs.Common.{◌≡◌, ◌∙◌, ℕ, true, false, nat_lt, List, length, Option, Some, None, IfSome, refl, sym, ap, subst, inl, inr}
+use Rattle.std.proofs.Common.{◌≡◌, ◌∙◌, ◌⊎◌, ℕ, List, Option, Some, None, IfSome, refl, sym, ap, subst, inl, inr}
 use Rattle.std.specs.Io.KnownBytes.{Appends, Keeps}
 use Rattle.lc_disk.specs.declared.area.Area.{Ghosts}
 use Rattle.lc_record.specs.declared.geometry.Geometry.{Geometry}
@@ -13,15 +13,15 @@ use Rattle.lc_core.specs.World.{FitsWorld}
 use Rattle.lc_core.specs.declared.world.World.{World}
 use Rattle.lc_tool.specs.Files.{Stops}
 use Rattle.lc_tool.specs.Fits.{FollowsAll, IsRefused, RefusesAll}
-use Rattle.lc_tool.specs.Outcome.{EndsWith, IsGivenUp, IsRecovered, OpensStore, RefusesFirst, RunsLines}
-use Rattle.lc_tool.specs.Script.{Opens, Runs, RunsScript, script_lines}
+use Rattle.lc_tool.specs.Outcome.{EndsWith, IsGivenUp, IsRecovered, OpensStore, RefusesFirst, RunsRecovered}
+use Rattle.lc_tool.specs.Script.{NoMemory, Opens, RunsRead, RunsScript}
 use Rattle.lc_recover.specs.Reads.{AllMergeTo, AreHonest, HaveLengths}
 use Rattle.lc_recover.specs.Recovery.{begun}
 use Rattle.lc_core.specs.declared.phase.Phase.TheVariants.{Down}
 use Rattle.lc_tool.specs.Store.{Adds, AreKnown, AreRefused, RefusesLengths, RefusesMerge, RunsStore, merge_refusal}
 use Rattle.lc_tool.proofs.ScriptLemmas.{keeps_then}
-use Rattle.lc_tool.specs.Tells.{TellsLines, TellsScript, TellsStop}
-use Rattle.lc_tool.specs.Text.{no_memory_text, refusal_text, reply_text, too_long_text}
+use Rattle.lc_tool.specs.Tells.{TellsRecovered, TellsScript, TellsStop}
+use Rattle.lc_text.specs.Text.{no_memory_text, refusal_text, reply_text}
 use Rattle.lc_tool.specs.Verdict.{verdict_of}
 use Rattle.lc_tool.specs.declared.verdict.Verdict.{Verdict}
 use Rattle.lc_tool.specs.declared.verdict.Verdict.TheVariants.{Done, Refused, Faulted}
@@ -37,12 +37,9 @@ module _ (m : Setting) (s : State) (x : Numbers) (script : List ℕ) where
   given_up text status (inl none) = inl none
   given_up text status (inr ends) = inr (ends.0, ends.1, ends.2, ends.3, ends_so ends.1 ends.2 ends.0 (verdict_of ends.0) text status ends.4)
 
-  pub too_long : (after : State) (next : Numbers) (status : ℕ) → IsRecovered m s x after next → nat_lt 1048576 (length script) ≡ true → status ≡ 2 → RunsScript m s x script too_long_text status
-  too_long after next status up long is = inr (up.0, after, next, up.1, rw (up.2, long) (refl, is))
-
-  pub all_lines : (after : State) (next : Numbers) (text : List ℕ) (status : ℕ) → IsRecovered m s x after next → nat_lt 1048576 (length script) ≡ false
-      → Runs m after next 1 false (script_lines script) text status → RunsScript m s x script text status
-  all_lines after next text status up short run = inr (up.0, after, next, up.1, rw (up.2, short) run)
+  pub recovered : (after : State) (next : Numbers) (text : List ℕ) (status : ℕ) → IsRecovered m s x after next → NoMemory text status ⊎ RunsRead m after next script text status → RunsScript m s x script text status
+  recovered after next text status up (inl none) = inl none
+  recovered after next text status up (inr run) = inr (up.0, after, next, up.1, rw up.2 run)
 
 -- the refusal of a merge is no device fault
 merge_verdict : (fault : MergeFault) → verdict_of (IsRefusal (merge_refusal fault)) ≡ Refused
@@ -129,21 +126,12 @@ module _ {D : Type 0} (a : Ghosts D) (g : Geometry) (areas : List D) (world : Wo
   pub never_wrong : HaveLengths a g areas → RefusesLengths a g areas held holds status
   never_wrong right area wrong = absurd (wrong.is (right area))
 
-  pub memory_runs : (mid : Option (List ℕ)) (new : World D a) (script : List ℕ) → FitsFirst → OpensStore a world held mid None new → status ≡ 1 → Appends mid holds no_memory_text → RunsStore a g areas script held holds status
-  memory_runs mid new script fits opens is shown m x same known = (no_memory_text, inl (refl, is), keeps_then held mid holds no_memory_text opens.1 shown)
-
-  pub long_runs : (mid : Option (List ℕ)) (new : World D a) (script : List ℕ) → FitsFirst → OpensStore a world held mid None new → nat_lt 1048576 (length script) ≡ true → status ≡ 2
-      → Appends mid holds too_long_text → RunsStore a g areas script held holds status
-  long_runs mid new script fits opens long is shown m x same known =
+  pub recovered_runs : (mid : Option (List ℕ)) (new : World D a) (script : List ℕ) → FitsFirst → OpensStore a world held mid None new → RunsRecovered a new script mid holds status
+      → RunsStore a g areas script held holds status
+  recovered_runs mid new script fits opens runs m x same known =
       let up = opens.0 m (first_state g) x (start_fits fits m x same known) in
-      (too_long_text, too_long m (first_state g) x script up.0 up.1 status up.2 long is, keeps_then held mid holds too_long_text opens.1 shown)
-
-  pub lines_run : (mid : Option (List ℕ)) (new : World D a) (script : List ℕ) → FitsFirst → OpensStore a world held mid None new → nat_lt 1048576 (length script) ≡ false
-      → RunsLines a new script mid holds status → RunsStore a g areas script held holds status
-  lines_run mid new script fits opens short lines m x same known =
-      let up = opens.0 m (first_state g) x (start_fits fits m x same known) in
-      let run = lines m up.0 up.1 up.3 in
-      (run.0, all_lines m (first_state g) x script up.0 up.1 run.0 status up.2 short run.1, keeps_then held mid holds run.0 opens.1 run.2)
+      let run = runs m up.0 up.1 up.3 in
+      (run.0, recovered m (first_state g) x script up.0 up.1 run.0 status up.2 run.1, keeps_then held mid holds run.0 opens.1 run.2)
 
 -- The same of any areas
 module _ (held holds : Option (List ℕ)) (status : ℕ) (script : List ℕ) where
@@ -161,12 +149,9 @@ module _ (held holds : Option (List ℕ)) (status : ℕ) (script : List ℕ) whe
   pub wrong_tells : (area : ℕ) → status ≡ 1 → Appends held holds (refusal_text (WrongArea area)) → Adds (TellsScript script) held holds status
   wrong_tells area is shown = (refusal_text (WrongArea area), inl (inr (IsRefusal (WrongArea area), (refl, is))), shown)
 
-  module _ (mid : Option (List ℕ)) (keeps : Keeps held mid) where
-    pub memory_tells : status ≡ 1 → Appends mid holds no_memory_text → Adds (TellsScript script) held holds status
-    memory_tells is shown = (no_memory_text, inl (inl (refl, is)), keeps_then held mid holds no_memory_text keeps shown)
-
-    pub long_tells : nat_lt 1048576 (length script) ≡ true → status ≡ 2 → Appends mid holds too_long_text → Adds (TellsScript script) held holds status
-    long_tells long is shown = (too_long_text, inr (rw long (refl, is)), keeps_then held mid holds too_long_text keeps shown)
-
-    pub lines_tell : nat_lt 1048576 (length script) ≡ false → Adds (TellsLines 1 false (script_lines script)) mid holds status → Adds (TellsScript script) held holds status
-    lines_tell short lines = (lines.0, inr (rw short lines.1), keeps_then held mid holds lines.0 keeps lines.2)
+  pub recovered_tells : (mid : Option (List ℕ)) → Keeps held mid → Adds (TellsRecovered script) mid holds status → Adds (TellsScript script) held holds status
+  recovered_tells mid keeps tells =
+      elim tells.1 [
+        | inl none ↦ (tells.0, inl (inl none), keeps_then held mid holds tells.0 keeps tells.2)
+        | inr read ↦ (tells.0, inr read, keeps_then held mid holds tells.0 keeps tells.2)
+      ]

@@ -1,9 +1,3 @@
-mod Items
-mod Numbers
-mod Pages
-mod Words
-mod FieldLemmas
-mod Writes
 mod Again
 mod Performing
 mod Fitting
@@ -11,16 +5,10 @@ mod Memory
 mod Logs
 mod LogShown
 mod Shows
-mod LineLemmas
 mod ScriptLemmas
 mod Opening
 mod Recovering
 mod Beginning
 mod Refusals
-mod OptionNumbers
-mod OptionRows
-mod FaultlessWords
-mod Asking
 mod FilesMade
-mod Backwards
 mod AreasRecovered

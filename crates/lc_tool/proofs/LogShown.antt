@@ -26,11 +26,11 @@ use Rattle.lc_core.specs.declared.show_fault.ShowFault.{ShowFault}
 use Rattle.lc_core.specs.declared.show_fault.ShowFault.TheVariants.{Unknown as IsUnknown, DeviceFault as HasFailed, NoMemory}
 use Rattle.lc_core.specs.declared.world.World.{World}
 use Rattle.lc_tool.specs.Fits.{AsksFor, Performs}
-use Rattle.lc_tool.specs.Inspector.{Inspects}
+use Rattle.lc_text.specs.Inspector.{Inspects}
 use Rattle.lc_tool.specs.Shown.{AreInLog, ShowsLog, refusal_to}
-use Rattle.lc_tool.specs.Text.{records_text, refusal_text, words_text}
+use Rattle.lc_text.specs.Text.{records_text, refusal_text, words_text}
 use Rattle.lc_tool.specs.Verdict.{verdict_on}
-use Rattle.lc_tool.specs.declared.command.Command.TheVariants.{Inspect, Log}
+use Rattle.lc_text.specs.declared.command.Command.TheVariants.{Inspect, Log}
 use Rattle.lc_tool.specs.declared.verdict.Verdict.{Verdict}
 use Rattle.lc_tool.specs.declared.verdict.Verdict.TheVariants.{Done}
 use Rattle.lc_tool.proofs.Fitting.{records_whole, running_fits, words_logged}

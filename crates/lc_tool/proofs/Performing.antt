@@ -13,9 +13,9 @@ use Rattle.lc_core.specs.declared.world.World.{World}
 use Rattle.lc_tool.specs.Answers.{Ends, Finishes, GoesOnWith, IsStepped}
 use Rattle.lc_tool.specs.Fits.{FollowsAll, FollowsEnd, Performs}
 use Rattle.lc_tool.specs.Session.{end_text}
-use Rattle.lc_tool.specs.Text.{reply_text}
+use Rattle.lc_text.specs.Text.{reply_text}
 use Rattle.lc_tool.specs.Verdict.{verdict_of}
-use Rattle.lc_tool.specs.declared.command.Command.TheVariants.{Step as Asks, End, Flush, Recover}
+use Rattle.lc_text.specs.declared.command.Command.TheVariants.{Step as Asks, End, Flush, Recover}
 use Rattle.lc_tool.specs.declared.verdict.Verdict.{Verdict}
 use Rattle.lc_tool.proofs.Again.{close_accepted, flush_ends, flush_moves, one_more}
 

@@ -21,7 +21,7 @@ use Rattle.lc_core.specs.declared.world.World.{World}
 use Rattle.lc_core.proofs.Asking.{asks_world}
 use Rattle.lc_tool.specs.Answers.{IsStepped}
 use Rattle.lc_tool.specs.Fits.{AsksFor, FollowsAll, IsRefused, RefusesAll}
-use Rattle.lc_tool.specs.declared.command.Command.TheVariants.{Recover}
+use Rattle.lc_text.specs.declared.command.Command.TheVariants.{Recover}
 use Rattle.lc_tool.proofs.Again.{all_still, stepped_is}
 use Rattle.lc_tool.proofs.Fitting.{few_steps}
 use Rattle.lc_tool.proofs.Opening.{IsBefore, ends_refused, first_before, next_before}

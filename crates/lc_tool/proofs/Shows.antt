@@ -15,9 +15,9 @@ use Rattle.lc_core.specs.declared.phase.Phase.TheVariants.{Down, Up, Taken}
 use Rattle.lc_core.specs.declared.world.World.{World}
 use Rattle.lc_tool.specs.Fits.{Performs}
 use Rattle.lc_tool.specs.Shown.{page_refusal}
-use Rattle.lc_tool.specs.Text.{refusal_text}
+use Rattle.lc_text.specs.Text.{refusal_text}
 use Rattle.lc_tool.specs.Verdict.{verdict_on}
-use Rattle.lc_tool.specs.declared.command.Command.TheVariants.{Show}
+use Rattle.lc_text.specs.declared.command.Command.TheVariants.{Show}
 use Rattle.lc_tool.specs.declared.verdict.Verdict.{Verdict}
 use Rattle.lc_tool.specs.declared.verdict.Verdict.TheVariants.{Refused}
 use Rattle.std.specs.Io.KnownBytes.{Appends}

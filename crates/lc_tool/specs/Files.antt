@@ -6,7 +6,7 @@ use Rattle.lc_record.specs.declared.geometry.Geometry.{Geometry}
 use Rattle.lc_model.specs.declared.refusal.Refusal.TheVariants.{BadGeometry, DeviceFault}
 use Rattle.lc_recover.specs.Reads.{area_count}
 use Rattle.lc_tool.specs.Script.{NoMemory}
-use Rattle.lc_tool.specs.Text.{exists_text, refusal_text}
+use Rattle.lc_text.specs.Text.{exists_text, refusal_text}
 use Rattle.lc_tool.specs.declared.file_name.FileName.{FileName}
 use Rattle.lc_tool.specs.declared.file_name.FileName.TheVariants.{Log, Segment}
 use Rattle.lc_tool.specs.declared.folder.FolderFault.{FolderFault}

@@ -1,7 +1,5 @@
-pub mod Text
-pub mod Line
-pub mod Fault
-pub mod Inspector
+pub use Rattle.lc_recover.specs.Reads
+pub use Rattle.lc_text.specs.Inspector
 pub mod Verdict
 pub mod Answers
 pub mod Shown
@@ -12,6 +10,5 @@ pub mod Store
 pub mod Fits
 pub mod Outcome
 pub mod Tells
-pub mod CommandLine
 pub mod Files
 pub mod Recovers

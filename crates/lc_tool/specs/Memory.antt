@@ -5,10 +5,10 @@ use Rattle.lc_model.specs.State.{State, Setting}
 use Rattle.lc_model.specs.declared.event.Event.TheVariants.{Reserve}
 use Rattle.lc_core.specs.Asks.{EventAsks}
 use Rattle.lc_core.specs.Numbers.{Numbers}
-use Rattle.lc_tool.specs.Line.{line_of, words, is_open_ended}
-use Rattle.lc_tool.specs.declared.command.Command.{Command}
-use Rattle.lc_tool.specs.declared.command.Command.TheVariants.{Step as Asks, End, Flush, Recover, Log, Inspect, Show}
-use Rattle.lc_tool.specs.declared.command.Line.TheVariants.{Command as Commanded}
+use Rattle.lc_text.specs.Line.{line_of, words, is_open_ended}
+use Rattle.lc_text.specs.declared.command.Command.{Command}
+use Rattle.lc_text.specs.declared.command.Command.TheVariants.{Step as Asks, End, Flush, Recover, Log, Inspect, Show}
+use Rattle.lc_text.specs.declared.command.Line.TheVariants.{Command as Commanded}
 
 -- a command does where its event does; so do a recovery, and what reads the area of a log
 abbrev pub AsksMemory : Setting → State → Numbers → Command → Type 0

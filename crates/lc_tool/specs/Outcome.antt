@@ -12,14 +12,15 @@ use Rattle.lc_core.specs.declared.world.World.{World}
 use Rattle.lc_tool.specs.Memory.{LineAsksMemory}
 use Rattle.lc_tool.specs.Answers.{Finishes}
 use Rattle.lc_tool.specs.Fits.{Leads, IsRefused}
-use Rattle.lc_tool.specs.Line.{line_of}
-use Rattle.lc_tool.specs.Script.{NoMemory, Runs, script_lines}
+use Rattle.lc_text.specs.Line.{line_of}
+use Rattle.lc_text.specs.Lines.{script_lines}
+use Rattle.lc_tool.specs.Script.{NoMemory, Runs, RunsRead}
 use Rattle.lc_tool.specs.Session.{Does}
 use Rattle.lc_tool.specs.Store.{Adds, RefusesStore}
-use Rattle.lc_tool.specs.Text.{not_understood_text, reply_text}
+use Rattle.lc_text.specs.Text.{not_understood_text, reply_text}
 use Rattle.lc_tool.specs.Verdict.{verdict_of}
-use Rattle.lc_tool.specs.declared.command.Command.{Command}
-use Rattle.lc_tool.specs.declared.command.Line.TheVariants.{Skipped, Command as Commanded, NotUnderstood}
+use Rattle.lc_text.specs.declared.command.Command.{Command}
+use Rattle.lc_text.specs.declared.command.Line.TheVariants.{Skipped, Command as Commanded, NotUnderstood}
 use Rattle.lc_tool.specs.declared.outcome.Outcome.{Outcome}
 use Rattle.lc_tool.specs.declared.outcome.Outcome.TheVariants.{Goes, Ends}
 use Rattle.lc_tool.specs.declared.verdict.Verdict.{Verdict}
@@ -79,6 +80,12 @@ module _ {D : Type 0} (a : Ghosts D) where
   RunsLines old script held holds status =
       (m : Setting) (s : State) (x : Numbers) → FitsWorld a m old s x →
       (text : List ℕ) × Runs m s x 1 false (script_lines script) text status × Appends held holds text
+
+  -- the script, on a store that is recovered; there may be no memory for it
+  abbrev pub RunsRecovered : World D a → List ℕ → Option (List ℕ) → Option (List ℕ) → ℕ → Type 0
+  RunsRecovered old script held holds status =
+      (m : Setting) (s : State) (x : Numbers) → FitsWorld a m old s x →
+      Adds (λ text end. NoMemory text end ⊎ RunsRead m s x script text end) held holds status
 
   -- the recovery that comes first: the store goes on behind it, or this is the status
   abbrev pub OpensStore : World D a → Option (List ℕ) → Option (List ℕ) → Option ℕ → World D a → Type 0

@@ -14,7 +14,7 @@ use Rattle.lc_recover.specs.declared.fault.RecoverFault.TheVariants.{BadGeometry
 use Rattle.lc_core.specs.Recovering.{refusal_to}
 use Rattle.lc_tool.specs.Script.{NoMemory as WantsMemory}
 use Rattle.lc_tool.specs.Store.{Adds, AreRefused, IsFirstWrong}
-use Rattle.lc_tool.specs.Text.{no_memory_text, recovered_text, refusal_text}
+use Rattle.lc_text.specs.Text.{no_memory_text, recovered_text, refusal_text}
 
 -- the numbers of the segments and that the store is recovered, unless a device has failed, or there was no memory, before
 abbrev pub RecoversStore : Geometry → (ℕ → ℕ) → List ℕ → ℕ → Type 0

@@ -1,18 +1,18 @@
 -- What a script prints over a store, and the status that it ends with.
-use Rattle.std.specs.Prelude.{◌≡◌, ◌⊎◌, ℕ, ◌+◌, Bool, true, false, ◌==◌, nat_lt, List, [], ◌∷◌, ◌++◌, length, MatchBool, if◌then◌else◌}
-use Rattle.std.specs.Str.Lines.{strip_carriage_return}
+use Rattle.std.specs.Prelude.{◌≡◌, ◌⊎◌, ℕ, ◌+◌, Bool, true, false, nat_lt, List, [], ◌∷◌, ◌++◌, length, MatchBool, if◌then◌else◌}
 use Rattle.lc_model.specs.State.{State, Setting}
 use Rattle.lc_model.specs.declared.event.Event.TheVariants.{RecoverStep}
 use Rattle.lc_model.specs.declared.reply.Reply.{Reply}
 use Rattle.lc_core.specs.Numbers.{Numbers}
+use Rattle.lc_text.specs.Lines.{script_lines}
 use Rattle.lc_tool.specs.Answers.{Finishes}
 use Rattle.lc_tool.specs.Memory.{LineAsksMemory}
-use Rattle.lc_tool.specs.Line.{line_of}
+use Rattle.lc_text.specs.Line.{line_of}
 use Rattle.lc_tool.specs.Session.{Does}
-use Rattle.lc_tool.specs.Text.{reply_text, not_understood_text, too_long_text, no_memory_text}
+use Rattle.lc_text.specs.Text.{reply_text, not_understood_text, too_long_text, no_memory_text}
 use Rattle.lc_tool.specs.Verdict.{verdict_of}
-use Rattle.lc_tool.specs.declared.command.Line.{Line}
-use Rattle.lc_tool.specs.declared.command.Line.TheVariants.{Skipped, Command as Commanded, NotUnderstood}
+use Rattle.lc_text.specs.declared.command.Line.{Line}
+use Rattle.lc_text.specs.declared.command.Line.TheVariants.{Skipped, Command as Commanded, NotUnderstood}
 use Rattle.lc_tool.specs.declared.verdict.Verdict.{Verdict}
 use Rattle.lc_tool.specs.declared.verdict.Verdict.TheVariants.{Done, Refused, Faulted}
 
@@ -51,25 +51,15 @@ Runs m s x number refused (line ∷ lines) text status =
     (LineAsksMemory m s x line × NoMemory text status)
     ⊎ Prints (λ after later was rest end. Runs m after later (number + 1) was lines rest end) m s x number refused (line_of line) text status
 
--- A script's lines: each ends at a line feed, and one carriage return before it is dropped; the last line may lack its
--- line feed. The first bytes of a line are those that stand before.
-abbrev pub last_line : List ℕ → List (List ℕ)
-last_line [] = []
-last_line (byte ∷ line) = (byte ∷ line) ∷ []
-
-abbrev pub lines_behind : List ℕ → List ℕ → List (List ℕ)
-lines_behind line [] = last_line line
-lines_behind line (byte ∷ bytes) =
-    if byte == 10 then strip_carriage_return line ∷ lines_behind [] bytes else lines_behind (line ++ byte ∷ []) bytes
-
-abbrev pub script_lines : List ℕ → List (List ℕ)
-script_lines script = lines_behind [] script
+-- the script, unless it is too long
+abbrev pub RunsRead : Setting → State → Numbers → List ℕ → List ℕ → ℕ → Type 0
+RunsRead m s x script text status = MatchBool (nat_lt 1048576 (length script))
+    ((text ≡ too_long_text) × (status ≡ 2))
+    (Runs m s x 1 false (script_lines script) text status)
 
 -- behind the recovery that comes first, which says nothing where it is done: where it is refused nothing more is done
 abbrev pub Opens : Setting → State → Numbers → Reply → Verdict → List ℕ → List ℕ → ℕ → Type 0
-Opens m s x reply Done script text status = MatchBool (nat_lt 1048576 (length script))
-    ((text ≡ too_long_text) × (status ≡ 2))
-    (Runs m s x 1 false (script_lines script) text status)
+Opens m s x reply Done script text status = RunsRead m s x script text status
 Opens m s x reply Refused script text status = (text ≡ reply_text reply) × (status ≡ 1)
 Opens m s x reply Faulted script text status = (text ≡ reply_text reply) × (status ≡ 3)
 

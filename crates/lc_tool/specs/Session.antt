@@ -9,10 +9,10 @@ use Rattle.lc_model.specs.declared.reply.Reply.TheVariants.{Reserved}
 use Rattle.lc_core.specs.Numbers.{Numbers}
 use Rattle.lc_tool.specs.Answers.{Answers, Ends, Finishes}
 use Rattle.lc_tool.specs.Shown.{ShowsLog, ShowsPage}
-use Rattle.lc_tool.specs.Text.{reply_text, closed_text, words_text, records_text}
+use Rattle.lc_text.specs.Text.{reply_text, closed_text, words_text, records_text}
 use Rattle.lc_tool.specs.Verdict.{verdict_of}
-use Rattle.lc_tool.specs.declared.command.Command.{Command}
-use Rattle.lc_tool.specs.declared.command.Command.TheVariants.{Step as Asks, End, Flush, Recover, Log, Inspect, Show}
+use Rattle.lc_text.specs.declared.command.Command.{Command}
+use Rattle.lc_text.specs.declared.command.Command.TheVariants.{Step as Asks, End, Flush, Recover, Log, Inspect, Show}
 use Rattle.lc_tool.specs.declared.verdict.Verdict.{Verdict}
 
 -- the text of a reply, and what became of its command

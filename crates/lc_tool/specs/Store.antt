@@ -10,7 +10,7 @@ use Rattle.lc_model.specs.declared.refusal.Refusal.TheVariants.{BadGeometry, Out
 use Rattle.lc_recover.specs.Reads.{area_len, AllMergeTo, AreHonest, HaveLengths, ReadsRefused}
 use Rattle.lc_core.specs.Numbers.{Numbers}
 use Rattle.lc_tool.specs.Script.{NoMemory, RunsScript}
-use Rattle.lc_tool.specs.Text.{refusal_text}
+use Rattle.lc_text.specs.Text.{refusal_text}
 
 -- the refusal of a merge
 abbrev pub merge_refusal : MergeFault → Refusal

@@ -6,17 +6,18 @@ use Rattle.lc_record.specs.declared.record.Record.{Record}
 use Rattle.lc_log.specs.LogText.{placed}
 use Rattle.lc_model.specs.declared.refusal.Refusal.{Refusal}
 use Rattle.lc_model.specs.declared.reply.Reply.{Reply}
-use Rattle.lc_tool.specs.Line.{line_of}
+use Rattle.lc_text.specs.Line.{line_of}
 use Rattle.lc_tool.specs.Outcome.{EndsWith, GoesBehind}
-use Rattle.lc_tool.specs.Script.{GoesOn, NoMemory, Rest, script_lines}
+use Rattle.lc_text.specs.Lines.{script_lines}
+use Rattle.lc_tool.specs.Script.{GoesOn, NoMemory, Rest}
 use Rattle.lc_tool.specs.Session.{Says, end_text}
 use Rattle.lc_tool.specs.Store.{Adds}
-use Rattle.lc_tool.specs.Text.{not_understood_text, page_text, records_text, refusal_text, too_long_text, words_text}
+use Rattle.lc_text.specs.Text.{not_understood_text, page_text, records_text, refusal_text, too_long_text, words_text}
 use Rattle.lc_tool.specs.Verdict.{verdict_of, verdict_on}
-use Rattle.lc_tool.specs.declared.command.Command.{Command}
-use Rattle.lc_tool.specs.declared.command.Command.TheVariants.{Step as Asks, End, Flush, Recover, Log, Inspect, Show}
-use Rattle.lc_tool.specs.declared.command.Line.{Line}
-use Rattle.lc_tool.specs.declared.command.Line.TheVariants.{Skipped, Command as Commanded, NotUnderstood}
+use Rattle.lc_text.specs.declared.command.Command.{Command}
+use Rattle.lc_text.specs.declared.command.Command.TheVariants.{Step as Asks, End, Flush, Recover, Log, Inspect, Show}
+use Rattle.lc_text.specs.declared.command.Line.{Line}
+use Rattle.lc_text.specs.declared.command.Line.TheVariants.{Skipped, Command as Commanded, NotUnderstood}
 use Rattle.lc_tool.specs.declared.outcome.Outcome.{Outcome}
 use Rattle.lc_tool.specs.declared.outcome.Outcome.TheVariants.{Goes, Ends}
 use Rattle.lc_tool.specs.declared.verdict.Verdict.{Verdict}
@@ -71,8 +72,14 @@ abbrev pub TellsOpening : Option (List ℕ) → Option (List ℕ) → Option ℕ
 TellsOpening held holds None = Keeps held holds
 TellsOpening held holds (Some status) = Adds TellsStop held holds status
 
+-- a script, unless it is too long
+abbrev pub TellsRead : List ℕ → List ℕ → ℕ → Type 0
+TellsRead script text status = MatchBool (nat_lt 1048576 (length script)) ((text ≡ too_long_text) × (status ≡ 2)) (TellsLines 1 false (script_lines script) text status)
+
+-- behind the recovery: there may be no memory for the script
+abbrev pub TellsRecovered : List ℕ → List ℕ → ℕ → Type 0
+TellsRecovered script text status = NoMemory text status ⊎ TellsRead script text status
+
 -- what a script prints, and the status that it ends with
 abbrev pub TellsScript : List ℕ → List ℕ → ℕ → Type 0
-TellsScript script text status =
-    TellsStop text status
-    ⊎ MatchBool (nat_lt 1048576 (length script)) ((text ≡ too_long_text) × (status ≡ 2)) (TellsLines 1 false (script_lines script) text status)
+TellsScript script text status = TellsStop text status ⊎ TellsRead script text status

@@ -1,28 +1,25 @@
 //! What each command does to the store, and what it prints.
-ghost use Rattle.std.specs.Prelude.{◌≡◌, ◌≢◌, IfOk, OnOk, Some};
+ghost use Rattle.std.specs.Prelude.{◌≡◌, ◌≢◌, IfOk, Some};
 ghost use Rattle.std.specs.Io.KnownBytes.{Appends, Keeps};
+ghost use Rattle.lc_record.specs.Words.{bytes_of};
 ghost use Rattle.lc_model.specs.declared.refusal.Refusal.{Refusal};
 ghost use Rattle.lc_tool.specs.Fits.{AsksFor, Performs};
 ghost use Rattle.lc_tool.specs.Session.{Says, end_text};
 ghost use Rattle.lc_tool.specs.Shown.{refusal_to};
 ghost use Rattle.lc_tool.specs.Store.{Adds};
 ghost use Rattle.lc_tool.specs.Tells.{TellsCommand};
-ghost use Rattle.lc_tool.specs.Text.{refusal_text, reply_text, words_text};
+ghost use Rattle.lc_text.specs.Text.{refusal_text, reply_text};
 ghost use Rattle.lc_tool.specs.Verdict.{verdict_of, verdict_on};
-ghost use Rattle.lc_tool.specs.declared.command.Command.TheVariants.{Inspect, Log, Show};
+ghost use Rattle.lc_text.specs.declared.command.Command.TheVariants.{Inspect, Log, Show};
 
 use crate::ToolFault;
-use crate::command::Command;
-use crate::hex::{write_page, write_word};
-use crate::inspector::{inspect, log_bytes};
 use crate::repeating::{end, flush, recover};
-use crate::replies::write_reply;
 use crate::stop::Stop;
-use crate::text::write_closed;
 use crate::verdict::Verdict;
 use lc_core::{Refusal, Reply, ShowFault, World};
 use lc_disk::Stoppable;
-use std::alloc::Global;
+use lc_text::{Command, inspect, write_closed, write_page, write_reply, write_words};
+use std::alloc::{AllocError, Global};
 use std::io::Write;
 
 /// One line of a script. An `Err` has written nothing where there was no memory.
@@ -89,7 +86,7 @@ fn show_log<D: Stoppable + Drop, W: Write>(
 {
     match world.log_words(alloc, node) {
         Ok(words) => {
-            show_words(writer, words.as_slice())?;
+            write_words(writer, words.as_slice())?;
             Ok(Verdict::Done)
         }
         Err(fault) => show_fault(writer, fault),
@@ -154,13 +151,13 @@ fn show_page<D: Stoppable + Drop, W: Write>(
     }
 }
 
-// Writes words, one a line.
-fn show_words<W: Write>(writer: &mut W, words: &[u64]) -> Result<(), Stop>
-    ensures shown { OnOk result (Appends (W.contents writer.old) (W.contents writer.new) (words_text words.now)) }
-    ensures memory { result ≢ Err Stop.NoMemory }
+// The bytes of words, the lowest byte of each first.
+fn log_bytes(alloc: Global, words: &[u64]) -> Result<Vec<u8>, AllocError>
+    ensures { IfOk result (λ bytes. bytes.items ≡ bytes_of words.now) }
 {
+    let mut bytes = Vec::new(alloc);
     for word in words {
-        write_word(writer, *word)?;
+        bytes.extend_from_slice(&word.to_le_bytes())?;
     }
-    Ok(())
+    Ok(bytes)
 }

@@ -3,17 +3,17 @@ ghost use Rattle.std.specs.Prelude.{◌≡◌, ◌≢◌, ◌↔◌, ◌⊎◌, 
 ghost use Rattle.std.specs.Io.KnownBytes.{Appends};
 ghost use Rattle.lc_record.specs.Words.{words_of};
 ghost use Rattle.lc_tool.specs.Files.{IsLogLen, TellsFile};
-ghost use Rattle.lc_tool.specs.Inspector.{Inspects};
+ghost use Rattle.lc_text.specs.Inspector.{Inspects};
 ghost use Rattle.lc_tool.specs.Store.{Adds};
-ghost use Rattle.lc_tool.specs.Text.{no_memory_text};
+ghost use Rattle.lc_text.specs.Text.{no_memory_text};
 
 use crate::ToolFault;
 use crate::folder::FolderFault;
-use crate::inspector::inspect;
 use crate::making::stopped;
 use crate::scripts::{DONE, bad_geometry, no_memory};
 use lc_disk::open_regular;
 use lc_record::Geometry;
+use lc_text::inspect;
 use std::alloc::Global;
 use std::fs::{OpenFile, OpenOptions};
 use std::io::Write;

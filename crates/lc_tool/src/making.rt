@@ -2,18 +2,17 @@
 ghost use Rattle.std.specs.Prelude.{◌≡◌, ◌≢◌, ◌++◌, true, IfErr, IfOk, OnOk, OnErr, MatchBool};
 ghost use Rattle.lc_recover.specs.Reads.{area_count};
 ghost use Rattle.lc_tool.specs.Files.{Inits, MadeSome, NoneTaken, SomeTaken, Stops, TellsInit, store_files};
-ghost use Rattle.lc_tool.specs.Text.{exists_text};
+ghost use Rattle.lc_text.specs.Text.{exists_text};
 ghost use Rattle.std.specs.Io.KnownBytes.{Appends};
 ghost use Rattle.lc_tool.specs.Store.{Adds};
 
 use crate::ToolFault;
 use crate::folder::{Folder, FolderFault};
-use crate::replies::write_reply;
 use crate::scripts::{DONE, FAULTED, REFUSED};
 use crate::store_file::StoreFile;
-use crate::text::{write_exists, write_no_memory};
 use lc_core::{Refusal, Reply};
 use lc_record::Geometry;
+use lc_text::{write_exists, write_no_memory, write_reply};
 use std::io::Write;
 
 /// Makes the files of a new store in a folder, unless something stands under one of their names: that is looked at of all
@@ -98,6 +97,3 @@ pub(crate) fn stopped<W: Write>(writer: &mut W, fault: FolderFault) -> Result<u8
         Err(_) => Err(ToolFault::Write),
     }
 }
-
-#[cfg(test)]
-mod tests;

@@ -4,16 +4,15 @@ ghost use Rattle.std.specs.Io.KnownBytes.{Appends};
 ghost use Rattle.lc_recover.specs.Recovered.{sequence_of};
 ghost use Rattle.lc_tool.specs.Recovers.{Explains, Recovers, RecoversAreas, TellsRecovery, stop_status, stop_text};
 ghost use Rattle.lc_tool.specs.Store.{Adds, RefusesLengths, RefusesMerge};
-ghost use Rattle.lc_tool.specs.Text.{recovered_text, segment_text};
+ghost use Rattle.lc_text.specs.Text.{recovered_text, segment_text};
 
 use crate::ToolFault;
-use crate::replies::write_reply;
 use crate::scripts::{DONE, FAULTED, REFUSED};
-use crate::text::write_no_memory;
 use lc_core::{Reply, recovery_refusal};
 use lc_disk::Area;
 use lc_record::Geometry;
 use lc_recover::{Progress, RecoverFault, Recovered, Recovery};
+use lc_text::{write_no_memory, write_reply};
 use std::alloc::Global;
 use std::io::{self, Write};
 
@@ -109,6 +108,3 @@ fn status_of(fault: RecoverFault) -> u8
         _ => REFUSED,
     }
 }
-
-#[cfg(test)]
-mod tests;

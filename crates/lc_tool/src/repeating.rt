@@ -2,7 +2,7 @@
 ghost use Rattle.std.specs.Prelude.{◌≡◌, IfOk, OnErr};
 ghost use Rattle.lc_model.specs.declared.event.Event.TheVariants.{FlushStep, RecoverStep};
 ghost use Rattle.lc_tool.specs.Fits.{AsksFor, FollowsAll, FollowsEnd, RefusesAll};
-ghost use Rattle.lc_tool.specs.declared.command.Command.TheVariants.{End, Recover};
+ghost use Rattle.lc_text.specs.declared.command.Command.TheVariants.{End, Recover};
 
 use lc_core::{Event, Reply, World};
 use lc_disk::Stoppable;

@@ -2,28 +2,26 @@
 ghost use Rattle.std.specs.Prelude.{◌≡◌, ◌≢◌, ◌+◌, ℕ, false, IfOk, IfSome, Some, None, take, if◌then◌else◌};
 ghost use Rattle.std.specs.Io.KnownBytes.{Appends};
 ghost use Rattle.lc_model.specs.declared.refusal.Refusal.TheVariants.{BadGeometry};
-ghost use Rattle.lc_tool.specs.Outcome.{LeavesLine, OpensStore, RefusesFirst, RunsLines};
-ghost use Rattle.lc_tool.specs.Script.{script_lines};
+ghost use Rattle.lc_tool.specs.Outcome.{LeavesLine, OpensStore, RefusesFirst, RunsLines, RunsRecovered};
+ghost use Rattle.lc_text.specs.Lines.{script_lines};
 ghost use Rattle.lc_tool.specs.Store.{Adds, RefusesLengths, RefusesMerge, RunsStore};
-ghost use Rattle.lc_tool.specs.Tells.{TellsLine, TellsLines, TellsOpening, TellsScript};
-ghost use Rattle.lc_tool.specs.Text.{no_memory_text, refusal_text, reply_text, too_long_text};
+ghost use Rattle.lc_tool.specs.Tells.{TellsLine, TellsLines, TellsOpening, TellsRecovered, TellsScript};
+ghost use Rattle.lc_text.specs.Text.{no_memory_text, refusal_text, reply_text, too_long_text};
 
 use crate::ToolFault;
-use crate::command::Line;
 use crate::commands::perform;
-use crate::lines::first_line;
 use crate::outcome::Outcome;
-use crate::parsing::parse;
 use crate::repeating::recover;
-use crate::replies::write_reply;
 use crate::source::Source;
 use crate::stop::Stop;
-use crate::text::{write_no_memory, write_not_understood, write_too_long};
 use crate::verdict::Verdict;
 use lc_core::{Refusal, Reply, World};
 use lc_disk::Stoppable;
 use lc_record::Geometry;
 use lc_recover::RecoverFault;
+use lc_text::{
+    Line, first_line, parse, write_no_memory, write_not_understood, write_reply, write_too_long,
+};
 use std::alloc::Global;
 use std::io::{Read, Write};
 
@@ -68,6 +66,21 @@ pub fn run_script<D: Stoppable + Drop, R: Read, W: Write>(
     if let Some(status) = open(alloc, &mut world, writer)? {
         return Ok(status);
     }
+    run_recovered(alloc, &mut world, reader, writer)
+}
+
+// Reads the script and runs it on a store that is recovered.
+fn run_recovered<D: Stoppable + Drop, R: Read, W: Write>(
+    alloc: Global,
+    world: &mut World<D>,
+    reader: &mut R,
+    writer: &mut W,
+) -> Result<u8, ToolFault>
+    ensures runs { IfOk result (λ status. IfSome (R.remaining reader.old) (λ script.
+        RunsRecovered D.Area world.old script (W.contents writer.old) (W.contents writer.new) status)) }
+    ensures tells { IfOk result (λ status. IfSome (R.remaining reader.old) (λ script. Adds (TellsRecovered script) (W.contents writer.old) (W.contents writer.new) status)) }
+    ensures memory { result ≢ Err ToolFault.NoMemory }
+{
     let script = match read_script(alloc, reader) {
         Ok(script) => script,
         Err(ToolFault::NoMemory) => return no_memory(writer),
@@ -76,7 +89,7 @@ pub fn run_script<D: Stoppable + Drop, R: Read, W: Write>(
     if script.len() > LONGEST {
         return too_long(writer);
     }
-    run_lines(alloc, &mut world, &script, writer)
+    run_lines(alloc, world, &script, writer)
 }
 
 // Recovers the store, and says nothing where that is done: otherwise the status is answered.
@@ -243,6 +256,3 @@ fn too_long<W: Write>(writer: &mut W) -> Result<u8, ToolFault>
         Err(_) => Err(ToolFault::Write),
     }
 }
-
-#[cfg(test)]
-mod tests;

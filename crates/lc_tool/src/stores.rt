@@ -77,6 +77,3 @@ where
         Err(fault) => stopped(writer, fault),
     }
 }
-
-#[cfg(test)]
-mod tests;

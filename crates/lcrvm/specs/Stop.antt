@@ -1,8 +1,8 @@
 -- How the program stops.
 use Rattle.std.specs.Prelude.{ℕ}
-use Rattle.lc_tool.specs.declared.tool_fault.ToolFault.{ToolFault}
-use Rattle.lc_tool.specs.declared.tool_fault.ToolFault.TheVariants.{Read, Write}
-use Rattle.lc_tool.specs.declared.tool_fault.ToolFault.TheVariants as fault
+use Rattle.lc_text.specs.declared.tool_fault.ToolFault.{ToolFault}
+use Rattle.lc_text.specs.declared.tool_fault.ToolFault.TheVariants.{Read, Write}
+use Rattle.lc_text.specs.declared.tool_fault.ToolFault.TheVariants as fault
 use Rattle.lcrvm.specs.declared.stop.Stop.{Stop}
 use Rattle.lcrvm.specs.declared.stop.Stop.TheVariants.{NotUnderstood, NoMemory, InOrOut}
 

@@ -5,10 +5,8 @@ ghost use Rattle.std.specs.Prelude.{◌≡◌, ◌⊎◌};
 
 mod stop;
 
-use lc_tool::{
-    Asked, init_store, inspect_file, read_command_line, recover_store, run_script, run_store,
-    zero_areas,
-};
+use lc_tool::{init_store, inspect_file, recover_store, run_script, run_store, zero_areas};
+use lc_words::{Asked, read_command_line};
 use std::env;
 use std::io::{self, BufWriter, Write};
 use std::os::unix::fs::FileExt;

@@ -1,15 +1,15 @@
 use Rattle.std.proofs.Common.{◌∙◌, List, ℕ, refl, ap, subst, inl, inr, Err}
 use Rattle.std.proofs.lemmas.Result.{IfOk-weaker}
 use Rattle.std.specs.Io.KnownBytes.{Appends}
-use Rattle.lc_tool.specs.Text.{refusal_text, words_text}
+use Rattle.lc_text.specs.Text.{refusal_text, words_text}
 use Rattle.lc_tool.proofs.LogShown.{log_asks, log_fault, log_performs}
 use Rattle.lc_tool.proofs.commands.show_log.Goals as goal
 
-pub returns-in_ok-show_words-in-Ok-clause-done : goal.returns-in_ok-show_words-in-Ok-clause-done
-returns-in_ok-show_words-in-Ok-clause-done g c =
+pub returns-in_ok-write_words-in-Ok-clause-done : goal.returns-in_ok-write_words-in-Ok-clause-done
+returns-in_ok-write_words-in-Ok-clause-done g c =
     log_performs g.D.Area c.args.node c.args.world.now c.log_words.new.self c.log_words.result (record { unknown = c.log_words.ensures.unknown; read = c.log_words.ensures.read })
-    c.in-Ok.words (g.W.Write.contents c.args.writer.now) (g.W.Write.contents c.show_words.new.writer) c.in-Ok.is c.in-Ok.ensures.words c.in-Ok.ensures.records
-    (subst (λ (l : List ℕ). Appends (g.W.Write.contents c.args.writer.now) (g.W.Write.contents c.show_words.new.writer) (words_text l)) c.as_slice.ensures.value c.in_ok-show_words-in-Ok.ensures.shown)
+    c.in-Ok.words (g.W.Write.contents c.args.writer.now) (g.W.Write.contents c.write_words.new.writer) c.in-Ok.is c.in-Ok.ensures.words c.in-Ok.ensures.records
+    (subst (λ (l : List ℕ). Appends (g.W.Write.contents c.args.writer.now) (g.W.Write.contents c.write_words.new.writer) (words_text l)) c.as_slice.ensures.value c.in_ok-write_words-in-Ok.ensures)
 
 pub returns-in-Err-clause-done : goal.returns-in-Err-clause-done
 returns-in-Err-clause-done g c =
@@ -22,8 +22,8 @@ returns-in-Err-clause-asks g c = λ want.
     log_asks g.D.Area c.args.node c.args.world.now c.log_words.new.self c.log_words.result (record { unknown = c.log_words.ensures.unknown; read = c.log_words.ensures.read })
     (c.in-Err.is ∙ ap (λ fault. Err fault) (c.show_fault.ensures.memory want).0)
 
-pub returns-in_ok-show_words-in-Ok-clause-tells : goal.returns-in_ok-show_words-in-Ok-clause-tells
-returns-in_ok-show_words-in-Ok-clause-tells g c = (words_text c.as_slice.result.now, inl (c.as_slice.result.now, refl, refl), c.in_ok-show_words-in-Ok.ensures.shown)
+pub returns-in_ok-write_words-in-Ok-clause-tells : goal.returns-in_ok-write_words-in-Ok-clause-tells
+returns-in_ok-write_words-in-Ok-clause-tells g c = (words_text c.as_slice.result.now, inl (c.as_slice.result.now, refl, refl), c.in_ok-write_words-in-Ok.ensures)
 
 pub returns-in-Err-clause-tells : goal.returns-in-Err-clause-tells
 returns-in-Err-clause-tells g c = IfOk-weaker c.show_fault.result _ _ (λ verdict shown. (refusal_text shown.0, inr (shown.0, refl, shown.2), shown.3)) c.show_fault.ensures.shown

@@ -1,6 +1,6 @@
 use Rattle.std.proofs.Common.{refl, inr}
 use Rattle.std.proofs.lemmas.Result.{IfOk-weaker}
-use Rattle.lc_tool.specs.Text.{refusal_text}
+use Rattle.lc_text.specs.Text.{refusal_text}
 use Rattle.lc_tool.proofs.Shows.{page_refused}
 use Rattle.lc_tool.proofs.commands.show_page.Goals as goal
 

@@ -2,8 +2,8 @@ use Rattle.std.proofs.Common.{◌≡◌, ◌∙◌, List, ℕ, refl, ap, subst, 
 use Rattle.std.proofs.lemmas.Result.{IfOk-weaker}
 use Rattle.lc_record.specs.Words.{bytes_of, words_of}
 use Rattle.lc_log.specs.LogText.{placed}
-use Rattle.lc_tool.specs.Inspector.{Inspects}
-use Rattle.lc_tool.specs.Text.{records_text, refusal_text}
+use Rattle.lc_text.specs.Inspector.{Inspects}
+use Rattle.lc_text.specs.Text.{records_text, refusal_text}
 use Rattle.lc_tool.proofs.LogShown.{inspect_asks, inspect_fault, inspect_had, inspect_performs}
 use Rattle.lc_tool.proofs.commands.show_records.Goals as goal
 

@@ -3,7 +3,7 @@ use Rattle.std.specs.Io.KnownBytes.{Appends}
 use Rattle.lc_recover.specs.Recovered.{sequence_of}
 use Rattle.lc_tool.specs.Recovers.{RecoversAreas, stop_text}
 use Rattle.lc_tool.specs.Store.{RefusesMerge}
-use Rattle.lc_tool.specs.Text.{recovered_text}
+use Rattle.lc_text.specs.Text.{recovered_text}
 use Rattle.lc_tool.proofs.AreasRecovered.{ended_with, prints_numbers, stops_recovery, stops_refused}
 use Rattle.lc_tool.proofs.recovery.recover_areas.Goals as goal
 

@@ -4,7 +4,7 @@ use Rattle.std.specs.Io.KnownBytes.{Appends}
 use Rattle.std.proofs.KnownBytes.{Appends-trans}
 use Rattle.lc_record.specs.declared.geometry.Geometry.{Geometry}
 use Rattle.lc_recover.specs.Recovered.{sequence_of}
-use Rattle.lc_tool.specs.Text.{segment_text}
+use Rattle.lc_text.specs.Text.{segment_text}
 use Rattle.lc_tool.proofs.AreasRecovered.{first_segments, one_segment}
 use Rattle.lc_tool.proofs.recovery.write_recovered.Goals as goal
 

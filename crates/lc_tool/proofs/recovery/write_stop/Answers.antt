@@ -3,7 +3,7 @@ use Rattle.std.specs.Prelude.{OnOk}
 use Rattle.std.specs.Option.{option_map_or}
 use Rattle.std.specs.Io.KnownBytes.{Appends}
 use Rattle.lc_model.specs.declared.refusal.Refusal.{Refusal}
-use Rattle.lc_tool.specs.Text.{no_memory_text, refusal_text}
+use Rattle.lc_text.specs.Text.{no_memory_text, refusal_text}
 use Rattle.lc_tool.proofs.recovery.write_stop.Goals as goal
 
 line_of : Option Refusal → List ℕ

@@ -1,10 +1,10 @@
 use Rattle.std.proofs.Common.{subst, arith}
-use Rattle.std.proofs.lemmas.Result.{IfOk-weaker}
+use Rattle.std.proofs.lemmas.Result.{IfOk-weaker, on_err_weaker}
 use Rattle.lc_model.specs.declared.event.Event.TheVariants.{FlushStep}
 use Rattle.lc_model.specs.declared.reply.Reply.{Reply}
 use Rattle.lc_core.specs.World.{FollowsWorld}
 use Rattle.lc_tool.proofs.Again.{not_step}
-use Rattle.lc_tool.proofs.FieldLemmas.{on_err, on_err_weaker}
+use Rattle.lc_text.proofs.FieldLemmas.{on_err}
 use Rattle.lc_tool.proofs.Memory.{flush_asks_not}
 use Rattle.lc_tool.proofs.Performing.{first_flushed, flush_behind, flush_over, more_flushed}
 use Rattle.lc_tool.proofs.repeating.flush.Goals as goal

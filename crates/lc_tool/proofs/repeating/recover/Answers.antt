@@ -1,10 +1,11 @@
 use Rattle.std.proofs.Common.{refl, subst, arith}
+use Rattle.std.proofs.lemmas.Result.{on_err_weaker}
 use Rattle.lc_model.specs.declared.event.Event.TheVariants.{RecoverStep}
 use Rattle.lc_model.specs.declared.reply.Reply.{Reply}
 use Rattle.lc_core.specs.Recovers.{RecoversDown, RefusesAtOnce}
 use Rattle.lc_core.specs.World.{FollowsWorld}
 use Rattle.lc_tool.proofs.Again.{not_step}
-use Rattle.lc_tool.proofs.FieldLemmas.{on_err, on_err_weaker}
+use Rattle.lc_text.proofs.FieldLemmas.{on_err}
 use Rattle.lc_tool.proofs.Recovering.{all_gone, all_refused, first_gone, gone_asks, gone_follows, gone_refuses, more_gone}
 use Rattle.lc_tool.proofs.repeating.recover.Goals as goal
 

@@ -1,7 +1,7 @@
 use Rattle.std.proofs.Common.{◌≡◌, ◌∙◌, refl, sym, ap, inl, inr, Err}
-use Rattle.lc_tool.specs.Line.{line_of}
-use Rattle.lc_tool.specs.Text.{no_memory_text}
-use Rattle.lc_tool.specs.declared.command.Line.TheVariants.{Command as Commanded}
+use Rattle.lc_text.specs.Line.{line_of}
+use Rattle.lc_text.specs.Text.{no_memory_text}
+use Rattle.lc_text.specs.declared.command.Line.TheVariants.{Command as Commanded}
 use Rattle.lc_tool.specs.declared.verdict.Verdict.TheVariants.{Done, Refused}
 use Rattle.lc_tool.proofs.ScriptLemmas.{keeps_then}
 use Rattle.lc_tool.proofs.scripts.do_line.Goals as goal

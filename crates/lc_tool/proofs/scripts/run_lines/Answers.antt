@@ -1,5 +1,6 @@
 use Rattle.std.proofs.Common.{◌≡◌, ℕ, ◌+◌, ◌||◌, ◌==◌, true, false, List, [], ◌∷◌, length, refl, sym, arith, eqb-true}
-use Rattle.lc_tool.specs.Script.{Runs, script_lines}
+use Rattle.lc_text.specs.Lines.{script_lines}
+use Rattle.lc_tool.specs.Script.{Runs}
 use Rattle.lc_tool.specs.Tells.{TellsLines}
 use Rattle.lc_tool.proofs.ScriptLemmas.{at_first, breaks_here, further, over, passes_more, runs_end, tells_here, tells_more, to_end}
 use Rattle.lc_tool.proofs.scripts.run_lines.Goals as goal

@@ -2,7 +2,8 @@ use Rattle.std.proofs.Common.{◌+◌, ◌≤◌, false, length}
 use Rattle.lc_model.specs.State.{Setting, State}
 use Rattle.lc_core.specs.Numbers.{Numbers}
 use Rattle.lc_core.specs.World.{FitsWorld}
-use Rattle.lc_tool.specs.Script.{Runs, script_lines}
+use Rattle.lc_text.specs.Lines.{script_lines}
+use Rattle.lc_tool.specs.Script.{Runs}
 use Rattle.lc_tool.specs.Tells.{TellsLines}
 use Rattle.lc_tool.proofs.ScriptLemmas.{SoFar}
 use Rattle.lc_tool.proofs.scripts.run_lines.Given as goal

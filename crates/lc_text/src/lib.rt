@@ -1,0 +1,23 @@
+//! Text: a line is read as the one command that its words say, and what is written is the text of the answer.
+#![tactic(auto)]
+
+mod command;
+mod digits;
+mod fields;
+mod hex;
+mod inspector;
+mod lines;
+mod parsing;
+mod records;
+mod replies;
+mod text;
+mod tool_fault;
+
+pub use command::{Command, Line};
+pub use hex::{write_page, write_words};
+pub use inspector::inspect;
+pub use lines::first_line;
+pub use parsing::parse;
+pub use replies::write_reply;
+pub use text::{write_closed, write_exists, write_no_memory, write_not_understood, write_too_long};
+pub use tool_fault::ToolFault;

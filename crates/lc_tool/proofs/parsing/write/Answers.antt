@@ -1,8 +1,0 @@
-use Rattle.std.proofs.Common.{arith}
-use Rattle.lc_tool.proofs.FieldLemmas.{spot_len, on_err}
-use Rattle.lc_tool.specs.Line.{words}
-use Rattle.lc_tool.proofs.parsing.write.Goals as goal
-
-pub returns-in_err-bytes-clause-memory : goal.returns-in_err-bytes-clause-memory
-returns-in_err-bytes-clause-memory c =
-    on_err c.from_residual.result (omega (arith, c.in_err-bytes.ensures.memory, spot_len (words c.args.fields.rest.now) _ c.in-Some.ensures))

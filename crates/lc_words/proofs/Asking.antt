@@ -1,0 +1,123 @@
+-- What the words ask for.
+use Rattle.std.proofs.Common.{◌≡◌, ◌∙◌, ◌⊎◌, List, [], Option, Some, true, refl, sym, ap, ap₂, subst, false, inl, inr, codes}
+use Rattle.std.specs.Option.{option_map_or}
+use Rattle.clap.specs.Words.{AddsArg, AddsSubcommand, App, Rule, rule_of, with_rule, with_subcommand, HasMatchesOf, IsAmong, Row, Text, app_of, fault_of, is_simple, is_simple_and_free, subcommand_of, subcommand_rows_of}
+use Rattle.clap.specs.declared.builder.arg.Arg.{Arg}
+use Rattle.clap.specs.declared.builder.command.Command.{Command}
+use Rattle.clap.specs.declared.parser.matches.ArgMatches.{ArgMatches}
+use Rattle.clap.specs.declared.error.kind.ErrorKind.{ErrorKind}
+use Rattle.clap.specs.declared.error.kind.ErrorKind.TheVariants.{DisplayHelp, OutOfMemory}
+use Rattle.clap.proofs.OnLiterals.{clap_on_literals}
+use Rattle.lc_words.proofs.FaultlessWords.{IsSubcommand, entered_run, entered_init, entered_recover, entered_inspect, faultless_words}
+use Rattle.lc_words.specs.CommandLine.{HasNumbersAt, HasSizeAt, HasText, HasWord, IsAskedBy, IsCallOf, IsInitOf, IsInspectOf, IsLike, IsReadOf, IsRecoverOf, IsRunOf, options_of, program_app}
+use Rattle.lc_words.specs.declared.asked.Asked.{Asked}
+use Rattle.lc_words.specs.declared.asked.Asked.TheVariants.{Run, Init, Recover, Inspect, NotUnderstood}
+
+pub program_is_simple : is_simple program_app ≡ true
+unfolding clap_on_literals
+program_is_simple = refl
+
+pub program_is_free : is_simple_and_free program_app ≡ true
+unfolding clap_on_literals
+program_is_free = refl
+
+pub same_options : (c : Command) (m : ArgMatches) (words : List Text) → app_of c ≡ program_app → HasMatchesOf (app_of c) words m
+    → subcommand_rows_of m ≡ subcommand_of program_app words
+same_options c m words is has =
+    (has (ap is_simple is ∙ program_is_simple)).1 ∙ ap (λ (a : App). subcommand_of a words) is
+
+-- ---- what a subcommand's options ask for is what the words ask for
+
+abbrev IsMet : Text → List Row → List Text → Type 0
+IsMet name rows words = (fault_of program_app words ≡ []) × (subcommand_of program_app words ≡ Some (name, rows))
+
+rows_are : (name : Text) (rows : List Row) (words : List Text) → IsMet name rows words → rows ≡ options_of words
+rows_are name rows words met = sym (ap (λ (o : Option (Text × List Row)). option_map_or (λ f. f.1) o []) met.1)
+
+is_call : (name : Text) (rows : List Row) (words : List Text) → IsMet name rows words → IsCallOf name words
+is_call name rows words met = (met.0, met.1 ∙ ap (λ (rs : List Row). Some (name, rs)) (rows_are name rows words met))
+
+run_asked : (asked : Asked) (rows : List Row) (words : List Text) → IsMet (codes "run") rows words → IsRunOf rows asked → HasSizeAt rows
+    → IsAskedBy words asked
+run_asked (Run geometry store) rows words met read size =
+    let same = rows_are (codes "run") rows words met in (
+      is_call (codes "run") rows words met,
+      subst (λ (rs : List Row). HasNumbersAt rs geometry) same read.0,
+      subst (λ (rs : List Row). HasText (codes "store") rs store) same read.1,
+    )
+run_asked NotUnderstood rows words met read size = absurd (read size)
+run_asked _ rows words met read size = absurd read
+
+init_asked : (asked : Asked) (rows : List Row) (words : List Text) → IsMet (codes "init") rows words → IsInitOf rows asked → HasSizeAt rows
+    → HasWord (codes "folder") rows → IsAskedBy words asked
+init_asked (Init folder geometry) rows words met read size word =
+    let same = rows_are (codes "init") rows words met in (
+      is_call (codes "init") rows words met,
+      subst (λ (rs : List Row). HasNumbersAt rs geometry) same read.0,
+      subst (λ (rs : List Row). HasText (codes "folder") rs (Some folder)) same read.1,
+    )
+init_asked NotUnderstood rows words met read size word = absurd (read size word)
+init_asked _ rows words met read size word = absurd read
+
+recover_asked : (asked : Asked) (rows : List Row) (words : List Text) → IsMet (codes "recover") rows words → IsRecoverOf rows asked → HasSizeAt rows
+    → HasWord (codes "folder") rows → IsAskedBy words asked
+recover_asked (Recover folder geometry) rows words met read size word =
+    let same = rows_are (codes "recover") rows words met in (
+      is_call (codes "recover") rows words met,
+      subst (λ (rs : List Row). HasNumbersAt rs geometry) same read.0,
+      subst (λ (rs : List Row). HasText (codes "folder") rs (Some folder)) same read.1,
+    )
+recover_asked NotUnderstood rows words met read size word = absurd (read size word)
+recover_asked _ rows words met read size word = absurd read
+
+inspect_asked : (asked : Asked) (rows : List Row) (words : List Text) → IsMet (codes "inspect") rows words → IsInspectOf rows asked
+    → HasWord (codes "file") rows → IsAskedBy words asked
+inspect_asked (Inspect file reverse) rows words met read word =
+    let same = rows_are (codes "inspect") rows words met in
+    let both = subst (λ (rs : List Row). IsInspectOf rs (Inspect file reverse)) same read in
+    (is_call (codes "inspect") rows words met, both.0, both.1)
+inspect_asked NotUnderstood rows words met read word = absurd (read word)
+inspect_asked _ rows words met read word = absurd read
+
+pub asked : (asked : Asked) (found : Option (Text × List Row)) (words : List Text) → IsReadOf found asked → found ≡ subcommand_of program_app words
+    → fault_of program_app words ≡ [] → IsAskedBy words asked
+asked given found words read same none = go (faultless_words words none)
+  where
+    go : IsSubcommand (subcommand_of program_app words) → IsAskedBy words given
+    go (entered_run h) = run_asked given h.0 words (none, h.1) (read.0 h.0 (same ∙ h.1)) h.2
+    go (entered_init h) = init_asked given h.0 words (none, h.1) (read.1 h.0 (same ∙ h.1)) h.2 h.3
+    go (entered_recover h) = recover_asked given h.0 words (none, h.1) (read.2 h.0 (same ∙ h.1)) h.2 h.3
+    go (entered_inspect h) = inspect_asked given h.0 words (none, h.1) (read.3 h.0 (same ∙ h.1)) h.2
+
+pub no_fault : (c : Command) (words : List Text) → app_of c ≡ program_app → fault_of (app_of c) words ≡ []
+    → fault_of program_app words ≡ []
+no_fault c words is none = ap (λ (a : App). fault_of a words) (sym is) ∙ none
+
+pub asks_help : (c : Command) (words : List Text) (k : ErrorKind) → app_of c ≡ program_app → k ≡ DisplayHelp
+    → (k ≡ OutOfMemory) ⊎ IsAmong k (fault_of (app_of c) words) → IsAmong DisplayHelp (fault_of program_app words)
+asks_help c words k is help (inl memory) = let bad : DisplayHelp ≡ OutOfMemory = sym help ∙ memory in cc
+asks_help c words k is help (inr among) =
+    subst (λ (a : App). IsAmong DisplayHelp (fault_of a words)) is (subst (λ (j : ErrorKind). IsAmong j (fault_of (app_of c) words)) help among)
+
+pub has_other_fault : (c : Command) (words : List Text) (k seen : ErrorKind) → app_of c ≡ program_app → seen ≡ k → (seen ≡ OutOfMemory → ⊥) → (seen ≡ DisplayHelp → ⊥)
+    → (k ≡ OutOfMemory) ⊎ IsAmong k (fault_of (app_of c) words)
+    → (kind : ErrorKind) × IsAmong kind (fault_of program_app words) × (kind ≡ DisplayHelp → ⊥)
+has_other_fault c words k seen is same memory help (inl bad) = absurd (memory (same ∙ bad))
+has_other_fault c words k seen is same memory help (inr among) =
+    (k, subst (λ (a : App). IsAmong k (fault_of a words)) is among, λ e. help (same ∙ e))
+
+-- ---- the command that is made
+
+pub adds_option : (old new : Command) (a : Arg) (app : App) (r : Rule) → AddsArg old a new → IsLike old app → rule_of a ≡ r → a.global ≡ false
+    → IsLike new (with_rule app r)
+adds_option old new a app r added is rule local = (
+  added.shape local ∙ ap₂ with_rule is.0 rule,
+  added.globals ∙ rw (is.1, local) refl,
+)
+
+pub adds_subcommand : (old sub new : Command) (app below : App) → AddsSubcommand old sub new → IsLike old app → IsLike sub below
+    → IsLike new (with_subcommand app below.top)
+adds_subcommand old sub new app below added is under = (
+  added.shape under.1 ∙ ap₂ with_subcommand is.0 (ap (λ (a : App). a.top) under.0),
+  added.globals ∙ rw (is.1, under.1) refl,
+)

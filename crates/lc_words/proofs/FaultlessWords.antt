@@ -1,0 +1,281 @@
+-- Words with no fault name one of the subcommands, with a number in its range for each option of a size, and the word
+-- that the subcommand wants.
+use Rattle.std.proofs.Common.{◌≡◌, ◌<◌, ◌^◌, ◌||◌, ◌&&◌, ℕ, Bool, List, [], Option, Some, None, true, false, is_some, refl, sym, cond, inl, inr, codes, arith}
+use Rattle.std.specs.List.{list_any, slice_index_or}
+use Rattle.std.specs.Option.{option_map, option_map_or}
+use Rattle.std.specs.Str.{bytes_eq}
+use Rattle.std.proofs.lemmas.Slice.Eq.{bytes_eq-Decides}
+use Rattle.clap.specs.Facts.{parser_of_value}
+use Rattle.clap.specs.Faults.{entered_fault, level_fault}
+use Rattle.clap.specs.Simple.{App, Shape, argument_words, built, entered, filled, label_of, names_of, new_shape, rows_at, with_index}
+use Rattle.clap.specs.ValueTests.{accepts}
+use Rattle.clap.specs.Walk.{answers_to, arg_by_id, finished, nothing_held, rows_after, settled, walk, walk_from}
+use Rattle.clap.specs.Words.{Row, Text, fault_of, subcommand_of}
+use Rattle.clap.specs.declared.builder.value_parser.ValueParser.{ValueParser}
+use Rattle.clap.specs.declared.builder.value_parser.ValueParser.TheVariants as vp
+use Rattle.lc_words.specs.CommandLine.{HasNumberIn, HasSizeAt, HasWord, from_to, option_rule, program_app, reverse_rule, store_rule, word_rule}
+use Rattle.lc_words.proofs.OptionRows.{AllFit, AllHold, Fits, StopsElse, defaults_made, has_default, level_parts, needs_subcommand, nothing_missing, required_has_row, row_read, rows_hold, walk_stops}
+use Rattle.lc_words.proofs.OptionNumbers.{in_range}
+
+abbrev program : App
+program = built program_app
+
+-- the subcommands of the built program
+abbrev sub : ℕ → Shape
+sub i = slice_index_or program.subs i (new_shape [])
+
+abbrev run : Shape
+run = sub 0
+
+abbrev init : Shape
+init = sub 1
+
+abbrev recover : Shape
+recover = sub 2
+
+abbrev inspect : Shape
+inspect = sub 3
+
+abbrev help : Shape
+help = sub 4
+
+-- what the option of a subcommand takes
+abbrev taken : Shape → Text → ValueParser
+taken s id = option_map_or (λ a. parser_of_value a.parser) (arg_by_id s.rules id) vp.String
+
+-- ---- the options of each subcommand
+
+module _ (s : Shape) where
+  number_fits : (i : ℕ) (name default : Text) (least most : ℕ) → taken s name ≡ from_to least most → accepts false (from_to least most) default ≡ true
+      → Fits (taken s) (with_index i (filled (option_rule name default (from_to least most))))
+  number_fits i name default least most is passed = inl (record {
+    action = inl refl;
+    parser = sym is;
+    case = refl;
+    some = inr refl;
+    defaults = rw (is, passed) refl;
+  })
+
+  word_fits : (i : ℕ) (name : Text) → taken s name ≡ vp.String → Fits (taken s) (with_index i (filled (word_rule name)))
+  word_fits i name is = inl (record {
+    action = inl refl;
+    parser = sym is;
+    case = refl;
+    some = inr refl;
+    defaults = refl;
+  })
+
+store_fits : (i : ℕ) → Fits (taken run) (with_index i (filled store_rule))
+store_fits i = inl (record {
+  action = inl refl;
+  parser = refl;
+  case = refl;
+  some = inr refl;
+  defaults = refl;
+})
+
+reverse_fits : (i : ℕ) → Fits (taken inspect) (with_index i (filled reverse_rule))
+reverse_fits i = inl (record {
+  action = inr refl;
+  parser = refl;
+  case = refl;
+  some = inl refl;
+  defaults = refl;
+})
+
+run_fits : AllFit (taken run) run.rules
+run_fits = (
+  number_fits run 1 (codes "nodes") (codes "1") 1 8 refl refl,
+  (
+    number_fits run 1 (codes "threads") (codes "1") 1 16 refl refl,
+    (
+      number_fits run 1 (codes "segments") (codes "1") 1 16 refl refl,
+      (
+        number_fits run 1 (codes "pages") (codes "1") 1 1024 refl refl,
+        (
+          number_fits run 1 (codes "words") (codes "64") 64 4096 refl refl,
+          (store_fits 1, (inr (record { action = refl; defaults = refl }), tt)),
+        ),
+      ),
+    ),
+  ),
+)
+
+init_fits : AllFit (taken init) init.rules
+init_fits = (
+  word_fits init 1 (codes "folder") refl,
+  (
+    number_fits init 2 (codes "nodes") (codes "1") 1 8 refl refl,
+    (
+      number_fits init 2 (codes "threads") (codes "1") 1 16 refl refl,
+      (
+        number_fits init 2 (codes "segments") (codes "1") 1 16 refl refl,
+        (
+          number_fits init 2 (codes "pages") (codes "1") 1 1024 refl refl,
+          (
+            number_fits init 2 (codes "words") (codes "64") 64 4096 refl refl,
+            (inr (record { action = refl; defaults = refl }), tt),
+          ),
+        ),
+      ),
+    ),
+  ),
+)
+
+recover_fits : AllFit (taken recover) recover.rules
+recover_fits = (
+  word_fits recover 1 (codes "folder") refl,
+  (
+    number_fits recover 2 (codes "nodes") (codes "1") 1 8 refl refl,
+    (
+      number_fits recover 2 (codes "threads") (codes "1") 1 16 refl refl,
+      (
+        number_fits recover 2 (codes "segments") (codes "1") 1 16 refl refl,
+        (
+          number_fits recover 2 (codes "pages") (codes "1") 1 1024 refl refl,
+          (
+            number_fits recover 2 (codes "words") (codes "64") 64 4096 refl refl,
+            (inr (record { action = refl; defaults = refl }), tt),
+          ),
+        ),
+      ),
+    ),
+  ),
+)
+
+inspect_fits : AllFit (taken inspect) inspect.rules
+inspect_fits = (
+  word_fits inspect 1 (codes "file") refl,
+  (reverse_fits 2, (inr (record { action = refl; defaults = refl }), tt)),
+)
+
+-- ---- what a subcommand has after words with no fault
+
+-- the option of a number has this range and a default
+abbrev IsOption : Shape → Text → ℕ → ℕ → Type 0
+IsOption s name least most = (taken s name ≡ from_to least most) × (list_any (has_default name) s.rules ≡ true)
+
+module _ (s : Shape) (fits : AllFit (taken s) s.rules) where
+  number_in : (name : Text) (least most : ℕ) (words : List Text) → IsOption s name least most → most < 2 ^ 32
+      → AllHold (taken s) (rows_after s.rules [] words) → HasNumberIn name least most (rows_after s.rules [] words)
+  number_in name least most words is small all =
+      let rows = rows_after s.rules [] words in
+      let read = row_read (taken s) name rows
+      (defaults_made name s.rules (settled s.rules (walk s.rules [] nothing_held words).held).rows is.1) all in
+      in_range name read.value rows least most small (rw is.0 at read.one) (rw is.0 at read.passes)
+
+  size_at : (words : List Text) → level_fault s [] nothing_held words false [] ≡ []
+      → IsOption s (codes "nodes") 1 8 → IsOption s (codes "threads") 1 16 → IsOption s (codes "segments") 1 16
+      → IsOption s (codes "pages") 1 1024 → IsOption s (codes "words") 64 4096 → HasSizeAt (rows_after s.rules [] words)
+  size_at words none nodes threads segments pages many =
+      let all = rows_hold (taken s) s words fits none in
+      record {
+        nodes = number_in (codes "nodes") 1 8 words nodes (omega arith) all;
+        threads = number_in (codes "threads") 1 16 words threads (omega arith) all;
+        segments = number_in (codes "segments") 1 16 words segments (omega arith) all;
+        pages = number_in (codes "pages") 1 1024 words pages (omega arith) all;
+        words = number_in (codes "words") 64 4096 words many (omega arith) all;
+      }
+
+  word_at : (name : Text) (words : List Text) → level_fault s [] nothing_held words false [] ≡ [] → s.subcommand_negates_reqs ≡ false
+      → list_any (λ a. bytes_eq a.id name && a.required) s.rules ≡ true → HasWord name (rows_after s.rules [] words)
+  word_at name words none negates wanted =
+      let rows = rows_after s.rules [] words in
+      let parts = level_parts s [] nothing_held words false [] none in
+      let has = required_has_row name s.rules rows wanted (nothing_missing s rows negates parts.3) in
+      let read = row_read (taken s) name rows has (rows_hold (taken s) s words fits none) in
+      record { word = read.value; read = read.first }
+
+-- ---- the subcommand that was entered
+
+-- the name and the options of the subcommand
+abbrev Found : Type 0
+Found = Option (Text × List Row)
+
+abbrev pub IsRun : Found → Type 0
+IsRun found = (rows : List Row) × (found ≡ Some (codes "run", rows)) × HasSizeAt rows
+
+abbrev pub IsInit : Found → Type 0
+IsInit found = (rows : List Row) × (found ≡ Some (codes "init", rows)) × HasSizeAt rows × HasWord (codes "folder") rows
+
+abbrev pub IsRecover : Found → Type 0
+IsRecover found = (rows : List Row) × (found ≡ Some (codes "recover", rows)) × HasSizeAt rows × HasWord (codes "folder") rows
+
+abbrev pub IsInspect : Found → Type 0
+IsInspect found = (rows : List Row) × (found ≡ Some (codes "inspect", rows)) × HasWord (codes "file") rows
+
+-- one of the subcommands, with what it wants
+pub data IsSubcommand (found : Option (Text × List Row)) : Type 0 where
+  entered_run : IsRun found → IsSubcommand found
+  entered_init : IsInit found → IsSubcommand found
+  entered_recover : IsRecover found → IsSubcommand found
+  entered_inspect : IsInspect found → IsSubcommand found
+
+or_false : (b : Bool) → (b || false) ≡ true → b ≡ true
+or_false true e = refl
+or_false false e = e
+
+run_at : (words : List Text) → level_fault run [] nothing_held words false [] ≡ [] → IsRun (Some (rows_at run words))
+run_at words none = (
+  rows_after run.rules [] words,
+  refl,
+  size_at run run_fits words none (refl, refl) (refl, refl) (refl, refl) (refl, refl) (refl, refl),
+)
+
+init_at : (words : List Text) → level_fault init [] nothing_held words false [] ≡ [] → IsInit (Some (rows_at init words))
+init_at words none = (
+  rows_after init.rules [] words,
+  refl,
+  size_at init init_fits words none (refl, refl) (refl, refl) (refl, refl) (refl, refl) (refl, refl),
+  word_at init init_fits (codes "folder") words none refl refl,
+)
+
+recover_at : (words : List Text) → level_fault recover [] nothing_held words false [] ≡ [] → IsRecover (Some (rows_at recover words))
+recover_at words none = (
+  rows_after recover.rules [] words,
+  refl,
+  size_at recover recover_fits words none (refl, refl) (refl, refl) (refl, refl) (refl, refl) (refl, refl),
+  word_at recover recover_fits (codes "folder") words none refl refl,
+)
+
+inspect_at : (words : List Text) → level_fault inspect [] nothing_held words false [] ≡ [] → IsInspect (Some (rows_at inspect words))
+inspect_at words none = (
+  rows_after inspect.rules [] words,
+  refl,
+  word_at inspect inspect_fits (codes "file") words none refl refl,
+)
+
+-- what was entered is one of the subcommands
+subcommand_entered : (stop : Option (Text × List Text)) → StopsElse stop → is_some (entered program stop) ≡ true → entered_fault program stop ≡ []
+    → IsSubcommand (entered program stop)
+subcommand_entered None stops has none = cc
+subcommand_entered (Some p) stops has none =
+    go (answers p.0 0) (answers p.0 1) (answers p.0 2) (answers p.0 3) (answers p.0 4) refl has none
+  where
+    answers : Text → ℕ → Bool
+    answers word i = answers_to word (label_of (sub i))
+
+    met : Bool → Bool → Bool → Bool → Bool → Option Shape
+    met a b c d e = cond a (Some run) (cond b (Some init) (cond c (Some recover) (cond d (Some inspect) (cond e (Some help) None))))
+
+    go : (a b c d e : Bool) → answers_to p.0 (label_of help) ≡ e → is_some (option_map (λ s. rows_at s p.1) (met a b c d e)) ≡ true
+        → option_map_or (λ s. level_fault s [] nothing_held p.1 false []) (met a b c d e) [] ≡ []
+        → IsSubcommand (option_map (λ s. rows_at s p.1) (met a b c d e))
+    go true b c d e is some ok = entered_run (run_at p.1 ok)
+    go false true c d e is some ok = entered_init (init_at p.1 ok)
+    go false false true d e is some ok = entered_recover (recover_at p.1 ok)
+    go false false false true e is some ok = entered_inspect (inspect_at p.1 ok)
+    go false false false false false is some ok = cc
+    go false false false false true is some ok =
+        let same : codes "help" ≡ p.0 = (bytes_eq-Decides (codes "help") p.0).0 (or_false _ is) in
+        let bad : bytes_eq p.0 (codes "help") ≡ true = (bytes_eq-Decides p.0 (codes "help")).1 (sym same) in
+        cc
+
+pub faultless_words : (words : List Text) → fault_of program_app words ≡ [] → IsSubcommand (subcommand_of program_app words)
+faultless_words words none =
+    let after = argument_words program_app words in
+    let end = walk program.top.rules (names_of program) nothing_held after in
+    let parts = level_parts program.top (names_of program) nothing_held after (is_some (entered program end.stopped)) (entered_fault program end.stopped) none in
+    let has = needs_subcommand program.top (finished program.top.rules end.held) (is_some (entered program end.stopped)) refl parts.3 in
+    let stops = walk_stops program.top refl (names_of program) after (walk_from nothing_held) parts.0 tt in
+    subcommand_entered end.stopped stops has parts.1

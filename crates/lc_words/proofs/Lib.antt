@@ -1,0 +1,4 @@
+mod OptionNumbers
+mod OptionRows
+mod FaultlessWords
+mod Asking

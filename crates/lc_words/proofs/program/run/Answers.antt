@@ -1,0 +1,17 @@
+use Rattle.std.proofs.Common.{◌≡◌, ◌∙◌, ap, codes, false, rules}
+use Rattle.std.proofs.lemmas.Result.{IfOk-weaker}
+use Rattle.clap.specs.Simple.{app_of_fields}
+use Rattle.clap.specs.Words.{new_app, rule_of}
+use Rattle.lc_words.specs.CommandLine.{IsLike, store_rule}
+use Rattle.lc_words.proofs.Asking.{adds_option}
+use Rattle.lc_words.proofs.program.run.Goals as goal
+
+pub returns : goal.returns
+returns c =
+    let start : IsLike c.after_help-command.result (new_app (codes "run")) = (
+      ap app_of_fields c.after_help-command.ensures ∙ ap app_of_fields c.about.ensures ∙ c.new.ensures.app,
+      ap (λ f. f.has_globals) c.after_help-command.ensures ∙ ap (λ f. f.has_globals) c.about.ensures ∙ c.new.ensures.local,
+    ) in
+    let store : rule_of c.help-store.result ≡ store_rule = search rules in
+    let local : c.help-store.result.global ≡ false = search rules in
+    IfOk-weaker c.arg.result _ _ (λ r added. adds_option _ r _ _ _ added (c.in_ok-with_size_options.ensures _ start) store local) c.arg.ensures

@@ -1,0 +1,186 @@
+-- What a command line asks for.
+use Rattle.std.specs.Prelude.{◌≡◌, ◌≤◌, ◌^◌, ◌&&◌, ℕ, Bool, pos, List, [], ◌∷◌, Option, Some, None, true, false, codes, nat_lt, if◌then◌else◌, option_and_then, option_map, find, String, string_bytes}
+use Rattle.std.specs.Option.{option_map_or}
+use Rattle.std.specs.Str.{bytes_eq}
+use Rattle.std.specs.Str.Parse.{digits_value, without_leading_plus}
+use Rattle.clap.specs.ValueTests.{is_numeral}
+use Rattle.clap.specs.Words.{App, IsAmong, Row, Rule, Text, app_of, fault_of, first_of, new_app, new_rule, one_of, subcommand_of, with_rule, with_subcommand}
+use Rattle.clap.specs.declared.builder.action.ArgAction.TheVariants.{SetTrue}
+use Rattle.clap.specs.declared.builder.command.Command.{Command}
+use Rattle.clap.specs.declared.builder.command.Command.TheViews.{out-Command as fields_of}
+use Rattle.clap.specs.declared.error.kind.ErrorKind.{ErrorKind}
+use Rattle.clap.specs.declared.error.kind.ErrorKind.TheVariants.{DisplayHelp}
+use Rattle.clap.specs.declared.builder.value_parser.ValueParser.{ValueParser}
+use Rattle.clap.specs.declared.builder.value_parser.ValueParser.TheVariants.{Signed}
+use Rattle.clap.specs.declared.parser.matches.ValueSource.{ValueSource}
+use Rattle.clap.specs.declared.parser.matches.ValueSource.TheVariants.{CommandLine}
+use Rattle.lc_record.specs.declared.geometry.Geometry.{Geometry}
+use Rattle.lc_words.specs.declared.asked.Asked.{Asked}
+use Rattle.lc_words.specs.declared.asked.Asked.TheVariants.{Run, Init, Recover, Inspect, Help, NotUnderstood}
+
+-- ---- the words that are understood
+
+-- an option of one value: its name, its default, and what it takes
+abbrev pub option_rule : Text → Text → ValueParser → Rule
+option_rule name default parser = record (new_rule name) {
+  long = Some name;
+  value_names = 1;
+  defaults = default ∷ [];
+  parser = Some parser;
+}
+
+-- an option of one word, with no default
+abbrev pub store_rule : Rule
+store_rule = record (new_rule (codes "store")) { long = Some (codes "store"); value_names = 1 }
+
+-- a word that has to be there, behind no name
+abbrev pub word_rule : Text → Rule
+word_rule name = record (new_rule name) { value_names = 1; required = true }
+
+-- a flag
+abbrev pub reverse_rule : Rule
+reverse_rule = record (new_rule (codes "reverse")) { long = Some (codes "reverse"); action = Some SetTrue }
+
+-- the numbers in this range
+abbrev pub from_to : ℕ → ℕ → ValueParser
+from_to least most = Signed (pos least) (pos most)
+
+-- the command with the options of a store's size
+abbrev pub with_sizes : App → App
+with_sizes app =
+    with_rule (with_rule (with_rule (with_rule (with_rule app
+    (option_rule (codes "nodes") (codes "1") (from_to 1 8)))
+    (option_rule (codes "threads") (codes "1") (from_to 1 16)))
+    (option_rule (codes "segments") (codes "1") (from_to 1 16)))
+    (option_rule (codes "pages") (codes "1") (from_to 1 1024)))
+    (option_rule (codes "words") (codes "64") (from_to 64 4096))
+
+-- the subcommands
+abbrev pub run_app : App
+run_app = with_rule (with_sizes (new_app (codes "run"))) store_rule
+
+abbrev pub init_app : App
+init_app = with_sizes (with_rule (new_app (codes "init")) (word_rule (codes "folder")))
+
+abbrev pub recover_app : App
+recover_app = with_sizes (with_rule (new_app (codes "recover")) (word_rule (codes "folder")))
+
+abbrev pub inspect_app : App
+inspect_app = with_rule (with_rule (new_app (codes "inspect")) (word_rule (codes "file"))) reverse_rule
+
+-- the whole command line
+abbrev pub program_app : App
+program_app = with_subcommand (with_subcommand (with_subcommand (with_subcommand (record {
+  top = record (new_app (codes "lcrvm")).top { subcommand_required = true };
+  subs = [];
+}) run_app.top) init_app.top) recover_app.top) inspect_app.top
+
+-- a command that is read so, and has no argument for its subcommands too
+abbrev pub IsLike : Command → App → Type 0
+IsLike command app = (app_of command ≡ app) × ((fields_of command).has_globals ≡ false)
+
+-- ---- what the options of a subcommand say
+
+-- the number of 32 bits that the text writes in decimal
+abbrev pub number_of_text : Text → Option ℕ
+number_of_text text =
+    let ds = without_leading_plus text in
+    if is_numeral ds && nat_lt (digits_value 10 ds) (2 ^ 32) then Some (digits_value 10 ds) else None
+
+-- the number that the option has
+abbrev pub number_at : Text → List Row → Option ℕ
+number_at name rows = option_and_then number_of_text (one_of name rows)
+
+-- these are the numbers of the options
+abbrev pub HasNumbersAt : List Row → Geometry → Type 0
+HasNumbersAt rows g = (number_at (codes "nodes") rows ≡ Some g.nodes)
+    × (number_at (codes "threads") rows ≡ Some g.threads)
+    × (number_at (codes "segments") rows ≡ Some g.segments)
+    × (number_at (codes "pages") rows ≡ Some g.pages)
+    × (number_at (codes "words") rows ≡ Some g.words)
+
+-- this is the word of that name, where there is one
+abbrev pub HasText : {Z : Type 0} → Text → List Row → Option (String Z) → Type 0
+HasText name rows text = option_map string_bytes text ≡ first_of name rows
+
+-- a value that was given, and is no default
+abbrev pub comes_from_words : Option ValueSource → Bool
+comes_from_words (Some CommandLine) = true
+comes_from_words _ = false
+
+-- the flag of that name is among the words
+abbrev pub is_among_words : Text → List Row → Bool
+is_among_words name rows = comes_from_words (option_and_then (λ row. row.source) (find (λ row. bytes_eq row.id name) rows))
+
+-- the option has a number from `least` to `most`
+pub record HasNumberIn (name : Text) (least most : ℕ) (rows : List Row) : Type 0 where
+  pub number : ℕ
+  pub read : number_at name rows ≡ Some number
+  pub not_less : least ≤ number
+  pub not_more : number ≤ most
+
+-- each option has a number in its range
+pub record HasSizeAt (rows : List Row) : Type 0 where
+  pub nodes : HasNumberIn (codes "nodes") 1 8 rows
+  pub threads : HasNumberIn (codes "threads") 1 16 rows
+  pub segments : HasNumberIn (codes "segments") 1 16 rows
+  pub pages : HasNumberIn (codes "pages") 1 1024 rows
+  pub words : HasNumberIn (codes "words") 64 4096 rows
+
+-- a word of that name is there
+pub record HasWord (name : Text) (rows : List Row) : Type 0 where
+  pub word : Text
+  pub read : first_of name rows ≡ Some word
+
+-- ---- what is asked for
+
+-- the options of the subcommand that the words name
+abbrev pub options_of : List Text → List Row
+options_of words = option_map_or (λ found. found.1) (subcommand_of program_app words) []
+
+-- the words have no fault, and name this subcommand
+abbrev pub IsCallOf : Text → List Text → Type 0
+IsCallOf name words = (fault_of program_app words ≡ []) × (subcommand_of program_app words ≡ Some (name, options_of words))
+
+-- a subcommand is asked for by words with no fault that name it, and has their numbers and texts; help by words that
+-- ask for it; words that are not understood have another fault
+abbrev pub IsAskedBy : List Text → Asked → Type 0
+IsAskedBy words (Run geometry store) = IsCallOf (codes "run") words × HasNumbersAt (options_of words) geometry
+    × HasText (codes "store") (options_of words) store
+IsAskedBy words (Init folder geometry) = IsCallOf (codes "init") words × HasNumbersAt (options_of words) geometry
+    × HasText (codes "folder") (options_of words) (Some folder)
+IsAskedBy words (Recover folder geometry) = IsCallOf (codes "recover") words × HasNumbersAt (options_of words) geometry
+    × HasText (codes "folder") (options_of words) (Some folder)
+IsAskedBy words (Inspect file reverse) = IsCallOf (codes "inspect") words
+    × HasText (codes "file") (options_of words) (Some file) × (reverse ≡ is_among_words (codes "reverse") (options_of words))
+IsAskedBy words (Help text) = IsAmong DisplayHelp (fault_of program_app words)
+IsAskedBy words NotUnderstood =
+    (kind : ErrorKind) × IsAmong kind (fault_of program_app words) × (kind ≡ DisplayHelp → ⊥)
+
+-- what the options of each subcommand ask for
+abbrev pub IsRunOf : List Row → Asked → Type 0
+IsRunOf rows (Run geometry store) = HasNumbersAt rows geometry × HasText (codes "store") rows store
+IsRunOf rows NotUnderstood = HasSizeAt rows → ⊥
+IsRunOf rows _ = ⊥
+
+abbrev pub IsInitOf : List Row → Asked → Type 0
+IsInitOf rows (Init folder geometry) = HasNumbersAt rows geometry × HasText (codes "folder") rows (Some folder)
+IsInitOf rows NotUnderstood = HasSizeAt rows → HasWord (codes "folder") rows → ⊥
+IsInitOf rows _ = ⊥
+
+abbrev pub IsRecoverOf : List Row → Asked → Type 0
+IsRecoverOf rows (Recover folder geometry) = HasNumbersAt rows geometry × HasText (codes "folder") rows (Some folder)
+IsRecoverOf rows NotUnderstood = HasSizeAt rows → HasWord (codes "folder") rows → ⊥
+IsRecoverOf rows _ = ⊥
+
+abbrev pub IsInspectOf : List Row → Asked → Type 0
+IsInspectOf rows (Inspect file reverse) = HasText (codes "file") rows (Some file) × (reverse ≡ is_among_words (codes "reverse") rows)
+IsInspectOf rows NotUnderstood = HasWord (codes "file") rows → ⊥
+IsInspectOf rows _ = ⊥
+
+-- the same of the subcommand that was found, with its options
+abbrev pub IsReadOf : Option (Text × List Row) → Asked → Type 0
+IsReadOf found asked = ((rows : List Row) → found ≡ Some (codes "run", rows) → IsRunOf rows asked)
+    × ((rows : List Row) → found ≡ Some (codes "init", rows) → IsInitOf rows asked)
+    × ((rows : List Row) → found ≡ Some (codes "recover", rows) → IsRecoverOf rows asked)
+    × ((rows : List Row) → found ≡ Some (codes "inspect", rows) → IsInspectOf rows asked)

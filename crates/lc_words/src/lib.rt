@@ -1,0 +1,10 @@
+//! The command line: what it asks for is what its words say, and words that have a fault ask for nothing.
+#![tactic(auto)]
+
+mod asked;
+mod command_line;
+mod options;
+mod program;
+
+pub use asked::Asked;
+pub use command_line::read_command_line;
