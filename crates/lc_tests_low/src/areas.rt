@@ -30,16 +30,14 @@ fn failing(alloc: Global, is_from: bool, number: u8) -> Result<[bool; 6], AllocE
         When::At(number)
     };
     let mut fuse = Fuse::new(MemArea::new(alloc, 4)?, when);
-    let mut failing = [false; 6];
-    for call in 0..6 {
-        let answer = match call % 3 {
-            0 => fuse.write_at(0, &[1]),
-            1 => fuse.sync(),
-            _ => fuse.read(0, &mut [0]),
-        };
-        failing[call] = answer.is_err();
-    }
-    Ok(failing)
+    Ok([
+        fuse.write_at(0, &[1]).is_err(),
+        fuse.sync().is_err(),
+        fuse.read(0, &mut [0]).is_err(),
+        fuse.write_at(0, &[1]).is_err(),
+        fuse.sync().is_err(),
+        fuse.read(0, &mut [0]).is_err(),
+    ])
 }
 
 #[test]

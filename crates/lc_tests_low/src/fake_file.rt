@@ -1,4 +1,6 @@
 //! A file in memory, whose calls may be short, interrupted or fail.
+ghost use Rattle.std.specs.Prelude.{IsErr};
+
 use std::alloc::Allocator;
 use std::cell::Cell;
 use std::fs::{Metadata, OpenFile, OpenOptions};
@@ -160,6 +162,8 @@ impl Files for FakeFolder {
 }
 
 // What is not here.
-fn unsupported<T>() -> io::Result<T> {
+fn unsupported<T>() -> io::Result<T>
+    ensures { IsErr result }
+{
     Err(Error::from(ErrorKind::Unsupported))
 }

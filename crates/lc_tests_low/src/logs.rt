@@ -1,6 +1,5 @@
 //! Logs: what is found in bytes, and what a stop leaves of a flush and of a reset.
-ghost use Rattle.std.specs.Prelude.{◌≡◌, ◌+◌, ◌≤◌, length, IfOk};
-ghost use Rattle.lc_disk.specs.When.{IsCountable};
+ghost use Rattle.std.specs.Prelude.{◌≡◌, length, IfOk};
 
 use lc_disk::{Area, Choice, Fuse, MemArea, Stoppable, When};
 use lc_log::{Closing, Failed, NodeLog, walk, walk_back, walk_in_place, words_in};
@@ -144,13 +143,11 @@ fn hello(alloc: Global) -> Result<Group, AllocError>
     Ok(group)
 }
 
-// A flush of the one record on a new log, of whose device these calls fail.
-fn flushed(alloc: Global, when: When) -> Result<Result<NodeLog<Fuse>, Failed<Fuse>>, AllocError>
-    requires { IsCountable when }
-{
+// A flush of the one record on a new log, of whose device this call fails.
+fn flushed(alloc: Global, call: u8) -> Result<Result<NodeLog<Fuse>, Failed<Fuse>>, AllocError> {
     let group = hello(alloc)?;
-    let area = MemArea::new(alloc, LOG_LEN)?;
-    Ok(NodeLog::new(Fuse::new(area, when)).flush(&group))
+    let area = Fuse::new(MemArea::new(alloc, LOG_LEN)?, When::At(u64::from(call)));
+    Ok(NodeLog::new(area).flush(&group))
 }
 
 // How many records a stop with this choice leaves, where a device failed once, or none where it has not.
@@ -178,10 +175,10 @@ fn a_flush_is_four_calls(rt: HostRuntime) -> Result<(), Fail> {
         (4, Choice::Byte(0xa5), 1),
         (4, Choice::Byte(0), 0),
     ] {
-        let failed = flushed(alloc, When::At(call))?.err().ok_or("it fails")?;
+        let failed = flushed(alloc, call)?.err().ok_or("it fails")?;
         assert!(rt; left(alloc, failed.area, choice)? == (1, count), "{call}");
     }
-    let log = flushed(alloc, When::At(5))?.ok().ok_or("it succeeds")?;
+    let log = flushed(alloc, 5)?.ok().ok_or("it succeeds")?;
     assert!(rt; log.end == 8);
     assert!(rt; left(alloc, log.area, Choice::Byte(0))? == (0, 1));
     Ok(())
@@ -189,7 +186,7 @@ fn a_flush_is_four_calls(rt: HostRuntime) -> Result<(), Fail> {
 
 // The area behind the four calls of a flush and those of a reset, of which this one fails, or none.
 fn reset(alloc: Global, call: u8) -> Result<Option<Fuse>, AllocError> {
-    let Ok(log) = flushed(alloc, When::At(u64::from(call)))? else {
+    let Ok(log) = flushed(alloc, call)? else {
         return Ok(None);
     };
     let closing = match log.reset_write() {

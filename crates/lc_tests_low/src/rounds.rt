@@ -168,8 +168,13 @@ fn emptied<D: Area + Drop>(log: NodeLog<D>) -> Option<NodeLog<D>>
     ensures empty { IfSome result (λ l. HoldsTaken D.Area l.area l.end []) }
     ensures length { IfSome result (λ l. length (D.now l.area) ≡ length (D.now log.area)) }
 {
-    let closing = log.reset_write().ok()?;
-    closing.reset_sync().ok()
+    let Ok(closing) = log.reset_write() else {
+        return None;
+    };
+    let Ok(log) = closing.reset_sync() else {
+        return None;
+    };
+    Some(log)
 }
 
 // Opens the next round, and clears the row of the settled one before or behind that.

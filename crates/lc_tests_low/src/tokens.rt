@@ -110,23 +110,22 @@ fn a_token_is_written_leaves_and_arrives(rt: HostRuntime) -> Result<(), Fail> {
     };
     let pages = PageVector::new(rt.alloc(), &[text])?;
     assert!(rt; pages.len() == 1);
-    let token = Token {
+    let mut token = Token {
         segment: 1,
         seq: 5,
         clean: 2,
         pages,
     };
-    let mut place = TokenPlace::new(1, Some(token));
-    place.touch(0);
-    place.written(0, 5);
-    let token = place.leave(false, false, 8, 8)?;
+    token.pages.touch(0, 4);
+    token.written(0, 4);
     assert!(rt; token.clean == 5);
+    let mut place = TokenPlace::new(1, Some(token));
+    let token = place.leave(false, false, 8, 8)?;
     let mut other = TokenPlace::new(1, None);
     assert!(rt;
         other
             .arrive(token, &HoldBack::new(rt.alloc(), 1, 5))
             .is_ok()
     );
-    assert!(rt; !other.is_empty());
     Ok(())
 }
