@@ -24,10 +24,3 @@ pub use mem_area::MemArea;
 pub use open_fault::OpenFault;
 pub use stoppable::Stoppable;
 pub use when::When;
-
-#[cfg(test)]
-mod fake_file;
-#[cfg(test)]
-mod file_tests;
-#[cfg(test)]
-mod tests;

@@ -10,7 +10,7 @@ use std::ops::Range;
 
 /// Bytes in memory, always honest: what a read gives, what stood there after the last sync, and which positions were
 /// written since. `new` and `from_bytes` take memory, and no other call does.
-#[derive(Debug, Drop)]
+#[derive(Drop)]
 pub struct MemArea {
     bytes: Vec<u8>,
     stable: Vec<u8>,

@@ -1,7 +1,7 @@
 //! Which calls of a fuse fail.
 
 /// Which of the calls fail, counted from 1. The number is below 2^64 - 1. This project's own.
-#[derive(Clone, Copy, Debug, PartialEq, Eq)]
+#[derive(Clone, Copy)]
 pub enum When {
     /// This call alone; none where it is 0.
     At(u64),

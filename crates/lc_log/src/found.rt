@@ -2,7 +2,7 @@
 use lc_record::Record;
 
 /// What a walk over a log finds.
-#[derive(Debug, Drop)]
+#[derive(Drop)]
 pub struct Walk {
     /// Each record with its place, in words from the log's front.
     pub records: Vec<(usize, Record)>,

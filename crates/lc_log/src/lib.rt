@@ -31,6 +31,3 @@ pub use written::Written;
 
 /// A node's log. It is made, and waits, at rest; the calls of a flush and of a reset lead through a type each.
 pub type NodeLog<D> = Idle<D>;
-
-#[cfg(test)]
-mod tests;

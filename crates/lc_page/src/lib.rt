@@ -28,6 +28,3 @@ pub use page_write::{Begun, Closed, Closing, Filled, Filling, Opening, PageWrite
 pub use reading::{page_bytes, read_page};
 pub use slot::Slot;
 pub use writing::Writing;
-
-#[cfg(test)]
-mod tests;

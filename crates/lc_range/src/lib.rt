@@ -15,6 +15,3 @@ pub use laws::{abort_restores, one_canonical_list};
 pub use range::Range;
 pub use range_set::RangeSet;
 pub use undo::Undo;
-
-#[cfg(test)]
-mod tests;

@@ -2,7 +2,7 @@
 use crate::Range;
 
 /// The runs from `start` up to `end` are to be replaced by `run`.
-#[derive(Clone, Copy, Debug)]
+#[derive(Clone, Copy)]
 pub struct Touched {
     pub start: usize,
     pub end: usize,

@@ -5,7 +5,7 @@ ghost use Rattle.lc_record.specs.GrammarVersion.{later, number, of_number, place
 use crate::limits::FIRST_END;
 
 /// Which grammar a record is written in. It follows from where the record's ranges end. This project's own.
-#[derive(Clone, Copy, Debug, PartialEq, Eq)]
+#[derive(Clone, Copy, PartialEq, Eq)]
 pub enum GrammarVersion {
     /// Each range ends at or before 16,384, so that one word has its segment and its offset.
     First,

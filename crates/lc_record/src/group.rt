@@ -10,7 +10,7 @@ const WORD_BYTES: usize = 8;
 
 /// A list of words, with room for a number of them. It is kept as the bytes that stand on the disk, with one zero
 /// word behind them, so that it is written as it lies in memory.
-#[derive(Debug, Drop)]
+#[derive(Drop)]
 pub struct Group {
     bytes: Vec<u8>,
     room: u32,

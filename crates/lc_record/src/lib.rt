@@ -39,6 +39,3 @@ pub use record::{Lock, RangeData, Record};
 pub use span::Span;
 pub use spelling::Spelling;
 pub use view::View;
-
-#[cfg(test)]
-mod tests;

@@ -2,7 +2,7 @@
 use crate::Items;
 
 /// The commit of one transaction (RVM: new values only).
-#[derive(Debug, Drop)]
+#[derive(Drop)]
 pub struct Record {
     /// The node that committed it, from 0.
     pub node: u16,

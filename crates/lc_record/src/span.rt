@@ -1,7 +1,7 @@
 //! Where a range stands.
 
 /// Where a range stands in its segment, and how many bytes it has.
-#[derive(Clone, Copy, Debug, PartialEq, Eq)]
+#[derive(Clone, Copy, PartialEq, Eq)]
 pub struct Span {
     /// The segment, from 1.
     pub segment: u32,

@@ -16,7 +16,7 @@ use std::marker::Model;
 
 /// The words of a record, written from the front: `new`, each lock, each range, `finish`. Only `new` takes memory, for
 /// all of them. This project's own.
-#[derive(Debug, Drop)]
+#[derive(Drop)]
 pub struct Spelling {
     words: Vec<u64>,
     version: GrammarVersion,

@@ -20,8 +20,3 @@ pub use receipt::Receipt;
 pub use seats::{CommitSeat, FlushSeat};
 pub use stage::Stage;
 pub use view::{Load, Reservation, Staging, View};
-
-#[cfg(test)]
-mod round_tests;
-#[cfg(test)]
-mod tests;

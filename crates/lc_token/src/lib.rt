@@ -15,6 +15,3 @@ pub use laws::{any_order, next_numbers, same_records};
 pub use received::Received;
 pub use token::Token;
 pub use token_place::TokenPlace;
-
-#[cfg(test)]
-mod tests;

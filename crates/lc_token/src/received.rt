@@ -1,7 +1,7 @@
 //! What became of a record that was received.
 
 /// What became of a record that was received.
-#[derive(Clone, Copy, Debug, PartialEq, Eq)]
+#[derive(Clone, Copy, PartialEq, Eq)]
 pub enum Received {
     /// It had the next number, and its part is due, with those that were kept and follow on it; all up to this number
     /// are applied.

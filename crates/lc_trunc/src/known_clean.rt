@@ -7,7 +7,7 @@ use std::marker::Model;
 const SEGMENTS: usize = 16;
 
 /// The greatest `clean` that a node has seen of each segment, from 1 to 16. It takes no memory. This project's own.
-#[derive(Debug, Drop)]
+#[derive(Drop)]
 pub struct KnownClean {
     numbers: [u64; SEGMENTS],
 }

@@ -12,6 +12,3 @@ pub use known_clean::KnownClean;
 pub use laws::{clean_pages, known_is_clean, known_numbers};
 pub use reset::{above, lesser, may_reset};
 pub use unclean::Unclean;
-
-#[cfg(test)]
-mod tests;

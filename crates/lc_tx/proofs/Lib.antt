@@ -13,7 +13,6 @@ pub mod SpellLemmas
 pub mod RecordLemmas
 pub mod CanonicalLemmas
 pub mod EndLemmas
-pub mod TwoLemmas
 pub mod MarkLemmas
 pub mod DataLemmas
 pub mod StandsLemmas

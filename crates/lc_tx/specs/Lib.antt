@@ -8,6 +8,5 @@ pub mod Tx
 pub mod Prepared
 pub mod Fault
 pub mod Walk
-pub mod TwoImages
 pub mod StandsFor
 pub mod OneSegment

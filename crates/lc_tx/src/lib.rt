@@ -30,6 +30,3 @@ pub use prepared::Prepared;
 pub use readers::Readers;
 pub use tx::Tx;
 pub use tx_fault::TxFault;
-
-#[cfg(test)]
-mod tests;

@@ -5,7 +5,7 @@ ghost use Rattle.lc_tx.specs.OneSegment.{the_images, one_here};
 use crate::{Image, Images};
 
 /// The images of a node that has segment 1 alone, with its token. This project's own.
-#[derive(Debug, Drop)]
+#[derive(Drop)]
 pub struct OneSegment {
     /// Its bytes, with those of an open transaction.
     pub image: Image,

@@ -2,7 +2,7 @@
 use lc_record::Items;
 
 /// What the end of a transaction logs.
-#[derive(Debug, Drop)]
+#[derive(Drop)]
 pub enum Prepared {
     /// Nothing was set, so there is no record.
     Empty,

@@ -1,0 +1,106 @@
+//! Areas over files.
+use crate::fake_file::{FakeFile, FakeFolder, Manner};
+use lc_disk::{Area, FileArea, OpenFault};
+use std::alloc::Global;
+use std::fs::{self, File};
+use std::os::unix::fs::symlink;
+use std::test::Fail;
+use std::{env, process};
+
+// Eight zeros in a file whose calls go so.
+fn eight_bytes(alloc: Global, manner: Manner) -> Result<FileArea<FakeFile>, OpenFault> {
+    FileArea::open(alloc, &FakeFolder { manner }, "area")
+}
+
+#[test]
+fn short_and_interrupted_calls_go_on(rt: HostRuntime) -> Result<(), Fail> {
+    let mut area = eight_bytes(rt.alloc(), Manner::Slow)?;
+    assert!(rt; area.len() == 8);
+    area.write_at(3, &[1, 2, 3, 4])?;
+    let mut bytes = [9; 8];
+    area.read(0, &mut bytes)?;
+    assert!(rt; bytes == [0, 0, 0, 1, 2, 3, 4, 0] && area.faults() == 0);
+    Ok(())
+}
+
+#[test]
+fn each_failing_call_is_counted(rt: HostRuntime) -> Result<(), Fail> {
+    for failing in 1..=4 {
+        let mut area = eight_bytes(rt.alloc(), Manner::Fails(failing))?;
+        assert!(rt; area.len() == 8);
+        let failed = [
+            area.write_at(0, &[7]).is_err(),
+            area.sync().is_err(),
+            area.read(0, &mut [9; 8]).is_err(),
+            area.sync().is_err(),
+        ];
+        for (call, failed) in (1..).zip(failed) {
+            assert!(rt; failed == (call == failing), "call {call} of {failing}");
+        }
+        assert!(rt; area.faults() == 1, "{failing}");
+    }
+    Ok(())
+}
+
+#[test]
+fn a_file_that_ends_early_has_failed(rt: HostRuntime) -> Result<(), Fail> {
+    let mut area = eight_bytes(rt.alloc(), Manner::Ends)?;
+    assert!(rt; area.len() == 8);
+    assert!(rt; area.read(0, &mut [9; 8]).is_err());
+    assert!(rt; area.write_at(0, &[1]).is_err());
+    assert!(rt; area.faults() == 2);
+    Ok(())
+}
+
+// A new folder of this process.
+fn new_folder(rt: &HostRuntime) -> Result<String, Fail> {
+    let temporary = env::temp_dir(rt)?;
+    let id = process::id(rt.process());
+    let folder = format!(in rt.alloc(); "{}/lc_tests_low-{id}", temporary.as_str())?;
+    let _ = fs::remove_dir_all(rt, &folder);
+    fs::create_dir(rt, &folder)?;
+    Ok(folder)
+}
+
+#[test]
+fn files_are_made_once_and_opened_again(rt: HostRuntime) -> Result<(), Fail> {
+    let alloc = rt.alloc();
+    let folder = new_folder(&rt)?;
+    let path = format!(in alloc; "{folder}/area")?;
+    let mut made: FileArea<File> = FileArea::make(alloc, &rt, &path, 5000)?;
+    made.write_at(4990, &[1, 2, 3])?;
+    made.sync()?;
+    let again: Result<FileArea<File>, OpenFault> = FileArea::make(alloc, &rt, &path, 8);
+    assert!(rt; again.err() == Some(OpenFault::Exists));
+    let mut opened: FileArea<File> = FileArea::open(alloc, &rt, &path)?;
+    assert!(rt; opened.len() == 5000);
+    let mut bytes = [9; 5000];
+    opened.read(0, &mut bytes)?;
+    let mut wanted = [0; 5000];
+    wanted[4990..4993].copy_from_slice(&[1, 2, 3]);
+    assert!(rt; bytes == wanted);
+    fs::remove_dir_all(&rt, &folder)?;
+    Ok(())
+}
+
+#[test]
+fn what_is_no_regular_file(rt: HostRuntime) -> Result<(), Fail> {
+    let alloc = rt.alloc();
+    let folder = new_folder(&rt)?;
+    let link = format!(in alloc; "{folder}/link")?;
+    let nothing = format!(in alloc; "{folder}/nothing")?;
+    let below = format!(in alloc; "{folder}/no/area")?;
+    symlink(&rt, &nothing, &link)?;
+    for (path, fault) in [
+        (&folder, OpenFault::Exists),
+        (&link, OpenFault::Exists),
+        (&below, OpenFault::NotOpened),
+    ] {
+        let made: Result<FileArea<File>, OpenFault> = FileArea::make(alloc, &rt, path, 8);
+        assert!(rt; made.err() == Some(fault), "{path}");
+        let opened: Result<FileArea<File>, OpenFault> = FileArea::open(alloc, &rt, path);
+        assert!(rt; opened.err() == Some(OpenFault::NotOpened), "{path}");
+    }
+    fs::remove_dir_all(&rt, &folder)?;
+    Ok(())
+}

@@ -1,0 +1,174 @@
+//! Pages: what a stop leaves of a write.
+ghost use Rattle.std.specs.Prelude.{◌≡◌, ◌+◌, ◌*◌, ◌≤◌, length, IfOk};
+
+use lc_disk::{Area, Choice, Fuse, MemArea, Stoppable, When};
+use lc_page::{
+    Begun, PageFault, PageText, PageVector, PageWrite, Slot, Writing, page_bytes, read_page,
+};
+use std::alloc::Global;
+use std::test::Fail;
+
+const AREA_BYTES: usize = 1088;
+
+// The first calls of a write, so many of them.
+fn begin_writing<D: Area>(
+    area: &mut D,
+    write: PageWrite<Begun>,
+    calls: u8,
+) -> Result<Option<Writing>, PageFault>
+    requires { (2 * write.draft.page + 2) * 272 ≤ length (D.now area.old) }
+    ensures { length (D.now area.new) ≡ length (D.now area.old) }
+{
+    let mut writing = Writing::begin(write, area)?;
+    for _ in 1..calls {
+        match writing.step(area)? {
+            Some(next) => writing = next,
+            None => return Ok(None),
+        }
+    }
+    Ok(Some(writing))
+}
+
+// Two pages, of which the second has number 7 in its first slot and number 9, with bytes 99, in its second.
+fn two_pages() -> [u8; AREA_BYTES] {
+    let mut bytes = [0; AREA_BYTES];
+    bytes[544] = 0xa5;
+    bytes[552] = 7;
+    bytes[560..816].fill(0x77);
+    bytes[816] = 0xa5;
+    bytes[824] = 9;
+    bytes[832..].fill(0x99);
+    bytes
+}
+
+// Number 10 over the second of these pages.
+fn tenth(alloc: Global, bytes: &[u8; AREA_BYTES]) -> Result<PageWrite<Begun>, Fail>
+    ensures { IfOk result (λ w. w.draft.page ≡ 1) }
+{
+    let pages = PageVector::new(alloc, &[read_page(bytes, 0), read_page(bytes, 1)])?;
+    if pages.len() != 2 {
+        return Err(Fail::from("there are two pages"));
+    }
+    Ok(PageWrite::begin(&pages, 1, &[0xaa; 256], 10)?)
+}
+
+// The number, the slot and the first byte of the second page after a stop behind so many calls of a write of number 10.
+fn stopped(alloc: Global, calls: u8, choice: Choice) -> Result<(u64, Option<Slot>, u8), Fail> {
+    let bytes = two_pages();
+    let mut area = MemArea::from_bytes(alloc, &bytes)?;
+    begin_writing(&mut area, tenth(alloc, &bytes)?, calls)?;
+    area.stop(&[choice]);
+    let bytes = area.bytes();
+    let text = read_page(bytes, 1);
+    Ok((text.seq, text.slot, page_bytes(bytes, 1)[0]))
+}
+
+#[test]
+fn a_stop_leaves_the_old_page_or_the_new_one(rt: HostRuntime) -> Result<(), Fail> {
+    let old = (9, Some(Slot::Second), 0x99);
+    let new = (10, Some(Slot::First), 0xaa);
+    for (calls, choice, left) in [
+        (1, Choice::Byte(0xa5), old),
+        (2, Choice::Byte(0xa5), old),
+        (3, Choice::Keep, old),
+        (3, Choice::Byte(0xa5), old),
+        (4, Choice::Byte(0xa5), old),
+        (5, Choice::Keep, new),
+        (5, Choice::Stable, old),
+        (5, Choice::Byte(0xa5), new),
+        (6, Choice::Stable, new),
+    ] {
+        assert!(rt; stopped(rt.alloc(), calls, choice)? == left, "{calls}");
+    }
+    Ok(())
+}
+
+// Whether a write over these pages fails on a device of which this call does, and how often the device has failed.
+fn failed(alloc: Global, bytes: &[u8; AREA_BYTES], call: u8) -> Result<(bool, u64), Fail> {
+    let area = MemArea::from_bytes(alloc, bytes)?;
+    let mut area = Fuse::new(area, When::At(u64::from(call)));
+    let fault = begin_writing(&mut area, tenth(alloc, bytes)?, 6).err();
+    Ok((fault == Some(PageFault::DeviceFault), area.faults()))
+}
+
+#[test]
+fn a_write_is_six_calls(rt: HostRuntime) -> Result<(), Fail> {
+    let mut bytes = two_pages();
+    for call in 1..=6 {
+        assert!(rt; failed(rt.alloc(), &bytes, call)? == (true, 1), "{call}");
+    }
+    assert!(rt; failed(rt.alloc(), &bytes, 7)? == (false, 0));
+    // Over a gate that stays open over a malformed number.
+    bytes[559] = 0xff;
+    assert!(rt; failed(rt.alloc(), &bytes, 6)? == (true, 1));
+    assert!(rt; failed(rt.alloc(), &bytes, 7)? == (false, 0));
+    Ok(())
+}
+
+// The first position that is dirty behind so many calls, and how many are, in an area of zeros.
+fn dirty(alloc: Global, calls: u8) -> Result<(Option<usize>, usize), Fail> {
+    let mut area = MemArea::new(alloc, AREA_BYTES)?;
+    begin_writing(&mut area, tenth(alloc, &[0; AREA_BYTES])?, calls)?;
+    area.stop(&[Choice::Byte(0xee)]);
+    let bytes = area.bytes();
+    let first = bytes.iter().position(|byte| *byte == 0xee);
+    Ok((first, bytes.iter().filter(|byte| **byte == 0xee).count()))
+}
+
+#[test]
+fn the_third_call_makes_the_slot_behind_its_gate_dirty(rt: HostRuntime) -> Result<(), Fail> {
+    assert!(rt; dirty(rt.alloc(), 1)? == (None, 0));
+    assert!(rt; dirty(rt.alloc(), 3)? == (Some(545), 271));
+    assert!(rt; dirty(rt.alloc(), 5)? == (Some(544), 1));
+    Ok(())
+}
+
+#[test]
+fn a_slot_is_open_only_whole(rt: HostRuntime) {
+    let mut bytes = two_pages();
+    assert!(rt; read_page(&bytes, 1).slot == Some(Slot::Second));
+    bytes[823] = 1;
+    assert!(rt; read_page(&bytes, 1).slot == Some(Slot::First));
+    assert!(rt; read_page(&bytes, 1).gates == [true, true]);
+    bytes[559] = 0x10;
+    assert!(rt; read_page(&bytes, 1).slot.is_none());
+    bytes[552] = 0;
+    assert!(rt; read_page(&bytes, 1).seq == 1 << 60);
+}
+
+#[test]
+fn a_page_is_counted_touched_and_settled(rt: HostRuntime) -> Result<(), Fail> {
+    let text = read_page(&[0; AREA_BYTES], 0);
+    let mut pages = PageVector::new(rt.alloc(), &[text, text])?;
+    assert!(rt; pages.len() == 2);
+    pages.hold(1);
+    let held = PageWrite::begin(&pages, 1, &[1; 256], 1).err();
+    assert!(rt; held == Some(PageFault::Uncommitted) && pages.uncommitted(1) == 1);
+    pages.release(1);
+    pages.touch(1, 9);
+    assert!(rt; pages.touched(1) == 9 && pages.dirty(1) && !pages.dirty(0));
+    pages.settle(1, 9);
+    assert!(rt; !pages.dirty(1) && pages.stable(1) == 9);
+    let settled = PageText {
+        seq: 9,
+        slot: Some(Slot::First),
+        gates: [true, false],
+    };
+    assert!(rt; pages.entry(1).text() == settled);
+    Ok(())
+}
+
+#[test]
+fn faults_have_texts(rt: HostRuntime) -> Result<(), Fail> {
+    for (fault, text) in [
+        (PageFault::Uncommitted, "the page has uncommitted bytes"),
+        (
+            PageFault::NotNewer,
+            "the number is not above the page's sequence",
+        ),
+        (PageFault::DeviceFault, "the device failed"),
+    ] {
+        assert!(rt; fault.to_string(rt.alloc())?.as_str() == text, "{text}");
+    }
+    Ok(())
+}

@@ -1,0 +1,104 @@
+//! Ranges that were set, and the bytes that stood there.
+use lc_range::{Range, RangeFault, RangeSet, Undo};
+use std::alloc::Global;
+use std::test::Fail;
+
+fn run(segment: u32, offset: u32, len: u32) -> Range {
+    Range {
+        segment,
+        offset,
+        len,
+    }
+}
+
+// A set of these ranges of segments of 256 bytes.
+fn set_of(alloc: Global, ranges: &[(u32, u32, u32)]) -> Result<RangeSet, RangeFault> {
+    let mut set = RangeSet::new(alloc);
+    for (segment, offset, len) in ranges {
+        set.add(*segment, 256, *offset, *len)?;
+    }
+    Ok(set)
+}
+
+#[test]
+fn ranges_merge(rt: HostRuntime) -> Result<(), Fail> {
+    let set = set_of(rt.alloc(), &[(1, 0, 4), (1, 4, 4), (1, 2, 3), (1, 20, 1)])?;
+    assert!(rt; set.ranges() == [run(1, 0, 8), run(1, 20, 1)].as_slice());
+    assert!(rt; set.covers(1, 2, 6) && !set.covers(1, 7, 14));
+    let set = set_of(
+        rt.alloc(),
+        &[(2, 4, 4), (1, 8, 4), (1, 0, 1), (2, 0, 4), (1, 1, 9)],
+    )?;
+    assert!(rt; set.ranges() == [run(1, 0, 12), run(2, 0, 8)].as_slice());
+    Ok(())
+}
+
+#[test]
+fn faults_have_texts(rt: HostRuntime) -> Result<(), Fail> {
+    for (fault, text) in [
+        (
+            RangeFault::OutOfSegment,
+            "the range ends outside the segment",
+        ),
+        (RangeFault::EmptyRange, "the range is empty"),
+        (RangeFault::TooManyRanges, "there are too many ranges"),
+        (RangeFault::NoMemory, "out of memory"),
+    ] {
+        assert!(rt; fault.to_string(rt.alloc())?.as_str() == text, "{text}");
+    }
+    Ok(())
+}
+
+// It passes whichever allocation is made to fail, since so few bytes take no memory.
+#[test]
+fn old_bytes_come_back(rt: HostRuntime) -> Result<(), Fail> {
+    let mut set = RangeSet::new(rt.alloc());
+    let mut undo = Undo::new(rt.alloc());
+    let image = [1, 2, 3, 4, 5, 6, 7, 8];
+    undo.keep_old(&set, 1, 2, 5, &image)?;
+    set.add(1, 8, 2, 5)?;
+    let mut later = [9; 8];
+    undo.restore(1, &mut later);
+    assert!(rt; later == [9, 9, 3, 4, 5, 6, 7, 9]);
+    Ok(())
+}
+
+// Where memory is refused the set is as before, and the next attempt adds the range.
+#[test]
+fn refused_memory_leaves_the_set(rt: HostRuntime) -> Result<(), Fail> {
+    let mut set = RangeSet::new(rt.alloc());
+    for i in 0..20 {
+        let len = set.ranges().len();
+        if set.add(1, 256, 4 * i, 2).is_err() {
+            assert!(rt; set.ranges().len() == len && !set.covers(1, 4 * i, 1));
+            set.add(1, 256, 4 * i, 2)?;
+        }
+    }
+    assert!(rt; set.ranges().len() == 20);
+    Ok(())
+}
+
+// Where memory is refused what is kept is as before, and the next attempt keeps the bytes. More copies and bytes are
+// kept than lie in place, so that the lists of both ask for memory.
+#[test]
+fn refused_memory_leaves_the_old_bytes(rt: HostRuntime) -> Result<(), Fail> {
+    let mut set = RangeSet::new(rt.alloc());
+    for i in 0..10 {
+        if set.add(1, 160, 16 * i, 8).is_err() {
+            set.add(1, 160, 16 * i, 8)?;
+        }
+    }
+    let mut undo = Undo::new(rt.alloc());
+    let image = [7; 160];
+    if undo.keep_old(&set, 1, 0, 160, &image).is_err() {
+        assert!(rt; undo.copies() == 0 && undo.len() == 0);
+        undo.keep_old(&set, 1, 0, 160, &image)?;
+    }
+    assert!(rt; undo.copies() == 10 && undo.len() == 80);
+    let mut later = [9; 160];
+    undo.restore(1, &mut later);
+    for (i, byte) in later.iter().enumerate() {
+        assert!(rt; (*byte == 9) == (i % 16 < 8), "at {i}");
+    }
+    Ok(())
+}

@@ -1,0 +1,370 @@
+//! Records: words and what they say.
+use lc_record::{
+    Geometry, Items, Lock, RangeData, Record, RecordFault, Span, View, check, decode, encode, gate,
+    length, lock_count, node, range_count, version,
+};
+use std::alloc::{AllocError, Global};
+use std::process::Abort;
+use std::test::Fail;
+
+// The record of node 0 under lock 1:1, with the bytes "hello" at 3 in segment 1.
+const HELLO: [u64; 8] = [
+    0x8_0001_01a5,
+    0x1_0000,
+    1,
+    1,
+    0x3_0000_0001,
+    5,
+    0x6f_6c6c_6568,
+    8,
+];
+
+// The record of node 0 under lock 1:1, with eight zeros at 0 and one at 20 in segment 1.
+const ZEROS: [u64; 11] = [
+    0xb_0002_01a5,
+    0x1_0000,
+    1,
+    1,
+    1,
+    8,
+    0,
+    0x14_0000_0001,
+    1,
+    0,
+    11,
+];
+
+// The record of node 0 under locks 1:1 and 2:1, with the byte 11 at 0 in segment 1 and 22 at 0 in segment 2, in
+// hexadecimal.
+const BOTH: [u64; 13] = [
+    0xd_0002_01a5,
+    0x2_0000,
+    1,
+    1,
+    2,
+    1,
+    1,
+    1,
+    0x11,
+    2,
+    1,
+    0x22,
+    13,
+];
+
+// The record of node 7 under locks 1:2 and 3:1, with "abcdefgh" at 0 and "i" at 9 in segment 1,
+// and "jklmnopqr" at 100 in segment 3.
+const LETTERS: [u64; 17] = [
+    0x11_0003_01a5,
+    0x2_0007,
+    1,
+    2,
+    3,
+    1,
+    1,
+    8,
+    0x6867_6665_6463_6261,
+    0x9_0000_0001,
+    1,
+    0x69,
+    0x64_0000_0003,
+    9,
+    0x7170_6f6e_6d6c_6b6a,
+    0x72,
+    17,
+];
+
+// The record of node 0 under lock 1:1, with eight bytes at 16376 in segment 1: they end at 16384.
+const NEAR: [u64; 8] = [
+    0x8_0001_01a5,
+    0x1_0000,
+    1,
+    1,
+    0x3ff8_0000_0001,
+    8,
+    0x636c,
+    8,
+];
+
+// The record of node 0 under lock 1:1, with the same bytes at 16380 in segment 1.
+const FAR: [u64; 9] = [0x9_0001_02a5, 0x1_0000, 1, 1, 1, 16380, 8, 0x636c, 9];
+
+// The record of node 0 under lock 1:1, with the same bytes at 16380 and at 16389 in segment 1.
+const FAR_TWICE: [u64; 13] = [
+    0xd_0002_02a5,
+    0x1_0000,
+    1,
+    1,
+    1,
+    16380,
+    8,
+    0x636c,
+    1,
+    16389,
+    8,
+    0x636c,
+    13,
+];
+
+const LC: [u8; 8] = [0x6c, 0x63, 0x00, 0x00, 0x00, 0x00, 0x00, 0x00];
+
+fn locks_of(alloc: Global, locks: &[(u32, u64)]) -> Result<Items<Lock>, AllocError> {
+    let mut items = Vec::new(alloc);
+    for (segment, seq) in locks {
+        items.push(Lock {
+            segment: *segment,
+            seq: *seq,
+        })?;
+    }
+    Ok(Items::new(items))
+}
+
+fn ranges_of(alloc: Global, ranges: &[(u32, u32, &[u8])]) -> Result<Items<RangeData>, AllocError> {
+    let mut items = Vec::new(alloc);
+    for (segment, offset, bytes) in ranges {
+        items.push(RangeData {
+            segment: *segment,
+            offset: *offset,
+            bytes: Items::new(Vec::from_slice(alloc, bytes)?),
+        })?;
+    }
+    Ok(Items::new(items))
+}
+
+fn record_of(
+    alloc: Global,
+    node: u16,
+    locks: &[(u32, u64)],
+    ranges: &[(u32, u32, &[u8])],
+) -> Result<Record, AllocError> {
+    Ok(Record {
+        node,
+        locks: locks_of(alloc, locks)?,
+        ranges: ranges_of(alloc, ranges)?,
+    })
+}
+
+// The record is written as these words, and the record that is read from them is written so too, whatever follows them.
+fn is_spelled(rt: &impl Abort, alloc: Global, record: &Record, words: &[u64]) -> Result<(), Fail> {
+    let mut written = encode(alloc, record)?;
+    assert!(rt; written.as_slice() == words);
+    written.push(0xa5)?;
+    let (read, len) = decode(alloc, &written)?.ok_or("the words begin with a record")?;
+    assert!(rt; len == words.len());
+    let again = encode(alloc, &read)?;
+    assert!(rt; again.as_slice() == words);
+    Ok(())
+}
+
+#[test]
+fn records_are_written_and_read(rt: HostRuntime) -> Result<(), Fail> {
+    let alloc = rt.alloc();
+    let hello = record_of(alloc, 0, &[(1, 1)], &[(1, 3, b"hello")])?;
+    is_spelled(&rt, alloc, &hello, &HELLO)?;
+    let zeros = record_of(alloc, 0, &[(1, 1)], &[(1, 0, &[0; 8]), (1, 20, &[0])])?;
+    is_spelled(&rt, alloc, &zeros, &ZEROS)?;
+    let both = record_of(
+        alloc,
+        0,
+        &[(1, 1), (2, 1)],
+        &[(1, 0, &[0x11]), (2, 0, &[0x22])],
+    )?;
+    is_spelled(&rt, alloc, &both, &BOTH)?;
+    let letters = record_of(
+        alloc,
+        7,
+        &[(1, 2), (3, 1)],
+        &[(1, 0, b"abcdefgh"), (1, 9, b"i"), (3, 100, b"jklmnopqr")],
+    )?;
+    is_spelled(&rt, alloc, &letters, &LETTERS)
+}
+
+#[test]
+fn far_ranges_are_written_in_the_second_version(rt: HostRuntime) -> Result<(), Fail> {
+    let alloc = rt.alloc();
+    let near = record_of(alloc, 0, &[(1, 1)], &[(1, 16376, &LC)])?;
+    is_spelled(&rt, alloc, &near, &NEAR)?;
+    let far = record_of(alloc, 0, &[(1, 1)], &[(1, 16380, &LC)])?;
+    is_spelled(&rt, alloc, &far, &FAR)?;
+    let twice = record_of(alloc, 0, &[(1, 1)], &[(1, 16380, &LC), (1, 16389, &LC)])?;
+    is_spelled(&rt, alloc, &twice, &FAR_TWICE)?;
+    let mut end_words = FAR;
+    end_words[5] = 262136;
+    let end = record_of(alloc, 0, &[(1, 1)], &[(1, 262136, &LC)])?;
+    is_spelled(&rt, alloc, &end, &end_words)
+}
+
+// With the word at this place changed the words are no record.
+fn is_none(rt: &impl Abort, words: &[u64], place: usize, changed: u64) {
+    let mut broken = [0; 17];
+    for (word, old) in broken.iter_mut().zip(words) {
+        *word = *old;
+    }
+    if let Some(word) = broken.get_mut(place) {
+        *word = changed;
+    }
+    assert!(rt; check(&broken).is_none(), "{changed} at {place}");
+}
+
+#[test]
+fn other_words_are_no_record(rt: HostRuntime) {
+    for (place, changed) in [
+        // The gate, the version, the length, what fills the data up, and the last word.
+        (0, 0x8_0001_0100),
+        (0, 0x8_0001_017f),
+        (0, 0x8_0001_02a5),
+        (0, 0x9_0001_01a5),
+        (6, 0x16f_6c6c_6568),
+        (7, 7),
+    ] {
+        is_none(&rt, &HELLO, place, changed);
+    }
+    for (place, changed) in [
+        // No node 8, and the locks not ascending.
+        (1, 0x2_0008),
+        (4, 1),
+        // A range that touches the one before it, and one before it.
+        (9, 0x8_0000_0001),
+        (6, 0x20_0000_0001),
+        // A range of a segment with no lock, and a lock of a segment with no range.
+        (12, 0x64_0000_0002),
+        (12, 0x64_0000_0001),
+        // A range that leaves its segment.
+        (12, 0x3ff8_0000_0003),
+    ] {
+        is_none(&rt, &LETTERS, place, changed);
+    }
+    // A range of the first version that ends behind 16384.
+    is_none(&rt, &NEAR, 4, 0x3ff9_0000_0001);
+    for len in 0..17 {
+        assert!(rt; check(&LETTERS[..len]).is_none(), "{len}");
+    }
+}
+
+#[test]
+fn other_words_of_the_second_version_are_no_record(rt: HostRuntime) {
+    for (place, changed) in [
+        // The first version, and a third.
+        (0, 0x9_0001_01a5),
+        (0, 0x9_0001_03a5),
+        // No segment, and one of more than 32 bits.
+        (4, 0),
+        (4, (1 << 32) + 1),
+        // No range that ends behind 16384, one that leaves its segment, and an offset of more than 32 bits.
+        (5, 16376),
+        (5, 262137),
+        (5, (1 << 32) + 16380),
+        (8, 8),
+    ] {
+        is_none(&rt, &FAR, place, changed);
+    }
+    // Seven bytes, filled up with zero or not.
+    let mut seven = FAR;
+    seven[6] = 7;
+    assert!(rt; check(&seven) == Some(9));
+    is_none(&rt, &seven, 7, 0x0100_0000_0000_636c);
+    // Ranges that touch.
+    is_none(&rt, &FAR_TWICE, 9, 16388);
+}
+
+// Why the record of this node, under lock 1:1, is not written.
+fn fault_of(alloc: Global, node: u16, ranges: &[(u32, u32, &[u8])]) -> Option<RecordFault> {
+    let record = record_of(alloc, node, &[(1, 1)], ranges).ok()?;
+    encode(alloc, &record).err()
+}
+
+#[test]
+fn other_records_have_no_spelling(rt: HostRuntime) {
+    let alloc = rt.alloc();
+    let none = Some(RecordFault::NotCanonical);
+    assert!(rt; fault_of(alloc, 8, &[(1, 3, b"hello")]) == none);
+    assert!(rt; fault_of(alloc, 0, &[(1, 3, b"hello"), (2, 0, b"you")]) == none);
+    assert!(rt; fault_of(alloc, 0, &[(1, 3, b"hello"), (1, 8, b"you")]) == none);
+    assert!(rt; fault_of(alloc, 0, &[(1, 3, b"")]) == none);
+    assert!(rt; fault_of(alloc, 0, &[(1, 262137, &LC)]) == none);
+}
+
+#[test]
+fn the_longest_record_has_4096_words(rt: HostRuntime) -> Result<(), Fail> {
+    let alloc = rt.alloc();
+    let locks = [(1, 1), (2, 1)];
+    let zeros = vec![in alloc; 0u8; 16384]?;
+    let longest = record_of(alloc, 0, &locks, &[(1, 0, &zeros), (2, 0, &zeros[..16296])])?;
+    assert!(rt; encode(alloc, &longest)?.len() == 4096);
+    let longer = record_of(alloc, 0, &locks, &[(1, 0, &zeros), (2, 0, &zeros[..16297])])?;
+    let fault = encode(alloc, &longer).err().ok_or("there is a fault")?;
+    assert!(rt; fault == RecordFault::TooLong { words: 4097 });
+    let text = format!(in alloc; "{fault}")?;
+    assert!(rt; text.as_str() == "the record has 4097 words, which is too long");
+    Ok(())
+}
+
+#[test]
+fn the_first_two_words_have_fields(rt: HostRuntime) {
+    let (first, second) = (LETTERS[0], LETTERS[1]);
+    assert!(rt; gate(first) == 0xa5 && version(first) == 1);
+    assert!(rt; range_count(first) == 3 && length(first) == 17);
+    assert!(rt; node(second) == 7 && lock_count(second) == 2);
+}
+
+#[test]
+fn a_geometry_has_areas(rt: HostRuntime) -> Result<(), Fail> {
+    let geometry = Geometry::new(2, 4, 2, 1024, 64).ok_or("segments may have 1024 pages")?;
+    assert!(rt; geometry.log_len() == 520 && geometry.segment_len() == 262144);
+    assert!(rt; Geometry::new(9, 4, 2, 3, 64).is_none());
+    assert!(rt; Geometry::new(2, 4, 2, 1025, 64).is_none());
+    Ok(())
+}
+
+#[test]
+fn a_record_is_read_in_place(rt: HostRuntime) -> Result<(), Fail> {
+    let mut words = Vec::from_slice(rt.alloc(), &HELLO)?;
+    words.extend_from_slice(&LETTERS)?;
+    for place in [1, 7, 9, 24, 25, 26] {
+        assert!(rt; View::at(&words, place).is_none(), "{place}");
+    }
+    let letters = View::at(&words, 8).ok_or("a record begins here")?;
+    assert!(rt; letters.words() == LETTERS.as_slice() && letters.len() == 17);
+    assert!(rt; letters.node() == 7 && letters.lock_count() == 2 && letters.range_count() == 3);
+    assert!(rt; letters.lock(1) == Some(Lock { segment: 3, seq: 1 }) && letters.lock(2).is_none());
+    let span = Span {
+        segment: 3,
+        offset: 100,
+        len: 9,
+    };
+    assert!(rt; letters.range(2) == Some(span) && letters.range(3).is_none());
+    assert!(rt; letters.byte(2, 8) == Some(b'r') && letters.byte(2, 9).is_none());
+    Ok(())
+}
+
+#[test]
+fn a_far_record_is_read_in_place(rt: HostRuntime) -> Result<(), Fail> {
+    let far = View::at(&FAR_TWICE, 0).ok_or("a record begins here")?;
+    let span = Span {
+        segment: 1,
+        offset: 16389,
+        len: 8,
+    };
+    assert!(rt; far.range(1) == Some(span) && far.byte(1, 0) == Some(b'l'));
+    Ok(())
+}
+
+#[test]
+fn a_record_is_put_on_bytes(rt: HostRuntime) -> Result<(), Fail> {
+    let letters = View::at(&LETTERS, 0).ok_or("a record begins here")?;
+    for (segment, offset, want) in [
+        (1, 0, b"abcdefgh.i.."),
+        (1, 3, b"defgh.i....."),
+        (1, 10, b"............"),
+        (2, 0, b"............"),
+        (3, 0, b"............"),
+        (3, 96, b"....jklmnopq"),
+        (3, 104, b"nopqr......."),
+        (3, usize::MAX, b"............"),
+    ] {
+        let mut bytes = [b'.'; 12];
+        letters.put_on(segment, offset, &mut bytes);
+        assert!(rt; bytes == *want, "at {offset} of segment {segment}");
+    }
+    Ok(())
+}

@@ -1,0 +1,131 @@
+//! Tokens, and the records that are held back.
+ghost use Rattle.std.specs.Prelude.{◌≡◌, [], ◌∷◌, IfOk};
+
+use lc_page::{PageText, PageVector};
+use lc_record::{Items, Lock, RangeData, Record};
+use lc_token::{HoldBack, Received, Token, TokenFault, TokenPlace};
+use std::alloc::{AllocError, Global};
+use std::test::Fail;
+
+// A record with this number in segment 1, and one byte there.
+fn record_of(alloc: Global, seq: u64) -> Result<Record, AllocError>
+    ensures { IfOk result (λ r. r.locks ≡ record { segment = 1; seq = seq } ∷ []) }
+{
+    let locks = vec![in alloc; Lock { segment: 1, seq }]?;
+    let bytes = vec![in alloc; 7u8]?;
+    let mut ranges = Vec::with_capacity(alloc, 1)?;
+    ranges.push(RangeData {
+        segment: 1,
+        offset: 3,
+        bytes: Items::new(bytes),
+    })?;
+    Ok(Record {
+        node: 0,
+        locks: Items::new(locks),
+        ranges: Items::new(ranges),
+    })
+}
+
+// Receives the record with this number, and once more where there was no memory.
+fn receive(hold_back: &mut HoldBack, alloc: Global, seq: u64) -> Result<Received, TokenFault>
+    requires { hold_back.old.segment ≡ 1 }
+    ensures { hold_back.new.segment ≡ 1 }
+{
+    let record = match record_of(alloc, seq) {
+        Ok(record) => record,
+        Err(_) => record_of(alloc, seq)?,
+    };
+    match hold_back.receive(alloc, &record) {
+        Err(TokenFault::NoMemory) => hold_back.receive(alloc, &record),
+        answer => answer,
+    }
+}
+
+#[test]
+fn records_out_of_order_are_applied_in_order(rt: HostRuntime) -> Result<(), Fail> {
+    let mut hold_back = HoldBack::new(rt.alloc(), 1, 0);
+    for (seq, answer) in [
+        (3, Received::HeldBack),
+        (1, Received::Applied(1)),
+        (1, Received::Ignored),
+        (2, Received::Applied(3)),
+    ] {
+        assert!(rt;
+            receive(&mut hold_back, rt.alloc(), seq)? == answer,
+            "{seq}"
+        );
+    }
+    for seq in 1..4 {
+        let part = hold_back.next().ok_or("it was applied")?;
+        assert!(rt; part.seq == seq);
+    }
+    assert!(rt; !hold_back.has_due());
+    Ok(())
+}
+
+#[test]
+fn a_hundred_records_in_descending_order(rt: HostRuntime) -> Result<(), Fail> {
+    let mut hold_back = HoldBack::new(rt.alloc(), 1, 0);
+    for seq in (2..=100).rev() {
+        let answer = receive(&mut hold_back, rt.alloc(), seq)?;
+        assert!(rt; answer == Received::HeldBack, "{seq}");
+    }
+    assert!(rt; receive(&mut hold_back, rt.alloc(), 1)? == Received::Applied(100));
+    Ok(())
+}
+
+#[test]
+fn faults_have_texts(rt: HostRuntime) -> Result<(), Fail> {
+    for (fault, text) in [
+        (
+            TokenFault::Behind { applied: 4, seq: 9 },
+            "applied up to 4, and the token has seen 9",
+        ),
+        (
+            TokenFault::Unflushed,
+            "a record of the segment is not on the disk",
+        ),
+        (
+            TokenFault::Writing,
+            "a page of the segment is being written",
+        ),
+        (TokenFault::Held, "the token is held"),
+        (
+            TokenFault::NotHere { segment: 2 },
+            "the token of segment 2 is not here",
+        ),
+        (TokenFault::NoMemory, "out of memory"),
+    ] {
+        assert!(rt; fault.to_string(rt.alloc())?.as_str() == text, "{text}");
+    }
+    Ok(())
+}
+
+#[test]
+fn a_token_is_written_leaves_and_arrives(rt: HostRuntime) -> Result<(), Fail> {
+    let text = PageText {
+        seq: 2,
+        slot: None,
+        gates: [false, false],
+    };
+    let pages = PageVector::new(rt.alloc(), &[text])?;
+    assert!(rt; pages.len() == 1);
+    let mut token = Token {
+        segment: 1,
+        seq: 5,
+        clean: 2,
+        pages,
+    };
+    token.pages.touch(0, 4);
+    token.written(0, 4);
+    assert!(rt; token.clean == 5);
+    let mut place = TokenPlace::new(1, Some(token));
+    let token = place.leave(false, false, 8, 8)?;
+    let mut other = TokenPlace::new(1, None);
+    assert!(rt;
+        other
+            .arrive(token, &HoldBack::new(rt.alloc(), 1, 5))
+            .is_ok()
+    );
+    Ok(())
+}

@@ -1,0 +1,198 @@
+//! Transactions on one segment.
+ghost use Rattle.std.specs.Prelude.{IfOk};
+ghost use Rattle.lc_tx.specs.Tx.{RunsOn};
+ghost use Rattle.lc_tx.specs.OneSegment.{the_images};
+
+use lc_record::{Items, Part, RangeData};
+use lc_tx::{Image, OneSegment, Prepared, Tx, TxFault};
+use std::alloc::{AllocError, Global};
+use std::process::Abort;
+use std::test::Fail;
+
+// A segment of these bytes, of which no record was closed.
+fn segment_of(alloc: Global, bytes: &[u8]) -> Result<OneSegment, AllocError> {
+    Ok(OneSegment {
+        image: Image::new(Vec::from_slice(alloc, bytes)?),
+        records: 0,
+    })
+}
+
+// The words of a transaction's record, or none.
+fn words_of(alloc: Global, segment: &mut OneSegment, tx: &Tx) -> Result<Items<u64>, TxFault>
+    requires { RunsOn the_images segment.old tx.now }
+    ensures { RunsOn the_images segment.new tx.now }
+{
+    if segment.image.bytes().len() > 262144 {
+        return Err(TxFault::OutOfSegment);
+    }
+    match tx.prepare_end(alloc, segment, 0)? {
+        Prepared::Empty => Ok(Items::new(Vec::new(alloc))),
+        Prepared::Record(words) => Ok(words),
+    }
+}
+
+#[test]
+fn ranges_merge_in_the_record(rt: HostRuntime) -> Result<(), Fail> {
+    let alloc = rt.alloc();
+    let mut segment = segment_of(alloc, &[0; 256])?;
+    let mut tx = Tx::begin(alloc, &mut segment, 3, &[1], &[])?;
+    for (offset, len) in [(0, 4), (4, 4), (2, 3), (20, 1)] {
+        tx.set_range(&mut segment, 1, offset, len)?;
+    }
+    let words = words_of(alloc, &mut segment, &tx)?;
+    // The record of node 0 under lock 1:1, with eight zeros at 0 and one at 20 in segment 1.
+    let wanted = [
+        0xb_0002_01a5,
+        0x1_0000,
+        1,
+        1,
+        1,
+        8,
+        0,
+        0x14_0000_0001,
+        1,
+        0,
+        11,
+    ];
+    assert!(rt; words.as_slice() == wanted.as_slice());
+    assert!(rt; segment.image.holders().writer() == Some(3));
+    tx.release(&mut segment);
+    assert!(rt; segment.image.holders().is_free());
+    Ok(())
+}
+
+#[test]
+fn an_abort_gives_the_bytes_back(rt: HostRuntime) -> Result<(), Fail> {
+    let alloc = rt.alloc();
+    let mut segment = segment_of(alloc, b"abcdef")?;
+    let mut tx = Tx::begin(alloc, &mut segment, 7, &[1], &[])?;
+    for (offset, bytes) in [(0, b"1234"), (2, b"5678")] {
+        tx.set_range(&mut segment, 1, offset, 4)?;
+        tx.write(&mut segment, 1, offset, bytes)?;
+    }
+    assert!(rt; tx.read(alloc, &mut segment, 1, 0, 6)?.as_slice() == b"125678".as_slice());
+    tx.abort(&mut segment);
+    assert!(rt; segment.image.bytes() == b"abcdef".as_slice() && segment.image.holders().is_free());
+    Ok(())
+}
+
+#[test]
+fn what_is_locked_for_reading_is_only_read(rt: HostRuntime) -> Result<(), Fail> {
+    let alloc = rt.alloc();
+    let mut segment = segment_of(alloc, b"abcdef")?;
+    let mut tx = Tx::begin(alloc, &mut segment, 0, &[], &[1])?;
+    assert!(rt; tx.read(alloc, &mut segment, 1, 1, 2)?.as_slice() == b"bc".as_slice());
+    let read_only = TxFault::ReadOnly { segment: 1 };
+    assert!(rt; tx.set_range(&mut segment, 1, 0, 1) == Err(read_only));
+    let writer = Tx::begin(alloc, &mut segment, 1, &[1], &[]);
+    assert!(rt; writer.err() == Some(TxFault::Busy { segment: 1 }));
+    Ok(())
+}
+
+#[test]
+fn a_part_is_laid_over_an_image(rt: HostRuntime) -> Result<(), Fail> {
+    let alloc = rt.alloc();
+    let mut image = Image::new(Vec::from_slice(alloc, b"abcdef")?);
+    let mut ranges = Vec::new(alloc);
+    for (offset, bytes) in [(1, b"123"), (3, b"456"), (5, b"789"), (9, b"xyz")] {
+        ranges.push(RangeData {
+            segment: 1,
+            offset,
+            bytes: Items::new(Vec::from_slice(alloc, bytes)?),
+        })?;
+    }
+    image.put(&Part {
+        segment: 1,
+        seq: 1,
+        ranges: Items::new(ranges),
+    });
+    assert!(rt; image.bytes() == b"a12457".as_slice());
+    Ok(())
+}
+
+#[test]
+fn faults_have_texts(rt: HostRuntime) -> Result<(), Fail> {
+    for (fault, text) in [
+        (
+            TxFault::Busy { segment: 3 },
+            "a transaction holds segment 3",
+        ),
+        (
+            TxFault::NotHere { segment: 4 },
+            "the token of segment 4 is elsewhere",
+        ),
+        (TxFault::NoRange, "some byte was not set"),
+        (TxFault::OutOfSegment, "the bytes reach past the segment"),
+        (
+            TxFault::NotLocked,
+            "the transaction did not lock the segment",
+        ),
+        (TxFault::NoMemory, "out of memory"),
+        (
+            TxFault::TooLong { words: 4107 },
+            "the record would have 4107 words",
+        ),
+        (
+            TxFault::SequenceSpent { segment: 5 },
+            "segment 5 has used its last number",
+        ),
+        (TxFault::EmptyRange, "the range is empty"),
+        (TxFault::TooManyRanges, "there are too many ranges"),
+        (
+            TxFault::ReadOnly { segment: 6 },
+            "the transaction locked segment 6 for reading",
+        ),
+    ] {
+        assert!(rt; fault.to_string(rt.alloc())?.as_str() == text, "{text}");
+    }
+    Ok(())
+}
+
+// Begins a transaction, once more where there is no memory.
+fn begin_again(rt: &impl Abort, alloc: Global, segment: &mut OneSegment) -> Result<Tx, TxFault>
+    ensures { IfOk result (λ tx. RunsOn the_images segment.new tx) }
+{
+    match Tx::begin(alloc, segment, 1, &[1], &[]) {
+        Ok(tx) => Ok(tx),
+        Err(fault) => {
+            assert!(rt; fault == TxFault::NoMemory && segment.image.holders().is_free());
+            Tx::begin(alloc, segment, 1, &[1], &[])
+        }
+    }
+}
+
+// Sets and writes nine ranges, each once more where there is no memory.
+fn write_nine(rt: &impl Abort, segment: &mut OneSegment, tx: &mut Tx) -> Result<(), TxFault>
+    requires { RunsOn the_images segment.old tx.old }
+    ensures { RunsOn the_images segment.new tx.new }
+{
+    for i in 0..9 {
+        let before = tx.ranges().len();
+        if tx.set_range(segment, 1, 4 * i, 2).is_err() {
+            assert!(rt; tx.ranges().len() == before);
+            tx.set_range(segment, 1, 4 * i, 2)?;
+        }
+        tx.write(segment, 1, 4 * i, &[1, 2])?;
+    }
+    Ok(())
+}
+
+// Where memory is refused nothing has changed, and the next attempt succeeds.
+#[test]
+fn refused_memory_changes_nothing(rt: HostRuntime) -> Result<(), Fail> {
+    let alloc = rt.alloc();
+    let mut segment = match segment_of(alloc, &[0; 64]) {
+        Ok(segment) => segment,
+        Err(_) => segment_of(alloc, &[0; 64])?,
+    };
+    let mut tx = begin_again(&rt, alloc, &mut segment)?;
+    write_nine(&rt, &mut segment, &mut tx)?;
+    let words = match words_of(alloc, &mut segment, &tx) {
+        Ok(words) => words,
+        Err(_) => words_of(alloc, &mut segment, &tx)?,
+    };
+    assert!(rt; words.as_slice().len() == 4 + 9 * 3 + 1);
+    tx.abort(&mut segment);
+    assert!(rt; segment.image.bytes() == [0; 64].as_slice());
+    Ok(())
+}

@@ -1,0 +1,98 @@
+//! Truncation: which logs may be reset, and which pages are dirty.
+ghost use Rattle.std.specs.Prelude.{◌≡◌, ◌≤◌, IfOk, length};
+
+use lc_page::{PageText, PageVector};
+use lc_token::Token;
+use lc_trunc::{KnownClean, Unclean, dirty_pages, may_reset};
+use std::alloc::{AllocError, Global};
+use std::test::Fail;
+
+// The record of node 0 under locks 1:5 and 2:7, with the byte 11 at 0 in segment 1 and 22 at 0 in segment 2, in
+// hexadecimal. Behind its 13 words stands the record of node 0 under lock 1:3 with the bytes "hello" at 3 in segment 1,
+// in 8 words.
+const LOG: [u64; 21] = [
+    0xd_0002_01a5,
+    0x2_0000,
+    1,
+    5,
+    2,
+    7,
+    1,
+    1,
+    0x11,
+    2,
+    1,
+    0x22,
+    13,
+    0x8_0001_01a5,
+    0x1_0000,
+    1,
+    3,
+    0x3_0000_0001,
+    5,
+    0x6f_6c6c_6568,
+    8,
+];
+
+// A token of the segment with three pages, which have number 2 on the disk.
+fn token_of(alloc: Global, segment: u32, clean: u64) -> Result<Token, AllocError>
+    ensures segment { IfOk result (λ token. token.segment ≡ segment) }
+    ensures pages { IfOk result (λ token. length token.pages ≡ 3) }
+{
+    let text = PageText {
+        seq: 2,
+        slot: None,
+        gates: [false, false],
+    };
+    Ok(Token {
+        segment,
+        seq: 9,
+        clean,
+        pages: PageVector::new(alloc, &[text, text, text])?,
+    })
+}
+
+#[test]
+fn a_log_is_reset_where_all_is_clean(rt: HostRuntime) -> Result<(), Fail> {
+    let mut known = KnownClean::new();
+    let mut answer = Err(Unclean { segment: 1, seq: 3 });
+    for (segment, clean, next) in [
+        (1, 3, Err(Unclean { segment: 1, seq: 5 })),
+        (2, 6, Err(Unclean { segment: 1, seq: 5 })),
+        (1, 5, Err(Unclean { segment: 2, seq: 7 })),
+        // A token seen later may have been clean earlier.
+        (1, 4, Err(Unclean { segment: 2, seq: 7 })),
+        (2, 8, Ok(())),
+    ] {
+        assert!(rt; may_reset(&LOG, &[0, 13], &known) == answer, "{clean}");
+        assert!(rt; 1 <= segment && segment <= 16);
+        known.see(&token_of(rt.alloc(), segment, clean)?);
+        answer = next;
+    }
+    assert!(rt; may_reset(&LOG, &[13, 0], &known) == answer);
+    Ok(())
+}
+
+#[test]
+fn where_no_record_begins_there_is_no_lock(rt: HostRuntime) {
+    let known = KnownClean::new();
+    assert!(rt; may_reset(&LOG, &[1, 12, 14, 20, 21, 99], &known).is_ok());
+    assert!(rt; may_reset(&LOG[..12], &[0], &known).is_ok());
+}
+
+#[test]
+fn pages_that_were_changed_are_dirty(rt: HostRuntime) -> Result<(), Fail> {
+    let alloc = rt.alloc();
+    let mut token = token_of(alloc, 1, 2)?;
+    // A page that was changed under the number that is on the disk is clean.
+    token.pages.touch(1, 2);
+    token.pages.touch(2, 5);
+    token.pages.touch(0, 3);
+    let dirty = match dirty_pages(alloc, &token) {
+        Ok(pages) => pages,
+        // Once more where there was no memory.
+        Err(_) => dirty_pages(alloc, &token)?,
+    };
+    assert!(rt; dirty.as_slice() == [0, 2].as_slice());
+    Ok(())
+}
