@@ -2,7 +2,6 @@
 
 An edit is a file of lines 'file: src/..', 'old: TEXT' and 'new: TEXT': TEXT stands once in that file, as the pairs before have made it.
 """
-import os
 import pathlib
 import re
 import shutil
@@ -75,11 +74,10 @@ def checked(top, name, texts, without):
             for part in PARTS:
                 if (crate / part).is_dir():
                     shutil.copytree(crate / part, to / part)
-            # (the crate itself is checked over a copy of what is kept, so that nothing of an edit stays)
-            if crate.name == name and (crate / "out").is_dir():
-                shutil.copytree(crate / "out", to / "out")
-            elif (crate / "out").is_dir():
-                os.symlink(crate / "out", to / "out")
+            # (of the crate itself what earlier checks kept, of the others the built library)
+            kept = "out" if crate.name == name else "out/rlib"
+            if (crate / kept).is_dir():
+                shutil.copytree(crate / kept, to / kept)
         at = copy / "crates" / name
         for path, text in texts.items():
             (at / path).write_text(text, encoding="utf-8")

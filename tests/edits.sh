@@ -7,8 +7,9 @@
 #        tests/edits.sh --fits            looks that each edit of both folders can be applied (seconds; proves nothing)
 #        tests/edits.sh --bare NAME EDIT  prints what an edit leaves open where no answer that is written by hand is in the way
 #
-# It works on a copy of the sources whose out/ folders are those of the repository, so what is proved is not proved again.
-# Nothing is put into the repository but kept work in out/. A crate takes one check, and then 10 to 40 seconds an edit.
+# It works on a copy of the sources and of the libraries built in crates/*/out/rlib (some 2 GB), so that nothing which is built is
+# proved again, and changes nothing in the repository. Build them first, by `rt all check`. A crate then takes one check, and 10 to
+# 40 seconds more for each edit.
 set -euo pipefail
 top=$(cd "$(dirname "$0")/.." && pwd)
 reader=$top/tests/edits.py
@@ -32,11 +33,10 @@ trap 'rm -rf "$copy"' EXIT
 cp "$top/crates.txt" "$top/HANDLES" "$copy"
 for crate in "$top"/crates/*/; do
     to=$copy/crates/$(basename "$crate")
-    mkdir -p "$to" "$crate/out"
-    for part in src specs proofs; do
-        [ ! -d "$crate/$part" ] || cp -r "$crate/$part" "$to"
+    mkdir -p "$to/out"
+    for part in src specs proofs out/rlib; do
+        [ ! -d "$crate/$part" ] || cp -a "$crate/$part" "$to/$(dirname "$part")"
     done
-    ln -s "${crate}out" "$to/out"
 done
 for name in "$@"; do
     cp -r "$top/crates/$name/by-hand" "$copy/crates/$name/must-fail"
