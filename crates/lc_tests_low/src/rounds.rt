@@ -7,7 +7,7 @@ ghost use Rattle.lc_record.specs.declared.record.Record.{Record};
 ghost use Rattle.lc_log.specs.NodeLog.{IsAtRest};
 ghost use Rattle.lc_tests_low.specs.Rounds.{IsUncleared};
 
-use crate::staging::{begun, close_eight, low_byte, settle};
+use crate::staging::{TURNS, begun, close_eight, low_byte, settle};
 use lc_disk::{Area, MemArea};
 use lc_log::NodeLog;
 use lc_record::Group;
@@ -17,9 +17,6 @@ use std::test::Fail;
 use std::thread::{join, map_vec, yield_now};
 
 const RECORDS: usize = 48;
-
-// More turns than the test needs.
-const TURNS: u32 = 1_000_000;
 
 // A round that is not full is sealed at once, after so many turns, or after twice as many.
 const PATIENCE: u32 = 100;

@@ -1,6 +1,6 @@
-//! Staged records, and the round behind an ended one.
-ghost use Rattle.std.specs.Prelude.{◌≡◌, ◌≢◌, ◌+◌, ◌*◌, ◌%◌, ◌<◌, ◌≤◌, ◌^◌, true, false, [], length, slice_index, IfSome};
-ghost use Rattle.lc_stage.specs.Seats.{commit_view, flush_view, IsSeatOf, IsFlusherOf, IsIdle, IsFresh};
+//! Two seats, a thread that is held, and the round behind an ended one.
+ghost use Rattle.std.specs.Prelude.{◌≡◌, ◌≢◌, ℕ, ◌+◌, ◌*◌, ◌%◌, ◌<◌, ◌≤◌, ◌^◌, true, false, [], length, slice_index, IfSome};
+ghost use Rattle.lc_stage.specs.Seats.{commit_view, flush_view, IsSeatOf, IsFlusherOf, IsIdle, IsFresh, IsSettled};
 ghost use Rattle.lc_stage.specs.Publishing.{HoldsTaken, HasPublished};
 
 use lc_disk::{Area, MemArea};
@@ -8,6 +8,11 @@ use lc_log::NodeLog;
 use lc_record::Group;
 use lc_stage::{CommitSeat, FlushSeat, Stage, StageFault};
 use std::test::Fail;
+use std::thread::{join, yield_now};
+
+const EIGHT: u64 = 0x8_0001_01a5;
+
+const ELEVEN: u64 = 0xb_0002_01a5;
 
 // Fills and closes a record of one range of one byte in segment 1.
 pub(crate) fn close_eight(stage: &Stage, seat: &mut CommitSeat, seq: u64)
@@ -24,7 +29,28 @@ pub(crate) fn close_eight(stage: &Stage, seat: &mut CommitSeat, seq: u64)
     stage.fill(seat, 5, 1);
     stage.fill(seat, 6, 7);
     stage.fill(seat, 7, 8);
-    stage.close(seat, 0x8_0001_01a5);
+    stage.close(seat, EIGHT);
+}
+
+// Fills and closes a record of two ranges of one byte in segment 1.
+fn close_eleven(stage: &Stage, seat: &mut CommitSeat, seq: u64)
+    requires own { IsSeatOf stage.now seat.old }
+    requires fresh { IsFresh 11 (commit_view seat.old) }
+    requires seq { (1 ≤ seq) × (seq ≤ 2 ^ 60) }
+    ensures own { IsSeatOf stage.now seat.new }
+    ensures idle { IsIdle (commit_view seat.new) }
+{
+    stage.fill(seat, 1, 0x1_0000);
+    stage.fill(seat, 2, 1);
+    stage.fill(seat, 3, seq);
+    stage.fill(seat, 4, 1);
+    stage.fill(seat, 5, 1);
+    stage.fill(seat, 6, 7);
+    stage.fill(seat, 7, 0x14_0000_0001);
+    stage.fill(seat, 8, 1);
+    stage.fill(seat, 9, 9);
+    stage.fill(seat, 10, 11);
+    stage.close(seat, ELEVEN);
 }
 
 // The low byte of a word of the group.
@@ -75,54 +101,240 @@ pub(crate) fn settle<D: Area + Drop>(
     }
 }
 
+// Reserves 8 and 11 words, and closes the 11 first.
+fn nineteen(stage: &Stage, first: &mut CommitSeat, second: &mut CommitSeat) -> bool
+    requires own { IsSeatOf stage.now first.old × IsSeatOf stage.now second.old }
+    requires idle { IsIdle (commit_view first.old) × IsIdle (commit_view second.old) }
+    ensures own { IsSeatOf stage.now first.new × IsSeatOf stage.now second.new }
+    ensures idle { result ≡ true → IsIdle (commit_view first.new) × IsIdle (commit_view second.new) }
+{
+    let at = stage.tail(first);
+    let Ok(low) = stage.reserve(first, at, 8) else {
+        return false;
+    };
+    let at = stage.tail(second);
+    let Ok(high) = stage.reserve(second, at, 11) else {
+        return false;
+    };
+    close_eleven(stage, second, 2);
+    close_eight(stage, first, 1);
+    low == 0 && high == 8
+}
+
+// Seals the tail at this offset.
+fn seal_at(stage: &Stage, flusher: &mut FlushSeat, seat: &mut CommitSeat, offset: u64) -> bool
+    requires own { IsFlusherOf stage.now flusher.old × IsSeatOf stage.now seat.old }
+    ensures own { IsFlusherOf stage.now flusher.new × IsSeatOf stage.now seat.new }
+    ensures idle { IsIdle (commit_view seat.old) → IsIdle (commit_view seat.new) }
+    ensures sealed { result ≡ true → ((flush_view flusher.new).sealed ≡ true) × ((flush_view flusher.new).sealed_at ≡ offset) }
+    ensures taken { ((flush_view flusher.new).taken ≡ (flush_view flusher.old).taken) × ((flush_view flusher.new).cleared ≡ (flush_view flusher.old).cleared) }
+    ensures before { ((flush_view flusher.new).ended ≡ (flush_view flusher.old).ended) × ((flush_view flusher.new).ended_cleared ≡ (flush_view flusher.old).ended_cleared) }
+{
+    let at = stage.tail(seat);
+    stage.note(flusher, seat);
+    stage.seal(flusher, at).is_ok() && at % 32768 == offset
+}
+
 #[test]
-fn a_later_record_is_closed_first(rt: HostRuntime) -> Result<(), Fail> {
+fn two_seats(rt: HostRuntime) -> Result<(), Fail> {
     let (stage, mut flusher, mut first) = Stage::new(rt.alloc(), 64)?;
     let mut group = Group::new(rt.alloc(), 64)?;
     let log = begun(MemArea::new(rt.alloc(), 520)?);
     let mut second = stage.split(&mut first);
     let at = stage.tail(&mut first);
     let also_at = stage.tail(&mut second);
-    let low = stage.reserve(&mut first, at, 8)?;
-    let moved = stage.reserve(&mut second, also_at, 8);
-    assert!(rt; moved == Err(StageFault::Moved { seen: 8 }));
-    let at = stage.tail(&mut second);
-    let high = stage.reserve(&mut second, at, 8)?;
-    assert!(rt; low == 0 && high == 8);
-    close_eight(&stage, &mut second, 2);
+    assert!(rt; at == 0 && also_at == 0);
+    let Ok(place) = stage.reserve(&mut first, at, 8) else {
+        assert!(rt; false);
+        return Ok(());
+    };
+    assert!(rt; place == 0);
+    let Err(StageFault::Moved { seen }) = stage.reserve(&mut second, also_at, 11) else {
+        assert!(rt; false);
+        return Ok(());
+    };
+    assert!(rt; seen == 8);
+    let Ok(place) = stage.reserve(&mut second, seen, 11) else {
+        assert!(rt; false);
+        return Ok(());
+    };
+    assert!(rt; place == 8);
+    assert!(rt; stage.tail(&mut first) == 19);
+    close_eleven(&stage, &mut second, 2);
     assert!(rt; stage.take(&mut flusher, &mut group) == 0);
+    assert!(rt; group.is_empty());
     close_eight(&stage, &mut first, 1);
-    let settled = settle(&stage, &mut flusher, &mut group, log);
-    assert!(rt; settled.is_some() && group.len() == 16);
-    assert!(rt; low_byte(&group, 3) == 1 && low_byte(&group, 11) == 2);
-    let mut second = stage.meet(&mut flusher, second);
-    let receipt = stage.durable(&mut second).ok_or("it is stable")?;
-    assert!(rt; receipt.round() == 0 && receipt.place() == 8 && receipt.words() == 8);
+    let Some(log) = settle(&stage, &mut flusher, &mut group, log) else {
+        assert!(rt; false);
+        return Ok(());
+    };
+    assert!(rt; group.len() == 19);
+    assert!(rt; low_byte(&group, 3) == 1 && low_byte(&group, 7) == 8);
+    assert!(rt;
+        low_byte(&group, 8) == 0xa5 && low_byte(&group, 11) == 2 && low_byte(&group, 18) == 11
+    );
+    let mut first = stage.meet(&mut flusher, first);
+    let Some(receipt) = stage.durable(&mut first) else {
+        assert!(rt; false);
+        return Ok(());
+    };
+    assert!(rt; receipt.round() == 0 && receipt.place() == 0 && receipt.words() == 8);
+    assert!(rt; stage.take(&mut flusher, &mut group) == 0);
+    Ok(())
+}
+
+// Ends a round of 19 words, which are stable then.
+fn end_nineteen<D: Area + Drop>(
+    stage: &Stage,
+    flusher: &mut FlushSeat,
+    seat: &mut CommitSeat,
+    group: &mut Group,
+    log: NodeLog<D>,
+) -> bool
+    requires own { IsFlusherOf stage.now flusher.old × IsSeatOf stage.now seat.old × (stage.now.room ≤ group.old.room) }
+    requires log { HoldsTaken D.Area log.area log.end (flush_view flusher.old).taken × (8 * stage.now.room + 8 ≤ length (D.now log.area)) }
+    ensures own { IsFlusherOf stage.now flusher.new × IsSeatOf stage.now seat.new × (group.new.room ≡ group.old.room) }
+    ensures idle { IsIdle (commit_view seat.old) → IsIdle (commit_view seat.new) }
+    ensures settled { result ≡ true → IsSettled (flush_view flusher.new) × ((flush_view flusher.new).sealed_at ≡ 19) }
+    ensures uncleared { result ≡ true → (flush_view flusher.new).cleared ≡ (flush_view flusher.old).cleared }
+    ensures before { result ≡ true → ((flush_view flusher.new).ended ≡ (flush_view flusher.old).ended) × ((flush_view flusher.new).ended_cleared ≡ (flush_view flusher.old).ended_cleared) }
+{
+    if !seal_at(stage, flusher, seat, 19) {
+        return false;
+    }
+    match settle(stage, flusher, group, log) {
+        Some(log) => log.end == 19,
+        None => false,
+    }
+}
+
+#[test]
+fn a_round_is_cleared_and_the_next_opened(rt: HostRuntime) -> Result<(), Fail> {
+    let (stage, mut flusher, mut first) = Stage::new(rt.alloc(), 64)?;
+    let mut group = Group::new(rt.alloc(), 64)?;
+    let log = begun(MemArea::new(rt.alloc(), 520)?);
+    let mut second = stage.split(&mut first);
+    let mut third = stage.split(&mut first);
+    assert!(rt; nineteen(&stage, &mut first, &mut second));
+    assert!(rt; end_nineteen(&stage, &mut flusher, &mut third, &mut group, log));
+    let sealed = stage.tail(&mut third);
+    assert!(rt; sealed == 32787);
+    assert!(rt; stage.reserve(&mut third, sealed, 8) == Err(StageFault::Sealed));
+    stage.clear(&mut flusher);
+    assert!(rt; stage.reopen(&mut flusher).is_ok());
+    assert!(rt; stage.tail(&mut third) == 65536);
     Ok(())
 }
 
 #[test]
 fn a_round_is_opened_before_the_ended_one_is_clear(rt: HostRuntime) -> Result<(), Fail> {
-    let (stage, mut flusher, mut seat) = Stage::new(rt.alloc(), 64)?;
+    let (stage, mut flusher, mut first) = Stage::new(rt.alloc(), 64)?;
     let mut group = Group::new(rt.alloc(), 64)?;
     let log = begun(MemArea::new(rt.alloc(), 520)?);
-    let at = stage.tail(&mut seat);
-    stage.reserve(&mut seat, at, 8)?;
-    close_eight(&stage, &mut seat, 1);
-    let at = stage.tail(&mut seat);
-    stage.note(&mut flusher, &mut seat);
-    stage.seal(&mut flusher, at)?;
-    let sealed = stage.tail(&mut seat);
-    assert!(rt; at % 32768 == 8 && sealed == 32776);
-    assert!(rt; stage.reserve(&mut seat, sealed, 8) == Err(StageFault::Sealed));
-    let log = settle(&stage, &mut flusher, &mut group, log).ok_or("it is stable")?;
-    assert!(rt; log.end == 8);
-    stage.reopen(&mut flusher)?;
-    let at = stage.tail(&mut seat);
-    let place = stage.reserve(&mut seat, at, 8)?;
-    assert!(rt; at == 65536 && place == 0);
-    close_eight(&stage, &mut seat, 2);
+    let mut second = stage.split(&mut first);
+    let mut third = stage.split(&mut first);
+    assert!(rt; nineteen(&stage, &mut first, &mut second));
+    assert!(rt; end_nineteen(&stage, &mut flusher, &mut third, &mut group, log));
+    let Ok(()) = stage.reopen(&mut flusher) else {
+        assert!(rt; false);
+        return Ok(());
+    };
+    let at = stage.tail(&mut third);
+    assert!(rt; at == 65536);
+    let Ok(place) = stage.reserve(&mut third, at, 8) else {
+        assert!(rt; false);
+        return Ok(());
+    };
+    assert!(rt; place == 0);
+    close_eight(&stage, &mut third, 3);
     stage.clear(&mut flusher);
-    assert!(rt; stage.take(&mut flusher, &mut group) == 8 && low_byte(&group, 3) == 2);
+    assert!(rt; stage.take(&mut flusher, &mut group) == 8);
+    assert!(rt; low_byte(&group, 0) == 0xa5 && low_byte(&group, 3) == 3);
+    Ok(())
+}
+
+pub(crate) const TURNS: u32 = 1_000_000;
+
+// Reserves the first 8 words, and closes them once 8 more are reserved behind them.
+fn close_late(stage: &Stage, mut seat: CommitSeat) -> Option<CommitSeat>
+    requires own { IsSeatOf stage.now seat }
+    requires idle { IsIdle (commit_view seat) }
+    ensures { IfSome result (λ s. IsSeatOf stage.now s × IsIdle (commit_view s)) }
+{
+    let at = stage.tail(&mut seat);
+    let Ok(_) = stage.reserve(&mut seat, at, 8) else {
+        return None;
+    };
+    for _ in 0..TURNS {
+        if stage.tail(&mut seat) == 16 {
+            close_eight(stage, &mut seat, 1);
+            return Some(seat);
+        }
+        yield_now();
+    }
+    None
+}
+
+// Reserves 8 words behind the first 8, and closes them.
+fn close_behind(stage: &Stage, mut seat: CommitSeat) -> Option<CommitSeat>
+    requires own { IsSeatOf stage.now seat }
+    requires idle { IsIdle (commit_view seat) }
+    ensures { IfSome result (λ s. IsSeatOf stage.now s × IsIdle (commit_view s)) }
+{
+    for _ in 0..TURNS {
+        let at = stage.tail(&mut seat);
+        if at == 8 {
+            let Ok(_) = stage.reserve(&mut seat, at, 8) else {
+                return None;
+            };
+            close_eight(stage, &mut seat, 2);
+            return Some(seat);
+        }
+        yield_now();
+    }
+    None
+}
+
+#[test]
+fn one_thread_reserves_while_another_is_held(rt: HostRuntime) -> Result<(), Fail> {
+    let (stage, mut flusher, mut first) = Stage::new(rt.alloc(), 64)?;
+    let mut group = Group::new(rt.alloc(), 64)?;
+    let log = begun(MemArea::new(rt.alloc(), 520)?);
+    let second = stage.split(&mut first);
+    let shared = &stage;
+    let (first, second) = join(
+        &rt,
+        || -> Option<CommitSeat>
+            requires { IsSeatOf shared.now first × IsIdle (commit_view first) }
+            ensures { IfSome result (λ s. IsSeatOf shared.entry.now s × IsIdle (commit_view s)) }
+        { close_late(shared, first) },
+        || -> Option<CommitSeat>
+            requires { IsSeatOf shared.now second × IsIdle (commit_view second) }
+            ensures { IfSome result (λ s. IsSeatOf shared.entry.now s × IsIdle (commit_view s)) }
+        { close_behind(shared, second) },
+    );
+    let Some(mut first) = first else {
+        assert!(rt; false);
+        return Ok(());
+    };
+    let Some(mut second) = second else {
+        assert!(rt; false);
+        return Ok(());
+    };
+    let Some(_) = settle(&stage, &mut flusher, &mut group, log) else {
+        assert!(rt; false);
+        return Ok(());
+    };
+    assert!(rt; group.len() == 16);
+    let Some(early) = stage.durable(&mut first) else {
+        assert!(rt; false);
+        return Ok(());
+    };
+    assert!(rt; early.round() == 0 && early.place() == 0 && early.words() == 8);
+    let Some(late) = stage.durable(&mut second) else {
+        assert!(rt; false);
+        return Ok(());
+    };
+    assert!(rt; late.round() == 0 && late.place() == 8 && late.words() == 8);
     Ok(())
 }
