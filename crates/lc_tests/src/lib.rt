@@ -1,0 +1,15 @@
+//! Tests of the layers from the recovery up to the scripts: what no contract says.
+#![tactic(auto)]
+
+#[cfg(test)]
+mod events;
+#[cfg(test)]
+mod growth_tests;
+#[cfg(test)]
+mod hostile_tests;
+#[cfg(test)]
+mod recovery_tests;
+#[cfg(test)]
+mod stores;
+#[cfg(test)]
+mod world_tests;
