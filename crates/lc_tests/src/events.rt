@@ -45,9 +45,8 @@ pub(crate) fn events_of(alloc: Global, script: &[(&str, &str)]) -> Result<Vec<Ev
 pub(crate) fn says(reply: &Reply, text: &str) -> bool {
     let mut line = [0; 64];
     let mut rest = line.as_mut_slice();
-    write_reply(&mut rest, reply).is_ok()
-        && line.starts_with(text.as_bytes())
-        && line.get(text.len()) == Some(&b'\n')
+    let is_written = write_reply(&mut rest, reply).is_ok();
+    is_written && matches!(line.strip_prefix(text.as_bytes()), Some([b'\n', 0, ..]))
 }
 
 /// A store replies so to these lines.
