@@ -359,7 +359,7 @@ fn is_right(reply: &Reply, done: usize, is_last: bool, fails: bool) -> bool {
     match reply {
         Reply::Refused(Refusal::DeviceFault) => fails,
         Reply::Recovered => is_last && !fails,
-        Reply::Stepped(steps) => *steps == done as u64 + 1 && !is_last && !fails,
+        Reply::Stepped(steps) => steps.wrapping_sub(1) == done as u64 && !is_last && !fails,
         _ => false,
     }
 }
