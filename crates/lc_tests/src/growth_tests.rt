@@ -1,7 +1,7 @@
 //! Two nodes whose store meets want of memory at any event: with memory it goes on as if nothing had been.
 use crate::events::{TWO_NODES, events_of, says};
 use crate::hostile_tests::{EVENTS, FLUSHED};
-use lc_core::{Event, Reply, World};
+use lc_core::{Event, Reply, RunResult, World};
 use lc_disk::MemArea;
 use std::alloc::{AllocError, Global};
 use std::process::Abort;
@@ -90,8 +90,20 @@ fn begin_so(replies: &[Reply], script: &[(&str, &str)]) -> bool {
             .all(|(reply, (_, wanted))| says(reply, wanted))
 }
 
-// The store answers so in one run or in several: each begins with the line that the run before had no memory for, which is
-// one that may ask for some, or whose reply had no room.
+// The replies of a run are those of the first lines. A line that there was no memory for is one that may ask for some, or its
+// reply had no room.
+fn goes_so(ran: &RunResult, script: &[(&str, &str)]) -> bool {
+    let replies = &ran.replies;
+    let is_right = match script.get(replies.len()) {
+        None => !ran.out_of_memory,
+        Some((line, _)) => {
+            ran.out_of_memory && (may_ask(line) || replies.len() == replies.capacity())
+        }
+    };
+    is_right && begin_so(replies, script)
+}
+
+// The store answers so in one run or in several: each begins with the line that the run before had no memory for.
 fn answers(
     rt: &impl Abort,
     alloc: Global,
@@ -99,22 +111,16 @@ fn answers(
     script: &[(&str, &str)],
 ) -> Result<(), Fail> {
     let events = made(alloc, script)?;
-    let mut done: usize = 0;
+    let mut left = events.as_slice();
+    let mut lines = script;
     for _ in 0..MOST_RUNS {
-        let (Some(left), Some(lines)) = (events.get(done..), script.get(done..)) else {
-            return Err(Fail::from("no line has two replies"));
-        };
         let ran = world.run(alloc, left);
-        assert!(rt; begin_so(&ran.replies, lines));
-        done = done.saturating_add(ran.replies.len());
-        let Some((line, _)) = script.get(done) else {
+        assert!(rt; goes_so(&ran, lines));
+        left = left.get(ran.replies.len()..).unwrap_or(&[]);
+        lines = lines.get(ran.replies.len()..).unwrap_or(&[]);
+        if lines.is_empty() {
             return Ok(());
-        };
-        assert!(rt; ran.out_of_memory, "{line}");
-        assert!(rt;
-            may_ask(line) || ran.replies.len() == ran.replies.capacity(),
-            "{line}"
-        );
+        }
     }
     Err(Fail::from("there is memory in the end"))
 }
