@@ -1,7 +1,7 @@
 //! The command line: what its words ask for, and the help.
 use lc_record::Geometry;
 use lc_words::{Asked, read_command_line};
-use std::alloc::AllocError;
+use std::alloc::{AllocError, Global};
 use std::test::*;
 
 // Words that ask for nothing.
@@ -273,10 +273,10 @@ const SIZES: [&str; 9] = [
 ];
 
 // The usage, an option or a word of its own, and the example of each command.
-const HELPS: [(&str, [&str; 3], &[&str]); 4] = [
+const HELPS: [(&str, &[&str], &[&str]); 4] = [
     (
         "run",
-        [
+        &[
             "Usage: lcrvm run [OPTIONS]",
             "--store <DIR>",
             "Example:\n  lcrvm run --pages 4 --store bank < transfers.txt",
@@ -285,7 +285,7 @@ const HELPS: [(&str, [&str; 3], &[&str]); 4] = [
     ),
     (
         "init",
-        [
+        &[
             "Usage: lcrvm init [OPTIONS] <DIR>",
             "<DIR>",
             "Example:\n  lcrvm init bank --pages 4",
@@ -294,7 +294,7 @@ const HELPS: [(&str, [&str; 3], &[&str]); 4] = [
     ),
     (
         "recover",
-        [
+        &[
             "Usage: lcrvm recover [OPTIONS] <DIR>",
             "<DIR>",
             "Example:\n  lcrvm recover bank --pages 4",
@@ -303,7 +303,7 @@ const HELPS: [(&str, [&str; 3], &[&str]); 4] = [
     ),
     (
         "inspect",
-        [
+        &[
             "Usage: lcrvm inspect [OPTIONS] <FILE>",
             "--reverse",
             "Example:\n  lcrvm inspect bank/log0 --reverse",
@@ -321,18 +321,34 @@ fn help_says_what_there_is(rt: HostRuntime) -> Result<(), AllocError> {
     Ok(())
 }
 
+// Whether these words ask for a help with these parts.
+fn shows(
+    alloc: Global,
+    words: &[&str],
+    parts: &[&str],
+    sizes: &[&str],
+) -> Result<bool, AllocError> {
+    let asked = read_command_line(alloc, words)?;
+    Ok(helps(&asked, parts) && helps(&asked, sizes))
+}
+
 #[test]
 fn help_of_a_command_names_each_option_and_shows_an_example(
     rt: HostRuntime,
 ) -> Result<(), AllocError> {
     for (name, parts, sizes) in HELPS {
-        for (first, second) in [(name, "--help"), ("help", name), (name, "-h")] {
-            let asked = read_command_line(rt.alloc(), &["lcrvm", first, second])?;
-            assert!(rt;
-                helps(&asked, &parts) && helps(&asked, sizes),
-                "{first} {second}"
-            );
-        }
+        assert!(rt;
+            shows(rt.alloc(), &["lcrvm", name, "--help"], parts, sizes)?,
+            "{name}"
+        );
+        assert!(rt;
+            shows(rt.alloc(), &["lcrvm", "help", name], parts, sizes)?,
+            "{name}"
+        );
+        assert!(rt;
+            shows(rt.alloc(), &["lcrvm", name, "-h"], parts, sizes)?,
+            "{name}"
+        );
     }
     Ok(())
 }
