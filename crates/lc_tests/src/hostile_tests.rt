@@ -382,7 +382,7 @@ fn recovers_by(
         };
         let fails = *call == area && well == 0;
         let reply = world.step(alloc, &Event::RecoverStep)?;
-        let done = calls.len() - rest.len();
+        let done = calls.len().wrapping_sub(rest.len());
         assert!(rt;
             is_right(&reply, done, behind.is_empty(), fails),
             "step {done}"

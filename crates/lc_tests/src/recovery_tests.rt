@@ -220,7 +220,7 @@ fn each_step_makes_the_next_call(rt: HostRuntime) -> Result<(), Fail> {
             let _areas = recovery.areas();
             return Err(Fail::from("the call fails"));
         };
-        assert!(rt; made + 1 == step, "step {step}");
+        assert!(rt; made == step.wrapping_sub(1), "step {step}");
         // It begins again with the first sync.
         let Ok((recovered, _steps, _is_last)) = finished(alloc, recovery) else {
             return Err(Fail::from("no other call fails"));

@@ -185,19 +185,19 @@ fn a_record_may_fill_its_log(rt: HostRuntime) -> Result<(), Fail> {
     let alloc = rt.alloc();
     let two_pages = Geometry::new(1, 1, 1, 2, 64).ok_or("no geometry")?;
     for (data, want) in [
-        (57, "ok\nbytes 070700000000\nbytes 00\n"),
+        (57u32, "ok\nbytes 070700000000\nbytes 00\n"),
         (58, "ok\nbytes 070707070707\nbytes 07\n"),
     ] {
         let mut words = vec![in alloc; 0x0707_0707_0707_0707; 64]?;
-        words.truncate(data);
-        let len = data as u64 + 7;
+        words.truncate(data as usize);
+        let len = u64::from(data) + 7;
         let front = [
             0x0001_01a5 | (len << 32),
             0x1_0000,
             1,
             1,
             1,
-            data as u64 * 8,
+            u64::from(data) * 8,
         ];
         let mut record = front.to_vec(alloc)?;
         record.extend_from_slice(&words)?;
