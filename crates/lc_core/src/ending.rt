@@ -3,7 +3,7 @@ use crate::Refusal;
 use lc_record::Items;
 
 /// What becomes of a transaction that is to get its place in the log.
-#[derive(Debug, Drop)]
+#[derive(Drop)]
 pub(crate) enum Ending {
     /// It is refused, and nothing has changed.
     Refused(Refusal),

@@ -10,7 +10,7 @@ use lc_range::Range;
 use lc_tx::{Image, Images};
 
 /// All segments at a node; segment 1 stands first.
-#[derive(Debug, Drop)]
+#[derive(Drop)]
 pub(crate) struct Here {
     pub(crate) slots: Vec<Slot>,
     /// An image of no segment: what contracts say where there is none.

@@ -72,36 +72,3 @@ pub use recovered_reply::recovery_refusal;
 pub use run_result::RunResult;
 pub use show_fault::ShowFault;
 pub use world::World;
-
-#[cfg(test)]
-mod growth_tests;
-#[cfg(test)]
-mod hostile_tests;
-#[cfg(test)]
-mod journal_tests;
-#[cfg(test)]
-mod node_tests;
-#[cfg(test)]
-mod nodes_tests;
-#[cfg(test)]
-mod page_tests;
-#[cfg(test)]
-mod pages_tests;
-#[cfg(test)]
-mod publishing_tests;
-#[cfg(test)]
-mod receiving_tests;
-#[cfg(test)]
-mod records_tests;
-#[cfg(test)]
-mod script;
-#[cfg(test)]
-mod shown_tests;
-#[cfg(test)]
-mod stop_tests;
-#[cfg(test)]
-mod tests;
-#[cfg(test)]
-mod transaction_tests;
-#[cfg(test)]
-mod world_tests;

@@ -1,7 +1,7 @@
 //! What a call of a page write has come to.
 
 /// What a call of a page write has come to.
-#[derive(Clone, Copy, Debug, PartialEq, Eq)]
+#[derive(Clone, Copy, PartialEq, Eq)]
 pub(crate) enum PageProgress {
     /// So many of its six calls are done, 2 to 5.
     Stepped(u8),

@@ -5,7 +5,7 @@ ghost use Rattle.lc_core.specs.PageState.{is_begun};
 use lc_page::Writing;
 
 /// How the write of a page stands.
-#[derive(Debug, Drop)]
+#[derive(Drop)]
 pub(crate) enum PageState {
     /// None is under way.
     AtRest,

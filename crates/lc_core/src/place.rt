@@ -1,7 +1,7 @@
 //! Where the words of a record end.
 
 /// The end of a record's words among those of all, and whether the record is closed.
-#[derive(Debug, Clone, Copy, Drop)]
+#[derive(Clone, Copy, Drop)]
 pub(crate) struct Place {
     pub(crate) end: usize,
     pub(crate) closed: bool,

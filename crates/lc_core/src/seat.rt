@@ -6,7 +6,7 @@ use lc_tx::Tx;
 use std::mem;
 
 /// A thread has at most one transaction that holds locks.
-#[derive(Debug, Drop)]
+#[derive(Drop)]
 pub(crate) enum Seat {
     /// None.
     Free,

@@ -3,7 +3,7 @@ use lc_disk::Choice;
 use lc_record::Items;
 
 /// One atomic step of a thread, a node or the whole store.
-#[derive(Debug, Drop)]
+#[derive(Drop)]
 pub enum Event {
     /// A thread begins a transaction. It locks `segments` for writing and `reading` for reading, each taken as a set; a
     /// segment in both is locked for writing.

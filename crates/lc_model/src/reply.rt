@@ -3,7 +3,7 @@ use crate::Refusal;
 use lc_record::Items;
 
 /// The answer to one event.
-#[derive(Debug, Drop)]
+#[derive(Drop)]
 pub enum Reply {
     /// It is done.
     Ok,

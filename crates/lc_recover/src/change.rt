@@ -2,7 +2,7 @@
 
 /// A record with bytes on a page and a number above the page's sequence: it is to be put on the page. The record stands
 /// at a place of a log, in words from the log's front.
-#[derive(Clone, Copy, Debug, PartialEq, Eq, PartialOrd, Ord)]
+#[derive(Clone, Copy, PartialEq, Eq, PartialOrd, Ord)]
 pub(crate) struct Change {
     pub(crate) segment: u32,
     pub(crate) page: u32,

@@ -2,7 +2,7 @@
 use crate::segment_pages::SegmentPages;
 
 /// What a recovery has made of a store's segments: their pages and numbers.
-#[derive(Debug, Drop)]
+#[derive(Drop)]
 pub(crate) struct Finished {
     pub(crate) segments: Vec<SegmentPages>,
     pub(crate) numbers: Vec<u64>,

@@ -11,7 +11,7 @@ use lc_record::{Geometry, Items};
 use std::alloc::{AllocError, Global};
 
 /// What was read of the areas of a store, in their order: the words of each log, and the pages of each segment.
-#[derive(Debug, Drop)]
+#[derive(Drop)]
 pub(crate) struct Kept {
     pub(crate) logs: Vec<Items<u64>>,
     pub(crate) segments: Vec<SegmentPages>,

@@ -40,12 +40,3 @@ pub use progress::Progress;
 pub use recovered::Recovered;
 pub use recovery::Recovery;
 pub use zeros::zeros_merge;
-
-#[cfg(test)]
-mod page_tests;
-#[cfg(test)]
-mod recovery_tests;
-#[cfg(test)]
-mod store_tests;
-#[cfg(test)]
-mod tests;

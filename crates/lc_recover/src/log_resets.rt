@@ -8,7 +8,7 @@ use lc_record::Items;
 pub(crate) const LOG_CALLS: u64 = 2;
 
 /// The logs, being emptied one after another.
-#[derive(Debug, Drop)]
+#[derive(Drop)]
 pub(crate) struct LogResets {
     pub(crate) logs: Vec<Items<u64>>,
     pub(crate) segments: Vec<SegmentPages>,

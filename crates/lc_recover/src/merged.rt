@@ -3,7 +3,7 @@ use crate::change::Change;
 
 /// What the logs and the pages of a store make together: the number of each segment, from segment 1 on, and which
 /// records are to be put on which pages, ascending by segment, page and number.
-#[derive(Debug, Drop)]
+#[derive(Drop)]
 pub(crate) struct Merged {
     pub(crate) numbers: Vec<u64>,
     pub(crate) changes: Vec<Change>,

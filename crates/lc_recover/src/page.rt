@@ -3,8 +3,8 @@ ghost use Rattle.std.specs.Prelude.{◌≡◌, ℕ, ◌*◌, ◌+◌, ◌<◌, L
 ghost use Rattle.std.specs.Option.{option_or};
 ghost use Rattle.lc_record.specs.Newest.{byte_of};
 ghost use Rattle.lc_record.specs.declared.record.Record.{Record};
-ghost use Rattle.lc_recover.specs.Kept.{StandsAt, AreAscending};
-ghost use Rattle.lc_recover.specs.Page.{IsOf, AreAt, byte_with, pages_of, IsFirstPage};
+ghost use Rattle.lc_recover.specs.Kept.{StandsAt};
+ghost use Rattle.lc_recover.specs.Page.{IsOf, AreAt, byte_with, IsFirstPage};
 
 use crate::change::Change;
 use lc_record::{Items, PAGE, View};
@@ -22,19 +22,6 @@ pub(crate) fn first_page(changes: &[Change]) -> &[Change]
         }
     }
     changes
-}
-
-/// How many pages these changes are of, where they ascend.
-pub(crate) fn count_pages(changes: &[Change]) -> usize
-    ensures { AreAscending changes.now → result ≡ length (pages_of changes.now) }
-{
-    let mut count = 0;
-    let mut rest = changes;
-    while !rest.is_empty() {
-        rest = &rest[first_page(rest).len()..];
-        count += 1;
-    }
-    count
 }
 
 /// Puts the records of these changes on the bytes of their page, one after another.

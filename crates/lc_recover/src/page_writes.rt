@@ -9,7 +9,7 @@ use lc_page::Writing;
 pub(crate) const PAGE_CALLS: u64 = 6;
 
 /// The pages that records are newer than, being written one after another.
-#[derive(Debug, Drop)]
+#[derive(Drop)]
 pub(crate) struct PageWrites {
     pub(crate) kept: Kept,
     pub(crate) merged: Merged,

@@ -1,7 +1,7 @@
 //! How far a recovery has come.
 
 /// How far a recovery has come.
-#[derive(Clone, Copy, Debug, PartialEq, Eq)]
+#[derive(Clone, Copy, PartialEq, Eq)]
 pub enum Progress {
     /// This many steps of the recovery are done, and there is another.
     Stepped(u64),

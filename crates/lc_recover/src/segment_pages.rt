@@ -8,7 +8,7 @@ use lc_page::{PAGE_BYTES, PageText, PageVector, page_bytes, read_page};
 use std::alloc::{AllocError, Global};
 
 /// The pages of a segment: what the disk says of each, and their bytes one after another, 256 of each.
-#[derive(Debug, Drop)]
+#[derive(Drop)]
 pub(crate) struct SegmentPages {
     pub(crate) texts: PageVector,
     pub(crate) bytes: Vec<u8>,

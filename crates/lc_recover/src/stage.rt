@@ -5,7 +5,7 @@ use crate::page_writes::PageWrites;
 use lc_record::Items;
 
 /// Which part of a recovery is under way, and how far it is.
-#[derive(Debug, Drop)]
+#[derive(Drop)]
 pub(crate) enum Stage {
     /// This many areas are synced.
     Syncing(usize),

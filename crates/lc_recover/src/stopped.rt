@@ -9,7 +9,7 @@ use lc_disk::DeviceFault;
 use lc_record::Items;
 
 /// A step of a recovery that was not made: why, and where to go on.
-#[derive(Debug, Drop)]
+#[derive(Drop)]
 pub(crate) struct Stopped {
     pub(crate) stage: Stage,
     pub(crate) fault: RecoverFault,

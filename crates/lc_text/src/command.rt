@@ -2,7 +2,7 @@
 use lc_model::Event;
 
 /// What is done for one line.
-#[derive(Debug, Drop)]
+#[derive(Drop)]
 pub enum Command {
     /// One step of the store.
     Step(Event),
@@ -21,7 +21,7 @@ pub enum Command {
 }
 
 /// What a line is.
-#[derive(Debug, Drop)]
+#[derive(Drop)]
 pub enum Line {
     /// Empty, or a comment.
     Skipped,

@@ -5,7 +5,7 @@ use lc_record::Geometry;
 use std::fmt;
 
 /// The name of a store's file. It prints as `log` and the node, from 0, or as `seg` and the segment, from 1.
-#[derive(Clone, Copy, Debug, PartialEq, Eq)]
+#[derive(Clone, Copy, PartialEq, Eq)]
 pub(crate) enum FileName {
     /// The log of this node.
     Log(u16),

@@ -7,7 +7,7 @@ use crate::file_name::FileName;
 use crate::store_file::StoreFile;
 
 /// Why something in a folder could not be looked at or made.
-#[derive(Clone, Copy, Debug, PartialEq, Eq)]
+#[derive(Clone, Copy, PartialEq, Eq)]
 pub(crate) enum FolderFault {
     /// The system refused it, or a device failed.
     Failed,

@@ -1,0 +1,354 @@
+//! The command line: what its words ask for, and the help.
+use lc_record::Geometry;
+use lc_words::{Asked, read_command_line};
+use std::alloc::{AllocError, Global};
+use std::test::*;
+
+// Words that ask for nothing.
+const REFUSED: [&[&str]; 47] = [
+    &["lcrvm", "run", "--pages", "0"],
+    &["lcrvm", "run", "--pages", "1025"],
+    &["lcrvm", "run", "--words", "63"],
+    &["lcrvm", "run", "--words=4097"],
+    &["lcrvm", "run", "--nodes", "0"],
+    &["lcrvm", "run", "--nodes=9"],
+    &["lcrvm", "run", "--nodes=65537"],
+    &["lcrvm", "run", "--threads", "0"],
+    &["lcrvm", "run", "--threads", "17"],
+    &["lcrvm", "run", "--segments=0"],
+    &["lcrvm", "run", "--segments", "17"],
+    &["lcrvm", "run", "--pages", "many"],
+    &["lcrvm", "run", "--pages", "1.5"],
+    &["lcrvm", "run", "--pages="],
+    &["lcrvm", "run", "--pages", "-1"],
+    &["lcrvm", "run", "--pages"],
+    &["lcrvm", "run", "--words=4294967360"],
+    &["lcrvm", "run", "--words=18446744073709551680"],
+    &["lcrvm", "run", "--pages", "2", "--pages", "2"],
+    &["lcrvm", "run", "--nodes", "2", "--nodes=2"],
+    &["lcrvm", "run", "--store", "a", "--store", "a"],
+    &["lcrvm", "init", "a", "--words=64", "--words=64"],
+    &["lcrvm", "inspect", "log", "--reverse", "--reverse"],
+    &["lcrvm", "init", "a", "b"],
+    &["lcrvm", "recover", "a", "b"],
+    &["lcrvm", "inspect", "a", "b"],
+    &[],
+    &["lcrvm"],
+    &["lcrvm", "walk"],
+    &["lcrvm", "run", "fast"],
+    &["lcrvm", "run", "--fast"],
+    &["lcrvm", "run", "--page", "1"],
+    &["lcrvm", "--pages", "1", "run"],
+    &["lcrvm", "run", "run"],
+    &["lcrvm", "--version"],
+    &["lcrvm", "help", "walk"],
+    &["lcrvm", "init"],
+    &["lcrvm", "recover"],
+    &["lcrvm", "inspect"],
+    &["lcrvm", "run", "--store"],
+    &["lcrvm", "run", "--reverse"],
+    &["lcrvm", "init", "d", "--reverse"],
+    &["lcrvm", "init", "d", "--store", "e"],
+    &["lcrvm", "recover", "d", "--reverse"],
+    &["lcrvm", "recover", "d", "--store=d"],
+    &["lcrvm", "inspect", "x", "--pages", "1"],
+    &["lcrvm", "inspect", "x", "--reverse=true"],
+];
+
+#[test]
+fn words_that_ask_for_nothing(rt: HostRuntime) -> Result<(), AllocError> {
+    for words in REFUSED {
+        let asked = read_command_line(rt.alloc(), words)?;
+        assert!(rt; matches!(asked, Asked::NotUnderstood), "{words:?}");
+    }
+    Ok(())
+}
+
+// Beyond the bounds of the sizes.
+const BEYOND: [&str; 10] = [
+    "--nodes=0",
+    "--nodes=9",
+    "--threads=0",
+    "--threads=17",
+    "--segments=0",
+    "--segments=17",
+    "--pages=0",
+    "--pages=1025",
+    "--words=63",
+    "--words=4097",
+];
+
+#[test]
+fn a_store_has_bounds_when_it_is_made_and_recovered(rt: HostRuntime) -> Result<(), AllocError> {
+    for option in BEYOND {
+        for name in ["init", "recover"] {
+            let asked = read_command_line(rt.alloc(), &["lcrvm", name, "bank", option])?;
+            assert!(rt; matches!(asked, Asked::NotUnderstood), "{name} {option}");
+        }
+    }
+    Ok(())
+}
+
+// A folder or a file and the size of a store, or whether the last record comes first.
+#[derive(Clone, Copy, PartialEq, Eq)]
+enum Wanted {
+    Run(&'static str, [u32; 5]),
+    Init(&'static str, [u32; 5]),
+    Recover(&'static str, [u32; 5]),
+    Inspect(&'static str, bool),
+}
+
+fn is_size(geometry: &Geometry, size: [u32; 5]) -> bool {
+    let [nodes, threads, segments, pages, words] = size;
+    u32::from(geometry.nodes) == nodes
+        && u32::from(geometry.threads) == threads
+        && geometry.segments == segments
+        && geometry.pages == pages
+        && geometry.words == words
+}
+
+// Whether the words ask for this. No store is the store without a name.
+fn asks(asked: &Asked, wanted: Wanted) -> bool {
+    match (asked, wanted) {
+        (Asked::Run { geometry, store }, Wanted::Run(name, size)) => {
+            store.as_ref().map_or("", |store| store.as_str()) == name && is_size(geometry, size)
+        }
+        (Asked::Init { folder, geometry }, Wanted::Init(name, size)) => {
+            folder.as_str() == name && is_size(geometry, size)
+        }
+        (Asked::Recover { folder, geometry }, Wanted::Recover(name, size)) => {
+            folder.as_str() == name && is_size(geometry, size)
+        }
+        (Asked::Inspect { file, reverse }, Wanted::Inspect(name, last_first)) => {
+            file.as_str() == name && *reverse == last_first
+        }
+        _ => false,
+    }
+}
+
+const LEAST: [u32; 5] = [1, 1, 1, 1, 64];
+
+const MOST: [u32; 5] = [8, 16, 16, 1024, 4096];
+
+const ASKED: [(&[&str], Wanted); 22] = [
+    (&["lcrvm", "run"], Wanted::Run("", LEAST)),
+    (&["lcrvm", "init", "bank"], Wanted::Init("bank", LEAST)),
+    (
+        &["lcrvm", "recover", "bank"],
+        Wanted::Recover("bank", LEAST),
+    ),
+    (&["lcrvm", "run", "--pages", "1"], Wanted::Run("", LEAST)),
+    (
+        &["lcrvm", "run", "--pages", "65"],
+        Wanted::Run("", [1, 1, 1, 65, 64]),
+    ),
+    (
+        &["lcrvm", "run", "--pages=1024"],
+        Wanted::Run("", [1, 1, 1, 1024, 64]),
+    ),
+    (&["lcrvm", "run", "--words", "64"], Wanted::Run("", LEAST)),
+    (
+        &["lcrvm", "run", "--words=4096"],
+        Wanted::Run("", [1, 1, 1, 1, 4096]),
+    ),
+    (&["lcrvm", "run", "--nodes", "1"], Wanted::Run("", LEAST)),
+    (
+        &["lcrvm", "run", "--nodes=8"],
+        Wanted::Run("", [8, 1, 1, 1, 64]),
+    ),
+    (
+        &["lcrvm", "run", "--threads=16"],
+        Wanted::Run("", [1, 16, 1, 1, 64]),
+    ),
+    (
+        &["lcrvm", "run", "--segments", "16"],
+        Wanted::Run("", [1, 1, 16, 1, 64]),
+    ),
+    (
+        &[
+            "lcrvm",
+            "run",
+            "--words",
+            "100",
+            "--pages=3",
+            "--store",
+            "my bank",
+            "--segments",
+            "7",
+            "--threads=5",
+            "--nodes",
+            "2",
+        ],
+        Wanted::Run("my bank", [2, 5, 7, 3, 100]),
+    ),
+    (
+        &[
+            "lcrvm",
+            "init",
+            "--nodes=8",
+            "--threads",
+            "16",
+            "--segments=16",
+            "bank",
+            "--pages",
+            "1024",
+            "--words=4096",
+        ],
+        Wanted::Init("bank", MOST),
+    ),
+    (
+        &[
+            "lcrvm",
+            "recover",
+            "--nodes=8",
+            "--threads",
+            "16",
+            "--segments=16",
+            "bank",
+            "--pages",
+            "1024",
+            "--words=4096",
+        ],
+        Wanted::Recover("bank", MOST),
+    ),
+    (&["lcrvm", "inspect", "log"], Wanted::Inspect("log", false)),
+    (
+        &["lcrvm", "inspect", "log", "--reverse"],
+        Wanted::Inspect("log", true),
+    ),
+    (
+        &["lcrvm", "inspect", "--reverse", "log"],
+        Wanted::Inspect("log", true),
+    ),
+    (
+        &["lcrvm", "inspect", "--", "--reverse"],
+        Wanted::Inspect("--reverse", false),
+    ),
+    (&["lcrvm", "inspect", ""], Wanted::Inspect("", false)),
+    (
+        &["lcrvm", "run", "--store", "bank"],
+        Wanted::Run("bank", LEAST),
+    ),
+    (
+        &["lcrvm", "run", "--pages=2"],
+        Wanted::Run("", [1, 1, 1, 2, 64]),
+    ),
+];
+
+#[test]
+fn words_that_ask_for_something(rt: HostRuntime) -> Result<(), AllocError> {
+    for (words, wanted) in ASKED {
+        let asked = read_command_line(rt.alloc(), words)?;
+        assert!(rt; asks(&asked, wanted), "{words:?}");
+    }
+    Ok(())
+}
+
+// Whether the help that these words ask for has these parts.
+fn helps(asked: &Asked, parts: &[&str]) -> bool {
+    match asked {
+        Asked::Help(text) => parts.iter().all(|part| text.as_str().contains(part)),
+        _ => false,
+    }
+}
+
+const COMMANDS: [&str; 5] = [
+    "Usage: lcrvm <COMMAND>",
+    "  run ",
+    "  init ",
+    "  recover ",
+    "  inspect ",
+];
+
+const SIZES: [&str; 9] = [
+    "--nodes <COUNT>",
+    "--threads <COUNT>",
+    "--segments <COUNT>",
+    "--pages <COUNT>",
+    "--words <COUNT>",
+    "1 to 8 [default: 1]",
+    "1 to 16 [default: 1]",
+    "1 to 1024 [default: 1]",
+    "64 to 4096 [default: 64]",
+];
+
+// The usage, an option or a word of its own, and the example of each command.
+const HELPS: [(&str, &[&str], &[&str]); 4] = [
+    (
+        "run",
+        &[
+            "Usage: lcrvm run [OPTIONS]",
+            "--store <DIR>",
+            "Example:\n  lcrvm run --pages 4 --store bank < transfers.txt",
+        ],
+        &SIZES,
+    ),
+    (
+        "init",
+        &[
+            "Usage: lcrvm init [OPTIONS] <DIR>",
+            "<DIR>",
+            "Example:\n  lcrvm init bank --pages 4",
+        ],
+        &SIZES,
+    ),
+    (
+        "recover",
+        &[
+            "Usage: lcrvm recover [OPTIONS] <DIR>",
+            "<DIR>",
+            "Example:\n  lcrvm recover bank --pages 4",
+        ],
+        &SIZES,
+    ),
+    (
+        "inspect",
+        &[
+            "Usage: lcrvm inspect [OPTIONS] <FILE>",
+            "--reverse",
+            "Example:\n  lcrvm inspect bank/log0 --reverse",
+        ],
+        &[],
+    ),
+];
+
+#[test]
+fn help_says_what_there_is(rt: HostRuntime) -> Result<(), AllocError> {
+    for word in ["--help", "help", "-h"] {
+        let asked = read_command_line(rt.alloc(), &["lcrvm", word])?;
+        assert!(rt; helps(&asked, &COMMANDS), "{word}");
+    }
+    Ok(())
+}
+
+// Whether these words ask for a help with these parts.
+fn shows(
+    alloc: Global,
+    words: &[&str],
+    parts: &[&str],
+    sizes: &[&str],
+) -> Result<bool, AllocError> {
+    let asked = read_command_line(alloc, words)?;
+    Ok(helps(&asked, parts) && helps(&asked, sizes))
+}
+
+#[test]
+fn help_of_a_command_names_each_option_and_shows_an_example(
+    rt: HostRuntime,
+) -> Result<(), AllocError> {
+    for (name, parts, sizes) in HELPS {
+        assert!(rt;
+            shows(rt.alloc(), &["lcrvm", name, "--help"], parts, sizes)?,
+            "{name}"
+        );
+        assert!(rt;
+            shows(rt.alloc(), &["lcrvm", "help", name], parts, sizes)?,
+            "{name}"
+        );
+        assert!(rt;
+            shows(rt.alloc(), &["lcrvm", name, "-h"], parts, sizes)?,
+            "{name}"
+        );
+    }
+    Ok(())
+}

@@ -1,0 +1,90 @@
+//! Events by the lines of scripts, and their replies by the texts.
+use lc_core::{Event, Reply, World};
+use lc_disk::Stoppable;
+use lc_record::Geometry;
+use lc_text::{Command, Line, parse, write_reply};
+use std::alloc::{AllocError, Global};
+use std::process::Abort;
+use std::test::*;
+
+// The token of segment 1 is at node 1, and that of segment 2 at node 0.
+pub(crate) const TWO_NODES: Geometry = Geometry {
+    nodes: 2,
+    threads: 1,
+    segments: 2,
+    pages: 1,
+    words: 64,
+};
+
+/// What a stop may do to what is not stable.
+pub(crate) const STOPS: [&str; 5] = ["stop keep", "stop stable", "stop 00", "stop 7f", "stop a5"];
+
+// More steps than any recovery of these tests has.
+const MOST_STEPS: u32 = 100;
+
+/// The event of a line.
+pub(crate) fn event_of(alloc: Global, line: &str) -> Result<Event, Fail> {
+    match parse(alloc, line.as_bytes())? {
+        Line::Command(Command::Step(event)) => Ok(event),
+        _ => Err(Fail::from("the line is one event")),
+    }
+}
+
+/// The events of these lines, each of which is one.
+pub(crate) fn events_of(alloc: Global, script: &[(&str, &str)]) -> Result<Vec<Event>, AllocError> {
+    let mut events = Vec::new(alloc);
+    for (line, _) in script {
+        if let Line::Command(Command::Step(event)) = parse(alloc, line.as_bytes())? {
+            events.push(event)?;
+        }
+    }
+    Ok(events)
+}
+
+/// Whether this is the text of a reply.
+pub(crate) fn says(reply: &Reply, text: &str) -> bool {
+    let mut line = [0; 64];
+    let mut rest = line.as_mut_slice();
+    let is_written = write_reply(&mut rest, reply).is_ok();
+    is_written && matches!(line.strip_prefix(text.as_bytes()), Some([b'\n', 0, ..]))
+}
+
+/// A store replies so to these lines.
+pub(crate) fn play<D: Stoppable + Drop>(
+    rt: &impl Abort,
+    alloc: Global,
+    world: &mut World<D>,
+    script: &[(&str, &str)],
+) -> Result<(), Fail> {
+    for (line, wanted) in script {
+        let reply = world.step(alloc, &event_of(alloc, line)?)?;
+        assert!(rt; says(&reply, wanted), "{line}");
+    }
+    Ok(())
+}
+
+/// A store that is down comes up.
+pub(crate) fn comes_up<D: Stoppable + Drop>(
+    alloc: Global,
+    world: &mut World<D>,
+) -> Result<(), Fail> {
+    for _ in 0..MOST_STEPS {
+        if let Reply::Recovered = world.step(alloc, &Event::RecoverStep)? {
+            return Ok(());
+        }
+    }
+    Err(Fail::from("a recovery ends"))
+}
+
+/// The store of these areas, which is up.
+pub(crate) fn up_on<D: Stoppable + Drop>(
+    alloc: Global,
+    geometry: Geometry,
+    areas: Vec<D>,
+) -> Result<World<D>, Fail> {
+    let Ok(mut world) = World::new(geometry, areas) else {
+        return Err(Fail::from("the areas fit the geometry"));
+    };
+    comes_up(alloc, &mut world)?;
+    Ok(world)
+}

@@ -1,0 +1,25 @@
+//! Tests of the layers from the recovery up to the scripts: what no contract says.
+#![tactic(auto)]
+
+#[cfg(test)]
+mod command_line_tests;
+#[cfg(test)]
+mod events;
+#[cfg(test)]
+mod folder_tests;
+#[cfg(test)]
+mod growth_tests;
+#[cfg(test)]
+mod hostile_tests;
+#[cfg(test)]
+mod recovering_tests;
+#[cfg(test)]
+mod recovery_tests;
+#[cfg(test)]
+mod script_tests;
+#[cfg(test)]
+mod stores;
+#[cfg(test)]
+mod text_tests;
+#[cfg(test)]
+mod world_tests;

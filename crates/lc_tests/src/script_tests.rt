@@ -1,0 +1,369 @@
+//! Scripts over stores that others have made, devices that fail, readers and writers that fail, and the longest script.
+use crate::stores::{CLOSED, SlotText, hello, log_area, segment_area, store_of};
+use lc_disk::{Fuse, MemArea, Stoppable, When};
+use lc_record::Geometry;
+use lc_text::ToolFault;
+use lc_tool::{run_script, zero_areas};
+use std::io::{self, Error, ErrorKind, Read, Write};
+use std::process::Abort;
+use std::test::*;
+
+const ONE: Geometry = Geometry {
+    nodes: 1,
+    threads: 1,
+    segments: 1,
+    pages: 1,
+    words: 64,
+};
+
+// What a script prints on these areas, and its status.
+fn check<D: Stoppable + Drop>(
+    rt: &(impl Abort + AllocGlobal),
+    geometry: Geometry,
+    areas: Vec<D>,
+    script: &[u8],
+    (want, want_status): (&str, u8),
+) -> Result<(), Fail> {
+    let mut reader = script;
+    let mut text = Vec::new(rt.alloc());
+    let status = run_script(rt.alloc(), geometry, areas, &mut reader, &mut text)?;
+    assert!(rt;
+        text.as_slice() == want.as_bytes() && status == want_status,
+        "{want}"
+    );
+    Ok(())
+}
+
+// The bytes of the longest script.
+const LONGEST: usize = 1_048_576;
+
+#[test]
+fn the_longest_script(rt: HostRuntime) -> Result<(), Fail> {
+    let alloc = rt.alloc();
+    let mut script = vec![in alloc; b'#'; LONGEST]?;
+    check(&rt, ONE, zero_areas(alloc, &ONE)?, &script, ("", 0))?;
+    script.push(b'\n')?;
+    let areas = zero_areas(alloc, &ONE)?;
+    check(&rt, ONE, areas, &script, ("script too long\n", 2))?;
+    // A refused recovery comes before.
+    let areas = store_of(alloc, &hello(0, 1, 3, 3), &[CLOSED; 2])?;
+    check(&rt, ONE, areas, &script, ("refused Gap 1 1\n", 1))
+}
+
+#[test]
+fn more_than_a_thousand_lines(rt: HostRuntime) -> Result<(), Fail> {
+    let mut script = "begin 0 0 1\n".to_string(rt.alloc())?;
+    let mut want = "ok\n".to_string(rt.alloc())?;
+    for _ in 0..1100 {
+        script.push_str("read 0 0 1 0 1\n")?;
+        want.push_str("bytes 00\n")?;
+    }
+    script.push_str("jump\n")?;
+    want.push_str("line 1102: not understood\n")?;
+    let areas = zero_areas(rt.alloc(), &ONE)?;
+    check(&rt, ONE, areas, script.as_bytes(), (&want, 2))
+}
+
+const READ: &str = "begin 0 0 1\nread 0 0 1 2 7\nread 0 0 1 254 2\n";
+
+const COMMIT: &str = "begin 0 0 1\nrange 0 0 1 0 1\nend 0 0\nflush 0\ninspect 0\n";
+
+// Node, segment, number and offset of each record.
+type Stands = &'static [(u16, u32, u64, u32)];
+
+// Records and slots, a script, what it prints and its status.
+const FOUND: [(Stands, [SlotText; 2], &str, &str, u8); 12] = [
+    (
+        &[(1, 1, 1, 3)],
+        [CLOSED; 2],
+        READ,
+        "refused BadGeometry 0\n",
+        1,
+    ),
+    (
+        &[(0, 2, 1, 3)],
+        [CLOSED; 2],
+        READ,
+        "refused OutOfSegment 0\n",
+        1,
+    ),
+    (
+        &[(0, 1, 1, 254)],
+        [CLOSED; 2],
+        READ,
+        "refused OutOfSegment 0\n",
+        1,
+    ),
+    (&[(0, 1, 3, 3)], [CLOSED; 2], READ, "refused Gap 1 1\n", 1),
+    (
+        &[(0, 1, 1, 3), (0, 1, 1, 3)],
+        [CLOSED; 2],
+        READ,
+        "refused Twice 1 1\n",
+        1,
+    ),
+    // A page may be newer than the log.
+    (
+        &[(0, 1, 5, 3)],
+        [(0xa5, 3, 0), CLOSED],
+        READ,
+        "refused Gap 1 4\n",
+        1,
+    ),
+    (
+        &[(0, 1, 1, 3)],
+        [(0xa5, 3, 0), CLOSED],
+        READ,
+        "ok\nbytes 00000000000000\nbytes 0000\n",
+        0,
+    ),
+    (
+        &[(0, 1, 1, 3)],
+        [(0xa5, 3, 0), CLOSED],
+        COMMIT,
+        "ok\nok\nclosed 0 8\nacked 1\n0 8 node 0 locks 1:4 ranges 1:0+1\n",
+        0,
+    ),
+    // Slots of the same and of the greatest sequence.
+    (
+        &[],
+        [(0xa5, 5, 0x11), (0xa5, 5, 0x22)],
+        READ,
+        "ok\nbytes 11111111111111\nbytes 1111\n",
+        0,
+    ),
+    (
+        &[],
+        [(0xa5, 1 << 60, 0), CLOSED],
+        "begin 0 0 1\nrange 0 0 1 0 1\nend 0 0\n",
+        "ok\nok\nrefused SequenceSpent 1\n",
+        1,
+    ),
+    // A record is recovered, and the next is the first of the log.
+    (
+        &[(0, 1, 1, 3)],
+        [CLOSED; 2],
+        READ,
+        "ok\nbytes 0068656c6c6f00\nbytes 0000\n",
+        0,
+    ),
+    (
+        &[(0, 1, 1, 3)],
+        [CLOSED; 2],
+        COMMIT,
+        "ok\nok\nclosed 0 8\nacked 1\n0 8 node 0 locks 1:2 ranges 1:0+1\n",
+        0,
+    ),
+];
+
+#[test]
+fn stores_that_others_have_made(rt: HostRuntime) -> Result<(), Fail> {
+    for (records, slots, script, want, status) in &FOUND {
+        let mut words = Vec::new(rt.alloc());
+        for (node, segment, seq, offset) in records.iter() {
+            words.extend_from_slice(&hello(*node, *segment, *seq, *offset))?;
+        }
+        let areas = store_of(rt.alloc(), &words, slots)?;
+        check(&rt, ONE, areas, script.as_bytes(), (want, *status))?;
+    }
+    Ok(())
+}
+
+#[test]
+fn what_is_no_record_is_no_refusal(rt: HostRuntime) -> Result<(), Fail> {
+    let mut words = hello(0, 1, 1, 3);
+    words[0] = 0x0000_0009_0001_01a5;
+    let areas = store_of(rt.alloc(), &words, &[CLOSED; 2])?;
+    let script = b"log 0\nbegin 0 0 1\nread 0 0 1 2 7\n";
+    check(&rt, ONE, areas, script, ("ok\nbytes 00000000000000\n", 0))
+}
+
+// The record of node 0 under lock 1:1, with so many words of the byte 7 from 0 on in segment 1. It takes 64 words, or the word
+// behind them too.
+#[test]
+fn a_record_may_fill_its_log(rt: HostRuntime) -> Result<(), Fail> {
+    let alloc = rt.alloc();
+    let two_pages = Geometry::new(1, 1, 1, 2, 64).ok_or("no geometry")?;
+    for (data, want) in [
+        (57u32, "ok\nbytes 070700000000\nbytes 00\n"),
+        (58, "ok\nbytes 070707070707\nbytes 07\n"),
+    ] {
+        let mut words = vec![in alloc; 0x0707_0707_0707_0707; 64]?;
+        words.truncate(data as usize);
+        let len = u64::from(data) + 7;
+        let front = [
+            0x0001_01a5 | (len << 32),
+            0x1_0000,
+            1,
+            1,
+            1,
+            u64::from(data) * 8,
+        ];
+        let mut record = front.to_vec(alloc)?;
+        record.extend_from_slice(&words)?;
+        record.push(len)?;
+        let areas = store_of(alloc, &record, &[CLOSED; 4])?;
+        let script = b"begin 0 0 1\nread 0 0 1 454 6\nread 0 0 1 463 1\n";
+        check(&rt, two_pages, areas, script, (want, 0))?;
+    }
+    Ok(())
+}
+
+// The record of node 0 under lock 1:1, with the bytes "abcdefgh" at 16380 in segment 1, which end behind 16384.
+#[test]
+fn a_record_of_the_second_version_is_recovered(rt: HostRuntime) -> Result<(), Fail> {
+    let words = [
+        0x0000_0009_0001_02a5,
+        0x1_0000,
+        1,
+        1,
+        1,
+        16380,
+        8,
+        0x6867_6665_6463_6261,
+        9,
+    ];
+    let areas = store_of(rt.alloc(), &words, &[CLOSED; 130])?;
+    let script = b"begin 0 0 1\nread 0 0 1 16379 10\n";
+    let geometry = Geometry::new(1, 1, 1, 65, 64).ok_or("no geometry")?;
+    check(
+        &rt,
+        geometry,
+        areas,
+        script,
+        ("ok\nbytes 00616263646566676800\n", 0),
+    )
+}
+
+// Lengths that are not those of a store of one node, and what is printed.
+pub(crate) const WRONG: [(&[usize], &str); 4] = [
+    (&[520, 543], "refused BadGeometry 1\n"),
+    (&[8, 544], "refused BadGeometry 0\n"),
+    (&[520], "refused BadGeometry 1\n"),
+    (&[520, 544, 544], "refused BadGeometry 2\n"),
+];
+
+#[test]
+fn areas_of_another_store(rt: HostRuntime) -> Result<(), Fail> {
+    for (lens, want) in WRONG {
+        let mut areas = Vec::new(rt.alloc());
+        for len in lens {
+            areas.push(MemArea::new(rt.alloc(), *len)?)?;
+        }
+        check(&rt, ONE, areas, b"jump\n", (want, 1))?;
+    }
+    Ok(())
+}
+
+const FLUSHED: &str = "begin 0 0 1\nrange 0 0 1 0 1\nend 0 0\nflush 0\nlog 0\nshow 0 1 9\njump\n";
+
+// The call of the log that fails, a script, what it prints and its status. A recovery makes four calls, and a flush four more.
+const FAILING: [(u8, &str, &str, u8); 11] = [
+    (1, FLUSHED, "device fault\n", 3),
+    (2, FLUSHED, "device fault\n", 3),
+    (3, FLUSHED, "device fault\n", 3),
+    (4, FLUSHED, "device fault\n", 3),
+    (5, FLUSHED, "ok\nok\nclosed 0 8\ndevice fault\n", 3),
+    (6, FLUSHED, "ok\nok\nclosed 0 8\ndevice fault\n", 3),
+    (7, FLUSHED, "ok\nok\nclosed 0 8\ndevice fault\n", 3),
+    (8, FLUSHED, "ok\nok\nclosed 0 8\ndevice fault\n", 3),
+    (9, FLUSHED, "ok\nok\nclosed 0 8\nacked 1\ndevice fault\n", 3),
+    (9, "inspect 0\nlog 1\n", "refused Unknown\n", 1),
+    (5, "inspect 0\n", "device fault\n", 3),
+];
+
+#[test]
+fn a_device_fault_ends_a_script(rt: HostRuntime) -> Result<(), Fail> {
+    for (call, script, want, status) in FAILING {
+        let log = log_area(rt.alloc(), &[])?;
+        let pages = segment_area(rt.alloc(), &[CLOSED; 2])?;
+        let areas = vec![in rt.alloc();
+            Fuse::new(log, When::At(u64::from(call))),
+            Fuse::new(pages, When::At(0)),
+        ]?;
+        check(&rt, ONE, areas, script.as_bytes(), (want, status))?;
+    }
+    Ok(())
+}
+
+// A reader that gives these bytes, one at a call, but for one call that fails.
+#[derive(Drop)]
+struct Failing<'a> {
+    rest: &'a [u8],
+    fails_at: usize,
+    kind: ErrorKind,
+}
+
+impl Read for Failing<'_> {
+    fn read(&mut self, buf: &mut [u8]) -> io::Result<usize> {
+        if self.rest.len() == self.fails_at {
+            self.fails_at = usize::MAX;
+            return Err(Error::from(self.kind));
+        }
+        let (Some((first, rest)), Some(place)) = (self.rest.split_first(), buf.first_mut()) else {
+            return Ok(0);
+        };
+        *place = *first;
+        self.rest = rest;
+        Ok(1)
+    }
+}
+
+/// A writer that takes so many bytes, and then fails.
+#[derive(Drop)]
+pub(crate) struct Narrow {
+    pub(crate) room: usize,
+}
+
+impl Write for Narrow {
+    fn write(&mut self, buf: &[u8]) -> io::Result<usize> {
+        let Some(room) = self.room.checked_sub(buf.len()) else {
+            return Err(Error::from(ErrorKind::Other));
+        };
+        self.room = room;
+        Ok(buf.len())
+    }
+
+    fn flush(&mut self) -> io::Result<()> {
+        Ok(())
+    }
+}
+
+// A run of a script, given byte by byte, of which one read fails with so many bytes left, into a writer with so much room.
+fn run_failing(
+    rt: &impl AllocGlobal,
+    fails_at: usize,
+    kind: ErrorKind,
+    room: usize,
+) -> Result<Result<u8, ToolFault>, Fail> {
+    let mut reader = Failing {
+        rest: b"begin 0 0 1\nflush 0\n",
+        fails_at,
+        kind,
+    };
+    let areas = zero_areas(rt.alloc(), &ONE)?;
+    Ok(run_script(rt.alloc(), ONE, areas, &mut reader, &mut Narrow { room }))
+}
+
+// No read comes with 21 bytes left, and the replies are `ok` and `nothing`.
+#[test]
+fn a_reader_or_a_writer_that_fails(rt: HostRuntime) -> Result<(), Fail> {
+    for kind in [
+        ErrorKind::Interrupted,
+        ErrorKind::OutOfMemory,
+        ErrorKind::Other,
+    ] {
+        for left in [20, 8, 0] {
+            assert!(rt;
+                run_failing(&rt, left, kind, 64)? == Err(ToolFault::Read),
+                "{left}"
+            );
+        }
+    }
+    for room in [0, 2, 3, 10] {
+        let ran = run_failing(&rt, 21, ErrorKind::Other, room)?;
+        assert!(rt; ran == Err(ToolFault::Write), "{room}");
+    }
+    assert!(rt; run_failing(&rt, 21, ErrorKind::Other, 11)? == Ok(0));
+    Ok(())
+}
