@@ -6,7 +6,7 @@ use std::rt::{Clock, Files};
 use std::thread::Threads;
 
 /// One measurement.
-#[derive(Clone, Copy, Debug, PartialEq, Eq)]
+#[derive(Clone, Copy, PartialEq, Eq)]
 pub(crate) enum Measurement {
     /// A transaction of one range.
     OneRange,

@@ -1,7 +1,7 @@
 //! What a stop does to a dirty position.
 
 /// What a stop makes of one dirty position. This project's own.
-#[derive(Clone, Copy, Debug, PartialEq, Eq)]
+#[derive(Clone, Copy, PartialEq, Eq)]
 pub enum Choice {
     /// The byte that a read gave.
     Keep,

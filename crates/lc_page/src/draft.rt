@@ -7,7 +7,7 @@ use crate::Slot;
 use crate::limits::SLOT_BYTES;
 
 /// A page as it is being written: where it goes, under which number, and a copy of its bytes.
-#[derive(Clone, Copy, Debug)]
+#[derive(Clone, Copy)]
 pub struct Draft {
     /// The page's number.
     pub page: u32,

@@ -3,7 +3,7 @@
 use crate::{PageText, Slot};
 
 /// What a node keeps of one page.
-#[derive(Clone, Copy, Debug)]
+#[derive(Clone, Copy)]
 pub struct Entry {
     /// How many uncommitted references there are to the page.
     pub uncommitted: u64,

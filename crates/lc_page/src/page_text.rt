@@ -4,7 +4,7 @@ use crate::Slot;
 
 /// What an area says of a page: its sequence, the slot of its bytes, if one is open, and which of the two gates read
 /// as open.
-#[derive(Clone, Copy, Debug, PartialEq, Eq)]
+#[derive(Clone, Copy, PartialEq, Eq)]
 pub struct PageText {
     /// The page's sequence, 0 where no slot is open.
     pub seq: u64,

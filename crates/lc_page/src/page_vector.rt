@@ -7,7 +7,7 @@ use std::marker::Model;
 
 /// What a node keeps of the pages of a segment, an entry for each page in order. Contracts see it as the list of its
 /// entries. That a page is dirty where it was touched above what is stable is this project's own.
-#[derive(Debug, Drop)]
+#[derive(Drop)]
 pub struct PageVector {
     entries: Vec<Entry>,
 }

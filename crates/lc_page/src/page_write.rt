@@ -14,37 +14,37 @@ use lc_disk::Area;
 /// ends the write. Other pages of the area may be written between the calls. The page is written beside the present
 /// one, behind a closed gate, and the gate is opened last: this project's own, after the order of log and data of RVM
 /// (Satyanarayanan et al., TOCS 1994).
-#[derive(Debug, Drop)]
+#[derive(Drop)]
 pub struct PageWrite<State> {
     draft: Draft,
     state: State,
 }
 
 /// Nothing is written yet.
-#[derive(Clone, Copy, Debug)]
+#[derive(Clone, Copy)]
 pub struct Begun {
     // Whether the gate of the free slot reads as open.
     gate: bool,
 }
 
 /// The gate of the free slot is closed.
-#[derive(Clone, Copy, Debug)]
+#[derive(Clone, Copy)]
 pub struct Closing;
 
 /// The gate of the free slot stays closed.
-#[derive(Clone, Copy, Debug)]
+#[derive(Clone, Copy)]
 pub struct Closed;
 
 /// The page stands behind the closed gate.
-#[derive(Clone, Copy, Debug)]
+#[derive(Clone, Copy)]
 pub struct Filling;
 
 /// The page stays behind the closed gate.
-#[derive(Clone, Copy, Debug)]
+#[derive(Clone, Copy)]
 pub struct Filled;
 
 /// The gate is open.
-#[derive(Clone, Copy, Debug)]
+#[derive(Clone, Copy)]
 pub struct Opening;
 
 impl<State> PageWrite<State> {

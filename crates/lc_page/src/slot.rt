@@ -1,7 +1,7 @@
 //! The two slots of a page.
 
 /// One of the two slots of a page.
-#[derive(Clone, Copy, Debug, PartialEq, Eq)]
+#[derive(Clone, Copy, PartialEq, Eq)]
 pub enum Slot {
     /// Slot 0.
     First,

@@ -10,7 +10,7 @@ use lc_disk::Area;
 
 /// A page write between two of its six calls. Each step makes one call. That a write is kept between its calls, with
 /// others beside it, is this project's own.
-#[derive(Debug, Drop)]
+#[derive(Drop)]
 pub enum Writing {
     /// The first call is done.
     AtClosing(PageWrite<Closing>),

@@ -3,7 +3,7 @@ ghost use Rattle.std.specs.Prelude.{◌≡◌, ◌+◌, ◌^◌, ◌<◌};
 
 /// `len` positions of a segment, which is called by a number, from `offset` on.
 /// Idea: RVM's ranges (Satyanarayanan et al., TOCS 1994).
-#[derive(Clone, Copy, Debug, Default, PartialEq, Eq)]
+#[derive(Clone, Copy, Default, PartialEq, Eq)]
 pub struct Range {
     /// The segment's number.
     pub segment: u32,

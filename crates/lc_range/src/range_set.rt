@@ -14,7 +14,7 @@ const MAX_RUNS: usize = 64;
 /// none empty, with a gap between two of one segment. `Has` says which positions are in it. It has 64 runs at most,
 /// and takes no memory for 8. Idea: RVM's set ranges (Satyanarayanan et al., TOCS 1994), merged as in its
 /// intra-transaction optimization.
-#[derive(Debug, Drop)]
+#[derive(Drop)]
 pub struct RangeSet {
     runs: SmallVec<Range, 8>,
 }

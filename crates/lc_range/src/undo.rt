@@ -16,7 +16,7 @@ use std::marker::Model;
 /// which byte is kept of a position: that of the first copy that has it. Bytes that continue the last copy are added
 /// to it. It takes no memory for 8 copies of 64 bytes in all, for which it is 192 bytes large.
 /// Idea: the old values that RVM keeps in memory for an abort (Satyanarayanan et al., TOCS 1994).
-#[derive(Debug, Drop)]
+#[derive(Drop)]
 pub struct Undo {
     ranges: SmallVec<Range, 8>,
     bytes: SmallVec<u8, 64>,

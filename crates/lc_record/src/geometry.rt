@@ -5,7 +5,7 @@ ghost use Rattle.std.specs.Prelude.{◌≡◌, ◌≤◌, ◌↔◌, ◌+◌, �
 pub const PAGE: u32 = 256;
 
 /// How many nodes, threads of each node, segments, pages of each segment and words of each log there are.
-#[derive(Clone, Copy, Debug, PartialEq, Eq)]
+#[derive(Clone, Copy, PartialEq, Eq)]
 pub struct Geometry {
     /// 1 to 8, numbered from 0.
     pub nodes: u16,

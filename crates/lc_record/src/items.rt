@@ -5,7 +5,7 @@ use std::marker::Model;
 
 /// A `Vec` that contracts see as its list of items, whatever room it has.
 /// It is made of a `Vec` and gives it back without memory.
-#[derive(Debug, Drop)]
+#[derive(Drop)]
 pub struct Items<T> {
     items: Vec<T>,
 }

@@ -7,7 +7,7 @@ use std::alloc::{AllocError, Global};
 
 /// One segment's part of a record: the number that the record has among those of the segment, and its ranges there.
 /// A peer applies parts in the order of their numbers (log-based coherency: Feeley et al., OSDI 1994).
-#[derive(Debug, Drop)]
+#[derive(Drop)]
 pub struct Part {
     /// The segment, from 1.
     pub segment: u32,

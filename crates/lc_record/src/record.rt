@@ -14,7 +14,7 @@ pub struct Record {
 
 /// A segment's lock, with the number that the commit has among those of the segment
 /// (log-based coherency: Feeley et al., OSDI 1994).
-#[derive(Clone, Copy, Debug, PartialEq, Eq)]
+#[derive(Clone, Copy, PartialEq, Eq)]
 pub struct Lock {
     /// The segment, from 1.
     pub segment: u32,
@@ -23,7 +23,7 @@ pub struct Lock {
 }
 
 /// The new bytes of one range of a segment.
-#[derive(Debug, Drop)]
+#[derive(Drop)]
 pub struct RangeData {
     /// The segment, from 1.
     pub segment: u32,

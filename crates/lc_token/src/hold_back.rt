@@ -14,7 +14,7 @@ use std::marker::Model;
 /// What a peer has of a segment's records: it may get them in any order, again, or late, and applies their parts in the
 /// order of their numbers (log-based coherency: Feeley et al., OSDI 1994). A part whose number is the next is due at
 /// once; a greater one is kept until the numbers before it have come.
-#[derive(Debug, Drop)]
+#[derive(Drop)]
 pub struct HoldBack {
     segment: u32,
     applied: u64,

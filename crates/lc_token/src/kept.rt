@@ -9,7 +9,7 @@ use std::collections::{BTreeMap, VecDeque};
 use std::marker::Model;
 
 /// The parts that are kept, each found by its number. Contracts see them as a list, ascending by number.
-#[derive(Debug, Drop)]
+#[derive(Drop)]
 pub struct Kept {
     parts: BTreeMap<u64, Part>,
 }

@@ -6,7 +6,7 @@ use lc_page::PageVector;
 
 /// What says which node may change a segment (log-based coherency: Feeley et al., OSDI 1994). There is one of a segment:
 /// it is placed or sent, and a dropped one is lost until the next recovery.
-#[derive(Debug, Drop)]
+#[derive(Drop)]
 pub struct Token {
     /// The segment, from 1.
     pub segment: u32,

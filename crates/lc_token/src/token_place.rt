@@ -9,7 +9,7 @@ use std::marker::Model;
 
 /// The place of one segment's token at a node: the token stands there, or it is empty. Contracts see it as a `Standing`.
 /// A token that stands there is of the segment.
-#[derive(Debug, Drop)]
+#[derive(Drop)]
 pub struct TokenPlace {
     segment: u32,
     token: Option<Token>,

@@ -6,7 +6,7 @@ use crate::lock_mode::LockMode;
 
 /// Whose transactions hold a segment: one thread that may write it, or some that read it, side by side. Idea: two-phase
 /// locking with shared and exclusive locks (Gray, 1978).
-#[derive(Clone, Copy, Debug)]
+#[derive(Clone, Copy)]
 pub enum Holders {
     /// Nobody.
     Free,

@@ -9,7 +9,7 @@ use lc_record::Part;
 
 /// A segment's bytes as a node has them, with those of open transactions, and the threads whose transactions hold the
 /// segment. This project's own.
-#[derive(Debug, Drop)]
+#[derive(Drop)]
 pub struct Image {
     pub(crate) bytes: Vec<u8>,
     pub(crate) holders: Holders,

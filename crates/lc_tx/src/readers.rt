@@ -6,7 +6,7 @@ ghost use Rattle.lc_tx.specs.Readers.{some_reads};
 pub(crate) const THREADS: usize = 16;
 
 /// Threads that read a segment side by side: at least one, of the 16 of a node, numbered from 0. This project's own.
-#[derive(Clone, Copy, Debug)]
+#[derive(Clone, Copy)]
 pub struct Readers {
     reads: [bool; THREADS],
     ghost all_threads: { length reads ≡ 16 },

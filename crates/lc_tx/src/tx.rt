@@ -4,7 +4,7 @@ use smallvec::SmallVec;
 
 /// A transaction in restore mode: the segments that it locked for writing and those that it locked for reading, the
 /// positions that it has set, and their old bytes. Its writes stand in the images at once. Idea: RVM (Satyanarayanan et al., TOCS 1994).
-#[derive(Debug, Drop)]
+#[derive(Drop)]
 pub struct Tx {
     pub(crate) thread: u16,
     pub(crate) locked: SmallVec<u32, 16>,

@@ -3,7 +3,7 @@
 use lc_record::Geometry;
 
 /// What a command line asks for. Each word is kept as it was written, an empty one too.
-#[derive(Debug, Drop)]
+#[derive(Drop)]
 pub enum Asked {
     /// A run of the script on standard input: over the store in this folder, or over a new one in memory.
     Run {
