@@ -49,7 +49,7 @@ module _ {D : Type 0} (a : Ghosts D) where
   -- the node that acts, where all that the event names is known
   module _ (w : Running D a) (event : Event) (known : is_known w.geometry event ≡ true) (n : ℕ) (acts : Some n ≡ option_map (λ its. its.node) (named event))
       (node : Node D a) (read : node ≡ get_or w.nodes.items n node) where
-    stands : slice_get w.nodes.items n ≡ Some node
+    pub stands : slice_get w.nodes.items n ≡ Some node
     stands =
         let within : n < w.nodes.len = omega (arith, acts_within w.geometry (named event) n acts known, w.all_nodes) in
         slice_get_read w.nodes.items w.nodes.len n node w.nodes.ok.0 within read

@@ -50,6 +50,7 @@ pub mod Emptying
 pub mod OnPages
 pub mod TokenWritten
 pub mod Onward
+pub mod NodeSteps
 pub mod AtOnce
 pub mod Published
 pub mod Trimmed

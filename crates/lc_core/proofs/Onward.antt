@@ -8,15 +8,12 @@ use Rattle.lc_token.specs.declared.token.Token.{Token}
 use Rattle.lc_model.specs.Refusals.{common_refusal}
 use Rattle.lc_model.specs.State.{At, Travelling, Setting, State}
 use Rattle.lc_model.specs.declared.event.Event.{Event}
-use Rattle.lc_model.specs.declared.event.Event.TheVariants.{RecoverStep}
 use Rattle.lc_model.specs.declared.reply.Reply.{Reply}
 use Rattle.lc_model.proofs.Keeps.{sound-row}
 use Rattle.lc_model.proofs.Rows.{known, step-row}
 use Rattle.lc_core.specs.Beside.{BesideNode}
-use Rattle.lc_core.specs.FollowsDesk.{FollowsOpen, StillFits}
+use Rattle.lc_core.specs.FollowsDesk.{StillFits}
 use Rattle.lc_core.specs.Here.{the_images}
-use Rattle.lc_core.specs.Settled.{open_answer}
-use Rattle.lc_core.specs.Turns.{Turns}
 use Rattle.lc_core.specs.declared.desk.Desk.{Desk}
 use Rattle.lc_core.specs.Node.{FitsNode, GoesOn, moved_by}
 use Rattle.lc_core.specs.Numbers.{Numbers}
@@ -26,7 +23,7 @@ use Rattle.lc_core.specs.Running.{FitsAll, FitsTravelling, Onward}
 use Rattle.lc_core.specs.Slots.{besides_of}
 use Rattle.lc_core.specs.declared.node.Node.{Node}
 use Rattle.lc_core.proofs.CoherentSteps.{coherent_keeps, disks_keep}
-use Rattle.lc_core.proofs.Going.{by_desk, settled_by, slots_alike}
+use Rattle.lc_core.proofs.Going.{slots_alike}
 use Rattle.lc_core.proofs.OtherLogs.{log_beside}
 use Rattle.lc_core.proofs.Others.{desk_beside}
 use Rattle.lc_core.proofs.Slotted.{places_at, slots_beside}
@@ -98,19 +95,6 @@ module _ {D : Type 0} (a : Ghosts D) where
 
     pub stays_onward : ((k : ℕ) → k + 1 ≡ moved_by event reply → ⊥) → Onward a m event s x reply geometry (slice_set nodes n new) travelling
     stays_onward others = onward travelling (travel_on others)
-
-  -- a change of the transactions of one node
-  module _ (m : Setting) (n : ℕ) (event : Event) (s : State) (x : Numbers) (reply : Reply) (geometry : Geometry) (nodes : List (Node D a)) (travelling : List (Option Token))
-      (h : FitsAll a m geometry nodes travelling s x) (common : common_refusal m.geometry s event ≡ None) (old : Node D a) (at : slice_get nodes n ≡ Some old) (new : Desk)
-      (follows : FollowsOpen n old.desk event reply new) (beside : the_images.IsSameBeside old.desk.here new.here) where
-    pub desk_onward : (event ≡ RecoverStep → ⊥) → open_answer m s x event ≡ None → Turns m s x event reply x → ((k : ℕ) → k + 1 ≡ moved_by event reply → ⊥)
-        → Onward a m event s x reply geometry (slice_set nodes n (record { desk = new; journal = old.journal; known = old.known })) travelling
-    desk_onward other none turns others =
-        let fits = h.each n old at in
-        let step = follows m s (known m.geometry s event common) h.sound fits.desk in
-        stays_onward m n event s x reply geometry nodes travelling h common old at (record { desk = new; journal = old.journal; known = old.known })
-        (by_desk a m n event s x reply step.0 step.1 (settled_by m s x event reply other (λ answer is. (let no : None ≡ Some answer = sym none ∙ is in absurd cc))) turns old fits new step.2 beside step.3)
-        others
 
   -- want of memory
   pub still_onward : (m : Setting) (n : ℕ) (s : State) (x : Numbers) (geometry : Geometry) (nodes : List (Node D a)) (travelling : List (Option Token)) (old new : Node D a) → slice_get nodes n ≡ Some old

@@ -37,6 +37,7 @@ pub mod Delivers
 pub mod Growing
 pub mod Asks
 pub mod Stepping
+pub mod NodeSteps
 pub mod Stops
 pub mod Runs
 pub mod PageState

@@ -26,6 +26,7 @@ mod logging;
 mod moving;
 mod named;
 mod node;
+mod node_step;
 mod page_calls;
 mod page_progress;
 mod page_state;

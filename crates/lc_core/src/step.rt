@@ -29,43 +29,6 @@ impl<D: Area + Drop> Running<D> {
             return Ok(Reply::Refused(refusal));
         }
         match event {
-            Event::Begin {
-                node,
-                thread,
-                segments,
-                reading,
-            } => self.begin(
-                alloc,
-                *node,
-                *thread,
-                segments.as_slice(),
-                reading.as_slice(),
-            ),
-            Event::SetRange {
-                node,
-                thread,
-                segment,
-                offset,
-                len,
-            } => self.set_range(*node, *thread, *segment, *offset, *len),
-            Event::Write {
-                node,
-                thread,
-                segment,
-                offset,
-                bytes,
-            } => Ok(self.write(*node, *thread, *segment, *offset, bytes.as_slice())),
-            Event::Read {
-                node,
-                thread,
-                segment,
-                offset,
-                len,
-            } => self.read(alloc, *node, *thread, *segment, *offset, *len),
-            Event::Abort { node, thread } => Ok(self.abort(*node, *thread)),
-            Event::Reserve { node, thread } => self.reserve(alloc, *node, *thread),
-            Event::Close { node, thread } => Ok(self.close(*node, *thread)),
-            Event::FlushStep { node } => Ok(self.flush_step(*node)),
             Event::Leave { node, segment } => Ok(self.leave(*node, *segment, writing)),
             Event::Arrive { node, segment } => Ok(self.arrive(*node, *segment)),
             Event::Deliver {
@@ -75,8 +38,7 @@ impl<D: Area + Drop> Running<D> {
                 to,
             } => self.deliver(alloc, *sender, *number, *segment, *to),
             Event::Trim { node } => Ok(self.trim(*node)),
-            Event::ResetStep { node } => Ok(self.reset_step(*node)),
-            Event::PageStep { .. } | Event::Stop { .. } | Event::RecoverStep => unreachable!(),
+            _ => self.step_at(alloc, event),
         }
     }
 }
