@@ -1,5 +1,5 @@
 -- What is printed, as bytes. Each text ends with a line feed.
-use Rattle.std.specs.Prelude.{ℕ, zero, suc, ◌/◌, ◌%◌, ◌-◌, ◌^◌, min, false, List, [], ◌∷◌, ◌++◌, take, drop, length, flat_map, codes, decimal, Some, None}
+use Rattle.std.specs.Prelude.{ℕ, zero, suc, ◌/◌, ◌%◌, ◌-◌, ◌^◌, min, false, List, [], ◌∷◌, ◌++◌, take, drop, length, flat_map, codes, decimal, Some}
 use Rattle.std.specs.List.{join_by}
 use Rattle.std.specs.Fmt.{digit_glyph}
 use Rattle.std.specs.Int.{w64, to_le_bytes}
@@ -31,36 +31,55 @@ hex_text = flat_map byte_text
 
 -- Replies
 
+-- what is said of a refusal in front of its numbers
+abbrev pub refusal_words : Refusal → List ℕ
+refusal_words IsDown = codes "refused Down"
+refusal_words Unknown = codes "refused Unknown"
+refusal_words Halted = codes "refused Halted"
+refusal_words OutOfTurn = codes "refused OutOfTurn"
+refusal_words (Busy segment) = codes "refused Busy"
+refusal_words (NotHere segment) = codes "refused NotHere"
+refusal_words NotLocked = codes "refused NotLocked"
+refusal_words EmptyRange = codes "refused EmptyRange"
+refusal_words (OutOfSegment area) = codes "refused OutOfSegment"
+refusal_words NoRange = codes "refused NoRange"
+refusal_words TooManyRanges = codes "refused TooManyRanges"
+refusal_words (SequenceSpent segment) = codes "refused SequenceSpent"
+refusal_words (TooLong words) = codes "refused TooLong"
+refusal_words Sealed = codes "refused Sealed"
+refusal_words (Full tail need) = codes "refused Full"
+refusal_words Held = codes "refused Held"
+refusal_words Writing = codes "refused Writing"
+refusal_words Unflushed = codes "refused Unflushed"
+refusal_words (Behind applied seq) = codes "refused Behind"
+refusal_words Uncommitted = codes "refused Uncommitted"
+refusal_words NotNewer = codes "refused NotNewer"
+refusal_words (Unclean segment seq) = codes "refused Unclean"
+refusal_words RoundsSpent = codes "refused RoundsSpent"
+refusal_words DeviceFault = codes "device fault"
+refusal_words (BadGeometry area) = codes "refused BadGeometry"
+refusal_words (Twice segment seq) = codes "refused Twice"
+refusal_words (Gap segment seq) = codes "refused Gap"
+refusal_words (ReadOnly segment) = codes "refused ReadOnly"
+
+-- and these numbers
+abbrev pub refusal_numbers : Refusal → List ℕ
+refusal_numbers (Busy segment) = segment ∷ []
+refusal_numbers (NotHere segment) = segment ∷ []
+refusal_numbers (OutOfSegment (Some area)) = area ∷ []
+refusal_numbers (SequenceSpent segment) = segment ∷ []
+refusal_numbers (TooLong words) = words ∷ []
+refusal_numbers (Full tail need) = tail ∷ need ∷ []
+refusal_numbers (Behind applied seq) = applied ∷ seq ∷ []
+refusal_numbers (Unclean segment seq) = segment ∷ seq ∷ []
+refusal_numbers (BadGeometry area) = area ∷ []
+refusal_numbers (Twice segment seq) = segment ∷ seq ∷ []
+refusal_numbers (Gap segment seq) = segment ∷ seq ∷ []
+refusal_numbers (ReadOnly segment) = segment ∷ []
+refusal_numbers _ = []
+
 abbrev pub refusal_text : Refusal → List ℕ
-refusal_text IsDown = line (codes "refused Down") []
-refusal_text Unknown = line (codes "refused Unknown") []
-refusal_text Halted = line (codes "refused Halted") []
-refusal_text OutOfTurn = line (codes "refused OutOfTurn") []
-refusal_text (Busy segment) = line (codes "refused Busy") (segment ∷ [])
-refusal_text (NotHere segment) = line (codes "refused NotHere") (segment ∷ [])
-refusal_text NotLocked = line (codes "refused NotLocked") []
-refusal_text EmptyRange = line (codes "refused EmptyRange") []
-refusal_text (OutOfSegment None) = line (codes "refused OutOfSegment") []
-refusal_text (OutOfSegment (Some area)) = line (codes "refused OutOfSegment") (area ∷ [])
-refusal_text NoRange = line (codes "refused NoRange") []
-refusal_text TooManyRanges = line (codes "refused TooManyRanges") []
-refusal_text (SequenceSpent segment) = line (codes "refused SequenceSpent") (segment ∷ [])
-refusal_text (TooLong words) = line (codes "refused TooLong") (words ∷ [])
-refusal_text Sealed = line (codes "refused Sealed") []
-refusal_text (Full tail need) = line (codes "refused Full") (tail ∷ need ∷ [])
-refusal_text Held = line (codes "refused Held") []
-refusal_text Writing = line (codes "refused Writing") []
-refusal_text Unflushed = line (codes "refused Unflushed") []
-refusal_text (Behind applied seq) = line (codes "refused Behind") (applied ∷ seq ∷ [])
-refusal_text Uncommitted = line (codes "refused Uncommitted") []
-refusal_text NotNewer = line (codes "refused NotNewer") []
-refusal_text (Unclean segment seq) = line (codes "refused Unclean") (segment ∷ seq ∷ [])
-refusal_text RoundsSpent = line (codes "refused RoundsSpent") []
-refusal_text DeviceFault = line (codes "device fault") []
-refusal_text (BadGeometry area) = line (codes "refused BadGeometry") (area ∷ [])
-refusal_text (Twice segment seq) = line (codes "refused Twice") (segment ∷ seq ∷ [])
-refusal_text (Gap segment seq) = line (codes "refused Gap") (segment ∷ seq ∷ [])
-refusal_text (ReadOnly segment) = line (codes "refused ReadOnly") (segment ∷ [])
+refusal_text refusal = line (refusal_words refusal) (refusal_numbers refusal)
 
 -- `bytes`, and where there are some a space and their digits
 abbrev pub bytes_text : List ℕ → List ℕ

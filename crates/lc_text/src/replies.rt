@@ -1,7 +1,7 @@
 //! The texts of the replies.
-ghost use Rattle.std.specs.Prelude.{OnOk};
+ghost use Rattle.std.specs.Prelude.{◌≡◌, OnOk};
 ghost use Rattle.std.specs.Io.KnownBytes.{Appends};
-ghost use Rattle.lc_text.specs.Text.{bytes_text, refusal_text, reply_text};
+ghost use Rattle.lc_text.specs.Text.{bytes_text, refusal_text, refusal_words, reply_text};
 
 use crate::hex::write_hex;
 use crate::text::write_line;
@@ -52,75 +52,60 @@ fn write_bytes<W: io::Write>(writer: &mut W, bytes: &[u8]) -> io::Result<()>
 fn write_refusal<W: io::Write>(writer: &mut W, refusal: &Refusal) -> io::Result<()>
     ensures { OnOk result (Appends (W.contents writer.old) (W.contents writer.new) (refusal_text refusal.now)) }
 {
+    let words = refusal_words(refusal);
     match refusal {
-        Refusal::Down => write_line(writer, b"refused Down", &[]),
-        Refusal::Unknown => write_line(writer, b"refused Unknown", &[]),
-        Refusal::Halted => write_line(writer, b"refused Halted", &[]),
-        Refusal::OutOfTurn => write_line(writer, b"refused OutOfTurn", &[]),
-        Refusal::Busy { segment } => write_line(writer, b"refused Busy", &[u64::from(*segment)]),
-        Refusal::NotHere { segment } => write_line(
-            writer,
-            b"refused NotHere",
-            &[u64::from(*segment)],
-        ),
-        Refusal::NotLocked => write_line(writer, b"refused NotLocked", &[]),
-        Refusal::EmptyRange => write_line(writer, b"refused EmptyRange", &[]),
-        Refusal::OutOfSegment { area: None } => write_line(writer, b"refused OutOfSegment", &[]),
-        Refusal::OutOfSegment { area: Some(area) } => write_line(
-            writer,
-            b"refused OutOfSegment",
-            &[u64::from(*area)],
-        ),
-        Refusal::NoRange => write_line(writer, b"refused NoRange", &[]),
-        Refusal::TooManyRanges => write_line(writer, b"refused TooManyRanges", &[]),
-        Refusal::SequenceSpent { segment } => write_line(
-            writer,
-            b"refused SequenceSpent",
-            &[u64::from(*segment)],
-        ),
-        Refusal::TooLong { words } => write_line(writer, b"refused TooLong", &[u64::from(*words)]),
-        Refusal::Sealed => write_line(writer, b"refused Sealed", &[]),
+        Refusal::Busy { segment: number }
+        | Refusal::NotHere { segment: number }
+        | Refusal::OutOfSegment { area: Some(number) }
+        | Refusal::SequenceSpent { segment: number }
+        | Refusal::TooLong { words: number }
+        | Refusal::BadGeometry { area: number }
+        | Refusal::ReadOnly { segment: number } => write_line(writer, words, &[u64::from(*number)]),
         Refusal::Full { tail, need } => write_line(
             writer,
-            b"refused Full",
+            words,
             &[u64::from(*tail), u64::from(*need)],
         ),
-        Refusal::Held => write_line(writer, b"refused Held", &[]),
-        Refusal::Writing => write_line(writer, b"refused Writing", &[]),
-        Refusal::Unflushed => write_line(writer, b"refused Unflushed", &[]),
-        Refusal::Behind { applied, seq } => write_line(
-            writer,
-            b"refused Behind",
-            &[*applied, *seq],
-        ),
-        Refusal::Uncommitted => write_line(writer, b"refused Uncommitted", &[]),
-        Refusal::NotNewer => write_line(writer, b"refused NotNewer", &[]),
-        Refusal::Unclean { segment, seq } => write_line(
-            writer,
-            b"refused Unclean",
-            &[u64::from(*segment), *seq],
-        ),
-        Refusal::RoundsSpent => write_line(writer, b"refused RoundsSpent", &[]),
-        Refusal::DeviceFault => write_line(writer, b"device fault", &[]),
-        Refusal::BadGeometry { area } => write_line(
-            writer,
-            b"refused BadGeometry",
-            &[u64::from(*area)],
-        ),
-        Refusal::Twice { segment, seq } => write_line(
-            writer,
-            b"refused Twice",
-            &[u64::from(*segment), *seq],
-        ),
-        Refusal::Gap { segment, seq } => write_line(
-            writer,
-            b"refused Gap",
-            &[u64::from(*segment), *seq],
-        ),
-        Refusal::ReadOnly { segment } => write_line(
-            writer,
-            b"refused ReadOnly",
-            &[u64::from(*segment)],
-        ),
+        Refusal::Behind { applied, seq } => write_line(writer, words, &[*applied, *seq]),
+        Refusal::Unclean { segment, seq }
+        | Refusal::Twice { segment, seq }
+        | Refusal::Gap { segment, seq } => write_line(writer, words, &[u64::from(*segment), *seq]),
+        _ => write_line(writer, words, &[]),
+    }
+}
+
+/// What is said of a refusal in front of its numbers.
+fn refusal_words(refusal: &Refusal) -> &'static [u8]
+    ensures { result.now ≡ refusal_words refusal.now }
+{
+    match refusal {
+        Refusal::Down => b"refused Down",
+        Refusal::Unknown => b"refused Unknown",
+        Refusal::Halted => b"refused Halted",
+        Refusal::OutOfTurn => b"refused OutOfTurn",
+        Refusal::Busy { .. } => b"refused Busy",
+        Refusal::NotHere { .. } => b"refused NotHere",
+        Refusal::NotLocked => b"refused NotLocked",
+        Refusal::EmptyRange => b"refused EmptyRange",
+        Refusal::OutOfSegment { .. } => b"refused OutOfSegment",
+        Refusal::NoRange => b"refused NoRange",
+        Refusal::TooManyRanges => b"refused TooManyRanges",
+        Refusal::SequenceSpent { .. } => b"refused SequenceSpent",
+        Refusal::TooLong { .. } => b"refused TooLong",
+        Refusal::Sealed => b"refused Sealed",
+        Refusal::Full { .. } => b"refused Full",
+        Refusal::Held => b"refused Held",
+        Refusal::Writing => b"refused Writing",
+        Refusal::Unflushed => b"refused Unflushed",
+        Refusal::Behind { .. } => b"refused Behind",
+        Refusal::Uncommitted => b"refused Uncommitted",
+        Refusal::NotNewer => b"refused NotNewer",
+        Refusal::Unclean { .. } => b"refused Unclean",
+        Refusal::RoundsSpent => b"refused RoundsSpent",
+        Refusal::DeviceFault => b"device fault",
+        Refusal::BadGeometry { .. } => b"refused BadGeometry",
+        Refusal::Twice { .. } => b"refused Twice",
+        Refusal::Gap { .. } => b"refused Gap",
+        Refusal::ReadOnly { .. } => b"refused ReadOnly",
     }
 }
