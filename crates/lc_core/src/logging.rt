@@ -1,5 +1,5 @@
 //! What a node's log is to take: a record that is reserved, and one that is closed; and what no peer wants any more.
-ghost use Rattle.std.specs.Prelude.{◌≡◌, ◌↔◌, ◌+◌, ◌-◌, ◌<◌, ◌≤◌, ◌^◌, false, length, IfOk, OnErr, IsTrue};
+ghost use Rattle.std.specs.Prelude.{◌≡◌, ◌+◌, ◌-◌, ◌<◌, ◌≤◌, ◌^◌, false, length, IfOk, OnErr};
 ghost use Rattle.lc_core.specs.Log.{is_sealed};
 ghost use Rattle.lc_core.specs.Logging.{end_of_records, Forgets, Logs, Shuts, Trims};
 
@@ -13,13 +13,6 @@ impl<D: Area + Drop> Journal<D> {
         ensures { result ≡ end_of_records D.Area self.now }
     {
         self.records.span(self.dropped, self.records.count()).len() as u32
-    }
-
-    /// Whether so many words more have room in the log.
-    pub(crate) fn has_room(&self, words: u32) -> bool
-        ensures { IsTrue result ↔ (end_of_records D.Area self.now + words ≤ self.now.group.room) }
-    {
-        words <= self.words - self.end()
     }
 
     /// Adds a record of these words, which is not closed, and answers its number. Where memory is wanted nothing has
