@@ -42,17 +42,9 @@ where
     R::File: FileExt,
 {
     make_folder(rt)?;
-    let mut world = opened(rt, made(rt)?)?;
     let groups = COMMITS.div_ceil(group.max(1));
     let commits = groups.saturating_mul(group);
-    let start = Instant::now(rt)?;
-    for _ in 0..groups {
-        for _ in 0..group {
-            commit(rt.alloc(), &mut world)?;
-        }
-        flush(rt.alloc(), &mut world)?;
-    }
-    let work = start.elapsed(rt)?;
+    let work = time_groups(rt, group, groups)?;
     let plain = plain_writes(rt, group, groups)?;
     fs::remove_dir_all(rt, FOLDER)?;
     println!(rt;
@@ -62,6 +54,23 @@ where
     timing::print(rt, work, plain, commits)
 }
 
+// How long so many groups of commits take on a new store, each group durable before the next.
+fn time_groups<R: AllocGlobal + Clock + Files>(
+    rt: &R,
+    group: u32,
+    groups: u32,
+) -> io::Result<Duration>
+where
+    R::File: FileExt,
+{
+    let mut world = opened(rt, made(rt)?)?;
+    let start = Instant::now(rt)?;
+    for _ in 0..groups {
+        commit_group(rt.alloc(), &mut world, group)?;
+    }
+    start.elapsed(rt)
+}
+
 /// Measures how long a store of 400 commits takes to open, from its files to the end of its recovery, beside reading the same
 /// files.
 pub(crate) fn measure_reopening<R: AllocGlobal + Clock + Files + Print>(rt: &R) -> io::Result<()>
@@ -69,28 +78,53 @@ where
     R::File: FileExt,
 {
     make_folder(rt)?;
+    leave_commits(rt)?;
+    let plain = time_reads(rt)?;
+    let work = time_opening(rt)?;
+    fs::remove_dir_all(rt, FOLDER)?;
+    println!(rt; "a store of {COMMITS} commits")?;
+    timing::print(rt, work, plain, 1)
+}
+
+// A new store that is left with all commits in its log.
+fn leave_commits<R: AllocGlobal + Files>(rt: &R) -> io::Result<()>
+where
+    R::File: FileExt,
+{
     let mut world = opened(rt, made(rt)?)?;
-    for _ in 0..COMMITS {
-        commit(rt.alloc(), &mut world)?;
-    }
-    flush(rt.alloc(), &mut world)?;
-    let _closed = world;
+    commit_group(rt.alloc(), &mut world, COMMITS)
+}
+
+// How long the files take to be read.
+fn time_reads<R: AllocGlobal + Clock + Files>(rt: &R) -> io::Result<Duration> {
     let start = Instant::now(rt)?;
     for area in 0..2 {
         let _bytes = fs::read(rt, &path_of(rt.alloc(), area)?)?;
     }
-    let plain = start.elapsed(rt)?;
+    start.elapsed(rt)
+}
+
+// How long the store takes to open.
+fn time_opening<R: AllocGlobal + Clock + Files>(rt: &R) -> io::Result<Duration>
+where
+    R::File: FileExt,
+{
     let start = Instant::now(rt)?;
+    let _world = opened(rt, found(rt)?)?;
+    start.elapsed(rt)
+}
+
+// The areas of the store that is there.
+fn found<R: AllocGlobal + Files>(rt: &R) -> io::Result<Vec<FileArea<R::File>>>
+where
+    R::File: FileExt,
+{
     let mut areas = Vec::new(rt.alloc());
     for area in 0..2 {
         let path = path_of(rt.alloc(), area)?;
         areas.push(FileArea::open(rt.alloc(), rt, &path).map_err(error_of)?)?;
     }
-    let _world = opened(rt, areas)?;
-    let work = start.elapsed(rt)?;
-    fs::remove_dir_all(rt, FOLDER)?;
-    println!(rt; "a store of {COMMITS} commits")?;
-    timing::print(rt, work, plain, 1)
+    Ok(areas)
 }
 
 // The folder, with nothing in it.
@@ -173,6 +207,18 @@ fn commit<F: FileExt + OpenFile + Drop>(
         }
     }
     Ok(())
+}
+
+// A group of commits, which is durable then.
+fn commit_group<F: FileExt + OpenFile + Drop>(
+    alloc: Global,
+    world: &mut World<FileArea<F>>,
+    group: u32,
+) -> io::Result<()> {
+    for _ in 0..group {
+        commit(alloc, world)?;
+    }
+    flush(alloc, world)
 }
 
 // All commits become durable.
