@@ -1,7 +1,7 @@
 //! What a store in files costs.
 use crate::timing;
 use lc_core::{Event, Reply, World};
-use lc_disk::{FileArea, OpenFault};
+use lc_disk::{FileArea, HeldFile, OpenFault};
 use lc_record::{Geometry, Items};
 use lc_recover::area_len;
 use std::alloc::Global;
@@ -39,7 +39,7 @@ pub(crate) fn measure_commits<R: AllocGlobal + Clock + Files + Print>(
     group: u32,
 ) -> io::Result<()>
 where
-    R::File: FileExt,
+    R::File: HeldFile,
 {
     make_folder(rt)?;
     let groups = COMMITS.div_ceil(group.max(1));
@@ -61,7 +61,7 @@ fn time_groups<R: AllocGlobal + Clock + Files>(
     groups: u32,
 ) -> io::Result<Duration>
 where
-    R::File: FileExt,
+    R::File: HeldFile,
 {
     let mut world = opened(rt, made(rt)?)?;
     let start = Instant::now(rt)?;
@@ -75,7 +75,7 @@ where
 /// files.
 pub(crate) fn measure_reopening<R: AllocGlobal + Clock + Files + Print>(rt: &R) -> io::Result<()>
 where
-    R::File: FileExt,
+    R::File: HeldFile,
 {
     make_folder(rt)?;
     leave_commits(rt)?;
@@ -89,7 +89,7 @@ where
 // A new store that is left with all commits in its log.
 fn leave_commits<R: AllocGlobal + Files>(rt: &R) -> io::Result<()>
 where
-    R::File: FileExt,
+    R::File: HeldFile,
 {
     let mut world = opened(rt, made(rt)?)?;
     commit_group(rt.alloc(), &mut world, COMMITS)
@@ -107,7 +107,7 @@ fn time_reads<R: AllocGlobal + Clock + Files>(rt: &R) -> io::Result<Duration> {
 // How long the store takes to open.
 fn time_opening<R: AllocGlobal + Clock + Files>(rt: &R) -> io::Result<Duration>
 where
-    R::File: FileExt,
+    R::File: HeldFile,
 {
     let start = Instant::now(rt)?;
     let _world = opened(rt, found(rt)?)?;
@@ -117,7 +117,7 @@ where
 // The areas of the store that is there.
 fn found<R: AllocGlobal + Files>(rt: &R) -> io::Result<Vec<FileArea<R::File>>>
 where
-    R::File: FileExt,
+    R::File: HeldFile,
 {
     let mut areas = Vec::new(rt.alloc());
     for area in 0..2 {
@@ -140,7 +140,7 @@ fn path_of(alloc: Global, area: usize) -> io::Result<String> {
 // The areas of a new store.
 fn made<R: AllocGlobal + Files>(rt: &R) -> io::Result<Vec<FileArea<R::File>>>
 where
-    R::File: FileExt,
+    R::File: HeldFile,
 {
     let geometry = size()?;
     let mut areas = Vec::new(rt.alloc());
@@ -153,7 +153,7 @@ where
 }
 
 // The store of these areas, recovered.
-fn opened<R: AllocGlobal, F: FileExt + OpenFile + Drop>(
+fn opened<R: AllocGlobal, F: HeldFile>(
     rt: &R,
     areas: Vec<FileArea<F>>,
 ) -> io::Result<World<FileArea<F>>> {
@@ -172,7 +172,7 @@ fn opened<R: AllocGlobal, F: FileExt + OpenFile + Drop>(
 }
 
 // One commit, which is not durable yet.
-fn commit<F: FileExt + OpenFile + Drop>(
+fn commit<F: HeldFile>(
     alloc: Global,
     world: &mut World<FileArea<F>>,
 ) -> io::Result<()> {
@@ -210,7 +210,7 @@ fn commit<F: FileExt + OpenFile + Drop>(
 }
 
 // A group of commits, which is durable then.
-fn commit_group<F: FileExt + OpenFile + Drop>(
+fn commit_group<F: HeldFile>(
     alloc: Global,
     world: &mut World<FileArea<F>>,
     group: u32,
@@ -222,7 +222,7 @@ fn commit_group<F: FileExt + OpenFile + Drop>(
 }
 
 // All commits become durable.
-fn flush<F: FileExt + OpenFile + Drop>(
+fn flush<F: HeldFile>(
     alloc: Global,
     world: &mut World<FileArea<F>>,
 ) -> io::Result<()> {
@@ -241,7 +241,7 @@ fn plain_writes<R: AllocGlobal + Clock + Files>(
     times: u32,
 ) -> io::Result<Duration>
 where
-    R::File: FileExt,
+    R::File: HeldFile,
 {
     let path = format!(in rt.alloc(); "{FOLDER}/plain")?;
     let mut options = OpenOptions::new();

@@ -1,7 +1,7 @@
 //! What can be measured.
 use crate::{files, recoveries, staging, transactions};
+use lc_disk::HeldFile;
 use std::io;
-use std::os::unix::fs::FileExt;
 use std::rt::{Clock, Files};
 use std::thread::Threads;
 
@@ -75,7 +75,7 @@ impl Measurement {
         rt: &R,
     ) -> io::Result<()>
     where
-        R::File: FileExt,
+        R::File: HeldFile,
     {
         match self {
             Measurement::OneRange => transactions::measure(rt, 1),

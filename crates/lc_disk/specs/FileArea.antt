@@ -4,9 +4,9 @@ use Rattle.lc_disk.specs.declared.file_area.FileArea.{FileArea}
 use Rattle.lc_disk.specs.FaultCount.{fault_count}
 
 -- its length
-abbrev pub file_len : {F : Type 0} → FileArea F → ℕ
+abbrev pub file_len : {F W : Type 0} → FileArea F W → ℕ
 file_len a = a.len
 
 -- how often it failed
-abbrev pub file_failures : {F : Type 0} → FileArea F → ℕ
+abbrev pub file_failures : {F W : Type 0} → FileArea F W → ℕ
 file_failures a = fault_count a.faults

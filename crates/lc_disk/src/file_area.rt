@@ -3,10 +3,12 @@ ghost use Rattle.std.specs.Prelude.{◌≡◌, ◌≢◌, ◌+◌, ◌≤◌, �
 ghost use Rattle.lc_disk.specs.FaultCount.{fault_count};
 
 use crate::fault_count::FaultCount;
-use crate::{Area, Choice, DeviceFault, OpenFault, Stoppable};
+use crate::{
+    Area, Choice, DeviceFault, FaultWitness, FileCall, HeldFile, NoWitness, OpenFault, Stoppable,
+};
 use std::alloc::Global;
 use std::fs::{self, File, OpenFile, OpenOptions};
-use std::io::{self, ErrorKind};
+use std::io::{self, Error, ErrorKind};
 use std::os::unix::fs::FileExt;
 use std::rt::Files;
 
@@ -14,17 +16,24 @@ use std::rt::Files;
 static ZEROS: [u8; 4096] = [0; 4096];
 
 /// The bytes of a file as an area. Its calls are positional and whole: one that the system cuts short goes on, one that
-/// a signal interrupts is tried again, and any other error is a fault and is counted. A sync makes the file's data
-/// stable. Nothing is known of what other processes do to the file, so contracts never see it as honest; a stop leaves
-/// it as it is. The file is closed where the area is dropped. This project's own.
+/// a signal interrupts is tried again, and any other error is a fault, of which its witness is told, and is counted. A sync
+/// makes the file's data stable. No file is under a descriptor of the standard streams.
+///
+/// Behind a write or a sync that failed each call is a fault, and none is made of the system, until the file is opened anew:
+/// what it holds in memory may then be other than what is on the device, and the system no longer tells.
+///
+/// Nothing is known of what other processes do to the file, so contracts never see it as honest; a stop leaves it as it is.
+/// The file is closed where the area is dropped. This project's own.
 #[derive(Drop)]
-pub struct FileArea<F = File> {
+pub struct FileArea<F = File, W = NoWitness> {
     file: F,
     len: usize,
     faults: FaultCount,
+    is_given_up: bool,
+    witness: W,
 }
 
-impl<F: FileExt + OpenFile + Drop> FileArea<F> {
+impl<F: HeldFile> FileArea<F> {
     ghost use Rattle.lc_disk.specs.FileArea.{file_len, file_failures};
 
     /// The bytes of the file at this path, as long as it is now.
@@ -40,12 +49,22 @@ impl<F: FileExt + OpenFile + Drop> FileArea<F> {
         ensures failures { IfOk result (λ area. file_failures area ≡ 0) }
         ensures exists { result ≢ Err OpenFault.Exists }
     {
+        match FileArea::try_open(rt, path) {
+            Ok(area) => Ok(area),
+            Err(error) => Err(not_opened(error)),
+        }
+    }
+
+    /// As `open`, with the system's reason.
+    pub fn try_open<R: Files<File = F>>(rt: &R, path: &str) -> io::Result<FileArea<F>>
+        ensures { IfOk result (λ area. file_failures area ≡ 0) }
+    {
         let mut options = OpenOptions::new();
         let (file, len) = open_regular(rt, options.read(true).write(true), path)?;
-        let Ok(len) = usize::try_from(len) else {
-            return Err(OpenFault::NotOpened);
-        };
-        Ok(FileArea::over(file, len))
+        match usize::try_from(len) {
+            Ok(len) => Ok(FileArea::over(file, len)),
+            Err(_) => Err(Error::from(ErrorKind::FileTooLarge)),
+        }
     }
 
     /// A new file at this path, with so many zeros that are stable. The folder that has it is not synced.
@@ -63,19 +82,32 @@ impl<F: FileExt + OpenFile + Drop> FileArea<F> {
         ensures len { IfOk result (λ area. file_len area ≡ len) }
         ensures failures { IfOk result (λ area. file_failures area ≡ 0) }
     {
-        let file = OpenOptions::new()
-            .read(true)
-            .write(true)
-            .create_new(true)
-            .open(rt, path)
-            .map_err(not_made)?;
-        write_zeros(&file, len).map_err(not_opened)?;
-        file.sync_all().map_err(not_opened)?;
+        match make_new(rt, path) {
+            Ok(file) => FileArea::of_zeros(file, len).map_err(not_opened),
+            Err(error) => Err(not_made(error)),
+        }
+    }
+
+    /// As `make`, with the system's reason.
+    pub fn try_make<R: Files<File = F>>(rt: &R, path: &str, len: usize) -> io::Result<FileArea<F>>
+        ensures len { IfOk result (λ area. file_len area ≡ len) }
+        ensures failures { IfOk result (λ area. file_failures area ≡ 0) }
+    {
+        FileArea::of_zeros(make_new(rt, path)?, len)
+    }
+
+    // A new file, behind so many zeros that are stable.
+    fn of_zeros(file: F, len: usize) -> io::Result<FileArea<F>>
+        ensures len { IfOk result (λ area. file_len area ≡ len) }
+        ensures failures { IfOk result (λ area. file_failures area ≡ 0) }
+    {
+        write_zeros(&file, len)?;
+        file.sync_all()?;
         Ok(FileArea::over(file, len))
     }
 
     // A file of this length, which has not failed yet.
-    pub(crate) fn over(file: F, len: usize) -> FileArea<F>
+    fn over(file: F, len: usize) -> FileArea<F>
         ensures len { file_len result ≡ len }
         ensures failures { file_failures result ≡ 0 }
     {
@@ -83,22 +115,56 @@ impl<F: FileExt + OpenFile + Drop> FileArea<F> {
             file,
             len,
             faults: FaultCount::none(),
+            is_given_up: false,
+            witness: NoWitness,
         }
     }
 
-    // What a call of the system gave, with its error as a fault that is counted.
-    fn counted(&mut self, done: io::Result<()>) -> Result<(), DeviceFault>
+    /// The same area, of whose faults this witness is told.
+    pub fn witnessed_by<W: FaultWitness>(self, witness: W) -> FileArea<F, W>
+        ensures len { file_len result ≡ file_len self }
+        ensures failures { file_failures result ≡ file_failures self }
+    {
+        let FileArea {
+            file,
+            len,
+            faults,
+            is_given_up,
+            witness: _,
+        } = self;
+        FileArea { file, len, faults, is_given_up, witness }
+    }
+}
+
+impl<F: HeldFile, W: FaultWitness> FileArea<F, W> {
+    ghost use Rattle.lc_disk.specs.FileArea.{file_len, file_failures};
+
+    // What a call of the system gave, with its error as a fault that is counted. Behind a write or a sync that failed the
+    // file is given up.
+    fn counted(&mut self, call: FileCall, done: io::Result<()>) -> Result<(), DeviceFault>
         ensures len { file_len self.new ≡ file_len self.old }
         ensures counted { file_failures self.new ≡ (if is_ok result then file_failures self.old else file_failures self.old + 1) }
         ensures told { is_ok result ≡ is_ok done }
     {
         match done {
             Ok(()) => Ok(()),
-            Err(_) => {
+            Err(error) => {
+                self.is_given_up |= call != FileCall::Read;
+                self.witness.failed(call, error);
                 self.faults.count();
                 Err(DeviceFault)
             }
         }
+    }
+
+    // The fault of a file that is given up.
+    fn refused(&mut self) -> Result<(), DeviceFault>
+        ensures len { file_len self.new ≡ file_len self.old }
+        ensures counted { file_failures self.new ≡ file_failures self.old + 1 }
+        ensures refused { is_ok result ≡ false }
+    {
+        self.faults.count();
+        Err(DeviceFault)
     }
 }
 
@@ -107,24 +173,43 @@ impl<F: FileExt + OpenFile + Drop> FileArea<F> {
 ///
 /// # Errors
 ///
-/// `NotOpened` where there is no regular file that can be opened so; `NoMemory` where the system has none.
+/// The system's reason why there is no regular file that can be opened so.
 pub fn open_regular<R: Files>(
     rt: &R,
     options: &OpenOptions,
     path: &str,
-) -> Result<(R::File, u64), OpenFault>
-    ensures exists { result ≢ Err OpenFault.Exists }
+) -> io::Result<(R::File, u64)>
+where
+    R::File: HeldFile,
 {
-    if !fs::metadata(rt, path).map_err(not_opened)?.is_file() {
-        return Err(OpenFault::NotOpened);
+    if !fs::metadata(rt, path)?.is_file() {
+        return Err(not_regular());
     }
-    let file = options.open(rt, path).map_err(not_opened)?;
-    let metadata = file.metadata().map_err(not_opened)?;
+    let file = options.open(rt, path)?.beside_standard_streams()?;
+    let metadata = file.metadata()?;
     if !metadata.is_file() {
-        return Err(OpenFault::NotOpened);
+        return Err(not_regular());
     }
     let len = metadata.len();
     Ok((file, len))
+}
+
+// A new file at this path, with no bytes.
+fn make_new<R: Files>(rt: &R, path: &str) -> io::Result<R::File>
+where
+    R::File: HeldFile,
+{
+    OpenOptions::new()
+        .read(true)
+        .write(true)
+        .create_new(true)
+        .open(rt, path)?
+        .beside_standard_streams()
+}
+
+// Why what is no regular file was not opened.
+fn not_regular() -> Error {
+    Error::new(ErrorKind::InvalidInput, "not a regular file")
 }
 
 // Zeros from the front of a file on.
@@ -156,7 +241,7 @@ fn not_made(error: io::Error) -> OpenFault {
     }
 }
 
-impl<F: FileExt + OpenFile + Drop> Area for FileArea<F> {
+impl<F: HeldFile, W: FaultWitness> Area for FileArea<F, W> {
     ghost use Rattle.lc_disk.specs.FileArea.{file_len, file_failures};
 
     ghost now = { λ a. replicate a.len 0 };
@@ -172,18 +257,27 @@ impl<F: FileExt + OpenFile + Drop> Area for FileArea<F> {
     }
 
     fn read(&mut self, at: usize, buffer: &mut [u8]) -> Result<(), DeviceFault> {
+        if self.is_given_up {
+            return self.refused();
+        }
         let done = self.file.read_exact_at(buffer, at as u64);
-        self.counted(done)
+        self.counted(FileCall::Read, done)
     }
 
     fn write_at(&mut self, at: usize, bytes: &[u8]) -> Result<(), DeviceFault> {
+        if self.is_given_up {
+            return self.refused();
+        }
         let done = self.file.write_all_at(bytes, at as u64);
-        self.counted(done)
+        self.counted(FileCall::Write, done)
     }
 
     fn sync(&mut self) -> Result<(), DeviceFault> {
+        if self.is_given_up {
+            return self.refused();
+        }
         let done = self.file.sync_data();
-        self.counted(done)
+        self.counted(FileCall::Sync, done)
     }
 
     fn faults(&self) -> u64 {
@@ -191,7 +285,7 @@ impl<F: FileExt + OpenFile + Drop> Area for FileArea<F> {
     }
 }
 
-impl<F: FileExt + OpenFile + Drop> Stoppable for FileArea<F> {
+impl<F: HeldFile, W: FaultWitness> Stoppable for FileArea<F, W> {
     /// Nothing: a stop of the process leaves the file as it is.
     fn stop(&mut self, _choices: &[Choice]) {}
 }

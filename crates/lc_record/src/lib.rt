@@ -33,7 +33,7 @@ pub use group::Group;
 pub use items::Items;
 pub use laws::{header_tells_length, one_reading};
 pub use layout::Layout;
-pub use limits::{MAX_SEQ, MAX_WORDS};
+pub use limits::{MAX_NODE, MAX_SEGMENT, MAX_SEQ, MAX_WORDS};
 pub use part::Part;
 pub use record::{Lock, RangeData, Record};
 pub use span::Span;

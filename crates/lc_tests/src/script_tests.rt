@@ -329,6 +329,39 @@ impl Write for Narrow {
     }
 }
 
+// A writer that notes how much it has at each flush.
+#[derive(Drop)]
+struct Flushed {
+    bytes: Vec<u8>,
+    lens: Vec<usize>,
+}
+
+impl Write for Flushed {
+    fn write(&mut self, buf: &[u8]) -> io::Result<usize> {
+        self.bytes.extend_from_slice(buf)?;
+        Ok(buf.len())
+    }
+
+    fn flush(&mut self) -> io::Result<()> {
+        self.lens.push(self.bytes.len())?;
+        Ok(())
+    }
+}
+
+#[test]
+fn each_line_is_flushed(rt: HostRuntime) -> Result<(), Fail> {
+    let alloc = rt.alloc();
+    let mut writer = Flushed {
+        bytes: Vec::new(alloc),
+        lens: Vec::new(alloc),
+    };
+    let mut reader = "begin 0 0 1\n# a comment\nread 0 0 1 0 1\nabort 0 0\n".as_bytes();
+    run_script(alloc, ONE, zero_areas(alloc, &ONE)?, &mut reader, &mut writer)?;
+    assert!(rt; writer.bytes.as_slice() == b"ok\nbytes 00\nok\n");
+    assert!(rt; writer.lens.as_slice() == [3, 3, 12, 15].as_slice());
+    Ok(())
+}
+
 // A run of a script, given byte by byte, of which one read fails with so many bytes left, into a writer with so much room.
 fn run_failing(
     rt: &impl AllocGlobal,

@@ -1,9 +1,10 @@
 //! A file in memory, whose calls may be short, interrupted or fail.
 ghost use Rattle.std.specs.Prelude.{IsErr};
 
+use lc_disk::HeldFile;
 use std::alloc::Allocator;
 use std::cell::Cell;
-use std::fs::{Metadata, OpenFile, OpenOptions};
+use std::fs::{Metadata, OpenFile, OpenOptions, TryLockError};
 use std::io::{self, Error, ErrorKind, Read, Seek, SeekFrom, Write};
 use std::os::unix::fs::FileExt;
 use std::rt::Files;
@@ -78,6 +79,16 @@ impl OpenFile for FakeFile {
 
     fn sync_data(&self) -> io::Result<()> {
         self.allowed(0)?;
+        Ok(())
+    }
+}
+
+impl HeldFile for FakeFile {
+    fn beside_standard_streams(self) -> io::Result<FakeFile> {
+        Ok(self)
+    }
+
+    fn try_lock(&self) -> Result<(), TryLockError> {
         Ok(())
     }
 }

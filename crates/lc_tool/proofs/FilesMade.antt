@@ -22,6 +22,6 @@ pub none_up_to : (g : Geometry) (areas : ℕ) (files : List StoreFile) → areas
 none_up_to g areas files few all none = λ area below. none area (omega arith)
 
 -- a fault behind some files
-pub stops_making : (g : Geometry) (old new : List StoreFile) (held holds : Option (List ℕ)) (status : ℕ) → NoneTaken g (area_count g) old → MadeSome g old new
-    → Adds Stops held holds status → Adds (Inits g old new) held holds status
-stops_making g old new held holds status none made shown = (shown.0, inr (inr (inr (none, made), shown.1)), shown.2)
+pub stops_making : (g : Geometry) (old new : List StoreFile) (synced : List FileName) (held holds : Option (List ℕ)) (status : ℕ) → NoneTaken g (area_count g) old → MadeSome g old new
+    → Adds Stops held holds status → Adds (Inits g old new synced) held holds status
+stops_making g old new synced held holds status none made shown = (shown.0, inr (inr (inr (none, made), shown.1)), shown.2)

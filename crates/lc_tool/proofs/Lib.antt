@@ -1,3 +1,4 @@
+pub mod NewStore
 mod Again
 mod Performing
 mod Fitting

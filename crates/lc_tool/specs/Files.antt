@@ -1,16 +1,14 @@
 -- The files of a store, and what the making of them leaves in a folder.
-use Rattle.std.specs.Prelude.{◌≡◌, ◌⊎◌, ℕ, zero, suc, ◌+◌, ◌-◌, ◌*◌, ◌<◌, ◌≤◌, nat_lt, if◌then◌else◌, List, [], ◌∷◌, ◌++◌, map, codes, decimal, Contains}
-use Rattle.lc_disk.specs.declared.open_fault.OpenFault.{OpenFault}
-use Rattle.lc_disk.specs.declared.open_fault.OpenFault.TheVariants.{NotOpened, Exists, NoMemory as HasNone}
+use Rattle.std.specs.Prelude.{◌≡◌, ◌⊎◌, ℕ, zero, suc, ◌+◌, ◌-◌, ◌*◌, ◌<◌, ◌≤◌, nat_lt, if◌then◌else◌, Bool, List, [], ◌∷◌, ◌++◌, map, codes, decimal, Contains, Option}
 use Rattle.lc_record.specs.declared.geometry.Geometry.{Geometry}
 use Rattle.lc_model.specs.declared.refusal.Refusal.TheVariants.{BadGeometry, DeviceFault}
 use Rattle.lc_recover.specs.Reads.{area_count}
 use Rattle.lc_tool.specs.Script.{NoMemory}
+use Rattle.lc_text.specs.Inspector.{Inspects}
 use Rattle.lc_text.specs.Text.{exists_text, refusal_text}
+use Rattle.lc_tool.specs.Store.{Adds}
 use Rattle.lc_tool.specs.declared.file_name.FileName.{FileName}
 use Rattle.lc_tool.specs.declared.file_name.FileName.TheVariants.{Log, Segment}
-use Rattle.lc_tool.specs.declared.folder.FolderFault.{FolderFault}
-use Rattle.lc_tool.specs.declared.folder.FolderFault.TheVariants.{Failed, NoMemory as WantsMemory}
 use Rattle.lc_tool.specs.declared.store_file.StoreFile.{StoreFile}
 
 abbrev pub name_text : FileName → List ℕ
@@ -67,17 +65,17 @@ TellsInit text status = ((text ≡ exists_text) × (status ≡ 1)) ⊎ (((text �
 abbrev pub TellsFile : List ℕ → ℕ → Type 0
 TellsFile text status = ((text ≡ refusal_text (BadGeometry 0)) × (status ≡ 1)) ⊎ Stops text status
 
--- what a file that was not opened is to its folder
-abbrev pub fault_of : OpenFault → FolderFault
-fault_of NotOpened = Failed
-fault_of Exists = Failed
-fault_of HasNone = WantsMemory
+-- the records of some words, in this order, or why there are none, with what a writer held and holds
+abbrev pub TellsInspection : Bool → Option (List ℕ) → Option (List ℕ) → ℕ → Type 0
+TellsInspection reverse held holds status =
+    ((status ≡ 0) × ((words : List ℕ) × Inspects reverse words held holds)) ⊎ Adds TellsFile held holds status
 
--- A new store, where none of its files is there; else nothing is made. What was made before a fault stays.
-abbrev pub Inits : Geometry → List StoreFile → List StoreFile → List ℕ → ℕ → Type 0
-Inits g old new text status =
+-- A new store, all names of which are stable, where none of its files is there; else nothing is made. What was made before a
+-- fault stays.
+abbrev pub Inits : Geometry → List StoreFile → List StoreFile → List FileName → List ℕ → ℕ → Type 0
+Inits g old new synced text status =
     (SomeTaken g old × (new ≡ old) × (text ≡ exists_text) × (status ≡ 1))
-    ⊎ ((NoneTaken g (area_count g) old × (new ≡ old ++ store_files g) × (text ≡ []) × (status ≡ 0))
+    ⊎ ((NoneTaken g (area_count g) old × (new ≡ old ++ store_files g) × (synced ≡ names_of new) × (text ≡ []) × (status ≡ 0))
     ⊎ (((new ≡ old) ⊎ (NoneTaken g (area_count g) old × MadeSome g old new)) × Stops text status))
 
 -- so many bytes are those of a log

@@ -12,3 +12,4 @@ pub mod Outcome
 pub mod Tells
 pub mod Files
 pub mod Recovers
+pub mod Asked

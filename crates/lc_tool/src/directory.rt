@@ -1,102 +1,106 @@
-//! A folder of the system.
+//! A folder of the system in which a store is made.
 ghost use Rattle.std.specs.Prelude.{◌≡◌};
-ghost use Rattle.lc_tool.specs.Files.{fault_of};
 ghost use Rattle.lc_tool.specs.declared.folder.FolderFault.TheVariants.{NoMemory};
 
+use crate::file_fault::Place;
 use crate::file_name::FileName;
 use crate::folder::{Folder, FolderFault};
 use crate::store_file::StoreFile;
-use lc_disk::{FileArea, OpenFault};
+use crate::store_folder::StoreFolder;
+use lc_disk::{FileArea, HeldFile};
 use lc_record::Geometry;
-use std::alloc::{AllocError, Global};
-use std::fs::{self, File, OpenFile};
-use std::io::{self, ErrorKind};
-use std::os::unix::fs::FileExt;
+use std::alloc::AllocError;
+use std::io;
 use std::rt::Files;
 
-/// A folder of the system, by its path. Other processes may change what is in it, so contracts never see it as honest.
-pub(crate) struct Directory<'a, R> {
-    alloc: Global,
-    rt: &'a R,
-    path: &'a str,
+/// A folder of the system. Other processes may change what is in it, so contracts never see it as honest.
+pub(crate) struct Directory<'a, R: Files>
+where
+    R::File: HeldFile,
+{
+    folder: &'a StoreFolder<'a, R>,
+    guard: Option<R::File>,
+    has_begun: bool,
 }
 
-impl<R> Drop for Directory<'_, R> {
+impl<R: Files> Drop for Directory<'_, R>
+where
+    R::File: HeldFile,
+{
     fn drop(self) {
         let Directory {
-            alloc: _alloc,
-            rt: _rt,
-            path: _path,
+            folder: _folder,
+            guard: _guard,
+            has_begun: _has_begun,
         } = self;
     }
 }
 
-impl<'a, R: Files> Directory<'a, R> {
-    /// The folder at this path.
-    pub(crate) fn new(alloc: Global, rt: &'a R, path: &'a str) -> Directory<'a, R> {
-        Directory { alloc, rt, path }
-    }
-
-    // The path of a file in it. The empty text is the path of no folder.
-    fn path_of(&self, name: FileName) -> Result<String, FolderFault> {
-        let folder = self.path;
-        if folder.is_empty() {
-            return Err(FolderFault::Failed);
-        }
-        let path = format!(in self.alloc; "{folder}/{name}")?;
-        Ok(path)
-    }
-}
-
-impl<R: Files> Directory<'_, R>
+impl<'a, R: Files> Directory<'a, R>
 where
-    R::File: FileExt,
+    R::File: HeldFile,
 {
-    /// The areas of a store's files, which are opened in the order of the areas.
-    pub(crate) fn open_areas(
-        &self,
-        geometry: &Geometry,
-    ) -> Result<Vec<FileArea<R::File>>, FolderFault> {
-        let mut areas = Vec::new(self.alloc);
-        while let Some(file) = StoreFile::of_area(geometry, areas.len()) {
-            let path = self.path_of(file.name)?;
-            let area = FileArea::open(self.alloc, self.rt, &path)?;
-            areas.push(area).map_err(AllocError::from)?;
+    /// This folder, which is not held yet.
+    pub(crate) fn new(folder: &'a StoreFolder<'a, R>) -> Directory<'a, R> {
+        Directory {
+            folder,
+            guard: None,
+            has_begun: false,
         }
-        Ok(areas)
+    }
+
+    fn try_make(&self, file: StoreFile) -> io::Result<()> {
+        let path = self.folder.path_of(file.name)?;
+        FileArea::try_make(self.folder.rt, &path, file.len)?;
+        Ok(())
+    }
+
+    /// Says on standard error which files of a store of this size stand, where their making was begun.
+    pub(crate) fn tell_left(&self, geometry: &Geometry)
+    where
+        R: Eprint,
+    {
+        if !self.has_begun {
+            return;
+        }
+        for area in 0..geometry.nodes as usize + geometry.segments as usize {
+            if let Some(file) = StoreFile::of_area(geometry, area) {
+                self.folder.tell_standing(file.name);
+            }
+        }
     }
 }
 
 impl<R: Files> Folder for Directory<'_, R>
 where
-    R::File: FileExt,
+    R::File: HeldFile,
 {
     ghost use Rattle.std.specs.Prelude.{[], false};
 
     ghost files = { λ _. [] };
 
+    ghost synced = { λ _. [] };
+
     ghost honest = { λ _. false };
 
     fn is_taken(&mut self, name: FileName) -> Result<bool, FolderFault> {
-        let path = self.path_of(name)?;
-        // A link counts, wherever it leads.
-        match fs::symlink_metadata(self.rt, &path) {
-            Ok(_) => Ok(true),
-            Err(error) if error.kind() == ErrorKind::NotFound => Ok(false),
-            Err(error) => Err(FolderFault::from(error)),
-        }
+        self.folder
+            .noted(Place::File(name), self.folder.is_taken(name))
+    }
+
+    fn hold(&mut self) -> Result<(), FolderFault> {
+        self.guard = Some(self.folder.noted(Place::Folder, self.folder.lock())?);
+        Ok(())
     }
 
     fn make(&mut self, file: StoreFile) -> Result<(), FolderFault> {
-        let path = self.path_of(file.name)?;
-        FileArea::make(self.alloc, self.rt, &path, file.len)?;
-        Ok(())
+        self.has_begun = true;
+        self.folder
+            .noted(Place::File(file.name), self.try_make(file))
     }
 
     fn sync(&mut self) -> Result<(), FolderFault> {
-        let folder = File::open(self.rt, self.path)?;
-        folder.sync_all()?;
-        Ok(())
+        self.folder.noted(Place::Folder, self.folder.sync())
     }
 }
 
@@ -105,26 +109,5 @@ impl From<AllocError> for FolderFault {
 
     fn from(_error: AllocError) -> FolderFault {
         FolderFault::NoMemory
-    }
-}
-
-impl From<io::Error> for FolderFault {
-    fn from(error: io::Error) -> FolderFault {
-        match error.kind() {
-            ErrorKind::OutOfMemory => FolderFault::NoMemory,
-            _ => FolderFault::Failed,
-        }
-    }
-}
-
-impl From<OpenFault> for FolderFault {
-    ghost from_gives = { λ opening fault. fault ≡ fault_of opening };
-
-    fn from(fault: OpenFault) -> FolderFault {
-        match fault {
-            // All names were looked at: one that is taken by now was taken by somebody else.
-            OpenFault::NotOpened | OpenFault::Exists => FolderFault::Failed,
-            OpenFault::NoMemory => FolderFault::NoMemory,
-        }
     }
 }

@@ -6,7 +6,7 @@ use std::fmt;
 
 /// The name of a store's file. It prints as `log` and the node, from 0, or as `seg` and the segment, from 1.
 #[derive(Clone, Copy, PartialEq, Eq)]
-pub(crate) enum FileName {
+pub enum FileName {
     /// The log of this node.
     Log(u16),
     /// This segment.
@@ -18,7 +18,7 @@ impl FileName {
     ghost use Rattle.lc_tool.specs.Files.{name_at};
 
     /// The name of the file for the area at this index in the order of the store.
-    pub(crate) fn of_area(geometry: &Geometry, area: usize) -> FileName
+    pub fn of_area(geometry: &Geometry, area: usize) -> FileName
         requires { area < area_count geometry.now }
         ensures { result ≡ name_at geometry.now area }
     {

@@ -1,22 +1,21 @@
 //! The inspection of a log's file.
-ghost use Rattle.std.specs.Prelude.{◌≡◌, ◌≢◌, ◌↔◌, ◌⊎◌, ℕ, List, IfOk, IsTrue};
+ghost use Rattle.std.specs.Prelude.{◌≡◌, ◌≢◌, ◌↔◌, ◌⊎◌, IfOk, IsTrue};
 ghost use Rattle.std.specs.Io.KnownBytes.{Appends};
 ghost use Rattle.lc_record.specs.Words.{words_of};
-ghost use Rattle.lc_tool.specs.Files.{IsLogLen, TellsFile};
+ghost use Rattle.lc_tool.specs.Files.{IsLogLen, TellsInspection};
 ghost use Rattle.lc_text.specs.Inspector.{Inspects};
-ghost use Rattle.lc_tool.specs.Store.{Adds};
 ghost use Rattle.lc_text.specs.Text.{no_memory_text};
 
 use crate::ToolFault;
 use crate::folder::FolderFault;
 use crate::making::stopped;
 use crate::scripts::{DONE, bad_geometry, no_memory};
-use lc_disk::open_regular;
+use lc_disk::{HeldFile, open_regular};
 use lc_record::Geometry;
 use lc_text::inspect;
 use std::alloc::Global;
-use std::fs::{OpenFile, OpenOptions};
-use std::io::Write;
+use std::fs::OpenOptions;
+use std::io::{self, ErrorKind, Write};
 use std::os::unix::fs::FileExt;
 use std::rt::Files;
 
@@ -30,9 +29,10 @@ enum LogFile {
 }
 
 /// Writes a line for each record of the log in a file, the last first where `reverse` is set. The status is 0 where that
-/// is done, 1 where the file has not the length of a log or there was no memory, 3 where it could not be read. The file is
-/// opened for reading alone, and takes memory only where it is as long as a log. An `Err` is a fault of the writer.
-pub fn inspect_file<R: Files, W: Write>(
+/// is done, 1 where the file has not the length of a log or there was no memory, 3 where it could not be read, and why is said
+/// on standard error. The file is opened for reading alone, and takes memory only where it is as long as a log. An `Err` is a
+/// fault of the writer.
+pub fn inspect_file<R: Files + Eprint, W: Write>(
     alloc: Global,
     rt: &R,
     path: &str,
@@ -40,24 +40,28 @@ pub fn inspect_file<R: Files, W: Write>(
     writer: &mut W,
 ) -> Result<u8, ToolFault>
 where
-    R::File: FileExt,
-    // The lines of some bytes, or why there are none.
-    ensures tells { IfOk result (λ status. ((status ≡ 0) × ((words : List ℕ) × Inspects reverse words (W.contents writer.old) (W.contents writer.new)))
-        ⊎ Adds TellsFile (W.contents writer.old) (W.contents writer.new) status) }
+    R::File: HeldFile,
+    ensures tells { IfOk result (λ status. TellsInspection reverse (W.contents writer.old) (W.contents writer.new) status) }
     ensures memory { result ≢ Err ToolFault.NoMemory }
     ensures reads { result ≢ Err ToolFault.Read }
 {
     match read_log(alloc, rt, path) {
         Ok(LogFile::Bytes(bytes)) => show(alloc, &bytes, reverse, writer),
         Ok(LogFile::OtherLen) => bad_geometry(writer, 0),
-        Err(fault) => stopped(writer, fault),
+        Err(error) if error.kind() == ErrorKind::OutOfMemory => {
+            stopped(writer, FolderFault::NoMemory)
+        }
+        Err(error) => {
+            let _ = eprintln!(rt; "lcrvm: {path}: {error}");
+            stopped(writer, FolderFault::Failed)
+        }
     }
 }
 
 // The bytes of a log's file.
-fn read_log<R: Files>(alloc: Global, rt: &R, path: &str) -> Result<LogFile, FolderFault>
+fn read_log<R: Files>(alloc: Global, rt: &R, path: &str) -> io::Result<LogFile>
 where
-    R::File: FileExt,
+    R::File: HeldFile,
 {
     let mut options = OpenOptions::new();
     let (file, len) = open_regular(rt, options.read(true), path)?;

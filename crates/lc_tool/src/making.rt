@@ -1,7 +1,7 @@
 //! The making of a store's files.
 ghost use Rattle.std.specs.Prelude.{◌≡◌, ◌≢◌, ◌++◌, true, IfErr, IfOk, OnOk, OnErr, MatchBool};
 ghost use Rattle.lc_recover.specs.Reads.{area_count};
-ghost use Rattle.lc_tool.specs.Files.{Inits, MadeSome, NoneTaken, SomeTaken, Stops, TellsInit, store_files};
+ghost use Rattle.lc_tool.specs.Files.{Inits, MadeSome, NoneTaken, SomeTaken, Stops, TellsInit, names_of, store_files};
 ghost use Rattle.lc_text.specs.Text.{exists_text};
 ghost use Rattle.std.specs.Io.KnownBytes.{Appends};
 ghost use Rattle.lc_tool.specs.Store.{Adds};
@@ -16,7 +16,7 @@ use lc_text::{write_exists, write_no_memory, write_reply};
 use std::io::Write;
 
 /// Makes the files of a new store in a folder, unless something stands under one of their names: that is looked at of all
-/// before the first is made. The status is 0 where all are made, 1 where one is there or there was no memory, 3 where the
+/// before the first is made, and then the folder is held. The status is 0 where all are made, 1 where one is there or there was no memory, 3 where the
 /// folder failed; what was made before then stays. An `Err` is a fault of the writer.
 pub(crate) fn init_in<F: Folder, W: Write>(
     folder: &mut F,
@@ -24,7 +24,7 @@ pub(crate) fn init_in<F: Folder, W: Write>(
     writer: &mut W,
 ) -> Result<u8, ToolFault>
     ensures inits { IfOk result (λ status. F.honest folder.old ≡ true →
-        Adds (Inits geometry.now (F.files folder.old) (F.files folder.new)) (W.contents writer.old) (W.contents writer.new) status) }
+        Adds (Inits geometry.now (F.files folder.old) (F.files folder.new) (F.synced folder.new)) (W.contents writer.old) (W.contents writer.new) status) }
     ensures tells { IfOk result (λ status. Adds TellsInit (W.contents writer.old) (W.contents writer.new) status) }
     ensures memory { result ≢ Err ToolFault.NoMemory }
     ensures reads { result ≢ Err ToolFault.Read }
@@ -56,11 +56,13 @@ fn some_taken<F: Folder>(folder: &mut F, geometry: &Geometry) -> Result<bool, Fo
     Ok(false)
 }
 
-// Makes the file of each area in turn, and then their names stable.
+// Holds the folder, makes the file of each area in turn, and then their names stable.
 fn make_all<F: Folder>(folder: &mut F, geometry: &Geometry) -> Result<(), FolderFault>
     ensures made { OnOk result (F.honest folder.old ≡ true → F.files folder.new ≡ F.files folder.old ++ store_files geometry.now) }
+    ensures stable { OnOk result (F.honest folder.old ≡ true → F.synced folder.new ≡ names_of (F.files folder.new)) }
     ensures stays { OnErr result (F.honest folder.old ≡ true → MadeSome geometry.now (F.files folder.old) (F.files folder.new)) }
 {
+    folder.hold()?;
     let mut area = 0;
     while let Some(file) = StoreFile::of_area(geometry, area) {
         folder.make(file)?;

@@ -32,7 +32,7 @@ pub(crate) const DONE: u8 = 0;
 
 pub(crate) const REFUSED: u8 = 1;
 
-const NOT_UNDERSTOOD: u8 = 2;
+pub(crate) const NOT_UNDERSTOOD: u8 = 2;
 
 pub(crate) const FAULTED: u8 = 3;
 

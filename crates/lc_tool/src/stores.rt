@@ -8,19 +8,21 @@ ghost use Rattle.lc_tool.specs.Tells.{TellsScript};
 use crate::ToolFault;
 use crate::directory::Directory;
 use crate::making::{init_in, stopped};
+use crate::open_store::OpenStore;
 use crate::recovery::recover_areas;
-use crate::scripts::run_script;
+use crate::scripts::{DONE, run_script};
+use crate::store_folder::StoreFolder;
+use lc_disk::HeldFile;
 use lc_record::Geometry;
 use std::alloc::Global;
 use std::io::{Read, Write};
-use std::os::unix::fs::FileExt;
 use std::rt::Files;
 
 /// Makes the files of a new store in a folder, zeros: `log0` and so on for the nodes, `seg1` and so on for the segments. It
 /// prints nothing, and the status is 0; where something stands under one of these names it makes none, prints `refused
-/// Exists`, and the status is 1. A folder that fails gives `device fault` and 3, and what was made stays. An `Err` is a
-/// fault of the writer.
-pub fn init_store<R: Files, W: Write>(
+/// Exists`, and the status is 1. A folder that fails, or that another process has open, gives `device fault` and 3, and what was
+/// made stays: it says on standard error why, and which files stand. An `Err` is a fault of the writer.
+pub fn init_store<R: Files + Eprint, W: Write>(
     alloc: Global,
     rt: &R,
     folder: &str,
@@ -28,17 +30,25 @@ pub fn init_store<R: Files, W: Write>(
     writer: &mut W,
 ) -> Result<u8, ToolFault>
 where
-    R::File: FileExt,
+    R::File: HeldFile,
     ensures tells { IfOk result (λ status. Adds TellsInit (W.contents writer.old) (W.contents writer.new) status) }
     ensures memory { result ≢ Err ToolFault.NoMemory }
     ensures reads { result ≢ Err ToolFault.Read }
 {
-    init_in(&mut Directory::new(alloc, rt, folder), &geometry, writer)
+    let folder = StoreFolder::new(alloc, rt, folder);
+    let mut directory = Directory::new(&folder);
+    let ended = init_in(&mut directory, &geometry, writer);
+    folder.tell();
+    if ended != Ok(DONE) {
+        directory.tell_left(&geometry);
+    }
+    ended
 }
 
 /// Recovers the store in a folder, and prints the number of each segment and `recovered`: as `recover_areas` over the
-/// areas of its files. A file that cannot be opened gives `device fault` and the status 3.
-pub fn recover_store<R: Files, W: Write>(
+/// areas of its files, as they are opened (`StoreFolder::open`). A store that cannot be opened gives `device fault` and the
+/// status 3. What failed, and why, it says on standard error.
+pub fn recover_store<R: Files + Eprint, W: Write>(
     alloc: Global,
     rt: &R,
     folder: &str,
@@ -46,20 +56,27 @@ pub fn recover_store<R: Files, W: Write>(
     writer: &mut W,
 ) -> Result<u8, ToolFault>
 where
-    R::File: FileExt,
+    R::File: HeldFile,
     ensures tells { IfOk result (λ status. Adds (TellsRecovery geometry) (W.contents writer.old) (W.contents writer.new) status) }
     ensures memory { result ≢ Err ToolFault.NoMemory }
     ensures reads { result ≢ Err ToolFault.Read }
 {
-    match Directory::new(alloc, rt, folder).open_areas(&geometry) {
-        Ok(areas) => recover_areas(alloc, geometry, areas, writer),
+    let folder = StoreFolder::new(alloc, rt, folder);
+    let ended = match folder.open(&geometry) {
+        Ok(OpenStore {
+            areas,
+            guard: _guard,
+        }) => recover_areas(alloc, geometry, areas, writer),
         Err(fault) => stopped(writer, fault),
-    }
+    };
+    folder.tell();
+    ended
 }
 
-/// Runs a script on the store in a folder: as `run_script` over the areas of its files. A file that cannot be opened gives
-/// `device fault` and the status 3.
-pub fn run_store<R: Files, I: Read, W: Write>(
+/// Runs a script on the store in a folder: as `run_script` over the areas of its files, as they are opened
+/// (`StoreFolder::open`). A store that cannot be opened gives `device fault` and the status 3. What failed, and why, it says on
+/// standard error.
+pub fn run_store<R: Files + Eprint, I: Read, W: Write>(
     alloc: Global,
     rt: &R,
     folder: &str,
@@ -68,12 +85,18 @@ pub fn run_store<R: Files, I: Read, W: Write>(
     writer: &mut W,
 ) -> Result<u8, ToolFault>
 where
-    R::File: FileExt,
+    R::File: HeldFile,
     ensures tells { IfOk result (λ status. IfSome (I.remaining reader.old) (λ script. Adds (TellsScript script) (W.contents writer.old) (W.contents writer.new) status)) }
     ensures memory { result ≢ Err ToolFault.NoMemory }
 {
-    match Directory::new(alloc, rt, folder).open_areas(&geometry) {
-        Ok(areas) => run_script(alloc, geometry, areas, reader, writer),
+    let folder = StoreFolder::new(alloc, rt, folder);
+    let ended = match folder.open(&geometry) {
+        Ok(OpenStore {
+            areas,
+            guard: _guard,
+        }) => run_script(alloc, geometry, areas, reader, writer),
         Err(fault) => stopped(writer, fault),
-    }
+    };
+    folder.tell();
+    ended
 }

@@ -1,0 +1,78 @@
+//! What the program answers.
+ghost use Rattle.std.specs.Prelude.{◌≡◌, ◌≢◌, IfErr, IfOk, IfSome};
+ghost use Rattle.lc_tool.specs.Asked.{AnswersAsked, PrintsHelp, RunsNew};
+
+use crate::ToolFault;
+use crate::log_file::inspect_file;
+use crate::scripts::{DONE, NOT_UNDERSTOOD, no_memory, run_script};
+use crate::stores::{init_store, recover_store, run_store};
+use crate::zeros::zero_areas;
+use lc_disk::HeldFile;
+use lc_record::Geometry;
+use lc_words::Asked;
+use std::alloc::{AllocError, Global};
+use std::io::{Read, Write};
+use std::rt::Files;
+
+/// Does what a command line asks for, and answers the status that the program ends with: 0 where it came to its end and nothing
+/// was refused, 1 where something was refused or there was no memory, 2 where something was not understood, 3 where a device
+/// failed. A script comes from the reader. What failed over files, and why, is said on standard error. An `Err` is a fault of
+/// the reader or of the writer.
+pub fn answer<R: Files + Eprint, I: Read, W: Write>(
+    alloc: Global,
+    rt: &R,
+    asked: Asked,
+    reader: &mut I,
+    writer: &mut W,
+) -> Result<u8, ToolFault>
+where
+    R::File: HeldFile,
+    ensures answers { IfOk result (λ status. AnswersAsked asked (I.remaining reader.old) (W.contents writer.old) (W.contents writer.new) status) }
+    ensures memory { result ≢ Err ToolFault.NoMemory }
+{
+    match asked {
+        Asked::Run {
+            geometry,
+            store: None,
+        } => run_new(alloc, geometry, reader, writer),
+        Asked::Run {
+            geometry,
+            store: Some(folder),
+        } => run_store(alloc, rt, &folder, geometry, reader, writer),
+        Asked::Init { folder, geometry } => init_store(alloc, rt, &folder, geometry, writer),
+        Asked::Recover { folder, geometry } => recover_store(alloc, rt, &folder, geometry, writer),
+        Asked::Inspect { file, reverse } => inspect_file(alloc, rt, &file, reverse, writer),
+        Asked::Help(text) => help(&text, writer),
+        Asked::NotUnderstood => {
+            let _ = rt.eprintln("command line not understood");
+            Ok(NOT_UNDERSTOOD)
+        }
+    }
+}
+
+// Runs a script on a new store in memory, zeros.
+fn run_new<I: Read, W: Write>(
+    alloc: Global,
+    geometry: Geometry,
+    reader: &mut I,
+    writer: &mut W,
+) -> Result<u8, ToolFault>
+    ensures runs { IfOk result (λ status. IfSome (I.remaining reader.old) (λ script. RunsNew geometry script (W.contents writer.old) (W.contents writer.new) status)) }
+    ensures memory { result ≢ Err ToolFault.NoMemory }
+{
+    match zero_areas(alloc, &geometry) {
+        Ok(areas) => run_script(alloc, geometry, areas, reader, writer),
+        Err(AllocError) => no_memory(writer),
+    }
+}
+
+// Prints a help text.
+fn help<W: Write>(text: &str, writer: &mut W) -> Result<u8, ToolFault>
+    ensures prints { IfOk result (λ status. PrintsHelp text.now (W.contents writer.old) (W.contents writer.new) status) }
+    ensures writes { IfErr result (λ fault. fault ≡ ToolFault.Write) }
+{
+    match writer.write_all(text.as_bytes()) {
+        Ok(()) => Ok(DONE),
+        Err(_) => Err(ToolFault::Write),
+    }
+}

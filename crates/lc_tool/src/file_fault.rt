@@ -1,0 +1,25 @@
+//! What failed in a folder, and why.
+use crate::file_name::FileName;
+use std::io;
+
+/// Where in a folder something failed.
+#[derive(Clone, Copy, PartialEq, Eq)]
+pub enum Place {
+    /// The folder itself.
+    Folder,
+    /// The folder that it stands in.
+    Parent,
+    /// A file of the store.
+    File(FileName),
+    /// The mark of a fault.
+    Mark,
+}
+
+/// A fault in a folder, with the system's reason.
+#[derive(Clone, Copy)]
+pub struct FileFault {
+    /// Where it was met.
+    pub place: Place,
+    /// Why.
+    pub error: io::Error,
+}

@@ -1,0 +1,71 @@
+//! The whole program.
+use crate::ToolFault;
+use crate::answering::answer;
+use crate::noted::Noted;
+use crate::scripts::{FAULTED, no_memory};
+use lc_disk::HeldFile;
+use lc_words::{Asked, read_command_line};
+use std::alloc::{AllocError, Global};
+use std::env;
+use std::io::{self, BufWriter, ErrorKind, Read, Write};
+use std::rt::{Env, Files};
+
+/// Reads the command line, does what it asks for over standard input and output, and answers the status to end with. What
+/// failed, and why, is said on standard error.
+pub fn run_program<R: AllocGlobal + Env + Files + Input + Print + Eprint>(rt: &R) -> u8
+where
+    R::File: HeldFile,
+{
+    let alloc = rt.alloc();
+    let mut input = Noted::new(rt.reader());
+    let mut output = Noted::new(io::writer(rt));
+    let status = match asked_for(alloc, rt) {
+        Ok(asked) => status_of(buffered(alloc, rt, asked, &mut input, &mut output), &mut output),
+        Err(AllocError) => status_of(Err(ToolFault::NoMemory), &mut output),
+    };
+    input.tell(rt, "standard input");
+    output.tell(rt, "standard output");
+    status
+}
+
+// What the command line asks for. Words that are no text are not understood.
+fn asked_for<R: AllocGlobal + Env>(alloc: Global, rt: &R) -> Result<Asked, AllocError> {
+    match env::args(rt) {
+        Ok(args) => {
+            let words: Vec<String> = args.collect(alloc)?;
+            read_command_line(alloc, words.as_slice())
+        }
+        Err(error) if error.kind() == ErrorKind::OutOfMemory => Err(AllocError),
+        Err(_) => Ok(Asked::NotUnderstood),
+    }
+}
+
+// The answer, of which all that is printed has gone out.
+fn buffered<R: Files + Eprint, I: Read, W: Write>(
+    alloc: Global,
+    rt: &R,
+    asked: Asked,
+    input: &mut I,
+    output: &mut W,
+) -> Result<u8, ToolFault>
+where
+    R::File: HeldFile,
+{
+    let Ok(mut writer) = BufWriter::new(alloc, output) else {
+        return Err(ToolFault::NoMemory);
+    };
+    let status = answer(alloc, rt, asked, input, &mut writer)?;
+    match writer.flush() {
+        Ok(()) => Ok(status),
+        Err(_) => Err(ToolFault::Write),
+    }
+}
+
+// The status to end with, where nothing was printed for want of memory.
+fn status_of<W: Write>(answered: Result<u8, ToolFault>, output: &mut W) -> u8 {
+    match answered {
+        Ok(status) => status,
+        Err(ToolFault::NoMemory) => no_memory(output).unwrap_or(FAULTED),
+        Err(ToolFault::Read | ToolFault::Write) => FAULTED,
+    }
+}
