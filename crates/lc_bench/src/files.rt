@@ -172,10 +172,7 @@ fn opened<R: AllocGlobal, F: HeldFile>(
 }
 
 // One commit, which is not durable yet.
-fn commit<F: HeldFile>(
-    alloc: Global,
-    world: &mut World<FileArea<F>>,
-) -> io::Result<()> {
+fn commit<F: HeldFile>(alloc: Global, world: &mut World<FileArea<F>>) -> io::Result<()> {
     let (node, thread, segment, offset) = (0, 0, 1, 0);
     let events = [
         Event::Begin {
@@ -222,10 +219,7 @@ fn commit_group<F: HeldFile>(
 }
 
 // All commits become durable.
-fn flush<F: HeldFile>(
-    alloc: Global,
-    world: &mut World<FileArea<F>>,
-) -> io::Result<()> {
+fn flush<F: HeldFile>(alloc: Global, world: &mut World<FileArea<F>>) -> io::Result<()> {
     for _ in 0..4 {
         if let Reply::Refused(_) = world.step(alloc, &Event::FlushStep { node: 0 })? {
             return Err(Error::from(ErrorKind::InvalidData));

@@ -132,7 +132,13 @@ impl<F: HeldFile> FileArea<F> {
             is_given_up,
             witness: _,
         } = self;
-        FileArea { file, len, faults, is_given_up, witness }
+        FileArea {
+            file,
+            len,
+            faults,
+            is_given_up,
+            witness,
+        }
     }
 }
 

@@ -89,7 +89,10 @@ fn check(
     let mut text = Vec::new(shelf.alloc());
     let mut reader = script.as_bytes();
     let given = answer(shelf.alloc(), &Listed(shelf), asked, &mut reader, &mut text)?;
-    assert!(rt; text.as_slice() == want.as_bytes() && given == status, "{want}");
+    assert!(rt;
+        text.as_slice() == want.as_bytes() && given == status,
+        "{want}"
+    );
     Ok(())
 }
 
@@ -198,7 +201,11 @@ fn a_store_in_use_is_not_opened(rt: HostRuntime) -> Result<(), Fail> {
     let in_use = "lcrvm: store: store in use\n";
     shelf.is_taken.set(true);
     check(&rt, &shelf, init(alloc, one()?)?, "", "device fault\n", 3)?;
-    check_calls(&rt, &shelf, &["look store/log0\nlook store/seg1\nopen store\nlock store\n"])?;
+    check_calls(
+        &rt,
+        &shelf,
+        &["look store/log0\nlook store/seg1\nopen store\nlock store\n"],
+    )?;
     check_said(&rt, &shelf, in_use)?;
     for asked in [run(alloc, one()?)?, recover(alloc, one()?)?] {
         check(&rt, &shelf, asked, COMMIT, "device fault\n", 3)?;

@@ -356,7 +356,13 @@ fn each_line_is_flushed(rt: HostRuntime) -> Result<(), Fail> {
         lens: Vec::new(alloc),
     };
     let mut reader = "begin 0 0 1\n# a comment\nread 0 0 1 0 1\nabort 0 0\n".as_bytes();
-    run_script(alloc, ONE, zero_areas(alloc, &ONE)?, &mut reader, &mut writer)?;
+    run_script(
+        alloc,
+        ONE,
+        zero_areas(alloc, &ONE)?,
+        &mut reader,
+        &mut writer,
+    )?;
     assert!(rt; writer.bytes.as_slice() == b"ok\nbytes 00\nok\n");
     assert!(rt; writer.lens.as_slice() == [3, 3, 12, 15].as_slice());
     Ok(())

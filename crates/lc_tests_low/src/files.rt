@@ -41,7 +41,10 @@ fn each_failing_call_is_counted(rt: HostRuntime) -> Result<(), Fail> {
             area.sync().is_err(),
         ];
         let count = failed.iter().filter(|it| **it).count();
-        assert!(rt; failed == want && area.faults() == count as u64, "{failing}");
+        assert!(rt;
+            failed == want && area.faults() == count as u64,
+            "{failing}"
+        );
     }
     Ok(())
 }

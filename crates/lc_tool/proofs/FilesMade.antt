@@ -1,5 +1,6 @@
 -- What the making of a store's files has found and made.
-use Rattle.std.proofs.Common.{◌≡◌, ◌↔◌, ℕ, ◌≤◌, Bool, false, IsTrue, List, sym, subst, ap, inr, rules, arith, Contains, Option}
+use Rattle.std.proofs.Common.{◌≡◌, ◌↔◌, ◌∙◌, ℕ, ◌≤◌, Bool, false, IsTrue, List, sym, subst, ap, inl, inr, rules, arith, Contains, Option}
+use Rattle.std.proofs.lemmas.List.{append-nil}
 use Rattle.lc_record.specs.declared.geometry.Geometry.{Geometry}
 use Rattle.lc_recover.specs.Reads.{area_count}
 use Rattle.lc_tool.specs.Files.{Inits, MadeSome, NoneTaken, Stops, file_at, name_at, names_of}
@@ -25,3 +26,7 @@ none_up_to g areas files few all none = λ area below. none area (omega arith)
 pub stops_making : (g : Geometry) (old new : List StoreFile) (synced : List FileName) (held holds : Option (List ℕ)) (status : ℕ) → NoneTaken g (area_count g) old → MadeSome g old new
     → Adds Stops held holds status → Adds (Inits g old new synced) held holds status
 stops_making g old new synced held holds status none made shown = (shown.0, inr (inr (inr (none, made), shown.1)), shown.2)
+
+-- nothing was made yet
+pub none_made_yet : (g : Geometry) (old new : List StoreFile) → new ≡ old → MadeSome g old new
+none_made_yet g old new same = (0, omega arith, inl (same ∙ sym (append-nil old)))

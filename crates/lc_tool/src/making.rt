@@ -31,7 +31,7 @@ pub(crate) fn init_in<F: Folder, W: Write>(
 {
     match some_taken(folder, geometry) {
         Ok(true) => exists(writer),
-        Ok(false) => match make_all(folder, geometry) {
+        Ok(false) => match make_held(folder, geometry) {
             Ok(()) => Ok(DONE),
             Err(fault) => stopped(writer, fault),
         },
@@ -56,13 +56,24 @@ fn some_taken<F: Folder>(folder: &mut F, geometry: &Geometry) -> Result<bool, Fo
     Ok(false)
 }
 
-// Holds the folder, makes the file of each area in turn, and then their names stable.
+// Holds the folder, and makes the files.
+fn make_held<F: Folder>(folder: &mut F, geometry: &Geometry) -> Result<(), FolderFault>
+    ensures made { OnOk result (F.honest folder.old ≡ true → F.files folder.new ≡ F.files folder.old ++ store_files geometry.now) }
+    ensures stable { OnOk result (F.honest folder.old ≡ true → F.synced folder.new ≡ names_of (F.files folder.new)) }
+    ensures stays { OnErr result (F.honest folder.old ≡ true → MadeSome geometry.now (F.files folder.old) (F.files folder.new)) }
+{
+    match folder.hold() {
+        Ok(()) => make_all(folder, geometry),
+        Err(fault) => Err(fault),
+    }
+}
+
+// Makes the file of each area in turn, and then their names stable.
 fn make_all<F: Folder>(folder: &mut F, geometry: &Geometry) -> Result<(), FolderFault>
     ensures made { OnOk result (F.honest folder.old ≡ true → F.files folder.new ≡ F.files folder.old ++ store_files geometry.now) }
     ensures stable { OnOk result (F.honest folder.old ≡ true → F.synced folder.new ≡ names_of (F.files folder.new)) }
     ensures stays { OnErr result (F.honest folder.old ≡ true → MadeSome geometry.now (F.files folder.old) (F.files folder.new)) }
 {
-    folder.hold()?;
     let mut area = 0;
     while let Some(file) = StoreFile::of_area(geometry, area) {
         folder.make(file)?;

@@ -20,7 +20,10 @@ where
     let mut input = Noted::new(rt.reader());
     let mut output = Noted::new(io::writer(rt));
     let status = match asked_for(alloc, rt) {
-        Ok(asked) => status_of(buffered(alloc, rt, asked, &mut input, &mut output), &mut output),
+        Ok(asked) => status_of(
+            buffered(alloc, rt, asked, &mut input, &mut output),
+            &mut output,
+        ),
         Err(AllocError) => status_of(Err(ToolFault::NoMemory), &mut output),
     };
     input.tell(rt, "standard input");

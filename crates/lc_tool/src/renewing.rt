@@ -71,7 +71,9 @@ where
     R::File: HeldFile,
 {
     match Path::new(path).parent() {
-        Some(folder) => File::open(rt, folder)?.beside_standard_streams()?.sync_all(),
+        Some(folder) => File::open(rt, folder)?
+            .beside_standard_streams()?
+            .sync_all(),
         None => Ok(()),
     }
 }

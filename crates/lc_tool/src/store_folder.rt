@@ -112,7 +112,9 @@ impl<'a, R> StoreFolder<'a, R> {
             };
         }
         if self.is_unmarked.get() {
-            let _ = eprintln!(self.rt; "lcrvm: {folder}/{MARK}: not made: unmount the file system before the store is opened again");
+            let _ = eprintln!(self.rt;
+                "lcrvm: {folder}/{MARK}: not made: unmount the file system before the store is opened again"
+            );
         }
     }
 }

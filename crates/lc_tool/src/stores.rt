@@ -63,10 +63,12 @@ where
 {
     let folder = StoreFolder::new(alloc, rt, folder);
     let ended = match folder.open(&geometry) {
-        Ok(OpenStore {
-            areas,
-            guard: _guard,
-        }) => recover_areas(alloc, geometry, areas, writer),
+        Ok(
+            OpenStore {
+                areas,
+                guard: _guard,
+            },
+        ) => recover_areas(alloc, geometry, areas, writer),
         Err(fault) => stopped(writer, fault),
     };
     folder.tell();
@@ -90,13 +92,30 @@ where
     ensures memory { result ≢ Err ToolFault.NoMemory }
 {
     let folder = StoreFolder::new(alloc, rt, folder);
-    let ended = match folder.open(&geometry) {
-        Ok(OpenStore {
-            areas,
-            guard: _guard,
-        }) => run_script(alloc, geometry, areas, reader, writer),
-        Err(fault) => stopped(writer, fault),
-    };
+    let ended = run_in(&folder, geometry, reader, writer);
     folder.tell();
     ended
+}
+
+// The same, but for what is said on standard error.
+fn run_in<R: Files, I: Read, W: Write>(
+    folder: &StoreFolder<'_, R>,
+    geometry: Geometry,
+    reader: &mut I,
+    writer: &mut W,
+) -> Result<u8, ToolFault>
+where
+    R::File: HeldFile,
+    ensures tells { IfOk result (λ status. IfSome (I.remaining reader.old) (λ script. Adds (TellsScript script) (W.contents writer.old) (W.contents writer.new) status)) }
+    ensures memory { result ≢ Err ToolFault.NoMemory }
+{
+    match folder.open(&geometry) {
+        Ok(
+            OpenStore {
+                areas,
+                guard: _guard,
+            },
+        ) => run_script(folder.alloc, geometry, areas, reader, writer),
+        Err(fault) => stopped(writer, fault),
+    }
 }
