@@ -273,7 +273,9 @@ fn the_last_page_of_the_longest_segment(rt: HostRuntime) -> Result<(), Fail> {
     check(&rt, &shelf, init(alloc, geometry)?, "", "", 0)?;
     let commit =
         "begin 0 0 1\nrange 0 0 1 262139 5\nwrite 0 0 1 262139 68656c6c6f\nend 0 0\nflush 0\n";
-    check(&rt, &shelf, run(alloc, geometry)?, commit, COMMITTED, 0)?;
+    // Such a far range has three words before its bytes.
+    let committed = "ok\nok\nok\nclosed 0 9\nacked 1\n";
+    check(&rt, &shelf, run(alloc, geometry)?, commit, committed, 0)?;
     let recovered = "segment 1 sequence 1\nrecovered\n";
     check(&rt, &shelf, recover(alloc, geometry)?, "", recovered, 0)?;
     let read = "begin 0 0 1\nread 0 0 1 262139 5\nread 0 0 1 0 1\n";

@@ -7,6 +7,7 @@ use std::cell::{Cell, RefCell};
 use std::fmt::Display;
 use std::fs::{Metadata, OpenFile, OpenOptions, Permissions, TryLockError};
 use std::io::{self, Error, ErrorKind, Read, Seek, SeekFrom, Write};
+use std::mem;
 use std::os::unix::fs::FileExt;
 use std::rt::Files;
 
@@ -57,12 +58,14 @@ impl Shelf {
 
     /// The calls since the last look, a line each, and none from here on.
     pub(crate) fn calls(&self) -> io::Result<String> {
-        Ok(self.calls.try_replace(String::new(self.alloc))?)
+        let mut calls = self.calls.try_borrow_mut()?;
+        Ok(mem::replace(&mut *calls, String::new(self.alloc)))
     }
 
     /// What was printed on standard error since the last look.
     pub(crate) fn said(&self) -> io::Result<String> {
-        Ok(self.said.try_replace(String::new(self.alloc))?)
+        let mut said = self.said.try_borrow_mut()?;
+        Ok(mem::replace(&mut *said, String::new(self.alloc)))
     }
 
     /// Puts an empty file there.

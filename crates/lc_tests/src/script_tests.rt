@@ -363,7 +363,7 @@ fn each_line_is_flushed(rt: HostRuntime) -> Result<(), Fail> {
         &mut reader,
         &mut writer,
     )?;
-    assert!(rt; writer.bytes.as_slice() == b"ok\nbytes 00\nok\n");
+    assert!(rt; writer.bytes.as_slice() == "ok\nbytes 00\nok\n".as_bytes());
     assert!(rt; writer.lens.as_slice() == [3, 3, 12, 15].as_slice());
     Ok(())
 }
