@@ -1,6 +1,6 @@
 """Cuts the power of the built program anywhere, and looks that what was acknowledged is there.
 
-usage: python3 tests/power.py PROGRAM SHIM [--cuts N] [--seed SEED] [--jobs N] [--stories plain|failing] [--without-syncs]
+usage: python3 tests/power.py PROGRAM SHIM [--cuts N] [--seed SEED] [--jobs N] [--stories plain|failing] [--without-syncs KIND]
 
 SHIM is tests/traced_calls.c, built. A story is a new store, and random scripts that run on it one after another, with
 recoveries between; SHIM writes down each call and each printed line, in order. A cut takes the calls up to some place. A byte
@@ -13,7 +13,9 @@ from the script. Some of the recoveries are cut again, and so are runs behind th
 In a failing story one sync of a run fails. The bytes that were written until then are what a read gives, but no later sync
 makes them stable: the system takes their pages for clean.
 
-With --without-syncs no sync counts, and a cut has to lose something: the status is 0 where one does.
+With --without-syncs the syncs of a kind do not count, or `all` of them, and a cut has to lose something: the status is 0 where
+one does. The kind is told by what was written to the file last: of a log, a `group`, its `gate`, or the zero of a `reset`; of a
+segment, the zero that has to `close` a slot, what has to `fill` it, or the gate that has to `open` it.
 """
 import argparse
 import multiprocessing
@@ -44,10 +46,15 @@ class Lost(Exception):
 # ---- a disk
 
 
+SYNCS = ["group", "gate", "reset", "close", "fill", "open"]
+
+
 class Inode:
     """A file's bytes: those that are stable, those that a read gives, and what was written since the last sync."""
 
-    def __init__(self, data=b""):
+    def __init__(self, data=b"", name=""):
+        self.name = name
+        self.last = b""
         self.stable = bytearray(data)
         self.now = bytearray(data)
         self.lengths = []
@@ -61,6 +68,15 @@ class Inode:
             self.lengths.append(len(self.now))
         self.now[at : at + len(data)] = data
         self.writes.append((at, bytes(data)))
+        self.last = data
+
+    def sync_kind(self):
+        of_log = self.name.startswith("log")
+        if len(self.last) != 1:
+            return "group" if of_log else "fill"
+        if self.last[0] == GATE:
+            return "gate" if of_log else "open"
+        return "reset" if of_log else "close"
 
     def truncate(self, length):
         self.now[length:] = b""
@@ -157,7 +173,7 @@ class Disk:
 
     def __init__(self, folder, files=None):
         self.folder = os.path.normpath(folder)
-        self.now = {name: Inode(data) for name, data in (files or {}).items()}
+        self.now = {name: Inode(data, name) for name, data in (files or {}).items()}
         self.stable = dict(self.now)
         self.changes = []
         self.parent_synced = files is not None
@@ -167,7 +183,7 @@ class Disk:
         """Another process."""
         self.open = {}
 
-    def do(self, call, syncs=True):
+    def do(self, call, without=None):
         kind = call[0]
         if kind == "open":
             _, file, flags, path = call
@@ -177,7 +193,7 @@ class Disk:
                 return
             name = os.path.basename(path)
             if name not in self.now:
-                self.now[name] = Inode()
+                self.now[name] = Inode(name=name)
                 self.changes.append(("make", name, self.now[name]))
             inode = self.now[name]
             if flags & os.O_TRUNC and inode.now:
@@ -191,7 +207,7 @@ class Disk:
             self.open[call[1]].truncate(call[2])
         elif kind == "sync":
             what = self.open[call[1]]
-            if not syncs:
+            if without == "all" or without is not None and isinstance(what, Inode) and what.sync_kind() == without:
                 return
             if isinstance(what, Inode):
                 what.fail() if call[2] else what.sync()
@@ -349,7 +365,7 @@ class History:
         acknowledged = [t for n in range(NODES) for t in [t for t in self.reserved if t.node == n][: self.acknowledged[n]]]
         _, least = self.folded(acknowledged)
         wrong = [s for s in content if ABORTED in content[s]]
-        told = f"the segments' numbers are {numbers}, and at least {least} are acknowledged"
+        told = f"no list of transactions has these bytes; the segments' numbers are {numbers}, and at least {least} are acknowledged"
         raise Lost(told + (f"; segments {wrong} have bytes of an aborted transaction" if wrong else ""))
 
 
@@ -569,8 +585,8 @@ class Process:
 class Player:
     """Goes through processes call by call, on a disk and in a history."""
 
-    def __init__(self, disk, history, syncs):
-        self.disk, self.history, self.syncs = disk, history, syncs
+    def __init__(self, disk, history, without=None):
+        self.disk, self.history, self.without = disk, history, without
         self.kept = None
 
     def begin(self, process):
@@ -581,7 +597,7 @@ class Player:
 
     def do(self, call):
         if call[0] != "print":
-            self.disk.do(call, self.syncs)
+            self.disk.do(call, self.without)
             return
         self.text += call[1]
         while b"\n" in self.text:
@@ -641,7 +657,7 @@ def tell(program, shim, work, seed, failing):
     left += ["the folder's own name"] if not disk.parent_synced else []
     files = files_of(folder)
     history = History()
-    player = Player(Disk(folder, files), history, True)
+    player = Player(Disk(folder, files), history)
     processes, number = [], [0]
     for turn in range(4):
         lines = None
@@ -690,7 +706,7 @@ def look(program, shim, work, player, rng, depth):
     next_history = History()
     next_history.base, next_history.numbers = history.base, history.numbers
     next_history.reserved, next_history.acknowledged = history.reserved, history.acknowledged
-    next_player = Player(Disk(folder, files), next_history, player.syncs)
+    next_player = Player(Disk(folder, files), next_history, player.without)
     calls = sum(len(process.calls) for process in processes)
     place = rng.randrange(calls + 1)
     for process in processes:
@@ -707,7 +723,7 @@ def look(program, shim, work, player, rng, depth):
 
 def cut_story(task):
     """Tells one story and cuts it at so many places."""
-    program, shim, seed, failing, cuts, syncs, stop_early = task
+    program, shim, seed, failing, cuts, without = task
     work = tempfile.mkdtemp(prefix="story.", dir=os.environ["POWER_WORK"])
     made, lost, left, calls, kinds = 0, [], [], 0, {}
     try:
@@ -718,12 +734,12 @@ def cut_story(task):
         # Of the printed lines, those that acknowledge something.
         telling = [at for at, call in enumerate(all_calls, 1) if call[0] != "print" or b"acked" in call[1]]
         places = sorted(rng.choice(telling) for _ in range(cuts))
-        player = Player(Disk(f"{work}/told/store", files), History(), syncs)
+        player = Player(Disk(f"{work}/told/store", files), History(), without)
         at = 0
 
         def cut_here():
             nonlocal made
-            while places and places[0] == at and not (stop_early and lost):
+            while places and places[0] == at and not (without and lost):
                 places.pop(0)
                 try:
                     made += look(program, shim, work, player, rng, 2)
@@ -757,11 +773,11 @@ def main():
     parser.add_argument("--seed", type=int, default=1)
     parser.add_argument("--jobs", type=int, default=2)
     parser.add_argument("--stories", choices=["plain", "failing"], default="plain")
-    parser.add_argument("--without-syncs", action="store_true")
+    parser.add_argument("--without-syncs", choices=["all"] + SYNCS)
     asked = parser.parse_args()
     each = 100
     tasks = [
-        (asked.program, asked.shim, asked.seed * 10000 + k, asked.stories == "failing", each, not asked.without_syncs, asked.without_syncs)
+        (asked.program, asked.shim, asked.seed * 10000 + k, asked.stories == "failing", each, asked.without_syncs)
         for k in range((asked.cuts + each - 1) // each)
     ]
     made, calls, lost, left, kinds = 0, 0, [], [], {}
@@ -777,7 +793,7 @@ def main():
                 pool.terminate()
                 break
     if asked.without_syncs:
-        print(f"without syncs {len(lost)} of {made} cuts lost something: {lost[0]}" if lost else f"without syncs none of {made} cuts lost anything")
+        print(f"without the syncs {asked.without_syncs}: {'' if lost else 'none of '}{made} cuts until something was lost{': ' + lost[0] if lost else ''}")
         sys.exit(0 if lost else 1)
     told = ", ".join(f"{number} {kind}" for kind, number in sorted(kinds.items()))
     print(f"{made} cuts of {len(tasks)} {asked.stories} stories with {calls} calls ({told}): {len(lost)} lost something")

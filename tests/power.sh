@@ -1,6 +1,7 @@
 #!/bin/sh
-# Cuts the power of the built program anywhere: tests/power.py says how, and what it looks at. It first takes stories in which all
-# goes well, then those in which a sync fails, and at last it leaves the syncs out and sees that something is lost then.
+# Cuts the power of the built program anywhere: tests/power.py says how, and what it looks at. It takes stories in which all goes
+# well, and then some in which a sync fails. Then it leaves out the syncs, all and each kind by itself, and sees that each time
+# something is lost: so each sync is needed, and a loss is seen.
 #
 # usage: tests/power.sh [PROGRAM [SEED [CUTS]]]     (default: crates/lcrvm/out/lcrvm, 1, 5000; `cc` and `python3` are wanted)
 #
@@ -17,17 +18,19 @@ work=$(mktemp -d "${TMPDIR:-/tmp}/lcrvm-power.XXXXXX")
 trap 'rm -rf "$work"' EXIT
 cc -shared -fPIC -O2 -o "$work/calls.so" "$tests/traced_calls.c" -ldl
 
-cut() {
-    POWER_WORK="$work" timeout -k 5 1800 python3 -B "$tests/power.py" "$program" "$work/calls.so" --seed "$seed" "$@"
-}
-
 passed=0
 failed=0
-one() {
-    if cut "$@"; then passed=$((passed + 1)); else failed=$((failed + 1)); fi
+cut() {
+    if POWER_WORK="$work" timeout -k 5 1800 python3 -B "$tests/power.py" "$program" "$work/calls.so" --seed "$seed" "$@"; then
+        passed=$((passed + 1))
+    else
+        failed=$((failed + 1))
+    fi
 }
-one --cuts "$cuts"
-one --cuts $(((cuts + 3) / 4)) --stories failing
-one --cuts 500 --without-syncs
+cut --cuts "$cuts"
+cut --cuts $(((cuts + 1) / 2)) --stories failing
+for kind in all group gate reset close fill open; do
+    cut --cuts 5000 --without-syncs $kind
+done
 echo "$passed passed, $failed failed"
 [ $failed -eq 0 ]
