@@ -1,7 +1,8 @@
 #!/bin/sh
-# Fails each call on the files of a store in turn, one a run: of a run, a recovery, a recovery behind a fault, and an init. The
-# status is 3, standard error names the file and the system's reason, and a recovery behind it finds each acknowledged
-# commit, whole. It also fails standard input and standard output.
+# Fails each call on the files of a store in turn, one a run: of a run, a recovery, a recovery behind a fault, an init and an
+# inspection. The status is 3, standard error names the file and the system's reason, what failed is called no more, a failed
+# write or sync leaves its mark, and a recovery behind it finds each acknowledged commit, whole. It also fails standard input
+# and standard output, and looks how a store whose mark is there is recovered.
 #
 # usage: tests/faults.sh [PROGRAM]     (default: crates/lcrvm/out/lcrvm; a C compiler `cc` is wanted)
 #
@@ -42,6 +43,7 @@ failing() {
 }
 
 size='--nodes 2 --segments 2 --words 256'
+files='log0 log1 seg1 seg2 '
 store=$work/at/store
 
 # Commit K puts the number K in two bytes of both segments. One node's commits come first, and behind a page write and a
@@ -86,16 +88,27 @@ lcrvm run --store "$store" $size < run.script > whole.out || { echo 'failed: the
 
 # Standard error names what failed, and why.
 told() {
-    path=$(sed 's/^[a-z]* //' mark)
+    path=$(sed '2,$d;s/^[a-z]* //' mark)
     case $path in
-        "$store"*) ;;
-        # The folder that has the store.
-        *) path=$store ;;
+        "$store" | "$store"/[a-z]*) named="lcrvm: ${path%.new}: " ;;
+        # The folder that has the store's own, by whatever name.
+        *) named='lcrvm: ' ;;
     esac
     case $error in 28) reason='No space left on device' ;; *) reason='Input/output error' ;; esac
     # A copy's fault may be said of the file or of the copy.
     sed 's/\.new: /: /' err > said
-    grep -q -F "lcrvm: ${path%.new}: $reason" said || fail "$1: standard error has not '$path: $reason': $(cat err)"
+    grep -F "$named" said | grep -q -F ": $reason" || fail "$1: standard error has not '$path: $reason': $(cat err)"
+    case $(sed q mark) in
+        pwrite* | sync*) ! grep -q '^again' mark || fail "$1: what failed is called again: $(grep '^again' mark | tail -n 1)" ;;
+    esac
+}
+
+# A write or sync of an area that failed left an empty file in the folder, and nothing else does.
+marked() {
+    case $2 in
+        pwrite | sync) [ -f at/store/fault ] && [ ! -s at/store/fault ] || fail "$1: no mark is left" ;;
+        *) [ ! -e at/store/fault ] || fail "$1: a mark is left, and no write or sync failed" ;;
+    esac
 }
 
 # A recovery finds what was acknowledged: so many commits at least, and the same in both segments.
@@ -110,21 +123,24 @@ recovered() {
     two=$(sed -n 4p looked)
     [ "$one" = "$two" ] || fail "$1: a part of a commit is there: $one, $two"
     [ $((0x${one#bytes })) -ge "$2" ] || fail "$1: $2 commits were acknowledged, and $one are there"
+    [ "$(ls at/store | tr '\n' ' ')" = "$files" ] || fail "$1: other files are there: $(ls at/store | tr '\n' ' ')"
 }
 
 total=0
-for scenario in run recover marked init; do
+for scenario in run recover marked init inspect; do
     counted=''
     for kind in stat open pread pwrite sync rename unlink flock; do
         number=1
         while [ $number -le $most ]; do
             rm -rf at/store
             case $scenario in init) mkdir at/store ;; *) cp -r base at/store ;; esac
-            [ $scenario != marked ] || : > at/store/fault
+            # A copy that a stop left is longer than the file.
+            [ $scenario != marked ] || { : > at/store/fault; cat base/seg2 base/log0 > at/store/log0.new; }
             case $number in *[02468]) error=28 ;; *) error=5 ;; esac
             case $scenario in
                 run) failing $kind $number $error run --store "$store" $size < run.script ;;
                 init) failing $kind $number $error init "$store" $size ;;
+                inspect) failing $kind $number $error inspect "$store/log0" ;;
                 *) failing $kind $number $error recover "$store" $size ;;
             esac
             name="$scenario, $kind $number with error $error"
@@ -136,6 +152,7 @@ for scenario in run recover marked init; do
             [ "$(tail -n 1 out)" = 'device fault' ] || fail "$name: it is no device fault on standard output"
             told "$name"
             acked=$((3 + $(grep -c '^acked' out || true)))
+            case $scenario in run | recover) marked "$name" $kind ;; esac
             [ $scenario = init ] || recovered "$name" $acked
             number=$((number + 1))
             total=$((total + 1))
@@ -144,6 +161,30 @@ for scenario in run recover marked init; do
     done
     echo "$scenario:${counted%,}: each failed once"
 done
+
+# Where files are links, what they lead to is copied, with its mode, and the links stay.
+rm -rf at/store at/other
+cp -r base at/store
+mkdir at/other
+for file in log0 seg1; do
+    mv at/store/$file at/other/its-$file
+    chmod 640 at/other/its-$file
+    ln -s ../other/its-$file at/store/$file
+done
+: > at/store/fault
+numbers() {
+    stat -c %i at/other/its-log0 at/other/its-seg1 at/store/log1 at/store/seg2
+}
+numbers > before
+recovered 'a marked store with links' 3
+for file in log0 seg1; do
+    [ "$(readlink at/store/$file)" = ../other/its-$file ] || fail "a marked store with links: $file is no link"
+    [ "$(stat -c %a at/other/its-$file)" = 640 ] || fail "a marked store with links: its-$file has another mode"
+done
+[ "$(ls at/other | tr '\n' ' ')" = 'its-log0 its-seg1 ' ] || fail "a marked store with links: other files are there"
+numbers > after
+[ "$(paste before after | awk '$1 == $2')" = '' ] || fail "a marked store with links: a file is no copy"
+rm -rf at/other
 
 rm -rf at/store
 cp -r base at/store

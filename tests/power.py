@@ -10,8 +10,8 @@ on them, and the pages are read here, from docs/FORMATS.md alone. They must be t
 acknowledged one, of each node and of each segment the first so many, and none that was not closed: what each wrote is known
 from the script. Some of the recoveries are cut again, and so are runs behind them.
 
-In a failing story one sync of a run fails. The bytes that were written until then are what a read gives, but no later sync
-makes them stable: the system takes their pages for clean.
+In a failing story one sync or one write of a run fails. Where a sync failed, the bytes that were written until then are what a
+read gives, but no later sync makes them stable: the system takes their pages for clean. Of a write half is made.
 
 With --without-syncs the syncs of a kind do not count, or `all` of them, and a cut has to lose something: the status is 0 where
 one does. The kind is told by what was written to the file last: of a log, a `group`, its `gate`, or the zero of a `reset`; of a
@@ -499,7 +499,7 @@ def run(program, shim, folder, words, lines=None, trace=None, failing=None):
     if trace is not None:
         environment.update(CALLS_TRACE=trace)
         if failing is not None:
-            environment.update(CALLS_KIND="sync", CALLS_FAILED=str(failing), CALLS_ERROR="5")
+            environment.update(CALLS_KIND=failing[0], CALLS_FAILED=str(failing[1]), CALLS_ERROR="5", CALLS_HALF="1")
     text = "".join(line + "\n" for line in lines or []).encode()
     done = subprocess.run([program, *words, *SIZE], input=text, capture_output=True, env=environment, timeout=WAIT, check=False)
     return done.returncode, done.stdout.decode()
@@ -663,7 +663,9 @@ def tell(program, shim, work, seed, failing):
         lines = None
         if rng.random() < 0.7:
             lines = script(rng, number, rng.randrange(60, 260))
-        fails = rng.randrange(1, 40) if failing and lines is not None and turn < 3 else None
+        fails = None
+        if failing and lines is not None and turn < 3:
+            fails = (rng.choice(["sync", "sync", "pwrite"]), rng.randrange(1, 40))
         process = traced(program, shim, folder, work, history, lines, fails)
         processes.append(process)
         player.begin(process)

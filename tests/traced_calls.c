@@ -6,7 +6,9 @@
    CALLS_FAILED   the number of the call that fails, from 1 on, and does nothing
    CALLS_ERROR    its error's number
    CALLS_KIND     the kind of call that is counted and fails, where not any: stat, open, pread, pwrite, sync, rename, unlink, flock
-   CALLS_MARK     the file that then has the kind of the failed call and its path, on a line
+   CALLS_MARK     the file that then has the kind of the failed call and its path, on a line; and `again` before those of each
+                  later read, write or sync of the same path
+   CALLS_HALF     half of the bytes of a failed write are written where this is set
    CALLS_IDLE     no sync is made where this is set; each answers that it was
    CALLS_HELD     the number of the sync that is held
    CALLS_GATE     the file that stands while it is held, and whose removal lets it go on */
@@ -27,6 +29,7 @@
 
 static char *paths[MOST];
 static long made, syncs;
+static char *failed;
 
 static int is_below(const char *path)
 {
@@ -68,8 +71,13 @@ static int fails(const char *kind, const char *path)
 {
     const char *number = getenv("CALLS_FAILED"), *error = getenv("CALLS_ERROR"), *only = getenv("CALLS_KIND");
     char line[5000];
+    if (failed != NULL && strcmp(failed, path) == 0 && strstr("pread pwrite sync", kind) != NULL) {
+        snprintf(line, sizeof line, "again %s %s\n", kind, path);
+        put("CALLS_MARK", line, NULL, 0, O_APPEND);
+    }
     if (number == NULL || (only != NULL && strcmp(only, kind) != 0) || ++made != atol(number))
         return 0;
+    failed = strdup(path);
     snprintf(line, sizeof line, "%s %s\n", kind, path);
     put("CALLS_MARK", line, NULL, 0, O_TRUNC);
     errno = error == NULL ? EIO : atoi(error);
@@ -180,8 +188,13 @@ static void wrote(int file, const void *bytes, ssize_t len, off_t at)
 
 ssize_t pwrite(int file, const void *bytes, size_t len, off_t at)
 {
-    if (path_of(file) != NULL && fails("pwrite", paths[file]))
+    if (path_of(file) != NULL && fails("pwrite", paths[file])) {
+        int error = errno;
+        if (getenv("CALLS_HALF") != NULL && len > 1)
+            wrote(file, bytes, syscall(SYS_pwrite64, file, bytes, len / 2, at), at);
+        errno = error;
         return -1;
+    }
     ssize_t put = syscall(SYS_pwrite64, file, bytes, len, at);
     if (path_of(file) != NULL)
         wrote(file, bytes, put, at);
