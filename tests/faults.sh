@@ -86,13 +86,22 @@ cp -r at/store base
 lcrvm run --store "$store" $size < run.script > whole.out || { echo 'failed: the script is not done' >&2; echo '0 passed, 1 failed'; exit 1; }
 [ "$(grep -c '^acked' whole.out)" -eq 5 ] || { echo 'failed: the script is not done' >&2; echo '0 passed, 1 failed'; exit 1; }
 
-# Standard error names what failed, and why.
+# Standard error names what failed, and why, and it is a device fault. Where it is the folder that has the store's own, by
+# whatever name, that may be said alone.
 told() {
     path=$(sed '2,$d;s/^[a-z]* //' mark)
+    named="lcrvm: ${path%.new}: "
     case $path in
-        "$store" | "$store"/[a-z]*) named="lcrvm: ${path%.new}: " ;;
-        # The folder that has the store's own, by whatever name.
-        *) named='lcrvm: ' ;;
+        "$store" | "$store"/[a-z]*) ;;
+        *)
+            named='lcrvm: '
+            [ $status -ne 0 ] || status=said
+            ;;
+    esac
+    case $status in
+        said) ;;
+        3) [ "$(tail -n 1 out)" = 'device fault' ] || fail "$1: it is no device fault on standard output" ;;
+        *) fail "$1, of $path: status $status" ;;
     esac
     case $error in 28) reason='No space left on device' ;; *) reason='Input/output error' ;; esac
     # A copy's fault may be said of the file or of the copy.
@@ -129,7 +138,7 @@ recovered() {
 total=0
 for scenario in run recover marked init inspect; do
     counted=''
-    for kind in stat open pread pwrite sync rename unlink flock; do
+    for kind in stat open pread pwrite sync rename unlink flock chmod; do
         number=1
         while [ $number -le $most ]; do
             rm -rf at/store
@@ -148,8 +157,6 @@ for scenario in run recover marked init inspect; do
                 [ $status -eq 0 ] || fail "$name: no call failed, and the status is $status"
                 break
             fi
-            [ $status -eq 3 ] || fail "$name, of $(cat mark): status $status"
-            [ "$(tail -n 1 out)" = 'device fault' ] || fail "$name: it is no device fault on standard output"
             told "$name"
             acked=$((3 + $(grep -c '^acked' out || true)))
             case $scenario in run | recover) marked "$name" $kind ;; esac

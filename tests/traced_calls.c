@@ -5,7 +5,8 @@
    CALLS_TRACE    the file to which the calls are added, in the order in which they ended; tests/power.py reads it
    CALLS_FAILED   the number of the call that fails, from 1 on, and does nothing
    CALLS_ERROR    its error's number
-   CALLS_KIND     the kind of call that is counted and fails, where not any: stat, open, pread, pwrite, sync, rename, unlink, flock
+   CALLS_KIND     the kind of call that is counted and fails, where not any: stat, open, pread, pwrite, sync, rename, unlink, flock,
+                  chmod
    CALLS_MARK     the file that then has the kind of the failed call and its path, on a line; and `again` before those of each
                   later read, write or sync of the same path
    CALLS_HALF     half of the bytes of a failed write are written where this is set
@@ -143,6 +144,38 @@ int openat64(int folder, const char *path, int flags, ...)
 {
     MODE_OF(flags)
     return opened(folder, path, flags, mode);
+}
+
+/* A file under another number is the same file. */
+static int numbered(int file, int command, long other)
+{
+    char line[5000];
+    int done = syscall(SYS_fcntl, file, command, other);
+    if ((command == F_DUPFD || command == F_DUPFD_CLOEXEC) && done >= 0 && done < MOST && path_of(file) != NULL) {
+        free(paths[done]);
+        paths[done] = strdup(paths[file]);
+        snprintf(line, sizeof line, "open %d %d %s\n", done, 0, paths[done]);
+        trace(line, NULL, 0);
+    }
+    return done;
+}
+
+int fcntl(int file, int command, ...)
+{
+    va_list rest;
+    va_start(rest, command);
+    long other = va_arg(rest, long);
+    va_end(rest);
+    return numbered(file, command, other);
+}
+
+int fcntl64(int file, int command, ...)
+{
+    va_list rest;
+    va_start(rest, command);
+    long other = va_arg(rest, long);
+    va_end(rest);
+    return numbered(file, command, other);
 }
 
 int close(int file)
@@ -289,6 +322,13 @@ int flock(int file, int operation)
     if (path_of(file) != NULL && fails("flock", paths[file]))
         return -1;
     return syscall(SYS_flock, file, operation);
+}
+
+int fchmod(int file, mode_t mode)
+{
+    if (path_of(file) != NULL && fails("chmod", paths[file]))
+        return -1;
+    return syscall(SYS_fchmod, file, mode);
 }
 
 int rename(const char *from, const char *to)
