@@ -5,7 +5,8 @@
 # usage: tests/files.sh [PROGRAM [SEED]]     (default: crates/lcrvm/out/lcrvm, 1)
 #
 # A kill shows in which order the calls were made. It does not show that the syncs work: what a killed process wrote
-# is in the system's memory, and stays. It takes about a minute, and works in a folder of its own below TMPDIR.
+# is in the system's memory, and stays. It takes about a minute, and works in a folder of its own below TMPDIR. A program
+# that does not end within a minute is a failure.
 set -eu
 
 program=${1:-crates/lcrvm/out/lcrvm}
@@ -17,6 +18,7 @@ kills_in_runs=40
 kills_in_recoveries=10
 kills_wanted=30
 commits=400
+bound=60
 
 work=$(mktemp -d "${TMPDIR:-/tmp}/lcrvm-files.XXXXXX")
 trap 'rm -rf "$work"' EXIT
@@ -26,6 +28,11 @@ fail() {
     echo "failed: $*" >&2
     echo "0 passed, 1 failed"
     exit 1
+}
+
+# The program, which has to end within the bound.
+lcrvm() {
+    timeout -k 5 "$bound" "$program" "$@"
 }
 
 # ---- a store that is left and opened again
@@ -71,7 +78,7 @@ random_script() {
 
 # What a run prints; a refusal is no failure of the run.
 run() {
-    "$program" run $size "$@" || [ $? -eq 1 ] || fail "a run ended with another status"
+    lcrvm run $size "$@" || [ $? -eq 1 ] || fail "a run ended with another status, or did not end"
 }
 
 number=1
@@ -79,7 +86,7 @@ while [ $number -le $scripts ]; do
     random_script $((seed * 1000 + number)) 40 > first
     random_script $((seed * 1000 + 500 + number)) 40 > second
     mkdir store
-    "$program" init store $size || fail "no store was made"
+    lcrvm init store $size || fail "no store was made"
     run --store store < first > halves
     run --store store < second >> halves
     { cat first; echo 'stop keep'; echo recover; cat second; } > whole
@@ -113,14 +120,19 @@ awk -v commits=$commits -v segments=$segments -v all="$all_segments" 'BEGIN {
 }' > commits.script
 store_size="--segments $segments --words 4096"
 
-# Starts a run whose replies come through a pipe into the file `replies`.
+# Starts a run whose replies come through a pipe into the file `replies`. Both are there and both ends are open before either
+# process begins, so the reader ends with the run, however early that is killed.
 start_run() {
-    rm -f pipe replies
+    rm -f pipe
     mkfifo pipe
-    cat pipe > replies &
+    : > replies
+    exec 3<> pipe
+    exec 4< pipe 5> pipe 3>&-
+    cat <&4 4<&- 5>&- > replies &
     reader=$!
-    "$program" run --store store $store_size < commits.script > pipe &
+    "$program" run --store store $store_size < commits.script >&5 4<&- 5>&- &
     running=$!
+    exec 4<&- 5>&-
 }
 
 acknowledged() {
@@ -129,13 +141,13 @@ acknowledged() {
 
 # The store is recovered. It has the commits up to one, none of which that was acknowledged is missing.
 check_store() {
-    "$program" recover store $store_size > recovered || fail "kill $1: no recovery"
+    lcrvm recover store $store_size > recovered || fail "kill $1: no recovery"
     kept=$(sed -n 's/^segment 1 sequence //p' recovered)
     [ "$(grep -c " sequence $kept\$" recovered)" -eq $segments ] || fail "kill $1: a part of a commit"
     [ "$kept" -ge "$2" ] || fail "kill $1: $2 commits were acknowledged, and $kept are there"
     [ "$kept" -le $commits ] || fail "kill $1: more commits than were made"
     { echo "begin 0 0$all_segments"; for s in $all_segments; do echo "read 0 0 $s 0 2"; done; } > look
-    "$program" run --store store $store_size < look > looked || fail "kill $1: the store cannot be read"
+    lcrvm run --store store $store_size < look > looked || fail "kill $1: the store cannot be read"
     want=$(printf 'bytes %04x' "$kept")
     [ "$(grep -c -x "$want" looked)" -eq $segments ] || fail "kill $1: the bytes are not those of commit $kept"
 }
@@ -153,10 +165,13 @@ in_recoveries=0
 kill=1
 while [ $kill -le $((kills_in_runs + kills_in_recoveries)) ]; do
     mkdir store
-    "$program" init store $store_size || fail "no store was made"
+    lcrvm init store $store_size || fail "no store was made"
     start_run
     wanted=$((1 + $(random_below $((seed * 1000 + kill)) 150)))
-    while [ "$(acknowledged)" -lt $wanted ] && kill -0 $running 2> /dev/null; do :; done
+    end=$(($(date +%s) + bound))
+    while [ "$(acknowledged)" -lt $wanted ] && kill -0 $running 2> /dev/null; do
+        [ "$(date +%s)" -lt $end ] || { killed $running || true; fail "kill $kill: the run goes on and acknowledges nothing"; }
+    done
     cut=no
     killed $running && cut=yes
     wait $reader

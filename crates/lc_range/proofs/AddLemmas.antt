@@ -1,6 +1,6 @@
 -- A set's runs after a range more.
 use Rattle.std.proofs.Common.{◌≡◌, ◌⊎◌, ℕ, ◌+◌, zero, suc, ◌<◌, ◌≤◌, true, false, inl, inr, refl, List, [], ◌∷◌, ◌++◌, length, take, drop, eqb, sym, subst, ap, ◌∙◌, arith, length-append, length-take, length-drop}
-use Rattle.std.specs.Prelude.{◌↔◌, Result, Ok, Err, OnOk, IsOk}
+use Rattle.std.specs.Prelude.{◌↔◌, Result, Ok, Err, OnOk, OnErr, IsOk}
 use Rattle.std.specs.Result.{is_err}
 use Rattle.std.proofs.lemmas.Bool.{cases_eq, cases_lt, eqb-true, eq-eqb}
 use Rattle.lc_range.specs.Range.{HasPosition}
@@ -60,6 +60,13 @@ ok_gives (Err y) e p = absurd cc
 pub err_is_not_ok : {T E : Type 0} (r : Result T E) → is_err r ≡ true → IsOk r → ⊥
 err_is_not_ok (Ok x) e p = cc
 err_is_not_ok (Err y) e p = cc
+
+pub on_err_of : {T E P : Type 0} (r : Result T E) → P → OnErr r P
+on_err_of (Ok x) p = tt
+on_err_of (Err y) p = p
+
+pub no_room : (m n : ℕ) → (m ≤ n → ⊥) → n < m
+no_room m n not = omega (arith, not)
 
 -- Positions that a set misses
 

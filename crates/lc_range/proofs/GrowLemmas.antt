@@ -7,7 +7,7 @@ use Rattle.std.specs.List.{refill}
 use Rattle.std.proofs.lemmas.Bool.{cond_both, cases_lt, cases_eq, cases_Bool, cond-true, cond-false, and_parts, eqb-true}
 use Rattle.lc_range.specs.RangeSet.{LiesBefore, IsCanonical, EndWithin, total_len}
 use Rattle.lc_range.specs.Walk.{is_continued}
-use Rattle.lc_range.specs.Undo.{OldBytes, byte_at, first_of, kept, bytes_kept, first_bytes, is_end, ends_at, continuing}
+use Rattle.lc_range.specs.Undo.{OldBytes, byte_at, first_of, kept, bytes_kept, first_bytes, is_end, ends_at, continuing, TakeMemory}
 use Rattle.lc_range.specs.Copies.{copies_of, AreSome, AreCopies, is_last_continued, with_range, with_copy, copy_at, with_copies}
 use Rattle.lc_range.specs.declared.range.Range.{Range}
 use Rattle.lc_range.proofs.CopyLemmas.{byte_in, byte_out, length_part}
@@ -271,3 +271,26 @@ copies_with_all copies image (x ∷ xs) c ends =
     let more : OldBytes = copy_at image x in
     let long = length_part image x.offset x.len ends.0 in
     omega (arith, copies_with_all (with_copy copies more) image xs c.2 ends.1, gap_behind x xs copies more refl (omega (arith, long)) c.1, copies_with_one copies more)
+
+-- Copies never get fewer
+
+one_or_none : (b : Bool) → (if b then 1 else 0) ≤ 1
+one_or_none true = omega arith
+one_or_none false = omega arith
+
+no_fewer : (copies : List OldBytes) (image : List ℕ) (xs : List Range) → length copies ≤ length (with_copies copies image xs)
+no_fewer copies image [] = omega arith
+no_fewer copies image (x ∷ xs) =
+    let more : OldBytes = copy_at image x in
+    omega (arith, no_fewer (with_copy copies more) image xs, copies_with_one copies more, one_or_none (ends_at copies more.segment more.offset))
+
+no_less : (copies : List OldBytes) (image : List ℕ) (xs : List Range) → bytes_kept copies ≤ bytes_kept (with_copies copies image xs)
+no_less copies image [] = omega arith
+no_less copies image (x ∷ xs) = omega (arith, no_less (with_copy copies (copy_at image x)) image xs, bytes_with copies (copy_at image x))
+
+-- where the first of these copies take memory, all do
+pub take_more : (copies : List OldBytes) (image : List ℕ) (xs : List Range) → TakeMemory copies → TakeMemory (with_copies copies image xs)
+take_more copies image xs take = elim take [
+  | inl many ↦ inl (omega (arith, many, no_fewer copies image xs))
+  | inr large ↦ inr (omega (arith, large, no_less copies image xs))
+]

@@ -6,12 +6,12 @@ use Rattle.std.proofs.lemmas.List.{append_assoc}
 use Rattle.std.proofs.lemmas.Bool.{cases_Bool, cases_lt, cond-true, cond-false, and_from, eq-eqb, lt-ltb, ltb-true}
 use Rattle.lc_range.specs.RangeSet.{LiesBefore, IsCanonical, EndWithin}
 use Rattle.lc_range.specs.Walk.{is_before, piece, is_in_way, parts}
-use Rattle.lc_range.specs.Undo.{OldBytes, bytes_kept, first_bytes}
+use Rattle.lc_range.specs.Undo.{OldBytes, TakeMemory, bytes_kept, first_bytes}
 use Rattle.lc_range.specs.Copies.{with_copies}
 use Rattle.lc_range.specs.declared.range.Range.{Range}
 use Rattle.lc_range.proofs.RangeLemmas.{before_is, not_before, touch}
 use Rattle.lc_range.proofs.PartsLemmas.{in_way}
-use Rattle.lc_range.proofs.GrowLemmas.{with_copies-append, first_with_copies}
+use Rattle.lc_range.proofs.GrowLemmas.{with_copies-append, first_with_copies, take_more}
 
 -- Pieces
 
@@ -187,6 +187,19 @@ module _ (old now : List OldBytes) (image : List ℕ) (range : Range) (from to :
   pub last_part : (rest : List Range) → Walked old now image range.segment range.offset from to runs rest → parts range.segment from to rest ≡ piece range.segment from to → from < to → 1 ≤ length (parts range.segment range.offset to runs)
   last_part rest walked last less =
       omega (arith, ap length walked.parts_are, length-append walked.done (parts range.segment from to rest), ap length last, ap length (full range.segment from to less))
+
+  -- where the copies up to a piece take memory, all do
+  pub takes_part : (run : Range) (rest : List Range) → Walked old now image range.segment range.offset from to runs (run ∷ rest) → range.offset + range.len ≡ to → IsCanonical (run ∷ rest)
+      → is_before run range ≡ false → is_before range run ≡ false → TakeMemory (with_copies now image (piece range.segment from run.offset)) → TakeMemory (with_copies old image (parts range.segment range.offset to runs))
+  takes_part run rest walked end c one two takes =
+      let part : List Range = piece range.segment from run.offset in
+      let later : List Range = parts range.segment (run.offset + run.len) to rest in
+      let front : List OldBytes = with_copies old image walked.done in
+      subst (λ (l : List OldBytes). TakeMemory l)
+      (ap (λ (l : List OldBytes). with_copies (with_copies l image part) image later) walked.grows ∙ sym (with_copies-append front image part later)
+      ∙ ap (with_copies front image) (one_more range run rest from to end c one two walked.near.0)
+      ∙ sym (with_copies-append old image walked.done (parts range.segment from to (run ∷ rest))) ∙ ap (with_copies old image) walked.parts_are)
+      (take_more (with_copies now image part) image later takes)
 
   pub same_front : (rest : List Range) → Walked old now image range.segment range.offset from to runs rest → (n : ℕ) → n ≤ bytes_kept old → first_bytes n now ≡ first_bytes n old
   same_front rest walked n few = ap (first_bytes n) walked.grows ∙ first_with_copies n old image walked.done few

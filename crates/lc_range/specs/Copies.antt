@@ -1,4 +1,5 @@
 -- Copies that lie flat, their ranges and all bytes one after another; and copies with more behind them.
+use Rattle.smallvec.specs.SmallVec.{SmallVec}
 use Rattle.std.specs.Prelude.{◌≡◌, ℕ, zero, suc, ◌+◌, ◌-◌, ◌≤◌, if◌then◌else◌, Bool, false, min, List, [], ◌∷◌, ◌++◌, length, take, drop}
 use Rattle.lc_range.specs.Undo.{OldBytes, is_end}
 use Rattle.lc_range.specs.RangeSet.{total_len}
@@ -18,6 +19,12 @@ AreSome (range ∷ ranges) = (1 ≤ range.len) × AreSome ranges
 pub record AreCopies (ranges : List Range) (bytes : List ℕ) : Type 0 where
   pub some : AreSome ranges
   pub whole : length bytes ≡ total_len ranges
+
+-- what is kept, with a place for 8 ranges and 64 bytes that takes no memory
+pub record AreKept (ranges : SmallVec Range) (bytes : SmallVec ℕ) : Type 0 where
+  pub copies : AreCopies ranges.items bytes.items
+  pub few_ranges : 8 ≤ ranges.capacity
+  pub few_bytes : 64 ≤ bytes.capacity
 
 -- a range continues the last of these
 abbrev pub is_last_continued : List Range → Range → Bool

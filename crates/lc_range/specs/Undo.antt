@@ -1,6 +1,6 @@
 -- Old bytes, as copies in the order in which they were made.
-use Rattle.std.specs.Prelude.{◌≡◌, ℕ, zero, suc, ◌+◌, ◌-◌, ◌<◌, ◌≤◌, ◌==◌, nat_le, if◌then◌else◌, Bool, false, ◌&&◌, List, [], ◌∷◌, length, take, Option, Some, None, IsSome, slice_get}
-use Rattle.lc_range.specs.RangeSet.{Has, IsCanonical, AreOutside}
+use Rattle.std.specs.Prelude.{◌≡◌, ◌⊎◌, ℕ, zero, suc, ◌+◌, ◌-◌, ◌<◌, ◌≤◌, ◌==◌, nat_le, if◌then◌else◌, Bool, false, ◌&&◌, List, [], ◌∷◌, length, take, Option, Some, None, IsSome, slice_get}
+use Rattle.lc_range.specs.RangeSet.{Has, IsCanonical, AreOutside, CountsOutside}
 use Rattle.lc_range.specs.declared.range.Range.{Range}
 
 -- a copy of bytes that stood in a segment from offset on
@@ -54,6 +54,19 @@ continuing copies (run ∷ runs) = if ends_at copies run.segment run.offset then
 abbrev pub AddsCopies : List OldBytes → List Range → ℕ → ℕ → ℕ → List OldBytes → Type 0
 AddsCopies old set segment offset len new =
     (runs : List Range) × IsCanonical runs × AreOutside set segment offset len runs × (length new + continuing old runs ≡ length old + length runs)
+
+-- these copies take memory: more than 8 are there, or more than 64 bytes
+abbrev pub TakeMemory : List OldBytes → Type 0
+TakeMemory copies = (8 < length copies) ⊎ (64 < bytes_kept copies)
+
+-- with the old bytes of len positions from offset on, more than n copies would be there
+abbrev pub NeedsCopiesAbove : ℕ → List OldBytes → List Range → ℕ → ℕ → ℕ → Type 0
+NeedsCopiesAbove n old set segment offset len =
+    (runs : List Range) × IsCanonical runs × AreOutside set segment offset len runs × (n + continuing old runs < length old + length runs)
+
+-- with them, more than n bytes would be kept
+abbrev pub NeedsBytesAbove : ℕ → List OldBytes → List Range → ℕ → ℕ → ℕ → Type 0
+NeedsBytesAbove n old set segment offset len = (more : ℕ) × CountsOutside set segment offset len more × (n < bytes_kept old + more)
 
 -- all that is kept of a segment lies below a position
 abbrev pub LiesBelow : List OldBytes → ℕ → ℕ → Type 0

@@ -1,5 +1,5 @@
 //! Bytes of ranges, taken from an image one after another and put back.
-ghost use Rattle.std.specs.Prelude.{◌≡◌, ◌+◌, ◌-◌, ◌^◌, ◌<◌, ◌≤◌, ◌++◌, ℕ, length, slice_index, unwrap_or, OnOk, OnErr};
+ghost use Rattle.std.specs.Prelude.{◌≡◌, ◌⊎◌, ◌+◌, ◌-◌, ◌^◌, ◌<◌, ◌≤◌, ◌++◌, ℕ, length, slice_index, unwrap_or, OnOk, OnErr};
 ghost use Rattle.lc_range.specs.RangeSet.{total_len};
 ghost use Rattle.lc_range.specs.Copies.{AreCopies, AreSome, copies_of, first_ranges, is_last_continued, with_range};
 ghost use Rattle.lc_range.specs.Undo.{LiesBelow, kept};
@@ -20,6 +20,9 @@ pub fn add(
     ensures ranges { OnOk result (ranges.new.items ≡ with_range ranges.old.items range) }
     ensures bytes { OnOk result (bytes.new.items ≡ bytes.old.items ++ copy.now) }
     ensures err { OnErr result ((ranges.new.items ≡ ranges.old.items) × (bytes.new.items ≡ bytes.old.items)) }
+    ensures memory { OnErr result ((ranges.old.capacity < length (with_range ranges.old.items range)) ⊎ (bytes.old.capacity < length bytes.old.items + length copy.now)) }
+    ensures ranges_capacity { ranges.old.capacity ≤ ranges.new.capacity }
+    ensures bytes_capacity { bytes.old.capacity ≤ bytes.new.capacity }
 {
     if is_last_continued(ranges.as_slice(), &range) {
         bytes.extend_from_slice(copy)?;
@@ -47,7 +50,8 @@ fn is_last_continued(ranges: &[Range], range: &Range) -> bool
 pub fn cut_back(ranges: &mut SmallVec<Range, 8>, bytes: usize, len: usize)
     requires some { AreSome ranges.old.items }
     requires bytes { bytes ≡ total_len ranges.old.items }
-    ensures { ranges.new.items ≡ first_ranges len ranges.old.items }
+    ensures items { ranges.new.items ≡ first_ranges len ranges.old.items }
+    ensures capacity { ranges.new.capacity ≡ ranges.old.capacity }
 {
     let mut end = bytes;
     while len < end {

@@ -1,7 +1,7 @@
 //! The old bytes of a transaction, which an abort puts back.
-ghost use Rattle.std.specs.Prelude.{◌≡◌, ◌+◌, ◌-◌, ◌^◌, ◌<◌, ◌≤◌, ℕ, [], length, min, slice_index, unwrap_or, OnOk, OnErr};
+ghost use Rattle.std.specs.Prelude.{◌≡◌, ◌⊎◌, ◌+◌, ◌-◌, ◌^◌, ◌<◌, ◌≤◌, ℕ, [], length, min, slice_index, unwrap_or, OnOk, OnErr};
 ghost use Rattle.lc_range.specs.RangeSet.{CountsOutside, EndWithin, IsCanonical, MissesSome};
-ghost use Rattle.lc_range.specs.Undo.{AddsCopies, KeepsOld, LiesBelow, bytes_kept, first_bytes, kept};
+ghost use Rattle.lc_range.specs.Undo.{AddsCopies, KeepsOld, LiesBelow, NeedsBytesAbove, NeedsCopiesAbove, TakeMemory, bytes_kept, first_bytes, kept};
 ghost use Rattle.lc_range.specs.Copies.{with_copies};
 ghost use Rattle.lc_range.specs.Walk.{parts, piece};
 
@@ -28,11 +28,11 @@ impl Model for Undo {
 
     ghost Value = { List OldBytes };
 
-    ghost use Rattle.lc_range.specs.Copies.{AreCopies, copies_of};
+    ghost use Rattle.lc_range.specs.Copies.{AreKept, copies_of};
 
     ghost view = { λ a. copies_of a.ranges.items a.bytes.items };
 
-    ghost invariant = { λ a. AreCopies a.ranges.items a.bytes.items };
+    ghost invariant = { λ a. AreKept a.ranges a.bytes };
 }
 
 impl Undo {
@@ -51,7 +51,8 @@ impl Undo {
     ///
     /// # Errors
     ///
-    /// Where there is no memory; what is kept is then as before. Memory is wanted only where there is a byte to keep.
+    /// Where there is no memory; what is kept is then as before. Memory is wanted only where there is a byte to keep, and
+    /// more than 8 copies would be there with it or more than 64 bytes.
     pub fn keep_old(
         &mut self,
         set: &RangeSet,
@@ -82,8 +83,9 @@ impl Undo {
 
         ensures err { OnErr result (self.new ≡ self.old) }
 
-        // Memory is wanted only for a copy.
+        // Memory is wanted only for a copy, beside 8 at least or 64 bytes.
         ensures memory { OnErr result (MissesSome set.now segment offset len) }
+        ensures needs { OnErr result (NeedsCopiesAbove 8 self.old set.now segment offset len ⊎ NeedsBytesAbove 64 self.old set.now segment offset len) }
     {
         let before = self.len();
         let done = self.keep_outside(set.ranges(), segment, offset, offset + len, image);
@@ -109,6 +111,7 @@ impl Undo {
         ensures ok { OnOk result (self.new ≡ with_copies self.old image.now (parts segment offset end runs.now)) }
         ensures front { (n : ℕ) → n ≤ bytes_kept self.old → first_bytes n self.new ≡ first_bytes n self.old }
         ensures memory { OnErr result (1 ≤ length (parts segment offset end runs.now)) }
+        ensures needs { OnErr result (TakeMemory (with_copies self.old image.now (parts segment offset end runs.now))) }
     {
         let range = Range {
             segment,
@@ -132,6 +135,7 @@ impl Undo {
         ensures ok { OnOk result (self.new ≡ with_copies self.old image.now (piece segment from to)) }
         ensures err { OnErr result (self.new ≡ self.old) }
         ensures memory { OnErr result (from < to) }
+        ensures needs { OnErr result (TakeMemory (with_copies self.old image.now (piece segment from to))) }
     {
         if from < to {
             let range = Range {

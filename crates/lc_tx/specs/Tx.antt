@@ -1,9 +1,9 @@
 -- A transaction on the images at a node.
-use Rattle.std.specs.Prelude.{◌≡◌, ℕ, ◌+◌, ◌<◌, ◌≤◌, not, ◌||◌, List, [], filter, length, IsSome, IsTrue, slice_index}
+use Rattle.std.specs.Prelude.{◌≡◌, ◌⊎◌, ℕ, ◌+◌, ◌<◌, ◌≤◌, not, ◌||◌, List, [], filter, length, IsSome, IsTrue, slice_index}
 use Rattle.lc_record.specs.Record.{Chain}
 use Rattle.lc_record.specs.Transaction.{is_member}
-use Rattle.lc_range.specs.RangeSet.{Has, AddsPositions}
-use Rattle.lc_range.specs.Undo.{KeepsOld, LiesBelow, kept}
+use Rattle.lc_range.specs.RangeSet.{Has, AddsPositions, NeedsRunsAbove}
+use Rattle.lc_range.specs.Undo.{KeepsOld, LiesBelow, NeedsBytesAbove, NeedsCopiesAbove, kept}
 use Rattle.lc_tx.specs.declared.holders.Holders.TheVariants.{Writer}
 use Rattle.lc_tx.specs.declared.images.Images.{Ghosts}
 use Rattle.lc_tx.specs.declared.tx.Tx.{Tx}
@@ -34,6 +34,12 @@ Holds tx segment = IsTrue (is_member segment tx.locked.items || is_member segmen
 -- each of len positions from offset on is set
 abbrev pub AreSet : Tx → ℕ → ℕ → ℕ → Type 0
 AreSet tx segment offset len = (k : ℕ) → offset ≤ k → k < offset + len → Has tx.set segment k
+
+-- with len positions more from offset on, more than 8 runs would be set, or more than 8 copies of old bytes kept, or more than
+-- 64 bytes: those take memory
+abbrev pub RangeTakesMemory : Tx → ℕ → ℕ → ℕ → Type 0
+RangeTakesMemory tx segment offset len =
+    NeedsRunsAbove 8 tx.set segment offset len ⊎ (NeedsCopiesAbove 8 tx.undo tx.set segment offset len ⊎ NeedsBytesAbove 64 tx.undo tx.set segment offset len)
 
 module _ {I : Type 0} (m : Ghosts I) where
   -- these are the images that it runs on: what it locked for writing is here, it is the writer, and what it set and kept

@@ -4,7 +4,7 @@ ghost use Rattle.lc_range.specs.RangeSet.{AddsPositions, EndWithin, IsCanonical,
 ghost use Rattle.lc_range.specs.Undo.{KeepsOld, LiesBelow};
 ghost use Rattle.lc_tx.specs.Images.{IsSame, IsWritten, bytes_of};
 ghost use Rattle.lc_tx.specs.Fault.{is_of_lock, is_of_set_range, is_of_read};
-ghost use Rattle.lc_tx.specs.Tx.{AreSet, Holds, Locked, Reads, RunsOn, SetsRange};
+ghost use Rattle.lc_tx.specs.Tx.{AreSet, Holds, Locked, RangeTakesMemory, Reads, RunsOn, SetsRange};
 
 use crate::image::lay;
 use crate::lock_mode::LockMode;
@@ -126,6 +126,7 @@ impl Tx {
             ↔ ((offset + len ≤ min (length bytes.now) (2 ^ 32 - 1)) × NeedsRunsAbove 64 self.old.set segment offset len) }
         ensures no_memory { result ≡ Err TxFault.NoMemory → (offset + len ≤ min (length bytes.now) (2 ^ 32 - 1))
             × (¬ NeedsRunsAbove 64 self.old.set segment offset len) × MissesSome self.old.set segment offset len }
+        ensures needs { result ≡ Err TxFault.NoMemory → RangeTakesMemory self.old segment offset len }
         ensures not_locked { result ≢ Err TxFault.NotLocked }
         ensures writable { (s : ℕ) → result ≢ Err (TxFault.ReadOnly s) }
         ensures empty { result ≢ Err TxFault.EmptyRange }
@@ -181,8 +182,8 @@ impl Tx {
     /// # Errors
     ///
     /// `NotLocked`, `ReadOnly`, `EmptyRange`, `OutOfSegment` and `TooManyRanges`, looked at in this order, and
-    /// `NoMemory`, only where some byte of the range was not set. No range ends behind 2^32 - 1. The transaction is then
-    /// as before.
+    /// `NoMemory`, only where some byte of the range was not set, and more than 8 runs or 8 copies or 64 old bytes would be
+    /// there with it. No range ends behind 2^32 - 1. The transaction is then as before.
     pub fn set_range<I: Images>(
         &mut self,
         images: &mut I,
@@ -208,6 +209,9 @@ impl Tx {
         ensures no_memory { result ≡ Err TxFault.NoMemory → Locked self.old segment × (0 < len)
             × (offset + len ≤ min (length (bytes_of I.Images images.old segment)) (2 ^ 32 - 1))
             × (¬ NeedsRunsAbove 64 self.old.set segment offset len) × MissesSome self.old.set segment offset len }
+
+        // Nor is it for 8 runs, and 8 copies of 64 old bytes in all.
+        ensures needs { result ≡ Err TxFault.NoMemory → RangeTakesMemory self.old segment offset len }
         ensures faults { IfErr result (λ fault. IsTrue (is_of_set_range fault)) }
     {
         self.check_range(segment, len)?;

@@ -1,6 +1,7 @@
-use Rattle.std.proofs.Common.{◌≡◌, ◌+◌, ◌-◌, ◌++◌, ◌∷◌, [], ℕ, List, length, get_or, true, false, ap, sym, ◌∙◌, arith, refl}
+use Rattle.std.proofs.Common.{◌≡◌, ◌+◌, ◌-◌, ◌<◌, ◌++◌, ◌∷◌, [], ℕ, List, length, get_or, true, false, is_err, ap, sym, ◌∙◌, arith, refl, inl, length-append}
 use Rattle.lc_range.specs.Copies.{is_last_continued}
 use Rattle.lc_range.specs.declared.range.Range.{Range}
+use Rattle.lc_range.proofs.AddLemmas.{err_is_not_ok, no_room, on_err_of}
 use Rattle.lc_range.proofs.GrowLemmas.{grown_written, apart, one_at_least, continued_end}
 use Rattle.lc_range.proofs.copies.add.Goals as goal
 
@@ -27,3 +28,10 @@ returns-clause-ranges c =
     let xs = c.args.ranges.now.items in
     let e : is_last_continued xs c.args.range ≡ false = ap (λ (l : List Range). is_last_continued l c.args.range) (sym c.as_slice.ensures) ∙ sym c.is_last_continued.ensures ∙ c.if-is_last_continued.false in
     c.push_reserved.ensures.items ∙ ap (λ (l : List Range). l ++ c.args.range ∷ []) c.reserve.ensures.items ∙ apart xs c.args.range e
+
+pub returns-in_err-reserve-clause-memory : goal.returns-in_err-reserve-clause-memory
+returns-in_err-reserve-clause-memory c =
+    let xs = c.args.ranges.now.items in
+    let e : is_last_continued xs c.args.range ≡ false = ap (λ (l : List Range). is_last_continued l c.args.range) (sym c.as_slice.ensures) ∙ sym c.is_last_continued.ensures ∙ c.if-is_last_continued.false in
+    let full : c.args.ranges.now.capacity < length xs + 1 = no_room (length xs + 1) c.args.ranges.now.capacity (λ room. err_is_not_ok c.reserve.result (ap is_err c.in_err-reserve.was) (c.reserve.ensures.succeeds room)) in
+    on_err_of c.from_residual-in_err-reserve.result (inl (omega (arith, full, ap length (apart xs c.args.range e), length-append xs (c.args.range ∷ []))))

@@ -15,8 +15,8 @@ overflow_sub-start c =
     let last : i + 1 ≡ length xs = omega (arith, c.len-last.ensures.value, some) in
     omega (arith, last_len xs i d last, ap (λ (l : List Range). (get_or l i d).len) c.deref.ensures, c.loop-end.invariant.bytes)
 
-pub returns-then-start-len : goal.returns-then-start-len
-returns-then-start-len c =
+pub returns-then-start-len-clause-items : goal.returns-then-start-len-clause-items
+returns-then-start-len-clause-items c =
     let xs = c.loop-end.ranges.items in
     let i : ℕ = c.len-last.result - 1 in
     let d : Range = record { segment = 0; offset = 0; len = 0 } in
@@ -48,7 +48,8 @@ loop-end-preserved c =
       some = subst (λ (l : List Range). AreSome l) (sym c.truncate.ensures.items) (some_front i xs c.loop-end.invariant.some);
       bytes = omega (arith, total, len, c.loop-end.invariant.bytes, ap total_len c.truncate.ensures.items);
       first = ap (first_ranges c.args.len) c.truncate.ensures.items ∙ first_cut c.args.len xs i last (omega (arith, total, len, c.loop-end.invariant.bytes, c.if-start-len.false)) ∙ c.loop-end.invariant.first;
+      capacity = c.truncate.ensures.capacity ∙ c.loop-end.invariant.capacity;
     }
 
-pub returns : goal.returns
-returns c = sym (all_first c.args.len c.loop-end.ranges.items c.loop-end.invariant.some (omega (arith, c.loop-end.invariant.bytes, c.loop-end-test.false))) ∙ c.loop-end.invariant.first
+pub returns-clause-items : goal.returns-clause-items
+returns-clause-items c = sym (all_first c.args.len c.loop-end.ranges.items c.loop-end.invariant.some (omega (arith, c.loop-end.invariant.bytes, c.loop-end-test.false))) ∙ c.loop-end.invariant.first

@@ -8,6 +8,7 @@ invariant-loop-end l = record {
   some : AreSome l.ranges.items;
   bytes : l.end ≡ total_len l.ranges.items;
   first : first_ranges l.len l.ranges.items ≡ first_ranges l.len l.initial.ranges.items;
+  capacity : l.ranges.capacity ≡ l.initial.ranges.capacity;
 }
 
 abbrev pub decreases-loop-end : goal.decreases-loop-end

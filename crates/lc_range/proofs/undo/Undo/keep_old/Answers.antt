@@ -1,10 +1,10 @@
-use Rattle.std.proofs.Common.{◌≡◌, ◌+◌, ◌≤◌, ℕ, List, length, refl, sym, subst, arith}
+use Rattle.std.proofs.Common.{◌≡◌, ◌⊎◌, ◌+◌, ◌≤◌, ℕ, List, length, refl, sym, subst, inl, inr, arith}
 use Rattle.std.proofs.lemmas.Result.{on_ok_weaker, on_err_weaker}
 use Rattle.std.specs.Prelude.{slice_index, OnOk}
 use Rattle.lc_range.specs.RangeSet.{CountsOutside, total_len}
 use Rattle.lc_range.specs.Walk.{parts}
 use Rattle.lc_range.specs.declared.range.Range.{Range}
-use Rattle.lc_range.specs.Undo.{OldBytes, AddsCopies, KeepsOld, LiesBelow, bytes_kept}
+use Rattle.lc_range.specs.Undo.{OldBytes, AddsCopies, KeepsOld, LiesBelow, NeedsBytesAbove, NeedsCopiesAbove, TakeMemory, bytes_kept}
 use Rattle.lc_range.specs.Copies.{with_copies}
 use Rattle.lc_range.proofs.PartsLemmas.{ArePartsOf, parts_are, misses_some}
 use Rattle.lc_range.proofs.GrowLemmas.{bytes_with_copies, copies_with_all}
@@ -63,3 +63,19 @@ returns-else-is_err-clause-below c =
     let parts = are c in
     shown c (λ l. (s bound : ℕ) → LiesBelow c.args.self.now s bound → (s ≡ c.args.segment → c.args.offset + c.args.len ≤ bound) → LiesBelow l s bound)
     (keeps_below c.args.self.now c.args.image.now (the_parts c.args.segment c.args.offset c.args.len c.ranges-2.result.now) c.args.set.now c.args.segment c.args.offset c.args.len parts.outside parts.ends)
+
+-- what the copies of these parts take is what their positions need
+needed : (old : List OldBytes) (image : List ℕ) (set xs : List Range) (s offset len : ℕ) → ArePartsOf set s offset len (length image) xs → TakeMemory (with_copies old image xs)
+    → NeedsCopiesAbove 8 old set s offset len ⊎ NeedsBytesAbove 64 old set s offset len
+needed old image set xs s offset len parts takes = elim takes [
+  | inl many ↦ inl (xs, parts.canonical, parts.outside, omega (arith, many, copies_with_all old image xs parts.canonical parts.ends))
+  | inr large ↦ inr (total_len xs, (xs, parts.canonical, parts.outside, refl), omega (arith, large, bytes_with_copies old image xs parts.ends))
+]
+
+pub returns-then-is_err-clause-needs : goal.returns-then-is_err-clause-needs
+returns-then-is_err-clause-needs c =
+    let set = c.args.set.now in
+    let xs : List Range = the_parts c.args.segment c.args.offset c.args.len c.ranges-2.result.now in
+    let parts : ArePartsOf set c.args.segment c.args.offset c.args.len (length c.args.image.now) xs =
+    parts_are set c.ranges-2.result.now c.args.segment c.args.offset c.args.len (length c.args.image.now) xs xs c.ranges-2.ensures.runs c.ranges-2.ensures.canonical (omega (arith, c.requires)) refl refl in
+    on_err_weaker c.keep_outside-done.result (needed c.args.self.now c.args.image.now set xs c.args.segment c.args.offset c.args.len parts) c.keep_outside-done.ensures.needs

@@ -3,10 +3,12 @@ use Rattle.std.proofs.lemmas.List.{take_all, at_drop_more, drop_all}
 use Rattle.std.proofs.lemmas.Result.{on_ok_weaker, on_err_weaker}
 use Rattle.lc_range.specs.RangeSet.{EndWithin, IsCanonical}
 use Rattle.lc_range.specs.Walk.{parts, piece}
-use Rattle.lc_range.specs.Undo.{first_bytes}
+use Rattle.lc_range.specs.Undo.{OldBytes, TakeMemory, first_bytes}
+use Rattle.lc_range.specs.Copies.{with_copies}
+use Rattle.lc_range.proofs.AddLemmas.{on_err_of}
 use Rattle.lc_range.specs.declared.range.Range.{Range}
 use Rattle.lc_range.proofs.GrowLemmas.{first_with_copies}
-use Rattle.lc_range.proofs.OutsideLemmas.{AreFrom, Walked, walk_starts, walk_more, walk_ends, some_part, last_part, same_front, behind_all, canonical_from, ends_from, from_place, either_way}
+use Rattle.lc_range.proofs.OutsideLemmas.{AreFrom, Walked, walk_starts, walk_more, walk_ends, some_part, last_part, takes_part, same_front, behind_all, canonical_from, ends_from, from_place, either_way}
 use Rattle.lc_range.proofs.undo.Undo.keep_outside.Goals as goal
 use Rattle.lc_range.proofs.undo.Undo.keep_outside.Goals.{After-keep-2, else-loop-run-test, then-loop-run-test+then-is_before}
 
@@ -117,3 +119,30 @@ returns-clause-memory c =
     let range : Range = the_range c.args.segment c.args.offset c.args.end in
     on_err_weaker c.keep-2.result
     (last_part c.args.self.now c.loop-run.self c.args.image.now range c.loop-run.from c.args.end runs (drop c.loop-run.run-index (tail runs c.count_before.result)) c.loop-run.invariant.walked (last c)) c.keep-2.ensures.memory
+
+pub returns-in_err-keep-clause-needs : goal.returns-in_err-keep-clause-needs
+returns-in_err-keep-clause-needs c =
+    let runs = c.args.runs.now in
+    let items : List Range = tail runs c.count_before.result in
+    let i = c.loop-run.run-index in
+    let d : Range = record { segment = 0; offset = 0; len = 0 } in
+    let run : Range = get_or items i d in
+    let range : Range = the_range c.args.segment c.args.offset c.args.end in
+    let next : drop i items ≡ run ∷ drop (i + 1) items = at_drop_more (λ (l : List Range). l) items i d (omega (arith, c.loop-run-test.true)) in
+    let walked = subst (λ (l : List Range). Walked c.args.self.now c.loop-run.self c.args.image.now c.args.segment c.args.offset c.loop-run.from c.args.end runs l) next c.loop-run.invariant.walked in
+    let canonical = subst (λ (l : List Range). IsCanonical l) next c.loop-run.invariant.canonical in
+    let from = subst (λ (l : List Range). AreFrom range l) next c.loop-run.invariant.from_place in
+    on_err_of c.from_residual.result
+    (takes_part c.args.self.now c.loop-run.self c.args.image.now range c.loop-run.from c.args.end runs run (drop (i + 1) items) walked (omega (arith, c.requires.ordered)) canonical from.0
+    (sym c.is_before.ensures ∙ c.if-is_before.false) c.in_err-keep.ensures.needs)
+
+pub returns-clause-needs : goal.returns-clause-needs
+returns-clause-needs c =
+    let runs = c.args.runs.now in
+    let range : Range = the_range c.args.segment c.args.offset c.args.end in
+    let image = c.args.image.now in
+    on_err_weaker c.keep-2.result
+    (subst (λ (l : List OldBytes). TakeMemory l)
+    (walk_ends c.args.self.now c.loop-run.self image range c.loop-run.from c.args.end runs (with_copies c.loop-run.self image (piece c.args.segment c.loop-run.from c.args.end))
+    (drop c.loop-run.run-index (tail runs c.count_before.result)) c.loop-run.invariant.walked (last c) refl))
+    c.keep-2.ensures.needs

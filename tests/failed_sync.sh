@@ -1,0 +1,158 @@
+#!/bin/sh
+# Fails a sync of the built program on a real file system, each sync of a run in turn: the disk under an ext4 file system is gone
+# for its part that has the store's files, while the sync is made. Then the disk is back, the store is recovered and has one
+# commit more, and the power goes: what the disk has is looked at in another mount. Each acknowledged commit has to be there.
+# After a sync that failed the system takes the pages for clean: a read gives the bytes, and they are on no disk.
+#
+# usage: tests/failed_sync.sh [PROGRAM]     (default: crates/lcrvm/out/lcrvm; root, loop devices, ext4 and `cc` are wanted)
+#
+# Where these can't be had it says `skipped`, and the status is 0. It takes about a minute, and works in a folder of its own
+# below TMPDIR. No process is waited for longer than a minute.
+set -eu
+
+program=${1:-crates/lcrvm/out/lcrvm}
+case $program in */*) program=$(cd "$(dirname "$program")" && pwd)/$(basename "$program") ;; esac
+tests=$(cd "$(dirname "$0")" && pwd)
+bound=60
+most=200
+PATH=$PATH:/usr/sbin:/sbin
+
+work=$(mktemp -d "${TMPDIR:-/tmp}/lcrvm-failed-sync.XXXXXX")
+device=''
+leave() {
+    ! mountpoint -q "$work/disk" || umount "$work/disk" || umount -l "$work/disk" || true
+    [ -z "$device" ] || losetup -d "$device" || true
+    device=''
+}
+trap 'leave; rm -rf "$work"' EXIT
+cd "$work"
+
+skip() {
+    echo "skipped: $*"
+    exit 0
+}
+
+failed=0
+fail() {
+    echo "failed: $*" >&2
+    failed=$((failed + 1))
+}
+
+lcrvm() {
+    timeout -k 5 "$bound" "$program" "$@"
+}
+
+# The image of a disk, mounted.
+enter() {
+    device=$(losetup -f --show "$1" 2> /dev/null) && mount "$device" disk 2> /dev/null
+}
+
+[ "$(id -u)" -eq 0 ] || skip 'this is not root'
+for tool in losetup mkfs.ext4 mount umount mountpoint filefrag truncate cc; do
+    command -v $tool > /dev/null || skip "there is no $tool"
+done
+cc -shared -fPIC -O2 -o calls.so "$tests/traced_calls.c" -ldl
+mkdir disk
+truncate -s 16M made
+mkfs.ext4 -q -F -b 4096 made 2> /dev/null || skip 'no ext4 can be made'
+enter made || skip 'no loop device can be mounted'
+
+# A store with commits that are acknowledged, some on the pages and some in the log alone. Commit K puts the number K in
+# both segments.
+size='--segments 2 --words 128'
+commit() {
+    printf 'begin 0 0 1 2\n'
+    for s in 1 2; do printf 'range 0 0 %d 0 2\nwrite 0 0 %d 0 %04x\n' $s $s "$1"; done
+    printf 'end 0 0\nflush 0\n'
+}
+pages() {
+    for s in 1 2; do for i in 1 2 3 4 5 6; do echo "page 0 $s 0"; done; done
+}
+reset() {
+    for i in 1 2 3 4; do echo 'reset 0'; done
+}
+{ commit 1; pages; commit 2; } > base.script
+{ commit 3; pages; reset; commit 4; commit 5; pages; commit 6; } > run.script
+commit 7 > next.script
+printf 'begin 0 0 1 2\nread 0 0 1 0 2\nread 0 0 2 0 2\n' > look.script
+mkdir disk/store
+sync
+lcrvm init disk/store $size
+lcrvm run --store disk/store $size < base.script > base.out
+[ "$(grep -c '^acked' base.out)" -eq 2 ] || { echo 'failed: no commits before' >&2; echo '0 passed, 1 failed'; exit 1; }
+sync
+# The part of the disk from the first of the store's blocks on, which has no journal and no folder.
+first=$(for file in disk/store/*; do filefrag -v "$file"; done | awk '$1 == "0:" { n = $4 + 0; if (least == "" || n < least) least = n } END { print least }')
+[ "$first" -gt 1024 ] || skip 'the files lie before the journal'
+cut=$((first * 4096))
+leave
+
+# What was acknowledged is there, whole: commit K at least.
+holds() {
+    status=0
+    lcrvm recover disk/store $size > recovered 2> errors || status=$?
+    [ $status -eq 0 ] || { fail "$1: the recovery has status $status: $(tail -n 1 recovered)"; return; }
+    status=0
+    lcrvm run --store disk/store $size < look.script > looked 2> errors || status=$?
+    [ $status -eq 0 ] || { fail "$1: the look has status $status: $(tail -n 1 looked)"; return; }
+    one=$(sed -n 2p looked)
+    two=$(sed -n 3p looked)
+    [ "$one" = "$two" ] || fail "$1: a part of a commit is there: $one, $two"
+    [ $((0x${one#bytes })) -ge "$2" ] || fail "$1: commit $2 was acknowledged, and it is $one"
+}
+
+number=1
+lost=0
+while [ $number -le $most ]; do
+    name="sync $number"
+    cp made image
+    enter image || { fail "$name: no disk"; break; }
+    rm -f gate
+    LD_PRELOAD="$work/calls.so" CALLS_FOLDER=disk/store CALLS_HELD=$number CALLS_GATE="$work/gate" \
+        timeout -k 5 $bound "$program" run --store disk/store $size < run.script > out 2> err &
+    running=$!
+    turns=0
+    while [ ! -e gate ] && kill -0 $running 2> /dev/null && [ $turns -lt $((bound * 100)) ]; do
+        sleep 0.01
+        turns=$((turns + 1))
+    done
+    if [ ! -e gate ]; then
+        status=0
+        wait $running || status=$?
+        [ $status -eq 0 ] || fail "$name: no sync failed, and the status is $status"
+        leave
+        break
+    fi
+
+    # The end of the disk is gone, and the sync is made.
+    tail -c +$((cut + 1)) image > end
+    truncate -s $cut image
+    losetup -c "$device"
+    rm -f gate
+    status=0
+    wait $running || status=$?
+    cat end >> image
+    losetup -c "$device"
+    [ $status -eq 3 ] || fail "$name: a sync failed, and the status is $status"
+    grep -q '^lcrvm: disk/store/[a-z]*[0-9]*: Input/output error' err || fail "$name: standard error does not say it: $(cat err)"
+    acked=$((2 + $(grep -c '^acked' out || true)))
+
+    # The store goes on.
+    before=$failed
+    holds "$name, behind it" $acked
+    status=0
+    lcrvm run --store disk/store $size < next.script > next.out 2> errors || status=$?
+    [ $status -eq 0 ] && grep -q '^acked' next.out || fail "$name: the next run has status $status: $(tail -n 1 next.out)"
+
+    # The power goes: the disk has what was written back to it, and nothing else.
+    cp image after
+    leave
+    enter after || { fail "$name: no disk behind the power's loss"; break; }
+    holds "$name, behind the loss of power" 7
+    leave
+    [ $failed -eq $before ] || lost=$((lost + 1))
+    number=$((number + 1))
+done
+[ $number -gt 1 ] || fail 'no sync was held'
+echo "each of $((number - 1)) syncs failed once: behind $lost of them a store was not right"
+if [ $failed -eq 0 ]; then echo "1 passed, 0 failed"; else echo "$failed times it was not right"; echo "0 passed, 1 failed"; exit 1; fi

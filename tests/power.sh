@@ -1,0 +1,36 @@
+#!/bin/sh
+# Cuts the power of the built program anywhere: tests/power.py says how, and what it looks at. It takes stories in which all goes
+# well, and then some in which a sync fails. Then it leaves out the syncs, all and each kind by itself, and sees that each time
+# something is lost: so each sync is needed, and a loss is seen.
+#
+# usage: tests/power.sh [PROGRAM [SEED [CUTS]]]     (default: crates/lcrvm/out/lcrvm, 1, 5000; `cc` and `python3` are wanted)
+#
+# It takes some minutes, and works in a folder of its own below TMPDIR. A process that does not end within a minute is a failure.
+set -eu
+
+program=${1:-crates/lcrvm/out/lcrvm}
+seed=${2:-1}
+cuts=${3:-5000}
+case $program in */*) program=$(cd "$(dirname "$program")" && pwd)/$(basename "$program") ;; esac
+tests=$(cd "$(dirname "$0")" && pwd)
+
+work=$(mktemp -d "${TMPDIR:-/tmp}/lcrvm-power.XXXXXX")
+trap 'rm -rf "$work"' EXIT
+cc -shared -fPIC -O2 -o "$work/calls.so" "$tests/traced_calls.c" -ldl
+
+passed=0
+failed=0
+cut() {
+    if POWER_WORK="$work" timeout -k 5 1800 python3 -B "$tests/power.py" "$program" "$work/calls.so" --seed "$seed" "$@"; then
+        passed=$((passed + 1))
+    else
+        failed=$((failed + 1))
+    fi
+}
+cut --cuts "$cuts"
+cut --cuts $(((cuts + 1) / 2)) --stories failing
+for kind in all group gate reset close fill open; do
+    cut --cuts 5000 --without-syncs $kind
+done
+echo "$passed passed, $failed failed"
+[ $failed -eq 0 ]
