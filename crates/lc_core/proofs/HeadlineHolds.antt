@@ -1,53 +1,66 @@
 -- The headline follows from what a store fits behind a run.
-use Rattle.std.proofs.Common.{◌≡◌, ℕ, zero, suc, ◌+◌, ◌%◌, Bool, true, false, ◌==◌, List, [], ◌∷◌, ◌++◌, length, filter, map, All, Option, None, Some, refl, sym, ap, subst, ◌∙◌, inl, inr, arith}
+use Rattle.std.proofs.Common.{◌≡◌, ℕ, zero, suc, ◌+◌, ◌*◌, ◌<◌, ◌%◌, Bool, true, false, List, [], ◌∷◌, ◌++◌, length, filter, map, sum_by, Option, None, Some, refl, sym, ap, subst, ◌∙◌, inl, inr, arith}
 use Rattle.std.specs.Prelude.{◌-◌, if◌then◌else◌, slice_get, slice_set}
 use Rattle.std.proofs.Math.Seq.{take-nil}
-use Rattle.std.proofs.lemmas.List.{append-nil}
+use Rattle.std.proofs.lemmas.List.{append-nil, nil_from_length}
 use Rattle.std.proofs.lemmas.List.Elements.{All-weaker}
+use Rattle.std.proofs.lemmas.List.Sums.{sum_by-cons}
+use Rattle.std.proofs.lemmas.Option.{slice_get_within}
 use Rattle.lc_disk.specs.contracts.mem_area.MemAreaArea.TheImpl.{ghosts}
 use Rattle.lc_disk.specs.declared.area.Area.{Ghosts}
 use Rattle.lc_disk.specs.declared.mem_area.MemArea.{MemArea}
-use Rattle.lc_record.specs.Content.{Content, segment_of}
+use Rattle.lc_record.specs.Content.{segment_of}
 use Rattle.lc_record.specs.Transaction.{IsWellFormed, Transaction, effects}
 use Rattle.lc_record.specs.declared.geometry.Geometry.{Geometry}
-use Rattle.lc_recover.specs.Reads.{AllMergeTo, AreHonest, AreImages, store_of}
+use Rattle.lc_recover.specs.Reads.{AllMergeTo, AreHonest, AreImages, HaveLengths, store_of}
+use Rattle.lc_model.specs.Merge.{MergesTo}
 use Rattle.lc_model.specs.Merging.{counted_all}
 use Rattle.lc_core.specs.Areas.{AreStopped}
-use Rattle.lc_recover.specs.Recovery.{Recovering}
 use Rattle.lc_model.specs.History.{Cut, kept, transactions, value}
 use Rattle.lc_model.specs.Machine.{RecoverRow, Row, Step}
-use Rattle.lc_model.specs.Refusals.{Unless, common_refusal, is_at}
+use Rattle.lc_model.specs.Refusals.{Unless, is_at, is_up}
 use Rattle.lc_model.specs.Sound.{Sound, IsProper}
 use Rattle.lc_model.specs.State.{Phase as Condition, At, DownAt, Up as IsUpNow, Setting, State, first_state, fresh}
 use Rattle.lc_model.specs.Stops.{MayCut}
-use Rattle.lc_model.specs.Stored.{base, up_to}
 use Rattle.lc_model.specs.declared.event.Event.{Event}
 use Rattle.lc_model.specs.declared.event.Event.TheVariants.{RecoverStep}
 use Rattle.lc_model.specs.declared.refusal.Refusal.{Refusal}
 use Rattle.lc_model.specs.declared.reply.Reply.{Reply}
 use Rattle.lc_model.specs.declared.reply.Reply.TheVariants.{Recovered}
 use Rattle.lc_model.proofs.Downs.{acked-kept, kept-front}
-use Rattle.lc_model.proofs.Law.{law_each, law_order, law_value}
-use Rattle.lc_core.specs.FaultReplies.{CountsFaults, FailsOnce, is_fault}
+use Rattle.lc_model.proofs.Law.{law_each, law_value}
+use Rattle.lc_model.proofs.Order.{law_meet}
+use Rattle.lc_core.specs.FaultReplies.{is_fault}
 use Rattle.lc_core.specs.Faults.{CountsAll, area_failures, phase_failures}
-use Rattle.lc_core.specs.Headline.{Cuts, Holds, IsPrefix, IsSerial, failures_in}
+use Rattle.lc_core.specs.Headline.{Cuts, Holds, IsSerial, Leaves, stands_up}
+use Rattle.lc_core.specs.Log.{area_of}
 use Rattle.lc_core.specs.Numbers.{Numbers}
+use Rattle.lc_core.specs.Pages.{areas_of}
 use Rattle.lc_core.specs.Places.{same_some}
-use Rattle.lc_core.specs.Runs.{FollowsRun, RunsOn}
-use Rattle.lc_core.specs.Settled.{Settled}
-use Rattle.lc_core.specs.Showing.{ShowsPage, image_of, page_of}
+use Rattle.lc_core.specs.Runs.{FollowsRun, RunsOn, Settles}
+use Rattle.lc_core.specs.Showing.{LendsPage, image_of, page_of}
 use Rattle.lc_core.specs.Slots.{segment_to}
 use Rattle.lc_core.specs.Stops.{HasAreas}
 use Rattle.lc_core.specs.Turns.{Turns}
 use Rattle.lc_core.specs.World.{FitsPhase, FitsWorld}
+use Rattle.lc_core.specs.declared.node.Node.{Node}
 use Rattle.lc_core.specs.declared.phase.Phase.{Phase}
 use Rattle.lc_core.specs.declared.phase.Phase.TheVariants.{Down, Up, Taken}
 use Rattle.lc_core.specs.declared.world.World.{World}
-use Rattle.lc_core.proofs.ImagesFit.{images_merge, stopped_honest, stopped_merge_one, stopped_merge_same}
+use Rattle.lc_core.proofs.Bases.{Counts, counted_all-append, run_counts}
+use Rattle.lc_core.proofs.Devices.{log_area_of}
+use Rattle.lc_core.proofs.ImagesFit.{images_merge, stopped_again, stopped_honest, stopped_images, stopped_lengths}
+use Rattle.lc_core.proofs.OneMore.{run_of}
 use Rattle.lc_core.proofs.Recoveries.{none_common}
-use Rattle.lc_core.proofs.Stopped.{their_honesty}
+use Rattle.lc_core.proofs.Shown.{slot_shows}
+use Rattle.lc_core.proofs.Stopped.{are_of, areas_failed, their_honesty, their_lengths}
 
 -- Failures, added up
+
+abbrev pub failures_in : List (Option ℕ) → ℕ
+failures_in [] = 0
+failures_in (None ∷ counts) = failures_in counts
+failures_in (Some count ∷ counts) = count + failures_in counts
 
 one_more_in : (olds : List (Option ℕ)) (at count : ℕ) → slice_get olds at ≡ Some (Some count) → failures_in (slice_set olds at (Some (count + 1))) ≡ failures_in olds + 1
 one_more_in [] at count was = absurd cc
@@ -118,87 +131,175 @@ fresh_image m earlier x node segment = elim (is_at node (At (segment % m.geometr
           ∙ sym (ap (λ (ts : List Transaction). segment_of segment (effects ts m.start)) (append-nil earlier))
     ]
 
-fresh_shows : (m : Setting) (s : State) (x : Numbers) (node segment : ℕ) → s ≡ fresh m.geometry s.earlier IsUpNow → image_of m s x node segment ≡ segment_of segment (value m.start s.earlier s.history)
+fresh_shows : (m : Setting) (s : State) (x : Numbers) (node segment : ℕ) → s ≡ fresh m.geometry s.earlier IsUpNow → image_of m s x node segment ≡ segment_of segment (effects s.earlier m.start)
 fresh_shows m s x node segment is =
-    ap (λ (v : State). image_of m v x node segment) is ∙ fresh_image m s.earlier x node segment ∙ sym (ap (λ (v : State). segment_of segment (value m.start v.earlier v.history)) is)
+    ap (λ (v : State). image_of m v x node segment) is ∙ fresh_image m s.earlier x node segment
+    ∙ ap (λ (ts : List Transaction). segment_of segment (effects ts m.start)) (append-nil s.earlier)
 
 -- A cut is a serial order's prefix
+
+merges_so : (m : Setting) (s : State) (x : Numbers) (numbers : ℕ → ℕ) → Counts numbers s x → (cut : Cut) (images : List (List ℕ))
+    → MergesTo (store_of m.geometry images) (effects (s.earlier ++ kept s.history cut) m.start) (counted_all x.disks.numbers (kept s.history cut))
+    → MergesTo (store_of m.geometry images) (effects (s.earlier ++ kept s.history cut) m.start) (counted_all numbers (s.earlier ++ kept s.history cut))
+merges_so m s x numbers counts cut images merges =
+    subst (λ (n : ℕ → ℕ). MergesTo (store_of m.geometry images) (effects (s.earlier ++ kept s.history cut) m.start) n)
+    (ap (λ (n : ℕ → ℕ). counted_all n (kept s.history cut)) counts ∙ sym (counted_all-append numbers s.earlier (kept s.history cut))) merges
 
 cut_serial : (m : Setting) (s : State) (cut : Cut) → Sound m.geometry s → MayCut m.geometry s cut → IsSerial m s cut
 cut_serial m s cut sound may = record {
   each_once = law_each s.history cut;
   value_is = law_value m.start s.earlier s.history cut (All-weaker (IsProper m.geometry) IsWellFormed (λ t proper. proper.well) (transactions s.history) sound.history_proper) may.1;
-  in_order = λ segment. law_order s.history cut segment may.1;
+  in_order = law_meet s.history cut may.1;
   closed = λ node. kept-front m.geometry s cut node sound may;
   acknowledged = λ node below. acked-kept m.geometry s node _ sound (may.2 node below);
 }
 
 module _ {D : Type 0} (a : Ghosts D) where
-  prefix_left : (phase : Phase D a) (m : Setting) (s : State) (x : Numbers) (areas : List D) (images : List (List ℕ)) → FitsPhase a m phase s x → HasAreas a phase m.geometry areas
-      → AreImages a areas images → IsPrefix m s x.disks.numbers images
-  prefix_left (Down r) m s x areas images h are left =
+  -- The areas of a store that fits
+
+  record Gathered (nodes : List (Node D a)) : Type 0 where
+    logs : List D
+    count : length logs ≡ length nodes
+    each : (n : ℕ) (node : Node D a) → slice_get nodes n ≡ Some node → area_of a node.journal.log ≡ slice_get logs n
+
+  gathered : (nodes : List (Node D a)) → ((n : ℕ) (node : Node D a) → slice_get nodes n ≡ Some node → (area : D) × (area_of a node.journal.log ≡ Some area)) → Gathered nodes
+  gathered [] have = record { logs = []; count = refl; each = λ n node at. absurd (none_there n node at) }
+    where
+      none_there : (n : ℕ) (node : Node D a) → slice_get [] n ≡ Some node → ⊥
+      none_there n node at = absurd (let within = slice_get_within [] n node at in omega (arith, within))
+  gathered (node ∷ nodes) have =
+      let first = have 0 node refl in
+      let others = gathered nodes (λ n later at. have (suc n) later at) in
+      record {
+        logs = first.0 ∷ others.logs;
+        count = ap suc others.count;
+        each = λ n. elim n as (λ (n : ℕ). (its : Node D a) → slice_get (node ∷ nodes) n ≡ Some its → area_of a its.journal.log ≡ slice_get (first.0 ∷ others.logs) n) [
+          | zero ↦ λ its at. ap (λ (o : Node D a). area_of a o.journal.log) (sym (same_some node its at)) ∙ first.1
+          | suc n ↦ λ its at. others.each n its at
+        ];
+      }
+
+  areas_there : (phase : Phase D a) (m : Setting) (s : State) (x : Numbers) → FitsPhase a m phase s x → (areas : List D) × HasAreas a phase m.geometry areas
+  areas_there (Down r) m s x h = (r.areas, (sym h.geometry_is, refl))
+  areas_there (Up up) m s x h =
+      let logs = gathered up.running.nodes.items (λ n node at. (let area = log_area_of a (8 * (up.running.geometry.words + 1)) up.running.nodes.items up.logs n node at in (area.0, area.1))) in
+      let all = logs.logs ++ areas_of a up.segments.items in
+      (all, (h.running.geometry_is, are_of a up logs.logs all logs.each (logs.count ∙ sym up.running.nodes.ok.0) refl))
+  areas_there Taken m s x h = absurd h
+
+  up_as : (phase : Phase D a) (m : Setting) (s : State) (x : Numbers) → FitsPhase a m phase s x → stands_up a phase ≡ is_up s.phase
+  up_as (Down r) m s x h = sym (ap is_up h.down)
+  up_as (Up up) m s x h = sym (ap is_up h.running.up)
+  up_as Taken m s x h = absurd h
+
+  -- their failures
+  pub failures_are : (areas : List D) → failures_in (area_failures a areas) ≡ sum_by a.failures areas
+  failures_are [] = refl
+  failures_are (area ∷ areas) = (let others = failures_are areas in omega (arith, others, sum_by-cons a.failures area areas))
+
+  failed_so : (phase : Phase D a) (m : Setting) (failures : ℕ) (areas : List D) → HasAreas a phase m.geometry areas → failures ≡ failures_in (phase_failures a phase) → sum_by a.failures areas ≡ failures
+  failed_so phase m failures areas are counts = sym (failures_are areas) ∙ ap failures_in (sym (areas_failed a phase m.geometry areas are)) ∙ sym counts
+
+  -- and what a stop leaves of them
+  area_left : (phase : Phase D a) (m : Setting) (s : State) (x : Numbers) (numbers : ℕ → ℕ) (failures : ℕ) → Counts numbers s x → failures ≡ failures_in (phase_failures a phase) → FitsPhase a m phase s x
+      → (areas : List D) → HasAreas a phase m.geometry areas → Leaves a m s numbers failures areas
+  area_left (Down r) m s x numbers failures counts failed h areas are =
       let may = h.sound.down_cut h.cut h.down in
       record {
-        cut = h.cut;
-        cuts = subst (λ (p : Condition). Cuts p m.geometry s h.cut) (sym h.down) (refl, may);
-        serial = cut_serial m s h.cut h.sound may;
-        merges = h.merges images (subst (λ (l : List D). AreImages a l images) are.1 left);
+        lengths = subst (λ (l : List D). HaveLengths a m.geometry l) (sym are.1) (subst (λ (g : Geometry). HaveLengths a g r.areas) h.geometry_is h.lengths);
+        honest = subst (λ (l : List D). AreHonest a l) (sym are.1) h.honest;
+        faults = failed_so (Down r) m failures areas are failed;
+        left = λ images left. record {
+          cut = h.cut;
+          cuts = subst (λ (p : Condition). Cuts p m.geometry s h.cut) (sym h.down) (refl, may);
+          serial = cut_serial m s h.cut h.sound may;
+          merges = merges_so m s x numbers counts h.cut images (h.merges images (subst (λ (l : List D). AreImages a l images) are.1 left));
+        };
       }
-  prefix_left (Up up) m s x areas images h are left =
-      let one = images_merge a m s x up areas images h.running h.pages (their_honesty a up areas are.1 m s x h) are.1 left in
+  area_left (Up up) m s x numbers failures counts failed h areas are =
+      let honest = their_honesty a up areas are.1 m s x h in
       record {
-        cut = one.0;
-        cuts = subst (λ (p : Condition). Cuts p m.geometry s one.0) (sym h.running.up) one.1;
-        serial = cut_serial m s one.0 h.running.sound one.1;
-        merges = one.2;
+        lengths = subst (λ (g : Geometry). HaveLengths a g areas) (sym h.running.geometry_is) (their_lengths a up areas are.1);
+        honest = honest;
+        faults = failed_so (Up up) m failures areas are failed;
+        left = λ images left.
+            let one = images_merge a m s x up areas images h.running h.pages honest are.1 left in
+            record {
+              cut = one.0;
+              cuts = subst (λ (p : Condition). Cuts p m.geometry s one.0) (sym h.running.up) one.1;
+              serial = cut_serial m s one.0 h.running.sound one.1;
+              merges = merges_so m s x numbers counts one.0 images one.2;
+            };
       }
-  prefix_left Taken m s x areas images h are left = absurd h
+  area_left Taken m s x numbers failures counts failed h areas are = absurd h
+
+  -- what is lent of a page is its part of the node's image
+  lent_shows : (phase : Phase D a) (m : Setting) (s : State) (x : Numbers) (node segment page : ℕ) (bytes : List ℕ) → FitsPhase a m phase s x → LendsPage a phase node segment page bytes
+      → bytes ≡ page_of (image_of m s x node segment) page
+  lent_shows (Up up) m s x node segment page bytes h lends =
+      let its = lends.0 in
+      let slot = lends.1 in
+      let slots = its.desk.here.slots in
+      let one = h.running.each node its lends.3 in
+      let inside : segment - 1 < length slots.items = slice_get_within slots.items (segment - 1) slot lends.4 in
+      let count : slots.len ≡ up.running.geometry.segments = (up.running.whole node its lends.3).slots in
+      let below : segment - 1 < m.geometry.segments = omega (arith, inside, count, slots.ok.0, ap (λ (g : Geometry). g.segments) h.running.geometry_is) in
+      let same : suc (segment - 1) ≡ segment = omega (arith, lends.2) in
+      lends.5
+      ∙ ap (λ (image : List ℕ). page_of image page)
+      (subst (λ (n : ℕ). slot.image.bytes.items ≡ image_of m s x node n) same
+      (slot_shows m node its.desk.here its.desk.seats.items s h.running.sound one.desk x one.slots (segment - 1) slot lends.4 below))
+  lent_shows (Down r) m s x node segment page bytes h lends = absurd lends
+  lent_shows Taken m s x node segment page bytes h lends = absurd lends
 
   -- the headline, of a run from a store that fits the first state
-  pub holds : (m : Setting) (x : Numbers) (old new : World D a) (events : List Event) (replies : List Reply) → FitsWorld a m old (first_state m.geometry) x → FollowsRun a old events replies new
-      → CountsAll replies (phase_failures a old.phase) (phase_failures a new.phase) → Holds a m x events replies (failures_in (phase_failures a old.phase)) new
-  holds m x old new events replies h run counts =
+  pub holds : (m : Setting) (x : Numbers) (numbers : ℕ → ℕ) (old new : World D a) (events : List Event) (replies : List Reply) → x.disks.numbers ≡ numbers → FitsWorld a m old (first_state m.geometry) x
+      → FollowsRun a old events replies new → CountsAll replies (phase_failures a old.phase) (phase_failures a new.phase) → Holds a m numbers events replies (failures_in (phase_failures a old.phase)) new
+  holds m x numbers old new events replies numbers_are h run counts =
       let on = run m (first_state m.geometry) x h in
+      let counted = run_counts m numbers (first_state m.geometry) x events replies on.0 on.1 numbers_are on.2 in
       record {
         after = on.0;
-        next = on.1;
-        run = on.2;
-        faults = counted_in replies _ _ counts;
-        left = λ areas images are left. prefix_left new.phase m on.0 on.1 areas images on.3 are left;
-        shown = λ before told events_are replies_are node segment page bytes shows.
-            let runs : RunsOn m (first_state m.geometry) x (before ++ RecoverStep ∷ []) (told ++ Recovered ∷ []) on.0 on.1 =
-            subst (λ (rs : List Reply). RunsOn m (first_state m.geometry) x (before ++ RecoverStep ∷ []) rs on.0 on.1) replies_are
-            (subst (λ (es : List Event). RunsOn m (first_state m.geometry) x es replies on.0 on.1) events_are on.2) in
-            let last = last_step m (first_state m.geometry) x before told RecoverStep Recovered on.0 on.1 runs in
-            shows m on.0 on.1 on.3 ∙ ap (λ (image : List ℕ). page_of image page) (fresh_shows m on.0 on.1 node segment (recovered_fresh m last.mid on.0 last.step));
+        answers = record {
+          run = run_of m (first_state m.geometry) x events replies on.0 on.1 on.2;
+          up = up_as new.phase m on.0 on.1 on.3;
+          shown = λ before told events_are replies_are node segment page bytes lends.
+              let runs : RunsOn m (first_state m.geometry) x (before ++ RecoverStep ∷ []) (told ++ Recovered ∷ []) on.0 on.1 =
+              subst (λ (rs : List Reply). RunsOn m (first_state m.geometry) x (before ++ RecoverStep ∷ []) rs on.0 on.1) replies_are
+              (subst (λ (es : List Event). RunsOn m (first_state m.geometry) x es replies on.0 on.1) events_are on.2) in
+              let last = last_step m (first_state m.geometry) x before told RecoverStep Recovered on.0 on.1 runs in
+              lent_shows new.phase m on.0 on.1 node segment page bytes on.3 lends
+              ∙ ap (λ (image : List ℕ). page_of image page) (fresh_shows m on.0 on.1 node segment (recovered_fresh m last.mid on.0 last.step));
+        };
+        some_areas = areas_there new.phase m on.0 on.1 on.3;
+        leaves = λ areas are. area_left new.phase m on.0 on.1 numbers _ counted (counted_in replies _ _ counts) on.3 areas are;
       }
 
-  -- areas that read as images of those of a store that fits begin another life
-  pub next_life : (m : Setting) (s : State) (x : Numbers) (w : World D a) (areas news : List D) → FitsWorld a m w s x → HasAreas a w.phase m.geometry areas → AreStopped a areas news
-      → (cut : Cut) × Cuts s.phase m.geometry s cut × AreHonest a news
-      × AllMergeTo a m.geometry news (effects (s.earlier ++ kept s.history cut) m.start) (counted_all x.disks.numbers (kept s.history cut))
-  next_life m s x w areas news h are stopped = of_phase w.phase h are
-    where
-      of_phase : (phase : Phase D a) → FitsPhase a m phase s x → HasAreas a phase m.geometry areas → (cut : Cut) × Cuts s.phase m.geometry s cut × AreHonest a news
-          × AllMergeTo a m.geometry news (effects (s.earlier ++ kept s.history cut) m.start) (counted_all x.disks.numbers (kept s.history cut))
-      of_phase (Down r) h are =
-          let stopped_r = subst (λ (l : List D). AreStopped a l news) are.1 stopped in (
-            h.cut,
-            subst (λ (p : Condition). Cuts p m.geometry s h.cut) (sym h.down) (refl, h.sound.down_cut h.cut h.down),
-            stopped_honest a r.areas news stopped_r h.honest,
-            stopped_merge_same a r.areas news m.geometry _ _ h.honest h.merges stopped_r,
-          )
-      of_phase (Up up) h are =
-          let honest = their_honesty a up areas are.1 m s x h in
-          let one = stopped_merge_one a m s x up areas news h.running h.pages honest are.1 stopped in (
-            one.0,
-            subst (λ (p : Condition). Cuts p m.geometry s one.0) (sym h.running.up) one.1,
-            stopped_honest a areas news stopped honest,
-            one.2,
-          )
-      of_phase Taken h are = absurd h
+  -- and beside it, what the store fits
+  pub settles : (m : Setting) (x : Numbers) (old new : World D a) (events : List Event) (replies : List Reply) → FitsWorld a m old (first_state m.geometry) x → FollowsRun a old events replies new
+      → Settles a m x events replies new
+  settles m x old new events replies h run = run m (first_state m.geometry) x h
+
+  -- areas that read as images of those that are left begin another life
+  pub next_life : (m : Setting) (numbers : ℕ → ℕ) (failures : ℕ) (s : State) (areas news : List D) → Leaves a m s numbers failures areas → AreStopped a areas news
+      → (cut : Cut) × Cuts s.phase m.geometry s cut × HaveLengths a m.geometry news × AreHonest a news
+      × AllMergeTo a m.geometry news (effects (s.earlier ++ kept s.history cut) m.start) (counted_all numbers (s.earlier ++ kept s.history cut))
+  next_life m numbers failures s areas news leaves stopped =
+      let one = leaves.left (map a.now news) (stopped_images a areas news leaves.honest stopped) in (
+        one.cut,
+        one.cuts,
+        stopped_lengths a areas news stopped m.geometry leaves.lengths,
+        stopped_honest a areas news stopped leaves.honest,
+        λ images are. subst
+            (λ (l : List (List ℕ)). MergesTo (store_of m.geometry l) (effects (s.earlier ++ kept s.history one.cut) m.start) (counted_all numbers (s.earlier ++ kept s.history one.cut)))
+            (sym (stopped_again a areas news images leaves.honest stopped are)) one.merges,
+      )
 
 -- areas in memory never fail
-pub none_failed : (areas : List MemArea) → failures_in (area_failures ghosts areas) ≡ 0
+pub none_failed : (areas : List MemArea) → sum_by ghosts.failures areas ≡ 0
 none_failed [] = refl
-none_failed (area ∷ areas) = (let rest = none_failed areas in omega (arith, rest))
+none_failed (area ∷ areas) = (let rest = none_failed areas in omega (arith, rest, sum_by-cons ghosts.failures area areas))
+
+-- so no reply tells of a failure
+pub none_told : (before areas : List MemArea) (replies : List Reply) → sum_by ghosts.failures areas ≡ sum_by ghosts.failures before + length (filter is_fault replies) → filter is_fault replies ≡ []
+none_told before areas replies is = nil_from_length (filter is_fault replies) (omega (arith, is, none_failed areas))

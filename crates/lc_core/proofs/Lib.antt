@@ -88,6 +88,7 @@ pub mod ImagesOfLogs
 pub mod ImagesOfPages
 pub mod ImagesFit
 pub mod Stopped
+pub mod Bases
 pub mod HeadlineHolds
 pub mod Noted
 pub mod Calling

@@ -1,16 +1,23 @@
 -- A run of several events: with a step behind it, and as a run of the plain machine.
-use Rattle.std.proofs.Common.{◌≡◌, ℕ, ◌+◌, ◌<◌, List, [], ◌∷◌, ◌++◌, length, get_or, take, refl, sym, ◌∙◌, ap, subst}
+use Rattle.std.proofs.Common.{◌≡◌, ℕ, ◌+◌, ◌<◌, true, List, [], ◌∷◌, ◌++◌, length, get_or, take, Some, refl, sym, ◌∙◌, ap, subst, inr}
+use Rattle.std.specs.Prelude.{slice_get}
 use Rattle.std.proofs.lemmas.List.{take_more}
+use Rattle.std.proofs.lemmas.Option.{slice_get_read}
 use Rattle.lc_disk.specs.declared.area.Area.{Ghosts}
 use Rattle.lc_model.specs.Machine.{Step, Run}
 use Rattle.lc_model.specs.State.{Setting, State}
 use Rattle.lc_model.specs.declared.event.Event.{Event}
+use Rattle.lc_model.specs.declared.event.Event.TheVariants.{SetRange, Read, Reserve, Deliver, RecoverStep}
 use Rattle.lc_model.specs.declared.reply.Reply.{Reply}
 use Rattle.lc_core.specs.Numbers.{Numbers}
-use Rattle.lc_core.specs.Runs.{RunsOn, FollowsRun}
+use Rattle.lc_core.specs.Runs.{FollowsRun, GivesUp, RunsOn}
 use Rattle.lc_core.specs.Settled.{Settled}
-use Rattle.lc_core.specs.World.{FitsWorld, FollowsWorld}
+use Rattle.lc_core.specs.Asks.{may_grow}
+use Rattle.lc_core.specs.Stepping.{AsksMemory}
+use Rattle.lc_core.specs.World.{AsksAtAll, AsksIn, AsksWorld, FitsWorld, FollowsWorld, StillFitsWorld}
 use Rattle.lc_core.specs.Turns.{Turns}
+use Rattle.lc_core.specs.declared.phase.Phase.{Phase}
+use Rattle.lc_core.specs.declared.phase.Phase.TheVariants.{Down, Up, Taken}
 use Rattle.lc_core.specs.declared.world.World.{World}
 
 runs_on_more : (m : Setting) (s : State) (x : Numbers) (events : List Event) (replies : List Reply) (mid : State) (between : Numbers) (event : Event) (reply : Reply) (after : State) (next : Numbers) → RunsOn m s x events replies mid between → Step m mid event reply after → Settled m mid between event reply → Turns m mid between event reply next → RunsOn m s x (events ++ event ∷ []) (replies ++ reply ∷ []) after next
@@ -59,3 +66,38 @@ module _ {D : Type 0} (a : Ghosts D) where
   run_still old mid new events replies run still m s x h =
       let so_far = run m s x h in
       (so_far.0, so_far.1, so_far.2, still m so_far.0 so_far.1 so_far.3)
+
+  -- whatever it fits, only these events want memory
+  grows : (phase : Phase D a) (event : Event) → AsksIn a phase event → may_grow event ≡ true
+  grows (Down r) event = elim event as (λ (e : Event). AsksAtAll a r e → may_grow e ≡ true) [
+    | RecoverStep ↦ λ asks. refl
+    | _ ↦ λ asks. absurd asks
+  ]
+  grows (Up up) event = elim event as (λ (e : Event). AsksMemory a up.running e → may_grow e ≡ true) [
+    | SetRange node thread segment offset len ↦ λ asks. refl
+    | Read node thread segment offset len ↦ λ asks. refl
+    | Reserve node thread ↦ λ asks. refl
+    | Deliver sender number segment to ↦ λ asks. refl
+    | _ ↦ λ asks. absurd asks.1
+  ]
+  grows Taken event = λ asks. absurd asks
+
+  -- where the next event asks for memory, and what stands behind it still fits
+  pub gives_up : (old mid new : World D a) (events : List Event) (replies : List Reply) (event : Event) → length replies < length events → event ≡ get_or events (length replies) event
+      → FollowsRun a old (take (length replies) events) replies mid → AsksIn a mid.phase event → AsksWorld a mid event → StillFitsWorld a mid new → GivesUp a old events replies new
+  gives_up old mid new events replies event below is run at_all asks still =
+      let there : slice_get events (length replies) ≡ Some event = slice_get_read events (length events) (length replies) event refl below is in
+      inr (
+        (event, there, grows mid.phase event at_all),
+        λ m s x h.
+            (let so_far = run m s x h in
+            record {
+              after = so_far.0;
+              next = so_far.1;
+              run = so_far.2;
+              fits = still m so_far.0 so_far.1 so_far.3;
+              event = event;
+              is_next = there;
+              asks = asks m so_far.0 so_far.1 so_far.3;
+            }),
+      )

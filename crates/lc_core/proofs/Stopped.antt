@@ -185,7 +185,7 @@ module _ {D : Type 0} (a : Ghosts D) where
   by_stops Taken g olds news new were stopped recovers = absurd were
 
   -- no failure is counted
-  areas_failed : (phase : Phase D a) (g : Geometry) (areas : List D) → HasAreas a phase g areas → phase_failures a phase ≡ area_failures a areas
+  pub areas_failed : (phase : Phase D a) (g : Geometry) (areas : List D) → HasAreas a phase g areas → phase_failures a phase ≡ area_failures a areas
   areas_failed (Down r) g areas are = ap (area_failures a) (sym are.1)
   areas_failed (Up up) g areas are =
       let count = are.1.count in

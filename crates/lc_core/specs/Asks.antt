@@ -1,5 +1,5 @@
 -- Which events ask for memory.
-use Rattle.std.specs.Prelude.{◌≡◌, ◌⊎◌, ℕ, ◌+◌, ◌<◌, ◌≤◌, false, Some, None}
+use Rattle.std.specs.Prelude.{◌≡◌, ◌⊎◌, ℕ, ◌+◌, ◌<◌, ◌≤◌, Bool, true, false, Some, None}
 use Rattle.lc_record.specs.Content.{segment_of}
 use Rattle.lc_record.specs.Transaction.{Transaction, all_set}
 use Rattle.lc_record.specs.declared.record.Record.{Record}
@@ -43,6 +43,15 @@ Grows m s x (Reserve node thread) = (place : ℕ) × GetsPlace m node thread s x
 Grows m s x (Deliver sender number segment to) = (r : Record) × HasNewPart m s x sender number segment to r
 Grows m s x RecoverStep = (is_up s.phase ≡ false) × TakesRoom m x
 Grows m s x event = ⊥
+
+-- the events that need room in some state
+abbrev pub may_grow : Event → Bool
+may_grow (SetRange node thread segment offset len) = true
+may_grow (Read node thread segment offset len) = true
+may_grow (Reserve node thread) = true
+may_grow (Deliver sender number segment to) = true
+may_grow RecoverStep = true
+may_grow event = false
 
 -- an event that nothing refuses at once, and that needs room
 abbrev pub EventAsks : Setting → State → Numbers → Event → Type 0

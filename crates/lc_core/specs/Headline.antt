@@ -1,46 +1,46 @@
--- The headline. The answers to every list of events of any nodes and threads, with stops anywhere among them, are a run of the
--- plain machine; and whatever a stop leaves of the areas merges to the value of a prefix of a serial order of the committed
--- transactions, which has every acknowledged commit.
-use Rattle.std.specs.Prelude.{◌≡◌, ℕ, ◌+◌, ◌<◌, ◌≤◌, List, [], ◌∷◌, ◌++◌, length, filter, IsPermutation, Option, None, Some, slice_index}
+-- The headline. The answers to every list of events of any nodes and threads, with stops anywhere among
+-- them, are a run of the plain machine; and whatever a stop leaves of the areas merges to the value of
+-- a prefix of a serial order of the committed transactions, which has every acknowledged commit.
+use Rattle.std.specs.Prelude.{◌≡◌, ℕ, ◌+◌, ◌<◌, ◌≤◌, Bool, true, false, List, [], ◌∷◌, ◌++◌, length, filter, sum_by, IsPermutation, slice_index}
 use Rattle.lc_disk.specs.declared.area.Area.{Ghosts}
 use Rattle.lc_record.specs.Content.{Content, segment_of}
-use Rattle.lc_record.specs.Transaction.{effects, locks}
+use Rattle.lc_record.specs.Transaction.{Transaction, effects}
 use Rattle.lc_record.specs.declared.geometry.Geometry.{Geometry}
-use Rattle.lc_recover.specs.Reads.{AllMergeTo, AreHonest, AreImages, store_of}
-use Rattle.lc_model.specs.History.{Cut, front, kept, rest, transactions, value}
+use Rattle.lc_recover.specs.Reads.{AllMergeTo, AreHonest, AreImages, HaveLengths, store_of}
+use Rattle.lc_model.specs.History.{Cut, KeepsOrder, front, kept, rest, transactions, value}
+use Rattle.lc_model.specs.Machine.{Run}
 use Rattle.lc_model.specs.Merge.{MergesTo}
 use Rattle.lc_model.specs.Merging.{counted_all}
-use Rattle.lc_model.specs.State.{Phase, Up, DownAt, Setting, State, first_state}
+use Rattle.lc_model.specs.Refusals.{is_up}
+use Rattle.lc_model.specs.State.{Phase as Condition, Up as IsUpNow, DownAt, Setting, State, first_state}
 use Rattle.lc_model.specs.Stops.{MayCut}
 use Rattle.lc_model.specs.declared.event.Event.{Event}
 use Rattle.lc_model.specs.declared.event.Event.TheVariants.{RecoverStep}
 use Rattle.lc_model.specs.declared.reply.Reply.{Reply}
 use Rattle.lc_model.specs.declared.reply.Reply.TheVariants.{Recovered}
 use Rattle.lc_core.specs.FaultReplies.{is_fault}
-use Rattle.lc_core.specs.Faults.{area_failures, phase_failures}
-use Rattle.lc_core.specs.Numbers.{Numbers}
-use Rattle.lc_core.specs.Runs.{RunsOn}
-use Rattle.lc_core.specs.Showing.{ShowsPage, page_of}
+use Rattle.lc_core.specs.Showing.{LendsPage, page_of}
 use Rattle.lc_core.specs.Stops.{HasAreas}
+use Rattle.lc_core.specs.declared.phase.Phase.{Phase}
+use Rattle.lc_core.specs.declared.phase.Phase.TheVariants.{Down, Up, Taken}
 use Rattle.lc_core.specs.declared.world.World.{World}
 
--- how often these areas have failed in all
-abbrev pub failures_in : List (Option ℕ) → ℕ
-failures_in [] = 0
-failures_in (None ∷ counts) = failures_in counts
-failures_in (Some count ∷ counts) = count + failures_in counts
-
--- the cuts that a state knows: each closed one that a stop may make; of a store that is down the one that its stop made
-abbrev pub Cuts : Phase → Geometry → State → Cut → Type 0
-Cuts Up g s cut = MayCut g s cut
+-- the cuts that a state knows: each closed one that a stop may make; of a store that is down the one that
+-- its stop made
+abbrev pub Cuts : Condition → Geometry → State → Cut → Type 0
+Cuts IsUpNow g s cut = MayCut g s cut
 Cuts (DownAt made) g s cut = (cut ≡ made) × MayCut g s cut
 
--- what recoveries kept, then what the cut keeps, then the rest, is a serial order: it has each transaction once, the value of
--- all, and those that lock a segment in their order; what the cut keeps was closed, and has all that is acknowledged
+-- the history in another order: what the cut keeps, then the rest
+abbrev pub kept_first : State → Cut → List Transaction
+kept_first s cut = kept s.history cut ++ rest s.history cut
+
+-- what recoveries kept and then these are a serial order: it has each transaction once, the value of all,
+-- and any two that meet in their order; what the cut keeps was closed, and has all that is acknowledged
 pub record IsSerial (m : Setting) (s : State) (cut : Cut) : Type 0 where
-  pub each_once : IsPermutation (transactions s.history) (kept s.history cut ++ rest s.history cut)
-  pub value_is : effects (s.earlier ++ (kept s.history cut ++ rest s.history cut)) m.start ≡ value m.start s.earlier s.history
-  pub in_order : (segment : ℕ) → filter (λ t. locks t segment) (kept s.history cut ++ rest s.history cut) ≡ filter (λ t. locks t segment) (transactions s.history)
+  pub each_once : IsPermutation (transactions s.history) (kept_first s cut)
+  pub value_is : effects (s.earlier ++ kept_first s cut) m.start ≡ value m.start s.earlier s.history
+  pub in_order : KeepsOrder (transactions s.history) (kept_first s cut)
   pub closed : (node : ℕ) → slice_index cut node ≤ front node s.history
   pub acknowledged : (node : ℕ) → node < m.geometry.nodes → s.ack node ≤ slice_index cut node
 
@@ -49,20 +49,52 @@ pub record IsPrefix (m : Setting) (s : State) (numbers : ℕ → ℕ) (images : 
   pub cut : Cut
   pub cuts : Cuts s.phase m.geometry s cut
   pub serial : IsSerial m s cut
-  pub merges : MergesTo (store_of m.geometry images) (effects (s.earlier ++ kept s.history cut) m.start) (counted_all numbers (kept s.history cut))
+  pub merges : MergesTo (store_of m.geometry images)
+      (effects (s.earlier ++ kept s.history cut) m.start)
+      (counted_all numbers (s.earlier ++ kept s.history cut))
 
 module _ {D : Type 0} (a : Ghosts D) where
-  pub record Holds (m : Setting) (x : Numbers) (events : List Event) (replies : List Reply) (failures : ℕ) (new : World D a) : Type 0 where
+  -- the store is up
+  abbrev pub stands_up : Phase D a → Bool
+  stands_up (Down recovery) = false
+  stands_up (Up up) = true
+  stands_up Taken = false
+
+  -- where the events end with a recovery, each page at each node is its part of what recoveries kept
+  abbrev pub ShowsKept : Setting → State → List Event → List Reply → Phase D a → Type 0
+  ShowsKept m after events replies new =
+      (before : List Event) (told : List Reply)
+      → events ≡ before ++ RecoverStep ∷ [] → replies ≡ told ++ Recovered ∷ []
+      → (node segment page : ℕ) (bytes : List ℕ) → LendsPage a new node segment page bytes
+      → bytes ≡ page_of (segment_of segment (effects after.earlier m.start)) page
+
+  -- the answers are a run of the plain machine to this state, and the store is up exactly where the state is
+  pub record Answers (m : Setting) (events : List Event) (replies : List Reply) (new : World D a)
+      (after : State) : Type 0 where
+    pub run : Run m (first_state m.geometry) events replies after
+    pub up : stands_up new.phase ≡ is_up after.phase
+    pub shown : ShowsKept m after events replies new.phase
+
+  -- areas of the geometry, which keep to the model of a disk, and have failed so often in all; whatever
+  -- a stop leaves of them is such a prefix
+  pub record Leaves (m : Setting) (s : State) (numbers : ℕ → ℕ) (failures : ℕ) (areas : List D)
+      : Type 0 where
+    pub lengths : HaveLengths a m.geometry areas
+    pub honest : AreHonest a areas
+    pub faults : sum_by a.failures areas ≡ failures
+    pub left : (images : List (List ℕ)) → AreImages a areas images → IsPrefix m s numbers images
+
+  -- the answers are so, with a fault for each failure of a device, and the store has areas that are so
+  pub record Holds (m : Setting) (numbers : ℕ → ℕ) (events : List Event) (replies : List Reply)
+      (failures : ℕ) (new : World D a) : Type 0 where
     pub after : State
-    pub next : Numbers
-    pub run : RunsOn m (first_state m.geometry) x events replies after next
-    pub faults : failures + length (filter is_fault replies) ≡ failures_in (phase_failures a new.phase)
-    pub left : (areas : List D) (images : List (List ℕ)) → HasAreas a new.phase m.geometry areas → AreImages a areas images → IsPrefix m after next.disks.numbers images
-    -- each node shows the value where the run ends with a recovery
-    pub shown : (before : List Event) (told : List Reply) → events ≡ before ++ RecoverStep ∷ [] → replies ≡ told ++ Recovered ∷ []
-        → (node segment page : ℕ) (bytes : List ℕ) → ShowsPage a new node segment page bytes → bytes ≡ page_of (segment_of segment (value m.start after.earlier after.history)) page
+    pub answers : Answers m events replies new after
+    pub some_areas : (areas : List D) × HasAreas a new.phase m.geometry areas
+    pub leaves : (areas : List D) → HasAreas a new.phase m.geometry areas
+        → Leaves m after numbers (failures + length (filter is_fault replies)) areas
 
   -- where the areas are honest, and whatever a stop may have left of them merges to one result
   abbrev pub Headline : Geometry → List D → List Event → List Reply → World D a → Type 0
-  Headline g areas events replies new = (start : Content) (x : Numbers) → AreHonest a areas → AllMergeTo a g areas start x.disks.numbers → x.steps ≡ 0
-      → Holds (record { geometry = g; start = start }) x events replies (failures_in (area_failures a areas)) new
+  Headline g areas events replies new =
+      (start : Content) (numbers : ℕ → ℕ) → AreHonest a areas → AllMergeTo a g areas start numbers
+      → Holds (record { geometry = g; start = start }) numbers events replies (sum_by a.failures areas) new

@@ -1,5 +1,5 @@
 -- What a node's image of a segment shows.
-use Rattle.std.specs.Prelude.{◌≡◌, ℕ, ◌*◌, ◌&&◌, List, take, drop, find, Option, None, Some, if◌then◌else◌}
+use Rattle.std.specs.Prelude.{◌≡◌, ℕ, ◌-◌, ◌*◌, ◌≤◌, ◌&&◌, List, slice_get, take, drop, find, Option, None, Some, if◌then◌else◌}
 use Rattle.lc_disk.specs.declared.area.Area.{Ghosts}
 use Rattle.lc_record.specs.Content.{Content, segment_of}
 use Rattle.lc_record.specs.Transaction.{Transaction, locks}
@@ -12,8 +12,10 @@ use Rattle.lc_model.specs.declared.refusal.Refusal.TheVariants.{Down as IsDown, 
 use Rattle.lc_core.specs.Numbers.{Numbers}
 use Rattle.lc_core.specs.Slots.{segment_to}
 use Rattle.lc_core.specs.World.{FitsWorld}
+use Rattle.lc_core.specs.declared.node.Node.{Node}
 use Rattle.lc_core.specs.declared.phase.Phase.{Phase}
 use Rattle.lc_core.specs.declared.phase.Phase.TheVariants.{Down, Up, Taken}
+use Rattle.lc_core.specs.declared.slot.Slot.{Slot}
 use Rattle.lc_core.specs.declared.world.World.{World}
 
 -- the open transaction that has locked the segment for writing
@@ -47,3 +49,10 @@ module _ {D : Type 0} (a : Ghosts D) where
   abbrev pub ShowsPage : World D a → ℕ → ℕ → ℕ → List ℕ → Type 0
   ShowsPage w node segment page bytes =
       (m : Setting) (s : State) (x : Numbers) → FitsWorld a m w s x → bytes ≡ page_of (image_of m s x node segment) page
+
+  -- these are the bytes of the page of the image that the node has of the segment
+  abbrev pub LendsPage : Phase D a → ℕ → ℕ → ℕ → List ℕ → Type 0
+  LendsPage (Up up) node segment page bytes =
+      (its : Node D a) × (slot : Slot) × (1 ≤ segment) × (slice_get up.running.nodes.items node ≡ Some its)
+      × (slice_get its.desk.here.slots.items (segment - 1) ≡ Some slot) × (bytes ≡ page_of slot.image.bytes.items page)
+  LendsPage phase node segment page bytes = ⊥

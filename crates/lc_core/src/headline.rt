@@ -1,9 +1,11 @@
 //! What a store promises of a whole run.
-ghost use Rattle.std.specs.Prelude.{◌≡◌, ◌≢◌, ◌<◌, ℕ, IfErr, IfOk, length, map, slice_get, take, true, false};
+ghost use Rattle.std.specs.Prelude.{◌≡◌, ◌≢◌, ◌⊎◌, ◌<◌, ℕ, [], IfErr, IfOk, length, map, slice_get, take, true, false};
 ghost use Rattle.lc_model.specs.Merge.{IsLeast};
 ghost use Rattle.lc_recover.specs.Reads.{area_len};
 ghost use Rattle.lc_recover.specs.declared.fault.RecoverFault.TheVariants.{BadGeometry};
+ghost use Rattle.lc_model.specs.State.{first_state};
 ghost use Rattle.lc_core.specs.Headline.{Headline};
+ghost use Rattle.lc_core.specs.Runs.{AsksNext, GrowsNext, OnAreas, Settles};
 
 use crate::world::World;
 use crate::{Event, RunResult};
@@ -17,7 +19,8 @@ use std::alloc::Global;
 ///
 /// Where the areas keep to the model of a disk, and whatever a stop may have left of them merges to one result: the answers are
 /// a run of the machine of plain transactions, and whatever a stop leaves of the areas now merges to the value of a prefix of a
-/// serial order of the committed transactions that has every acknowledged commit.
+/// serial order of the committed transactions that has every acknowledged commit. Each reply is the settled one, and the
+/// store fits where the run has come to.
 ///
 /// # Errors
 ///
@@ -29,9 +32,17 @@ pub fn run_areas<D: Stoppable + Drop>(
     areas: Vec<D>,
     events: &[Event],
 ) -> Result<(World<D>, RunResult), (Vec<D>, RecoverFault)>
-    ensures headline { IfOk result (λ ran. Headline D.Area geometry areas.items (take (length ran.1.replies.items) events.now) ran.1.replies.items ran.0) }
-    ensures all { IfOk result (λ ran. ran.1.out_of_memory ≡ false → length ran.1.replies.items ≡ length events.now) }
-    ensures some { IfOk result (λ ran. ran.1.out_of_memory ≡ true → length ran.1.replies.items < length events.now) }
+    ensures headline { IfOk result (λ ran. Headline D.Area geometry areas.items
+        (take (length ran.1.replies.items) events.now) ran.1.replies.items ran.0) }
+    ensures fits { IfOk result (λ ran. OnAreas D.Area geometry areas.items (λ m x.
+        Settles D.Area m x (take (length ran.1.replies.items) events.now) ran.1.replies.items ran.0)) }
+    ensures all { IfOk result (λ ran. ran.1.out_of_memory ≡ false
+        → length ran.1.replies.items ≡ length events.now) }
+    ensures some { IfOk result (λ ran. ran.1.out_of_memory ≡ true
+        → length ran.1.replies.items < length events.now) }
+    ensures asks { IfOk result (λ ran. ran.1.out_of_memory ≡ true → (ran.1.replies.items ≡ [])
+        ⊎ (GrowsNext events.now ran.1.replies.items × OnAreas D.Area geometry areas.items (λ m x.
+        AsksNext D.Area m (first_state geometry) x events.now ran.1.replies.items ran.0))) }
     ensures back { IfErr result (λ back. back.0.items ≡ areas.items) }
     ensures wrong { IfErr result (λ back. (area : ℕ) × (back.1 ≡ BadGeometry area)
         × IsLeast (λ k. slice_get (map (λ d. length (D.now d)) areas.items) k ≢ area_len geometry k) area) }

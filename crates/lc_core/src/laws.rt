@@ -13,11 +13,10 @@ ghost use Rattle.lc_model.specs.State.{Place, At, Travelling, Up, State, Setting
 ghost use Rattle.lc_model.specs.Stored.{Fits as FitsDisks};
 ghost use Rattle.lc_model.specs.History.{Cut, kept};
 ghost use Rattle.lc_model.specs.Merging.{counted_all};
-ghost use Rattle.lc_recover.specs.Reads.{AllMergeTo, AreHonest};
+ghost use Rattle.lc_recover.specs.Reads.{AllMergeTo, AreHonest, HaveLengths};
 ghost use Rattle.lc_core.specs.Areas.{AreStopped};
-ghost use Rattle.lc_core.specs.Headline.{Cuts};
+ghost use Rattle.lc_core.specs.Headline.{Cuts, Holds};
 ghost use Rattle.lc_core.specs.Stops.{HasAreas};
-ghost use Rattle.lc_core.specs.World.{FitsWorld};
 ghost use Rattle.lc_core.specs.declared.world.World.{World as Store};
 ghost use Rattle.lc_core.specs.Beside.{Beside, BesideLogs};
 ghost use Rattle.lc_core.specs.Coherent.{AreCoherent};
@@ -62,13 +61,15 @@ pub fn settled_runs()
         (next : Numbers) → RunsOn m s x events replies after next → Run m s events replies after }
 {}
 
-/// What a stop leaves of the areas of a store that fits, up or down, meets what the headline asks of areas again: with the
-/// content of what a cut kept that the stop may make, and the numbers of it.
+/// What a stop leaves of the areas of a store that has come to the end of a run meets what the headline asks of areas again:
+/// with the content of what a cut kept that the stop may make, and the numbers of it. So another run may begin there.
 pub fn next_life<D: Area>()
-    ensures { (m : Setting) (s : State) (x : Numbers) (w : Store D D.Area) (areas news : List D) → FitsWorld D.Area m w s x →
+    ensures { (m : Setting) (numbers : ℕ → ℕ) (events : List Event) (replies : List Reply) (failures : ℕ) (w : Store D D.Area)
+        (areas news : List D) (h : Holds D.Area m numbers events replies failures w) →
         HasAreas D.Area w.phase m.geometry areas → AreStopped D.Area areas news →
-        (cut : Cut) × Cuts s.phase m.geometry s cut × AreHonest D.Area news
-        × AllMergeTo D.Area m.geometry news (effects (s.earlier ++ kept s.history cut) m.start) (counted_all x.disks.numbers (kept s.history cut)) }
+        (cut : Cut) × Cuts h.after.phase m.geometry h.after cut × HaveLengths D.Area m.geometry news × AreHonest D.Area news
+        × AllMergeTo D.Area m.geometry news (effects (h.after.earlier ++ kept h.after.history cut) m.start)
+        (counted_all numbers (h.after.earlier ++ kept h.after.history cut)) }
 {}
 
 /// What one node does leaves the desks of the others fitting the machine: what becomes of its open transactions and of its

@@ -4,6 +4,7 @@ pub mod Keeps
 pub mod EveryCut
 pub mod Law
 pub mod Prefix
+pub mod Order
 pub mod Commute
 pub mod Lists
 pub mod Marks

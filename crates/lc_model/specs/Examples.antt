@@ -144,7 +144,11 @@ Never old event reply = (new : State) → Step store old event reply new → ⊥
 abbrev pub Refuses : State → Event → Refusal → Type 0
 Refuses old event refusal = Step store old event (Refused refusal) old
 
+-- it gives this reply and no other, and goes on to this state alone
+abbrev pub Only : State → Event → Reply → State → Type 0
+Only old event reply new =
+    May old event reply new × ((other : Reply) (next : State) → Step store old event other next → (other ≡ reply) × (next ≡ new))
+
 -- it refuses the event with this and gives no other answer, and nothing changes
 abbrev pub OnlyRefuses : State → Event → Refusal → Type 0
-OnlyRefuses old event refusal =
-    Refuses old event refusal × ((reply : Reply) (new : State) → Step store old event reply new → (reply ≡ Refused refusal) × (new ≡ old))
+OnlyRefuses old event refusal = Only old event (Refused refusal) old

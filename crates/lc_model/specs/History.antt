@@ -1,5 +1,5 @@
 -- The list of what was reserved since the last recovery, and what a cut keeps of it.
-use Rattle.std.specs.Prelude.{ℕ, ◌+◌, Bool, true, false, not, ◌==◌, nat_lt, List, [], ◌∷◌, ◌++◌, map, length, filter, AllPairs, IsTrue, slice_index}
+use Rattle.std.specs.Prelude.{◌≡◌, ℕ, ◌+◌, Bool, true, false, not, ◌==◌, nat_lt, List, [], ◌∷◌, ◌++◌, map, length, filter, AllPairs, IsTrue, slice_index}
 use Rattle.lc_record.specs.Content.{Content}
 use Rattle.lc_record.specs.Transaction.{Transaction, effects, Meet}
 
@@ -54,6 +54,18 @@ kept history cut = map (λ x. x.transaction) (filter (is_kept cut) (numbered his
 -- the others
 abbrev pub rest : History → Cut → List Transaction
 rest history cut = map (λ x. x.transaction) (filter (λ x. not (is_kept cut x)) (numbered history))
+
+-- in this list the one stands before the other
+pub record StandsBefore (xs : List Numbered) (x y : Numbered) : Type 0 where
+  pub front : List Numbered
+  pub between : List Numbered
+  pub behind : List Numbered
+  pub are : xs ≡ front ++ x ∷ (between ++ y ∷ behind)
+
+-- of any two that meet, the one that stands before in the first list stands before in the second; each is known by its node and its
+-- number there
+abbrev pub KeepsOrder : List Transaction → List Transaction → Type 0
+KeepsOrder ts us = AllPairs (λ x y. Meet x.transaction y.transaction → StandsBefore (numbered_after [] us) x y) (numbered_after [] ts)
 
 -- whenever one stands before another, they meet and the later is kept, the earlier is kept too
 abbrev pub IsClosed : History → Cut → Type 0

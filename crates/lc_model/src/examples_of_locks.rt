@@ -1,7 +1,7 @@
 //! Runs of the plain machine where locks and tokens are in the way, and what those that read pull into a cut.
-ghost use Rattle.std.specs.Prelude.{◌≡◌, true, false, [], ◌∷◌};
+ghost use Rattle.std.specs.Prelude.{◌≡◌, true, false, [], ◌∷◌, ◌++◌};
 ghost use Rattle.lc_record.specs.Transaction.{Meet};
-ghost use Rattle.lc_model.specs.History.{kept, IsClosed};
+ghost use Rattle.lc_model.specs.History.{kept, rest, IsClosed, KeepsOrder};
 ghost use Rattle.lc_model.specs.Machine.{begun};
 ghost use Rattle.lc_model.specs.Examples.{small, moving, May, Never, Refuses, OnlyRefuses};
 ghost use Rattle.lc_model.specs.ExamplesOfLocks.{read_one, write_one, read_beside, both, read_at, held_elsewhere};
@@ -32,6 +32,18 @@ pub fn read_behind_read()
     ensures first_alone { IsClosed (both read_one read_beside) (1 ∷ 0 ∷ []) }
     ensures second_alone { IsClosed (both read_one read_beside) (0 ∷ 1 ∷ []) }
     ensures keeps_second { kept (both read_one read_beside) (0 ∷ 1 ∷ []) ≡ read_beside ∷ [] }
+{}
+
+/// Of two that meet, one that read and one that wrote, no order turns them round: so not that of a cut that keeps the later
+/// alone. Two that read may be turned round.
+pub fn order_of_two()
+    ensures as_they_stood { KeepsOrder (read_one ∷ write_one ∷ []) (read_one ∷ write_one ∷ []) }
+    ensures not_turned_round { KeepsOrder (read_one ∷ write_one ∷ []) (write_one ∷ read_one ∷ []) → ⊥ }
+    ensures writer_alone { kept (both read_one write_one) (0 ∷ 1 ∷ []) ++ rest (both read_one write_one) (0 ∷ 1 ∷ [])
+        ≡ write_one ∷ read_one ∷ [] }
+    ensures not_round_again { KeepsOrder (write_one ∷ read_one ∷ []) (read_one ∷ write_one ∷ []) → ⊥ }
+    ensures none_is_lost { KeepsOrder (read_one ∷ write_one ∷ []) (write_one ∷ []) → ⊥ }
+    ensures readers_turn_round { KeepsOrder (read_one ∷ read_beside ∷ []) (read_beside ∷ read_one ∷ []) }
 {}
 
 /// A reader's record that is not closed has its lock still, and its token leaves only once it is stable.

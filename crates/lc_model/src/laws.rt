@@ -5,10 +5,10 @@ ghost use Rattle.std.specs.Prelude.{All, AllPairs, Contains, IsPermutation};
 ghost use Rattle.lc_record.specs.declared.geometry.Geometry.{Geometry};
 ghost use Rattle.lc_record.specs.declared.record.Record.{Record};
 ghost use Rattle.lc_record.specs.Content.{Content, segment_of};
-ghost use Rattle.lc_record.specs.Transaction.{Transaction, IsWellFormed, locks, all_set};
+ghost use Rattle.lc_record.specs.Transaction.{Transaction, IsWellFormed, all_set};
 ghost use Rattle.lc_record.specs.Transaction.{effect, effects};
 ghost use Rattle.lc_model.specs.History.{History, transactions, numbered, value, is_of, reserved};
-ghost use Rattle.lc_model.specs.History.{Cut, is_kept, kept, rest, IsClosed};
+ghost use Rattle.lc_model.specs.History.{Cut, is_kept, kept, rest, IsClosed, KeepsOrder};
 ghost use Rattle.lc_model.specs.State.{State, Setting, DownAt, first_state, running_of};
 ghost use Rattle.lc_record.specs.Marks.{is_empty, counting};
 ghost use Rattle.lc_model.specs.Machine.{Step, Run};
@@ -24,16 +24,15 @@ ghost use Rattle.lc_model.specs.Choices.{AtLeastOne, ExactlyOne, Beside, leaves_
 use crate::{Event, Refusal, Reply};
 
 /// What a closed cut keeps, followed by the rest, has the value of the whole history, has each
-/// transaction once, and has those that lock a segment in the order in which they stood. So what is
-/// kept is a prefix of a serial order.
+/// transaction once, and has any two that meet, also one that read and one that wrote, in the order in
+/// which they stood. So what is kept is a prefix of a serial order.
 pub fn closed_cut()
     ensures same_value { (start : Content) (earlier : List Transaction) (history : History) (cut : Cut) →
         All IsWellFormed (transactions history) → IsClosed history cut →
         effects (earlier ++ (kept history cut ++ rest history cut)) start
         ≡ value start earlier history }
-    ensures same_order { (history : History) (cut : Cut) (segment : ℕ) → IsClosed history cut →
-        filter (λ t. locks t segment) (kept history cut ++ rest history cut)
-        ≡ filter (λ t. locks t segment) (transactions history) }
+    ensures same_order { (history : History) (cut : Cut) → IsClosed history cut →
+        KeepsOrder (transactions history) (kept history cut ++ rest history cut) }
     ensures each_once { (history : History) (cut : Cut) →
         IsPermutation (transactions history) (kept history cut ++ rest history cut) }
     ensures first_of_each_node { (history : History) (cut : Cut) (node : ℕ) →

@@ -7,6 +7,7 @@ pub mod examples;
 pub mod examples_of_locks;
 pub mod examples_of_merges;
 pub mod examples_of_nothing;
+pub mod examples_of_one;
 pub mod examples_of_pages;
 pub mod examples_of_refusals;
 pub mod examples_of_stops;

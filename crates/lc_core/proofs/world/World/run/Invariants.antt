@@ -1,4 +1,4 @@
-use Rattle.std.proofs.Common.{◌≡◌, length, take}
+use Rattle.std.proofs.Common.{◌≡◌, ◌≤◌, length, take, vec_capacity}
 use Rattle.lc_core.specs.Faults.{CountsAll, phase_failures}
 use Rattle.lc_core.specs.Runs.{FollowsRun}
 use Rattle.lc_core.proofs.world.World.run.Given as goal
@@ -8,3 +8,4 @@ invariant-loop-event g l =
     (length l.replies.items ≡ l.event-index)
     × FollowsRun g.D.Area l.initial.self (take l.event-index l.events) l.replies.items l.self
     × CountsAll l.replies.items (phase_failures g.D.Area l.initial.self.phase) (phase_failures g.D.Area l.self.phase)
+    × (length l.events ≤ vec_capacity l.replies)
