@@ -12,3 +12,4 @@ mod Beginning
 mod Refusals
 mod FilesMade
 mod AreasRecovered
+pub mod Keeping

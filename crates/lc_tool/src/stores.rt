@@ -69,7 +69,7 @@ pub fn run_store<R: Files, I: Read, W: Write>(
 ) -> Result<u8, ToolFault>
 where
     R::File: FileExt,
-    ensures tells { IfOk result (λ status. IfSome (I.remaining reader.old) (λ script. Adds (TellsScript script) (W.contents writer.old) (W.contents writer.new) status)) }
+    ensures tells { IfOk result (λ status. IfSome (I.remaining reader.old) (λ script. Adds (TellsScript geometry script) (W.contents writer.old) (W.contents writer.new) status)) }
     ensures memory { result ≢ Err ToolFault.NoMemory }
 {
     match Directory::new(alloc, rt, folder).open_areas(&geometry) {
