@@ -1,14 +1,16 @@
 -- The devices of a store that is up stay what they are.
 use Rattle.std.proofs.Common.{◌≡◌, ◌≤◌, ◌+◌, ◌*◌, ℕ, Bool, true, List, [], drop, length, Option, Some, None, refl, sym, ap, subst, ◌∙◌, arith}
 use Rattle.std.specs.Prelude.{Result, Ok, Err, IfOk, OnErr, option_map, slice_get}
+use Rattle.std.proofs.lemmas.List.{length-replicate}
 use Rattle.std.proofs.lemmas.Option.{slice_get-map, slice_get_within}
 use Rattle.lc_disk.specs.declared.area.Area.{Ghosts}
 use Rattle.lc_record.specs.declared.geometry.Geometry.{Geometry}
-use Rattle.lc_core.specs.Devices.{HaveLogs, HaveSegments, HonestLogs}
+use Rattle.lc_core.specs.Devices.{HaveLogs, HavePages, HaveSegments, HonestLogs}
 use Rattle.lc_core.specs.FaultReplies.{device_kind, kind_of}
 use Rattle.lc_core.specs.Faults.{CountsLogs, SameDevices, SameLogs, log_kinds, logs_of}
 use Rattle.lc_core.specs.Log.{area_of}
-use Rattle.lc_core.specs.Pages.{areas_of}
+use Rattle.lc_core.specs.Pages.{RestsAll, areas_of}
+use Rattle.lc_core.specs.declared.page_state.PageState.TheVariants.{AtRest}
 use Rattle.lc_core.specs.declared.pages.Pages.{Pages}
 use Rattle.lc_model.specs.declared.reply.Reply.{Reply}
 use Rattle.lc_recover.specs.Reads.{HaveLengths}
@@ -80,6 +82,7 @@ module _ {D : Type 0} (a : Ghosts D) where
     pub all_segments : up.segments.len ≡ running.geometry.segments
     pub logs : HaveLogs a (8 * (running.geometry.words + 1)) running.nodes.items
     pub lengths : HaveSegments a (2 * 272 * running.geometry.pages) up.segments.items
+    pub pages : HavePages a running.geometry.pages up.segments.items
     pub none : up.spare.items ≡ []
     pub room : running.geometry.nodes + running.geometry.segments ≤ up.spare.cap
 
@@ -89,6 +92,7 @@ module _ {D : Type 0} (a : Ghosts D) where
     logs = subst (λ (g : Geometry). HaveLogs a (8 * (g.words + 1)) running.nodes.items) (sym same.geometry)
         (logs_kept up.running.nodes.items running.nodes.items same.kinds (8 * (up.running.geometry.words + 1)) up.logs);
     lengths = subst (λ (g : Geometry). HaveSegments a (2 * 272 * g.pages) up.segments.items) (sym same.geometry) up.lengths;
+    pages = subst (λ (g : Geometry). HavePages a g.pages up.segments.items) (sym same.geometry) up.pages;
     none = up.none;
     room = subst (λ (g : Geometry). g.nodes + g.segments ≤ up.spare.cap) (sym same.geometry) up.room;
   }
@@ -114,3 +118,6 @@ module _ {D : Type 0} (a : Ghosts D) where
   pub each_have : (g : Geometry) (areas : List D) (nodes same : List (Node D a)) → same ≡ nodes → HaveLengths a g areas → length nodes ≡ g.nodes
       → ((n : ℕ) (node : Node D a) → slice_get nodes n ≡ Some node → area_of a node.journal.log ≡ slice_get areas n) → HaveLogs a (8 * (g.words + 1)) same
   each_have g areas nodes same is lengths count each = subst (HaveLogs a (8 * (g.words + 1))) (sym is) (logs_have g areas nodes lengths count each)
+
+  pub rests_have : (g h : Geometry) (segments : List (Pages D a)) → h ≡ g → RestsAll a h segments → HavePages a g.pages segments
+  rests_have g h segments same rest k pages at = ap length (rest k pages at) ∙ length-replicate h.pages AtRest ∙ ap (λ (v : Geometry). v.pages) same

@@ -9,7 +9,7 @@ use Rattle.lc_model.specs.declared.refusal.Refusal.TheVariants.{NotHere, Held, W
 use Rattle.lc_model.specs.declared.reply.Reply.{Reply}
 use Rattle.lc_token.specs.declared.fault.TokenFault.{TokenFault}
 use Rattle.lc_token.specs.declared.fault.TokenFault.TheVariants.{NotHere as IsNotHere, Held as IsHeld, Writing as IsWriting, Unflushed as IsUnflushed, Behind as IsBehind, NoMemory}
-use Rattle.lc_core.specs.FaultReplies.{CountsFaults, TellsFault, device_kind, failures_of, is_device_fault, is_fault, kind_of}
+use Rattle.lc_core.specs.FaultReplies.{CountsFaults, TellsFault, device_kind, failures_of, is_fault, is_own_refusal, is_own_reply, is_unknown, kind_of}
 use Rattle.lc_core.specs.Faults.{CountsLogs, SameDevices, SameLogs, log_failures, log_kinds, logs_of}
 use Rattle.lc_core.specs.Journal.{reply_of}
 use Rattle.lc_core.specs.Log.{CallsOnce, IsCalled, area_of, is_failed}
@@ -19,15 +19,16 @@ use Rattle.lc_core.specs.declared.log.Log.{Log}
 use Rattle.lc_core.specs.declared.log.Log.TheVariants.{Idle, Written, Synced, Opened, Sealed, Closing, Emptied, Failed, Torn, Taken}
 use Rattle.lc_core.specs.declared.node.Node.{Node}
 use Rattle.lc_core.specs.declared.running.Running.{Running}
+use Rattle.lc_core.proofs.OwnReplies.{own_known, own_no_fault}
 
--- a token that stays tells of none
-pub token_no_fault : (fault : TokenFault) (refusal : Refusal) → token_refusal fault ≡ Some refusal → is_device_fault refusal ≡ false
-token_no_fault (IsNotHere segment) refusal is = sym (ap is_device_fault (same_some (NotHere segment) refusal is))
-token_no_fault IsHeld refusal is = sym (ap is_device_fault (same_some Held refusal is))
-token_no_fault IsWriting refusal is = sym (ap is_device_fault (same_some Writing refusal is))
-token_no_fault IsUnflushed refusal is = sym (ap is_device_fault (same_some Unflushed refusal is))
-token_no_fault (IsBehind applied seq) refusal is = sym (ap is_device_fault (same_some (Behind applied seq) refusal is))
-token_no_fault NoMemory refusal is = absurd cc
+-- a token that stays is refused for its own reasons
+pub token_own : (fault : TokenFault) (refusal : Refusal) → token_refusal fault ≡ Some refusal → is_own_refusal refusal ≡ true
+token_own (IsNotHere segment) refusal is = sym (ap is_own_refusal (same_some (NotHere segment) refusal is))
+token_own IsHeld refusal is = sym (ap is_own_refusal (same_some Held refusal is))
+token_own IsWriting refusal is = sym (ap is_own_refusal (same_some Writing refusal is))
+token_own IsUnflushed refusal is = sym (ap is_own_refusal (same_some Unflushed refusal is))
+token_own (IsBehind applied seq) refusal is = sym (ap is_own_refusal (same_some (Behind applied seq) refusal is))
+token_own NoMemory refusal is = absurd cc
 
 module _ {D : Type 0} (a : Ghosts D) where
   -- a log that has failed is answered by a failure, and no other
@@ -43,6 +44,19 @@ module _ {D : Type 0} (a : Ghosts D) where
   one_more (Torn log) taken count = refl
   one_more Taken taken count = refl
 
+  -- nothing is unknown
+  told_known : (new : Log D a) (taken : ℕ) → is_unknown (reply_of a new taken) ≡ false
+  told_known (Idle log) taken = refl
+  told_known (Written log) taken = refl
+  told_known (Synced log) taken = refl
+  told_known (Opened log) taken = refl
+  told_known (Sealed log) taken = refl
+  told_known (Closing log) taken = refl
+  told_known (Emptied log) taken = refl
+  told_known (Failed log) taken = refl
+  told_known (Torn log) taken = refl
+  told_known Taken taken = refl
+
   called : (area : D) (new : Log D a) (taken : ℕ) → IsCalled a area new
       → (failures_of a new ≡ (if is_fault (reply_of a new taken) then Some (a.failures area + 1) else Some (a.failures area))) × (kind_of a new ≡ Some (device_kind a area))
   called area new taken call = (
@@ -53,6 +67,7 @@ module _ {D : Type 0} (a : Ghosts D) where
   of_call : (old : Log D a) (area : D) (new : Log D a) (taken : ℕ) → failures_of a old ≡ Some (a.failures area) → kind_of a old ≡ Some (device_kind a area)
       → (failures_of a new ≡ (if is_fault (reply_of a new taken) then Some (a.failures area + 1) else Some (a.failures area))) × (kind_of a new ≡ Some (device_kind a area)) → TellsFault a (reply_of a new taken) old new
   of_call old area new taken failures kind are = record {
+    known = told_known new taken;
     failures = are.0 ∙ sym (ap (λ (o : Option ℕ). if is_fault (reply_of a new taken) then option_map (λ (count : ℕ). count + 1) o else o) failures);
     kind = are.1 ∙ sym kind;
   }
@@ -95,6 +110,15 @@ module _ {D : Type 0} (a : Ghosts D) where
 
   pub same_devices : (old new : Running D a) → SameLogs a old new → SameDevices a old new
   same_devices old new same = record { geometry = same.geometry; kinds = ap (log_kinds a) same.logs }
+
+  -- a reply that refuses for its own reasons
+  pub own_tells : (reply : Reply) (old new : Log D a) → is_own_reply reply ≡ true → area_of a new ≡ area_of a old → TellsFault a reply old new
+  own_tells reply old new own same = record {
+    known = own_known reply own;
+    failures = ap (option_map a.failures) same
+        ∙ sym (ap (λ (b : Bool). if b then option_map (λ (count : ℕ). count + 1) (failures_of a old) else failures_of a old) (own_no_fault reply own));
+    kind = ap (option_map (device_kind a)) same;
+  }
 
   pub quiet : (old : Running D a) (reply : Reply) (new : Running D a) → is_fault reply ≡ false → SameLogs a old new → CountsLogs a old reply new
   quiet old reply new plain same = record {

@@ -100,3 +100,5 @@ pub mod PagesTurned
 pub mod UpPages
 pub mod FewLocked
 pub mod Asking
+pub mod OwnReplies
+pub mod Geometries

@@ -155,6 +155,7 @@ module _ {D : Type 0} (a : Ghosts D) where
     down_same lengths_now = record {
       others = λ other differ. ap (λ o. if nat_lt other r.geometry.nodes then o else None) (others other differ);
       segments = ap (drop r.geometry.nodes) read.call.is ∙ drop_set r.areas r.geometry.nodes node read.call.new below;
+      geometry = refl;
       still = still_down lengths_now;
     }
 
@@ -188,7 +189,7 @@ module _ {D : Type 0} (a : Ghosts D) where
 
   -- nothing is read
   pub same_phase : (node : ℕ) (phase : Phase D a) → IsSameBut a node phase phase
-  same_phase node phase = record { others = λ other differ. refl; segments = refl; still = λ m s x fits. fits }
+  same_phase node phase = record { others = λ other differ. refl; segments = refl; geometry = refl; still = λ m s x fits. fits }
 
   pub not_read : (node : ℕ) (area : D) (phase : Phase D a) → log_area a phase node ≡ Some area → ReadsLog a node area phase phase false
   not_read node area phase there = record {
@@ -283,6 +284,7 @@ module _ {D : Type 0} (a : Ghosts D) where
   up_same n node up later kept at is = record {
     others = other_logs n node up.running later.running kept at;
     segments = ap (λ (segments : Vec (Pages D a) Global). areas_of a segments.items) is.segments;
+    geometry = ap (λ (g : Geometry). Some g) is.devices.geometry;
     still = λ m s x fits. record {
       running = all_still n node up.running later.running kept at m s x fits.running;
       pages = subst (λ (segments : Vec (Pages D a) Global). FitsPages a m segments.items x) (sym is.segments) fits.pages;
@@ -296,6 +298,7 @@ module _ {D : Type 0} (a : Ghosts D) where
   none_same n up later same is = record {
     others = λ other differ. ap (λ (w : Running D a). log_in a w.nodes.items other) same;
     segments = ap (λ (segments : Vec (Pages D a) Global). areas_of a segments.items) is.segments;
+    geometry = ap (λ (g : Geometry). Some g) is.devices.geometry;
     still = λ m s x fits. record {
       running = subst (λ (w : Running D a). FitsRunning a m w s x) (sym same) fits.running;
       pages = subst (λ (segments : Vec (Pages D a) Global). FitsPages a m segments.items x) (sym is.segments) fits.pages;

@@ -11,11 +11,11 @@ use Rattle.lc_model.specs.declared.event.Event.{Event}
 use Rattle.lc_model.specs.declared.event.Event.TheVariants.{Begin, SetRange, Write, Read, Abort, Reserve, Close, FlushStep, Leave, Arrive, Deliver, Trim, PageStep, ResetStep, Stop, RecoverStep}
 use Rattle.lc_model.specs.declared.reply.Reply.{Reply}
 use Rattle.lc_model.proofs.Rows.{known, seat_known}
-use Rattle.lc_core.specs.FaultReplies.{CountsFaults, TellsFault, failures_of, is_fault, kind_of}
+use Rattle.lc_core.specs.FaultReplies.{CountsFaults, TellsFault, is_own_reply, is_unknown}
 use Rattle.lc_core.specs.Faults.{log_failures, log_kinds, logs_of}
 use Rattle.lc_core.specs.FollowsDesk.{FollowsOpen, StillFits}
 use Rattle.lc_core.specs.Here.{the_images}
-use Rattle.lc_core.specs.Log.{is_failed}
+use Rattle.lc_core.specs.Log.{area_of, is_failed}
 use Rattle.lc_core.specs.Node.{moved_by}
 use Rattle.lc_core.specs.NodeSteps.{IsOf, StepsNode, WantsOf, is_own}
 use Rattle.lc_core.specs.Nodes.{AreWhole}
@@ -33,7 +33,7 @@ use Rattle.lc_core.specs.declared.log.Log.{Log}
 use Rattle.lc_core.specs.declared.node.Node.{Node}
 use Rattle.lc_core.specs.declared.running.Running.{Running}
 use Rattle.lc_core.proofs.AtOnce.{stands}
-use Rattle.lc_core.proofs.Faults.{flush_counts, logs_stay, same_kinds}
+use Rattle.lc_core.proofs.Faults.{flush_counts, logs_stay, own_tells, same_kinds}
 use Rattle.lc_core.proofs.Going.{by_desk, settled_by}
 use Rattle.lc_core.proofs.Logged.{err_then}
 use Rattle.lc_core.proofs.Onward.{desk_still, stays_onward, still_onward, whole_set}
@@ -103,17 +103,14 @@ moves_none n threads (Stop choices) reply of = absurd of
 moves_none n threads RecoverStep reply of = absurd of
 
 module _ {D : Type 0} (a : Ghosts D) where
-  -- a log that stays, under a reply that tells of no failure
-  pub plain_tells : (reply : Reply) (old new : Log D a) → is_fault reply ≡ false → new ≡ old → TellsFault a reply old new
-  plain_tells reply old new plain same = record {
-    failures = ap (failures_of a) same ∙ sym (ap (λ (b : Bool). if b then option_map (λ (count : ℕ). count + 1) (failures_of a old) else failures_of a old) plain);
-    kind = ap (kind_of a) same;
-  }
+  -- a log that stays, under a reply that refuses for its own reasons
+  pub plain_tells : (reply : Reply) (old new : Log D a) → is_own_reply reply ≡ true → new ≡ old → TellsFault a reply old new
+  plain_tells reply old new plain same = own_tells a reply old new plain (ap (area_of a) same)
 
   -- an event of one of its threads
   pub desk_steps : (n node : ℕ) (event : Event) (own : ℕ → Event) (old : Node D a) (result : Result Reply AllocError) (new : Desk) → event ≡ own node → node ≡ n
       → IfOk result (λ reply. (k : ℕ) → FollowsOpen k old.desk (own k) reply new) → the_images.IsSameBeside old.desk.here new.here → vec_len new.seats ≡ vec_len old.desk.seats
-      → OnErr result (WantsOf a n (own n) old) → OnErr result (StillFits old.desk new) → IfOk result (λ reply. is_fault reply ≡ false)
+      → OnErr result (WantsOf a n (own n) old) → OnErr result (StillFits old.desk new) → IfOk result (λ reply. is_own_reply reply ≡ true)
       → (own n ≡ RecoverStep → ⊥) → ((m : Setting) (s : State) (x : Numbers) → open_answer m s x (own n) ≡ None)
       → ((m : Setting) (s : State) (x : Numbers) (reply : Reply) → Turns m s x (own n) reply x)
       → StepsNode a n event old result (record { desk = new; journal = old.journal; known = old.known })
@@ -192,6 +189,9 @@ module _ {D : Type 0} (a : Ghosts D) where
           × (log_kinds a (logs_of a (slice_set w.nodes.items n new)) ≡ log_kinds a (logs_of a w.nodes.items)))
       faults_there = IfOk-weaker result _ _ (λ reply tells.
           (flush_counts a w.nodes.items n node new reply there tells up_there, same_kinds a w.nodes.items n node new reply there tells)) steps.device
+
+      pub known_there : IfOk result (λ reply. is_unknown reply ≡ false)
+      known_there = IfOk-weaker result _ _ (λ reply tells. tells.known) steps.device
 
       pub logs_there : OnErr result (logs_of a (slice_set w.nodes.items n new) ≡ logs_of a w.nodes.items)
       logs_there = err_then result steps.no_fault (logs_stay a w.nodes.items n node new there)

@@ -15,8 +15,8 @@ use Rattle.lc_model.specs.declared.refusal.Refusal.{Refusal}
 use Rattle.lc_model.specs.declared.refusal.Refusal.TheVariants.{DeviceFault}
 use Rattle.lc_model.specs.declared.reply.Reply.{Reply}
 use Rattle.lc_model.specs.declared.reply.Reply.TheVariants.{Refused}
-use Rattle.lc_model.proofs.Rows.{known, step-row}
-use Rattle.lc_core.specs.Devices.{HaveSegments, HonestLogs}
+use Rattle.lc_model.proofs.Rows.{step-row}
+use Rattle.lc_core.specs.Devices.{HavePages, HaveSegments, HonestLogs}
 use Rattle.lc_core.specs.FaultReplies.{CountsFaults, is_device_fault, is_fault, device_kind}
 use Rattle.lc_core.specs.Faults.{SameDevices, SameLogAreas, area_failures, log_failures, logs_of}
 use Rattle.lc_core.specs.Log.{area_of}
@@ -35,7 +35,6 @@ use Rattle.lc_core.specs.declared.phase.Phase.TheVariants.{Up}
 use Rattle.lc_core.specs.declared.running.Running.{Running}
 use Rattle.lc_core.specs.declared.up.Up.{Up as Rising}
 use Rattle.lc_core.proofs.Devices.{honest_kept}
-use Rattle.lc_core.proofs.Paged.{page_known}
 use Rattle.lc_core.proofs.PagesTurned.{halts_still, pages_turned}
 
 -- what is refused at once leaves the numbers as they are
@@ -110,14 +109,6 @@ module _ {D : Type 0} (a : Ghosts D) where
       subst (λ (i : ℕ). common_refusal m.geometry s (PageStep n i page) ≡ None → FollowsPaging a n i page up.running old reply later.running new → Leads a m (PageStep n i page) s x reply (Up later)) next
       (page_leads up later n k page reply old new at are devices m s x h) (sym (refuses m s x h.running) ∙ none) follows
 
-  -- a page that is not among the segment's is named by no event that the machine knows
-  pub page_unknown : (up later : Rising D a) (n segment k page : ℕ) (reply : Reply) (old : Pages D a) → k + 1 ≡ segment → slice_get up.segments.items k ≡ Some old → length old.writes.items ≤ page
-      → (o : Option Refusal) → Refuses a up.running (PageStep n segment page) o → o ≡ None → FollowsUp a up (PageStep n segment page) reply later
-  page_unknown up later n segment k page reply old next at most o refuses none m s x h =
-      let within = (page_known m.geometry n segment page (known m.geometry s (PageStep n segment page) (sym (refuses m s x h.running) ∙ none))).2 in
-      let count = (h.pages.each k old at).count in
-      absurd (omega (arith, within, count, most))
-
   -- The devices
 
   map-areas : {B : Type 0} (f : Option D → B) (logs : List (Log D a)) → map (λ (log : Log D a). f (area_of a log)) logs ≡ map f (map (area_of a) logs)
@@ -177,6 +168,16 @@ module _ {D : Type 0} (a : Ghosts D) where
       through : (segments : List (Pages D a)) → area_failures a (areas_of a segments) ≡ map (λ (pages : Pages D a). Some (a.failures pages.area)) segments
       through [] = refl
       through (pages ∷ segments) = ap (λ (l : List (Option ℕ)). Some (a.failures pages.area) ∷ l) (through segments)
+
+  -- as many pages
+  pub pages_set : (count : ℕ) (segments : List (Pages D a)) (k : ℕ) (old new : Pages D a) → slice_get segments k ≡ Some old → length new.writes.items ≡ length old.writes.items → HavePages a count segments
+      → HavePages a count (slice_set segments k new)
+  pages_set count segments k old new at same have j pages got = elim (cases_eq j k) [
+    | inl here ↦
+        let own : slice_get (slice_set segments k new) k ≡ Some pages = subst (λ (i : ℕ). slice_get (slice_set segments k new) i ≡ Some pages) here got in
+        ap (λ (v : Pages D a). length v.writes.items) (sym (same_some new pages (sym (get_set_same segments k old new at) ∙ own))) ∙ same ∙ have k old at
+    | inr differ ↦ have j pages (sym (get_set_other segments k j new differ) ∙ got)
+  ]
 
   -- and its length stays
   pub lengths_set : (len : ℕ) (segments : List (Pages D a)) (k : ℕ) (old new : Pages D a) → slice_get segments k ≡ Some old → length (a.now new.area) ≡ length (a.now old.area) → HaveSegments a len segments

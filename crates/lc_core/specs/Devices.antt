@@ -1,4 +1,4 @@
--- The areas of a store that is up: how long they are, and that they keep to the model of a disk.
+-- The areas of a store that is up: how long they are, that they keep to the model of a disk, and how many pages each has.
 use Rattle.std.specs.Prelude.{◌≡◌, ℕ, true, List, length, Some, option_map, slice_get}
 use Rattle.lc_disk.specs.declared.area.Area.{Ghosts}
 use Rattle.lc_core.specs.Log.{area_of}
@@ -14,6 +14,10 @@ module _ {D : Type 0} (a : Ghosts D) where
   -- each segment's area has this length
   abbrev pub HaveSegments : ℕ → List (Pages D a) → Type 0
   HaveSegments len segments = (k : ℕ) (pages : Pages D a) → slice_get segments k ≡ Some pages → length (a.now pages.area) ≡ len
+
+  -- each segment has this many pages
+  abbrev pub HavePages : ℕ → List (Pages D a) → Type 0
+  HavePages count segments = (k : ℕ) (pages : Pages D a) → slice_get segments k ≡ Some pages → length pages.writes.items ≡ count
 
   -- those of the logs keep to the model of a disk
   abbrev pub HonestLogs : List (Node D a) → Type 0

@@ -1,8 +1,8 @@
--- Which replies tell that a device has failed, and how often devices have failed then.
+-- Which replies tell that a device has failed, how often devices have failed then, and which replies tell of something unknown.
 use Rattle.std.specs.Prelude.{◌≡◌, ℕ, ◌+◌, Bool, true, false, List, length, Option, Some, option_map, slice_get, slice_set, if◌then◌else◌}
 use Rattle.lc_disk.specs.declared.area.Area.{Ghosts}
 use Rattle.lc_model.specs.declared.refusal.Refusal.{Refusal}
-use Rattle.lc_model.specs.declared.refusal.Refusal.TheVariants.{DeviceFault}
+use Rattle.lc_model.specs.declared.refusal.Refusal.TheVariants.{DeviceFault, Unknown}
 use Rattle.lc_model.specs.declared.reply.Reply.{Reply}
 use Rattle.lc_model.specs.declared.reply.Reply.TheVariants.{Refused}
 use Rattle.lc_core.specs.Log.{area_of}
@@ -20,9 +20,30 @@ abbrev pub is_fault : Reply → Bool
 is_fault (Refused refusal) = is_device_fault refusal
 is_fault reply = false
 
-abbrev pub ends_in_fault : Ending → Bool
-ends_in_fault (IsRefused refusal) = is_device_fault refusal
-ends_in_fault ending = false
+-- the refusal that names what the store does not have
+abbrev pub names_unknown : Refusal → Bool
+names_unknown Unknown = true
+names_unknown refusal = false
+
+-- the reply tells so
+abbrev pub is_unknown : Reply → Bool
+is_unknown (Refused refusal) = names_unknown refusal
+is_unknown reply = false
+
+-- a refusal of what an event asks for: of no device, and of nothing unknown
+abbrev pub is_own_refusal : Refusal → Bool
+is_own_refusal DeviceFault = false
+is_own_refusal Unknown = false
+is_own_refusal refusal = true
+
+-- what is done, or such a refusal
+abbrev pub is_own_reply : Reply → Bool
+is_own_reply (Refused refusal) = is_own_refusal refusal
+is_own_reply reply = true
+
+abbrev pub ends_own : Ending → Bool
+ends_own (IsRefused refusal) = is_own_refusal refusal
+ends_own ending = true
 
 -- of these counts one is one more, and the others are as they were
 pub record FailsOnce (olds news : List (Option ℕ)) : Type 0 where
@@ -49,7 +70,8 @@ module _ {D : Type 0} (a : Ghosts D) where
   abbrev pub kind_of : Log D a → Option (Bool × ℕ)
   kind_of log = option_map device_kind (area_of a log)
 
-  -- it is the same device, which has failed once more just where the reply tells of it
+  -- it is the same device, which has failed once more just where the reply tells of it; nothing is unknown
   pub record TellsFault (reply : Reply) (old new : Log D a) : Type 0 where
+    pub known : is_unknown reply ≡ false
     pub failures : failures_of new ≡ (if is_fault reply then option_map (λ count. count + 1) (failures_of old) else failures_of old)
     pub kind : kind_of new ≡ kind_of old

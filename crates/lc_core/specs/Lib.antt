@@ -51,6 +51,7 @@ pub mod Blank
 pub mod Showing
 pub mod LogWords
 pub mod Recovers
+pub mod Geometries
 pub mod Uncommitted
 pub mod Resets
 pub mod Areas

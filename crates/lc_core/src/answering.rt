@@ -14,6 +14,7 @@ use std::alloc::{AllocError, Global};
 impl<D: Stoppable + Drop> World<D> {
     ghost use Rattle.lc_core.specs.World.{AsksIn, AsksWorld, FollowsWorld, StillFitsWorld};
     ghost use Rattle.lc_core.specs.Faults.{CountsPhase, phase_failures};
+    ghost use Rattle.lc_core.specs.Geometries.{RefusesOutside, phase_geometry};
     ghost use Rattle.lc_core.specs.Recovers.{RecoversDown, RefusesAtOnce};
 
     /// An event. It makes at most one call of an area; a stop stops each area, and calls none.
@@ -40,6 +41,10 @@ impl<D: Stoppable + Drop> World<D> {
         // How often the devices of the areas have failed: once more for each device fault that is answered, and not else.
         ensures faults { IfOk result (λ reply. CountsPhase D.Area self.old.phase reply self.new.phase) }
         ensures no_fault { OnErr result (phase_failures D.Area self.new.phase ≡ phase_failures D.Area self.old.phase) }
+
+        // The geometry stays, and what it does not have is unknown.
+        ensures geometry { phase_geometry D.Area self.new.phase ≡ phase_geometry D.Area self.old.phase }
+        ensures unknown { IfOk result (RefusesOutside D.Area self.old.phase event.now) }
     {
         if let Event::RecoverStep = event {
             return self.recover_step(alloc);

@@ -1,9 +1,9 @@
 //! How a thread begins.
-ghost use Rattle.std.specs.Prelude.{◌≡◌, ◌<◌, ℕ, vec_len, IfOk, OnErr, false};
+ghost use Rattle.std.specs.Prelude.{◌≡◌, ◌<◌, ℕ, vec_len, IfOk, OnErr, true};
 ghost use Rattle.lc_model.specs.declared.event.Event.TheVariants.{Begin};
 ghost use Rattle.lc_core.specs.FollowsDesk.{FollowsOpen, StillFits};
 ghost use Rattle.lc_core.specs.Here.{the_images};
-ghost use Rattle.lc_core.specs.FaultReplies.{is_fault};
+ghost use Rattle.lc_core.specs.FaultReplies.{is_own_reply};
 
 use crate::desk::Desk;
 use crate::refused::refused;
@@ -28,7 +28,7 @@ impl Desk {
         ensures err { OnErr result (StillFits self.old self.new) }
         ensures memory { OnErr result ⊥ }
         ensures seats { vec_len self.new.seats ≡ vec_len self.old.seats }
-        ensures answer { IfOk result (λ reply. is_fault reply ≡ false) }
+        ensures answer { IfOk result (λ reply. is_own_reply reply ≡ true) }
     {
         if !self.seats[thread as usize].is_free() {
             return Ok(Reply::Refused(Refusal::OutOfTurn));

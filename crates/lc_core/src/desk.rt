@@ -1,11 +1,11 @@
 //! The images of a node, and the transactions of its threads on them.
-ghost use Rattle.std.specs.Prelude.{◌≡◌, ◌<◌, ◌≤◌, ℕ, vec_len, replicate, IfOk, OnErr, false};
+ghost use Rattle.std.specs.Prelude.{◌≡◌, ◌<◌, ◌≤◌, ℕ, vec_len, replicate, IfOk, OnErr, true};
 ghost use Rattle.lc_model.specs.declared.event.Event.TheVariants.{Abort};
 ghost use Rattle.lc_core.specs.Here.{the_images};
 ghost use Rattle.lc_core.specs.Seats.{AllRun, AreShort};
 ghost use Rattle.lc_core.specs.Slots.{AreInPlace, besides_of};
 ghost use Rattle.lc_core.specs.declared.seat.Seat.TheVariants.{Free};
-ghost use Rattle.lc_core.specs.FaultReplies.{is_fault};
+ghost use Rattle.lc_core.specs.FaultReplies.{is_own_reply};
 
 use crate::here::Here;
 use crate::seat::Seat;
@@ -51,7 +51,7 @@ impl Desk {
         ensures follows { (node : ℕ) → FollowsOpen node self.old (Abort node thread) result self.new }
         ensures beside { the_images.IsSameBeside self.old.here self.new.here }
         ensures seats { vec_len self.new.seats ≡ vec_len self.old.seats }
-        ensures answer { is_fault result ≡ false }
+        ensures answer { is_own_reply result ≡ true }
     {
         let Some(tx) = self.seats[thread as usize].take_open() else {
             return Reply::Refused(Refusal::OutOfTurn);

@@ -1,7 +1,10 @@
 //! What a store shows of its logs.
-ghost use Rattle.std.specs.Prelude.{◌≡◌, ◌≢◌, ◌<◌, ℕ, None, Some, Err, IfOk, slice_get, slice_index_or, true};
+ghost use Rattle.std.specs.Prelude.{◌≡◌, ◌≢◌, ◌<◌, ℕ, None, Some, Err, IfOk, is_some, slice_get, slice_index_or, true};
+ghost use Rattle.std.specs.Option.{ForSome};
+ghost use Rattle.lc_model.specs.Refusals.{is_node};
 ghost use Rattle.lc_recover.specs.Recovery.{Recovering};
 ghost use Rattle.lc_core.specs.Faults.{SameDevices};
+ghost use Rattle.lc_core.specs.Geometries.{phase_geometry};
 ghost use Rattle.lc_core.specs.Log.{area_of};
 ghost use Rattle.lc_core.specs.LogWords.{IsLogRead, IsNodeKept, IsNodeRead, IsRead, ReadsLog, ReadsNone, StandsOn, has_failed, log_area, log_in};
 ghost use Rattle.lc_core.specs.declared.node.Node.{Node as TheNode};
@@ -35,6 +38,9 @@ impl<D: Area + Drop> World<D> {
         ensures words { IfOk result (λ words. (area : D) → log_area D.Area self.old.phase node ≡ Some area → AreWordsOf D.Area area words.items) }
         ensures records { IfOk result (λ words. (area : D) → log_area D.Area self.old.phase node ≡ Some area
             → ShowRecords D.Area self.old.phase node words.items) }
+
+        // The nodes that have a log are those of the geometry.
+        ensures nodes { ForSome (phase_geometry D.Area self.old.phase) (λ g. is_some (log_area D.Area self.old.phase node) ≡ is_node g node) }
     {
         let bytes = self.phase.log_bytes(alloc, node)?;
         let mut words = words_in(alloc, bytes.as_slice())?;
@@ -55,6 +61,7 @@ impl<D: Area + Drop> Phase<D> {
             → D.honest area ≡ true → (k : ℕ) → slice_index_or (D.now area) k 0 < 256) }
         ensures down { (r : Recovering D) → self.new ≡ Down r
             → (was : Recovering D) × (self.old ≡ Down was) × (r ≡ record was { areas = r.areas }) }
+        ensures nodes { ForSome (phase_geometry D.Area self.old) (λ g. is_some (log_area D.Area self.old node) ≡ is_node g node) }
     {
         match self {
             Phase::Down(recovery) => log_bytes_of(recovery, alloc, node),
@@ -76,6 +83,7 @@ fn log_bytes_of<D: Area>(
         → (result ≢ Err Unknown) × ReadsLog D.Area node area (Down recovery.old) (Down recovery.new) (has_failed result) }
     ensures bytes { IfOk result (λ bytes. (area : D) → log_area D.Area (Down recovery.old) node ≡ Some area
         → D.honest area ≡ true → bytes.items ≡ D.now area) }
+    ensures nodes { is_some (log_area D.Area (Down recovery.old) node) ≡ is_node recovery.old.geometry node }
 {
     let geometry = recovery.geometry();
     if node >= geometry.nodes {

@@ -1,9 +1,9 @@
 //! One node.
-ghost use Rattle.std.specs.Prelude.{◌≡◌, ◌-◌, ◌+◌, ◌<◌, ◌≤◌, ◌^◌, ℕ, false, vec_len, slice_get, Some, IsSome, Err, IfOk, OnErr, IfErr};
+ghost use Rattle.std.specs.Prelude.{◌≡◌, ◌-◌, ◌+◌, ◌<◌, ◌≤◌, ◌^◌, ℕ, true, false, vec_len, slice_get, Some, IsSome, Err, IfOk, OnErr, IfErr};
 ghost use Rattle.lc_core.specs.Log.{is_failed, is_sealed};
 ghost use Rattle.lc_core.specs.declared.slot.Slot.{Slot};
 ghost use Rattle.lc_model.specs.declared.event.Event.TheVariants.{Close, FlushStep, ResetStep};
-ghost use Rattle.lc_core.specs.FaultReplies.{TellsFault, is_device_fault, is_fault};
+ghost use Rattle.lc_core.specs.FaultReplies.{TellsFault, is_own_refusal, is_own_reply};
 
 use crate::desk::Desk;
 use crate::ending::Ending;
@@ -41,7 +41,7 @@ impl<D: Area + Drop> Node<D> {
         ensures memory { OnErr result (WantsPlace D.Area node thread (is_sealed D.Area self.old.journal.log) self.old) }
         ensures err { OnErr result (StillFitsNode D.Area self.old self.new) }
         ensures whole { HasSameRoom D.Area self.old self.new }
-        ensures answer { IfOk result (λ reply. is_fault reply ≡ false) }
+        ensures answer { IfOk result (λ reply. is_own_reply reply ≡ true) }
         ensures log { self.new.journal.log ≡ self.old.journal.log }
     {
         let log = LogEnd {
@@ -68,7 +68,7 @@ impl<D: Area + Drop> Node<D> {
         requires seat { thread < vec_len self.old.desk.seats }
         ensures follows { (node : ℕ) → FollowsNode D.Area node (Close node thread) self.old result self.new }
         ensures whole { HasSameRoom D.Area self.old self.new }
-        ensures answer { is_fault result ≡ false }
+        ensures answer { is_own_reply result ≡ true }
         ensures log { self.new.journal.log ≡ self.old.journal.log }
     {
         let Some(number) = self.desk.count(thread) else {
@@ -111,7 +111,7 @@ impl<D: Area + Drop> Node<D> {
         ensures follows { FollowsLeave D.Area segment writing self.old result self.new }
         ensures segment { IfOk result (λ token. token.segment ≡ segment) }
         ensures whole { HasSameRoom D.Area self.old self.new }
-        ensures answer { IfErr result (λ refusal. is_device_fault refusal ≡ false) }
+        ensures answer { IfErr result (λ refusal. is_own_refusal refusal ≡ true) }
         ensures log { self.new.journal.log ≡ self.old.journal.log }
     {
         let reserved = self.journal.records.count();
@@ -136,7 +136,7 @@ impl<D: Area + Drop> Node<D> {
         requires slot { token.segment ≤ vec_len self.old.desk.here.slots }
         ensures follows { FollowsArrive D.Area token self.old result self.new }
         ensures whole { HasSameRoom D.Area self.old self.new }
-        ensures answer { IfErr result (λ back. is_device_fault back.1 ≡ false) }
+        ensures answer { IfErr result (λ back. is_own_refusal back.1 ≡ true) }
         ensures log { self.new.journal.log ≡ self.old.journal.log }
         ensures stands { (slot : Slot) → slice_get self.old.desk.here.slots.items (token.segment - 1) ≡ Some slot → IsSome slot.token.token
             → (result ≡ Err (token, Refusal.OutOfTurn)) × (self.new ≡ self.old) }

@@ -39,6 +39,7 @@ impl<D: Area> Pages<D> {
             self.old.area self.new.area (is_ok result) }
         ensures device { Continues D.Area self.old.area self.new.area (is_ok result) }
         ensures fault { IfErr result (λ f. f ≡ PageFault.DeviceFault) }
+        ensures pages { vec_len self.new.writes ≡ vec_len self.old.writes }
     {
         let place = write.draft().page as usize;
         let begun = Writing::begin(write, &mut self.area);
@@ -68,6 +69,7 @@ impl<D: Area> Pages<D> {
             → Calls D.Area write self.old.area self.new.area (is_ok result) }
         ensures device { Continues D.Area self.old.area self.new.area (is_ok result) }
         ensures fault { IfErr result (λ f. f ≡ PageFault.DeviceFault) }
+        ensures pages { vec_len self.new.writes ≡ vec_len self.old.writes }
     {
         let place = page as usize;
         let PageState::UnderWay(write) = mem::replace(&mut self.writes[place], PageState::Failed)

@@ -1,8 +1,8 @@
 //! The device calls of a page write, one by one.
-ghost use Rattle.std.specs.Prelude.{◌≡◌, ◌<◌, ◌≤◌, ◌-◌, not, Some, IsSome, vec_len, slice_get};
+ghost use Rattle.std.specs.Prelude.{◌≡◌, ◌<◌, ◌≤◌, ◌-◌, false, not, Some, IsSome, vec_len, slice_get};
 ghost use Rattle.lc_page.specs.PageWrite.{Continues};
 ghost use Rattle.lc_page.specs.declared.writing.Writing.{Writing};
-ghost use Rattle.lc_core.specs.FaultReplies.{is_fault};
+ghost use Rattle.lc_core.specs.FaultReplies.{is_fault, is_unknown};
 ghost use Rattle.lc_core.specs.Log.{area_of};
 ghost use Rattle.lc_core.specs.declared.page_state.PageState.TheVariants.{AtRest as Rests, UnderWay as IsUnderWay};
 ghost use Rattle.lc_core.specs.declared.slot.Slot.{Slot};
@@ -30,6 +30,8 @@ impl<D: Area + Drop> Node<D> {
         // One call of the device, or none, and none of the log's.
         ensures device { Continues D.Area pages.old.area pages.new.area (not (is_fault result)) }
         ensures log { area_of D.Area self.new.journal.log ≡ area_of D.Area self.old.journal.log }
+        ensures known { is_unknown result ≡ false }
+        ensures pages { vec_len pages.new.writes ≡ vec_len pages.old.writes }
     {
         let slot = &self.desk.here.slots[segment as usize - 1];
         if slot.token.is_empty() {
@@ -54,6 +56,8 @@ impl<D: Area + Drop> Node<D> {
         ensures whole { HasSameRoom D.Area self.old self.new }
         ensures device { Continues D.Area pages.old.area pages.new.area (not (is_fault result)) }
         ensures log { area_of D.Area self.new.journal.log ≡ area_of D.Area self.old.journal.log }
+        ensures known { is_unknown result ≡ false }
+        ensures pages { vec_len pages.new.writes ≡ vec_len pages.old.writes }
     {
         if self.desk.is_uncommitted(segment, page) {
             return Reply::Refused(Refusal::Uncommitted);
@@ -84,6 +88,8 @@ impl<D: Area + Drop> Node<D> {
         ensures whole { HasSameRoom D.Area self.old self.new }
         ensures device { Continues D.Area pages.old.area pages.new.area (not (is_fault result)) }
         ensures log { area_of D.Area self.new.journal.log ≡ area_of D.Area self.old.journal.log }
+        ensures known { is_unknown result ≡ false }
+        ensures pages { vec_len pages.new.writes ≡ vec_len pages.old.writes }
     {
         match pages.step(page) {
             Ok(PageProgress::Stepped(calls)) => Reply::Stepped(u64::from(calls)),

@@ -1,9 +1,9 @@
 //! How a thread's transaction becomes a record.
-ghost use Rattle.std.specs.Prelude.{◌≡◌, ◌<◌, ◌≤◌, vec_len, IfOk, OnErr, false};
+ghost use Rattle.std.specs.Prelude.{◌≡◌, ◌<◌, ◌≤◌, vec_len, IfOk, OnErr, true};
 ghost use Rattle.lc_core.specs.FollowsDesk.{StillFits};
 ghost use Rattle.lc_core.specs.Here.{the_images};
 ghost use Rattle.lc_core.specs.Prepares.{HasRoom, IsUnsealed, Keeps, Prepares, WantsRecord};
-ghost use Rattle.lc_core.specs.FaultReplies.{ends_in_fault};
+ghost use Rattle.lc_core.specs.FaultReplies.{ends_own};
 
 use crate::Refusal;
 use crate::desk::Desk;
@@ -34,7 +34,7 @@ impl Desk {
         ensures memory { OnErr result (WantsRecord node thread log self.old) }
         ensures err { OnErr result (StillFits self.old self.new) }
         ensures seats { vec_len self.new.seats ≡ vec_len self.old.seats }
-        ensures answer { IfOk result (λ ending. ends_in_fault ending ≡ false) }
+        ensures answer { IfOk result (λ ending. ends_own ending ≡ true) }
     {
         let Some(tx) = self.seats[thread as usize].open() else {
             return Ok(Ending::Refused(Refusal::OutOfTurn));

@@ -1,10 +1,10 @@
 //! What a thread reads.
-ghost use Rattle.std.specs.Prelude.{◌≡◌, ◌<◌, ℕ, vec_len, IfOk, OnErr, false};
+ghost use Rattle.std.specs.Prelude.{◌≡◌, ◌<◌, ℕ, vec_len, IfOk, OnErr, true};
 ghost use Rattle.lc_model.specs.declared.event.Event.TheVariants.{Read};
 ghost use Rattle.lc_core.specs.FollowsDesk.{FollowsOpen, StillFits};
 ghost use Rattle.lc_core.specs.Growing.{MayReadSome};
 ghost use Rattle.lc_core.specs.Here.{the_images};
-ghost use Rattle.lc_core.specs.FaultReplies.{is_fault};
+ghost use Rattle.lc_core.specs.FaultReplies.{is_own_reply};
 
 use crate::desk::Desk;
 use crate::refused::refused;
@@ -28,7 +28,7 @@ impl Desk {
         ensures err { OnErr result (StillFits self.old self.new) }
         ensures memory { OnErr result (MayReadSome thread segment offset len self.old) }
         ensures seats { vec_len self.new.seats ≡ vec_len self.old.seats }
-        ensures answer { IfOk result (λ reply. is_fault reply ≡ false) }
+        ensures answer { IfOk result (λ reply. is_own_reply reply ≡ true) }
     {
         let Some(tx) = self.seats[thread as usize].open() else {
             return Ok(Reply::Refused(Refusal::OutOfTurn));

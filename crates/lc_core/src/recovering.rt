@@ -1,5 +1,5 @@
 //! How a store that is down comes up again.
-ghost use Rattle.std.specs.Prelude.{◌≡◌, IfOk, OnErr};
+ghost use Rattle.std.specs.Prelude.{◌≡◌, false, IfOk, OnErr};
 ghost use Rattle.lc_model.specs.declared.event.Event.TheVariants.{RecoverStep};
 ghost use Rattle.lc_recover.specs.Reads.{HaveLengths};
 ghost use Rattle.lc_recover.specs.Recovery.{Recovering, IsDone};
@@ -17,7 +17,9 @@ use std::mem;
 impl<D: Area + Drop> World<D> {
     ghost use Rattle.lc_core.specs.Recovers.{RecoversDown, RefusesAtOnce};
     ghost use Rattle.lc_core.specs.World.{AsksIn, FollowsWorld, StillFitsWorld};
+    ghost use Rattle.lc_core.specs.FaultReplies.{is_unknown};
     ghost use Rattle.lc_core.specs.Faults.{CountsPhase, phase_failures};
+    ghost use Rattle.lc_core.specs.Geometries.{phase_geometry};
 
     /// The next step of the recovery. The last one takes the memory of all that comes up before its call.
     pub(crate) fn recover_step(&mut self, alloc: Global) -> Result<Reply, AllocError>
@@ -28,6 +30,8 @@ impl<D: Area + Drop> World<D> {
         ensures no_fault { OnErr result (phase_failures D.Area self.new.phase ≡ phase_failures D.Area self.old.phase) }
         ensures at_once { IfOk result (λ reply. RefusesAtOnce D.Area self.old.phase RecoverStep reply self.new.phase) }
         ensures recovers { IfOk result (λ reply. RecoversDown D.Area self.old.phase reply self.new.phase) }
+        ensures geometry { phase_geometry D.Area self.new.phase ≡ phase_geometry D.Area self.old.phase }
+        ensures unknown { IfOk result (λ reply. is_unknown reply ≡ false) }
     {
         let Phase::Down(recovery) = &mut self.phase else {
             return Ok(Reply::Refused(Refusal::OutOfTurn));

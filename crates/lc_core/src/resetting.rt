@@ -4,7 +4,7 @@ ghost use Rattle.lc_record.specs.Record.{IsRecord};
 ghost use Rattle.lc_record.specs.declared.record.Lock.{Lock as Locked};
 ghost use Rattle.lc_record.specs.declared.record.Record.{Record as Spelled};
 ghost use Rattle.lc_trunc.specs.KnownClean.{known as known_of};
-ghost use Rattle.lc_core.specs.FaultReplies.{TellsFault, is_fault};
+ghost use Rattle.lc_core.specs.FaultReplies.{TellsFault, is_own_reply};
 ghost use Rattle.lc_core.specs.Journal.{reply_of};
 ghost use Rattle.lc_core.specs.Log.{CallsOnce, MovesReset, ResetsTo, area_of, is_emptied, is_failed, is_sealed};
 ghost use Rattle.lc_core.specs.Resets.{FollowsReset, IsLeastUnclean};
@@ -62,7 +62,7 @@ impl<D: Area + Drop> Journal<D> {
         ensures follows { (node : ℕ) → FollowsReset D.Area node (known_of known.now) self.old result self.new }
         ensures words { self.new.words ≡ self.old.words }
         ensures area { area_of D.Area self.new.log ≡ area_of D.Area self.old.log }
-        ensures answer { is_fault result ≡ false }
+        ensures answer { is_own_reply result ≡ true }
     {
         if self.records.count() > self.acked {
             return Reply::Refused(Refusal::Unflushed);
@@ -87,7 +87,7 @@ impl<D: Area + Drop> Journal<D> {
         ensures follows { (node : ℕ) (known : ℕ → ℕ) → FollowsReset D.Area node known self.old result self.new }
         ensures words { self.new.words ≡ self.old.words }
         ensures area { area_of D.Area self.new.log ≡ area_of D.Area self.old.log }
-        ensures answer { is_fault result ≡ false }
+        ensures answer { is_own_reply result ≡ true }
     {
         let log = mem::replace(&mut self.log, Log::Taken);
         self.log = log.unseal();

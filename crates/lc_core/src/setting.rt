@@ -1,8 +1,8 @@
 //! The ranges that a thread sets.
-ghost use Rattle.std.specs.Prelude.{◌≡◌, ◌<◌, ℕ, vec_len, IfOk, OnErr, false};
+ghost use Rattle.std.specs.Prelude.{◌≡◌, ◌<◌, ℕ, vec_len, IfOk, OnErr, true};
 ghost use Rattle.lc_model.specs.declared.event.Event.TheVariants.{SetRange};
 ghost use Rattle.lc_core.specs.Here.{the_images};
-ghost use Rattle.lc_core.specs.FaultReplies.{is_fault};
+ghost use Rattle.lc_core.specs.FaultReplies.{is_own_reply};
 
 use crate::desk::Desk;
 use crate::refused::refused;
@@ -29,7 +29,7 @@ impl Desk {
         ensures err { OnErr result (StillFits self.old self.new) }
         ensures memory { OnErr result (MaySetMore thread segment offset len self.old) }
         ensures seats { vec_len self.new.seats ≡ vec_len self.old.seats }
-        ensures answer { IfOk result (λ reply. is_fault reply ≡ false) }
+        ensures answer { IfOk result (λ reply. is_own_reply reply ≡ true) }
     {
         let Seat::Open(tx) = &mut self.seats[thread as usize] else {
             return Ok(Reply::Refused(Refusal::OutOfTurn));

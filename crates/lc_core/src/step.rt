@@ -3,6 +3,7 @@ ghost use Rattle.std.specs.Prelude.{◌≡◌, true, IfOk, OnErr};
 ghost use Rattle.lc_core.specs.Running.{StillFitsAll};
 ghost use Rattle.lc_core.specs.Stepping.{AsksMemory, FollowsStep, is_plain};
 ghost use Rattle.lc_core.specs.Faults.{CountsLogs, SameLogs};
+ghost use Rattle.lc_core.specs.Geometries.{RefusesUnknown};
 
 use crate::running::Running;
 use crate::{Event, Reply};
@@ -24,6 +25,7 @@ impl<D: Area + Drop> Running<D> {
         ensures err { OnErr result (StillFitsAll D.Area self.old self.new) }
         ensures faults { IfOk result (λ reply. CountsLogs D.Area self.old reply self.new) }
         ensures no_fault { OnErr result (SameLogs D.Area self.old self.new) }
+        ensures unknown { IfOk result (RefusesUnknown self.old.geometry event.now) }
     {
         if let Some(refusal) = self.refusal(event) {
             return Ok(Reply::Refused(refusal));

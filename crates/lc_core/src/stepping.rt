@@ -3,7 +3,7 @@ ghost use Rattle.std.specs.Prelude.{◌≡◌, ◌<◌, true, false, not, vec_le
 ghost use Rattle.lc_model.specs.Refusals.{is_known, named};
 ghost use Rattle.lc_model.specs.declared.event.Event.TheVariants.{PageStep, Trim};
 ghost use Rattle.lc_core.specs.Running.{FollowsRow, StillFitsAll};
-ghost use Rattle.lc_core.specs.FaultReplies.{is_fault};
+ghost use Rattle.lc_core.specs.FaultReplies.{is_fault, is_own_reply, is_unknown};
 ghost use Rattle.lc_core.specs.Faults.{CountsLogs, SameLogAreas, SameLogs};
 ghost use Rattle.lc_core.specs.NodeSteps.{is_own};
 ghost use Rattle.lc_core.specs.Paging.{FollowsPaging};
@@ -30,6 +30,7 @@ impl<D: Area + Drop> Running<D> {
         ensures err { OnErr result (StillFitsAll D.Area self.old self.new) }
         ensures faults { IfOk result (λ reply. CountsLogs D.Area self.old reply self.new) }
         ensures no_fault { OnErr result (SameLogs D.Area self.old self.new) }
+        ensures known { IfOk result (λ reply. is_unknown reply ≡ false) }
     {
         let Some(node) = acting_node(event) else {
             unreachable!();
@@ -52,6 +53,8 @@ impl<D: Area + Drop> Running<D> {
         // One call of the segment's device, or none, and none of a log's.
         ensures device { Continues D.Area pages.old.area pages.new.area (not (is_fault result)) }
         ensures logs { SameLogAreas D.Area self.old self.new }
+        ensures known { is_unknown result ≡ false }
+        ensures pages { vec_len pages.new.writes ≡ vec_len pages.old.writes }
     {
         self.nodes[node as usize].page_step(segment, page, pages)
     }
@@ -60,7 +63,7 @@ impl<D: Area + Drop> Running<D> {
     pub(crate) fn trim(&mut self, node: u16) -> Reply
         requires known { is_known self.old.geometry (Trim node) ≡ true }
         ensures follows { FollowsRow D.Area self.old (Trim node) result self.new }
-        ensures answer { is_fault result ≡ false }
+        ensures answer { is_own_reply result ≡ true }
         ensures logs { SameLogs D.Area self.old self.new }
     {
         let nodes = self.nodes.as_slice();

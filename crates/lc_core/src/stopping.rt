@@ -7,6 +7,7 @@ ghost use Rattle.lc_recover.specs.Reads.{HaveLengths};
 ghost use Rattle.lc_core.specs.Areas.{AreOf, AreStopped};
 ghost use Rattle.lc_core.specs.Devices.{HaveLogs};
 ghost use Rattle.lc_core.specs.Faults.{phase_failures};
+ghost use Rattle.lc_core.specs.Geometries.{phase_geometry};
 ghost use Rattle.lc_core.specs.Log.{area_of};
 ghost use Rattle.lc_core.specs.Pages.{areas_of};
 ghost use Rattle.lc_core.specs.Stops.{HasAreas, StopsAll};
@@ -34,6 +35,7 @@ impl<D: Stoppable + Drop> World<D> {
         ensures follows { FollowsWorld D.Area self.old (Stop choices.now) result self.new }
         ensures stops { StopsAll D.Area self.old.phase self.new.phase }
         ensures counts { phase_failures D.Area self.new.phase ≡ phase_failures D.Area self.old.phase }
+        ensures geometry { phase_geometry D.Area self.new.phase ≡ phase_geometry D.Area self.old.phase }
     {
         self.phase = mem::replace(&mut self.phase, Phase::Taken).stopped(choices);
         Reply::Down

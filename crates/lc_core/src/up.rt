@@ -1,6 +1,6 @@
 //! A store that is up.
 ghost use Rattle.std.specs.Prelude.{[], ◌≡◌, ◌+◌, ◌*◌, ◌≤◌, vec_capacity, vec_len};
-ghost use Rattle.lc_core.specs.Devices.{HaveLogs, HaveSegments};
+ghost use Rattle.lc_core.specs.Devices.{HaveLogs, HavePages, HaveSegments};
 
 use crate::pages::Pages;
 use crate::running::Running;
@@ -16,6 +16,7 @@ pub(crate) struct Up<D: Area> {
     ghost all_segments: { vec_len segments ≡ running.geometry.segments },
     ghost logs: { HaveLogs D.Area (8 * (running.geometry.words + 1)) running.nodes.items },
     ghost lengths: { HaveSegments D.Area (2 * 272 * running.geometry.pages) segments.items },
+    ghost pages: { HavePages D.Area running.geometry.pages segments.items },
     ghost none: { spare.items ≡ [] },
     ghost room: { running.geometry.nodes + running.geometry.segments ≤ vec_capacity spare },
 }

@@ -3,6 +3,7 @@ ghost use Rattle.std.specs.Prelude.{◌≡◌, ℕ, true, IfOk, OnErr};
 ghost use Rattle.lc_model.specs.State.{Setting};
 ghost use Rattle.lc_model.specs.declared.event.Event.TheVariants.{PageStep};
 ghost use Rattle.lc_core.specs.Faults.{CountsPhase, phase_failures};
+ghost use Rattle.lc_core.specs.Geometries.{RefusesUnknown};
 ghost use Rattle.lc_core.specs.Numbers.{Numbers};
 ghost use Rattle.lc_core.specs.Pages.{FitsPages};
 ghost use Rattle.lc_core.specs.Stepping.{AsksMemory, TellsWriting, works_up};
@@ -10,7 +11,7 @@ ghost use Rattle.lc_core.specs.World.{FollowsUp, StillFitsUp};
 ghost use Rattle.lc_core.specs.declared.phase.Phase.TheVariants.{Up as IsUp};
 
 use crate::up::Up;
-use crate::{Event, Refusal, Reply};
+use crate::{Event, Reply};
 use lc_disk::Area;
 use std::alloc::{AllocError, Global};
 
@@ -23,6 +24,8 @@ impl<D: Area + Drop> Up<D> {
         ensures err { OnErr result (StillFitsUp D.Area self.old self.new) }
         ensures faults { IfOk result (λ reply. CountsPhase D.Area (IsUp self.old) reply (IsUp self.new)) }
         ensures no_fault { OnErr result (phase_failures D.Area (IsUp self.new) ≡ phase_failures D.Area (IsUp self.old)) }
+        ensures geometry { self.new.running.geometry ≡ self.old.running.geometry }
+        ensures unknown { IfOk result (RefusesUnknown self.old.running.geometry event.now) }
     {
         if let Event::PageStep {
             node,
@@ -40,6 +43,8 @@ impl<D: Area + Drop> Up<D> {
     fn page_step(&mut self, node: u16, segment: u32, page: u32) -> Reply
         ensures follows { FollowsUp D.Area self.old (PageStep node segment page) result self.new }
         ensures faults { CountsPhase D.Area (IsUp self.old) result (IsUp self.new) }
+        ensures geometry { self.new.running.geometry ≡ self.old.running.geometry }
+        ensures unknown { RefusesUnknown self.old.running.geometry (PageStep node segment page) result }
     {
         let event = Event::PageStep {
             node,
@@ -50,9 +55,6 @@ impl<D: Area + Drop> Up<D> {
             return Reply::Refused(refusal);
         }
         let place = segment as usize - 1;
-        if page as usize >= self.segments[place].writes.len() {
-            return Reply::Refused(Refusal::Unknown);
-        }
         let pages = &mut self.segments[place];
         self.running.page_step(node, segment, page, pages)
     }

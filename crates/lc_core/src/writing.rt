@@ -1,8 +1,8 @@
 //! What a thread writes.
-ghost use Rattle.std.specs.Prelude.{◌≡◌, ◌<◌, ℕ, vec_len, false};
+ghost use Rattle.std.specs.Prelude.{◌≡◌, ◌<◌, ℕ, vec_len, true};
 ghost use Rattle.lc_model.specs.declared.event.Event.TheVariants.{Write};
 ghost use Rattle.lc_core.specs.Here.{the_images};
-ghost use Rattle.lc_core.specs.FaultReplies.{is_fault};
+ghost use Rattle.lc_core.specs.FaultReplies.{is_own_reply};
 
 use crate::desk::Desk;
 use crate::refused::refusal_of;
@@ -18,7 +18,7 @@ impl Desk {
         ensures follows { (node : ℕ) → FollowsOpen node self.old (Write node thread segment offset bytes.now) result self.new }
         ensures beside { the_images.IsSameBeside self.old.here self.new.here }
         ensures seats { vec_len self.new.seats ≡ vec_len self.old.seats }
-        ensures answer { is_fault result ≡ false }
+        ensures answer { is_own_reply result ≡ true }
     {
         let Seat::Open(tx) = &self.seats[thread as usize] else {
             return Reply::Refused(Refusal::OutOfTurn);

@@ -134,22 +134,22 @@ module _ {D : Type 0} (a : Ghosts D) (g : Geometry) (areas : List D) (world : Wo
       (run.0, recovered m (first_state g) x script up.0 up.1 run.0 status up.2 run.1, keeps_then held mid holds run.0 opens.1 run.2)
 
 -- The same of any areas
-module _ (held holds : Option (List ℕ)) (status : ℕ) (script : List ℕ) where
-  pub stopped_tells : Adds TellsStop held holds status → Adds (TellsScript script) held holds status
+module _ (g : Geometry) (held holds : Option (List ℕ)) (status : ℕ) (script : List ℕ) where
+  pub stopped_tells : Adds TellsStop held holds status → Adds (TellsScript g script) held holds status
   stopped_tells stop = (stop.0, inl stop.1, stop.2)
 
   -- files that could not be opened
-  pub not_opened_tells : Adds Stops held holds status → Adds (TellsScript script) held holds status
+  pub not_opened_tells : Adds Stops held holds status → Adds (TellsScript g script) held holds status
   not_opened_tells stop =
       elim stop.1 [
         | inl device ↦ (stop.0, inl (inr (IsRefusal DeviceFault, device)), stop.2)
         | inr memory ↦ (stop.0, inl (inl memory), stop.2)
       ]
 
-  pub wrong_tells : (area : ℕ) → status ≡ 1 → Appends held holds (refusal_text (WrongArea area)) → Adds (TellsScript script) held holds status
+  pub wrong_tells : (area : ℕ) → status ≡ 1 → Appends held holds (refusal_text (WrongArea area)) → Adds (TellsScript g script) held holds status
   wrong_tells area is shown = (refusal_text (WrongArea area), inl (inr (IsRefusal (WrongArea area), (refl, is))), shown)
 
-  pub recovered_tells : (mid : Option (List ℕ)) → Keeps held mid → Adds (TellsRecovered script) mid holds status → Adds (TellsScript script) held holds status
+  pub recovered_tells : (mid : Option (List ℕ)) → Keeps held mid → Adds (TellsRecovered g script) mid holds status → Adds (TellsScript g script) held holds status
   recovered_tells mid keeps tells =
       elim tells.1 [
         | inl none ↦ (tells.0, inl (inl none), keeps_then held mid holds tells.0 keeps tells.2)

@@ -13,3 +13,4 @@ mod Beginning
 mod Refusals
 mod FilesMade
 mod AreasRecovered
+pub mod Keeping

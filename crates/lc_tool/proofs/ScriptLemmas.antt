@@ -5,6 +5,7 @@ use Rattle.std.proofs.lemmas.List.{length-take, take_all}
 use Rattle.std.specs.Prelude.{if◌then◌else◌, option_map}
 use Rattle.std.specs.Io.KnownBytes.{Appends, Keeps}
 use Rattle.lc_disk.specs.declared.area.Area.{Ghosts}
+use Rattle.lc_record.specs.declared.geometry.Geometry.{Geometry}
 use Rattle.lc_model.specs.State.{Setting, State}
 use Rattle.lc_core.specs.Numbers.{Numbers}
 use Rattle.lc_core.specs.declared.world.World.{World}
@@ -93,16 +94,16 @@ module _ (m : Setting) (s : State) (x : Numbers) (number : ℕ) (refused : Bool)
   runs_end status is = (refl, is)
 
 -- the same of any areas
-module _ (number : ℕ) (refused : Bool) (line : List ℕ) (lines : List (List ℕ)) (shown : List ℕ) where
-  pub tells_more : (was : Bool) (rest : List ℕ) (status : ℕ) → TellsLine line number shown (Goes was) → TellsLines (number + 1) (refused || was) lines rest status
-      → TellsLines number refused (line ∷ lines) (shown ++ rest) status
+module _ (g : Geometry) (number : ℕ) (refused : Bool) (line : List ℕ) (lines : List (List ℕ)) (shown : List ℕ) where
+  pub tells_more : (was : Bool) (rest : List ℕ) (status : ℕ) → TellsLine g line number shown (Goes was) → TellsLines g (number + 1) (refused || was) lines rest status
+      → TellsLines g number refused (line ∷ lines) (shown ++ rest) status
   tells_more was rest status tells run =
       elim tells [
-        | inl h ↦ inr (rw h.0 (skips (λ was rest end. TellsLines (number + 1) was lines rest end) refused was shown rest status h.1 h.2 run))
-        | inr h ↦ inr (rw h.2 (shown, h.1, h.3, goes_on (λ was rest end. TellsLines (number + 1) was lines rest end) refused h.1 was shown rest status h.4 run))
+        | inl h ↦ inr (rw h.0 (skips (λ was rest end. TellsLines g (number + 1) was lines rest end) refused was shown rest status h.1 h.2 run))
+        | inr h ↦ inr (rw h.2 (shown, h.1, h.3, goes_on (λ was rest end. TellsLines g (number + 1) was lines rest end) refused h.1 was shown rest status h.4 run))
       ]
 
-  pub tells_here : (status : ℕ) → TellsLine line number shown (Ends status) → TellsLines number refused (line ∷ lines) shown status
+  pub tells_here : (status : ℕ) → TellsLine g line number shown (Ends status) → TellsLines g number refused (line ∷ lines) shown status
   tells_here status tells =
       elim tells [
         | inl h ↦ inl h

@@ -25,7 +25,7 @@ PrintsHelp text held holds status = (status ≡ 0) × Appends held holds text
 -- with what is to be read, and what a writer held and holds
 abbrev pub AnswersAsked : Asked → Option (List ℕ) → Option (List ℕ) → Option (List ℕ) → ℕ → Type 0
 AnswersAsked (Run g None) input held holds status = IfSome input (λ script. RunsNew g script held holds status)
-AnswersAsked (Run g (Some folder)) input held holds status = IfSome input (λ script. Adds (TellsScript script) held holds status)
+AnswersAsked (Run g (Some folder)) input held holds status = IfSome input (λ script. Adds (TellsScript g script) held holds status)
 AnswersAsked (Init folder g) input held holds status = Adds TellsInit held holds status
 AnswersAsked (Recover folder g) input held holds status = Adds (TellsRecovery g) held holds status
 AnswersAsked (Inspect file reverse) input held holds status = TellsInspection reverse held holds status

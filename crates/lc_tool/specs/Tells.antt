@@ -1,11 +1,18 @@
--- What a script prints over any areas, also over those of which nothing is known: each line has the text of a reply, or of
--- what it shows, and the status follows from these.
-use Rattle.std.specs.Prelude.{◌≡◌, ◌⊎◌, ℕ, ◌+◌, Bool, false, nat_lt, List, [], ◌∷◌, length, Option, None, Some, MatchBool, if◌then◌else◌}
+-- What a script prints over any areas of a geometry, also over those of which nothing is known: each line has the text of a
+-- reply that keeps to the geometry, or of what it shows, and the status follows from these.
+use Rattle.std.specs.Prelude.{◌≡◌, ◌≢◌, ◌⊎◌, ℕ, ◌+◌, ◌&&◌, Bool, true, false, nat_lt, List, [], ◌∷◌, length, Option, None, Some, MatchBool, if◌then◌else◌}
 use Rattle.std.specs.Io.KnownBytes.{Keeps}
 use Rattle.lc_record.specs.declared.record.Record.{Record}
 use Rattle.lc_log.specs.LogText.{placed}
+use Rattle.lc_record.specs.declared.geometry.Geometry.{Geometry}
+use Rattle.lc_model.specs.Refusals.{is_known, is_node, is_page, is_segment}
+use Rattle.lc_model.specs.declared.event.Event.{Event}
+use Rattle.lc_model.specs.declared.event.Event.TheVariants.{FlushStep, RecoverStep, Reserve}
 use Rattle.lc_model.specs.declared.refusal.Refusal.{Refusal}
+use Rattle.lc_model.specs.declared.refusal.Refusal.TheVariants.{DeviceFault, Down as IsDown, Unknown}
 use Rattle.lc_model.specs.declared.reply.Reply.{Reply}
+use Rattle.lc_model.specs.declared.reply.Reply.TheVariants.{Refused}
+use Rattle.lc_core.specs.Geometries.{is_delivery}
 use Rattle.lc_text.specs.Line.{line_of}
 use Rattle.lc_tool.specs.Outcome.{EndsWith, GoesBehind}
 use Rattle.lc_text.specs.Lines.{script_lines}
@@ -23,45 +30,65 @@ use Rattle.lc_tool.specs.declared.outcome.Outcome.TheVariants.{Goes, Ends}
 use Rattle.lc_tool.specs.declared.verdict.Verdict.{Verdict}
 use Rattle.lc_tool.specs.declared.verdict.Verdict.TheVariants.{Done, Faulted}
 
--- the text of something, or the line of a refusal
-module _ {A : Type 0} (text_of : A → List ℕ) where
-  abbrev pub TellsShown : List ℕ → Verdict → Type 0
-  TellsShown text verdict =
-      ((shown : A) × (text ≡ text_of shown) × (verdict ≡ Done))
-      ⊎ ((refusal : Refusal) × (text ≡ refusal_text refusal) × (verdict ≡ verdict_on refusal))
+-- What names something outside of the geometry is refused: as unknown, or because the store is down. Nothing else is unknown,
+-- but for a delivery, of which the sender may not have the record.
+pub record KeepsTo (g : Geometry) (event : Event) (reply : Reply) : Type 0 where
+  pub outside : is_known g event ≡ false → (reply ≡ Refused Unknown) ⊎ (reply ≡ Refused IsDown)
+  pub inside : is_known g event ≡ true → is_delivery event ≡ false → reply ≢ Refused Unknown
 
--- what a command prints, and what becomes of it: the line of a reply, or words, records or the bytes of a page
-abbrev pub TellsCommand : Command → List ℕ → Verdict → Type 0
-TellsCommand (Asks event) text verdict = (reply : Reply) × Says reply text verdict
-TellsCommand (End node thread) text verdict = (reply : Reply) × (text ≡ end_text reply) × (verdict ≡ verdict_of reply)
-TellsCommand (Flush node) text verdict = (reply : Reply) × Says reply text verdict
-TellsCommand Recover text verdict = (reply : Reply) × Says reply text verdict
-TellsCommand (Log node) text verdict = TellsShown words_text text verdict
-TellsCommand (Inspect node) text verdict = TellsShown (λ (records : List Record). records_text (placed 0 records)) text verdict
-TellsCommand (Show node segment page) text verdict = TellsShown page_text text verdict
+-- the line of a refusal
+abbrev pub TellsRefusal : Refusal → List ℕ → Verdict → Type 0
+TellsRefusal refusal text verdict = (text ≡ refusal_text refusal) × (verdict ≡ verdict_on refusal)
+
+-- the text of something
+abbrev pub TellsShown : {A : Type 0} → (A → List ℕ) → List ℕ → Verdict → Type 0
+TellsShown {A} text_of text verdict = (shown : A) × (text ≡ text_of shown) × (verdict ≡ Done)
+
+-- of the log of a node, which an area has, and which a device may not read; of no other node
+abbrev pub TellsLog : {A : Type 0} → Geometry → ℕ → (A → List ℕ) → List ℕ → Verdict → Type 0
+TellsLog g node text_of text verdict = MatchBool (is_node g node)
+    (TellsShown text_of text verdict ⊎ TellsRefusal DeviceFault text verdict)
+    (TellsRefusal Unknown text verdict)
+
+-- of a page, while the store is up
+abbrev pub TellsPage : Geometry → ℕ → ℕ → ℕ → List ℕ → Verdict → Type 0
+TellsPage g node segment page text verdict =
+    MatchBool (is_node g node && is_segment g segment && is_page g page) (TellsShown page_text text verdict) (TellsRefusal Unknown text verdict)
+    ⊎ TellsRefusal IsDown text verdict
+
+-- what a command prints over a store of this geometry, and what becomes of it: the line of a reply, or words, records or the
+-- bytes of a page
+abbrev pub TellsCommand : Geometry → Command → List ℕ → Verdict → Type 0
+TellsCommand g (Asks event) text verdict = (reply : Reply) × KeepsTo g event reply × Says reply text verdict
+TellsCommand g (End node thread) text verdict = (reply : Reply) × KeepsTo g (Reserve node thread) reply × (text ≡ end_text reply) × (verdict ≡ verdict_of reply)
+TellsCommand g (Flush node) text verdict = (reply : Reply) × KeepsTo g (FlushStep node) reply × Says reply text verdict
+TellsCommand g Recover text verdict = (reply : Reply) × KeepsTo g RecoverStep reply × Says reply text verdict
+TellsCommand g (Log node) text verdict = TellsLog g node words_text text verdict
+TellsCommand g (Inspect node) text verdict = TellsLog g node (λ (records : List Record). records_text (placed 0 records)) text verdict
+TellsCommand g (Show node segment page) text verdict = TellsPage g node segment page text verdict
 
 -- the line of this number: the script goes on behind it, or it ends with a status
-abbrev pub TellsLine : List ℕ → ℕ → List ℕ → Outcome → Type 0
-TellsLine line number shown (Goes was) =
+abbrev pub TellsLine : Geometry → List ℕ → ℕ → List ℕ → Outcome → Type 0
+TellsLine g line number shown (Goes was) =
     ((line_of line ≡ Skipped) × (shown ≡ []) × (was ≡ false))
-    ⊎ ((command : Command) × (verdict : Verdict) × (line_of line ≡ Commanded command) × TellsCommand command shown verdict × GoesBehind verdict was)
-TellsLine line number shown (Ends status) =
+    ⊎ ((command : Command) × (verdict : Verdict) × (line_of line ≡ Commanded command) × TellsCommand g command shown verdict × GoesBehind verdict was)
+TellsLine g line number shown (Ends status) =
     NoMemory shown status
     ⊎ (((line_of line ≡ NotUnderstood) × (shown ≡ not_understood_text number) × (status ≡ 2))
-    ⊎ ((command : Command) × (line_of line ≡ Commanded command) × TellsCommand command shown Faulted × (status ≡ 3)))
+    ⊎ ((command : Command) × (line_of line ≡ Commanded command) × TellsCommand g command shown Faulted × (status ≡ 3)))
 
 -- by what the line of this number says: `next` is the same of the lines behind it
-abbrev pub TellsFrom : Rest → ℕ → Bool → Line → List ℕ → ℕ → Type 0
-TellsFrom next number refused Skipped text status = next refused text status
-TellsFrom next number refused NotUnderstood text status = (text ≡ not_understood_text number) × (status ≡ 2)
-TellsFrom next number refused (Commanded command) text status =
-    (shown : List ℕ) × (verdict : Verdict) × TellsCommand command shown verdict × GoesOn next refused shown verdict text status
+abbrev pub TellsFrom : Geometry → Rest → ℕ → Bool → Line → List ℕ → ℕ → Type 0
+TellsFrom g next number refused Skipped text status = next refused text status
+TellsFrom g next number refused NotUnderstood text status = (text ≡ not_understood_text number) × (status ≡ 2)
+TellsFrom g next number refused (Commanded command) text status =
+    (shown : List ℕ) × (verdict : Verdict) × TellsCommand g command shown verdict × GoesOn next refused shown verdict text status
 
 -- where this is the number of the first of these lines, and whether something was refused before
-abbrev pub TellsLines : ℕ → Bool → List (List ℕ) → List ℕ → ℕ → Type 0
-TellsLines number refused [] text status = (text ≡ []) × (status ≡ (if refused then 1 else 0))
-TellsLines number refused (line ∷ lines) text status =
-    NoMemory text status ⊎ TellsFrom (λ was rest end. TellsLines (number + 1) was lines rest end) number refused (line_of line) text status
+abbrev pub TellsLines : Geometry → ℕ → Bool → List (List ℕ) → List ℕ → ℕ → Type 0
+TellsLines g number refused [] text status = (text ≡ []) × (status ≡ (if refused then 1 else 0))
+TellsLines g number refused (line ∷ lines) text status =
+    NoMemory text status ⊎ TellsFrom g (λ was rest end. TellsLines g (number + 1) was lines rest end) number refused (line_of line) text status
 
 -- there was no memory, or the line of a refusal
 abbrev pub TellsStop : List ℕ → ℕ → Type 0
@@ -73,13 +100,13 @@ TellsOpening held holds None = Keeps held holds
 TellsOpening held holds (Some status) = Adds TellsStop held holds status
 
 -- a script, unless it is too long
-abbrev pub TellsRead : List ℕ → List ℕ → ℕ → Type 0
-TellsRead script text status = MatchBool (nat_lt 1048576 (length script)) ((text ≡ too_long_text) × (status ≡ 2)) (TellsLines 1 false (script_lines script) text status)
+abbrev pub TellsRead : Geometry → List ℕ → List ℕ → ℕ → Type 0
+TellsRead g script text status = MatchBool (nat_lt 1048576 (length script)) ((text ≡ too_long_text) × (status ≡ 2)) (TellsLines g 1 false (script_lines script) text status)
 
 -- behind the recovery: there may be no memory for the script
-abbrev pub TellsRecovered : List ℕ → List ℕ → ℕ → Type 0
-TellsRecovered script text status = NoMemory text status ⊎ TellsRead script text status
+abbrev pub TellsRecovered : Geometry → List ℕ → List ℕ → ℕ → Type 0
+TellsRecovered g script text status = NoMemory text status ⊎ TellsRead g script text status
 
 -- what a script prints, and the status that it ends with
-abbrev pub TellsScript : List ℕ → List ℕ → ℕ → Type 0
-TellsScript script text status = TellsStop text status ⊎ TellsRead script text status
+abbrev pub TellsScript : Geometry → List ℕ → List ℕ → ℕ → Type 0
+TellsScript g script text status = TellsStop text status ⊎ TellsRead g script text status

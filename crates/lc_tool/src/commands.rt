@@ -1,8 +1,10 @@
 //! What each command does to the store, and what it prints.
 ghost use Rattle.std.specs.Prelude.{◌≡◌, ◌≢◌, IfOk, Some};
 ghost use Rattle.std.specs.Io.KnownBytes.{Appends, Keeps};
+ghost use Rattle.std.specs.Option.{ForSome};
 ghost use Rattle.lc_record.specs.Words.{bytes_of};
 ghost use Rattle.lc_model.specs.declared.refusal.Refusal.{Refusal};
+ghost use Rattle.lc_core.specs.Geometries.{phase_geometry};
 ghost use Rattle.lc_tool.specs.Fits.{AsksFor, Performs};
 ghost use Rattle.lc_tool.specs.Session.{Says, end_text};
 ghost use Rattle.lc_tool.specs.Shown.{refusal_to};
@@ -30,7 +32,8 @@ pub(crate) fn perform<D: Stoppable + Drop, W: Write>(
     writer: &mut W,
 ) -> Result<Verdict, Stop>
     ensures done { IfOk result (λ verdict. Performs D.Area world.old command (W.contents writer.old) (W.contents writer.new) verdict world.new) }
-    ensures tells { IfOk result (λ verdict. Adds (TellsCommand command) (W.contents writer.old) (W.contents writer.new) verdict) }
+    ensures tells { IfOk result (λ verdict. ForSome (phase_geometry D.Area world.old.phase) (λ g. Adds (TellsCommand g command) (W.contents writer.old) (W.contents writer.new) verdict)) }
+    ensures geometry { phase_geometry D.Area world.new.phase ≡ phase_geometry D.Area world.old.phase }
     ensures memory { result ≡ Err Stop.NoMemory → Keeps (W.contents writer.old) (W.contents writer.new) }
     ensures asks { result ≡ Err Stop.NoMemory → AsksFor D.Area world.old command }
 {
@@ -80,7 +83,8 @@ fn show_log<D: Stoppable + Drop, W: Write>(
     writer: &mut W,
 ) -> Result<Verdict, Stop>
     ensures done { IfOk result (λ verdict. Performs D.Area world.old (Log node) (W.contents writer.old) (W.contents writer.new) verdict world.new) }
-    ensures tells { IfOk result (λ verdict. Adds (TellsCommand (Log node)) (W.contents writer.old) (W.contents writer.new) verdict) }
+    ensures tells { IfOk result (λ verdict. ForSome (phase_geometry D.Area world.old.phase) (λ g. Adds (TellsCommand g (Log node)) (W.contents writer.old) (W.contents writer.new) verdict)) }
+    ensures geometry { phase_geometry D.Area world.new.phase ≡ phase_geometry D.Area world.old.phase }
     ensures memory { result ≡ Err Stop.NoMemory → Keeps (W.contents writer.old) (W.contents writer.new) }
     ensures asks { result ≡ Err Stop.NoMemory → AsksFor D.Area world.old (Log node) }
 {
@@ -101,7 +105,8 @@ fn show_records<D: Stoppable + Drop, W: Write>(
     writer: &mut W,
 ) -> Result<Verdict, Stop>
     ensures done { IfOk result (λ verdict. Performs D.Area world.old (Inspect node) (W.contents writer.old) (W.contents writer.new) verdict world.new) }
-    ensures tells { IfOk result (λ verdict. Adds (TellsCommand (Inspect node)) (W.contents writer.old) (W.contents writer.new) verdict) }
+    ensures tells { IfOk result (λ verdict. ForSome (phase_geometry D.Area world.old.phase) (λ g. Adds (TellsCommand g (Inspect node)) (W.contents writer.old) (W.contents writer.new) verdict)) }
+    ensures geometry { phase_geometry D.Area world.new.phase ≡ phase_geometry D.Area world.old.phase }
     ensures memory { result ≡ Err Stop.NoMemory → Keeps (W.contents writer.old) (W.contents writer.new) }
     ensures asks { result ≡ Err Stop.NoMemory → AsksFor D.Area world.old (Inspect node) }
 {
@@ -139,7 +144,8 @@ fn show_page<D: Stoppable + Drop, W: Write>(
     writer: &mut W,
 ) -> Result<Verdict, Stop>
     ensures done { IfOk result (λ verdict. Performs D.Area world.old (Show node segment page) (W.contents writer.old) (W.contents writer.new) verdict world.new) }
-    ensures tells { IfOk result (λ verdict. Adds (TellsCommand (Show node segment page)) (W.contents writer.old) (W.contents writer.new) verdict) }
+    ensures tells { IfOk result (λ verdict. ForSome (phase_geometry D.Area world.old.phase) (λ g. Adds (TellsCommand g (Show node segment page)) (W.contents writer.old) (W.contents writer.new) verdict)) }
+    ensures geometry { phase_geometry D.Area world.new.phase ≡ phase_geometry D.Area world.old.phase }
     ensures memory { result ≢ Err Stop.NoMemory }
 {
     match world.page(node, segment, page) {

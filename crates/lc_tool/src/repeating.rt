@@ -1,7 +1,10 @@
 //! What takes several steps of a store.
 ghost use Rattle.std.specs.Prelude.{◌≡◌, IfOk, OnErr};
-ghost use Rattle.lc_model.specs.declared.event.Event.TheVariants.{FlushStep, RecoverStep};
+ghost use Rattle.std.specs.Option.{ForSome};
+ghost use Rattle.lc_model.specs.declared.event.Event.TheVariants.{FlushStep, RecoverStep, Reserve};
+ghost use Rattle.lc_core.specs.Geometries.{phase_geometry};
 ghost use Rattle.lc_tool.specs.Fits.{AsksFor, FollowsAll, FollowsEnd, RefusesAll};
+ghost use Rattle.lc_tool.specs.Tells.{KeepsTo};
 ghost use Rattle.lc_text.specs.declared.command.Command.TheVariants.{End, Recover};
 
 use lc_core::{Event, Reply, World};
@@ -23,6 +26,8 @@ pub(crate) fn end<D: Stoppable + Drop>(
 ) -> Result<Reply, AllocError>
     ensures follows { IfOk result (λ reply. FollowsEnd D.Area world.old node thread reply world.new) }
     ensures memory { OnErr result (AsksFor D.Area world.old (End node thread)) }
+    ensures keeps { IfOk result (λ reply. ForSome (phase_geometry D.Area world.old.phase) (λ g. KeepsTo g (Reserve node thread) reply)) }
+    ensures geometry { phase_geometry D.Area world.new.phase ≡ phase_geometry D.Area world.old.phase }
 {
     let reserved = world.step(alloc, &Event::Reserve { node, thread })?;
     let Reply::Reserved { .. } = reserved else {
@@ -42,6 +47,8 @@ pub(crate) fn flush<D: Stoppable + Drop>(
 ) -> Result<Reply, AllocError>
     ensures follows { IfOk result (λ reply. FollowsAll D.Area world.old (FlushStep node) reply world.new) }
     ensures memory { OnErr result ⊥ }
+    ensures keeps { IfOk result (λ reply. ForSome (phase_geometry D.Area world.old.phase) (λ g. KeepsTo g (FlushStep node) reply)) }
+    ensures geometry { phase_geometry D.Area world.new.phase ≡ phase_geometry D.Area world.old.phase }
 {
     for _ in 0..FLUSH_STEPS {
         match world.step(alloc, &Event::FlushStep { node })? {
@@ -60,6 +67,8 @@ pub(crate) fn recover<D: Stoppable + Drop>(
     ensures follows { IfOk result (λ reply. FollowsAll D.Area world.old RecoverStep reply world.new) }
     ensures refused { IfOk result (λ reply. RefusesAll D.Area world.old reply) }
     ensures memory { OnErr result (AsksFor D.Area world.old Recover) }
+    ensures keeps { IfOk result (λ reply. ForSome (phase_geometry D.Area world.old.phase) (λ g. KeepsTo g RecoverStep reply)) }
+    ensures geometry { phase_geometry D.Area world.new.phase ≡ phase_geometry D.Area world.old.phase }
 {
     for _ in 0..RECOVERY_STEPS {
         match world.step(alloc, &Event::RecoverStep)? {

@@ -1,7 +1,9 @@
 //! Runs a script.
 ghost use Rattle.std.specs.Prelude.{◌≡◌, ◌≢◌, ◌+◌, ℕ, false, IfOk, IfSome, Some, None, take, if◌then◌else◌};
 ghost use Rattle.std.specs.Io.KnownBytes.{Appends};
+ghost use Rattle.std.specs.Option.{ForSome};
 ghost use Rattle.lc_model.specs.declared.refusal.Refusal.TheVariants.{BadGeometry};
+ghost use Rattle.lc_core.specs.Geometries.{phase_geometry};
 ghost use Rattle.lc_tool.specs.Outcome.{LeavesLine, OpensStore, RefusesFirst, RunsLines, RunsRecovered};
 ghost use Rattle.lc_text.specs.Lines.{script_lines};
 ghost use Rattle.lc_tool.specs.Store.{Adds, RefusesLengths, RefusesMerge, RunsStore};
@@ -55,7 +57,7 @@ pub fn run_script<D: Stoppable + Drop, R: Read, W: Write>(
     ensures wrong { IfOk result (λ status. RefusesLengths D.Area geometry areas.items (W.contents writer.old) (W.contents writer.new) status) }
 
     // Any areas.
-    ensures tells { IfOk result (λ status. IfSome (R.remaining reader.old) (λ script. Adds (TellsScript script) (W.contents writer.old) (W.contents writer.new) status)) }
+    ensures tells { IfOk result (λ status. IfSome (R.remaining reader.old) (λ script. Adds (TellsScript geometry script) (W.contents writer.old) (W.contents writer.new) status)) }
     ensures memory { result ≢ Err ToolFault.NoMemory }
 {
     let mut world = match World::new(geometry, areas) {
@@ -78,7 +80,8 @@ fn run_recovered<D: Stoppable + Drop, R: Read, W: Write>(
 ) -> Result<u8, ToolFault>
     ensures runs { IfOk result (λ status. IfSome (R.remaining reader.old) (λ script.
         RunsRecovered D.Area world.old script (W.contents writer.old) (W.contents writer.new) status)) }
-    ensures tells { IfOk result (λ status. IfSome (R.remaining reader.old) (λ script. Adds (TellsRecovered script) (W.contents writer.old) (W.contents writer.new) status)) }
+    ensures tells { IfOk result (λ status. IfSome (R.remaining reader.old) (λ script.
+        ForSome (phase_geometry D.Area world.old.phase) (λ g. Adds (TellsRecovered g script) (W.contents writer.old) (W.contents writer.new) status))) }
     ensures memory { result ≢ Err ToolFault.NoMemory }
 {
     let script = match read_script(alloc, reader) {
@@ -101,6 +104,7 @@ fn open<D: Stoppable + Drop, W: Write>(
     ensures opens { IfOk result (λ status. OpensStore D.Area world.old (W.contents writer.old) (W.contents writer.new) status world.new) }
     ensures refused { IfOk result (λ status. RefusesFirst D.Area world.old (W.contents writer.old) (W.contents writer.new) status) }
     ensures tells { IfOk result (λ status. TellsOpening (W.contents writer.old) (W.contents writer.new) status) }
+    ensures geometry { phase_geometry D.Area world.new.phase ≡ phase_geometry D.Area world.old.phase }
     ensures memory { result ≢ Err ToolFault.NoMemory }
 {
     let Ok(reply) = recover(world, alloc) else {
@@ -159,7 +163,7 @@ fn run_lines<D: Stoppable + Drop, W: Write>(
     writer: &mut W,
 ) -> Result<u8, ToolFault>
     ensures runs { IfOk result (λ status. RunsLines D.Area world.old script.now (W.contents writer.old) (W.contents writer.new) status) }
-    ensures tells { IfOk result (λ status. Adds (TellsLines 1 false (script_lines script.now)) (W.contents writer.old) (W.contents writer.new) status) }
+    ensures tells { IfOk result (λ status. ForSome (phase_geometry D.Area world.old.phase) (λ g. Adds (TellsLines g 1 false (script_lines script.now)) (W.contents writer.old) (W.contents writer.new) status)) }
     ensures memory { result ≢ Err ToolFault.NoMemory }
 {
     let mut rest = script;
@@ -193,7 +197,8 @@ fn run_line<D: Stoppable + Drop, W: Write>(
     writer: &mut W,
 ) -> Result<Outcome, ToolFault>
     ensures leaves { IfOk result (λ outcome. LeavesLine D.Area world.old line.now number (W.contents writer.old) (W.contents writer.new) outcome world.new) }
-    ensures tells { IfOk result (λ outcome. Adds (TellsLine line.now number) (W.contents writer.old) (W.contents writer.new) outcome) }
+    ensures tells { IfOk result (λ outcome. ForSome (phase_geometry D.Area world.old.phase) (λ g. Adds (TellsLine g line.now number) (W.contents writer.old) (W.contents writer.new) outcome)) }
+    ensures geometry { phase_geometry D.Area world.new.phase ≡ phase_geometry D.Area world.old.phase }
     ensures memory { result ≢ Err ToolFault.NoMemory }
 {
     let outcome = do_line(alloc, world, line, number, writer)?;
@@ -212,7 +217,8 @@ fn do_line<D: Stoppable + Drop, W: Write>(
     writer: &mut W,
 ) -> Result<Outcome, ToolFault>
     ensures leaves { IfOk result (λ outcome. LeavesLine D.Area world.old line.now number (W.contents writer.old) (W.contents writer.new) outcome world.new) }
-    ensures tells { IfOk result (λ outcome. Adds (TellsLine line.now number) (W.contents writer.old) (W.contents writer.new) outcome) }
+    ensures tells { IfOk result (λ outcome. ForSome (phase_geometry D.Area world.old.phase) (λ g. Adds (TellsLine g line.now number) (W.contents writer.old) (W.contents writer.new) outcome)) }
+    ensures geometry { phase_geometry D.Area world.new.phase ≡ phase_geometry D.Area world.old.phase }
     ensures memory { result ≢ Err ToolFault.NoMemory }
 {
     let Ok(read) = parse(alloc, line) else {

@@ -88,7 +88,7 @@ pub fn run_store<R: Files + Eprint, I: Read, W: Write>(
 ) -> Result<u8, ToolFault>
 where
     R::File: HeldFile,
-    ensures tells { IfOk result (λ status. IfSome (I.remaining reader.old) (λ script. Adds (TellsScript script) (W.contents writer.old) (W.contents writer.new) status)) }
+    ensures tells { IfOk result (λ status. IfSome (I.remaining reader.old) (λ script. Adds (TellsScript geometry script) (W.contents writer.old) (W.contents writer.new) status)) }
     ensures memory { result ≢ Err ToolFault.NoMemory }
 {
     let folder = StoreFolder::new(alloc, rt, folder);
@@ -106,7 +106,7 @@ fn run_in<R: Files, I: Read, W: Write>(
 ) -> Result<u8, ToolFault>
 where
     R::File: HeldFile,
-    ensures tells { IfOk result (λ status. IfSome (I.remaining reader.old) (λ script. Adds (TellsScript script) (W.contents writer.old) (W.contents writer.new) status)) }
+    ensures tells { IfOk result (λ status. IfSome (I.remaining reader.old) (λ script. Adds (TellsScript geometry script) (W.contents writer.old) (W.contents writer.new) status)) }
     ensures memory { result ≢ Err ToolFault.NoMemory }
 {
     match folder.open(&geometry) {

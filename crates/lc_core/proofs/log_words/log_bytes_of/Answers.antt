@@ -4,6 +4,7 @@ use Rattle.std.specs.Prelude.{is_ok}
 use Rattle.lc_record.specs.declared.geometry.Geometry.{Geometry}
 use Rattle.lc_recover.specs.Recovery.{IsReadFrom}
 use Rattle.lc_core.specs.declared.show_fault.ShowFault.{ShowFault}
+use Rattle.lc_core.proofs.Geometries.{down_nodes}
 use Rattle.lc_core.proofs.LogReads.{down_bytes, down_read, log_length, not_read}
 use Rattle.lc_core.proofs.log_words.log_bytes_of.Goals as goal
 
@@ -46,3 +47,15 @@ returns-clause-bytes g c area there honest =
     c.as_mut_slice.ensures.len
     (omega (arith, c.log_len.ensures, c.in_ok-bytes.ensures.len, ap (λ (geometry : Geometry). geometry.words) c.geometry-geometry.ensures.geometry))
     area there honest
+
+pub returns-then-node-geometry-clause-nodes : goal.returns-then-node-geometry-clause-nodes
+returns-then-node-geometry-clause-nodes g c = down_nodes g.D.Area c.args.recovery.now c.args.node c.geometry-geometry.ensures.lengths
+
+pub returns-in_err-bytes-clause-nodes : goal.returns-in_err-bytes-clause-nodes
+returns-in_err-bytes-clause-nodes g c = down_nodes g.D.Area c.args.recovery.now c.args.node c.geometry-geometry.ensures.lengths
+
+pub returns-in_err-read-clause-nodes : goal.returns-in_err-read-clause-nodes
+returns-in_err-read-clause-nodes g c = down_nodes g.D.Area c.args.recovery.now c.args.node c.geometry-geometry.ensures.lengths
+
+pub returns-clause-nodes : goal.returns-clause-nodes
+returns-clause-nodes g c = down_nodes g.D.Area c.args.recovery.now c.args.node c.geometry-geometry.ensures.lengths

@@ -34,7 +34,7 @@ returns-in_ok-no_memory-in-Err-NoMemory-clause-leaves g c = λ m s x h.
     )
 
 pub returns-in_ok-no_memory-in-Err-NoMemory-clause-tells : goal.returns-in_ok-no_memory-in-Err-NoMemory-clause-tells
-returns-in_ok-no_memory-in-Err-NoMemory-clause-tells g c =
+returns-in_ok-no_memory-in-Err-NoMemory-clause-tells g c = λ h same.
     let shown = c.in_ok-no_memory-in-Err-NoMemory.ensures.shown in
     let want = ap (λ stop. Err stop) c.in-Err-NoMemory.field-0-is in (
       no_memory_text,

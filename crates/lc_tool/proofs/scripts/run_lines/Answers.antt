@@ -1,4 +1,4 @@
-use Rattle.std.proofs.Common.{◌≡◌, ℕ, ◌+◌, ◌||◌, ◌==◌, true, false, List, [], ◌∷◌, length, refl, sym, arith, eqb-true}
+use Rattle.std.proofs.Common.{◌≡◌, ◌∙◌, ℕ, ◌+◌, ◌||◌, ◌==◌, true, false, List, [], ◌∷◌, length, refl, sym, arith, eqb-true}
 use Rattle.lc_text.specs.Lines.{script_lines}
 use Rattle.lc_tool.specs.Script.{Runs}
 use Rattle.lc_tool.specs.Tells.{TellsLines}
@@ -12,7 +12,8 @@ empty_of (x ∷ xs) e = absurd omega (arith, eqb-true (length (x ∷ xs)) 0 (sym
 pub loop-rest-init : goal.loop-rest-init
 loop-rest-init g c = record {
   count = omega arith;
-  told = at_first (TellsLines 1 false (script_lines c.args.script.now)) (g.W.Write.contents c.args.writer.now);
+  geometry = refl;
+  told = λ h same. at_first (TellsLines h 1 false (script_lines c.args.script.now)) (g.W.Write.contents c.args.writer.now);
   runs = λ m first start fits. (first, start, fits, at_first (Runs m first start 1 false (script_lines c.args.script.now)) (g.W.Write.contents c.args.writer.now));
 }
 
@@ -29,11 +30,12 @@ returns-in-Ends-clause-runs g c = λ m first start h.
     before.3 ends.0 ends.2 c.in-Ends.status (rw c.first_line.ensures.lines here)
 
 pub returns-in-Ends-clause-tells : goal.returns-in-Ends-clause-tells
-returns-in-Ends-clause-tells g c =
-    let ends = rw c.in-Ends.is at c.in_ok-was.ensures.tells in
-    let here = tells_here c.loop-rest.number c.loop-rest.refused c.first_line.result.0.now (script_lines c.first_line.result.1.now) ends.0 c.in-Ends.status ends.1 in
-    to_end (TellsLines 1 false (script_lines c.args.script.now)) (g.W.Write.contents c.args.writer.now) (TellsLines c.loop-rest.number c.loop-rest.refused (script_lines c.loop-rest.rest.now))
-    (g.W.Write.contents c.loop-rest.writer) (g.W.Write.contents c.run_line.new.writer) c.loop-rest.invariant.told ends.0 ends.2 c.in-Ends.status (rw c.first_line.ensures.lines here)
+returns-in-Ends-clause-tells g c = λ h same.
+    let told = c.in_ok-was.ensures.tells h (c.loop-rest.invariant.geometry ∙ same) in
+    let ends = rw c.in-Ends.is at told in
+    let here = tells_here h c.loop-rest.number c.loop-rest.refused c.first_line.result.0.now (script_lines c.first_line.result.1.now) ends.0 c.in-Ends.status ends.1 in
+    to_end (TellsLines h 1 false (script_lines c.args.script.now)) (g.W.Write.contents c.args.writer.now) (TellsLines h c.loop-rest.number c.loop-rest.refused (script_lines c.loop-rest.rest.now))
+    (g.W.Write.contents c.loop-rest.writer) (g.W.Write.contents c.run_line.new.writer) (c.loop-rest.invariant.told h same) ends.0 ends.2 c.in-Ends.status (rw c.first_line.ensures.lines here)
 
 pub loop-rest-preserved : goal.loop-rest-preserved
 loop-rest-preserved g c =
@@ -46,11 +48,13 @@ loop-rest-preserved g c =
     let refused = c.loop-rest.refused in
     let was = c.in-Goes.was in record {
       count = omega (arith, c.loop-rest.invariant.count, c.first_line.ensures.shorter);
-      told =
-          let goes = rw c.in-Goes.is at c.in_ok-was.ensures.tells in
-          further (TellsLines 1 false (script_lines c.args.script.now)) held (TellsLines number refused (script_lines c.loop-rest.rest.now)) mid holds c.loop-rest.invariant.told goes.0 goes.2
-          (TellsLines (number + 1) (refused || was) lines)
-          (λ after status run. rw c.first_line.ensures.lines (tells_more number refused line lines goes.0 was after status goes.1 run));
+      geometry = c.run_line.ensures.geometry ∙ c.loop-rest.invariant.geometry;
+      told = λ h same.
+          let told = c.in_ok-was.ensures.tells h (c.loop-rest.invariant.geometry ∙ same) in
+          let goes = rw c.in-Goes.is at told in
+          further (TellsLines h 1 false (script_lines c.args.script.now)) held (TellsLines h number refused (script_lines c.loop-rest.rest.now)) mid holds (c.loop-rest.invariant.told h same) goes.0 goes.2
+          (TellsLines h (number + 1) (refused || was) lines)
+          (λ after status run. rw c.first_line.ensures.lines (tells_more h number refused line lines goes.0 was after status goes.1 run));
       runs = λ m first start h.
           let before = c.loop-rest.invariant.runs m first start h in
           let s = before.0 in
@@ -74,7 +78,7 @@ returns-clause-runs g c = λ m first start h.
     (rw none (runs_end m before.0 before.1 c.loop-rest.number c.loop-rest.refused c.status_of.result c.status_of.ensures))
 
 pub returns-clause-tells : goal.returns-clause-tells
-returns-clause-tells g c =
+returns-clause-tells g c = λ h same.
     let none : c.loop-rest.rest.now ≡ [] = empty_of c.loop-rest.rest.now (c.loop-rest-test.ensures) in
-    over (TellsLines 1 false (script_lines c.args.script.now)) (g.W.Write.contents c.args.writer.now) (TellsLines c.loop-rest.number c.loop-rest.refused (script_lines c.loop-rest.rest.now))
-    (g.W.Write.contents c.loop-rest.writer) c.status_of.result c.loop-rest.invariant.told (rw none (refl, c.status_of.ensures))
+    over (TellsLines h 1 false (script_lines c.args.script.now)) (g.W.Write.contents c.args.writer.now) (TellsLines h c.loop-rest.number c.loop-rest.refused (script_lines c.loop-rest.rest.now))
+    (g.W.Write.contents c.loop-rest.writer) c.status_of.result (c.loop-rest.invariant.told h same) (rw none (refl, c.status_of.ensures))

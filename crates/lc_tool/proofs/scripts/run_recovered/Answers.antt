@@ -17,7 +17,7 @@ returns-in-Err-NoMemory-clause-runs g c =
 pub returns-in-Err-NoMemory-clause-tells : goal.returns-in-Err-NoMemory-clause-tells
 returns-in-Err-NoMemory-clause-tells g c =
     IfOk-weaker c.no_memory.result _ _ (λ status shown.
-    some_all (g.R.Read.remaining c.args.reader.now) _ (λ script. (no_memory_text, inl (refl, shown.0), shown.1))) c.no_memory.ensures.shown
+    some_all (g.R.Read.remaining c.args.reader.now) _ (λ script h same. (no_memory_text, inl (refl, shown.0), shown.1))) c.no_memory.ensures.shown
 
 pub returns-then-len-gt-LONGEST-clause-runs : goal.returns-then-len-gt-LONGEST-clause-runs
 returns-then-len-gt-LONGEST-clause-runs g c =
@@ -29,7 +29,7 @@ returns-then-len-gt-LONGEST-clause-runs g c =
 pub returns-then-len-gt-LONGEST-clause-tells : goal.returns-then-len-gt-LONGEST-clause-tells
 returns-then-len-gt-LONGEST-clause-tells g c =
     IfOk-weaker c.too_long.result _ _ (λ status shown.
-    some_weaker (g.R.Read.remaining c.args.reader.now) _ _ (λ all read.
+    some_weaker (g.R.Read.remaining c.args.reader.now) _ _ (λ all read h same.
     let long = long_script all c.in-Ok.script.items read (omega (arith, c.if-len-gt-LONGEST.true, c.len.ensures)) in
     (too_long_text, inr (rw long (refl, shown.0)), shown.1)) c.in-Ok.ensures) c.too_long.ensures.shown
 
@@ -48,7 +48,7 @@ returns-clause-tells g c =
     let held = g.W.Write.contents c.args.writer.now in
     let holds = g.W.Write.contents c.run_lines.new.writer in
     IfOk-weaker c.run_lines.result _ _ (λ status lines.
-    some_weaker (g.R.Read.remaining c.args.reader.now) _ _ (λ all read.
+    some_weaker (g.R.Read.remaining c.args.reader.now) _ _ (λ all read h same.
     let whole = whole_script all c.in-Ok.script.items read (omega (arith, c.if-len-gt-LONGEST.false, c.len.ensures)) in
-    let run = subst (λ (l : List ℕ). Adds (TellsLines 1 false (script_lines l)) held holds status) (c.deref.ensures.value ∙ whole.1) lines in
+    let run = subst (λ (l : List ℕ). Adds (TellsLines h 1 false (script_lines l)) held holds status) (c.deref.ensures.value ∙ whole.1) (lines h same) in
     (run.0, inr (rw whole.0 run.1), run.2)) c.in-Ok.ensures) c.run_lines.ensures.tells

@@ -1,5 +1,6 @@
-use Rattle.std.proofs.Common.{ℕ, Option, subst}
+use Rattle.std.proofs.Common.{◌∙◌, ℕ, Option, ap, subst}
 use Rattle.std.proofs.lemmas.Result.{IfOk-weaker}
+use Rattle.lc_core.specs.Geometries.{phase_geometry}
 use Rattle.lc_tool.specs.Outcome.{OpensStore, RefusesFirst}
 use Rattle.lc_tool.specs.Tells.{TellsOpening}
 use Rattle.lc_tool.proofs.Beginning.{never_refuses, never_wrong, recovered_runs, recovered_tells, some_all, stopped_refuses, stopped_runs, stopped_tells, wrong_tells}
@@ -22,13 +23,13 @@ returns-in-Some-clause-tells g c =
     let held = g.W.Write.contents c.args.writer.now in
     let holds = g.W.Write.contents c.open.new.writer in
     some_all (g.R.Read.remaining c.args.reader.now) _ (λ script.
-    stopped_tells held holds c.in-Some.status script (subst (λ (o : Option ℕ). TellsOpening held holds o) c.in-Some.is c.in_ok-status.ensures.tells))
+    stopped_tells c.args.geometry held holds c.in-Some.status script (subst (λ (o : Option ℕ). TellsOpening held holds o) c.in-Some.is c.in_ok-status.ensures.tells))
 
 pub returns-in-Err-default-BadGeometry-clause-tells : goal.returns-in-Err-default-BadGeometry-clause-tells
 returns-in-Err-default-BadGeometry-clause-tells g c =
     IfOk-weaker c.bad_geometry.result _ _ (λ status shown.
     some_all (g.R.Read.remaining c.args.reader.now) _ (λ script.
-    wrong_tells (g.W.Write.contents c.args.writer.now) (g.W.Write.contents c.bad_geometry.new.writer) status script _ shown.0 shown.1)) c.bad_geometry.ensures.shown
+    wrong_tells c.args.geometry (g.W.Write.contents c.args.writer.now) (g.W.Write.contents c.bad_geometry.new.writer) status script _ shown.0 shown.1)) c.bad_geometry.ensures.shown
 
 pub returns-clause-runs : goal.returns-clause-runs
 returns-clause-runs g c =
@@ -58,5 +59,5 @@ returns-clause-tells g c =
     let mid = g.W.Write.contents c.open.new.writer in
     let keeps = subst (λ (o : Option ℕ). TellsOpening held mid o) c.in_default.is c.in_ok-status.ensures.tells in
     IfOk-weaker c.run_recovered.result _ _ (λ status tells.
-    some_weaker (g.R.Read.remaining c.args.reader.now) _ _ (λ script.
-    recovered_tells held (g.W.Write.contents c.run_recovered.new.writer) status script mid keeps) tells) c.run_recovered.ensures.tells
+    some_weaker (g.R.Read.remaining c.args.reader.now) _ _ (λ script told.
+    recovered_tells c.args.geometry held (g.W.Write.contents c.run_recovered.new.writer) status script mid keeps (told c.args.geometry (c.open.ensures.geometry ∙ ap (phase_geometry g.D.Area) c.in-Ok.ensures.down))) tells) c.run_recovered.ensures.tells

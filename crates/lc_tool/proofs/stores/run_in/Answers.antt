@@ -6,4 +6,4 @@ pub returns-in-Err-clause-tells : goal.returns-in-Err-clause-tells
 returns-in-Err-clause-tells g c =
     IfOk-weaker c.stopped.result _ _ (λ status shown.
     some_all (g.I.Read.remaining c.args.reader.now) _ (λ script.
-    not_opened_tells (g.W.Write.contents c.args.writer.now) (g.W.Write.contents c.stopped.new.writer) status script shown)) c.stopped.ensures.shown
+    not_opened_tells c.args.geometry (g.W.Write.contents c.args.writer.now) (g.W.Write.contents c.stopped.new.writer) status script shown)) c.stopped.ensures.shown

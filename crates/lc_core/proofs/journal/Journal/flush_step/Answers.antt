@@ -24,7 +24,7 @@ returns-then-is_sealed g c = record {
   words = refl;
   round = refl;
   device = λ some. absurd (some refl);
-  fault = record { failures = refl; kind = refl };
+  fault = record { known = refl; failures = refl; kind = refl };
 }
 
 pub returns-then-front-self : goal.returns-then-front-self
@@ -40,7 +40,7 @@ returns-then-front-self g c = record {
   words = refl;
   round = refl;
   device = λ some. absurd (some refl);
-  fault = record { failures = refl; kind = refl };
+  fault = record { known = refl; failures = refl; kind = refl };
 }
 
 pub returns : goal.returns

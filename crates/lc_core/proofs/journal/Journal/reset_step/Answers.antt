@@ -1,4 +1,7 @@
-use Rattle.std.proofs.Common.{sym, ◌∙◌}
+use Rattle.std.proofs.Common.{sym, subst, ◌∙◌}
+use Rattle.lc_model.specs.declared.reply.Reply.{Reply}
+use Rattle.lc_core.specs.FaultReplies.{TellsFault}
+use Rattle.lc_core.proofs.Faults.{call_tells, own_tells}
 use Rattle.lc_core.proofs.ResetRows.{call_goes, called_on}
 use Rattle.lc_core.proofs.journal.Journal.reset_step.Goals as goal
 
@@ -12,3 +15,14 @@ returns-then-is_sealed-clause-follows g c = λ node m s x sound common h round k
 
 pub returns-then-is_emptied-clause-follows : goal.returns-then-is_emptied-clause-follows
 returns-then-is_emptied-clause-follows g c = λ node. c.end_reset.ensures.follows node _
+
+pub returns-then-is_emptied-clause-fault : goal.returns-then-is_emptied-clause-fault
+returns-then-is_emptied-clause-fault g c = own_tells g.D.Area c.end_reset.result c.args.self.now.log c.end_reset.new.self.log c.end_reset.ensures.answer c.end_reset.ensures.area
+
+pub returns-then-is_sealed-clause-fault : goal.returns-then-is_sealed-clause-fault
+returns-then-is_sealed-clause-fault g c =
+    subst (λ (reply : Reply). TellsFault g.D.Area reply c.args.self.now.log c.reset_call.new.self.log) (sym c.reset_call.ensures.reply)
+    (call_tells g.D.Area c.args.self.now.log c.reset_call.new.self.log c.args.self.now.taken c.requires.up c.reset_call.ensures.device)
+
+pub returns-clause-fault : goal.returns-clause-fault
+returns-clause-fault g c = own_tells g.D.Area c.begin_reset.result c.args.self.now.log c.begin_reset.new.self.log c.begin_reset.ensures.answer c.begin_reset.ensures.area

@@ -11,7 +11,7 @@ use Rattle.lc_core.specs.Node.{SeesStanding}
 use Rattle.lc_core.specs.declared.desk.Desk.{Desk}
 use Rattle.lc_core.specs.declared.slot.Slot.{Slot}
 use Rattle.lc_core.proofs.Tokens.{stands_here, token_arrives, token_comes_back}
-use Rattle.lc_core.proofs.Faults.{token_no_fault}
+use Rattle.lc_core.proofs.Faults.{token_own}
 use Rattle.lc_core.proofs.node.Node.arrive.Goals as goal
 
 unseen : (slot other : Slot) (o : Option Slot) → o ≡ Some slot → o ≡ Some other → slot.token.token ≡ None → IsSome other.token.token → ⊥
@@ -90,7 +90,7 @@ returns-in-Some g c =
           let within : c.args.token.segment - 1 < w.desk.here.slots.len = omega (arith, c.requires.first, c.requires.slot) in
           let at = slice_get_read w.desk.here.slots.items w.desk.here.slots.len (c.args.token.segment - 1) slot w.desk.here.slots.ok.0 within c.index-slot.ensures in
           absurd (unseen slot other _ at got (c.is_empty.ensures.0 c.if-not-is_empty.false) some);
-      answer = token_no_fault c.in-Err.fault c.in-Some.refusal (sym c.token_refusal.ensures ∙ c.in-Some.is);
+      answer = token_own c.in-Err.fault c.in-Some.refusal (sym c.token_refusal.ensures ∙ c.in-Some.is);
       log = refl;
     }
 

@@ -7,7 +7,7 @@ use Rattle.lc_core.proofs.Shortness.{same_len}
 use Rattle.lc_core.proofs.Logged.{count_same}
 use Rattle.lc_core.proofs.Tokens.{token_leaves, token_stays}
 use Rattle.lc_core.proofs.Travels.{segment_known}
-use Rattle.lc_core.proofs.Faults.{token_no_fault}
+use Rattle.lc_core.proofs.Faults.{token_own}
 use Rattle.lc_core.proofs.node.Node.leave.Goals as goal
 
 pub returns-in-Ok : goal.returns-in-Ok
@@ -34,6 +34,6 @@ returns-in-Some g c = record {
       h.journal.acked_is told c.in-Err.fault c.in-Some.refusal (sym c.token_refusal.ensures ∙ c.in-Some.is) c.in-Err.ensures.leaves;
   segment = tt;
   whole = (let stays = c.in-Err.ensures.leaves.0 in record { seats = ap vec_len stays.seats; slots = same_len c.args.self.now.desk.here c.leave.new.self.here stays.slots });
-  answer = token_no_fault c.in-Err.fault c.in-Some.refusal (sym c.token_refusal.ensures ∙ c.in-Some.is);
+  answer = token_own c.in-Err.fault c.in-Some.refusal (sym c.token_refusal.ensures ∙ c.in-Some.is);
   log = refl;
 }

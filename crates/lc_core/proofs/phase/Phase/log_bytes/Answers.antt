@@ -1,6 +1,7 @@
 use Rattle.std.proofs.Common.{◌≡◌, refl, subst}
 use Rattle.lc_recover.specs.Recovery.{Recovering}
 use Rattle.lc_core.proofs.Devices.{up_whole}
+use Rattle.lc_core.proofs.Geometries.{nodes_down, nodes_up}
 use Rattle.lc_core.proofs.LogReads.{down_none, same_down, up_none, up_reads}
 use Rattle.lc_core.proofs.phase.Phase.log_bytes.Goals as goal
 
@@ -30,4 +31,10 @@ returns-in-Down-clause-down g c r is = (
 pub invariant_of-up : goal.invariant_of-up
 invariant_of-up g c =
     let w = up_whole g.D.Area c.in-Up.up c.log_bytes.new.self c.log_bytes.ensures.devices in
-    record { all_segments = w.all_segments; logs = w.logs; lengths = w.lengths; none = w.none; room = w.room }
+    record { all_segments = w.all_segments; logs = w.logs; lengths = w.lengths; pages = w.pages; none = w.none; room = w.room }
+
+pub returns-in-Down-clause-nodes : goal.returns-in-Down-clause-nodes
+returns-in-Down-clause-nodes g c = nodes_down g.D.Area c.args.self.now c.in-Down.recovery c.args.node c.in-Down.is c.log_bytes_of.ensures.nodes
+
+pub returns-in-Up-clause-nodes : goal.returns-in-Up-clause-nodes
+returns-in-Up-clause-nodes g c = nodes_up g.D.Area c.args.self.now c.in-Up.up c.args.node c.in-Up.is

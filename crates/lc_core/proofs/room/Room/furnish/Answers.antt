@@ -8,7 +8,7 @@ use Rattle.lc_recover.proofs.Images.{count-areas}
 use Rattle.lc_core.specs.Devices.{HaveSegments}
 use Rattle.lc_core.specs.Log.{area_of}
 use Rattle.lc_core.specs.declared.pages.Pages.{Pages}
-use Rattle.lc_core.proofs.Devices.{each_have, segments_have}
+use Rattle.lc_core.proofs.Devices.{each_have, rests_have, segments_have}
 use Rattle.lc_core.specs.PageState.{AreAtRest}
 use Rattle.lc_core.proofs.Furnishing.{all_back, each_same, named_none}
 use Rattle.lc_record.proofs.PuttingLemmas.{at_drop}
@@ -110,3 +110,8 @@ pub invariant_of-result-clause-room : goal.invariant_of-result-clause-room
 invariant_of-result-clause-room g c =
     let all = count-areas g.D.Area c.args.recovered.geometry c.args.recovered.areas c.requires.lengths in
     omega (arith, c.with_areas-segments.ensures.room, c.open_logs-areas.ensures.room, all, ap (λ (h : Geometry). h.nodes + h.segments) c.requires.geometry)
+
+pub invariant_of-result-clause-pages : goal.invariant_of-result-clause-pages
+invariant_of-result-clause-pages g c = rests_have g.D.Area c.args.self.geometry c.args.recovered.geometry c.with_areas-segments.result.0.items c.requires.geometry
+    (rests_all g.D.Area c.args.recovered.geometry c.with_areas-segments.result.0.items c.args.self.writes.items c.with_areas-segments.ensures.writes
+    (subst (λ (h : Geometry). AreAtRest h c.args.self.writes.items) (sym c.requires.geometry) c.args.self.rest))

@@ -1,11 +1,15 @@
-use Rattle.std.proofs.Common.{refl}
+use Rattle.std.proofs.Common.{ap, refl}
 use Rattle.std.proofs.lemmas.Result.{IfOk-weaker}
 use Rattle.lc_model.specs.declared.event.Event.TheVariants.{Arrive, Deliver, Trim}
 use Rattle.lc_core.proofs.Asking.{asks_behind}
 use Rattle.lc_core.proofs.Logged.{err_then}
 use Rattle.lc_core.proofs.NodeSteps.{own_of}
 use Rattle.lc_core.proofs.Ordinary.{follows_step, leaving_step, refused_step}
+use Rattle.lc_core.specs.Geometries.{is_delivery}
 use Rattle.lc_core.proofs.Faults.{quiet}
+use Rattle.lc_core.proofs.Geometries.{refuses_delivery, refuses_known}
+use Rattle.lc_core.proofs.OwnReplies.{own_known, own_no_fault}
+use Rattle.lc_core.proofs.Recovers.{IfOk-any}
 use Rattle.lc_core.proofs.Refusing.{on_err}
 use Rattle.lc_core.proofs.running.Running.step.Goals as goal
 
@@ -56,10 +60,30 @@ pub returns-in-Deliver-clause-no_fault : goal.returns-in-Deliver-clause-no_fault
 returns-in-Deliver-clause-no_fault g c = on_err c.deliver.result _ c.deliver.ensures.logs
 
 pub returns-in-Leave-clause-faults : goal.returns-in-Leave-clause-faults
-returns-in-Leave-clause-faults g c = quiet g.D.Area c.args.self.now c.leave.result c.leave.new.self c.leave.ensures.answer c.leave.ensures.logs
+returns-in-Leave-clause-faults g c = quiet g.D.Area c.args.self.now c.leave.result c.leave.new.self (own_no_fault c.leave.result c.leave.ensures.answer) c.leave.ensures.logs
 
 pub returns-in-Arrive-clause-faults : goal.returns-in-Arrive-clause-faults
-returns-in-Arrive-clause-faults g c = quiet g.D.Area c.args.self.now c.arrive.result c.arrive.new.self c.arrive.ensures.answer c.arrive.ensures.logs
+returns-in-Arrive-clause-faults g c = quiet g.D.Area c.args.self.now c.arrive.result c.arrive.new.self (own_no_fault c.arrive.result c.arrive.ensures.answer) c.arrive.ensures.logs
 
 pub returns-in-Trim-clause-faults : goal.returns-in-Trim-clause-faults
-returns-in-Trim-clause-faults g c = quiet g.D.Area c.args.self.now c.trim.result c.trim.new.self c.trim.ensures.answer c.trim.ensures.logs
+returns-in-Trim-clause-faults g c = quiet g.D.Area c.args.self.now c.trim.result c.trim.new.self (own_no_fault c.trim.result c.trim.ensures.answer) c.trim.ensures.logs
+
+pub returns-in-Some-clause-unknown : goal.returns-in-Some-clause-unknown
+returns-in-Some-clause-unknown g c = c.refusal.ensures.unknown c.in-Some.refusal c.in-Some.is
+
+pub returns-in_default-event-clause-unknown : goal.returns-in_default-event-clause-unknown
+returns-in_default-event-clause-unknown g c = IfOk-weaker c.step_at.result _ _
+    (λ reply known. refuses_known c.args.self.now.geometry c.args.event.now reply (c.refusal.ensures.known c.in_default.is) known) c.step_at.ensures.known
+
+pub returns-in-Leave-clause-unknown : goal.returns-in-Leave-clause-unknown
+returns-in-Leave-clause-unknown g c = refuses_known c.args.self.now.geometry c.args.event.now c.leave.result (c.refusal.ensures.known c.in_default.is) (own_known c.leave.result c.leave.ensures.answer)
+
+pub returns-in-Arrive-clause-unknown : goal.returns-in-Arrive-clause-unknown
+returns-in-Arrive-clause-unknown g c = refuses_known c.args.self.now.geometry c.args.event.now c.arrive.result (c.refusal.ensures.known c.in_default.is) (own_known c.arrive.result c.arrive.ensures.answer)
+
+pub returns-in-Trim-clause-unknown : goal.returns-in-Trim-clause-unknown
+returns-in-Trim-clause-unknown g c = refuses_known c.args.self.now.geometry c.args.event.now c.trim.result (c.refusal.ensures.known c.in_default.is) (own_known c.trim.result c.trim.ensures.answer)
+
+pub returns-in-Deliver-clause-unknown : goal.returns-in-Deliver-clause-unknown
+returns-in-Deliver-clause-unknown g c = IfOk-any c.deliver.result
+    (λ reply. refuses_delivery c.args.self.now.geometry c.args.event.now reply (c.refusal.ensures.known c.in_default.is) (ap is_delivery c.in-Deliver.is))

@@ -1,7 +1,7 @@
 use Rattle.std.proofs.Common.{refl}
 use Rattle.std.proofs.lemmas.Result.{IfOk-weaker}
 use Rattle.lc_core.proofs.Logged.{err_then}
-use Rattle.lc_core.proofs.NodeSteps.{err_there, faults_there, follows_there, logs_there, memory_there, of_there, up_there, whole_there}
+use Rattle.lc_core.proofs.NodeSteps.{err_there, faults_there, follows_there, known_there, logs_there, memory_there, of_there, up_there, whole_there}
 use Rattle.lc_core.proofs.running.Running.step_at.Goals as goal
 
 pub step-requires-clause-own : goal.step-requires-clause-own
@@ -38,3 +38,6 @@ pub returns-clause-no_fault : goal.returns-clause-no_fault
 returns-clause-no_fault g c = err_then c.step.result
     (logs_there g.D.Area c.args.self.now c.args.event.now c.requires.own c.requires.known c.requires.running c.in-Some.node c.in-Some.ensures c.index_mut.result.now c.index_mut.ensures.value c.step.result c.step.new.self c.step.ensures)
     (λ same. record { geometry = refl; logs = same })
+
+pub returns-clause-known : goal.returns-clause-known
+returns-clause-known g c = known_there g.D.Area c.args.self.now c.args.event.now c.requires.own c.requires.known c.requires.running c.in-Some.node c.in-Some.ensures c.index_mut.result.now c.index_mut.ensures.value c.step.result c.step.new.self c.step.ensures

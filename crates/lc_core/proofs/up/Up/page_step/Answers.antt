@@ -1,26 +1,15 @@
-use Rattle.std.proofs.Common.{◌*◌, ◌-◌, ◌<◌, refl, arith}
+use Rattle.std.proofs.Common.{◌*◌, ◌-◌, ◌<◌, refl, sym, ◌∙◌, arith}
 use Rattle.std.proofs.lemmas.Option.{slice_get_read}
-use Rattle.lc_model.specs.declared.refusal.Refusal.TheVariants.{Unknown}
-use Rattle.lc_model.specs.declared.reply.Reply.TheVariants.{Refused}
+use Rattle.lc_model.specs.declared.event.Event.TheVariants.{PageStep}
 use Rattle.lc_core.proofs.Devices.{up_whole}
+use Rattle.lc_core.proofs.Geometries.{refuses_known}
 use Rattle.lc_core.proofs.Paged.{page_known}
-use Rattle.lc_core.proofs.UpPages.{lengths_set, page_counts, page_follows_up, page_refused_up, page_unknown, same_devices}
+use Rattle.lc_core.proofs.UpPages.{lengths_set, page_counts, page_follows_up, page_refused_up, pages_set, same_devices}
 use Rattle.lc_core.proofs.up.Up.page_step.Goals as goal
 
 pub returns-in-Some-clause-follows : goal.returns-in-Some-clause-follows
 returns-in-Some-clause-follows g c =
     page_refused_up g.D.Area c.args.self.now _ refl refl c.args.node c.args.segment c.args.page c.refusal.result c.in-Some.refusal c.refusal.ensures.refused c.in-Some.is (c.refusal.ensures.answer c.in-Some.refusal c.in-Some.is)
-
-pub returns-then-page-len-clause-follows : goal.returns-then-page-len-clause-follows
-returns-then-page-len-clause-follows g c =
-    let w = c.args.self.now in
-    let segments = w.segments in
-    let named = page_known w.running.geometry c.args.node c.args.segment c.args.page (c.refusal.ensures.known c.in_default.is) in
-    let within : c.args.segment - 1 < segments.len = omega (arith, named.0, named.1, w.all_segments) in
-    let old = c.index.result.now in
-    let at = slice_get_read segments.items segments.len (c.args.segment - 1) old segments.ok.0 within c.index.ensures in
-    page_unknown g.D.Area w _ c.args.node c.args.segment (c.args.segment - 1) c.args.page (Refused Unknown) old (omega (arith, named.0)) at (omega (arith, c.if-page-len.true, c.len.ensures, old.writes.ok.0)) c.refusal.result
-    c.refusal.ensures.refused c.in_default.is
 
 pub invariant_of-self-2 : goal.invariant_of-self-2
 invariant_of-self-2 g c =
@@ -35,6 +24,8 @@ invariant_of-self-2 g c =
       all_segments = whole.all_segments;
       logs = whole.logs;
       lengths = lengths_set g.D.Area (2 * 272 * c.page_step.new.self.geometry.pages) segments.items (c.args.segment - 1) old c.page_step.new.pages at c.page_step.ensures.device.same_length whole.lengths;
+      pages = pages_set g.D.Area c.page_step.new.self.geometry.pages segments.items (c.args.segment - 1) old c.page_step.new.pages at
+          (sym c.page_step.new.pages.writes.ok.0 ∙ c.page_step.ensures.pages ∙ old.writes.ok.0) whole.pages;
       none = whole.none;
       room = whole.room;
     }
@@ -59,3 +50,23 @@ returns-clause-faults g c =
     let old = c.index_mut-pages.result.now in
     let at = slice_get_read segments.items segments.len (c.args.segment - 1) old segments.ok.0 within c.index_mut-pages.ensures.value in
     page_counts g.D.Area w.running c.page_step.new.self segments.items (c.args.segment - 1) c.page_step.result old c.page_step.new.pages at c.page_step.ensures.logs c.page_step.ensures.device
+
+pub page_step-requires-clause-page : goal.page_step-requires-clause-page
+page_step-requires-clause-page g c =
+    let w = c.args.self.now in
+    let segments = w.segments in
+    let named = page_known w.running.geometry c.args.node c.args.segment c.args.page (c.refusal.ensures.known c.in_default.is) in
+    let within : c.args.segment - 1 < segments.len = omega (arith, named.0, named.1, w.all_segments) in
+    let old = c.index_mut-pages.result.now in
+    let at = slice_get_read segments.items segments.len (c.args.segment - 1) old segments.ok.0 within c.index_mut-pages.ensures.value in
+    let count = w.pages (c.args.segment - 1) old at in
+    omega (arith, named.2, count, old.writes.ok.0)
+
+pub returns-clause-geometry : goal.returns-clause-geometry
+returns-clause-geometry g c = c.page_step.ensures.logs.geometry
+
+pub returns-in-Some-clause-unknown : goal.returns-in-Some-clause-unknown
+returns-in-Some-clause-unknown g c = c.refusal.ensures.unknown c.in-Some.refusal c.in-Some.is
+
+pub returns-clause-unknown : goal.returns-clause-unknown
+returns-clause-unknown g c = refuses_known c.args.self.now.running.geometry (PageStep c.args.node c.args.segment c.args.page) c.page_step.result (c.refusal.ensures.known c.in_default.is) c.page_step.ensures.known

@@ -33,7 +33,10 @@ returns-clause-no_fault g c = err_then c.step.result c.step.ensures.no_fault (up
 pub invariant_of-self : goal.invariant_of-self
 invariant_of-self g c =
     let w = up_whole g.D.Area c.args.self.now c.step.new.self (steps_devices g.D.Area c.args.self.now.running c.step.new.self c.step.result c.step.ensures.faults c.step.ensures.no_fault) in
-    record { all_segments = w.all_segments; logs = w.logs; lengths = w.lengths; none = w.none; room = w.room }
+    record { all_segments = w.all_segments; logs = w.logs; lengths = w.lengths; pages = w.pages; none = w.none; room = w.room }
 
 pub step-requires : goal.step-requires
 step-requires g c = record { plain = plain_of c.args.event.now c.requires.up c.in_default.not-PageStep }
+
+pub returns-clause-geometry : goal.returns-clause-geometry
+returns-clause-geometry g c = (steps_devices g.D.Area c.args.self.now.running c.step.new.self c.step.result c.step.ensures.faults c.step.ensures.no_fault).geometry

@@ -17,6 +17,7 @@ use Rattle.lc_model.specs.declared.reply.Reply.TheVariants.{Recovered, Refused}
 use Rattle.lc_model.specs.declared.refusal.Refusal.TheVariants.{OutOfTurn}
 use Rattle.lc_core.specs.Faults.{CountsPhase}
 use Rattle.lc_core.proofs.Failures.{StepCalls, down_failures, no_faults, phase_counts, risen_counts}
+use Rattle.lc_core.proofs.Geometries.{down_geometry, replies_known, risen_geometry}
 use Rattle.lc_core.proofs.Recoveries.{FollowsPhase, StepLeaves, comes_up, down_same, not_down, down_follows, down_wants, same_still}
 use Rattle.lc_core.specs.Recovers.{RecoversDown}
 use Rattle.lc_core.proofs.Recovers.{IfOk-any, StepSays, down_asks, down_recovers, risen_recovers, up_refuses}
@@ -224,3 +225,20 @@ returns-in-Err-clause-at_once g c =
 
 pub returns-clause-at_once : goal.returns-clause-at_once
 returns-clause-at_once g c = down_asks g.D.Area c.args.self.now.phase c.in-Down.recovery c.in-Down.is Recovered _
+
+pub returns-then-not-is_last-clause-geometry : goal.returns-then-not-is_last-clause-geometry
+returns-then-not-is_last-clause-geometry g c = down_geometry g.D.Area c.args.self.now.phase c.in-Down.recovery c.step.new.self c.in-Down.is c.step.ensures.geometry
+
+pub returns-then-not-is_last-clause-unknown : goal.returns-then-not-is_last-clause-unknown
+returns-then-not-is_last-clause-unknown g c = replies_known c.step.result c.reply_to.result c.reply_to.ensures
+
+pub returns-in-Err-clause-geometry : goal.returns-in-Err-clause-geometry
+returns-in-Err-clause-geometry g c = down_geometry g.D.Area c.args.self.now.phase c.in-Down.recovery c.step-2.new.self c.in-Down.is c.step-2.ensures.geometry
+
+pub returns-in-Err-clause-unknown : goal.returns-in-Err-clause-unknown
+returns-in-Err-clause-unknown g c = replies_known c.step-2.result c.stopped.result (replies-last g c)
+
+pub returns-clause-geometry : goal.returns-clause-geometry
+returns-clause-geometry g c =
+    let up = c.risen.ensures c.step-2.new.self c.replace.ensures.value in
+    risen_geometry g.D.Area c.args.self.now.phase c.risen.result c.in-Down.recovery c.step-2.new.self up.0 c.in-Down.is c.step-2.ensures.geometry up.1 up.2

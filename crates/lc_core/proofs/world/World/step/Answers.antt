@@ -1,11 +1,12 @@
 use Rattle.std.proofs.lemmas.Result.{IfOk-weaker}
-use Rattle.std.proofs.Common.{sym, ap, subst, ◌∙◌}
+use Rattle.std.proofs.Common.{refl, sym, ap, subst, ◌∙◌}
 use Rattle.lc_model.specs.declared.event.Event.{Event}
 use Rattle.lc_model.specs.declared.event.Event.TheVariants.{Stop}
 use Rattle.lc_core.specs.World.{AsksIn, Leads}
 use Rattle.lc_core.specs.Faults.{CountsPhase, phase_failures}
 use Rattle.lc_core.specs.declared.phase.Phase.{Phase}
 use Rattle.lc_core.proofs.Asking.{asks_world}
+use Rattle.lc_core.proofs.Geometries.{down_outside, recovers_outside, stops_outside, up_geometry, up_outside}
 use Rattle.lc_core.proofs.Logged.{err_then}
 use Rattle.lc_core.proofs.Recovers.{IfOk-any, down_refuses, stop_asks, up_asks}
 use Rattle.lc_core.specs.declared.phase.Phase.TheVariants.{Up}
@@ -61,3 +62,20 @@ returns-in-Stop-clause-at_once g c = stop_asks g.D.Area c.args.self.now.phase c.
 
 pub returns-in-Stop-clause-stops : goal.returns-in-Stop-clause-stops
 returns-in-Stop-clause-stops g c = λ choices is. (c.stop.ensures.answer, c.stop.ensures.stops)
+
+pub returns-in-RecoverStep-clause-unknown : goal.returns-in-RecoverStep-clause-unknown
+returns-in-RecoverStep-clause-unknown g c = IfOk-weaker c.recover_step.result _ _
+    (λ reply known. recovers_outside g.D.Area c.args.self.now.phase c.args.event.now reply c.in-RecoverStep.is known) c.recover_step.ensures.unknown
+
+pub returns-in-Stop-clause-unknown : goal.returns-in-Stop-clause-unknown
+returns-in-Stop-clause-unknown g c = stops_outside g.D.Area c.args.self.now.phase c.args.event.now c.in-Stop.choices c.stop.result c.in-Stop.is c.stop.ensures.answer
+
+pub returns-in-Up-clause-geometry : goal.returns-in-Up-clause-geometry
+returns-in-Up-clause-geometry g c = up_geometry g.D.Area c.args.self.now.phase c.in-Up.up c.step.new.self c.in-Up.is c.step.ensures.geometry
+
+pub returns-in-Up-clause-unknown : goal.returns-in-Up-clause-unknown
+returns-in-Up-clause-unknown g c = IfOk-weaker c.step.result _ _
+    (λ reply refuses. up_outside g.D.Area c.args.self.now.phase c.in-Up.up c.args.event.now reply c.in-Up.is refuses) c.step.ensures.unknown
+
+pub returns-in_default-phase-clause-unknown : goal.returns-in_default-phase-clause-unknown
+returns-in_default-phase-clause-unknown g c = down_outside g.D.Area c.args.self.now.phase c.args.event.now _ c.in_default-phase.not-Up refl

@@ -1,4 +1,5 @@
 use Rattle.std.proofs.Common.{subst}
+use Rattle.lc_core.proofs.Geometries.{stops_geometry}
 use Rattle.lc_core.proofs.Stopped.{stop_counts, stop_leads}
 use Rattle.lc_core.specs.Stops.{StopsAll}
 use Rattle.lc_core.specs.declared.phase.Phase.{Phase}
@@ -14,3 +15,6 @@ returns-clause-follows g c = λ m s x h. stop_leads g.D.Area m s x c.args.choice
 
 pub returns-clause-counts : goal.returns-clause-counts
 returns-clause-counts g c = stop_counts g.D.Area c.args.self.now.phase c.stopped.result (stops g c)
+
+pub returns-clause-geometry : goal.returns-clause-geometry
+returns-clause-geometry g c = stops_geometry g.D.Area c.args.self.now.phase c.stopped.result (stops g c)

@@ -1,0 +1,35 @@
+-- The geometry of a store, and what it refuses as unknown.
+use Rattle.std.specs.Prelude.{◌≡◌, ◌≢◌, Bool, true, false, Option, None, Some}
+use Rattle.lc_disk.specs.declared.area.Area.{Ghosts}
+use Rattle.lc_record.specs.declared.geometry.Geometry.{Geometry}
+use Rattle.lc_model.specs.Refusals.{is_known}
+use Rattle.lc_model.specs.declared.event.Event.{Event}
+use Rattle.lc_model.specs.declared.event.Event.TheVariants.{Deliver}
+use Rattle.lc_model.specs.declared.refusal.Refusal.TheVariants.{Unknown}
+use Rattle.lc_model.specs.declared.reply.Reply.{Reply}
+use Rattle.lc_model.specs.declared.reply.Reply.TheVariants.{Refused}
+use Rattle.lc_core.specs.declared.phase.Phase.{Phase}
+use Rattle.lc_core.specs.declared.phase.Phase.TheVariants.{Down, Up, Taken}
+
+abbrev pub is_delivery : Event → Bool
+is_delivery (Deliver sender number segment to) = true
+is_delivery event = false
+
+-- what names something outside of the geometry is refused as unknown, and nothing else is, but for a delivery, of which the
+-- sender may not have the record
+pub record RefusesUnknown (g : Geometry) (event : Event) (reply : Reply) : Type 0 where
+  pub outside : is_known g event ≡ false → reply ≡ Refused Unknown
+  pub inside : is_known g event ≡ true → is_delivery event ≡ false → reply ≢ Refused Unknown
+
+module _ {D : Type 0} (a : Ghosts D) where
+  -- how many there are of each thing
+  abbrev pub phase_geometry : Phase D a → Option Geometry
+  phase_geometry (Down recovery) = Some recovery.geometry
+  phase_geometry (Up up) = Some up.running.geometry
+  phase_geometry Taken = None
+
+  -- a store that is down refuses nothing as unknown
+  abbrev pub RefusesOutside : Phase D a → Event → Reply → Type 0
+  RefusesOutside (Up up) event reply = RefusesUnknown up.running.geometry event reply
+  RefusesOutside (Down recovery) event reply = reply ≢ Refused Unknown
+  RefusesOutside Taken event reply = reply ≢ Refused Unknown

@@ -1,0 +1,122 @@
+-- What a store prints keeps to its geometry.
+use Rattle.std.proofs.Common.{◌≡◌, ◌≢◌, ◌⊎◌, ◌∙◌, ℕ, Bool, true, false, not, ◌&&◌, List, Option, Some, None, refl, sym, ap, subst, inl, inr, true≢false}
+use Rattle.std.specs.Option.{ForSome}
+use Rattle.std.specs.Prelude.{Result, Ok, Err, IfOk, MatchBool, is_some, if◌then◌else◌}
+use Rattle.lc_disk.specs.declared.area.Area.{Ghosts}
+use Rattle.lc_record.specs.declared.geometry.Geometry.{Geometry}
+use Rattle.lc_model.specs.Refusals.{Named, are_known, is_node, is_page, is_segment, named}
+use Rattle.lc_model.specs.declared.event.Event.{Event}
+use Rattle.lc_model.specs.declared.refusal.Refusal.{Refusal}
+use Rattle.lc_model.specs.declared.refusal.Refusal.TheVariants.{DeviceFault, Down as IsDown, Unknown}
+use Rattle.lc_model.specs.declared.reply.Reply.{Reply}
+use Rattle.lc_core.specs.Geometries.{RefusesOutside, phase_geometry}
+use Rattle.lc_core.specs.LogWords.{ReadsLog, ReadsNone, log_area}
+use Rattle.lc_core.specs.Places.{same_some}
+use Rattle.lc_core.specs.Recovers.{RefusesAtOnce}
+use Rattle.lc_core.specs.Showing.{page_refusal}
+use Rattle.lc_core.specs.declared.phase.Phase.{Phase}
+use Rattle.lc_core.specs.declared.phase.Phase.TheVariants.{Down, Up, Taken}
+use Rattle.lc_core.specs.declared.show_fault.ShowFault.{ShowFault}
+use Rattle.lc_core.specs.declared.show_fault.ShowFault.TheVariants.{Unknown as IsUnknown, DeviceFault as HasFailed, NoMemory}
+use Rattle.lc_text.specs.Text.{page_text, refusal_text}
+use Rattle.lc_tool.specs.Shown.{refusal_to}
+use Rattle.lc_tool.specs.Tells.{KeepsTo, TellsLog, TellsPage, TellsRefusal, TellsShown}
+use Rattle.lc_tool.specs.Verdict.{verdict_on}
+use Rattle.lc_tool.specs.declared.verdict.Verdict.{Verdict}
+use Rattle.lc_tool.specs.declared.verdict.Verdict.TheVariants.{Done}
+
+-- what names something is for a store that is up
+outside_names : (g : Geometry) (o : Option Named) → are_known g o ≡ false → is_some o ≡ true
+outside_names g None out = absurd (true≢false out)
+outside_names g (Some n) out = refl
+
+module _ {D : Type 0} (a : Ghosts D) where
+  -- a step of a store of this geometry
+  pub step_keeps : (old new : Phase D a) (event : Event) (reply : Reply) → RefusesOutside a old event reply → RefusesAtOnce a old event reply new → (g : Geometry) → phase_geometry a old ≡ Some g
+      → KeepsTo g event reply
+  step_keeps (Up up) new event reply outside at_once g is = subst (λ (h : Geometry). KeepsTo h event reply) (same_some up.running.geometry g is)
+      (record { outside = λ out. inl (outside.outside out); inside = outside.inside })
+  step_keeps (Down r) new event reply outside at_once g is = record {
+    outside = λ out. inr (at_once IsDown (ap (λ (b : Bool). if b then Some IsDown else None) (outside_names g (named event) out))).0;
+    inside = λ within other. outside;
+  }
+  step_keeps Taken new event reply outside at_once g is = absurd cc
+
+  pub steps_keep : {E : Type 0} (old new : Phase D a) (event : Event) (result : Result Reply E) → IfOk result (λ reply. RefusesOutside a old event reply)
+      → IfOk result (λ reply. RefusesAtOnce a old event reply new) → (first : Phase D a) → phase_geometry a old ≡ phase_geometry a first
+      → IfOk result (λ reply. ForSome (phase_geometry a first) (λ g. KeepsTo g event reply))
+  steps_keep old new event (Ok reply) outside at_once first same = λ g is. step_keeps old new event reply outside at_once g (same ∙ is)
+  steps_keep old new event (Err e) outside at_once first same = tt
+
+  -- The log of a node
+
+  none_some : {A : Type 0} (o : Option A) → is_some o ≡ false → o ≡ None
+  none_some None none = refl
+  none_some (Some x) none = absurd (true≢false none)
+
+  some_some : {A : Type 0} (o : Option A) → is_some o ≡ true → (x : A) × (o ≡ Some x)
+  some_some None is = absurd (true≢false (sym is))
+  some_some (Some x) is = (x, refl)
+
+  -- be it read or not
+  pub log_geometry : {X Y : Type 0} (node : ℕ) (old new : Phase D a) (failed : Bool) → (log_area a old node ≡ None → X × ReadsNone a node old new)
+      → ((area : D) → log_area a old node ≡ Some area → Y × ReadsLog a node area old new failed) → phase_geometry a new ≡ phase_geometry a old
+  log_geometry node old new failed none some = elim (log_area a old node) as (λ (o : Option D). log_area a old node ≡ o → phase_geometry a new ≡ phase_geometry a old) [
+    | None ↦ λ is. (none is).1.same.geometry
+    | Some area ↦ λ is. (some area is).1.same.geometry
+  ] refl
+
+  module _ {A : Type 0} (phase : Phase D a) (node : ℕ) (text_of : A → List ℕ) (g : Geometry) (nodes : is_some (log_area a phase node) ≡ is_node g node) where
+    abbrev TellsAs : Bool → List ℕ → Verdict → Type 0
+    TellsAs known text verdict = MatchBool known (TellsShown text_of text verdict ⊎ TellsRefusal DeviceFault text verdict) (TellsRefusal Unknown text verdict)
+
+    -- what was read
+    pub log_shown : {W E : Type 0} (result : Result W E) (fault : E) → (log_area a phase node ≡ None → result ≡ Err fault) → (words : W) → result ≡ Ok words → (shown : A) → TellsLog g node text_of (text_of shown) Done
+    log_shown result fault unknown words ok shown = elim (is_node g node) as (λ (b : Bool). is_node g node ≡ b → TellsAs b (text_of shown) Done) [
+      | true ↦ λ is. inl (shown, refl, refl)
+      | false ↦ λ out. absurd (let no : Ok words ≡ Err fault = sym ok ∙ unknown (none_some (log_area a phase node) (nodes ∙ out)) in cc)
+    ] refl
+
+    -- why it was not
+    read_fault : (fault : ShowFault) → (fault ≡ IsUnknown → ⊥) → (refusal : Refusal) → refusal_to fault ≡ Some refusal → (verdict : Verdict) → verdict ≡ verdict_on refusal
+        → TellsRefusal DeviceFault (refusal_text refusal) verdict
+    read_fault IsUnknown other refusal so verdict by = absurd (other refl)
+    read_fault HasFailed other refusal so verdict by = (let same : DeviceFault ≡ refusal = same_some DeviceFault refusal so in (ap refusal_text (sym same), by ∙ ap verdict_on (sym same)))
+    read_fault NoMemory other refusal so verdict by = absurd cc
+
+    pub log_refused : {W : Type 0} (result : Result W ShowFault) (fault : ShowFault) → (log_area a phase node ≡ None → result ≡ Err IsUnknown) → ((area : D) → log_area a phase node ≡ Some area → result ≢ Err IsUnknown)
+        → result ≡ Err fault → (refusal : Refusal) → refusal_to fault ≡ Some refusal → (verdict : Verdict) → verdict ≡ verdict_on refusal → TellsLog g node text_of (refusal_text refusal) verdict
+    log_refused result fault unknown known err refusal is verdict by = elim (is_node g node) as (λ (b : Bool). is_node g node ≡ b → TellsAs b (refusal_text refusal) verdict) [
+      | true ↦ λ inside.
+          let area = some_some (log_area a phase node) (nodes ∙ inside) in
+          inr (read_fault fault (λ bad. known area.0 area.1 (err ∙ ap (λ (f : ShowFault). Err f) bad)) refusal is verdict by)
+      | false ↦ λ out.
+          let both : Err fault ≡ Err IsUnknown = sym err ∙ unknown (none_some (log_area a phase node) (nodes ∙ out)) in
+          let none : fault ≡ IsUnknown = cc in
+          let so : Unknown ≡ refusal = same_some Unknown refusal (sym (ap refusal_to none) ∙ is) in
+          (ap refusal_text (sym so), by ∙ ap verdict_on (sym so))
+    ] refl
+
+  -- A page
+
+  pub page_shown : (phase : Phase D a) (node segment page : ℕ) (bytes : List ℕ) → page_refusal a phase node segment page ≡ None → (g : Geometry) → phase_geometry a phase ≡ Some g
+      → TellsPage g node segment page (page_text bytes) Done
+  page_shown (Up up) node segment page bytes none g is = subst (λ (h : Geometry). TellsPage h node segment page (page_text bytes) Done) (same_some up.running.geometry g is)
+      (inl (inside (is_node up.running.geometry node && is_segment up.running.geometry segment && is_page up.running.geometry page) none))
+    where
+      inside : (b : Bool) → (if b then None else Some Unknown) ≡ None → MatchBool b (TellsShown page_text (page_text bytes) Done) (TellsRefusal Unknown (page_text bytes) Done)
+      inside true none = (bytes, refl, refl)
+      inside false none = absurd cc
+  page_shown (Down r) node segment page bytes none g is = absurd cc
+  page_shown Taken node segment page bytes none g is = absurd cc
+
+  pub page_refused : (phase : Phase D a) (node segment page : ℕ) (refusal : Refusal) (verdict : Verdict) → page_refusal a phase node segment page ≡ Some refusal → verdict ≡ verdict_on refusal
+      → (g : Geometry) → phase_geometry a phase ≡ Some g → TellsPage g node segment page (refusal_text refusal) verdict
+  page_refused (Up up) node segment page refusal verdict some by g is = subst (λ (h : Geometry). TellsPage h node segment page (refusal_text refusal) verdict) (same_some up.running.geometry g is)
+      (inl (outside (is_node up.running.geometry node && is_segment up.running.geometry segment && is_page up.running.geometry page) some))
+    where
+      outside : (b : Bool) → (if b then None else Some Unknown) ≡ Some refusal → MatchBool b (TellsShown page_text (refusal_text refusal) verdict) (TellsRefusal Unknown (refusal_text refusal) verdict)
+      outside true some = absurd cc
+      outside false some = (let same : Unknown ≡ refusal = same_some Unknown refusal some in (ap refusal_text (sym same), by ∙ ap verdict_on (sym same)))
+  page_refused (Down r) node segment page refusal verdict some by g is = (let same : IsDown ≡ refusal = same_some IsDown refusal some in inr (ap refusal_text (sym same), by ∙ ap verdict_on (sym same)))
+  page_refused Taken node segment page refusal verdict some by g is = absurd cc
