@@ -106,6 +106,7 @@ fn open<D: Stoppable + Drop, W: Write>(
     ensures tells { IfOk result (λ status. TellsOpening (W.contents writer.old) (W.contents writer.new) status) }
     ensures geometry { phase_geometry D.Area world.new.phase ≡ phase_geometry D.Area world.old.phase }
     ensures memory { result ≢ Err ToolFault.NoMemory }
+    ensures reads { result ≢ Err ToolFault.Read }
 {
     let Ok(reply) = recover(world, alloc) else {
         return Ok(Some(no_memory(writer)?));
@@ -144,7 +145,8 @@ fn printed<W: Write>(writer: &mut W, reply: &Reply, status: u8) -> Result<u8, To
 
 // The bytes of the script, and one more where there are too many.
 fn read_script<R: Read>(alloc: Global, reader: &mut R) -> Result<Vec<u8>, ToolFault>
-    ensures { IfOk result (λ script. IfSome (R.remaining reader.old) (λ all. script.items ≡ take (LONGEST + 1) all)) }
+    ensures script { IfOk result (λ script. IfSome (R.remaining reader.old) (λ all. script.items ≡ take (LONGEST + 1) all)) }
+    ensures writes { result ≢ Err ToolFault.Write }
 {
     let mut script = Vec::new(alloc);
     let mut source = Source::new(reader).take(LONGEST as u64 + 1);
@@ -165,6 +167,7 @@ fn run_lines<D: Stoppable + Drop, W: Write>(
     ensures runs { IfOk result (λ status. RunsLines D.Area world.old script.now (W.contents writer.old) (W.contents writer.new) status) }
     ensures tells { IfOk result (λ status. ForSome (phase_geometry D.Area world.old.phase) (λ g. Adds (TellsLines g 1 false (script_lines script.now)) (W.contents writer.old) (W.contents writer.new) status)) }
     ensures memory { result ≢ Err ToolFault.NoMemory }
+    ensures reads { result ≢ Err ToolFault.Read }
 {
     let mut rest = script;
     let mut number = 1;
@@ -200,6 +203,7 @@ fn run_line<D: Stoppable + Drop, W: Write>(
     ensures tells { IfOk result (λ outcome. ForSome (phase_geometry D.Area world.old.phase) (λ g. Adds (TellsLine g line.now number) (W.contents writer.old) (W.contents writer.new) outcome)) }
     ensures geometry { phase_geometry D.Area world.new.phase ≡ phase_geometry D.Area world.old.phase }
     ensures memory { result ≢ Err ToolFault.NoMemory }
+    ensures reads { result ≢ Err ToolFault.Read }
 {
     let outcome = do_line(alloc, world, line, number, writer)?;
     match writer.flush() {
@@ -220,6 +224,7 @@ fn do_line<D: Stoppable + Drop, W: Write>(
     ensures tells { IfOk result (λ outcome. ForSome (phase_geometry D.Area world.old.phase) (λ g. Adds (TellsLine g line.now number) (W.contents writer.old) (W.contents writer.new) outcome)) }
     ensures geometry { phase_geometry D.Area world.new.phase ≡ phase_geometry D.Area world.old.phase }
     ensures memory { result ≢ Err ToolFault.NoMemory }
+    ensures reads { result ≢ Err ToolFault.Read }
 {
     let Ok(read) = parse(alloc, line) else {
         return Ok(Outcome::Ends(no_memory(writer)?));
@@ -256,6 +261,7 @@ pub(crate) fn no_memory<W: Write>(writer: &mut W) -> Result<u8, ToolFault>
 fn too_long<W: Write>(writer: &mut W) -> Result<u8, ToolFault>
     ensures shown { IfOk result (λ status. (status ≡ 2) × Appends (W.contents writer.old) (W.contents writer.new) too_long_text) }
     ensures memory { result ≢ Err ToolFault.NoMemory }
+    ensures reads { result ≢ Err ToolFault.Read }
 {
     match write_too_long(writer) {
         Ok(()) => Ok(NOT_UNDERSTOOD),

@@ -24,14 +24,14 @@ returns-then-len-gt-LONGEST-clause-runs g c =
     IfOk-weaker c.too_long.result _ _ (λ status shown.
     some_weaker (g.R.Read.remaining c.args.reader.now) _ _ (λ all read m s x fits.
     let long = long_script all c.in-Ok.script.items read (omega (arith, c.if-len-gt-LONGEST.true, c.len.ensures)) in
-    (too_long_text, inr (rw long (refl, shown.0)), shown.1)) c.in-Ok.ensures) c.too_long.ensures.shown
+    (too_long_text, inr (rw long (refl, shown.0)), shown.1)) c.in-Ok.ensures.script) c.too_long.ensures.shown
 
 pub returns-then-len-gt-LONGEST-clause-tells : goal.returns-then-len-gt-LONGEST-clause-tells
 returns-then-len-gt-LONGEST-clause-tells g c =
     IfOk-weaker c.too_long.result _ _ (λ status shown.
     some_weaker (g.R.Read.remaining c.args.reader.now) _ _ (λ all read h same.
     let long = long_script all c.in-Ok.script.items read (omega (arith, c.if-len-gt-LONGEST.true, c.len.ensures)) in
-    (too_long_text, inr (rw long (refl, shown.0)), shown.1)) c.in-Ok.ensures) c.too_long.ensures.shown
+    (too_long_text, inr (rw long (refl, shown.0)), shown.1)) c.in-Ok.ensures.script) c.too_long.ensures.shown
 
 pub returns-clause-runs : goal.returns-clause-runs
 returns-clause-runs g c =
@@ -41,7 +41,7 @@ returns-clause-runs g c =
     some_weaker (g.R.Read.remaining c.args.reader.now) _ _ (λ all read m s x fits.
     let whole = whole_script all c.in-Ok.script.items read (omega (arith, c.if-len-gt-LONGEST.false, c.len.ensures)) in
     let run = subst (λ (l : List ℕ). RunsLines g.D.Area c.args.world.now l held holds status) (c.deref.ensures.value ∙ whole.1) lines m s x fits in
-    (run.0, inr (rw whole.0 run.1), run.2)) c.in-Ok.ensures) c.run_lines.ensures.runs
+    (run.0, inr (rw whole.0 run.1), run.2)) c.in-Ok.ensures.script) c.run_lines.ensures.runs
 
 pub returns-clause-tells : goal.returns-clause-tells
 returns-clause-tells g c =
@@ -51,4 +51,4 @@ returns-clause-tells g c =
     some_weaker (g.R.Read.remaining c.args.reader.now) _ _ (λ all read h same.
     let whole = whole_script all c.in-Ok.script.items read (omega (arith, c.if-len-gt-LONGEST.false, c.len.ensures)) in
     let run = subst (λ (l : List ℕ). Adds (TellsLines h 1 false (script_lines l)) held holds status) (c.deref.ensures.value ∙ whole.1) (lines h same) in
-    (run.0, inr (rw whole.0 run.1), run.2)) c.in-Ok.ensures) c.run_lines.ensures.tells
+    (run.0, inr (rw whole.0 run.1), run.2)) c.in-Ok.ensures.script) c.run_lines.ensures.tells
