@@ -63,12 +63,13 @@ where
 {
     let folder = StoreFolder::new(alloc, rt, folder);
     let ended = match folder.open(&geometry) {
-        Ok(
-            OpenStore {
+        Ok(store) => {
+            let OpenStore {
                 areas,
                 guard: _guard,
-            },
-        ) => recover_areas(alloc, geometry, areas, writer),
+            } = store;
+            recover_areas(alloc, geometry, areas, writer)
+        }
         Err(fault) => stopped(writer, fault),
     };
     folder.tell();
@@ -110,12 +111,13 @@ where
     ensures memory { result ≢ Err ToolFault.NoMemory }
 {
     match folder.open(&geometry) {
-        Ok(
-            OpenStore {
+        Ok(store) => {
+            let OpenStore {
                 areas,
                 guard: _guard,
-            },
-        ) => run_script(folder.alloc, geometry, areas, reader, writer),
+            } = store;
+            run_script(folder.alloc, geometry, areas, reader, writer)
+        }
         Err(fault) => stopped(writer, fault),
     }
 }
