@@ -16,7 +16,7 @@ use Rattle.lc_model.specs.Merge.{Page, Store, all_records}
 use Rattle.lc_model.specs.Recovered.{IsBehind}
 use Rattle.lc_model.proofs.Visible.{in-logs, log-known}
 use Rattle.lc_recover.proofs.Images.{in-segment}
-use Rattle.lc_recover.proofs.PagesOf.{are_listed, are_different}
+use Rattle.lc_recover.proofs.PagesOf.{are_listed, are_ascending, are_different}
 use Rattle.lc_recover.specs.Kept.{IsChange, IsMerging}
 use Rattle.lc_recover.specs.Page.{pages_of, AreDifferent}
 use Rattle.lc_recover.specs.Recovery.{AreBehind}
@@ -44,10 +44,10 @@ module _ (logs : List (List ℕ)) (store : Store) (merged : Merged) (merging : I
       let one = merging.index.whole segment page behind.2 text behind.0 is behind.1 behind.3 behind.4 in
       (are_listed merged.changes.items segment page).1 (one.0, one.1, (one.2, one.3))
 
--- the pages of the changes are those that some record is newer than, each once
+-- the pages of the changes are those that some record is newer than, in order
 pub pages-behind : (logs : List (List ℕ)) (store : Store) (merged : Merged) → IsMerging logs store merged → AreBehind store (pages_of merged.changes.items)
 pages-behind logs store merged merging = record {
-  once = are_different merged.changes.items;
+  ascending = are_ascending merged.changes.items merging.index.ascending;
   all = λ segment page. (
     listed_page logs store merged merging segment page,
     λ its. page_listed logs store merged merging segment page its.0 its.1 its.2,

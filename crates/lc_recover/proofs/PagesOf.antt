@@ -1,13 +1,13 @@
 -- The pages of a list of changes.
-use Rattle.std.proofs.Common.{◌≡◌, ◌≢◌, ℕ, zero, suc, ◌+◌, ◌-◌, ◌≤◌, Bool, true, false, not, ◌&&◌, ◌==◌, true≢false, List, [], ◌∷◌, ◌++◌, length, get_or, take, drop, filter, Some, All, Contains, refl, sym, ◌∙◌, ap, subst, arith, inl, inr, eqb-true, eq-eqb}
+use Rattle.std.proofs.Common.{◌≡◌, ◌≢◌, ℕ, zero, suc, ◌+◌, ◌-◌, ◌<◌, ◌≤◌, ◌⊎◌, Bool, true, false, not, ◌&&◌, ◌==◌, true≢false, List, [], ◌∷◌, ◌++◌, length, get_or, take, drop, filter, Some, All, Contains, refl, sym, ◌∙◌, ap, subst, arith, inl, inr, eqb-true, eq-eqb}
 use Rattle.std.specs.Prelude.{slice_get, if◌then◌else◌}
 use Rattle.std.proofs.lemmas.Bool.{cases_Bool}
 use Rattle.std.proofs.lemmas.List.Elements.{All-head, All-tail, All-weaker, All-contains, All-contains_itself, All-filter, filter_passes, Contains-append_left, Contains-append_right, Contains-append_cases}
 use Rattle.std.proofs.lemmas.List.{take_all, length-drop}
 use Rattle.std.proofs.lemmas.Option.{same_Some, slice_get-get_or}
 use Rattle.lc_model.proofs.Visible.{contains-filter}
-use Rattle.lc_recover.specs.Kept.{AreAscending}
-use Rattle.lc_recover.specs.Page.{IsOf, IsOfAnother, IsFirstPage, page_of, is_another, pages_of, AreListed, AreDifferent, BeginWithTheFirst}
+use Rattle.lc_recover.specs.Kept.{AreAscending, IsBefore}
+use Rattle.lc_recover.specs.Page.{IsOf, IsOfAnother, IsFirstPage, page_of, is_another, pages_of, AreListed, AreDifferent, ArePagesAscending, BeginWithTheFirst, IsPageBefore}
 use Rattle.lc_recover.specs.declared.change.Change.{Change}
 use Rattle.lc_recover.proofs.MergedPage.{ascending_behind}
 
@@ -133,6 +133,41 @@ are_different (c ∷ cs) =
     let test : Pair → Bool = is_another (page_of c) in (
       All-weaker (λ q. is_another (page_of c) q ≡ true) (λ q. page_of c ≢ q) (another-differs (page_of c)) (filter test (pages_of cs)) (filter_passes test (pages_of cs)),
       differ-filter test (pages_of cs) (are_different cs),
+    )
+
+-- In order
+
+later_page : (c d : Change) → is_another (page_of c) (page_of d) ≡ true → c.segment ≡ d.segment → (c.page < d.page) ⊎ ((c.page ≡ d.page) × (c.seq < d.seq))
+    → IsPageBefore (page_of c) (page_of d)
+later_page c d other segment (inl page) = inr (segment, page)
+later_page c d other segment (inr same) = absurd (another-differs (page_of c) (page_of d) other (same_pair (page_of c) (page_of d) segment same.0))
+
+page_before : (c d : Change) → is_another (page_of c) (page_of d) ≡ true → IsBefore c d → IsPageBefore (page_of c) (page_of d)
+page_before c d other (inl segment) = inl segment
+page_before c d other (inr same) = later_page c d other same.0 same.1
+
+ascend-filter : (f : Pair → Bool) (ps : List Pair) → ArePagesAscending ps → ArePagesAscending (filter f ps)
+ascend-filter f [] ascend = tt
+ascend-filter f (p ∷ ps) ascend =
+    elim (f p) as (λ b. ArePagesAscending (if b then p ∷ filter f ps else filter f ps)) [
+      | true ↦ (All-filter f (IsPageBefore p) ps ascend.0, ascend-filter f ps ascend.1)
+      | false ↦ ascend-filter f ps ascend.1
+    ]
+
+pub are_ascending : (changes : List Change) → AreAscending changes → ArePagesAscending (pages_of changes)
+are_ascending [] ascend = tt
+are_ascending (c ∷ cs) ascend =
+    let test : Pair → Bool = is_another (page_of c) in
+    let others : List Pair = filter test (pages_of cs) in (
+      All-weaker (Contains others) (IsPageBefore (page_of c))
+      (λ q has.
+      let other : test q ≡ true = All-contains (λ (p : Pair). test p ≡ true) others q (filter_passes test (pages_of cs)) has in
+      let among : Contains (pages_of cs) q = All-contains (Contains (pages_of cs)) others q (All-filter test (Contains (pages_of cs)) (pages_of cs) (All-contains_itself (pages_of cs))) has in
+      let one = listed_from cs q among in
+      subst (λ (p : Pair). test p ≡ true → IsPageBefore (page_of c) p) one.2
+      (λ differs. page_before c one.0 differs (All-contains (IsBefore c) cs one.0 ascend.0 one.1)) other)
+      others (All-contains_itself others),
+      ascend-filter test (pages_of cs) (are_ascending cs ascend.1),
     )
 
 -- The first page

@@ -98,6 +98,15 @@ abbrev pub AreDifferent : List (ℕ × ℕ) → Type 0
 AreDifferent [] = Unit {0}
 AreDifferent (p ∷ ps) = All (λ q. p ≢ q) ps × AreDifferent ps
 
+-- of an earlier segment, or an earlier one of the same
+abbrev pub IsPageBefore : ℕ × ℕ → ℕ × ℕ → Type 0
+IsPageBefore p q = (p.0 < q.0) ⊎ ((p.0 ≡ q.0) × (p.1 < q.1))
+
+-- each page stands before all behind it
+abbrev pub ArePagesAscending : List (ℕ × ℕ) → Type 0
+ArePagesAscending [] = Unit {0}
+ArePagesAscending (p ∷ ps) = All (IsPageBefore p) ps × ArePagesAscending ps
+
 -- those of an ascending list: the first one's page, and those of what is behind its changes
 abbrev pub BeginWithTheFirst : List Change → Type 0
 BeginWithTheFirst changes = (front : List Change) (first : Change) → IsFirstPage changes front → slice_get changes 0 ≡ Some first → AreAscending changes →

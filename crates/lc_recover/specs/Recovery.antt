@@ -5,7 +5,7 @@ use Rattle.lc_record.specs.declared.geometry.Geometry.{Geometry}
 use Rattle.lc_record.specs.Content.{Content, segment_of}
 use Rattle.lc_model.specs.Merge.{Page, Store, MergesTo}
 use Rattle.lc_model.specs.Recovered.{IsBehind}
-use Rattle.lc_recover.specs.Page.{AreDifferent}
+use Rattle.lc_recover.specs.Page.{ArePagesAscending}
 use Rattle.lc_recover.specs.Reads.{area_count, store_of, AllMergeTo}
 use Rattle.lc_recover.specs.Shows.{new_page}
 use Rattle.lc_recover.specs.Stage.{Fits, OneCall}
@@ -77,9 +77,9 @@ module _ {D : Type 0} where
   Tells (Stepped steps) r = (steps ≡ r.steps) × (IsDone r → ⊥)
   Tells Recovered r = IsDone r
 
--- these are the pages of the store that some record is newer than, each once
+-- these are the pages of the store that some record is newer than, ascending by segment and page
 pub record AreBehind (store : Store) (pages : List (ℕ × ℕ)) : Type 0 where
-  pub once : AreDifferent pages
+  pub ascending : ArePagesAscending pages
   pub all : (segment page : ℕ) → Contains pages (segment, page)
       ↔ ((text : Page) × (slice_get (segment_of segment store.pages) page ≡ Some text) × IsBehind store segment page text)
 

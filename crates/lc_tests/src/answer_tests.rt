@@ -21,7 +21,7 @@ begin 0 0 1\nrange 0 0 1 0 1\nend 0 0\nflush 0\n";
 
 // The making of a store of one node and one segment.
 const MAKING: &str = "look store/log0\nlook store/seg1\nopen store\nlock store\n\
-make store/log0\nwrite store/log0\nsync store/log0\nmake store/seg1\nwrite store/seg1\nsync store/seg1\n\
+make store/log0\nwrite store/log0 0 520\nsync store/log0\nmake store/seg1\nwrite store/seg1 0 544\nsync store/seg1\n\
 open store\nsync store\nopen store/..\nsync store/..\n";
 
 // The opening of it.
@@ -35,14 +35,15 @@ look store/seg15\nlook store/seg16\nlook store/fault\nopen store/log0\nopen stor
 const RECOVERING: &str =
     "sync store/log0\nsync store/seg1\nread store/log0\nread store/seg1\nsync store/log0\n";
 
-// One flush of its log.
-const FLUSHING: &str = "write store/log0\nsync store/log0\nwrite store/log0\nsync store/log0\n";
+// One flush of its log, of a record of eight words.
+const FLUSHING: &str =
+    "write store/log0 1 71\nsync store/log0\nwrite store/log0 0 1\nsync store/log0\n";
 
 // The copying of its files behind a fault.
 const COPYING: &str = "look store/log0\nopen store/log0\nmake store/log0.new\nmode store/log0.new\n\
-read store/log0\nwrite store/log0.new\nsync store/log0.new\nrename store/log0.new\n\
+read store/log0\nwrite store/log0.new 0 520\nsync store/log0.new\nrename store/log0.new\n\
 look store/seg1\nopen store/seg1\nmake store/seg1.new\nmode store/seg1.new\n\
-read store/seg1\nwrite store/seg1.new\nsync store/seg1.new\nrename store/seg1.new\n\
+read store/seg1\nwrite store/seg1.new 0 544\nsync store/seg1.new\nrename store/seg1.new\n\
 sync store\nremove store/fault\nopen store/log0\nopen store/seg1\n";
 
 fn size(nodes: u16, segments: u32, pages: u32, words: u32) -> Result<Geometry, Fail> {
@@ -98,8 +99,13 @@ fn check(
 
 // Looks at the calls since the last look.
 fn check_calls(rt: &impl Abort, shelf: &Shelf, want: &[&str]) -> Result<(), Fail> {
-    let calls = shelf.calls()?;
-    let mut rest = calls.as_str();
+    check_pieces(rt, &shelf.calls()?, want);
+    Ok(())
+}
+
+// These calls are these pieces, one after another.
+fn check_pieces(rt: &impl Abort, calls: &str, want: &[&str]) {
+    let mut rest = calls;
     for piece in want {
         match rest.strip_prefix(*piece) {
             Some(behind) => rest = behind,
@@ -107,7 +113,6 @@ fn check_calls(rt: &impl Abort, shelf: &Shelf, want: &[&str]) -> Result<(), Fail
         }
     }
     assert!(rt; rest.is_empty(), "{calls}");
-    Ok(())
 }
 
 fn check_said(rt: &impl Abort, shelf: &Shelf, want: &str) -> Result<(), Fail> {
@@ -228,7 +233,7 @@ fn a_failed_sync_has_the_files_copied(rt: HostRuntime) -> Result<(), Fail> {
     shelf.failing_sync.set(4);
     let printed = "ok\nok\nok\nclosed 0 8\ndevice fault\n";
     check(&rt, &shelf, run(alloc, one()?)?, COMMIT, printed, 3)?;
-    let failing = "write store/log0\nsync store/log0\nmake store/fault\n";
+    let failing = "write store/log0 1 71\nsync store/log0\nmake store/fault\n";
     check_calls(&rt, &shelf, &[OPENING, RECOVERING, failing])?;
     check_said(&rt, &shelf, "lcrvm: store/log0: the sync failed\n")?;
     let recovered = "segment 1 sequence 0\nrecovered\n";
@@ -263,6 +268,53 @@ fn a_name_that_cannot_be_looked_at_is_a_fault(rt: HostRuntime) -> Result<(), Fai
     check(&rt, &shelf, init(alloc, one()?)?, "", "device fault\n", 3)?;
     check_calls(&rt, &shelf, &["look store/log0\n"])?;
     check_said(&rt, &shelf, "lcrvm: store/log0: the look failed\n")
+}
+
+// The writing of the first page of a segment, and of its second one.
+const FIRST_OF_1: &str = "sync store/seg1\nwrite store/seg1 1 271\nsync store/seg1\n\
+write store/seg1 0 1\nsync store/seg1\n";
+
+const SECOND_OF_1: &str = "sync store/seg1\nwrite store/seg1 545 271\nsync store/seg1\n\
+write store/seg1 544 1\nsync store/seg1\n";
+
+const FIRST_OF_2: &str = "sync store/seg2\nwrite store/seg2 1 271\nsync store/seg2\n\
+write store/seg2 0 1\nsync store/seg2\n";
+
+const SECOND_OF_2: &str = "sync store/seg2\nwrite store/seg2 545 271\nsync store/seg2\n\
+write store/seg2 544 1\nsync store/seg2\n";
+
+#[test]
+fn a_recovery_writes_pages_in_order(rt: HostRuntime) -> Result<(), Fail> {
+    let alloc = rt.alloc();
+    let shelf = Shelf::new(alloc);
+    let geometry = size(1, 2, 2, 64)?;
+    check(&rt, &shelf, init(alloc, geometry)?, "", "", 0)?;
+    let commit = "begin 0 0 1 2\nrange 0 0 2 256 1\nrange 0 0 2 0 1\nrange 0 0 1 256 1\n\
+range 0 0 1 0 1\nend 0 0\nflush 0\n";
+    let committed = "ok\nok\nok\nok\nok\nclosed 0 19\nacked 1\n";
+    check(&rt, &shelf, run(alloc, geometry)?, commit, committed, 0)?;
+    let _ = shelf.calls()?;
+    let recovered = "segment 1 sequence 1\nsegment 2 sequence 1\nrecovered\n";
+    check(&rt, &shelf, recover(alloc, geometry)?, "", recovered, 0)?;
+    let calls = shelf.calls()?;
+    let opened = "open store/log0\nopen store/seg1\nopen store/seg2\n";
+    let read = "sync store/log0\nsync store/seg1\nsync store/seg2\n\
+read store/log0\nread store/seg1\nread store/seg2\n";
+    let behind = calls.split_once(opened).ok_or("it is opened")?.1;
+    let emptied = "write store/log0 0 1\nsync store/log0\n";
+    check_pieces(
+        &rt,
+        behind,
+        &[
+            read,
+            FIRST_OF_1,
+            SECOND_OF_1,
+            FIRST_OF_2,
+            SECOND_OF_2,
+            emptied,
+        ],
+    );
+    Ok(())
 }
 
 #[test]

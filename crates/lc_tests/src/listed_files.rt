@@ -275,7 +275,10 @@ impl FileExt for ListedFile<'_> {
     }
 
     fn write_at(&self, buf: &[u8], offset: u64) -> io::Result<usize> {
-        self.shelf.list("write", &self.path)?;
+        let path = &self.path;
+        let len = buf.len();
+        let call = format!(in self.shelf.alloc; "{path} {offset} {len}")?;
+        self.shelf.list("write", &call)?;
         let mut entries = self.shelf.entries.try_borrow_mut()?;
         let Some(place) = self.place else {
             return unsupported();

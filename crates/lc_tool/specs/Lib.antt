@@ -13,3 +13,4 @@ pub mod Tells
 pub mod Files
 pub mod Recovers
 pub mod Asked
+pub mod Noted

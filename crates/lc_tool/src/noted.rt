@@ -9,13 +9,21 @@ pub struct Noted<T> {
 }
 
 impl<T: Drop> Noted<T> {
+    ghost use Rattle.std.specs.Prelude.{◌≡◌, None};
+    ghost use Rattle.lc_tool.specs.Noted.{noted_error, noted_inner};
+
     /// This one, which has not failed yet.
-    pub fn new(inner: T) -> Noted<T> {
+    pub fn new(inner: T) -> Noted<T>
+        ensures inner { noted_inner result ≡ inner }
+        ensures none { noted_error result ≡ None }
+    {
         Noted { inner, error: None }
     }
 
     /// What it met first, if anything.
-    pub fn error(&self) -> Option<io::Error> {
+    pub fn error(&self) -> Option<io::Error>
+        ensures { result ≡ noted_error self.now }
+    {
         self.error
     }
 
