@@ -63,6 +63,23 @@ fn old_bytes_come_back(rt: HostRuntime) -> Result<(), Fail> {
     Ok(())
 }
 
+#[test]
+fn more_than_seventy_copies_are_kept(rt: HostRuntime) -> Result<(), Fail> {
+    let set = RangeSet::new(rt.alloc());
+    let mut undo = Undo::new(rt.alloc());
+    let image = [7; 160];
+    for i in 0..80 {
+        undo.keep_old(&set, 1, 2 * i, 1, &image)?;
+    }
+    assert!(rt; undo.copies() == 80 && undo.len() == 80);
+    let mut later = [9; 160];
+    undo.restore(1, &mut later);
+    for (i, byte) in later.iter().enumerate() {
+        assert!(rt; *byte == if i % 2 == 0 { 7 } else { 9 }, "at {i}");
+    }
+    Ok(())
+}
+
 // Where memory is refused the set is as before, and the next attempt adds the range.
 #[test]
 fn refused_memory_leaves_the_set(rt: HostRuntime) -> Result<(), Fail> {

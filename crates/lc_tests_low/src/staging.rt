@@ -136,6 +136,13 @@ fn seal_at(stage: &Stage, flusher: &mut FlushSeat, seat: &mut CommitSeat, offset
 }
 
 #[test]
+fn the_largest_stage(rt: HostRuntime) -> Result<(), Fail> {
+    let (stage, _flusher, mut seat) = Stage::new(rt.alloc(), 32_767)?;
+    assert!(rt; stage.words() == 32_767 && stage.tail(&mut seat) == 0);
+    Ok(())
+}
+
+#[test]
 fn two_seats(rt: HostRuntime) -> Result<(), Fail> {
     let (stage, mut flusher, mut first) = Stage::new(rt.alloc(), 64)?;
     let mut group = Group::new(rt.alloc(), 64)?;

@@ -64,13 +64,13 @@ fn records_out_of_order_are_applied_in_order(rt: HostRuntime) -> Result<(), Fail
 }
 
 #[test]
-fn a_hundred_records_in_descending_order(rt: HostRuntime) -> Result<(), Fail> {
+fn many_records_in_descending_order(rt: HostRuntime) -> Result<(), Fail> {
     let mut hold_back = HoldBack::new(rt.alloc(), 1, 0);
-    for seq in (2..=100).rev() {
+    for seq in (2..=300).rev() {
         let answer = receive(&mut hold_back, rt.alloc(), seq)?;
         assert!(rt; answer == Received::HeldBack, "{seq}");
     }
-    assert!(rt; receive(&mut hold_back, rt.alloc(), 1)? == Received::Applied(100));
+    assert!(rt; receive(&mut hold_back, rt.alloc(), 1)? == Received::Applied(300));
     Ok(())
 }
 

@@ -89,6 +89,21 @@ fn what_is_locked_for_reading_is_only_read(rt: HostRuntime) -> Result<(), Fail> 
     Ok(())
 }
 
+// The longest segment, of which one record of 4,096 words says what was set.
+#[test]
+fn the_longest_record_and_the_longest_read(rt: HostRuntime) -> Result<(), Fail> {
+    let alloc = rt.alloc();
+    let mut segment = segment_of(alloc, &vec![in alloc; 7; 262_144]?)?;
+    let mut tx = Tx::begin(alloc, &mut segment, 0, &[1], &[])?;
+    tx.set_range(&mut segment, 1, 0, 32_704)?;
+    let words = words_of(alloc, &mut segment, &tx)?;
+    assert!(rt; words.as_slice().len() == 4096 && words.as_slice().last() == Some(&4096));
+    let read = tx.read(alloc, &mut segment, 1, 0, 262_144)?;
+    assert!(rt; read.as_slice().len() == 262_144 && read.as_slice().iter().all(|byte| *byte == 7));
+    tx.release(&mut segment);
+    Ok(())
+}
+
 #[test]
 fn a_part_is_laid_over_an_image(rt: HostRuntime) -> Result<(), Fail> {
     let alloc = rt.alloc();
