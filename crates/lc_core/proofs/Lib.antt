@@ -101,3 +101,4 @@ pub mod FewLocked
 pub mod Asking
 pub mod OwnReplies
 pub mod Geometries
+pub mod OneArea
