@@ -1,6 +1,6 @@
 -- Which replies tell of a failure, and what the calls of a device count.
-use Rattle.std.proofs.Common.{◌≡◌, ℕ, ◌+◌, Bool, true, false, List, length, Option, Some, slice_get, slice_set, refl, sym, ap, subst, ◌∙◌, true≢false}
-use Rattle.std.specs.Prelude.{option_map, if◌then◌else◌}
+use Rattle.std.proofs.Common.{◌≡◌, ◌⊎◌, ℕ, ◌+◌, Bool, true, false, List, length, map, inl, inr, Option, Some, slice_get, slice_set, refl, sym, ap, subst, ◌∙◌, true≢false}
+use Rattle.std.specs.Prelude.{not, option_map, if◌then◌else◌}
 use Rattle.std.proofs.lemmas.List.{map-set}
 use Rattle.std.proofs.lemmas.Option.{slice_get-map}
 use Rattle.lc_disk.specs.declared.area.Area.{Ghosts}
@@ -9,8 +9,8 @@ use Rattle.lc_model.specs.declared.refusal.Refusal.TheVariants.{NotHere, Held, W
 use Rattle.lc_model.specs.declared.reply.Reply.{Reply}
 use Rattle.lc_token.specs.declared.fault.TokenFault.{TokenFault}
 use Rattle.lc_token.specs.declared.fault.TokenFault.TheVariants.{NotHere as IsNotHere, Held as IsHeld, Writing as IsWriting, Unflushed as IsUnflushed, Behind as IsBehind, NoMemory}
-use Rattle.lc_core.specs.FaultReplies.{CountsFaults, TellsFault, device_kind, failures_of, is_fault, is_own_refusal, is_own_reply, is_unknown, kind_of}
-use Rattle.lc_core.specs.Faults.{CountsLogs, SameDevices, SameLogs, log_failures, log_kinds, logs_of}
+use Rattle.lc_core.specs.FaultReplies.{CallsOneOf, CountsFaults, TellsFault, device_kind, failures_of, is_fault, is_own_refusal, is_own_reply, is_unknown, kind_of}
+use Rattle.lc_core.specs.Faults.{CountsLogs, SameDevices, SameLogs, areas_in, log_failures, log_kinds, logs_of}
 use Rattle.lc_core.specs.Journal.{reply_of}
 use Rattle.lc_core.specs.Log.{CallsOnce, IsCalled, area_of, is_failed}
 use Rattle.lc_core.specs.Places.{same_map_set, same_some}
@@ -32,7 +32,7 @@ token_own NoMemory refusal is = absurd cc
 
 module _ {D : Type 0} (a : Ghosts D) where
   -- a log that has failed is answered by a failure, and no other
-  one_more : (new : Log D a) (taken count : ℕ) → Some (if is_failed a new then count + 1 else count) ≡ (if is_fault (reply_of a new taken) then Some (count + 1) else Some count)
+  one_more : (new : Log D a) (taken count : ℕ) → Some (if not (is_failed a new) then count else count + 1) ≡ (if is_fault (reply_of a new taken) then Some (count + 1) else Some count)
   one_more (Idle log) taken count = refl
   one_more (Written log) taken count = refl
   one_more (Synced log) taken count = refl
@@ -60,26 +60,27 @@ module _ {D : Type 0} (a : Ghosts D) where
   called : (area : D) (new : Log D a) (taken : ℕ) → IsCalled a area new
       → (failures_of a new ≡ (if is_fault (reply_of a new taken) then Some (a.failures area + 1) else Some (a.failures area))) × (kind_of a new ≡ Some (device_kind a area))
   called area new taken call = (
-    ap (option_map a.failures) call.there ∙ ap (λ (n : ℕ). Some n) call.failures ∙ one_more new taken (a.failures area),
+    ap (option_map a.failures) call.there ∙ ap (λ (n : ℕ). Some n) call.device.counted ∙ one_more new taken (a.failures area),
     ap (option_map (device_kind a)) call.there ∙ ap (λ (b : Bool). Some (b, length (a.now call.after))) call.device.honest ∙ ap (λ (n : ℕ). Some (a.honest area, n)) call.device.same_length,
   )
 
-  of_call : (old : Log D a) (area : D) (new : Log D a) (taken : ℕ) → failures_of a old ≡ Some (a.failures area) → kind_of a old ≡ Some (device_kind a area)
+  of_call : (old : Log D a) (area : D) (new : Log D a) (taken : ℕ) → area_of a old ≡ Some area → failures_of a old ≡ Some (a.failures area) → kind_of a old ≡ Some (device_kind a area) → IsCalled a area new
       → (failures_of a new ≡ (if is_fault (reply_of a new taken) then Some (a.failures area + 1) else Some (a.failures area))) × (kind_of a new ≡ Some (device_kind a area)) → TellsFault a (reply_of a new taken) old new
-  of_call old area new taken failures kind are = record {
+  of_call old area new taken there failures kind call are = record {
+    call = inr (area, call.after, not (is_failed a new), there, call.there, call.device);
     known = told_known new taken;
     failures = are.0 ∙ sym (ap (λ (o : Option ℕ). if is_fault (reply_of a new taken) then option_map (λ (count : ℕ). count + 1) o else o) failures);
     kind = are.1 ∙ sym kind;
   }
 
   pub call_tells : (old new : Log D a) (taken : ℕ) → is_failed a old ≡ false → CallsOnce a old new → TellsFault a (reply_of a new taken) old new
-  call_tells (Idle log) new taken up call = of_call (Idle log) log.area new taken refl refl (called log.area new taken call)
-  call_tells (Written log) new taken up call = of_call (Written log) log.area new taken refl refl (called log.area new taken call)
-  call_tells (Synced log) new taken up call = of_call (Synced log) log.area new taken refl refl (called log.area new taken call)
-  call_tells (Opened log) new taken up call = of_call (Opened log) log.area new taken refl refl (called log.area new taken call)
-  call_tells (Sealed log) new taken up call = of_call (Sealed log) log.area new taken refl refl (called log.area new taken call)
-  call_tells (Closing log) new taken up call = of_call (Closing log) log.area new taken refl refl (called log.area new taken call)
-  call_tells (Emptied log) new taken up call = of_call (Emptied log) log.area new taken refl refl (called log.area new taken call)
+  call_tells (Idle log) new taken up call = of_call (Idle log) log.area new taken refl refl refl call (called log.area new taken call)
+  call_tells (Written log) new taken up call = of_call (Written log) log.area new taken refl refl refl call (called log.area new taken call)
+  call_tells (Synced log) new taken up call = of_call (Synced log) log.area new taken refl refl refl call (called log.area new taken call)
+  call_tells (Opened log) new taken up call = of_call (Opened log) log.area new taken refl refl refl call (called log.area new taken call)
+  call_tells (Sealed log) new taken up call = of_call (Sealed log) log.area new taken refl refl refl call (called log.area new taken call)
+  call_tells (Closing log) new taken up call = of_call (Closing log) log.area new taken refl refl refl call (called log.area new taken call)
+  call_tells (Emptied log) new taken up call = of_call (Emptied log) log.area new taken refl refl refl call (called log.area new taken call)
   call_tells (Failed log) new taken up call = absurd (true≢false up)
   call_tells (Torn log) new taken up call = absurd (true≢false up)
   call_tells Taken new taken up call = absurd (true≢false up)
@@ -118,6 +119,7 @@ module _ {D : Type 0} (a : Ghosts D) where
     failures = ap (option_map a.failures) same
         ∙ sym (ap (λ (b : Bool). if b then option_map (λ (count : ℕ). count + 1) (failures_of a old) else failures_of a old) (own_no_fault reply own));
     kind = ap (option_map (device_kind a)) same;
+    call = inl same;
   }
 
   pub quiet : (old : Running D a) (reply : Reply) (new : Running D a) → is_fault reply ≡ false → SameLogs a old new → CountsLogs a old reply new
@@ -127,6 +129,7 @@ module _ {D : Type 0} (a : Ghosts D) where
       none = λ _. ap (log_failures a) same.logs;
     };
     devices = same_devices old new same;
+    calls = inl (ap (map (area_of a)) same.logs);
   }
 
   -- a step of a flush at one node
@@ -158,3 +161,23 @@ module _ {D : Type 0} (a : Ghosts D) where
           };
           none = λ is. ap (log_failures a) logs_are ∙ same_map_set (failures_of a) (logs_of a nodes) n old.journal.log new.journal.log log_at (told false is);
         }
+
+    area_at : slice_get (areas_in a nodes) n ≡ Some (area_of a old.journal.log)
+    area_at = slice_get-map (area_of a) (logs_of a nodes) n ∙ ap (option_map (area_of a)) log_at
+
+    areas_are : areas_in a (slice_set nodes n new) ≡ slice_set (areas_in a nodes) n (area_of a new.journal.log)
+    areas_are = ap (map (area_of a)) logs_are ∙ map-set (area_of a) (logs_of a nodes) n new.journal.log
+
+    pub one_called : (areas_in a (slice_set nodes n new) ≡ areas_in a nodes) ⊎ CallsOneOf a (areas_in a nodes) (areas_in a (slice_set nodes n new))
+    one_called = elim tells.call [
+      | inl same ↦ inl (ap (map (area_of a)) logs_are ∙ same_map_set (area_of a) (logs_of a nodes) n old.journal.log new.journal.log log_at same)
+      | inr called ↦ inr (record {
+        at = n;
+        old = called.0;
+        new = called.1;
+        ok = called.2;
+        was = area_at ∙ ap (λ (o : Option D). Some o) called.3;
+        is = areas_are ∙ ap (λ (o : Option D). slice_set (areas_in a nodes) n o) called.4;
+        call = called.5;
+      })
+    ]

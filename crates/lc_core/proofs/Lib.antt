@@ -102,3 +102,4 @@ pub mod FewLocked
 pub mod Asking
 pub mod OwnReplies
 pub mod Geometries
+pub mod OneArea

@@ -1,6 +1,6 @@
 -- A step of one node, and of the store that it is of.
-use Rattle.std.proofs.Common.{◌≡◌, ℕ, ◌+◌, ◌<◌, Bool, true, false, ◌++◌, [], ◌∷◌, List, Option, Some, None, get_or, refl, sym, ap, subst, ◌∙◌, arith}
-use Rattle.std.specs.Prelude.{Result, IfOk, OnErr, option_map, slice_get, slice_set, vec_len, if◌then◌else◌}
+use Rattle.std.proofs.Common.{◌≡◌, ◌⊎◌, ℕ, ◌+◌, ◌<◌, true, false, ◌++◌, [], ◌∷◌, List, Option, Some, None, get_or, refl, sym, ap, subst, ◌∙◌, arith}
+use Rattle.std.specs.Prelude.{Result, IfOk, OnErr, option_map, slice_get, slice_set, vec_len}
 use Rattle.std.specs.declared.alloc.AllocError.{AllocError}
 use Rattle.std.proofs.lemmas.Result.{IfOk-weaker}
 use Rattle.lc_disk.specs.declared.area.Area.{Ghosts}
@@ -11,8 +11,8 @@ use Rattle.lc_model.specs.declared.event.Event.{Event}
 use Rattle.lc_model.specs.declared.event.Event.TheVariants.{Begin, SetRange, Write, Read, Abort, Reserve, Close, FlushStep, Leave, Arrive, Deliver, Trim, PageStep, ResetStep, Stop, RecoverStep}
 use Rattle.lc_model.specs.declared.reply.Reply.{Reply}
 use Rattle.lc_model.proofs.Rows.{known, seat_known}
-use Rattle.lc_core.specs.FaultReplies.{CountsFaults, TellsFault, is_own_reply, is_unknown}
-use Rattle.lc_core.specs.Faults.{log_failures, log_kinds, logs_of}
+use Rattle.lc_core.specs.FaultReplies.{CallsOneOf, CountsFaults, TellsFault, is_own_reply, is_unknown}
+use Rattle.lc_core.specs.Faults.{areas_in, log_failures, log_kinds, logs_of}
 use Rattle.lc_core.specs.FollowsDesk.{FollowsOpen, StillFits}
 use Rattle.lc_core.specs.Here.{the_images}
 use Rattle.lc_core.specs.Log.{area_of, is_failed}
@@ -33,7 +33,7 @@ use Rattle.lc_core.specs.declared.log.Log.{Log}
 use Rattle.lc_core.specs.declared.node.Node.{Node}
 use Rattle.lc_core.specs.declared.running.Running.{Running}
 use Rattle.lc_core.proofs.AtOnce.{stands}
-use Rattle.lc_core.proofs.Faults.{flush_counts, logs_stay, own_tells, same_kinds}
+use Rattle.lc_core.proofs.Faults.{flush_counts, logs_stay, one_called, own_tells, same_kinds}
 use Rattle.lc_core.proofs.Going.{by_desk, settled_by}
 use Rattle.lc_core.proofs.Logged.{err_then}
 use Rattle.lc_core.proofs.Onward.{desk_still, stays_onward, still_onward, whole_set}
@@ -186,9 +186,10 @@ module _ {D : Type 0} (a : Ghosts D) where
       err_there = err_then result steps.err (λ still m s x h. still_onward a m n s x w.geometry w.nodes.items w.travelling.items node new there (still m n s x) h)
 
       pub faults_there : IfOk result (λ reply. CountsFaults reply (log_failures a (logs_of a w.nodes.items)) (log_failures a (logs_of a (slice_set w.nodes.items n new)))
-          × (log_kinds a (logs_of a (slice_set w.nodes.items n new)) ≡ log_kinds a (logs_of a w.nodes.items)))
+          × (log_kinds a (logs_of a (slice_set w.nodes.items n new)) ≡ log_kinds a (logs_of a w.nodes.items))
+          × ((areas_in a (slice_set w.nodes.items n new) ≡ areas_in a w.nodes.items) ⊎ CallsOneOf a (areas_in a w.nodes.items) (areas_in a (slice_set w.nodes.items n new))))
       faults_there = IfOk-weaker result _ _ (λ reply tells.
-          (flush_counts a w.nodes.items n node new reply there tells up_there, same_kinds a w.nodes.items n node new reply there tells)) steps.device
+          (flush_counts a w.nodes.items n node new reply there tells up_there, same_kinds a w.nodes.items n node new reply there tells, one_called a w.nodes.items n node new reply there tells)) steps.device
 
       pub known_there : IfOk result (λ reply. is_unknown reply ≡ false)
       known_there = IfOk-weaker result _ _ (λ reply tells. tells.known) steps.device

@@ -1,11 +1,11 @@
 -- A step of a page write of a store that is up.
-use Rattle.std.proofs.Common.{◌≡◌, ℕ, suc, ◌+◌, ◌≤◌, Bool, false, not, List, [], ◌∷◌, ◌++◌, map, Option, Some, None, length, slice_get, slice_set, refl, sym, ap, subst, ◌∙◌, inl, inr, arith, true≢false}
+use Rattle.std.proofs.Common.{◌≡◌, ℕ, suc, ◌+◌, Bool, false, not, List, [], ◌∷◌, ◌++◌, map, Option, Some, None, length, slice_get, slice_set, refl, sym, ap, subst, ◌∙◌, inl, inr, arith, true≢false}
 use Rattle.std.specs.Prelude.{option_map, is_some, if◌then◌else◌}
 use Rattle.std.proofs.lemmas.Bool.{cases_eq}
 use Rattle.std.proofs.lemmas.List.{map-set}
 use Rattle.std.proofs.lemmas.Option.{slice_get-map}
 use Rattle.lc_disk.specs.declared.area.Area.{Ghosts}
-use Rattle.lc_page.specs.PageWrite.{Continues}
+use Rattle.lc_log.specs.OneCall.{IsOneCall}
 use Rattle.lc_model.specs.Machine.{Row}
 use Rattle.lc_model.specs.Refusals.{Unless, common_refusal}
 use Rattle.lc_model.specs.State.{Setting, State}
@@ -141,7 +141,7 @@ module _ {D : Type 0} (a : Ghosts D) where
 
   -- the device of one segment, called once
   pub page_counts : (running after : Running D a) (segments : List (Pages D a)) (k : ℕ) (reply : Reply) (old new : Pages D a) → slice_get segments k ≡ Some old → SameLogAreas a running after
-      → Continues a old.area new.area (not (is_fault reply))
+      → IsOneCall a (not (is_fault reply)) old.area new.area
       → CountsFaults reply (log_failures a (logs_of a running.nodes.items) ++ area_failures a (areas_of a segments))
       (log_failures a (logs_of a after.nodes.items) ++ area_failures a (areas_of a (slice_set segments k new)))
   page_counts running after segments k reply old new at same device =

@@ -1,6 +1,7 @@
 -- Which replies tell that a device has failed, how often devices have failed then, and which replies tell of something unknown.
-use Rattle.std.specs.Prelude.{◌≡◌, ℕ, ◌+◌, Bool, true, false, List, length, Option, Some, option_map, slice_get, slice_set, if◌then◌else◌}
+use Rattle.std.specs.Prelude.{◌≡◌, ◌⊎◌, ℕ, ◌+◌, Bool, true, false, List, length, Option, Some, option_map, slice_get, slice_set, if◌then◌else◌}
 use Rattle.lc_disk.specs.declared.area.Area.{Ghosts}
+use Rattle.lc_log.specs.OneCall.{IsOneCall}
 use Rattle.lc_model.specs.declared.refusal.Refusal.{Refusal}
 use Rattle.lc_model.specs.declared.refusal.Refusal.TheVariants.{DeviceFault, Unknown}
 use Rattle.lc_model.specs.declared.reply.Reply.{Reply}
@@ -70,8 +71,23 @@ module _ {D : Type 0} (a : Ghosts D) where
   abbrev pub kind_of : Log D a → Option (Bool × ℕ)
   kind_of log = option_map device_kind (area_of a log)
 
+  -- one call of the area was made, or none
+  abbrev pub MayCall : Option D → Option D → Type 0
+  MayCall old new = (new ≡ old) ⊎ ((before : D) × (after : D) × (ok : Bool) × (old ≡ Some before) × (new ≡ Some after) × IsOneCall a ok before after)
+
+  -- one of these areas was called so
+  pub record CallsOneOf (olds news : List (Option D)) : Type 0 where
+    pub at : ℕ
+    pub old : D
+    pub new : D
+    pub ok : Bool
+    pub was : slice_get olds at ≡ Some (Some old)
+    pub is : news ≡ slice_set olds at (Some new)
+    pub call : IsOneCall a ok old new
+
   -- it is the same device, which has failed once more just where the reply tells of it; nothing is unknown
   pub record TellsFault (reply : Reply) (old new : Log D a) : Type 0 where
     pub known : is_unknown reply ≡ false
     pub failures : failures_of new ≡ (if is_fault reply then option_map (λ count. count + 1) (failures_of old) else failures_of old)
     pub kind : kind_of new ≡ kind_of old
+    pub call : MayCall (area_of a old) (area_of a new)

@@ -1,8 +1,8 @@
 -- How often the devices of a store have failed, and what its replies tell of it.
-use Rattle.std.specs.Prelude.{◌≡◌, ℕ, Bool, List, [], ◌∷◌, ◌++◌, map, Option, Some}
+use Rattle.std.specs.Prelude.{◌≡◌, ◌⊎◌, ℕ, Bool, List, [], ◌∷◌, ◌++◌, map, Option, Some}
 use Rattle.lc_disk.specs.declared.area.Area.{Ghosts}
 use Rattle.lc_model.specs.declared.reply.Reply.{Reply}
-use Rattle.lc_core.specs.FaultReplies.{CountsFaults, failures_of, kind_of}
+use Rattle.lc_core.specs.FaultReplies.{CallsOneOf, CountsFaults, failures_of, kind_of}
 use Rattle.lc_core.specs.Log.{area_of}
 use Rattle.lc_core.specs.Pages.{areas_of}
 use Rattle.lc_core.specs.declared.log.Log.{Log}
@@ -21,6 +21,10 @@ module _ {D : Type 0} (a : Ghosts D) where
   abbrev pub logs_of : List (Node D a) → List (Log D a)
   logs_of nodes = map (λ node. node.journal.log) nodes
 
+  -- and their areas
+  abbrev pub areas_in : List (Node D a) → List (Option D)
+  areas_in nodes = map (area_of a) (logs_of nodes)
+
   -- no node's log has changed
   pub record SameLogs (old new : Running D a) : Type 0 where
     pub geometry : new.geometry ≡ old.geometry
@@ -29,7 +33,7 @@ module _ {D : Type 0} (a : Ghosts D) where
   -- nor its area
   pub record SameLogAreas (old new : Running D a) : Type 0 where
     pub geometry : new.geometry ≡ old.geometry
-    pub areas : map (area_of a) (logs_of new.nodes.items) ≡ map (area_of a) (logs_of old.nodes.items)
+    pub areas : areas_in new.nodes.items ≡ areas_in old.nodes.items
 
   -- how often the device of each has failed
   abbrev pub log_failures : List (Log D a) → List (Option ℕ)
@@ -58,6 +62,7 @@ module _ {D : Type 0} (a : Ghosts D) where
   pub record CountsLogs (old : Running D a) (reply : Reply) (new : Running D a) : Type 0 where
     pub counts : CountsFaults reply (log_failures (logs_of old.nodes.items)) (log_failures (logs_of new.nodes.items))
     pub devices : SameDevices old new
+    pub calls : (areas_in new.nodes.items ≡ areas_in old.nodes.items) ⊎ CallsOneOf a (areas_in old.nodes.items) (areas_in new.nodes.items)
 
   -- and of a store of its areas
   abbrev pub CountsPhase : Phase D a → Reply → Phase D a → Type 0

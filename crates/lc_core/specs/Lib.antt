@@ -52,6 +52,7 @@ pub mod Showing
 pub mod LogWords
 pub mod Recovers
 pub mod Geometries
+pub mod Calls
 pub mod Uncommitted
 pub mod Resets
 pub mod Areas

@@ -1,9 +1,10 @@
 -- A node's log between two steps, and what a step makes of it.
-use Rattle.std.specs.Prelude.{◌≡◌, ⊤, ◌⊎◌, ℕ, ◌+◌, ◌*◌, ◌<◌, ◌≤◌, Bool, true, false, List, [], ◌++◌, length, Option, Some, None, if◌then◌else◌}
+use Rattle.std.specs.Prelude.{◌≡◌, ⊤, ◌⊎◌, ℕ, ◌+◌, ◌*◌, ◌<◌, ◌≤◌, Bool, true, false, List, [], ◌++◌, length, Option, Some, None, not}
 use Rattle.lc_disk.specs.declared.area.Area.{Ghosts}
 use Rattle.lc_record.specs.declared.record.Record.{Record}
 use Rattle.lc_log.specs.LogText.{IsLogText}
-use Rattle.lc_log.specs.NodeLog.{IsIdle, IsWritten, IsSynced, IsOpened, IsClosing, IsGroup, IsWithOrWithout, LeavesOnly, Continues}
+use Rattle.lc_log.specs.NodeLog.{IsIdle, IsWritten, IsSynced, IsOpened, IsClosing, IsGroup, IsWithOrWithout, LeavesOnly}
+use Rattle.lc_log.specs.OneCall.{IsOneCall}
 use Rattle.lc_core.specs.declared.log.Log.{Log}
 use Rattle.lc_core.specs.declared.log.Log.TheVariants.{Idle, Written, Synced, Opened, Sealed, Closing, Emptied, Failed, Torn, Taken}
 
@@ -249,8 +250,7 @@ module _ {D : Type 0} (a : Ghosts D) where
   pub record IsCalled (area : D) (new : Log D a) : Type 0 where
     pub after : D
     pub there : area_of new ≡ Some after
-    pub device : Continues a area after
-    pub failures : a.failures after ≡ (if is_failed new then a.failures area + 1 else a.failures area)
+    pub device : IsOneCall a (not (is_failed new)) area after
 
   -- at most one call is made
   abbrev pub CallsOnce : Log D a → Log D a → Type 0

@@ -14,6 +14,7 @@ use std::alloc::{AllocError, Global};
 impl<D: Stoppable + Drop> World<D> {
     ghost use Rattle.lc_core.specs.World.{AsksIn, AsksWorld, FollowsWorld, StillFitsWorld};
     ghost use Rattle.lc_core.specs.Faults.{CountsPhase, phase_failures};
+    ghost use Rattle.lc_core.specs.Calls.{CallsArea};
     ghost use Rattle.lc_core.specs.Geometries.{RefusesOutside, phase_geometry};
     ghost use Rattle.lc_core.specs.Recovers.{RecoversDown, RefusesAtOnce};
 
@@ -45,6 +46,9 @@ impl<D: Stoppable + Drop> World<D> {
         // The geometry stays, and what it does not have is unknown.
         ensures geometry { phase_geometry D.Area self.new.phase ≡ phase_geometry D.Area self.old.phase }
         ensures unknown { IfOk result (RefusesOutside D.Area self.old.phase event.now) }
+
+        // One call of one area, or none.
+        ensures calls { ((choices : List (List Choice)) → event.now ≡ Stop choices → ⊥) → CallsArea D.Area self.old.phase self.new.phase }
     {
         if let Event::RecoverStep = event {
             return self.recover_step(alloc);

@@ -2,7 +2,8 @@
 ghost use Rattle.std.specs.Prelude.{◌≡◌, ◌<◌, ℕ, Some, IfErr, is_ok, vec_len, slice_get};
 ghost use Rattle.std.specs.List.{list_any};
 ghost use Rattle.lc_page.specs.Page.{slot_at};
-ghost use Rattle.lc_page.specs.PageWrite.{closing_bytes, Continues, Writes};
+ghost use Rattle.lc_log.specs.OneCall.{IsOneCall};
+ghost use Rattle.lc_page.specs.PageWrite.{closing_bytes, Writes};
 ghost use Rattle.lc_page.specs.Writing.{Calls};
 ghost use Rattle.lc_page.specs.declared.writing.Writing.{Writing as TheWriting};
 ghost use Rattle.lc_model.specs.State.{Setting};
@@ -37,7 +38,7 @@ impl<D: Area> Pages<D> {
         ensures states { BeginsIn self.old.writes.items write.draft (is_ok result) self.new.writes.items }
         ensures call { Writes D.Area write.draft.page (slot_at write.draft.page write.draft.slot) (closing_bytes write.state.gate)
             self.old.area self.new.area (is_ok result) }
-        ensures device { Continues D.Area self.old.area self.new.area (is_ok result) }
+        ensures device { IsOneCall D.Area (is_ok result) self.old.area self.new.area }
         ensures fault { IfErr result (λ f. f ≡ PageFault.DeviceFault) }
         ensures pages { vec_len self.new.writes ≡ vec_len self.old.writes }
     {
@@ -67,7 +68,7 @@ impl<D: Area> Pages<D> {
             → StepsIn self.old.writes.items page write result self.new.writes.items }
         ensures call { (write : TheWriting) → slice_get self.old.writes.items page ≡ Some (UnderWay write)
             → Calls D.Area write self.old.area self.new.area (is_ok result) }
-        ensures device { Continues D.Area self.old.area self.new.area (is_ok result) }
+        ensures device { IsOneCall D.Area (is_ok result) self.old.area self.new.area }
         ensures fault { IfErr result (λ f. f ≡ PageFault.DeviceFault) }
         ensures pages { vec_len self.new.writes ≡ vec_len self.old.writes }
     {

@@ -1,6 +1,6 @@
 //! The device calls of a page write, one by one.
 ghost use Rattle.std.specs.Prelude.{◌≡◌, ◌<◌, ◌≤◌, ◌-◌, false, not, Some, IsSome, vec_len, slice_get};
-ghost use Rattle.lc_page.specs.PageWrite.{Continues};
+ghost use Rattle.lc_log.specs.OneCall.{IsOneCall};
 ghost use Rattle.lc_page.specs.declared.writing.Writing.{Writing};
 ghost use Rattle.lc_core.specs.FaultReplies.{is_fault, is_unknown};
 ghost use Rattle.lc_core.specs.Log.{area_of};
@@ -28,7 +28,7 @@ impl<D: Area + Drop> Node<D> {
         ensures whole { HasSameRoom D.Area self.old self.new }
 
         // One call of the device, or none, and none of the log's.
-        ensures device { Continues D.Area pages.old.area pages.new.area (not (is_fault result)) }
+        ensures device { IsOneCall D.Area (not (is_fault result)) pages.old.area pages.new.area }
         ensures log { area_of D.Area self.new.journal.log ≡ area_of D.Area self.old.journal.log }
         ensures known { is_unknown result ≡ false }
         ensures pages { vec_len pages.new.writes ≡ vec_len pages.old.writes }
@@ -54,7 +54,7 @@ impl<D: Area + Drop> Node<D> {
         requires rests { slice_get pages.old.writes.items page ≡ Some Rests }
         ensures follows { FollowsPage D.Area segment page self.old pages.old result self.new pages.new }
         ensures whole { HasSameRoom D.Area self.old self.new }
-        ensures device { Continues D.Area pages.old.area pages.new.area (not (is_fault result)) }
+        ensures device { IsOneCall D.Area (not (is_fault result)) pages.old.area pages.new.area }
         ensures log { area_of D.Area self.new.journal.log ≡ area_of D.Area self.old.journal.log }
         ensures known { is_unknown result ≡ false }
         ensures pages { vec_len pages.new.writes ≡ vec_len pages.old.writes }
@@ -86,7 +86,7 @@ impl<D: Area + Drop> Node<D> {
         requires begun { (write : Writing) × (slice_get pages.old.writes.items page ≡ Some (IsUnderWay write)) }
         ensures follows { FollowsPage D.Area segment page self.old pages.old result self.new pages.new }
         ensures whole { HasSameRoom D.Area self.old self.new }
-        ensures device { Continues D.Area pages.old.area pages.new.area (not (is_fault result)) }
+        ensures device { IsOneCall D.Area (not (is_fault result)) pages.old.area pages.new.area }
         ensures log { area_of D.Area self.new.journal.log ≡ area_of D.Area self.old.journal.log }
         ensures known { is_unknown result ≡ false }
         ensures pages { vec_len pages.new.writes ≡ vec_len pages.old.writes }

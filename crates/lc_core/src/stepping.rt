@@ -9,7 +9,7 @@ ghost use Rattle.lc_core.specs.NodeSteps.{is_own};
 ghost use Rattle.lc_core.specs.Paging.{FollowsPaging};
 ghost use Rattle.lc_core.specs.Refuses.{ActsRunning};
 ghost use Rattle.lc_core.specs.Stepping.{Wants};
-ghost use Rattle.lc_page.specs.PageWrite.{Continues};
+ghost use Rattle.lc_log.specs.OneCall.{IsOneCall};
 
 use crate::named::acting_node;
 use crate::pages::Pages;
@@ -51,7 +51,7 @@ impl<D: Area + Drop> Running<D> {
         ensures follows { FollowsPaging D.Area node segment page self.old pages.old result self.new pages.new }
 
         // One call of the segment's device, or none, and none of a log's.
-        ensures device { Continues D.Area pages.old.area pages.new.area (not (is_fault result)) }
+        ensures device { IsOneCall D.Area (not (is_fault result)) pages.old.area pages.new.area }
         ensures logs { SameLogAreas D.Area self.old self.new }
         ensures known { is_unknown result ≡ false }
         ensures pages { vec_len pages.new.writes ≡ vec_len pages.old.writes }

@@ -2,6 +2,7 @@
 ghost use Rattle.std.specs.Prelude.{◌≡◌, ℕ, true, IfOk, OnErr};
 ghost use Rattle.lc_model.specs.State.{Setting};
 ghost use Rattle.lc_model.specs.declared.event.Event.TheVariants.{PageStep};
+ghost use Rattle.lc_core.specs.Calls.{CallsArea};
 ghost use Rattle.lc_core.specs.Faults.{CountsPhase, phase_failures};
 ghost use Rattle.lc_core.specs.Geometries.{RefusesUnknown};
 ghost use Rattle.lc_core.specs.Numbers.{Numbers};
@@ -26,6 +27,7 @@ impl<D: Area + Drop> Up<D> {
         ensures no_fault { OnErr result (phase_failures D.Area (IsUp self.new) ≡ phase_failures D.Area (IsUp self.old)) }
         ensures geometry { self.new.running.geometry ≡ self.old.running.geometry }
         ensures unknown { IfOk result (RefusesUnknown self.old.running.geometry event.now) }
+        ensures calls { CallsArea D.Area (IsUp self.old) (IsUp self.new) }
     {
         if let Event::PageStep {
             node,
@@ -45,6 +47,7 @@ impl<D: Area + Drop> Up<D> {
         ensures faults { CountsPhase D.Area (IsUp self.old) result (IsUp self.new) }
         ensures geometry { self.new.running.geometry ≡ self.old.running.geometry }
         ensures unknown { RefusesUnknown self.old.running.geometry (PageStep node segment page) result }
+        ensures calls { CallsArea D.Area (IsUp self.old) (IsUp self.new) }
     {
         let event = Event::PageStep {
             node,

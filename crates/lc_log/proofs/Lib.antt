@@ -4,3 +4,4 @@ pub mod StateLemmas
 pub mod ResetLemmas
 pub mod InPlaceLemmas
 pub mod WalkBackLemmas
+pub mod OneCalls

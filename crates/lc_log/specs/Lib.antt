@@ -1,3 +1,4 @@
 pub mod LogText
 pub mod NodeLog
 pub mod InPlace
+pub mod OneCall

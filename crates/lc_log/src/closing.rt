@@ -1,5 +1,5 @@
 //! A log whose first gate was closed.
-ghost use Rattle.std.specs.Prelude.{◌≡◌, ◌≢◌, ℕ, ◌+◌, ◌<◌, ◌≤◌, ◌^◌, List, [], ◌∷◌, true, false, length, IfOk, IfErr, if◌then◌else◌};
+ghost use Rattle.std.specs.Prelude.{◌≡◌, ◌≢◌, ℕ, ◌+◌, ◌<◌, ◌≤◌, ◌^◌, List, [], ◌∷◌, true, false, length, IfOk, IfErr, if◌then◌else◌, MatchResult};
 
 use crate::first_gate::{close_first_gate, settle_first_gate};
 use crate::{Failed, Idle};
@@ -18,6 +18,7 @@ impl<D: Area> Closing<D> {
     ghost use Rattle.lc_record.specs.declared.record.Record.{Record};
     ghost use Rattle.lc_log.specs.LogText.{IsLogText};
     ghost use Rattle.lc_log.specs.NodeLog.{IsClosing, IsIdle, IsUntouched, IsWithOrWithout, Holds, GateReads, LeavesOnly, Wrote, MadeStable, Continues};
+    ghost use Rattle.lc_log.specs.OneCall.{IsOneCall};
 
     /// Closes the first gate of an area where it reads open, as the caller has read it; else the call is made with no
     /// bytes. What stands behind the records may be anything, an open gate too.
@@ -44,6 +45,7 @@ impl<D: Area> Closing<D> {
         ensures failed_untouched { IfErr result (λ failed. is_open ≡ false → IsUntouched D.Area failed.area area) }
         ensures failed_device { IfErr result (λ failed. Continues D.Area area failed.area) }
         ensures cause { IfErr result (λ failed. D.failures failed.area ≡ D.failures area + 1) }
+        ensures call { MatchResult result (λ log. IsOneCall D.Area true area log.area) (λ failed. IsOneCall D.Area false area failed.area) }
     {
         // Its length is below 2^64.
         let _len = area.len();
@@ -77,6 +79,7 @@ impl<D: Area> Closing<D> {
 
         ensures failed_device { IfErr result (λ failed. Continues D.Area self.area failed.area) }
         ensures cause { IfErr result (λ failed. D.failures failed.area ≡ D.failures self.area + 1) }
+        ensures call { MatchResult result (λ log. IsOneCall D.Area true self.area log.area) (λ failed. IsOneCall D.Area false self.area failed.area) }
     {
         let Closing { mut area } = self;
         match settle_first_gate(&mut area) {

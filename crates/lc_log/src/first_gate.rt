@@ -4,6 +4,7 @@ ghost use Rattle.lc_record.specs.Words.{words_of};
 ghost use Rattle.lc_record.specs.declared.record.Record.{Record};
 ghost use Rattle.lc_log.specs.LogText.{IsLogText};
 ghost use Rattle.lc_log.specs.NodeLog.{IsClosing, IsIdle, IsUntouched, IsWithOrWithout, Holds, GateReads, LeavesOnly, Wrote, MadeStable, Continues};
+ghost use Rattle.lc_log.specs.OneCall.{IsOneCall};
 
 use lc_disk::{Area, DeviceFault};
 use lc_record::gate;
@@ -41,6 +42,7 @@ pub fn close_first_gate<D: Area>(area: &mut D, is_open: bool) -> Result<(), Devi
     ensures untouched { is_open ≡ false → IsUntouched D.Area area.new area.old }
     ensures device { Continues D.Area area.old area.new }
     ensures counted { D.failures area.new ≡ (if is_ok result then D.failures area.old else D.failures area.old + 1) }
+    ensures call { IsOneCall D.Area (is_ok result) area.old area.new }
 {
     area.write_at(0, closing_bytes(is_open))
 }
@@ -65,6 +67,7 @@ pub fn settle_first_gate<D: Area>(area: &mut D) -> Result<(), DeviceFault>
         → LeavesOnly D.Area area.new (IsWithOrWithout [] records) }
 
     ensures counted { D.failures area.new ≡ (if is_ok result then D.failures area.old else D.failures area.old + 1) }
+    ensures call { IsOneCall D.Area (is_ok result) area.old area.new }
 {
     area.sync()
 }

@@ -1,5 +1,5 @@
 //! A log at rest, and the calls that begin on it.
-ghost use Rattle.std.specs.Prelude.{◌≡◌, ◌≢◌, ℕ, ◌+◌, ◌*◌, ◌%◌, ◌<◌, ◌≤◌, ◌^◌, ◌++◌, List, [], ◌∷◌, true, false, length, drop, slice_index, ◌==◌, if◌then◌else◌, IfOk, IfErr};
+ghost use Rattle.std.specs.Prelude.{◌≡◌, ◌≢◌, ℕ, ◌+◌, ◌*◌, ◌%◌, ◌<◌, ◌≤◌, ◌^◌, ◌++◌, List, [], ◌∷◌, true, false, length, drop, slice_index, ◌==◌, if◌then◌else◌, IfOk, IfErr, MatchResult};
 ghost use Rattle.lc_disk.specs.Area.{IsClean, overlaid};
 ghost use Rattle.lc_record.specs.Words.{bytes_of};
 
@@ -25,6 +25,7 @@ impl<D: Area> Idle<D> {
     ghost use Rattle.lc_record.specs.declared.record.Record.{Record};
     ghost use Rattle.lc_log.specs.LogText.{IsLogText};
     ghost use Rattle.lc_log.specs.NodeLog.{IsIdle, IsWritten, IsClosing, IsGroup, IsUntouched, IsWithOrWithout, LeavesOnly, Wrote, Continues};
+    ghost use Rattle.lc_log.specs.OneCall.{IsOneCall};
 
     /// The log of an area that begins with no open gate, as it will after any stop: it has no record.
     pub fn new(area: D) -> Self
@@ -101,6 +102,7 @@ impl<D: Area> Idle<D> {
 
         ensures failed_device { IfErr result (λ failed. Continues D.Area self.area failed.area) }
         ensures cause { IfErr result (λ failed. D.failures failed.area ≡ D.failures self.area + 1) }
+        ensures call { MatchResult result (λ log. IsOneCall D.Area true self.area log.area) (λ failed. IsOneCall D.Area false self.area failed.area) }
     {
         let Idle { mut area, end } = self;
         match area.write_at(WORD_BYTES * end + 1, &group.bytes()[1..]) {
@@ -135,6 +137,7 @@ impl<D: Area> Idle<D> {
         ensures failed_untouched { IfErr result (λ failed. self.end ≡ 0 → IsUntouched D.Area failed.area self.area) }
         ensures failed_device { IfErr result (λ failed. Continues D.Area self.area failed.area) }
         ensures cause { IfErr result (λ failed. D.failures failed.area ≡ D.failures self.area + 1) }
+        ensures call { MatchResult result (λ log. IsOneCall D.Area true self.area log.area) (λ failed. IsOneCall D.Area false self.area failed.area) }
     {
         Closing::begin(self.area, self.end != 0)
     }

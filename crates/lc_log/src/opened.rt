@@ -1,5 +1,5 @@
 //! A log whose gate was opened over a stable group.
-ghost use Rattle.std.specs.Prelude.{◌≡◌, ◌++◌, ℕ, ◌+◌, ◌*◌, ◌<◌, ◌≤◌, ◌^◌, List, true, false, length, IfOk, IfErr};
+ghost use Rattle.std.specs.Prelude.{◌≡◌, ◌++◌, ℕ, ◌+◌, ◌*◌, ◌<◌, ◌≤◌, ◌^◌, List, true, false, length, IfOk, IfErr, MatchResult};
 
 use crate::{Failed, Idle};
 use lc_disk::Area;
@@ -21,6 +21,7 @@ impl<D: Area> Opened<D> {
     ghost use Rattle.lc_record.specs.declared.record.Record.{Record};
     ghost use Rattle.lc_log.specs.LogText.{IsLogText};
     ghost use Rattle.lc_log.specs.NodeLog.{IsOpened, IsIdle, IsWithOrWithout, LeavesOnly, MadeStable, Continues};
+    ghost use Rattle.lc_log.specs.OneCall.{IsOneCall};
 
     /// Makes the open gate stable, and with it the group.
     pub fn sync_gate(self) -> Result<Idle<D>, Failed<D>>
@@ -44,6 +45,7 @@ impl<D: Area> Opened<D> {
 
         ensures failed_device { IfErr result (λ failed. Continues D.Area self.area failed.area) }
         ensures cause { IfErr result (λ failed. D.failures failed.area ≡ D.failures self.area + 1) }
+        ensures call { MatchResult result (λ log. IsOneCall D.Area true self.area log.area) (λ failed. IsOneCall D.Area false self.area failed.area) }
     {
         let Opened {
             mut area,

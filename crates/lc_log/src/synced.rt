@@ -1,5 +1,5 @@
 //! A log with a stable group behind its closed gate.
-ghost use Rattle.std.specs.Prelude.{◌≡◌, ℕ, ◌+◌, ◌*◌, ◌<◌, ◌≤◌, ◌^◌, List, [], ◌∷◌, length, IfOk, IfErr};
+ghost use Rattle.std.specs.Prelude.{◌≡◌, ℕ, ◌+◌, ◌*◌, ◌<◌, ◌≤◌, ◌^◌, List, [], ◌∷◌, length, IfOk, IfErr, true, false, MatchResult};
 
 use crate::idle::WORD_BYTES;
 use crate::{Failed, Opened};
@@ -23,6 +23,7 @@ pub struct Synced<D: Area> {
 impl<D: Area> Synced<D> {
     ghost use Rattle.lc_record.specs.declared.record.Record.{Record};
     ghost use Rattle.lc_log.specs.NodeLog.{IsSynced, IsOpened, IsWithOrWithout, LeavesOnly, Wrote, Continues};
+    ghost use Rattle.lc_log.specs.OneCall.{IsOneCall};
 
     /// Opens the gate.
     pub fn open_gate(self) -> Result<Opened<D>, Failed<D>>
@@ -47,6 +48,7 @@ impl<D: Area> Synced<D> {
 
         ensures failed_device { IfErr result (λ failed. Continues D.Area self.area failed.area) }
         ensures cause { IfErr result (λ failed. D.failures failed.area ≡ D.failures self.area + 1) }
+        ensures call { MatchResult result (λ log. IsOneCall D.Area true self.area log.area) (λ failed. IsOneCall D.Area false self.area failed.area) }
     {
         let Synced {
             mut area,

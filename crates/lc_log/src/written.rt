@@ -1,5 +1,5 @@
 //! A log with a group written behind its closed gate.
-ghost use Rattle.std.specs.Prelude.{◌≡◌, ℕ, ◌+◌, ◌*◌, ◌<◌, ◌≤◌, ◌^◌, List, length, IfOk, IfErr};
+ghost use Rattle.std.specs.Prelude.{◌≡◌, ℕ, ◌+◌, ◌*◌, ◌<◌, ◌≤◌, ◌^◌, List, length, IfOk, IfErr, true, false, MatchResult};
 
 use crate::{Failed, Synced};
 use lc_disk::Area;
@@ -21,6 +21,7 @@ impl<D: Area> Written<D> {
     ghost use Rattle.lc_record.specs.declared.record.Record.{Record};
     ghost use Rattle.lc_log.specs.LogText.{IsLogText};
     ghost use Rattle.lc_log.specs.NodeLog.{IsWritten, IsSynced, LeavesOnly, MadeStable, Continues};
+    ghost use Rattle.lc_log.specs.OneCall.{IsOneCall};
 
     /// Makes the group stable, behind the closed gate.
     pub fn sync_group(self) -> Result<Synced<D>, Failed<D>>
@@ -45,6 +46,7 @@ impl<D: Area> Written<D> {
 
         ensures failed_device { IfErr result (λ failed. Continues D.Area self.area failed.area) }
         ensures cause { IfErr result (λ failed. D.failures failed.area ≡ D.failures self.area + 1) }
+        ensures call { MatchResult result (λ log. IsOneCall D.Area true self.area log.area) (λ failed. IsOneCall D.Area false self.area failed.area) }
     {
         let Written {
             mut area,

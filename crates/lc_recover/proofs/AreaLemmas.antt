@@ -5,7 +5,6 @@ use Rattle.std.specs.Option.{unwrap_or}
 use Rattle.std.proofs.lemmas.Option.{none-some, slice_get_within, get_or_from_slice_get}
 use Rattle.std.proofs.Math.Seq.{map-set_same}
 use Rattle.std.proofs.lemmas.List.{length-set, length-append, take-append-le, take_all}
-use Rattle.std.specs.Prelude.{if◌then◌else◌}
 use Rattle.std.proofs.lemmas.Bool.{cases_eq, cases_lt}
 use Rattle.lc_disk.specs.Area.{IsImage, IsClean}
 use Rattle.lc_disk.specs.declared.area.Area.{Ghosts}
@@ -14,6 +13,7 @@ use Rattle.lc_record.specs.Content.{Content}
 use Rattle.lc_record.specs.declared.geometry.Geometry.{Geometry}
 use Rattle.lc_recover.proofs.KeptLemmas.{get-append, get-append_end}
 use Rattle.lc_recover.specs.Reads.{AreHonest, AllMergeTo}
+use Rattle.lc_log.specs.OneCall.{IsOneCall}
 use Rattle.lc_recover.specs.Stage.{AreaFits, AreasFit, ReadsSo, OneCall, Quiet}
 use Rattle.lc_recover.specs.declared.stage.Stage.{Stage}
 use Rattle.lc_recover.specs.declared.stage.Stage.TheVariants.{Syncing}
@@ -112,8 +112,8 @@ module _ {D : Type 0} (a : Ghosts D) (g : Geometry) where
     quiet-reads quiet honest =
         map-set_same a.now areas k new old (quiet.same (honest k old was) ∙ ap a.now (sym (get_or_from_slice_get areas k old old was)))
 
-    pub one-call : (ok : Bool) → a.honest new ≡ a.honest old → a.failures new ≡ (if ok then a.failures old else a.failures old + 1) → OneCall a k areas (slice_set areas k new) ok
-    one-call ok honest counted = record { old = old; new = new; was = was; is = refl; honest = honest; counted = counted }
+    pub one-call : (ok : Bool) → IsOneCall a ok old new → OneCall a k areas (slice_set areas k new) ok
+    one-call ok call = record { old = old; new = new; was = was; is = refl; honest = call.honest; counted = call.counted; call = call }
 
 -- one more area is read
 module _ {D : Type 0} (a : Ghosts D) (read : List (List ℕ)) (bytes : List ℕ) where

@@ -34,3 +34,4 @@ pub mod Exclusive
 pub mod StillHonest
 pub mod Blank
 pub mod StepsBound
+pub mod PageCalls

@@ -8,6 +8,7 @@ use Rattle.lc_record.specs.declared.geometry.Geometry.{Geometry}
 use Rattle.lc_record.specs.declared.record.Record.{Record}
 use Rattle.lc_log.specs.LogText.{IsLogText}
 use Rattle.lc_log.specs.NodeLog.{IsShut}
+use Rattle.lc_log.specs.OneCall.{IsOneCall}
 use Rattle.lc_page.specs.Page.{page_in}
 use Rattle.lc_page.specs.PageVector.{entry_at, entry_text, settled}
 use Rattle.lc_page.specs.PageWrite.{IsSettled}
@@ -226,7 +227,7 @@ module _ {D : Type 0} (a : Ghosts D) where
     pub same : a.honest old ≡ true → a.now new ≡ a.now old
     pub clean : a.honest old ≡ true → (k : ℕ) → a.dirty old k ≡ false → a.dirty new k ≡ false
 
-  -- one call of this area, which failed or not; nothing else has changed
+  -- one call of this area, which failed or not: what it leaves of the area no two calls do; nothing else has changed
   pub record OneCall (at : ℕ) (olds news : List D) (ok : Bool) : Type 0 where
     pub old : D
     pub new : D
@@ -234,3 +235,4 @@ module _ {D : Type 0} (a : Ghosts D) where
     pub is : news ≡ slice_set olds at new
     pub honest : a.honest new ≡ a.honest old
     pub counted : a.failures new ≡ (if ok then a.failures old else a.failures old + 1)
+    pub call : IsOneCall a ok old new

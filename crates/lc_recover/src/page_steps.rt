@@ -1,8 +1,9 @@
 //! The steps that write pages.
 ghost use Rattle.std.specs.Prelude.{◌≡◌, ◌≢◌, ◌∷◌, drop, ◌+◌, ◌*◌, ◌<◌, ◌≤◌, ℕ, Some, None, IfOk, OnOk, length, is_ok, true, false, slice_get, slice_index_or};
+ghost use Rattle.lc_log.specs.OneCall.{IsOneCall};
 ghost use Rattle.lc_page.specs.Page.{Page, page_in};
 ghost use Rattle.lc_page.specs.PageVector.{entry_at, entry_text};
-ghost use Rattle.lc_page.specs.PageWrite.{Continues, SettledIn, HasPage, KeepsPage, IsEither, drafted};
+ghost use Rattle.lc_page.specs.PageWrite.{SettledIn, HasPage, KeepsPage, IsEither, drafted};
 ghost use Rattle.lc_page.specs.declared.page_text.PageText.{PageText};
 ghost use Rattle.lc_page.specs.Writing.{calls_of, draft_of, IsNextOf, IsUnderWay, GoesOn};
 ghost use Rattle.lc_recover.specs.Page.{page_of, pages_of};
@@ -134,7 +135,7 @@ fn begin_page<D: Area>(
         → HasPage D.Area area.new c.page (λ page. page ≡ page_in (D.now area.old) c.page) }
     ensures others { (c : Change) (pages : SegmentPages) → IsNext writes.now c pages
         → (page : ℕ) → page ≢ c.page → KeepsPage D.Area page area.old area.new }
-    ensures device { Continues D.Area area.old area.new (is_ok result) }
+    ensures device { IsOneCall D.Area (is_ok result) area.old area.new }
     ensures bytes { D.honest area.new ≡ true → (at : ℕ) → slice_index_or (D.now area.new) at 0 < 256 }
 {
     let changes = first_page(&writes.merged.changes[writes.next..]);
@@ -165,7 +166,7 @@ fn go_on<D: Area>(write: Writing, area: &mut D) -> Result<Option<Writing>, Devic
     ensures page { (text : PageText) (old : Page) → IsUnderWay D.Area area.old write text old
         → HasPage D.Area area.new (draft_of write).page (IsEither old (drafted (draft_of write))) }
     ensures others { (page : ℕ) → page ≢ (draft_of write).page → KeepsPage D.Area page area.old area.new }
-    ensures device { Continues D.Area area.old area.new (is_ok result) }
+    ensures device { IsOneCall D.Area (is_ok result) area.old area.new }
     ensures clean { OnOk result (calls_of write ≡ 5 → D.honest area.old ≡ true → (k : ℕ) → D.dirty area.new k ≡ false) }
     ensures bytes { D.honest area.new ≡ true → (at : ℕ) → slice_index_or (D.now area.new) at 0 < 256 }
 {

@@ -1,7 +1,8 @@
 //! The steps that empty the logs.
-ghost use Rattle.std.specs.Prelude.{◌≡◌, ◌+◌, ◌*◌, ◌<◌, ◌≤◌, ℕ, List, [], OnOk, length, is_ok, true, false, if◌then◌else◌, slice_index_or};
+ghost use Rattle.std.specs.Prelude.{◌≡◌, ◌+◌, ◌*◌, ◌<◌, ◌≤◌, ℕ, List, [], OnOk, length, is_ok, true, false, slice_index_or};
 ghost use Rattle.lc_record.specs.declared.record.Record.{Record};
-ghost use Rattle.lc_log.specs.NodeLog.{IsClosing, IsWithOrWithout, Holds, GateReads, LeavesOnly, Continues};
+ghost use Rattle.lc_log.specs.NodeLog.{IsClosing, IsWithOrWithout, Holds, GateReads, LeavesOnly};
+ghost use Rattle.lc_log.specs.OneCall.{IsOneCall};
 ghost use Rattle.lc_recover.specs.Reads.{AreHonest};
 ghost use Rattle.lc_recover.specs.Shows.{ShowLogs};
 ghost use Rattle.lc_recover.specs.Stage.{AreasFit, Fits, OneCall, IsResetting, IsEmptied};
@@ -87,9 +88,8 @@ fn close_log<D: Area>(area: &mut D, is_open: bool) -> Result<(), DeviceFault>
     ensures images { (records : List Record)
         → GateReads D.Area area.old is_open → Holds D.Area area.old records
         → LeavesOnly D.Area area.new (IsWithOrWithout [] records) }
-    ensures device { Continues D.Area area.old area.new }
+    ensures device { IsOneCall D.Area (is_ok result) area.old area.new }
     ensures bytes { D.honest area.new ≡ true → (at : ℕ) → slice_index_or (D.now area.new) at 0 < 256 }
-    ensures counted { D.failures area.new ≡ (if is_ok result then D.failures area.old else D.failures area.old + 1) }
 {
     let closed = close_first_gate(area, is_open);
     let _len = area.len();
@@ -103,9 +103,8 @@ fn settle_log<D: Area>(area: &mut D) -> Result<(), DeviceFault>
     ensures images { (records : List Record)
         → IsClosing D.Area area.old records
         → LeavesOnly D.Area area.new (IsWithOrWithout [] records) }
-    ensures device { Continues D.Area area.old area.new }
+    ensures device { IsOneCall D.Area (is_ok result) area.old area.new }
     ensures bytes { D.honest area.new ≡ true → (at : ℕ) → slice_index_or (D.now area.new) at 0 < 256 }
-    ensures counted { D.failures area.new ≡ (if is_ok result then D.failures area.old else D.failures area.old + 1) }
 {
     let settled = settle_first_gate(area);
     let _len = area.len();

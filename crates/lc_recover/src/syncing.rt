@@ -1,6 +1,7 @@
 //! The steps that sync the areas and read them.
-ghost use Rattle.std.specs.Prelude.{◌≡◌, ◌+◌, ◌<◌, ◌⊎◌, ℕ, Ok, Err, IfOk, IfErr, OnOk, OnErr, length, map, is_ok, true, if◌then◌else◌};
+ghost use Rattle.std.specs.Prelude.{◌≡◌, ◌+◌, ◌<◌, ◌⊎◌, ℕ, Ok, Err, IfOk, IfErr, OnOk, OnErr, length, map, is_ok, true};
 ghost use Rattle.lc_record.specs.Content.{Content};
+ghost use Rattle.lc_log.specs.OneCall.{IsOneCall};
 ghost use Rattle.lc_recover.specs.Reads.{AreHonest, AllMergeTo};
 ghost use Rattle.lc_recover.specs.Stage.{AreasFit, Fits, OneCall, Quiet};
 ghost use Rattle.lc_recover.specs.declared.stage.Stage.{Stage};
@@ -61,7 +62,7 @@ fn read_whole<D: Area>(area: &mut D, bytes: &mut Vec<u8>) -> Result<(), DeviceFa
     ensures len { length bytes.new.items ≡ length (D.now area.old) }
     ensures bytes { OnOk result (D.honest area.old ≡ true → bytes.new.items ≡ D.now area.old) }
     ensures quiet { Quiet D.Area area.old area.new }
-    ensures counted { D.failures area.new ≡ (if is_ok result then D.failures area.old else D.failures area.old + 1) }
+    ensures call { IsOneCall D.Area (is_ok result) area.old area.new }
 {
     area.read(0, bytes.as_mut_slice())
 }

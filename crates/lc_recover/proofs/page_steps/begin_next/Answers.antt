@@ -43,7 +43,7 @@ pub returns-clause-areas : goal.returns-clause-areas
 returns-clause-areas g c = write-begins g.D.Area c.args.geometry.now c.args.writes.now c.args.areas.now c.args.place (old g c) c.begin_page.new.area (was g c) c.requires.fits.0 c.begin_page.ensures.device.honest c.begin_page.ensures.device.same_length c.begin_page.ensures.bytes
 
 pub returns-clause-call : goal.returns-clause-call
-returns-clause-call g c = one-call g.D.Area c.args.geometry.now c.args.areas.now c.args.place (old g c) c.begin_page.new.area (was g c) _ c.begin_page.ensures.device.honest c.begin_page.ensures.device.counted
+returns-clause-call g c = one-call g.D.Area c.args.geometry.now c.args.areas.now c.args.place (old g c) c.begin_page.new.area (was g c) _ c.begin_page.ensures.device
 
 pub returns-clause-fits : goal.returns-clause-fits
 returns-clause-fits g c =

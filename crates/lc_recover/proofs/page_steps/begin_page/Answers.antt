@@ -1,7 +1,8 @@
 use Rattle.std.proofs.Common.{◌≡◌, ◌<◌, ◌≤◌, ℕ, IfOk, is_ok, ◌-◌, Bool, List}
 use Rattle.lc_page.specs.Page.{page_in}
 use Rattle.lc_page.specs.PageVector.{entry_at, entry_text}
-use Rattle.lc_page.specs.PageWrite.{Continues, SettledIn, HasPage, KeepsPage}
+use Rattle.lc_log.specs.OneCall.{IsOneCall}
+use Rattle.lc_page.specs.PageWrite.{SettledIn, HasPage, KeepsPage}
 use Rattle.lc_page.specs.Writing.{draft_of, IsUnderWay}
 use Rattle.lc_recover.specs.Stage.{IsWriting, IsDraft, IsNext}
 use Rattle.lc_recover.specs.declared.change.Change.{Change}
@@ -13,6 +14,7 @@ use Rattle.lc_model.specs.Stored.{page_bytes}
 use Rattle.lc_recover.specs.Page.{AreAt}
 use Rattle.lc_recover.proofs.Begins.{ComesNext, nearest, some_there, lies_within, lies_below, is_next, only_next, its_page, its_number, small_number, newer, bytes_are, still_old}
 use Rattle.lc_recover.proofs.page_steps.begin_page.Goals.{in-Ok+in-Ok-begin, in-Ok+in-Err-begin, in-Err}
+use Rattle.lc_recover.proofs.PageCalls.{writes_call}
 use Rattle.lc_recover.proofs.page_steps.begin_page.Given.{Over}
 use Rattle.lc_recover.proofs.page_steps.begin_page.Goals as goal
 
@@ -134,12 +136,12 @@ returns-clause-page g c d pages is = elim c.match-begin.branch [
 -- src/page_steps.rt:65:1
 pub returns-clause-device : goal.returns-clause-device
 returns-clause-device g c = elim c.match-begin.branch [
-  | in-Ok+in-Ok-begin w ↦ subst (λ (a : g.row.D.Denot). Continues g.D.Area c.args.area.now a (is_ok c.match-begin.begun)) (sym w.area-is)
-      (subst (λ (ok : Bool). Continues g.D.Area c.args.area.now w.begin-in-Ok.new.area ok)
-      (ap (λ (r : _). is_ok r) w.in-Ok-begin.is ∙ sym (ap (λ (r : _). is_ok r) w.begun-is)) w.begin-in-Ok.ensures.device)
-  | in-Ok+in-Err-begin w ↦ subst (λ (a : g.row.D.Denot). Continues g.D.Area c.args.area.now a (is_ok c.match-begin.begun)) (sym w.area-is)
-      (subst (λ (ok : Bool). Continues g.D.Area c.args.area.now w.begin-in-Ok.new.area ok)
-      (ap (λ (r : _). is_ok r) w.in-Err-begin.is ∙ sym (ap (λ (r : _). is_ok r) w.begun-is)) w.begin-in-Ok.ensures.device)
+  | in-Ok+in-Ok-begin w ↦ subst (λ (a : g.row.D.Denot). IsOneCall g.D.Area (is_ok c.match-begin.begun) c.args.area.now a) (sym w.area-is)
+      (subst (λ (ok : Bool). IsOneCall g.D.Area ok c.args.area.now w.begin-in-Ok.new.area)
+      (ap (λ (r : _). is_ok r) w.in-Ok-begin.is ∙ sym (ap (λ (r : _). is_ok r) w.begun-is)) (writes_call g.D.Area _ _ _ c.args.area.now w.begin-in-Ok.new.area _ w.begin-in-Ok.ensures.call))
+  | in-Ok+in-Err-begin w ↦ subst (λ (a : g.row.D.Denot). IsOneCall g.D.Area (is_ok c.match-begin.begun) c.args.area.now a) (sym w.area-is)
+      (subst (λ (ok : Bool). IsOneCall g.D.Area ok c.args.area.now w.begin-in-Ok.new.area)
+      (ap (λ (r : _). is_ok r) w.in-Err-begin.is ∙ sym (ap (λ (r : _). is_ok r) w.begun-is)) (writes_call g.D.Area _ _ _ c.args.area.now w.begin-in-Ok.new.area _ w.begin-in-Ok.ensures.call))
   | in-Err w ↦ absurd (true≢false (sym (subst (λ (r : _). IsOk r) w.in-Err.is (r_ok g c))))
 ]
 

@@ -7,6 +7,7 @@ use Rattle.std.proofs.Common.{◌≡◌, ◌∙◌, ◌+◌, ◌-◌, ◌*◌, �
 use Rattle.std.specs.Prelude.{slice_get, slice_set, if◌then◌else◌}
 use Rattle.std.proofs.lemmas.Option.{slice_get-get_or}
 use Rattle.lc_disk.specs.Area.{overlaid}
+use Rattle.lc_log.specs.OneCall.{IsOneCall}
 use Rattle.lc_page.specs.PageVector.{entry_at, entry_text, settled}
 use Rattle.lc_page.specs.Writing.{draft_of, calls_of, GoesOn, IsNextOf}
 use Rattle.lc_page.specs.declared.draft.Draft.{Draft}
@@ -66,7 +67,7 @@ pub returns-then-is_none-clause-call : goal.returns-then-is_none-clause-call
 returns-then-is_none-clause-call g c =
     let old = get_or c.args.areas.now c.args.place c.index-areas-place.result in
     let was : slice_get c.args.areas.now c.args.place ≡ Some old = slice_get-get_or c.args.areas.now c.args.place c.index-areas-place.result c.requires.within in
-    one-call g.D.Area c.args.geometry.now c.args.areas.now c.args.place old c.go_on.new.area was true c.go_on.ensures.device.honest c.in_ok-writes.ensures.device.counted
+    one-call g.D.Area c.args.geometry.now c.args.areas.now c.args.place old c.go_on.new.area was true c.in_ok-writes.ensures.device
 
 pub returns-else-is_none-clause-areas : goal.returns-else-is_none-clause-areas
 returns-else-is_none-clause-areas g c =
@@ -78,14 +79,14 @@ pub returns-else-is_none-clause-call : goal.returns-else-is_none-clause-call
 returns-else-is_none-clause-call g c =
     let old = get_or c.args.areas.now c.args.place c.index-areas-place.result in
     let was : slice_get c.args.areas.now c.args.place ≡ Some old = slice_get-get_or c.args.areas.now c.args.place c.index-areas-place.result c.requires.within in
-    one-call g.D.Area c.args.geometry.now c.args.areas.now c.args.place old c.go_on.new.area was true c.go_on.ensures.device.honest c.in_ok-writes.ensures.device.counted
+    one-call g.D.Area c.args.geometry.now c.args.areas.now c.args.place old c.go_on.new.area was true c.in_ok-writes.ensures.device
 
 pub returns-in_err-writes-clause-call : goal.returns-in_err-writes-clause-call
 returns-in_err-writes-clause-call g c =
     let old = get_or c.args.areas.now c.args.place c.index-areas-place.result in
     let was : slice_get c.args.areas.now c.args.place ≡ Some old = slice_get-get_or c.args.areas.now c.args.place c.index-areas-place.result c.requires.within in
-    one-call g.D.Area c.args.geometry.now c.args.areas.now c.args.place old c.go_on.new.area was _ c.go_on.ensures.device.honest
-    (c.in_err-writes.ensures.device.counted ∙ ap (λ (b : Bool). if b then g.D.Area.failures old else g.D.Area.failures old + 1) (not_ok _ c.from_residual.ensures.0))
+    one-call g.D.Area c.args.geometry.now c.args.areas.now c.args.place old c.go_on.new.area was _
+    (subst (λ (b : Bool). IsOneCall g.D.Area b old c.go_on.new.area) (not_ok _ c.from_residual.ensures.0) c.in_err-writes.ensures.device)
 
 pub settle_page-requires-clause-drafted : goal.settle_page-requires-clause-drafted
 settle_page-requires-clause-drafted g c =

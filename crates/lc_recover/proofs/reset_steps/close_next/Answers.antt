@@ -39,7 +39,7 @@ pub returns-clause-areas : goal.returns-clause-areas
 returns-clause-areas g c = reset-begins g.D.Area c.args.geometry.now c.args.resets.now c.args.resets.now c.args.areas.now c.args.resets.now.next (old g c) c.close_log.new.area (was g c) c.requires.fits.0 c.close_log.ensures.device.honest c.close_log.ensures.device.same_length c.close_log.ensures.bytes c.requires.left
 
 pub returns-clause-call : goal.returns-clause-call
-returns-clause-call g c = one-call g.D.Area c.args.geometry.now c.args.areas.now c.args.resets.now.next (old g c) c.close_log.new.area (was g c) _ c.close_log.ensures.device.honest c.close_log.ensures.counted
+returns-clause-call g c = one-call g.D.Area c.args.geometry.now c.args.areas.now c.args.resets.now.next (old g c) c.close_log.new.area (was g c) _ c.close_log.ensures.device
 
 module _ (g : Over) (c : goal.After-close_log g) where
   reads : g.D.Area.honest (old g c) ≡ true → ReadsWords g.D.Area (slice_index_or c.args.resets.now.logs.items c.args.resets.now.next []) (old g c)

@@ -36,7 +36,7 @@ pub returns-clause-areas : goal.returns-clause-areas
 returns-clause-areas g c = reset-begins g.D.Area c.args.geometry.now c.args.resets.now c.args.resets.now c.args.areas.now c.args.resets.now.next (old g c) c.settle_log.new.area (was g c) c.requires.fits.0 c.settle_log.ensures.device.honest c.settle_log.ensures.device.same_length c.settle_log.ensures.bytes c.requires.left
 
 pub returns-clause-call : goal.returns-clause-call
-returns-clause-call g c = one-call g.D.Area c.args.geometry.now c.args.areas.now c.args.resets.now.next (old g c) c.settle_log.new.area (was g c) _ c.settle_log.ensures.device.honest c.settle_log.ensures.counted
+returns-clause-call g c = one-call g.D.Area c.args.geometry.now c.args.areas.now c.args.resets.now.next (old g c) c.settle_log.new.area (was g c) _ c.settle_log.ensures.device
 
 module _ (g : Over) (c : goal.After-settle_log g) (i : IsResetting c.args.geometry.now c.args.resets.now) where
   shut : g.D.Area.honest (old g c) ≡ true → IsShut (g.D.Area.now (old g c)) (g.D.Area.dirty (old g c)) (slice_index_or i.store.logs c.args.resets.now.next [])

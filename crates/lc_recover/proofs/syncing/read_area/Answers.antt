@@ -39,7 +39,7 @@ pub returns-in_err-read_whole-clause-call : goal.returns-in_err-read_whole-claus
 returns-in_err-read_whole-clause-call g c some =
     subst (λ (k : ℕ). OneCall g.D.Area k c.args.areas.now (slice_set c.args.areas.now c.len-place.result c.read_whole.new.area) (is_ok c.from_residual-in_err-read_whole.result)) (omega (arith, c.len-place.ensures))
     (subst (λ (ok : Bool). OneCall g.D.Area c.len-place.result c.args.areas.now (slice_set c.args.areas.now c.len-place.result c.read_whole.new.area) ok) (not_ok c.from_residual-in_err-read_whole.result c.from_residual-in_err-read_whole.ensures.0)
-    (one-call g.D.Area c.args.geometry.now c.args.areas.now c.len-place.result (f_old g c) c.read_whole.new.area (f_was g c) false c.in_err-read_whole.ensures.quiet.honest c.in_err-read_whole.ensures.counted))
+    (one-call g.D.Area c.args.geometry.now c.args.areas.now c.len-place.result (f_old g c) c.read_whole.new.area (f_was g c) false c.in_err-read_whole.ensures.call))
 
 pub returns-in_err-read_whole-clause-merges : goal.returns-in_err-read_whole-clause-merges
 returns-in_err-read_whole-clause-merges g c content numbers = quiet-merges g.D.Area c.args.geometry.now c.args.areas.now c.len-place.result (f_old g c) c.read_whole.new.area (f_was g c) content numbers (f_quiet g c)
@@ -125,7 +125,7 @@ returns-clause-areas g c = begins g c
 pub returns-clause-call : goal.returns-clause-call
 returns-clause-call g c some =
     subst (λ (k : ℕ). OneCall g.D.Area k c.args.areas.now (slice_set c.args.areas.now c.len-place.result c.read_whole.new.area) true) (omega (arith, c.len-place.ensures))
-    (one-call g.D.Area c.args.geometry.now c.args.areas.now c.len-place.result (old g c) c.read_whole.new.area (was g c) true c.in_ok-read_whole.ensures.quiet.honest c.in_ok-read_whole.ensures.counted)
+    (one-call g.D.Area c.args.geometry.now c.args.areas.now c.len-place.result (old g c) c.read_whole.new.area (was g c) true c.in_ok-read_whole.ensures.call)
 
 pub returns-clause-merges : goal.returns-clause-merges
 returns-clause-merges g c content numbers = quiet-merges g.D.Area c.args.geometry.now c.args.areas.now c.len-place.result (old g c) c.read_whole.new.area (was g c) content numbers (quiet g c)

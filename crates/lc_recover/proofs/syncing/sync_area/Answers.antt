@@ -1,6 +1,7 @@
 use Rattle.std.proofs.Common.{◌≡◌, ◌∙◌, ◌<◌, ◌+◌, sym, ap, arith, length, get_or, Some}
 use Rattle.std.specs.Prelude.{slice_get}
 use Rattle.std.proofs.lemmas.Option.{slice_get-get_or}
+use Rattle.lc_log.proofs.OneCalls.{sync_call}
 use Rattle.lc_log.proofs.ResetLemmas.{on_ok}
 use Rattle.lc_recover.proofs.AreaLemmas.{quiet-begins, quiet-bytes, quiet-merges, quiet-reads, one-call, fits-set, cleaner}
 use Rattle.lc_recover.specs.Stage.{Quiet}
@@ -42,7 +43,8 @@ pub returns-clause-areas : goal.returns-clause-areas
 returns-clause-areas g c = quiet-begins g.D.Area c.args.geometry.now c.args.areas.now c.args.synced (old g c) c.sync.new.self (was g c) (Syncing c.args.synced) c.requires.0 (quiet g c)
 
 pub returns-clause-call : goal.returns-clause-call
-returns-clause-call g c = one-call g.D.Area c.args.geometry.now c.args.areas.now c.args.synced (old g c) c.sync.new.self (was g c) _ c.sync.ensures.honest c.sync.ensures.counted
+returns-clause-call g c = one-call g.D.Area c.args.geometry.now c.args.areas.now c.args.synced (old g c) c.sync.new.self (was g c) _
+    (sync_call g.D.Area (old g c) c.sync.new.self c.sync.result c.sync.ensures.honest c.sync.ensures.len c.sync.ensures.counted c.sync.ensures.same c.sync.ensures.clean c.sync.ensures.same_dirty)
 
 pub returns-clause-merges : goal.returns-clause-merges
 returns-clause-merges g c content numbers = quiet-merges g.D.Area c.args.geometry.now c.args.areas.now c.args.synced (old g c) c.sync.new.self (was g c) content numbers (quiet g c)

@@ -1,4 +1,4 @@
-use Rattle.std.proofs.Common.{◌≤◌, ◌<◌, refl, sym, ap, subst, ◌∙◌, arith}
+use Rattle.std.proofs.Common.{inl, ◌≤◌, ◌<◌, refl, sym, ap, subst, ◌∙◌, arith}
 use Rattle.lc_model.specs.declared.reply.Reply.{Reply}
 use Rattle.lc_core.specs.FaultReplies.{TellsFault}
 use Rattle.lc_core.specs.Log.{CallsOnce}
@@ -24,7 +24,7 @@ returns-then-is_sealed g c = record {
   words = refl;
   round = refl;
   device = λ some. absurd (some refl);
-  fault = record { known = refl; failures = refl; kind = refl };
+  fault = record { known = refl; failures = refl; kind = refl; call = inl refl };
 }
 
 pub returns-then-front-self : goal.returns-then-front-self
@@ -40,7 +40,7 @@ returns-then-front-self g c = record {
   words = refl;
   round = refl;
   device = λ some. absurd (some refl);
-  fault = record { known = refl; failures = refl; kind = refl };
+  fault = record { known = refl; failures = refl; kind = refl; call = inl refl };
 }
 
 pub returns : goal.returns

@@ -13,7 +13,7 @@ returns-in-Ok g c = rw c.in-Idle.is (record {
   steps = λ stable records idle group. (refl, c.in-Ok.ensures.written stable records idle group);
   room = λ more fits up. omega (arith, fits refl, c.in-Ok.ensures.end, c.in-Ok.ensures.words, c.in-Ok.ensures.device.same_length);
   ends = λ up. (refl, c.in-Ok.ensures.end, c.in-Ok.ensures.words, refl);
-  device = record { after = _; there = refl; device = c.in-Ok.ensures.device; failures = c.in-Ok.ensures.no_cause };
+  device = record { after = _; there = refl; device = c.in-Ok.ensures.call };
 })
 
 pub returns-in-Ok-sync_gate : goal.returns-in-Ok-sync_gate
@@ -21,7 +21,7 @@ returns-in-Ok-sync_gate g c = rw c.in-Opened.is (record {
   steps = λ stable group opened. inl (refl, (refl, refl, c.in-Ok-sync_gate.ensures.flushed stable group opened));
   room = λ more fits up. omega (arith, fits refl, c.in-Ok-sync_gate.ensures.end, c.in-Ok-sync_gate.ensures.device.same_length);
   ends = λ up. (refl, c.in-Ok-sync_gate.ensures.end, refl, refl);
-  device = record { after = _; there = refl; device = c.in-Ok-sync_gate.ensures.device; failures = c.in-Ok-sync_gate.ensures.no_cause };
+  device = record { after = _; there = refl; device = c.in-Ok-sync_gate.ensures.call };
 })
 
 pub returns-in-Err-sync_gate : goal.returns-in-Err-sync_gate
@@ -29,5 +29,8 @@ returns-in-Err-sync_gate g c = rw c.in-Opened.is (record {
   steps = λ stable group opened. inr (refl, λ honest image is. gate_open 4 stable group _ (omega arith) (c.in-Err-sync_gate.ensures.failed stable group opened honest image is));
   room = λ more fits up. absurd cc;
   ends = λ up. absurd cc;
-  device = record { after = _; there = refl; device = c.in-Err-sync_gate.ensures.failed_device; failures = c.in-Err-sync_gate.ensures.cause };
+  device = record { after = _; there = refl; device = c.in-Err-sync_gate.ensures.call };
 })
+
+pub returns-in-Err-clause-steps : goal.returns-in-Err-clause-steps
+returns-in-Err-clause-steps g c = rw c.in-Idle.is (λ stable records idle group honest image is. inl (c.in-Err.ensures.failed stable idle honest image is))

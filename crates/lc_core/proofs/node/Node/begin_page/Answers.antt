@@ -5,6 +5,7 @@ use Rattle.lc_core.proofs.OnPages.{uncommitted_is}
 use Rattle.lc_core.proofs.PageAnswers.{first_old, first_uncommitted, first_unflushed, settled_here}
 use Rattle.lc_core.proofs.Paged.{begin_halts, is_old, may_draft, no_calls, page_begins, page_stays, place_is, stood}
 use Rattle.lc_core.proofs.ResetRows.{flushed, unflushed}
+use Rattle.lc_log.proofs.OneCalls.{no_call}
 use Rattle.lc_core.proofs.node.Node.begin_page.Goals as goal
 
 pub returns-then-is_uncommitted-clause-follows : goal.returns-then-is_uncommitted-clause-follows
@@ -81,3 +82,12 @@ returns-in-Err-clause-follows g c = λ m n s x sound common h area halts.
     begin_halts g.D.Area m n segment page s x sound common w h olds area its.slot its.at its.token its.stands c.requires.rests write.draft write.state.gate is free
     (flushed g.D.Area m n s x w.journal h.journal (omega (arith, c.if-count-self.false, c.count.ensures))) c.begin.new.self new c.begin.ensures.follows
     (new.group_room ∙ c.give_up.ensures.words ∙ sym w.journal.group_room) c.give_up.ensures.round (c.give_up.ensures.halts m n s x h.journal)
+
+pub returns-then-is_uncommitted-clause-device : goal.returns-then-is_uncommitted-clause-device
+returns-then-is_uncommitted-clause-device g c = no_call g.D.Area c.args.pages.now.area
+
+pub returns-then-count-self-clause-device : goal.returns-then-count-self-clause-device
+returns-then-count-self-clause-device g c = no_call g.D.Area c.args.pages.now.area
+
+pub returns-in_default-clause-device : goal.returns-in_default-clause-device
+returns-in_default-clause-device g c = no_call g.D.Area c.args.pages.now.area

@@ -10,6 +10,7 @@ use Rattle.lc_core.specs.declared.slot.Slot.{Slot}
 use Rattle.lc_core.proofs.Away.{slot_at}
 use Rattle.lc_core.proofs.PageAnswers.{settled_away}
 use Rattle.lc_core.proofs.Paged.{is_away, none_failed, page_stays, some_token}
+use Rattle.lc_log.proofs.OneCalls.{no_call}
 use Rattle.lc_core.proofs.node.Node.page_step.Goals as goal
 
 pub returns-then-is_empty-clause-follows : goal.returns-then-is_empty-clause-follows
@@ -62,3 +63,9 @@ returns-in-Failed-clause-follows g c = λ m n s x sound common h area halts.
     let token = some_token slot.token.token (some_there slot.token.token (λ none. true≢false (sym (c.is_empty.ensures.1 none) ∙ c.if-is_empty.false))) in
     absurd (none_failed g.D.Area m n c.args.segment c.args.page s x sound common w h olds area slot at token.0 token.1 halts
     (slice_get_read writes.items writes.len c.args.page c.index.result.now writes.ok.0 c.requires.page c.index.ensures ∙ ap (λ (v : PageState). Some v) c.in-Failed.is))
+
+pub returns-then-is_empty-clause-device : goal.returns-then-is_empty-clause-device
+returns-then-is_empty-clause-device g c = no_call g.D.Area c.args.pages.now.area
+
+pub returns-in-Failed-clause-device : goal.returns-in-Failed-clause-device
+returns-in-Failed-clause-device g c = no_call g.D.Area c.args.pages.now.area

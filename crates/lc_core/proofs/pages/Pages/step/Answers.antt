@@ -1,6 +1,7 @@
-use Rattle.std.proofs.Common.{◌≡◌, true, false, sym, ap, subst, ◌∙◌, arith}
-use Rattle.std.specs.Prelude.{slice_set, Option, None, Some, Ok}
+use Rattle.std.proofs.Common.{◌≡◌, Bool, true, false, sym, ap, subst, ◌∙◌, arith}
+use Rattle.std.specs.Prelude.{is_ok, slice_set, Option, None, Some, Ok}
 use Rattle.std.proofs.lemmas.Option.{slice_get_within}
+use Rattle.lc_log.specs.OneCall.{IsOneCall}
 use Rattle.lc_page.specs.Page.{Page}
 use Rattle.lc_page.specs.Writing.{Calls, GoesOn, IsNextOf, IsUnderWay, draft_of}
 use Rattle.lc_page.specs.declared.page_text.PageText.{PageText}
@@ -8,6 +9,7 @@ use Rattle.lc_page.specs.declared.writing.Writing.{Writing}
 use Rattle.lc_core.specs.Pages.{StepsIn}
 use Rattle.lc_core.specs.declared.page_progress.PageProgress.TheVariants.{Stepped, Written}
 use Rattle.lc_core.specs.declared.page_state.PageState.TheVariants.{AtRest, UnderWay}
+use Rattle.lc_recover.proofs.PageCalls.{calls_call}
 use Rattle.lc_core.proofs.PageCalls.{IsCall, goes_on, is_over, named_failed, named_set, one_write, same_write, set_twice, step_fails, taken, tells}
 use Rattle.lc_core.proofs.pages.Pages.step.Goals as goal
 
@@ -147,3 +149,15 @@ returns-in-Err-clause-call g c =
     let write = c.in-UnderWay.write in
     let at = taken c.args.self.now.writes.items c.args.page c.requires.0 write c.index_mut.result.now c.replace.result c.requires.1 c.index_mut.ensures.value c.replace.ensures.value c.in-UnderWay.is in
     λ its got. subst (λ (w : Writing). Calls g.D.Area w c.args.self.now.area c.step-next.new.area false) (one_write c.args.self.now.writes.items c.args.page write its at got) c.in-Err.ensures.call
+
+pub returns-in-Some-clause-device : goal.returns-in-Some-clause-device
+returns-in-Some-clause-device g c = subst (λ (ok : Bool). IsOneCall g.D.Area ok c.args.self.now.area c.step-next.new.area) (ap is_ok c.in-Ok.is)
+    (calls_call g.D.Area c.in-UnderWay.write c.args.self.now.area c.step-next.new.area (is_ok c.step-next.result) c.step-next.ensures.call)
+
+pub returns-in-None-clause-device : goal.returns-in-None-clause-device
+returns-in-None-clause-device g c = subst (λ (ok : Bool). IsOneCall g.D.Area ok c.args.self.now.area c.step-next.new.area) (ap is_ok c.in-Ok.is)
+    (calls_call g.D.Area c.in-UnderWay.write c.args.self.now.area c.step-next.new.area (is_ok c.step-next.result) c.step-next.ensures.call)
+
+pub returns-in-Err-clause-device : goal.returns-in-Err-clause-device
+returns-in-Err-clause-device g c = subst (λ (ok : Bool). IsOneCall g.D.Area ok c.args.self.now.area c.step-next.new.area) (ap is_ok c.in-Err.is)
+    (calls_call g.D.Area c.in-UnderWay.write c.args.self.now.area c.step-next.new.area (is_ok c.step-next.result) c.step-next.ensures.call)

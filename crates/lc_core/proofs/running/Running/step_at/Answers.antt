@@ -31,7 +31,7 @@ pub returns-clause-err : goal.returns-clause-err
 returns-clause-err g c = err_there g.D.Area c.args.self.now c.args.event.now c.requires.own c.requires.known c.requires.running c.in-Some.node c.in-Some.ensures c.index_mut.result.now c.index_mut.ensures.value c.step.result c.step.new.self c.step.ensures
 
 pub returns-clause-faults : goal.returns-clause-faults
-returns-clause-faults g c = IfOk-weaker c.step.result _ _ (λ reply both. record { counts = both.0; devices = record { geometry = refl; kinds = both.1 } })
+returns-clause-faults g c = IfOk-weaker c.step.result _ _ (λ reply both. record { counts = both.0; devices = record { geometry = refl; kinds = both.1 }; calls = both.2 })
     (faults_there g.D.Area c.args.self.now c.args.event.now c.requires.own c.requires.known c.requires.running c.in-Some.node c.in-Some.ensures c.index_mut.result.now c.index_mut.ensures.value c.step.result c.step.new.self c.step.ensures)
 
 pub returns-clause-no_fault : goal.returns-clause-no_fault

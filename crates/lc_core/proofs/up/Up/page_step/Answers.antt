@@ -1,8 +1,9 @@
-use Rattle.std.proofs.Common.{◌*◌, ◌-◌, ◌<◌, refl, sym, ◌∙◌, arith}
+use Rattle.std.proofs.Common.{◌*◌, ◌-◌, ◌<◌, refl, sym, ◌∙◌, inl, arith}
 use Rattle.std.proofs.lemmas.Option.{slice_get_read}
 use Rattle.lc_model.specs.declared.event.Event.TheVariants.{PageStep}
 use Rattle.lc_core.proofs.Devices.{up_whole}
 use Rattle.lc_core.proofs.Geometries.{refuses_known}
+use Rattle.lc_core.proofs.OneArea.{page_calls}
 use Rattle.lc_core.proofs.Paged.{page_known}
 use Rattle.lc_core.proofs.UpPages.{lengths_set, page_counts, page_follows_up, page_refused_up, pages_set, same_devices}
 use Rattle.lc_core.proofs.up.Up.page_step.Goals as goal
@@ -70,3 +71,16 @@ returns-in-Some-clause-unknown g c = c.refusal.ensures.unknown c.in-Some.refusal
 
 pub returns-clause-unknown : goal.returns-clause-unknown
 returns-clause-unknown g c = refuses_known c.args.self.now.running.geometry (PageStep c.args.node c.args.segment c.args.page) c.page_step.result (c.refusal.ensures.known c.in_default.is) c.page_step.ensures.known
+
+pub returns-in-Some-clause-calls : goal.returns-in-Some-clause-calls
+returns-in-Some-clause-calls g c = λ h areas has. (areas, (has.0, record { count = has.1.count; logs = has.1.logs; segments = has.1.segments }), inl refl)
+
+pub returns-clause-calls : goal.returns-clause-calls
+returns-clause-calls g c =
+    let w = c.args.self.now in
+    let segments = w.segments in
+    let named = page_known w.running.geometry c.args.node c.args.segment c.args.page (c.refusal.ensures.known c.in_default.is) in
+    let within : c.args.segment - 1 < segments.len = omega (arith, named.0, named.1, w.all_segments) in
+    let old = c.index_mut-pages.result.now in
+    let at = slice_get_read segments.items segments.len (c.args.segment - 1) old segments.ok.0 within c.index_mut-pages.ensures.value in
+    page_calls g.D.Area w _ (c.args.segment - 1) old c.page_step.new.pages _ at refl c.page_step.ensures.logs c.page_step.ensures.device

@@ -7,6 +7,7 @@ use Rattle.lc_core.specs.declared.phase.Phase.TheVariants.{Down, Up}
 use Rattle.lc_core.proofs.Refusing.{on_err}
 use Rattle.lc_recover.specs.declared.fault.RecoverFault.{RecoverFault}
 use Rattle.lc_core.proofs.Logged.{err_then}
+use Rattle.lc_core.specs.Calls.{CallsArea}
 use Rattle.lc_core.specs.Recovering.{RepliesTo}
 use Rattle.lc_core.specs.World.{AsksIn}
 use Rattle.lc_core.specs.declared.phase.Phase.{Phase}
@@ -18,6 +19,7 @@ use Rattle.lc_model.specs.declared.refusal.Refusal.TheVariants.{OutOfTurn}
 use Rattle.lc_core.specs.Faults.{CountsPhase}
 use Rattle.lc_core.proofs.Failures.{StepCalls, down_failures, no_faults, phase_counts, risen_counts}
 use Rattle.lc_core.proofs.Geometries.{down_geometry, replies_known, risen_geometry}
+use Rattle.lc_core.proofs.OneArea.{calls_none, down_calls, risen_calls}
 use Rattle.lc_core.proofs.Recoveries.{FollowsPhase, StepLeaves, comes_up, down_same, not_down, down_follows, down_wants, same_still}
 use Rattle.lc_core.specs.Recovers.{RecoversDown}
 use Rattle.lc_core.proofs.Recovers.{IfOk-any, StepSays, down_asks, down_recovers, risen_recovers, up_refuses}
@@ -242,3 +244,25 @@ pub returns-clause-geometry : goal.returns-clause-geometry
 returns-clause-geometry g c =
     let up = c.risen.ensures c.step-2.new.self c.replace.ensures.value in
     risen_geometry g.D.Area c.args.self.now.phase c.risen.result c.in-Down.recovery c.step-2.new.self up.0 c.in-Down.is c.step-2.ensures.geometry up.1 up.2
+
+pub returns-in_default-clause-calls : goal.returns-in_default-clause-calls
+returns-in_default-clause-calls g c = calls_none g.D.Area c.args.self.now.phase
+
+pub returns-then-not-is_last-clause-calls : goal.returns-then-not-is_last-clause-calls
+returns-then-not-is_last-clause-calls g c =
+    down_calls g.D.Area c.in-Down.recovery c.step.new.self c.step.result (calls g c) (λ none. (c.step.ensures.no_memory none).1) c.args.self.now.phase c.in-Down.is c.step.ensures.geometry
+
+pub returns-in_err-room-clause-calls : goal.returns-in_err-room-clause-calls
+returns-in_err-room-clause-calls g c =
+    subst (λ (p : Phase g.row.D.Denot g.D.Area). CallsArea g.D.Area p (Down c.in-Down.recovery)) (sym c.in-Down.is) (calls_none g.D.Area (Down c.in-Down.recovery))
+
+pub returns-in-Err-clause-calls : goal.returns-in-Err-clause-calls
+returns-in-Err-clause-calls g c =
+    down_calls g.D.Area c.in-Down.recovery c.step-2.new.self c.step-2.result (calls-last g (goal.at.returns-in-Err-clause-calls g c).After-step-2) (λ none. (c.step-2.ensures.no_memory none).1)
+    c.args.self.now.phase c.in-Down.is c.step-2.ensures.geometry
+
+pub returns-clause-calls : goal.returns-clause-calls
+returns-clause-calls g c =
+    let up = c.risen.ensures c.step-2.new.self c.replace.ensures.value in
+    risen_calls g.D.Area c.in-Down.recovery c.step-2.new.self c.step-2.result (calls-last g (goal.at.returns-clause-calls g c).After-step-2) (λ none. (c.step-2.ensures.no_memory none).1)
+    c.args.self.now.phase c.risen.result c.in-Down.is c.step-2.ensures.geometry up.0 up.1 up.2

@@ -8,6 +8,7 @@ use Rattle.lc_core.specs.declared.phase.Phase.{Phase}
 use Rattle.lc_core.proofs.Asking.{asks_world}
 use Rattle.lc_core.proofs.Geometries.{down_outside, recovers_outside, stops_outside, up_geometry, up_outside}
 use Rattle.lc_core.proofs.Logged.{err_then}
+use Rattle.lc_core.proofs.OneArea.{calls_none, up_calls}
 use Rattle.lc_core.proofs.Recovers.{IfOk-any, down_refuses, stop_asks, up_asks}
 use Rattle.lc_core.specs.declared.phase.Phase.TheVariants.{Up}
 use Rattle.lc_core.proofs.Recoveries.{else_works, up_follows, up_still}
@@ -79,3 +80,15 @@ returns-in-Up-clause-unknown g c = IfOk-weaker c.step.result _ _
 
 pub returns-in_default-phase-clause-unknown : goal.returns-in_default-phase-clause-unknown
 returns-in_default-phase-clause-unknown g c = down_outside g.D.Area c.args.self.now.phase c.args.event.now _ c.in_default-phase.not-Up refl
+
+pub returns-in-RecoverStep-clause-calls : goal.returns-in-RecoverStep-clause-calls
+returns-in-RecoverStep-clause-calls g c = λ no_stop. c.recover_step.ensures.calls
+
+pub returns-in-Stop-clause-calls : goal.returns-in-Stop-clause-calls
+returns-in-Stop-clause-calls g c = λ no_stop. absurd (no_stop c.in-Stop.choices c.in-Stop.is)
+
+pub returns-in-Up-clause-calls : goal.returns-in-Up-clause-calls
+returns-in-Up-clause-calls g c = λ no_stop. up_calls g.D.Area c.args.self.now.phase c.in-Up.up c.step.new.self c.in-Up.is c.step.ensures.calls
+
+pub returns-in_default-phase-clause-calls : goal.returns-in_default-phase-clause-calls
+returns-in_default-phase-clause-calls g c = λ no_stop. calls_none g.D.Area c.args.self.now.phase

@@ -1,8 +1,11 @@
-use Rattle.std.proofs.Common.{◌≡◌, ℕ, List, length, drop, ◌∙◌, sym, ap, subst, true, arith}
+use Rattle.std.proofs.Common.{◌≡◌, ℕ, List, length, drop, ◌∙◌, sym, ap, subst, true, arith, Bool}
 use Rattle.std.proofs.lemmas.List.{take_rest}
 use Rattle.lc_record.proofs.GroupLemmas.{length-group}
 use Rattle.lc_log.specs.NodeLog.{IsStaged}
 use Rattle.lc_log.proofs.StateLemmas.{write_done, write_failed, rest_image}
+use Rattle.std.specs.Prelude.{is_ok}
+use Rattle.lc_log.specs.OneCall.{IsOneCall}
+use Rattle.lc_log.proofs.OneCalls.{write_call}
 use Rattle.lc_log.proofs.idle.Idle.write_group.Goals as goal
 
 pub slice_bounds-write_at-count : goal.slice_bounds-write_at-count
@@ -33,3 +36,13 @@ returns-in-Err-clause-failed g c stable idle honest =
     let was : g.D.Area.honest c.args.self.area ≡ true = sym c.write_at.ensures.honest ∙ honest in
     let h = c.write_at.ensures in
     rest_image _ _ _ stable (write_failed _ _ _ _ c.args.self.end stable _ (idle was) (h.torn was) (h.dirtied was))
+
+pub returns-in-Ok-clause-call : goal.returns-in-Ok-clause-call
+returns-in-Ok-clause-call g c =
+    subst (λ (ok : Bool). IsOneCall g.D.Area ok c.args.self.area c.write_at.new.self) (ap is_ok c.in-Ok.is)
+    (write_call g.D.Area c.args.self.area c.write_at.new.self c.write_at.result _ _ c.write_at.ensures.honest c.write_at.ensures.len c.write_at.ensures.counted c.write_at.ensures.written c.write_at.ensures.torn c.write_at.ensures.dirtied)
+
+pub returns-in-Err-clause-call : goal.returns-in-Err-clause-call
+returns-in-Err-clause-call g c =
+    subst (λ (ok : Bool). IsOneCall g.D.Area ok c.args.self.area c.write_at.new.self) (ap is_ok c.in-Err.is)
+    (write_call g.D.Area c.args.self.area c.write_at.new.self c.write_at.result _ _ c.write_at.ensures.honest c.write_at.ensures.len c.write_at.ensures.counted c.write_at.ensures.written c.write_at.ensures.torn c.write_at.ensures.dirtied)

@@ -1,5 +1,8 @@
-use Rattle.std.proofs.Common.{◌≡◌, ◌∙◌, ◌++◌, sym, true}
+use Rattle.std.proofs.Common.{◌≡◌, ◌∙◌, ◌++◌, sym, true, Bool, ap, subst}
 use Rattle.lc_log.proofs.StateLemmas.{group_flushed, rest_kept, opening_kept, rest_image, opening_image}
+use Rattle.std.specs.Prelude.{is_ok}
+use Rattle.lc_log.specs.OneCall.{IsOneCall}
+use Rattle.lc_log.proofs.OneCalls.{sync_call}
 use Rattle.lc_log.proofs.opened.Opened.sync_gate.Goals as goal
 
 pub returns-in-Ok-clause-flushed : goal.returns-in-Ok-clause-flushed
@@ -20,3 +23,13 @@ returns-in-Err-clause-failed g c stable records opened honest =
     let h = c.in-Err.ensures in
     opening_image _ _ _ c.args.self.end _ stable records
     (opening_kept _ _ _ _ c.args.self.end stable (h.same was) (λ k e. h.same_dirty was k ∙ e) 165 c.args.self.words records (opened was))
+
+pub returns-in-Ok-clause-call : goal.returns-in-Ok-clause-call
+returns-in-Ok-clause-call g c =
+    subst (λ (ok : Bool). IsOneCall g.D.Area ok c.args.self.area c.sync.new.self) (ap is_ok c.in-Ok.is)
+    (sync_call g.D.Area c.args.self.area c.sync.new.self c.sync.result c.sync.ensures.honest c.sync.ensures.len c.sync.ensures.counted c.sync.ensures.same c.sync.ensures.clean c.sync.ensures.same_dirty)
+
+pub returns-in-Err-clause-call : goal.returns-in-Err-clause-call
+returns-in-Err-clause-call g c =
+    subst (λ (ok : Bool). IsOneCall g.D.Area ok c.args.self.area c.sync.new.self) (ap is_ok c.in-Err.is)
+    (sync_call g.D.Area c.args.self.area c.sync.new.self c.sync.result c.sync.ensures.honest c.sync.ensures.len c.sync.ensures.counted c.sync.ensures.same c.sync.ensures.clean c.sync.ensures.same_dirty)

@@ -1,6 +1,7 @@
 use Rattle.std.proofs.Common.{◌≡◌, ◌<◌, ◌∙◌, arith, ap, sym, subst, refl, length, Some, true, true≢false}
 use Rattle.std.specs.Prelude.{slice_get, slice_set, Result, Ok, Err, OnOk, is_ok}
 use Rattle.std.proofs.lemmas.Option.{slice_get-get_or}
+use Rattle.lc_log.proofs.OneCalls.{read_call}
 use Rattle.lc_recover.proofs.Going.{read-going}
 use Rattle.lc_recover.proofs.Showing.{have-lengths}
 use Rattle.lc_recover.specs.Stage.{AreasFit}
@@ -34,7 +35,15 @@ pub returns-clause-read : goal.returns-clause-read
 returns-clause-read g c =
     subst (λ (r : Recovering g.row.D.Denot). IsReadFrom g.D.Area c.args.area c.args.at c.args.buffer.now c.read.new.buffer r.areas (slice_set c.self.inside.areas.items c.args.area c.read.new.self) (is_ok c.read.result)) c.self.view_is
     (record {
-      call = record { old = old g c; new = c.read.new.self; was = was g c; is = refl; honest = c.read.ensures.honest; counted = c.read.ensures.counted };
+      call = record {
+        old = old g c;
+        new = c.read.new.self;
+        was = was g c;
+        is = refl;
+        honest = c.read.ensures.honest;
+        counted = c.read.ensures.counted;
+        call = read_call g.D.Area (old g c) c.read.new.self (is_ok c.read.result) c.read.ensures.honest c.read.ensures.len c.read.ensures.counted c.read.ensures.same c.read.ensures.same_dirty;
+      };
       bytes = ok_holds c.read.result c.read.ensures.bytes;
       same = c.read.ensures.same;
       same_dirty = c.read.ensures.same_dirty;

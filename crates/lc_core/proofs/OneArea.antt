@@ -1,0 +1,206 @@
+-- An event makes one call of a device at most.
+use Rattle.std.proofs.Common.{◌≡◌, ◌⊎◌, ℕ, zero, suc, ◌+◌, ◌<◌, Bool, List, [], ◌∷◌, drop, length, map, Option, Some, None, slice_get, slice_set, refl, sym, ap, subst, ◌∙◌, inl, inr, arith}
+use Rattle.std.specs.Prelude.{Result, Ok, Err, IfOk, OnErr, is_ok, option_map}
+use Rattle.std.proofs.lemmas.Bool.{cases_eq}
+use Rattle.std.proofs.lemmas.List.{length-map, length-set, map-set}
+use Rattle.std.proofs.lemmas.Option.{slice_get-map, slice_get_within}
+use Rattle.lc_disk.specs.declared.area.Area.{Ghosts}
+use Rattle.lc_record.specs.declared.geometry.Geometry.{Geometry}
+use Rattle.lc_log.specs.OneCall.{IsOneCall}
+use Rattle.lc_model.specs.declared.reply.Reply.{Reply}
+use Rattle.lc_recover.specs.Reads.{area_count}
+use Rattle.lc_recover.specs.Recovery.{Recovering}
+use Rattle.lc_recover.specs.Stage.{OneCall}
+use Rattle.lc_recover.specs.Steps.{first_steps}
+use Rattle.lc_recover.specs.declared.fault.RecoverFault.{RecoverFault}
+use Rattle.lc_recover.specs.declared.fault.RecoverFault.TheVariants.{NoMemory}
+use Rattle.lc_recover.specs.declared.progress.Progress.{Progress}
+use Rattle.lc_recover.proofs.Images.{count-areas, get-drop, get-map}
+use Rattle.lc_core.specs.Areas.{AreOf}
+use Rattle.lc_core.specs.Calls.{CallsArea, CallsOne, CallsOneAtMost}
+use Rattle.lc_core.specs.FaultReplies.{CallsOneOf}
+use Rattle.lc_core.specs.Faults.{CountsLogs, SameLogAreas, SameLogs, areas_in, logs_of}
+use Rattle.lc_core.specs.Log.{area_of}
+use Rattle.lc_core.specs.Pages.{areas_of}
+use Rattle.lc_core.specs.Places.{get_set_other, get_set_same, same_some}
+use Rattle.lc_core.specs.Recovering.{ComesUp}
+use Rattle.lc_core.specs.declared.node.Node.{Node}
+use Rattle.lc_core.specs.declared.pages.Pages.{Pages}
+use Rattle.lc_core.specs.declared.phase.Phase.{Phase}
+use Rattle.lc_core.specs.declared.phase.Phase.TheVariants.{Down, Up}
+use Rattle.lc_core.specs.declared.up.Up.{Up as Rising}
+use Rattle.lc_core.proofs.Failures.{StepCalls}
+
+drop_set : {A : Type 0} (xs : List A) (n k : ℕ) (y : A) → k < n → drop n (slice_set xs k y) ≡ drop n xs
+drop_set xs zero k y below = absurd (omega (arith, below))
+drop_set [] (suc n) k y below = refl
+drop_set (x ∷ xs) (suc n) zero y below = refl
+drop_set (x ∷ xs) (suc n) (suc k) y below = drop_set xs n k y (omega (arith, below))
+
+set_drop : {A : Type 0} (xs : List A) (n k : ℕ) (y : A) → slice_set (drop n xs) k y ≡ drop n (slice_set xs (n + k) y)
+set_drop xs zero k y = (let same : k ≡ 0 + k = omega arith in ap (λ (i : ℕ). slice_set xs i y) same)
+set_drop [] (suc n) k y = refl
+set_drop (x ∷ xs) (suc n) k y =
+    let next : suc (n + k) ≡ suc n + k = omega arith in
+    set_drop xs n k y ∙ ap (λ (i : ℕ). drop (suc n) (slice_set (x ∷ xs) i y)) next
+
+is_want : (result : Result Progress RecoverFault) → (result ≡ Err NoMemory) ⊎ (result ≡ Err NoMemory → ⊥)
+is_want (Err NoMemory) = inl refl
+is_want _ = inr (λ e. absurd cc)
+
+module _ {D : Type 0} (a : Ghosts D) where
+  pub calls_none : (phase : Phase D a) → CallsArea a phase phase
+  calls_none phase g areas has = (areas, has, inl refl)
+
+  -- at their places, as far as there are logs
+  abbrev LogsAre : List (Option D) → List D → Type 0
+  LogsAre logs areas = (n : ℕ) (o : Option D) → slice_get logs n ≡ Some o → o ≡ slice_get areas n
+
+  got_log : (nodes : List (Node D a)) (n : ℕ) (node : Node D a) → slice_get nodes n ≡ Some node → slice_get (areas_in a nodes) n ≡ Some (area_of a node.journal.log)
+  got_log nodes n node at =
+      slice_get-map (area_of a) (logs_of a nodes) n
+      ∙ ap (option_map (area_of a)) (slice_get-map (λ (its : Node D a). its.journal.log) nodes n ∙ ap (option_map (λ (its : Node D a). its.journal.log)) at)
+
+  logs_at : (nodes : List (Node D a)) (areas : List D) → ((n : ℕ) (node : Node D a) → slice_get nodes n ≡ Some node → area_of a node.journal.log ≡ slice_get areas n) → LogsAre (areas_in a nodes) areas
+  logs_at nodes areas each n o got = elim (slice_get nodes n) as (λ (v : Option (Node D a)). slice_get nodes n ≡ v → o ≡ slice_get areas n) [
+    | None ↦ λ none.
+        absurd (let no : None ≡ Some o =
+        ap (λ (v : Option (Node D a)). option_map (area_of a) (option_map (λ (its : Node D a). its.journal.log) v)) (sym none)
+        ∙ ap (option_map (area_of a)) (sym (slice_get-map (λ (its : Node D a). its.journal.log) nodes n)) ∙ sym (slice_get-map (area_of a) (logs_of a nodes) n) ∙ got in cc)
+    | Some node ↦ λ there. same_some o (area_of a node.journal.log) (sym got ∙ got_log nodes n node there) ∙ each n node there
+  ] refl
+
+  count_in : (nodes : List (Node D a)) → length (areas_in a nodes) ≡ length nodes
+  count_in nodes = length-map (logs_of a nodes) (area_of a) ∙ length-map nodes (λ (its : Node D a). its.journal.log)
+
+  set_logs : (logs : List (Option D)) (areas : List D) (at : ℕ) (old new : D) → LogsAre logs areas → slice_get logs at ≡ Some (Some old) → LogsAre (slice_set logs at (Some new)) (slice_set areas at new)
+  set_logs logs areas at old new are was n o got = elim (cases_eq n at) [
+    | inl same ↦
+        let here : slice_get (slice_set logs at (Some new)) at ≡ Some o = subst (λ (i : ℕ). slice_get (slice_set logs at (Some new)) i ≡ Some o) same got in
+        same_some o (Some new) (sym here ∙ get_set_same logs at (Some old) (Some new) was)
+        ∙ sym (get_set_same areas at old new (sym (are at (Some old) was))) ∙ ap (slice_get (slice_set areas at new)) (sym same)
+    | inr differ ↦ are n o (sym (get_set_other logs at n (Some new) differ) ∙ got) ∙ sym (get_set_other areas at n new differ)
+  ]
+
+  -- A store that is up
+
+  module _ (up later : Rising D a) (geometry : later.running.geometry ≡ up.running.geometry) (areas : List D) (are : AreOf a up areas) where
+    nodes_count : length up.running.nodes.items ≡ up.running.geometry.nodes
+    nodes_count = sym up.running.nodes.ok.0 ∙ up.running.all_nodes
+
+    behind : (areas_of a later.segments.items ≡ areas_of a up.segments.items) → areas_of a later.segments.items ≡ drop later.running.geometry.nodes areas
+    behind segments = segments ∙ are.segments ∙ ap (λ (g : Geometry). drop g.nodes areas) (sym geometry)
+
+    all_same : areas_in a later.running.nodes.items ≡ areas_in a up.running.nodes.items → areas_of a later.segments.items ≡ areas_of a up.segments.items → AreOf a later areas
+    all_same logs segments = record {
+      count = are.count ∙ ap area_count (sym geometry);
+      logs = λ n node at. logs_at up.running.nodes.items areas are.logs n (area_of a node.journal.log) (ap (λ (l : List (Option D)). slice_get l n) (sym logs) ∙ got_log later.running.nodes.items n node at);
+      segments = behind segments;
+    }
+
+    one_log : (calls : CallsOneOf a (areas_in a up.running.nodes.items) (areas_in a later.running.nodes.items)) → areas_of a later.segments.items ≡ areas_of a up.segments.items
+        → AreOf a later (slice_set areas calls.at calls.new)
+    one_log calls segments =
+        let within : calls.at < up.running.geometry.nodes =
+        omega (arith, slice_get_within (areas_in a up.running.nodes.items) calls.at (Some calls.old) calls.was, count_in up.running.nodes.items, nodes_count) in
+        record {
+          count = length-set areas calls.at calls.new ∙ are.count ∙ ap area_count (sym geometry);
+          logs = λ n node at. set_logs (areas_in a up.running.nodes.items) areas calls.at calls.old calls.new (logs_at up.running.nodes.items areas are.logs) calls.was n (area_of a node.journal.log)
+              (ap (λ (l : List (Option D)). slice_get l n) (sym calls.is) ∙ got_log later.running.nodes.items n node at);
+          segments = behind segments ∙ ap (λ (g : Geometry). drop g.nodes areas) geometry ∙ sym (drop_set areas up.running.geometry.nodes calls.at calls.new within)
+              ∙ ap (λ (g : Geometry). drop g.nodes (slice_set areas calls.at calls.new)) (sym geometry);
+        }
+
+    log_called : (calls : CallsOneOf a (areas_in a up.running.nodes.items) (areas_in a later.running.nodes.items)) → CallsOne a areas (slice_set areas calls.at calls.new)
+    log_called calls = record {
+      at = calls.at;
+      old = calls.old;
+      new = calls.new;
+      ok = calls.ok;
+      was = sym (logs_at up.running.nodes.items areas are.logs calls.at (Some calls.old) calls.was);
+      is = refl;
+      call = calls.call;
+    }
+
+    -- of one segment
+    module _ (k : ℕ) (old new : Pages D a) (at : slice_get up.segments.items k ≡ Some old) (set : later.segments.items ≡ slice_set up.segments.items k new) where
+      one_segment : areas_in a later.running.nodes.items ≡ areas_in a up.running.nodes.items → AreOf a later (slice_set areas (up.running.geometry.nodes + k) new.area)
+      one_segment logs = record {
+        count = length-set areas (up.running.geometry.nodes + k) new.area ∙ are.count ∙ ap area_count (sym geometry);
+        logs = λ n node there.
+            let was : slice_get (areas_in a up.running.nodes.items) n ≡ Some (area_of a node.journal.log) = ap (λ (l : List (Option D)). slice_get l n) (sym logs) ∙ got_log later.running.nodes.items n node there in
+            let within = slice_get_within (areas_in a up.running.nodes.items) n (area_of a node.journal.log) was in
+            logs_at up.running.nodes.items areas are.logs n (area_of a node.journal.log) was
+            ∙ sym (get_set_other areas (up.running.geometry.nodes + k) n new.area (λ same. absurd (omega (arith, same, within, count_in up.running.nodes.items, nodes_count))));
+        segments = ap (areas_of a) set ∙ map-set (λ (p : Pages D a). p.area) up.segments.items k new ∙ ap (λ (l : List D). slice_set l k new.area) are.segments
+            ∙ set_drop areas up.running.geometry.nodes k new.area ∙ ap (λ (g : Geometry). drop g.nodes (slice_set areas (up.running.geometry.nodes + k) new.area)) (sym geometry);
+      }
+
+      segment_called : (ok : Bool) → IsOneCall a ok old.area new.area → CallsOne a areas (slice_set areas (up.running.geometry.nodes + k) new.area)
+      segment_called ok call = record {
+        at = up.running.geometry.nodes + k;
+        old = old.area;
+        new = new.area;
+        ok = ok;
+        was = sym (get-drop up.running.geometry.nodes k areas) ∙ ap (λ (l : List D). slice_get l k) (sym are.segments) ∙ get-map (λ (p : Pages D a). p.area) up.segments.items k old at;
+        is = refl;
+        call = call;
+      }
+
+  module _ (up later : Rising D a) where
+    logs_call : later.running.geometry ≡ up.running.geometry → areas_of a later.segments.items ≡ areas_of a up.segments.items
+        → (areas_in a later.running.nodes.items ≡ areas_in a up.running.nodes.items) ⊎ CallsOneOf a (areas_in a up.running.nodes.items) (areas_in a later.running.nodes.items) → CallsArea a (Up up) (Up later)
+    logs_call geometry segments (inl same) g areas has = (areas, (has.0 ∙ sym geometry, all_same up later geometry areas has.1 same segments), inl refl)
+    logs_call geometry segments (inr calls) g areas has =
+        (slice_set areas calls.at calls.new, (has.0 ∙ sym geometry, one_log up later geometry areas has.1 calls segments), inr (log_called up later geometry areas has.1 calls))
+
+    -- whatever a step answers
+    pub step_calls : {E : Type 0} (result : Result Reply E) → areas_of a later.segments.items ≡ areas_of a up.segments.items → IfOk result (λ reply. CountsLogs a up.running reply later.running)
+        → OnErr result (SameLogs a up.running later.running) → CallsArea a (Up up) (Up later)
+    step_calls (Ok reply) segments counts same = logs_call counts.devices.geometry segments counts.calls
+    step_calls (Err e) segments counts same = logs_call same.geometry segments (inl (ap (map (area_of a)) same.logs))
+
+    pub page_calls : (k : ℕ) (old new : Pages D a) (ok : Bool) → slice_get up.segments.items k ≡ Some old → later.segments.items ≡ slice_set up.segments.items k new → SameLogAreas a up.running later.running
+        → IsOneCall a ok old.area new.area → CallsArea a (Up up) (Up later)
+    page_calls k old new ok at set same call g areas has = (
+      slice_set areas (up.running.geometry.nodes + k) new.area,
+      (has.0 ∙ sym same.geometry, one_segment up later same.geometry areas has.1 k old new at set same.areas),
+      inr (segment_called up later same.geometry areas has.1 k old new at set ok call),
+    )
+
+  pub up_calls : (phase : Phase D a) (up later : Rising D a) → phase ≡ Up up → CallsArea a (Up up) (Up later) → CallsArea a phase (Up later)
+  up_calls phase up later is calls = subst (λ (p : Phase D a). CallsArea a p (Up later)) (sym is) calls
+
+  -- A recovery
+
+  of_one : (at : ℕ) (olds news : List D) (ok : Bool) → OneCall a at olds news ok → CallsOne a olds news
+  of_one at olds news ok call = record { at = at; old = call.old; new = call.new; ok = ok; was = call.was; is = call.is; call = call.call }
+
+  module _ (r new : Recovering D) (result : Result Progress RecoverFault) (calls : StepCalls a r new result) (none : result ≡ Err NoMemory → new ≡ r) where
+    recovery_called : CallsOneAtMost a r.areas new.areas
+    recovery_called = elim (cases_eq (r.steps + 1) (first_steps r.geometry)) [
+      | inl merges ↦ inl (calls.no_call merges)
+      | inr other ↦ elim (is_want result) [
+        | inl want ↦ inl (ap (λ (v : Recovering D). v.areas) (none want))
+        | inr made ↦ (let call = calls.call other made in inr (of_one call.0 r.areas new.areas (is_ok result) call.2))
+      ]
+    ]
+
+    pub down_calls : (phase : Phase D a) → phase ≡ Down r → new.geometry ≡ r.geometry → CallsArea a phase (Down new)
+    down_calls phase is same = subst (λ (p : Phase D a). CallsArea a p (Down new)) (sym is)
+        (λ g areas has. (new.areas, (has.0 ∙ sym same, refl), subst (λ (l : List D). CallsOneAtMost a l new.areas) (sym has.1) recovery_called))
+
+    pub risen_calls : (phase risen : Phase D a) → phase ≡ Down r → new.geometry ≡ r.geometry → (up : Rising D a) → risen ≡ Up up → ComesUp a new up → CallsArea a phase risen
+    risen_calls phase risen is same up rises came = subst (λ (p : Phase D a). CallsArea a p risen) (sym is) (subst (λ (p : Phase D a). CallsArea a (Down r) p) (sym rises)
+        (λ g areas has. (
+          new.areas,
+          (
+            has.0 ∙ sym (came.same_geometry ∙ same),
+            record {
+              count = count-areas a new.geometry new.areas came.lengths ∙ ap area_count (sym came.same_geometry);
+              logs = came.log_areas;
+              segments = came.segments ∙ ap (λ (v : Geometry). drop v.nodes new.areas) (sym came.same_geometry);
+            },
+          ),
+          subst (λ (l : List D). CallsOneAtMost a l new.areas) (sym has.1) recovery_called,
+        )))
