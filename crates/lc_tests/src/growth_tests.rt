@@ -90,15 +90,13 @@ fn begin_so(replies: &[Reply], script: &[(&str, &str)]) -> bool {
             .all(|(reply, (_, wanted))| says(reply, wanted))
 }
 
-// The replies of a run are those of the first lines. A line that there was no memory for is one that may ask for some, or its
-// reply had no room.
+// The replies of a run are those of the first lines. A line that there was no memory for is one that may ask for some, or there
+// was no room for the replies.
 fn goes_so(ran: &RunResult, script: &[(&str, &str)]) -> bool {
     let replies = &ran.replies;
     let is_right = match script.get(replies.len()) {
         None => !ran.out_of_memory,
-        Some((line, _)) => {
-            ran.out_of_memory && (may_ask(line) || replies.len() == replies.capacity())
-        }
+        Some((line, _)) => { ran.out_of_memory && (may_ask(line) || replies.is_empty()) }
     };
     is_right && begin_so(replies, script)
 }
