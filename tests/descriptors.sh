@@ -14,6 +14,7 @@ bound=60
 
 work=$(mktemp -d "${TMPDIR:-/tmp}/lcrvm-descriptors.XXXXXX")
 trap 'rm -rf "$work"' EXIT
+trap 'exit 1' HUP INT TERM
 cd "$work"
 
 passed=0

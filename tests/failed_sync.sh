@@ -25,6 +25,7 @@ leave() {
     device=''
 }
 trap 'leave; rm -rf "$work"' EXIT
+trap 'exit 1' HUP INT TERM
 cd "$work"
 
 skip() {

@@ -6,7 +6,7 @@
 #
 # usage: tests/faults.sh [PROGRAM]     (default: crates/lcrvm/out/lcrvm; a C compiler `cc` is wanted)
 #
-# It takes about a minute, and works in a folder of its own below TMPDIR. A program that does not end within a minute is a failure.
+# It takes a minute or two, and works in a folder of its own below TMPDIR. A program that does not end within a minute is a failure.
 set -eu
 
 program=${1:-crates/lcrvm/out/lcrvm}
@@ -17,6 +17,7 @@ most=1000
 
 work=$(mktemp -d "${TMPDIR:-/tmp}/lcrvm-faults.XXXXXX")
 trap 'rm -rf "$work"' EXIT
+trap 'exit 1' HUP INT TERM
 cc -shared -fPIC -O2 -o "$work/calls.so" "$tests/traced_calls.c" -ldl
 cd "$work"
 

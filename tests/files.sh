@@ -22,6 +22,7 @@ bound=60
 
 work=$(mktemp -d "${TMPDIR:-/tmp}/lcrvm-files.XXXXXX")
 trap 'rm -rf "$work"' EXIT
+trap 'exit 1' HUP INT TERM
 cd "$work"
 
 fail() {

@@ -22,6 +22,7 @@ import multiprocessing
 import os
 import random
 import shutil
+import signal
 import subprocess
 import sys
 import tempfile
@@ -783,6 +784,8 @@ def main():
         for k in range((asked.cuts + each - 1) // each)
     ]
     made, calls, lost, left, kinds = 0, 0, [], [], {}
+    # Whoever is told to end takes its processes and folders with it.
+    signal.signal(signal.SIGTERM, lambda *_: sys.exit(1))
     with multiprocessing.Pool(asked.jobs) as pool:
         for some, faults, stays, several, counts in pool.imap_unordered(cut_story, tasks):
             made += some

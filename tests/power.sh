@@ -15,17 +15,22 @@ case $program in */*) program=$(cd "$(dirname "$program")" && pwd)/$(basename "$
 tests=$(cd "$(dirname "$0")" && pwd)
 
 work=$(mktemp -d "${TMPDIR:-/tmp}/lcrvm-power.XXXXXX")
-trap 'rm -rf "$work"' EXIT
+child=''
+leave() {
+    [ -z "$child" ] || { kill "$child" && wait "$child"; } 2> /dev/null || true
+    rm -rf "$work"
+}
+trap leave EXIT
+trap 'exit 1' HUP INT TERM
 cc -shared -fPIC -O2 -o "$work/calls.so" "$tests/traced_calls.c" -ldl
 
 passed=0
 failed=0
 cut() {
-    if POWER_WORK="$work" timeout -k 5 1800 python3 -B "$tests/power.py" "$program" "$work/calls.so" --seed "$seed" "$@"; then
-        passed=$((passed + 1))
-    else
-        failed=$((failed + 1))
-    fi
+    POWER_WORK="$work" timeout -k 5 1800 python3 -B "$tests/power.py" "$program" "$work/calls.so" --seed "$seed" "$@" &
+    child=$!
+    if wait $child; then passed=$((passed + 1)); else failed=$((failed + 1)); fi
+    child=''
 }
 cut --cuts "$cuts"
 cut --cuts $(((cuts + 1) / 2)) --stories failing

@@ -15,6 +15,7 @@ bound=60
 
 work=$(mktemp -d "${TMPDIR:-/tmp}/lcrvm-processes.XXXXXX")
 trap 'rm -rf "$work"' EXIT
+trap 'exit 1' HUP INT TERM
 cd "$work"
 
 failed=0
