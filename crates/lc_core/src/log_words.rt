@@ -5,7 +5,7 @@ ghost use Rattle.lc_core.specs.Faults.{SameDevices};
 ghost use Rattle.lc_core.specs.Log.{area_of};
 ghost use Rattle.lc_core.specs.LogWords.{IsLogRead, IsNodeKept, IsNodeRead, IsRead, ReadsLog, ReadsNone, StandsOn, has_failed, log_area, log_in};
 ghost use Rattle.lc_core.specs.declared.node.Node.{Node as TheNode};
-ghost use Rattle.lc_core.specs.declared.phase.Phase.TheVariants.{Down, Up};
+ghost use Rattle.lc_core.specs.declared.phase.Phase.TheVariants.{Down, Taken, Up};
 ghost use Rattle.lc_core.specs.declared.show_fault.ShowFault.TheVariants.{Unknown};
 ghost use Rattle.lc_core.specs.declared.up.Up.{Up as Rising};
 
@@ -55,6 +55,7 @@ impl<D: Area + Drop> Phase<D> {
             → D.honest area ≡ true → (k : ℕ) → slice_index_or (D.now area) k 0 < 256) }
         ensures down { (r : Recovering D) → self.new ≡ Down r
             → (was : Recovering D) × (self.old ≡ Down was) × (r ≡ record was { areas = r.areas }) }
+        ensures taken { self.new ≡ Taken → self.old ≡ Taken }
     {
         match self {
             Phase::Down(recovery) => log_bytes_of(recovery, alloc, node),
