@@ -8,7 +8,7 @@ ghost use Rattle.lc_core.specs.Geometries.{phase_geometry};
 ghost use Rattle.lc_core.specs.Log.{area_of};
 ghost use Rattle.lc_core.specs.LogWords.{IsLogRead, IsNodeKept, IsNodeRead, IsRead, ReadsLog, ReadsNone, StandsOn, has_failed, log_area, log_in};
 ghost use Rattle.lc_core.specs.declared.node.Node.{Node as TheNode};
-ghost use Rattle.lc_core.specs.declared.phase.Phase.TheVariants.{Down, Up};
+ghost use Rattle.lc_core.specs.declared.phase.Phase.TheVariants.{Down, Taken, Up};
 ghost use Rattle.lc_core.specs.declared.show_fault.ShowFault.TheVariants.{Unknown};
 ghost use Rattle.lc_core.specs.declared.up.Up.{Up as Rising};
 
@@ -62,6 +62,7 @@ impl<D: Area + Drop> Phase<D> {
         ensures down { (r : Recovering D) → self.new ≡ Down r
             → (was : Recovering D) × (self.old ≡ Down was) × (r ≡ record was { areas = r.areas }) }
         ensures nodes { ForSome (phase_geometry D.Area self.old) (λ g. is_some (log_area D.Area self.old node) ≡ is_node g node) }
+        ensures taken { self.new ≡ Taken → self.old ≡ Taken }
     {
         match self {
             Phase::Down(recovery) => log_bytes_of(recovery, alloc, node),

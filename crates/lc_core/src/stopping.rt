@@ -76,15 +76,16 @@ fn choices_at(choices: &[Items<Choice>], place: usize) -> &[Choice] {
 }
 
 impl<D: Area + Drop> World<D> {
-    /// Its areas as they stand, in the order of the store, and how many there are of each thing. It takes no memory. None of a
-    /// store without areas, which no run leaves.
-    pub fn into_areas(self) -> Option<(Geometry, Vec<D>)>
-        ensures areas { IfSome result (λ its. HasAreas D.Area self.phase its.0 its.1.items) }
-        ensures lengths { IfSome result (λ its. HaveLengths D.Area its.0 its.1.items) }
-        ensures none { IfNone result (self.phase ≡ Taken) }
+    /// Its areas as they stand, in the order of the store, and how many there are of each thing. It takes no memory.
+    pub fn into_areas(self) -> (Geometry, Vec<D>)
+        ensures areas { HasAreas D.Area self.phase result.0 result.1.items }
+        ensures lengths { HaveLengths D.Area result.0 result.1.items }
     {
         let World { phase } = self;
-        phase.into_areas()
+        match phase.into_areas() {
+            Some(its) => its,
+            None => unreachable!(),
+        }
     }
 }
 

@@ -1,13 +1,13 @@
 //! A store of several nodes.
-ghost use Rattle.std.specs.Prelude.{◌≡◌};
+ghost use Rattle.std.specs.Prelude.{◌≡◌, ◌≢◌};
 ghost use Rattle.lc_recover.specs.Recovery.{Recovering, IsDone};
-ghost use Rattle.lc_core.specs.declared.phase.Phase.TheVariants.{Down};
+ghost use Rattle.lc_core.specs.declared.phase.Phase.TheVariants.{Down, Taken};
 
 use crate::phase::Phase;
 use lc_disk::Area;
 
 /// A store of several nodes, on an area for the log of each node and then an area for each segment. It is down until the
-/// recovery that is begun on its areas has made its last step.
+/// recovery that is begun on its areas has made its last step. It always has its areas.
 ///
 /// Idea: recoverable memory (RVM: Satyanarayanan et al., TOCS 1994) that several nodes map, each with a log that brings
 /// the others up to date (log-based coherency: Feeley et al., OSDI 1994).
@@ -15,4 +15,5 @@ use lc_disk::Area;
 pub struct World<D: Area> {
     pub(crate) phase: Phase<D>,
     ghost going: { (r : Recovering D) → phase ≡ Down r → IsDone r → ⊥ },
+    ghost there: { phase ≢ Taken },
 }

@@ -37,3 +37,6 @@ returns-clause-records g c area there m s x fits up =
     (c.in_ok-words.ensures.words ∙ ap words_of c.as_slice.ensures.value)
     c.as_slice-2.ensures.value c.text_len.ensures.1 c.text_len.ensures.2 c.truncate.ensures.items records text)
     m s x fits up
+
+pub invariant_of-self-clause-there : goal.invariant_of-self-clause-there
+invariant_of-self-clause-there g c = λ taken. c.args.self.now.there (c.log_bytes.ensures.taken taken)

@@ -3,7 +3,7 @@ use Rattle.std.proofs.lemmas.Result.{IfOk-at_ok}
 use Rattle.std.specs.Prelude.{Result, OnErr}
 use Rattle.lc_record.specs.declared.geometry.Geometry.{Geometry}
 use Rattle.lc_recover.specs.Recovery.{Recovering, IsLast, TakesMemory, all_steps}
-use Rattle.lc_core.specs.declared.phase.Phase.TheVariants.{Down, Up}
+use Rattle.lc_core.specs.declared.phase.Phase.TheVariants.{Down, Taken, Up}
 use Rattle.lc_core.proofs.Refusing.{on_err}
 use Rattle.lc_recover.specs.declared.fault.RecoverFault.{RecoverFault}
 use Rattle.lc_core.proofs.Logged.{err_then}
@@ -130,6 +130,10 @@ invariant_of-self-2 g c = record {
   going = λ r is done.
       (let up = c.risen.ensures c.step-2.new.self c.replace.ensures.value in
       let same : Up up.0 ≡ Down r = sym up.1 ∙ is in
+      absurd cc);
+  there = λ taken.
+      (let up = c.risen.ensures c.step-2.new.self c.replace.ensures.value in
+      let same : Up up.0 ≡ Taken = sym up.1 ∙ taken in
       absurd cc);
 }
 
