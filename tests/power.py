@@ -500,6 +500,16 @@ def script(rng, number, lines):
         else:
             s, m = long_open.popitem()
             text.append(f"abort {m} {THREADS - 1}")
+
+    # It ends in the midst of something, most of the time.
+    m = rng.choice([owner[s] for s in owner])
+    commit(m)
+    luck = rng.random()
+    if luck < 0.25:
+        text.extend([f"step {m}"] * rng.randrange(1, 4))
+    elif luck < 0.75:
+        text.append(f"flush {m}")
+        page(m, rng.choice([5, 5, rng.randrange(1, 5)]))
     return text
 
 
