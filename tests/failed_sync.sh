@@ -4,6 +4,9 @@
 # commit more, and the power goes: what the disk has is looked at in another mount. Each acknowledged commit has to be there.
 # After a sync that failed the system takes the pages for clean: a read gives the bytes, and they are on no disk.
 #
+# Once more the run is killed before the sync, and it is the system that writes back and fails. Then the first sync of the next
+# process has to tell it.
+#
 # usage: tests/failed_sync.sh [PROGRAM]     (default: crates/lcrvm/out/lcrvm; root, loop devices, ext4 and `cc` are wanted)
 #
 # Where these can't be had it says `skipped`, and the status is 0. It takes about a minute, and works in a folder of its own
@@ -34,6 +37,9 @@ skip() {
 }
 
 failed=0
+# How often the system wrote back with no fault, and how often a recovery told one.
+clean=0
+told=0
 fail() {
     echo "failed: $*" >&2
     failed=$((failed + 1))
@@ -102,58 +108,85 @@ holds() {
     [ $((0x${one#bytes })) -ge "$2" ] || fail "$1: commit $2 was acknowledged, and it is $one"
 }
 
-number=1
-lost=0
-while [ $number -le $most ]; do
-    name="sync $number"
-    cp made image
-    enter image || { fail "$name: no disk"; break; }
-    rm -f gate
-    LD_PRELOAD="$work/calls.so" CALLS_FOLDER=disk/store CALLS_HELD=$number CALLS_GATE="$work/gate" \
-        timeout -k 5 $bound "$program" run --store disk/store $size < run.script > out 2> err &
-    running=$!
-    turns=0
-    while [ ! -e gate ] && kill -0 $running 2> /dev/null && [ $turns -lt $((bound * 100)) ]; do
-        sleep 0.01
-        turns=$((turns + 1))
-    done
-    if [ ! -e gate ]; then
+for mode in failed killed; do
+    number=1
+    lost=0
+    while [ $number -le $most ]; do
+        name="sync $number $mode"
+        cp made image
+        enter image || { fail "$name: no disk"; break; }
+        rm -f gate
+        LD_PRELOAD="$work/calls.so" CALLS_FOLDER=disk/store CALLS_HELD=$number CALLS_GATE="$work/gate" \
+            "$program" run --store disk/store $size < run.script > out 2> err &
+        running=$!
+        turns=0
+        while [ ! -e gate ] && kill -0 $running 2> /dev/null && [ $turns -lt $((bound * 100)) ]; do
+            sleep 0.01
+            turns=$((turns + 1))
+        done
+        if [ ! -e gate ]; then
+            kill -0 $running 2> /dev/null && { fail "$name: the run does not end"; kill -9 $running; }
+            status=0
+            wait $running || status=$?
+            [ $status -eq 0 ] || fail "$name: no sync failed, and the status is $status"
+            leave
+            break
+        fi
+
+        # The end of the disk is gone, and the sync is made, or the system writes back by itself.
+        tail -c +$((cut + 1)) image > end
+        truncate -s $cut image
+        losetup -c "$device"
         status=0
-        wait $running || status=$?
-        [ $status -eq 0 ] || fail "$name: no sync failed, and the status is $status"
+        if [ $mode = failed ]; then
+            rm -f gate
+            turns=0
+            while kill -0 $running 2> /dev/null && [ $turns -lt $((bound * 100)) ]; do
+                sleep 0.01
+                turns=$((turns + 1))
+            done
+            ! kill -9 $running 2> /dev/null || fail "$name: the run does not end"
+            wait $running || status=$?
+        else
+            kill -9 $running
+            wait $running 2> /dev/null || true
+            ! sync -f disk/store 2> /dev/null || clean=$((clean + 1))
+        fi
+        cat end >> image
+        losetup -c "$device"
+        acked=$((2 + $(grep -c '^acked' out || true)))
+        if [ $mode = failed ]; then
+            [ $status -eq 3 ] || fail "$name: a sync failed, and the status is $status"
+            grep -q '^lcrvm: disk/store/[a-z]*[0-9]*: Input/output error' err || fail "$name: standard error does not say it: $(cat err)"
+        else
+            lcrvm recover disk/store $size > recovered 2> errors || status=$?
+            [ $status -ne 3 ] || told=$((told + 1))
+            [ $status -eq 0 ] || [ $status -eq 3 ] || fail "$name: the recovery has status $status: $(tail -n 1 recovered)"
+        fi
+
+        # The store goes on.
+        before=$failed
+        holds "$name, behind it" $acked
+        status=0
+        lcrvm run --store disk/store $size < next.script > next.out 2> errors || status=$?
+        [ $status -eq 0 ] && grep -q '^acked' next.out || fail "$name: the next run has status $status: $(tail -n 1 next.out)"
+
+        # The power goes: the disk has what was written back to it, and nothing else.
+        cp image after
         leave
-        break
-    fi
-
-    # The end of the disk is gone, and the sync is made.
-    tail -c +$((cut + 1)) image > end
-    truncate -s $cut image
-    losetup -c "$device"
-    rm -f gate
-    status=0
-    wait $running || status=$?
-    cat end >> image
-    losetup -c "$device"
-    [ $status -eq 3 ] || fail "$name: a sync failed, and the status is $status"
-    grep -q '^lcrvm: disk/store/[a-z]*[0-9]*: Input/output error' err || fail "$name: standard error does not say it: $(cat err)"
-    acked=$((2 + $(grep -c '^acked' out || true)))
-
-    # The store goes on.
-    before=$failed
-    holds "$name, behind it" $acked
-    status=0
-    lcrvm run --store disk/store $size < next.script > next.out 2> errors || status=$?
-    [ $status -eq 0 ] && grep -q '^acked' next.out || fail "$name: the next run has status $status: $(tail -n 1 next.out)"
-
-    # The power goes: the disk has what was written back to it, and nothing else.
-    cp image after
-    leave
-    enter after || { fail "$name: no disk behind the power's loss"; break; }
-    holds "$name, behind the loss of power" 7
-    leave
-    [ $failed -eq $before ] || lost=$((lost + 1))
-    number=$((number + 1))
+        enter after || { fail "$name: no disk behind the power's loss"; break; }
+        holds "$name, behind the loss of power" 7
+        leave
+        [ $failed -eq $before ] || lost=$((lost + 1))
+        number=$((number + 1))
+    done
+    [ $number -gt 1 ] || fail 'no sync was held'
+    case $mode in
+        failed) echo "each of $((number - 1)) syncs failed once: behind $lost of them a store was not right" ;;
+        killed)
+            echo "before each a run was killed once, and the system wrote back: that failed $((number - 1 - clean)) times, which $told" \
+                "recoveries told; behind $lost of them a store was not right"
+            ;;
+    esac
 done
-[ $number -gt 1 ] || fail 'no sync was held'
-echo "each of $((number - 1)) syncs failed once: behind $lost of them a store was not right"
 if [ $failed -eq 0 ]; then echo "1 passed, 0 failed"; else echo "$failed times it was not right"; echo "0 passed, 1 failed"; exit 1; fi

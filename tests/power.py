@@ -15,7 +15,8 @@ read gives, but no later sync makes them stable: the system takes their pages fo
 
 With --without-syncs the syncs of a kind do not count, or `all` of them, and a cut has to lose something: the status is 0 where
 one does. The kind is told by what was written to the file last: of a log, a `group`, its `gate`, or the zero of a `reset`; of a
-segment, the zero that has to `close` a slot, what has to `fill` it, or the gate that has to `open` it.
+segment, the zero that has to `close` a slot, what has to `fill` it, or the gate that has to `open` it. Or it is the `first` of a
+process on the file, by which what an earlier process has written becomes stable.
 """
 import argparse
 import multiprocessing
@@ -47,7 +48,7 @@ class Lost(Exception):
 # ---- a disk
 
 
-SYNCS = ["group", "gate", "reset", "close", "fill", "open"]
+SYNCS = ["group", "gate", "reset", "close", "fill", "open", "first"]
 
 
 class Inode:
@@ -56,6 +57,7 @@ class Inode:
     def __init__(self, data=b"", name=""):
         self.name = name
         self.last = b""
+        self.is_new = True
         self.stable = bytearray(data)
         self.now = bytearray(data)
         self.lengths = []
@@ -183,6 +185,17 @@ class Disk:
     def begin(self):
         """Another process."""
         self.open = {}
+        for inode in self.now.values():
+            inode.is_new = True
+
+    @staticmethod
+    def is_left_out(what, without):
+        if without is None or without == "all":
+            return without == "all"
+        if not isinstance(what, Inode):
+            return False
+        first, what.is_new = what.is_new, False
+        return first if without == "first" else what.sync_kind() == without
 
     def do(self, call, without=None):
         kind = call[0]
@@ -208,7 +221,7 @@ class Disk:
             self.open[call[1]].truncate(call[2])
         elif kind == "sync":
             what = self.open[call[1]]
-            if without == "all" or without is not None and isinstance(what, Inode) and what.sync_kind() == without:
+            if self.is_left_out(what, without):
                 return
             if isinstance(what, Inode):
                 what.fail() if call[2] else what.sync()
@@ -487,6 +500,16 @@ def script(rng, number, lines):
         else:
             s, m = long_open.popitem()
             text.append(f"abort {m} {THREADS - 1}")
+
+    # It ends in the midst of something, most of the time.
+    m = rng.choice([owner[s] for s in owner])
+    commit(m)
+    luck = rng.random()
+    if luck < 0.25:
+        text.extend([f"step {m}"] * rng.randrange(1, 4))
+    elif luck < 0.75:
+        text.append(f"flush {m}")
+        page(m, rng.choice([5, 5, rng.randrange(1, 5)]))
     return text
 
 

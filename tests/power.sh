@@ -34,8 +34,8 @@ cut() {
 }
 cut --cuts "$cuts"
 cut --cuts $(((cuts + 1) / 2)) --stories failing
-for kind in all group gate reset close fill open; do
-    cut --cuts 5000 --without-syncs $kind
+for kind in all group gate reset close fill open first; do
+    cut --cuts 20000 --without-syncs $kind
 done
 echo "$passed passed, $failed failed"
 [ $failed -eq 0 ]

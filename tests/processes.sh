@@ -108,6 +108,31 @@ done
 echo "$pairs pairs of processes: $in_use found the store in use"
 [ "$in_use" -gt 0 ] || fail "no process found the store in use"
 
+# ---- two that make a store
+
+inits=$(((pairs + 4) / 5))
+pair=1
+while [ $pair -le $inits ]; do
+    name="init $pair"
+    rm -rf store
+    mkdir store
+    lcrvm init store $size > first.out 2> first.err &
+    one=$!
+    lcrvm init store $size > second.out 2> second.err &
+    two=$!
+    first=0
+    wait $one || first=$?
+    second=0
+    wait $two || second=$?
+    case "$first $second" in
+        '0 1' | '0 3' | '1 0' | '3 0') ;;
+        *) fail "$name: the statuses are $first and $second" ;;
+    esac
+    lcrvm recover store $size > recovered 2>&1 || fail "$name: no recovery: $(tail -n 1 recovered)"
+    pair=$((pair + 1))
+done
+echo "$inits pairs made a store: one of each did"
+
 # ---- a geometry that forgets files
 
 full='--nodes 2 --segments 2'
