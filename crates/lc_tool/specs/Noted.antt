@@ -1,6 +1,6 @@
 -- A reader or a writer that remembers why it failed, as contracts see it.
 use Rattle.std.specs.Prelude.{Option}
-use Rattle.std_io.specs.declared.io.error.Error.{Error}
+use Rattle.std.specs.declared.io.Error.{Error}
 use Rattle.lc_tool.specs.declared.noted.Noted.{Noted}
 
 -- what it reads from, or writes into

@@ -1,15 +1,16 @@
 //! Copies that take the place of files.
 use lc_disk::{HeldFile, open_regular};
 use std::alloc::Global;
-use std::fs::{self, File, OpenFile, OpenOptions};
+use std::fs::{self, File, Metadata, OpenFile, OpenOptions};
 use std::io;
+use std::os::unix::fs::{FileExt, MetadataExt};
 use std::path::Path;
 use std::rt::Files;
 
 // How many bytes are copied at once.
 const PIECE: usize = 4096;
 
-/// Copies the file at this path beside it, with its mode, makes the copy stable, and puts it in the file's place. Of a link
+/// Copies the file at this path beside it, with its owner and mode, makes the copy stable, and puts it in the file's place. Of a link
 /// that is where it leads to. What a stop has left of an earlier copy is overwritten.
 ///
 /// So what the system has of the file in its memory alone is on the device behind it, or it was lost and is read as such: a page
@@ -49,9 +50,19 @@ where
         .truncate(true)
         .open(rt, to)?
         .beside_standard_streams()?;
-    made.set_permissions(file.metadata()?.permissions())?;
+    let metadata = file.metadata()?;
+    give(rt, to, &metadata, &made.metadata()?)?;
+    made.set_permissions(metadata.permissions())?;
     copy_bytes(&file, &made, len)?;
     made.sync_all()
+}
+
+// Gives the file at this path to the owner and the group of another one, where it has others.
+fn give<R: Files>(rt: &R, path: &str, wanted: &Metadata, has: &Metadata) -> io::Result<()> {
+    if has.uid() == wanted.uid() && has.gid() == wanted.gid() {
+        return Ok(());
+    }
+    rt.chown(path, Some(wanted.uid()), Some(wanted.gid()))
 }
 
 // Copies the first so many bytes.
