@@ -227,7 +227,7 @@ module _ {D : Type 0} (a : Ghosts D) where
     pub same : a.honest old ≡ true → a.now new ≡ a.now old
     pub clean : a.honest old ≡ true → (k : ℕ) → a.dirty old k ≡ false → a.dirty new k ≡ false
 
-  -- one call of this area, which failed or not: what it leaves of the area no two calls do; nothing else has changed
+  -- one call of this area, which failed or not: the area is as one call leaves it; nothing else has changed
   pub record OneCall (at : ℕ) (olds news : List D) (ok : Bool) : Type 0 where
     pub old : D
     pub new : D
