@@ -160,13 +160,13 @@ are_ascending (c ∷ cs) ascend =
     let test : Pair → Bool = is_another (page_of c) in
     let others : List Pair = filter test (pages_of cs) in (
       All-weaker (Contains others) (IsPageBefore (page_of c))
-      (λ q has.
-      let other : test q ≡ true = All-contains (λ (p : Pair). test p ≡ true) others q (filter_passes test (pages_of cs)) has in
-      let among : Contains (pages_of cs) q = All-contains (Contains (pages_of cs)) others q (All-filter test (Contains (pages_of cs)) (pages_of cs) (All-contains_itself (pages_of cs))) has in
-      let one = listed_from cs q among in
-      subst (λ (p : Pair). test p ≡ true → IsPageBefore (page_of c) p) one.2
-      (λ differs. page_before c one.0 differs (All-contains (IsBefore c) cs one.0 ascend.0 one.1)) other)
-      others (All-contains_itself others),
+          (λ q has.
+          let other : test q ≡ true = All-contains (λ (p : Pair). test p ≡ true) others q (filter_passes test (pages_of cs)) has in
+          let among : Contains (pages_of cs) q = All-contains (Contains (pages_of cs)) others q (All-filter test (Contains (pages_of cs)) (pages_of cs) (All-contains_itself (pages_of cs))) has in
+          let one = listed_from cs q among in
+          subst (λ (p : Pair). test p ≡ true → IsPageBefore (page_of c) p) one.2
+          (λ differs. page_before c one.0 differs (All-contains (IsBefore c) cs one.0 ascend.0 one.1)) other)
+          others (All-contains_itself others),
       ascend-filter test (pages_of cs) (are_ascending cs ascend.1),
     )
 
