@@ -234,9 +234,9 @@ fn each_step_makes_the_next_call(rt: HostRuntime) -> Result<(), Fail> {
 #[test]
 fn an_empty_log_is_emptied_by_two_calls(rt: HostRuntime) -> Result<(), Fail> {
     let alloc = rt.alloc();
-    for (call, steps) in [(3, 5), (4, 6)] {
+    for (call, steps) in [(3u32, 5), (4, 6)] {
         let mut areas = Vec::with_capacity(alloc, 2)?;
-        areas.push(Fuse::new(log_area(alloc, &[])?, When::At(call)))?;
+        areas.push(Fuse::new(log_area(alloc, &[])?, When::At(u64::from(call))))?;
         areas.push(Fuse::new(segment_area(alloc, &[CLOSED; 2])?, When::At(0)))?;
         let mut recovery = begun(geometry_of(1, 1, 1)?, areas)?;
         let made = walk(&rt, alloc, &mut recovery, HELLO_STEPS);
