@@ -2,8 +2,6 @@
 #![tactic(auto)]
 
 #[cfg(test)]
-mod answer_tests;
-#[cfg(test)]
 mod command_line_tests;
 #[cfg(test)]
 mod events;
@@ -13,8 +11,6 @@ mod folder_tests;
 mod growth_tests;
 #[cfg(test)]
 mod hostile_tests;
-#[cfg(test)]
-mod listed_files;
 #[cfg(test)]
 mod recovering_tests;
 #[cfg(test)]
