@@ -1,5 +1,5 @@
 -- What wants memory, by the state and the numbers that a store fits.
-use Rattle.std.proofs.Common.{◌≡◌, ◌≢◌, ◌⊎◌, ◌∙◌, ℕ, ◌+◌, ◌<◌, ◌≤◌, true, false, ◌||◌, ◌==◌, List, length, Option, Some, None, refl, sym, ap, subst, inl, inr, arith, le-leb, ne_eqb}
+use Rattle.std.proofs.Common.{◌≡◌, ◌≢◌, ◌⊎◌, ◌∙◌, ℕ, ◌+◌, ◌<◌, ◌≤◌, true, false, ◌||◌, ◌==◌, length, Option, None, refl, sym, ap, subst, inl, inr, arith, le-leb, ne_eqb}
 use Rattle.std.specs.Prelude.{nat_le}
 use Rattle.std.proofs.lemmas.Bool.{cases_lt, false_from_ne_true}
 use Rattle.lc_disk.specs.declared.area.Area.{Ghosts}
@@ -29,7 +29,6 @@ use Rattle.lc_core.specs.Running.{FitsRunning, WantsBytes, WantsRange}
 use Rattle.lc_core.specs.Seat.{holder_of}
 use Rattle.lc_core.specs.Stepping.{AsksMemory, Wants}
 use Rattle.lc_core.specs.World.{AsksIn, AsksWorld, FitsDown, FitsPhase}
-use Rattle.lc_core.specs.declared.node.Node.{Node}
 use Rattle.lc_core.specs.declared.phase.Phase.{Phase}
 use Rattle.lc_core.specs.declared.phase.Phase.TheVariants.{Down, Up, Taken}
 use Rattle.lc_core.specs.declared.running.Running.{Running}

@@ -9,11 +9,12 @@ use Rattle.std.proofs.lemmas.Option.{slice_get_within}
 use Rattle.lc_disk.specs.contracts.mem_area.MemAreaArea.TheImpl.{ghosts}
 use Rattle.lc_disk.specs.declared.area.Area.{Ghosts}
 use Rattle.lc_disk.specs.declared.mem_area.MemArea.{MemArea}
-use Rattle.lc_record.specs.Content.{segment_of}
+use Rattle.lc_record.specs.Content.{Content, segment_of}
 use Rattle.lc_record.specs.Transaction.{IsWellFormed, Transaction, effects}
 use Rattle.lc_record.specs.declared.geometry.Geometry.{Geometry}
 use Rattle.lc_recover.specs.Reads.{AllMergeTo, AreHonest, AreImages, HaveLengths, store_of}
-use Rattle.lc_model.specs.Merge.{MergesTo}
+use Rattle.lc_recover.proofs.OneStore.{reads_one, reads_so}
+use Rattle.lc_model.specs.Merge.{MergesTo, Store}
 use Rattle.lc_model.specs.Merging.{counted_all}
 use Rattle.lc_core.specs.Areas.{AreStopped}
 use Rattle.lc_model.specs.History.{Cut, kept, transactions, value}
@@ -32,9 +33,10 @@ use Rattle.lc_model.proofs.Law.{law_each, law_value}
 use Rattle.lc_model.proofs.Order.{law_meet}
 use Rattle.lc_core.specs.FaultReplies.{is_fault}
 use Rattle.lc_core.specs.Faults.{CountsAll, area_failures, phase_failures}
-use Rattle.lc_core.specs.Headline.{Cuts, Holds, IsSerial, Leaves, stands_up}
+use Rattle.lc_core.specs.Headline.{AllMerge, Cuts, Holds, IsSerial, Leaves, MergeTo}
 use Rattle.lc_core.specs.Log.{area_of}
 use Rattle.lc_core.specs.Numbers.{Numbers}
+use Rattle.lc_core.specs.Observed.{observed, stands_up}
 use Rattle.lc_core.specs.Pages.{areas_of}
 use Rattle.lc_core.specs.Places.{same_some}
 use Rattle.lc_core.specs.Runs.{FollowsRun, RunsOn, Settles}
@@ -138,12 +140,19 @@ fresh_shows m s x node segment is =
 
 -- A cut is a serial order's prefix
 
+by_store : (g : Geometry) (images : List (List ℕ)) (content : Content) (numbers : ℕ → ℕ) → MergesTo (store_of g images) content numbers → MergeTo g images content numbers
+by_store g images content numbers merges = (store_of g images, reads_so g images, merges)
+
+of_store : (g : Geometry) (images : List (List ℕ)) (content : Content) (numbers : ℕ → ℕ) → MergeTo g images content numbers → MergesTo (store_of g images) content numbers
+of_store g images content numbers merges = subst (λ (store : Store). MergesTo store content numbers) (reads_one g images merges.0 merges.1) merges.2
+
 merges_so : (m : Setting) (s : State) (x : Numbers) (numbers : ℕ → ℕ) → Counts numbers s x → (cut : Cut) (images : List (List ℕ))
     → MergesTo (store_of m.geometry images) (effects (s.earlier ++ kept s.history cut) m.start) (counted_all x.disks.numbers (kept s.history cut))
-    → MergesTo (store_of m.geometry images) (effects (s.earlier ++ kept s.history cut) m.start) (counted_all numbers (s.earlier ++ kept s.history cut))
+    → MergeTo m.geometry images (effects (s.earlier ++ kept s.history cut) m.start) (counted_all numbers (s.earlier ++ kept s.history cut))
 merges_so m s x numbers counts cut images merges =
-    subst (λ (n : ℕ → ℕ). MergesTo (store_of m.geometry images) (effects (s.earlier ++ kept s.history cut) m.start) n)
-    (ap (λ (n : ℕ → ℕ). counted_all n (kept s.history cut)) counts ∙ sym (counted_all-append numbers s.earlier (kept s.history cut))) merges
+    by_store m.geometry images _ _
+    (subst (λ (n : ℕ → ℕ). MergesTo (store_of m.geometry images) (effects (s.earlier ++ kept s.history cut) m.start) n)
+    (ap (λ (n : ℕ → ℕ). counted_all n (kept s.history cut)) counts ∙ sym (counted_all-append numbers s.earlier (kept s.history cut))) merges)
 
 cut_serial : (m : Setting) (s : State) (cut : Cut) → Sound m.geometry s → MayCut m.geometry s cut → IsSerial m s cut
 cut_serial m s cut sound may = record {
@@ -155,6 +164,14 @@ cut_serial m s cut sound may = record {
 }
 
 module _ {D : Type 0} (a : Ghosts D) where
+  -- What areas merge to, by the grammar and by the list that computes
+
+  pub all_by : (g : Geometry) (areas : List D) (content : Content) (numbers : ℕ → ℕ) → AllMergeTo a g areas content numbers → AllMerge a g areas content numbers
+  all_by g areas content numbers merge = λ images are. by_store g images content numbers (merge images are)
+
+  pub all_of : (g : Geometry) (areas : List D) (content : Content) (numbers : ℕ → ℕ) → AllMerge a g areas content numbers → AllMergeTo a g areas content numbers
+  all_of g areas content numbers merge = λ images are. of_store g images content numbers (merge images are)
+
   -- The areas of a store that fits
 
   record Gathered (nodes : List (Node D a)) : Type 0 where
@@ -233,6 +250,12 @@ module _ {D : Type 0} (a : Ghosts D) where
       }
   area_left Taken m s x numbers failures counts failed h areas are = absurd h
 
+  -- the areas that a store has are of the geometry that it fits
+  geometry_of : (phase : Phase D a) (m : Setting) (s : State) (x : Numbers) (g : Geometry) (areas : List D) → FitsPhase a m phase s x → HasAreas a phase g areas → g ≡ m.geometry
+  geometry_of (Down r) m s x g areas h are = are.0 ∙ h.geometry_is
+  geometry_of (Up up) m s x g areas h are = are.0 ∙ sym h.running.geometry_is
+  geometry_of Taken m s x g areas h are = absurd h
+
   -- what is lent of a page is its part of the node's image
   lent_shows : (phase : Phase D a) (m : Setting) (s : State) (x : Numbers) (node segment page : ℕ) (bytes : List ℕ) → FitsPhase a m phase s x → LendsPage a phase node segment page bytes
       → bytes ≡ page_of (image_of m s x node segment) page
@@ -254,7 +277,7 @@ module _ {D : Type 0} (a : Ghosts D) where
 
   -- the headline, of a run from a store that fits the first state
   pub holds : (m : Setting) (x : Numbers) (numbers : ℕ → ℕ) (old new : World D a) (events : List Event) (replies : List Reply) → x.disks.numbers ≡ numbers → FitsWorld a m old (first_state m.geometry) x
-      → FollowsRun a old events replies new → CountsAll replies (phase_failures a old.phase) (phase_failures a new.phase) → Holds a m numbers events replies (failures_in (phase_failures a old.phase)) new
+      → FollowsRun a old events replies new → CountsAll replies (phase_failures a old.phase) (phase_failures a new.phase) → Holds a m numbers events replies (failures_in (phase_failures a old.phase)) (observed a new)
   holds m x numbers old new events replies numbers_are h run counts =
       let on = run m (first_state m.geometry) x h in
       let counted = run_counts m numbers (first_state m.geometry) x events replies on.0 on.1 numbers_are on.2 in
@@ -272,7 +295,11 @@ module _ {D : Type 0} (a : Ghosts D) where
               ∙ ap (λ (image : List ℕ). page_of image page) (fresh_shows m on.0 on.1 node segment (recovered_fresh m last.mid on.0 last.step));
         };
         some_areas = areas_there new.phase m on.0 on.1 on.3;
-        leaves = λ areas are. area_left new.phase m on.0 on.1 numbers _ counted (counted_in replies _ _ counts) on.3 areas are;
+        leaves = λ g areas are.
+            let same = geometry_of new.phase m on.0 on.1 g areas on.3 are in (
+              same,
+              area_left new.phase m on.0 on.1 numbers _ counted (counted_in replies _ _ counts) on.3 areas (subst (λ (shape : Geometry). HasAreas a new.phase shape areas) same are),
+            );
       }
 
   -- and beside it, what the store fits
@@ -283,7 +310,7 @@ module _ {D : Type 0} (a : Ghosts D) where
   -- areas that read as images of those that are left begin another life
   pub next_life : (m : Setting) (numbers : ℕ → ℕ) (failures : ℕ) (s : State) (areas news : List D) → Leaves a m s numbers failures areas → AreStopped a areas news
       → (cut : Cut) × Cuts s.phase m.geometry s cut × HaveLengths a m.geometry news × AreHonest a news
-      × AllMergeTo a m.geometry news (effects (s.earlier ++ kept s.history cut) m.start) (counted_all numbers (s.earlier ++ kept s.history cut))
+      × AllMerge a m.geometry news (effects (s.earlier ++ kept s.history cut) m.start) (counted_all numbers (s.earlier ++ kept s.history cut))
   next_life m numbers failures s areas news leaves stopped =
       let one = leaves.left (map a.now news) (stopped_images a areas news leaves.honest stopped) in (
         one.cut,
@@ -291,7 +318,7 @@ module _ {D : Type 0} (a : Ghosts D) where
         stopped_lengths a areas news stopped m.geometry leaves.lengths,
         stopped_honest a areas news stopped leaves.honest,
         λ images are. subst
-            (λ (l : List (List ℕ)). MergesTo (store_of m.geometry l) (effects (s.earlier ++ kept s.history one.cut) m.start) (counted_all numbers (s.earlier ++ kept s.history one.cut)))
+            (λ (l : List (List ℕ)). MergeTo m.geometry l (effects (s.earlier ++ kept s.history one.cut) m.start) (counted_all numbers (s.earlier ++ kept s.history one.cut)))
             (sym (stopped_again a areas news images leaves.honest stopped are)) one.merges,
       )
 

@@ -103,3 +103,4 @@ pub mod Asking
 pub mod OwnReplies
 pub mod Geometries
 pub mod OneArea
+pub mod EachCall

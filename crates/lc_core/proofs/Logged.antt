@@ -42,6 +42,10 @@ pub ok_both : {X E : Type 0} {P Q R : X → Type 0} (r : Result X E) → IfOk r 
 ok_both (Ok x) one other next = next x one other
 ok_both (Err e) one other next = tt
 
+pub err_any : {A E P : Type 0} (r : Result A E) → P → OnErr r P
+err_any (Ok value) holds = tt
+err_any (Err fault) holds = holds
+
 pub err_then : {X E A B : Type 0} (r : Result X E) → OnErr r A → (A → B) → OnErr r B
 err_then (Ok x) none next = tt
 err_then (Err e) none next = next none

@@ -17,7 +17,7 @@ use Rattle.lc_recover.specs.declared.fault.RecoverFault.TheVariants.{NoMemory}
 use Rattle.lc_recover.specs.declared.progress.Progress.{Progress}
 use Rattle.lc_recover.proofs.Images.{count-areas, get-drop, get-map}
 use Rattle.lc_core.specs.Areas.{AreOf}
-use Rattle.lc_core.specs.Calls.{CallsArea, CallsOne, CallsOneAtMost}
+use Rattle.lc_core.specs.Calls.{CallsArea, CallsOne, CallsOneAtMost, KeepsAreas}
 use Rattle.lc_core.specs.FaultReplies.{CallsOneOf}
 use Rattle.lc_core.specs.Faults.{CountsLogs, SameLogAreas, SameLogs, areas_in, logs_of}
 use Rattle.lc_core.specs.Log.{area_of}
@@ -160,6 +160,12 @@ module _ {D : Type 0} (a : Ghosts D) where
     step_calls (Ok reply) segments counts same = logs_call counts.devices.geometry segments counts.calls
     step_calls (Err e) segments counts same = logs_call same.geometry segments (inl (ap (map (area_of a)) same.logs))
 
+    -- without memory, none
+    pub step_keeps : {E : Type 0} (result : Result Reply E) → areas_of a later.segments.items ≡ areas_of a up.segments.items → OnErr result (SameLogs a up.running later.running)
+        → OnErr result (KeepsAreas a (Up up) (Up later))
+    step_keeps (Ok reply) segments same = same
+    step_keeps (Err e) segments same = λ g areas has. (has.0 ∙ sym same.geometry, all_same up later same.geometry areas has.1 (ap (map (area_of a)) same.logs) segments)
+
     pub page_calls : (k : ℕ) (old new : Pages D a) (ok : Bool) → slice_get up.segments.items k ≡ Some old → later.segments.items ≡ slice_set up.segments.items k new → SameLogAreas a up.running later.running
         → IsOneCall a ok old.area new.area → CallsArea a (Up up) (Up later)
     page_calls k old new ok at set same call g areas has = (
@@ -167,6 +173,13 @@ module _ {D : Type 0} (a : Ghosts D) where
       (has.0 ∙ sym same.geometry, one_segment up later same.geometry areas has.1 k old new at set same.areas),
       inr (segment_called up later same.geometry areas has.1 k old new at set ok call),
     )
+
+  pub up_keeps : (phase : Phase D a) (up later : Rising D a) → phase ≡ Up up → KeepsAreas a (Up up) (Up later) → KeepsAreas a phase (Up later)
+  up_keeps phase up later is keeps = subst (λ (p : Phase D a). KeepsAreas a p (Up later)) (sym is) keeps
+
+  -- of a recovery that is as it was
+  pub down_keeps : (phase : Phase D a) (r new : Recovering D) → phase ≡ Down r → new ≡ r → KeepsAreas a phase (Down new)
+  down_keeps phase r new is same = subst (λ (p : Phase D a). KeepsAreas a p (Down new)) (sym is) (subst (λ (v : Recovering D). KeepsAreas a (Down r) (Down v)) (sym same) (λ g areas has. has))
 
   pub up_calls : (phase : Phase D a) (up later : Rising D a) → phase ≡ Up up → CallsArea a (Up up) (Up later) → CallsArea a phase (Up later)
   up_calls phase up later is calls = subst (λ (p : Phase D a). CallsArea a p (Up later)) (sym is) calls

@@ -1,5 +1,5 @@
 -- A store that stops: its areas are stopped, and a recovery begins that fits the state of a cut.
-use Rattle.std.proofs.Common.{◌≡◌, ℕ, ◌+◌, ◌-◌, ◌*◌, ◌<◌, ◌≤◌, Bool, true, List, ◌++◌, drop, length, map, Option, Some, None, refl, sym, ap, subst, ◌∙◌, inl, inr, arith}
+use Rattle.std.proofs.Common.{◌≡◌, ℕ, ◌+◌, ◌-◌, ◌*◌, ◌<◌, ◌≤◌, true, List, [], ◌++◌, drop, length, Option, Some, None, refl, sym, ap, subst, ◌∙◌, inl, inr, arith}
 use Rattle.std.specs.Prelude.{is_some, option_map, if◌then◌else◌, slice_get}
 use Rattle.std.proofs.Math.Seq.{drop-append_seam}
 use Rattle.std.proofs.lemmas.Bool.{cases_lt}
@@ -7,16 +7,13 @@ use Rattle.std.proofs.lemmas.List.{length-append, length-map}
 use Rattle.std.proofs.lemmas.Option.{slice_get-map, slice_get_past, slice_get_within}
 use Rattle.lc_disk.specs.declared.area.Area.{Ghosts}
 use Rattle.lc_disk.specs.declared.choice.Choice.{Choice}
-use Rattle.lc_record.specs.Content.{Content}
-use Rattle.lc_record.specs.Transaction.{effects}
 use Rattle.lc_record.specs.declared.geometry.Geometry.{Geometry}
-use Rattle.lc_recover.specs.Reads.{AllMergeTo, AreHonest, HaveLengths, area_count, area_len}
+use Rattle.lc_recover.specs.Reads.{AreHonest, HaveLengths, area_count}
 use Rattle.lc_recover.specs.Recovery.{Recovering, begun}
+use Rattle.lc_recover.proofs.Going.{same_lists}
 use Rattle.lc_recover.proofs.Images.{get-drop, get-map, get-some, len-log, len-none, len-segment}
-use Rattle.lc_model.specs.History.{kept}
 use Rattle.lc_model.specs.Machine.{Row, StopRow}
 use Rattle.lc_model.specs.Refusals.{Unless, common_refusal}
-use Rattle.lc_model.specs.Sound.{Sound}
 use Rattle.lc_model.specs.State.{Phase as Condition, DownAt, Up as IsUpNow, Setting, State}
 use Rattle.lc_model.specs.declared.event.Event.{Event}
 use Rattle.lc_model.specs.declared.event.Event.TheVariants.{Stop}
@@ -24,13 +21,12 @@ use Rattle.lc_model.specs.declared.refusal.Refusal.{Refusal}
 use Rattle.lc_model.specs.declared.reply.Reply.TheVariants.{Down as IsDown}
 use Rattle.lc_model.proofs.Keeps.{sound-step}
 use Rattle.lc_core.specs.Areas.{AreOf, AreStopped}
-use Rattle.lc_core.specs.Faults.{area_failures, log_failures, logs_of, phase_failures}
+use Rattle.lc_core.specs.Faults.{area_failures, phase_failures}
 use Rattle.lc_core.specs.Log.{area_of}
 use Rattle.lc_core.specs.Numbers.{Numbers}
 use Rattle.lc_core.specs.Pages.{areas_of}
 use Rattle.lc_core.specs.Settled.{settled_answer}
-use Rattle.lc_core.specs.Stops.{HasAreas, Stops, StopsAll}
-use Rattle.lc_core.specs.Turns.{kept_numbers}
+use Rattle.lc_core.specs.Stops.{AreLeftBy, HasAreas, IsLeftBy, StopsAll}
 use Rattle.lc_core.specs.World.{FitsDown, FitsPhase, Leads}
 use Rattle.lc_core.specs.declared.node.Node.{Node}
 use Rattle.lc_core.specs.declared.pages.Pages.{Pages}
@@ -41,6 +37,15 @@ use Rattle.lc_core.proofs.Devices.{log_area_of}
 use Rattle.lc_core.proofs.Failures.{beside_segments}
 use Rattle.lc_core.proofs.Gathering.{front_get}
 use Rattle.lc_core.proofs.ImagesFit.{stopped_failures, stopped_honest, stopped_lengths, stopped_merge_one, stopped_merge_same}
+
+-- the choices of a stop
+choices_of : Event → List (List Choice)
+choices_of (Stop choices) = choices
+choices_of event = []
+
+pub same_stop : (one other : List (List Choice)) → Stop one ≡ Stop other → one ≡ other
+unfolding choices_of
+same_stop one other is = ap choices_of is
 
 module _ {D : Type 0} (a : Ghosts D) where
   -- The areas of a store that is up
@@ -183,6 +188,38 @@ module _ {D : Type 0} (a : Ghosts D) where
   by_stops (Down r) g olds news new were stopped recovers = record { geometry = g; olds = olds; news = news; were = were; stopped = stopped; recovers = recovers }
   by_stops (Up up) g olds news new were stopped recovers = record { geometry = g; olds = olds; news = news; were = were; stopped = stopped; recovers = recovers }
   by_stops Taken g olds news new were stopped recovers = absurd were
+
+  -- a store has one list of areas
+  pub one_list : (phase : Phase D a) (g h : Geometry) (xs ys : List D) → HasAreas a phase g xs → HasAreas a phase h ys → xs ≡ ys
+  one_list (Down r) g h xs ys one other = one.1 ∙ sym other.1
+  one_list (Up up) g h xs ys one other = same_lists xs ys (one.1.count ∙ sym other.1.count) each
+    where
+      nodes : ℕ
+      nodes = up.running.geometry.nodes
+
+      log : (k : ℕ) → k < nodes → slice_get xs k ≡ slice_get ys k
+      log k less =
+          let count = nodes_count up in
+          let inside : k < length up.running.nodes.items = omega (arith, less, count) in
+          let node = get-some up.running.nodes.items k inside in
+          sym (one.1.logs k node.0 node.1) ∙ other.1.logs k node.0 node.1
+
+      segment : (k : ℕ) → nodes ≤ k → slice_get xs k ≡ slice_get ys k
+      segment k most =
+          let behind : nodes + (k - nodes) ≡ k = omega (arith, most) in
+          ap (slice_get xs) (sym behind) ∙ sym (get-drop nodes (k - nodes) xs) ∙ ap (λ (l : List D). slice_get l (k - nodes)) (sym one.1.segments ∙ other.1.segments)
+          ∙ get-drop nodes (k - nodes) ys ∙ ap (slice_get ys) behind
+
+      each : (k : ℕ) → k < length xs → slice_get xs k ≡ slice_get ys k
+      each k less = elim (cases_lt k nodes) [ inl before ↦ log k before | inr behind ↦ segment k behind ]
+  one_list Taken g h xs ys one other = absurd one
+
+  -- so what is said of one stop of them is said of the store
+  pub left_so : (left : D → List Choice → ℕ → ℕ) (choices : List (List Choice)) (old : Phase D a) (g : Geometry) (olds news : List D) (new : Phase D a) → HasAreas a old g olds
+      → AreLeftBy a left choices olds news → new ≡ Down (begun g news) → IsLeftBy a left choices old new
+  left_so left choices old g olds news new were are recovers = λ shape other befores afters before after.
+      subst (λ (xs : List D). AreLeftBy a left choices xs afters) (one_list old g shape olds befores were before)
+      (subst (λ (ys : List D). AreLeftBy a left choices olds ys) (sym (subst (λ (p : Phase D a). HasAreas a p other afters) recovers after).1) are)
 
   -- no failure is counted
   pub areas_failed : (phase : Phase D a) (g : Geometry) (areas : List D) → HasAreas a phase g areas → phase_failures a phase ≡ area_failures a areas

@@ -4,6 +4,7 @@ pub mod Turns
 pub mod Coherent
 pub mod Places
 pub mod Headline
+pub mod Observed
 pub mod Here
 pub mod Seat
 pub mod Seats

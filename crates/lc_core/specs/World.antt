@@ -1,5 +1,5 @@
 -- A store that is down or up, against the machine and the numbers.
-use Rattle.std.specs.Prelude.{◌≡◌, ◌⊎◌, ◌++◌, Bool, true, false}
+use Rattle.std.specs.Prelude.{◌≡◌, ◌⊎◌, ◌++◌}
 use Rattle.lc_disk.specs.declared.area.Area.{Ghosts}
 use Rattle.lc_record.specs.Transaction.{effects}
 use Rattle.lc_recover.specs.Reads.{AreHonest, AllMergeTo, HaveLengths}

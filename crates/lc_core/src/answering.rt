@@ -3,7 +3,7 @@ ghost use Rattle.std.specs.Prelude.{◌≡◌, List, IfOk, OnErr};
 ghost use Rattle.lc_disk.specs.declared.choice.Choice.{Choice};
 ghost use Rattle.lc_model.specs.declared.event.Event.TheVariants.{RecoverStep, Stop};
 ghost use Rattle.lc_model.specs.declared.reply.Reply.TheVariants.{Down as IsDown};
-ghost use Rattle.lc_core.specs.Stops.{StopsAll};
+ghost use Rattle.lc_core.specs.Stops.{IsLeftBy, StopsAll};
 
 use crate::phase::Phase;
 use crate::world::World;
@@ -14,7 +14,7 @@ use std::alloc::{AllocError, Global};
 impl<D: Stoppable + Drop> World<D> {
     ghost use Rattle.lc_core.specs.World.{AsksIn, AsksWorld, FollowsWorld, StillFitsWorld};
     ghost use Rattle.lc_core.specs.Faults.{CountsPhase, phase_failures};
-    ghost use Rattle.lc_core.specs.Calls.{CallsArea};
+    ghost use Rattle.lc_core.specs.Calls.{CallsArea, KeepsAreas};
     ghost use Rattle.lc_core.specs.Geometries.{RefusesOutside, phase_geometry};
     ghost use Rattle.lc_core.specs.Recovers.{RecoversDown, RefusesAtOnce};
 
@@ -35,9 +35,11 @@ impl<D: Stoppable + Drop> World<D> {
         ensures at_once { IfOk result (λ reply. RefusesAtOnce D.Area self.old.phase event.now reply self.new.phase) }
         ensures recovers { event.now ≡ RecoverStep → IfOk result (λ reply. RecoversDown D.Area self.old.phase reply self.new.phase) }
 
-        // Behind a stop the areas are stopped, and a recovery begins on them.
+        // Behind a stop the areas are stopped, each by the choices at its place, and a recovery begins on them.
         ensures stops { (choices : List (List Choice)) → event.now ≡ Stop choices
             → IfOk result (λ reply. (reply ≡ IsDown) × StopsAll D.Area self.old.phase self.new.phase) }
+        ensures chosen { (choices : List (List Choice)) → event.now ≡ Stop choices
+            → IsLeftBy D.Area D.left choices self.old.phase self.new.phase }
 
         // How often the devices of the areas have failed: once more for each device fault that is answered, and not else.
         ensures faults { IfOk result (λ reply. CountsPhase D.Area self.old.phase reply self.new.phase) }
@@ -47,8 +49,9 @@ impl<D: Stoppable + Drop> World<D> {
         ensures geometry { phase_geometry D.Area self.new.phase ≡ phase_geometry D.Area self.old.phase }
         ensures unknown { IfOk result (RefusesOutside D.Area self.old.phase event.now) }
 
-        // One call of one area, or none.
+        // One call of one area, or none; behind want of memory none.
         ensures calls { ((choices : List (List Choice)) → event.now ≡ Stop choices → ⊥) → CallsArea D.Area self.old.phase self.new.phase }
+        ensures kept { OnErr result (KeepsAreas D.Area self.old.phase self.new.phase) }
     {
         if let Event::RecoverStep = event {
             return self.recover_step(alloc);

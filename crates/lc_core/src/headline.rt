@@ -1,10 +1,13 @@
 //! What a store promises of a whole run.
-ghost use Rattle.std.specs.Prelude.{◌≡◌, ◌≢◌, ◌⊎◌, ◌<◌, ℕ, [], IfErr, IfOk, length, map, slice_get, take, true, false};
+ghost use Rattle.std.specs.Prelude.{◌≡◌, ◌≢◌, ◌⊎◌, ◌<◌, ℕ, List, [], IfErr, IfOk, length, map, slice_get, take, true, false};
 ghost use Rattle.lc_model.specs.Merge.{IsLeast};
+ghost use Rattle.lc_record.specs.declared.geometry.Geometry.{Geometry as TheGeometry};
 ghost use Rattle.lc_recover.specs.Reads.{area_len};
 ghost use Rattle.lc_recover.specs.declared.fault.RecoverFault.TheVariants.{BadGeometry};
 ghost use Rattle.lc_model.specs.State.{first_state};
+ghost use Rattle.lc_core.specs.Calls.{CallsEach};
 ghost use Rattle.lc_core.specs.Headline.{Headline};
+ghost use Rattle.lc_core.specs.Observed.{observed};
 ghost use Rattle.lc_core.specs.Runs.{AsksNext, GrowsNext, OnAreas, Settles};
 
 use crate::world::World;
@@ -20,7 +23,7 @@ use std::alloc::Global;
 /// Where the areas keep to the model of a disk, and whatever a stop may have left of them merges to one result: the answers are
 /// a run of the machine of plain transactions, and whatever a stop leaves of the areas now merges to the value of a prefix of a
 /// serial order of the committed transactions that has every acknowledged commit. Each reply is the settled one, and the
-/// store fits where the run has come to.
+/// store fits where the run has come to. Each event makes one call of one area at most, and a stop stops each.
 ///
 /// # Errors
 ///
@@ -33,9 +36,11 @@ pub fn run_areas<D: Stoppable + Drop>(
     events: &[Event],
 ) -> Result<(World<D>, RunResult), (Vec<D>, RecoverFault)>
     ensures headline { IfOk result (λ ran. Headline D.Area geometry areas.items
-        (take (length ran.1.replies.items) events.now) ran.1.replies.items ran.0) }
+        (take (length ran.1.replies.items) events.now) ran.1.replies.items (observed D.Area ran.0)) }
     ensures fits { IfOk result (λ ran. OnAreas D.Area geometry areas.items (λ m x.
         Settles D.Area m x (take (length ran.1.replies.items) events.now) ran.1.replies.items ran.0)) }
+    ensures calls { IfOk result (λ ran. (g : TheGeometry) (news : List D) → (observed D.Area ran.0).gives g news
+        → CallsEach D.Area D.left (take (length ran.1.replies.items) events.now) areas.items news) }
     ensures all { IfOk result (λ ran. ran.1.out_of_memory ≡ false
         → length ran.1.replies.items ≡ length events.now) }
     ensures some { IfOk result (λ ran. ran.1.out_of_memory ≡ true

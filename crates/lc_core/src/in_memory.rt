@@ -5,6 +5,7 @@ ghost use Rattle.lc_model.specs.State.{State, first_state};
 ghost use Rattle.lc_recover.specs.Reads.{AreZeros, HaveLengths};
 ghost use Rattle.lc_core.specs.FaultReplies.{is_fault};
 ghost use Rattle.lc_core.specs.Headline.{Answers, Holds};
+ghost use Rattle.lc_core.specs.Observed.{observed};
 ghost use Rattle.lc_core.specs.Runs.{AsksNext, GrowsNext, OnZeros, Settles, of_zeros};
 
 use crate::headline::run_areas;
@@ -37,11 +38,11 @@ pub fn run_in_memory(
     geometry: Geometry,
     events: &[Event],
 ) -> Result<(World<MemArea>, RunResult), AllocError>
-    ensures answers { IfOk result (λ ran. (after : State) × Answers ghosts (of_zeros geometry)
-        (take (length ran.1.replies.items) events.now) ran.1.replies.items ran.0 after) }
+    ensures answers { IfOk result (λ ran. (after : State) × Answers (of_zeros geometry)
+        (take (length ran.1.replies.items) events.now) ran.1.replies.items (observed ghosts ran.0) after) }
     ensures no_fault { IfOk result (λ ran. filter is_fault ran.1.replies.items ≡ []) }
     ensures holds { IfOk result (λ ran. Holds ghosts (of_zeros geometry) (λ segment. 0)
-        (take (length ran.1.replies.items) events.now) ran.1.replies.items 0 ran.0) }
+        (take (length ran.1.replies.items) events.now) ran.1.replies.items 0 (observed ghosts ran.0)) }
     ensures fits { IfOk result (λ ran. OnZeros geometry (λ m x.
         Settles ghosts m x (take (length ran.1.replies.items) events.now) ran.1.replies.items ran.0)) }
     ensures all { IfOk result (λ ran. ran.1.out_of_memory ≡ false

@@ -13,10 +13,9 @@ ghost use Rattle.lc_model.specs.State.{Place, At, Travelling, Up, State, Setting
 ghost use Rattle.lc_model.specs.Stored.{Fits as FitsDisks};
 ghost use Rattle.lc_model.specs.History.{Cut, kept};
 ghost use Rattle.lc_model.specs.Merging.{counted_all};
-ghost use Rattle.lc_recover.specs.Reads.{AllMergeTo, AreHonest, HaveLengths};
+ghost use Rattle.lc_recover.specs.Reads.{AreHonest, HaveLengths};
 ghost use Rattle.lc_core.specs.Areas.{AreStopped};
-ghost use Rattle.lc_core.specs.Headline.{Cuts, Holds};
-ghost use Rattle.lc_core.specs.Stops.{HasAreas};
+ghost use Rattle.lc_core.specs.Headline.{AllMerge, Cuts, Holds};
 ghost use Rattle.lc_core.specs.declared.world.World.{World as Store};
 ghost use Rattle.lc_core.specs.Beside.{Beside, BesideLogs};
 ghost use Rattle.lc_core.specs.Coherent.{AreCoherent};
@@ -24,6 +23,7 @@ ghost use Rattle.lc_core.specs.Desk.{FitsDesk};
 ghost use Rattle.lc_core.specs.Follows.{SameButLog};
 ghost use Rattle.lc_core.specs.FollowsDesk.{SameButOpen};
 ghost use Rattle.lc_core.specs.Numbers.{Numbers, recovered_numbers};
+ghost use Rattle.lc_core.specs.Observed.{observed};
 ghost use Rattle.lc_core.specs.Runs.{RunsOn};
 ghost use Rattle.lc_core.specs.Settled.{Settled};
 ghost use Rattle.lc_core.specs.Journal.{FitsLog};
@@ -65,10 +65,10 @@ pub fn settled_runs()
 /// with the content of what a cut kept that the stop may make, and the numbers of it. So another run may begin there.
 pub fn next_life<D: Area>()
     ensures { (m : Setting) (numbers : ℕ → ℕ) (events : List Event) (replies : List Reply) (failures : ℕ) (w : Store D D.Area)
-        (areas news : List D) (h : Holds D.Area m numbers events replies failures w) →
-        HasAreas D.Area w.phase m.geometry areas → AreStopped D.Area areas news →
+        (g : Shape) (areas news : List D) (h : Holds D.Area m numbers events replies failures (observed D.Area w)) →
+        (observed D.Area w).gives g areas → AreStopped D.Area areas news →
         (cut : Cut) × Cuts h.after.phase m.geometry h.after cut × HaveLengths D.Area m.geometry news × AreHonest D.Area news
-        × AllMergeTo D.Area m.geometry news (effects (h.after.earlier ++ kept h.after.history cut) m.start)
+        × AllMerge D.Area m.geometry news (effects (h.after.earlier ++ kept h.after.history cut) m.start)
         (counted_all numbers (h.after.earlier ++ kept h.after.history cut)) }
 {}
 

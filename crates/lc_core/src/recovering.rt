@@ -17,7 +17,7 @@ use std::mem;
 impl<D: Area + Drop> World<D> {
     ghost use Rattle.lc_core.specs.Recovers.{RecoversDown, RefusesAtOnce};
     ghost use Rattle.lc_core.specs.World.{AsksIn, FollowsWorld, StillFitsWorld};
-    ghost use Rattle.lc_core.specs.Calls.{CallsArea};
+    ghost use Rattle.lc_core.specs.Calls.{CallsArea, KeepsAreas};
     ghost use Rattle.lc_core.specs.FaultReplies.{is_unknown};
     ghost use Rattle.lc_core.specs.Faults.{CountsPhase, phase_failures};
     ghost use Rattle.lc_core.specs.Geometries.{phase_geometry};
@@ -34,6 +34,7 @@ impl<D: Area + Drop> World<D> {
         ensures geometry { phase_geometry D.Area self.new.phase ≡ phase_geometry D.Area self.old.phase }
         ensures unknown { IfOk result (λ reply. is_unknown reply ≡ false) }
         ensures calls { CallsArea D.Area self.old.phase self.new.phase }
+        ensures kept { OnErr result (KeepsAreas D.Area self.old.phase self.new.phase) }
     {
         let Phase::Down(recovery) = &mut self.phase else {
             return Ok(Reply::Refused(Refusal::OutOfTurn));

@@ -10,7 +10,15 @@ use lc_disk::Area;
 use lc_page::PAGE_BYTES;
 
 impl<D: Area + Drop> World<D> {
-    ghost use Rattle.lc_core.specs.Showing.{page_refusal, LendsPage, ShowsPage};
+    ghost use Rattle.lc_core.specs.Observed.{observed};
+    ghost use Rattle.lc_core.specs.Showing.{page_refusal, ShowsPage};
+
+    /// Whether it is up: its recovery is over, and it has not stopped since.
+    pub fn is_up(&self) -> bool
+        ensures { result ≡ (observed D.Area self.now).up }
+    {
+        matches!(self.phase, Phase::Up(_))
+    }
 
     /// The bytes of a page as a node has them, with those of a transaction that is open on it. It takes no memory.
     ///
@@ -18,7 +26,7 @@ impl<D: Area + Drop> World<D> {
     ///
     /// `Down` while the store is down; else `Unknown` where its geometry has no such node, segment or page.
     pub fn page(&self, node: u16, segment: u32, page: u32) -> Result<&[u8], Refusal>
-        ensures lends { IfOk result (λ bytes. LendsPage D.Area self.now.phase node segment page bytes.now) }
+        ensures lends { IfOk result (λ bytes. (observed D.Area self.now).lends node segment page bytes.now) }
         ensures shows { IfOk result (λ bytes. ShowsPage D.Area self.now node segment page bytes.now) }
         ensures shown { OnOk result (page_refusal D.Area self.now.phase node segment page ≡ None) }
         ensures refused { IfErr result (λ refusal. page_refusal D.Area self.now.phase node segment page ≡ Some refusal) }

@@ -1,5 +1,5 @@
 //! How a store stops.
-ghost use Rattle.std.specs.Prelude.{◌≡◌, ◌≤◌, ◌+◌, ◌++◌, ℕ, List, [], length, Some, IfNone, IfSome, slice_get, vec_capacity, vec_len};
+ghost use Rattle.std.specs.Prelude.{◌≡◌, ◌≤◌, ◌+◌, ◌++◌, ℕ, List, [], length, Some, IfNone, IfSome, slice_get, slice_index_or, vec_capacity, vec_len};
 ghost use Rattle.lc_record.specs.declared.geometry.Geometry.{Geometry};
 ghost use Rattle.lc_model.specs.declared.event.Event.TheVariants.{Stop};
 ghost use Rattle.lc_model.specs.declared.reply.Reply.TheVariants.{Down as IsDown};
@@ -9,8 +9,9 @@ ghost use Rattle.lc_core.specs.Devices.{HaveLogs};
 ghost use Rattle.lc_core.specs.Faults.{phase_failures};
 ghost use Rattle.lc_core.specs.Geometries.{phase_geometry};
 ghost use Rattle.lc_core.specs.Log.{area_of};
+ghost use Rattle.lc_core.specs.Observed.{observed};
 ghost use Rattle.lc_core.specs.Pages.{areas_of};
-ghost use Rattle.lc_core.specs.Stops.{HasAreas, StopsAll};
+ghost use Rattle.lc_core.specs.Stops.{AreLeftBy, HasAreas, IsLeftBy, StopsAll};
 ghost use Rattle.lc_core.specs.World.{FollowsWorld};
 ghost use Rattle.lc_core.specs.declared.node.Node.{Node as TheNode};
 ghost use Rattle.lc_core.specs.declared.phase.Phase.TheVariants.{Taken};
@@ -34,6 +35,7 @@ impl<D: Stoppable + Drop> World<D> {
         ensures answer { result ≡ IsDown }
         ensures follows { FollowsWorld D.Area self.old (Stop choices.now) result self.new }
         ensures stops { StopsAll D.Area self.old.phase self.new.phase }
+        ensures chosen { IsLeftBy D.Area D.left choices.now self.old.phase self.new.phase }
         ensures counts { phase_failures D.Area self.new.phase ≡ phase_failures D.Area self.old.phase }
         ensures geometry { phase_geometry D.Area self.new.phase ≡ phase_geometry D.Area self.old.phase }
     {
@@ -45,7 +47,8 @@ impl<D: Stoppable + Drop> World<D> {
 impl<D: Stoppable + Drop> Phase<D> {
     // Each area is stopped, and a recovery begins.
     fn stopped(self, choices: &[Items<Choice>]) -> Phase<D>
-        ensures { StopsAll D.Area self result }
+        ensures stops { StopsAll D.Area self result }
+        ensures chosen { IsLeftBy D.Area D.left choices.now self result }
     {
         let Some((geometry, mut areas)) = self.into_areas() else {
             return Phase::Taken;
@@ -60,7 +63,8 @@ impl<D: Stoppable + Drop> Phase<D> {
 
 // Stops each area by the choices at its place.
 fn stop_all<D: Stoppable>(areas: &mut [D], choices: &[Items<Choice>])
-    ensures { AreStopped D.Area areas.old areas.new }
+    ensures stopped { AreStopped D.Area areas.old areas.new }
+    ensures chosen { AreLeftBy D.Area D.left choices.now areas.old areas.new }
 {
     for place in 0..areas.len() {
         areas[place].stop(choices_at(choices, place));
@@ -68,7 +72,9 @@ fn stop_all<D: Stoppable>(areas: &mut [D], choices: &[Items<Choice>])
 }
 
 // The choices at this place, if there are some.
-fn choices_at(choices: &[Items<Choice>], place: usize) -> &[Choice] {
+fn choices_at(choices: &[Items<Choice>], place: usize) -> &[Choice]
+    ensures { result.now ≡ slice_index_or choices.now place [] }
+{
     match choices.get(place) {
         Some(list) => list.as_slice(),
         None => &[],
@@ -78,7 +84,7 @@ fn choices_at(choices: &[Items<Choice>], place: usize) -> &[Choice] {
 impl<D: Area + Drop> World<D> {
     /// Its areas as they stand, in the order of the store, and how many there are of each thing. It takes no memory.
     pub fn into_areas(self) -> (Geometry, Vec<D>)
-        ensures areas { HasAreas D.Area self.phase result.0 result.1.items }
+        ensures areas { (observed D.Area self).gives result.0 result.1.items }
         ensures lengths { HaveLengths D.Area result.0 result.1.items }
     {
         let World { phase } = self;

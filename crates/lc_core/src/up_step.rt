@@ -2,7 +2,7 @@
 ghost use Rattle.std.specs.Prelude.{◌≡◌, ℕ, true, IfOk, OnErr};
 ghost use Rattle.lc_model.specs.State.{Setting};
 ghost use Rattle.lc_model.specs.declared.event.Event.TheVariants.{PageStep};
-ghost use Rattle.lc_core.specs.Calls.{CallsArea};
+ghost use Rattle.lc_core.specs.Calls.{CallsArea, KeepsAreas};
 ghost use Rattle.lc_core.specs.Faults.{CountsPhase, phase_failures};
 ghost use Rattle.lc_core.specs.Geometries.{RefusesUnknown};
 ghost use Rattle.lc_core.specs.Numbers.{Numbers};
@@ -28,6 +28,7 @@ impl<D: Area + Drop> Up<D> {
         ensures geometry { self.new.running.geometry ≡ self.old.running.geometry }
         ensures unknown { IfOk result (RefusesUnknown self.old.running.geometry event.now) }
         ensures calls { CallsArea D.Area (IsUp self.old) (IsUp self.new) }
+        ensures kept { OnErr result (KeepsAreas D.Area (IsUp self.old) (IsUp self.new)) }
     {
         if let Event::PageStep {
             node,

@@ -292,6 +292,9 @@ impl<F: HeldFile, W: FaultWitness> Area for FileArea<F, W> {
 }
 
 impl<F: HeldFile, W: FaultWitness> Stoppable for FileArea<F, W> {
+    // Nothing is said of a file.
+    ghost left = { λ area choices k. 0 };
+
     /// Nothing: a stop of the process leaves the file as it is.
     fn stop(&mut self, _choices: &[Choice]) {}
 }

@@ -129,6 +129,8 @@ impl Stoppable for Fuse {
     ghost use Rattle.lc_disk.specs.Fuse.{fuse_area, fuse_when, fuse_calls, fuse_failures};
     ghost use Rattle.lc_disk.specs.MemArea.{memory_now, memory_stable, memory_dirty};
 
+    ghost left = { λ f choices k. left_by_stop (memory_now f.area) (memory_stable f.area) (memory_dirty f.area) choices k };
+
     /// Stops the area as it stops without a fuse: the stop is not counted and never fails.
     fn stop(&mut self, choices: &[Choice])
         ensures len { length (memory_now (fuse_area self.new)) ≡ length (memory_now (fuse_area self.old)) }

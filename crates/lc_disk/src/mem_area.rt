@@ -148,6 +148,8 @@ impl Area for MemArea {
 impl Stoppable for MemArea {
     ghost use Rattle.lc_disk.specs.MemArea.{memory_now, memory_stable, memory_dirty};
 
+    ghost left = { λ m choices k. left_by_stop (memory_now m) (memory_stable m) (memory_dirty m) choices k };
+
     /// Takes one choice for each dirty position, in ascending order; the last choice holds for the rest, and with
     /// none each byte is kept. It costs what lies from the first dirty position to the last, and not the whole area.
     fn stop(&mut self, choices: &[Choice])

@@ -33,7 +33,8 @@ pub record Numbered : Type 0 where
 abbrev pub numbered_after : List Transaction → List Transaction → List Numbered
 numbered_after before [] = []
 numbered_after before (t ∷ ts) =
-    record { transaction = t; number = length (filter (is_of t.node) before) } ∷ numbered_after (before ++ t ∷ []) ts
+    record { transaction = t; number = length (filter (is_of t.node) before) }
+    ∷ numbered_after (before ++ t ∷ []) ts
 
 -- each transaction with its number within its node, from 0
 abbrev pub numbered : History → List Numbered
@@ -65,12 +66,15 @@ pub record StandsBefore (xs : List Numbered) (x y : Numbered) : Type 0 where
 -- of any two that meet, the one that stands before in the first list stands before in the second; each is known by its node and its
 -- number there
 abbrev pub KeepsOrder : List Transaction → List Transaction → Type 0
-KeepsOrder ts us = AllPairs (λ x y. Meet x.transaction y.transaction → StandsBefore (numbered_after [] us) x y) (numbered_after [] ts)
+KeepsOrder ts us =
+    AllPairs (λ x y. Meet x.transaction y.transaction → StandsBefore (numbered_after [] us) x y)
+    (numbered_after [] ts)
 
 -- whenever one stands before another, they meet and the later is kept, the earlier is kept too
 abbrev pub IsClosed : History → Cut → Type 0
 IsClosed history cut =
-    AllPairs (λ x y. Meet x.transaction y.transaction → IsTrue (is_kept cut y) → IsTrue (is_kept cut x)) (numbered history)
+    AllPairs (λ x y. Meet x.transaction y.transaction → IsTrue (is_kept cut y) → IsTrue (is_kept cut x))
+    (numbered history)
 
 -- a node's part of the history
 abbrev pub entries_of : ℕ → History → History

@@ -47,11 +47,13 @@ appended s t = record s {
 
 -- the thread's reservation is closed
 abbrev pub closed_by : ℕ → ℕ → History → History
-closed_by node thread history = map (λ e. if is_unclosed node thread e then record e { closed = true } else e) history
+closed_by node thread history =
+    map (λ e. if is_unclosed node thread e then record e { closed = true } else e) history
 
 -- the node's flush has come so far
 abbrev pub flushed_to : State → ℕ → ℕ → ℕ → State
-flushed_to s node steps taken = record s { flush = update s.flush node (record { steps = steps; taken = taken }) }
+flushed_to s node steps taken =
+    record s { flush = update s.flush node (record { steps = steps; taken = taken }) }
 
 -- the node is halted
 abbrev pub halting : State → ℕ → State
@@ -76,7 +78,8 @@ seen start s t = writes_on t.writes (value start s.earlier s.history)
 
 -- refused with one of these, and nothing changes
 abbrev pub MayRefuse : (Refusal → Bool) → State → Reply → State → Type 0
-MayRefuse may old reply new = (refusal : Refusal) × IsTrue (may refusal) × (reply ≡ Refused refusal) × (new ≡ old)
+MayRefuse may old reply new =
+    (refusal : Refusal) × IsTrue (may refusal) × (reply ≡ Refused refusal) × (new ≡ old)
 
 -- why a reservation may be refused
 abbrev pub may_refuse_reserve : Refusal → Bool
@@ -91,7 +94,8 @@ abbrev pub ReserveRow : State → Transaction → Reply → State → Type 0
 ReserveRow old t reply new =
     MatchBool (is_empty t.marks)
     ((reply ≡ Ended) × (new ≡ dropped old t.node t.thread))
-    (((place : ℕ) × (words : ℕ) × (reply ≡ Reserved place words) × (new ≡ appended old t)) ⊎ MayRefuse may_refuse_reserve old reply new)
+    (((place : ℕ) × (words : ℕ) × (reply ≡ Reserved place words) × (new ≡ appended old t))
+    ⊎ MayRefuse may_refuse_reserve old reply new)
 
 -- the call is made; a fault in its place counts as it, and halts the node
 abbrev pub Moves : State → ℕ → ℕ → ℕ → Reply → State → Type 0
@@ -164,11 +168,13 @@ may_reset _ = false
 
 -- the same, or a fault, which halts the node
 abbrev pub OrHalts : (Reply → Bool) → State → ℕ → Reply → State → Type 0
-OrHalts may old node reply new = Outside may old reply new ⊎ ((reply ≡ Refused DeviceFault) × (new ≡ halting old node))
+OrHalts may old node reply new =
+    Outside may old reply new ⊎ ((reply ≡ Refused DeviceFault) × (new ≡ halting old node))
 
 -- down at some cut that may be; a store that is down stays so
 abbrev pub StopRow : Phase → Geometry → State → Reply → State → Type 0
-StopRow Up g old reply new = (cut : Cut) × MayCut g old cut × (reply ≡ Down) × (new ≡ record old { phase = DownAt cut })
+StopRow Up g old reply new =
+    (cut : Cut) × MayCut g old cut × (reply ≡ Down) × (new ≡ record old { phase = DownAt cut })
 StopRow (DownAt cut) g old reply new = (reply ≡ Down) × (new ≡ old)
 
 -- up again, with what the cut kept; until then nothing changes
@@ -199,13 +205,15 @@ Row m old (Read node thread segment offset len) reply new =
     Unless (read_refusal m.geometry t segment offset len) old reply new
     ((reply ≡ Bytes (take len (drop offset (segment_of segment (seen m.start old t))))) × (new ≡ old)))
 Row m old (Abort node thread) reply new =
-    OfRunning (running_of node thread old) old reply new (λ t. (reply ≡ Accepted) × (new ≡ dropped old node thread))
+    OfRunning (running_of node thread old) old reply new
+    (λ t. (reply ≡ Accepted) × (new ≡ dropped old node thread))
 Row m old (Reserve node thread) reply new =
     OfRunning (running_of node thread old) old reply new (λ t. ReserveRow old t reply new)
 Row m old (Close node thread) reply new =
     Unless (refuse_if (not (has_unclosed node thread old)) OutOfTurn None) old reply new
     ((reply ≡ Accepted) × (new ≡ record old { history = closed_by node thread old.history }))
-Row m old (FlushStep node) reply new = FlushRow old node (old.flush node).steps (old.flush node).taken reply new
+Row m old (FlushStep node) reply new =
+    FlushRow old node (old.flush node).steps (old.flush node).taken reply new
 Row m old (Leave node segment) reply new =
     Unless (leave_refusal old node segment) old reply new (LeaveRow old node segment reply new)
 Row m old (Arrive node segment) reply new = ArriveRow (old.place segment) old node segment reply new
@@ -218,11 +226,13 @@ Row m old RecoverStep reply new = RecoverRow old.phase m.geometry old reply new
 
 -- from old, the machine may give this reply to the event and go on to new
 abbrev pub Step : Setting → State → Event → Reply → State → Type 0
-Step m old event reply new = Unless (common_refusal m.geometry old event) old reply new (Row m old event reply new)
+Step m old event reply new =
+    Unless (common_refusal m.geometry old event) old reply new (Row m old event reply new)
 
 -- the machine may give these replies to these events, one step after another
 abbrev pub Run : Setting → State → List Event → List Reply → State → Type 0
 Run m old [] [] new = new ≡ old
-Run m old (event ∷ events) (reply ∷ replies) new = (mid : State) × Step m old event reply mid × Run m mid events replies new
+Run m old (event ∷ events) (reply ∷ replies) new =
+    (mid : State) × Step m old event reply mid × Run m mid events replies new
 Run m old [] (reply ∷ replies) new = ⊥
 Run m old (event ∷ events) [] new = ⊥

@@ -34,7 +34,8 @@ page_number segment store = greatest (map (λ (p : Page). p.sequence) (segment_o
 
 -- the greatest number of the segment in a record
 abbrev pub record_number : ℕ → Store → ℕ
-record_number segment store = greatest (map (λ (r : Record). number_or_zero segment r.locks) (all_records store))
+record_number segment store =
+    greatest (map (λ (r : Record). number_or_zero segment r.locks) (all_records store))
 
 -- the record has this number of the segment
 abbrev pub has_number : ℕ → ℕ → Record → Bool
@@ -59,14 +60,16 @@ IsGap store segment seq =
 abbrev pub HasBytes : Store → Content → ℕ → ℕ → Page → Type 0
 HasBytes store content segment page text =
     (offset : ℕ) → offset < 256 →
-    IsByNumber segment (page * 256 + offset) text.sequence (all_records store) (slice_get text.bytes offset) (byte_at segment (page * 256 + offset) content)
+    IsByNumber segment (page * 256 + offset) text.sequence (all_records store)
+    (slice_get text.bytes offset) (byte_at segment (page * 256 + offset) content)
 
 -- no number stands twice or is missing, and the result is this content, with these numbers of the segments
 pub record IsMerged (store : Store) (content : Content) (numbers : ℕ → ℕ) : Type 0 where
   pub not_twice : (segment seq : ℕ) → IsTwice store segment seq → ⊥
   pub no_gap : (segment seq : ℕ) → 1 ≤ segment → segment ≤ length store.pages → IsGap store segment seq → ⊥
   pub shape : map length content ≡ map (λ (pages : List Page). length pages * 256) store.pages
-  pub bytes : (segment page : ℕ) (text : Page) → slice_get (segment_of segment store.pages) page ≡ Some text →
+  pub bytes : (segment page : ℕ) (text : Page)
+      → slice_get (segment_of segment store.pages) page ≡ Some text →
       HasBytes store content segment page text
   pub counted : (segment : ℕ) → 1 ≤ segment → segment ≤ length store.pages →
       numbers segment ≡ max (page_number segment store) (record_number segment store)

@@ -67,11 +67,13 @@ pub record Named : Type 0 where
 
 -- by a node, a thread of it, and these segments
 abbrev pub by_thread : ℕ → ℕ → List ℕ → Option Named
-by_thread node thread segments = Some (record { node = node; others = []; threads = thread ∷ []; segments = segments; pages = [] })
+by_thread node thread segments =
+    Some (record { node = node; others = []; threads = thread ∷ []; segments = segments; pages = [] })
 
 -- by a node, with these segments and pages
 abbrev pub by_node : ℕ → List ℕ → List ℕ → Option Named
-by_node node segments pages = Some (record { node = node; others = []; threads = []; segments = segments; pages = pages })
+by_node node segments pages =
+    Some (record { node = node; others = []; threads = []; segments = segments; pages = pages })
 
 -- of a delivery the receiver acts; an event of the whole store names nothing
 abbrev pub named : Event → Option Named
@@ -85,7 +87,8 @@ named (Close node thread) = by_thread node thread []
 named (FlushStep node) = by_node node [] []
 named (Leave node segment) = by_node node (segment ∷ []) []
 named (Arrive node segment) = by_node node (segment ∷ []) []
-named (Deliver sender number segment to) = Some (record { node = to; others = sender ∷ []; threads = []; segments = segment ∷ []; pages = [] })
+named (Deliver sender number segment to) =
+    Some (record { node = to; others = sender ∷ []; threads = []; segments = segment ∷ []; pages = [] })
 named (Trim node) = by_node node [] []
 named (PageStep node segment page) = by_node node (segment ∷ []) (page ∷ [])
 named (ResetStep node) = by_node node [] []
@@ -96,7 +99,8 @@ named RecoverStep = None
 abbrev pub are_known : Geometry → Option Named → Bool
 are_known g None = true
 are_known g (Some n) =
-    is_node g n.node && list_all (is_node g) n.others && list_all (is_thread g) n.threads && list_all (is_segment g) n.segments
+    is_node g n.node && list_all (is_node g) n.others && list_all (is_thread g) n.threads
+    && list_all (is_segment g) n.segments
     && list_all (is_page g) n.pages
 
 -- all that the event names lies in the geometry

@@ -87,7 +87,8 @@ has_unclosed node thread s = list_any (is_unclosed node thread) s.history
 
 -- one that has locks passes: an open one, or one that is not closed
 abbrev pub some_holder : (Transaction → Bool) → State → Bool
-some_holder passes s = list_any passes s.running || list_any (λ e. not e.closed && passes e.transaction) s.history
+some_holder passes s =
+    list_any passes s.running || list_any (λ e. not e.closed && passes e.transaction) s.history
 
 -- a transaction has the segment's lock
 abbrev pub is_held : ℕ → State → Bool

@@ -29,7 +29,8 @@ content_of slot = take 256 (drop 16 slot)
 
 -- it is open: its gate reads as open, its seven bytes are zero and its sequence is at most 2^60
 unfoldable pub is_open : List ℕ → Bool
-is_open slot = has_gate slot && list_all (λ b. b == 0) (take 7 (drop 1 slot)) && nat_le (sequence_of slot) (2 ^ 60)
+is_open slot =
+    has_gate slot && list_all (λ b. b == 0) (take 7 (drop 1 slot)) && nat_le (sequence_of slot) (2 ^ 60)
 
 -- a page, with its sequence
 pub record Page : Type 0 where
@@ -54,7 +55,8 @@ chosen_slot false false newer = None
 
 -- the present slot of two: the open one with the greater sequence, on equal sequences the first
 abbrev pub present_slot : (Slot → List ℕ) → Option Slot
-present_slot slots = chosen_slot (is_open (slots First)) (is_open (slots Second)) (nat_lt (sequence_of (slots First)) (sequence_of (slots Second)))
+present_slot slots = chosen_slot (is_open (slots First)) (is_open (slots Second))
+    (nat_lt (sequence_of (slots First)) (sequence_of (slots Second)))
 
 -- the page of this slot, if there is one
 abbrev pub page_at : (Slot → List ℕ) → Option Slot → Page

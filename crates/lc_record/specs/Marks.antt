@@ -39,8 +39,10 @@ no_marks g = replicate g.segments (replicate (segment_len g) false)
 
 -- the transaction with these positions set too
 abbrev pub marked : Transaction → ℕ → ℕ → ℕ → Transaction
-marked t segment offset len = record t { marks = on_segment segment (put offset (replicate len true)) t.marks }
+marked t segment offset len =
+    record t { marks = on_segment segment (put offset (replicate len true)) t.marks }
 
 -- the transaction with one more write
 abbrev pub written : Transaction → ℕ → ℕ → List ℕ → Transaction
-written t segment offset bytes = record t { writes = t.writes ++ record { segment = segment; offset = offset; bytes = bytes } ∷ [] }
+written t segment offset bytes =
+    record t { writes = t.writes ++ record { segment = segment; offset = offset; bytes = bytes } ∷ [] }

@@ -18,23 +18,28 @@ byte_from (suc offset) bytes (suc place) = byte_from offset bytes place
 
 -- the byte that a range has for a place of a segment
 abbrev pub byte_in : ℕ → ℕ → RangeData → Option ℕ
-byte_in segment place range = if range.segment == segment then byte_from range.offset range.bytes place else None
+byte_in segment place range =
+    if range.segment == segment then byte_from range.offset range.bytes place else None
 
 -- the byte that the last of these ranges has that has one
 abbrev pub byte_of : ℕ → ℕ → List RangeData → Option ℕ
 byte_of segment place [] = None
-byte_of segment place (range ∷ ranges) = option_or (byte_of segment place ranges) (byte_in segment place range)
+byte_of segment place (range ∷ ranges) =
+    option_or (byte_of segment place ranges) (byte_in segment place range)
 
 -- it has a byte for the place, under a number above the floor
 abbrev pub has_byte : ℕ → ℕ → ℕ → Record → Bool
-has_byte segment place floor r = is_some (byte_of segment place r.ranges) && nat_lt floor (number_or_zero segment r.locks)
+has_byte segment place floor r =
+    is_some (byte_of segment place r.ranges) && nat_lt floor (number_or_zero segment r.locks)
 
 -- the record is the one with the greatest number, and the byte is its
-pub record IsNewest (segment place floor : ℕ) (records : List Record) (byte : Option ℕ) (r : Record) : Type 0 where
+pub record IsNewest (segment place floor : ℕ) (records : List Record) (byte : Option ℕ) (r : Record)
+    : Type 0 where
   pub among : Contains records r
   pub has : IsTrue (has_byte segment place floor r)
   pub is : byte ≡ byte_of segment place r.ranges
-  pub greatest : All (λ q. IsTrue (has_byte segment place floor q) → number_or_zero segment q.locks ≤ number_or_zero segment r.locks) records
+  pub greatest : All (λ q. IsTrue (has_byte segment place floor q)
+      → number_or_zero segment q.locks ≤ number_or_zero segment r.locks) records
 
 -- the byte is that of the record with the greatest number above the floor, or the one before where there is none
 abbrev pub IsByNumber : ℕ → ℕ → ℕ → List Record → Option ℕ → Option ℕ → Type 0

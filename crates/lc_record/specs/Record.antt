@@ -63,7 +63,8 @@ range_words version range = span_words version (span_of range) ++ data_words ran
 abbrev pub spelling : Record → List ℕ
 spelling r =
     header r ∷ second_word r.node (length r.locks)
-    ∷ (flat_map lock_words r.locks ++ flat_map (range_words (version_of r.ranges)) r.ranges ++ record_len r ∷ [])
+    ∷ (flat_map lock_words r.locks ++ flat_map (range_words (version_of r.ranges)) r.ranges
+    ++ record_len r ∷ [])
 
 -- Which records have a spelling
 

@@ -50,7 +50,8 @@ record_of numbers content t = record {
 
 -- the numbers behind a transaction: one greater for each segment that it set
 abbrev pub counted : (ℕ → ℕ) → Transaction → ℕ → ℕ
-counted numbers t segment = if is_set (segment_of segment t.marks) then numbers segment + 1 else numbers segment
+counted numbers t segment =
+    if is_set (segment_of segment t.marks) then numbers segment + 1 else numbers segment
 
 -- the records of these transactions, one after another
 abbrev pub records_from : (ℕ → ℕ) → Content → List Transaction → List Record

@@ -63,4 +63,5 @@ effects (t ∷ ts) content = effects ts (effect t content)
 
 -- two transactions meet if they locked a common segment that at least one of them locked for writing
 abbrev pub Meet : Transaction → Transaction → Type 0
-Meet t u = (segment : ℕ) × IsTrue ((locks t segment && holds u segment) || (holds t segment && locks u segment))
+Meet t u =
+    (segment : ℕ) × IsTrue ((locks t segment && holds u segment) || (holds t segment && locks u segment))

@@ -4,7 +4,8 @@ use Rattle.std.specs.Int.{w64, from_le_bytes, to_le_bytes}
 
 -- the whole words of these bytes
 unfoldable pub words_of : List ℕ → List ℕ
-words_of (a ∷ b ∷ c ∷ d ∷ e ∷ f ∷ g ∷ h ∷ rest) = from_le_bytes w64 (a ∷ b ∷ c ∷ d ∷ e ∷ f ∷ g ∷ h ∷ []) ∷ words_of rest
+words_of (a ∷ b ∷ c ∷ d ∷ e ∷ f ∷ g ∷ h ∷ rest) =
+    from_le_bytes w64 (a ∷ b ∷ c ∷ d ∷ e ∷ f ∷ g ∷ h ∷ []) ∷ words_of rest
 words_of rest = []
 
 -- the bytes of these words

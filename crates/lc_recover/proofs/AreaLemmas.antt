@@ -1,12 +1,12 @@
 -- A list of areas of which one is called.
-use Rattle.std.proofs.Common.{◌≡◌, ◌≢◌, ◌⊎◌, ℕ, zero, suc, ◌+◌, ◌<◌, Bool, true, false, Option, Some, List, [], ◌∷◌, ◌++◌, map, length, take, drop, refl, sym, ◌∙◌, ap, subst, arith, inl, inr}
+use Rattle.std.proofs.Common.{◌≡◌, ◌≢◌, ◌⊎◌, ℕ, zero, suc, ◌<◌, Bool, true, false, Option, Some, List, [], ◌∷◌, ◌++◌, map, length, take, drop, refl, sym, ◌∙◌, ap, subst, arith, inl, inr}
 use Rattle.std.specs.Prelude.{slice_get, slice_set, slice_index_or, Result, Ok, Err, OnOk, OnErr, IsErr, is_ok}
 use Rattle.std.specs.Option.{unwrap_or}
 use Rattle.std.proofs.lemmas.Option.{none-some, slice_get_within, get_or_from_slice_get}
 use Rattle.std.proofs.Math.Seq.{map-set_same}
 use Rattle.std.proofs.lemmas.List.{length-set, length-append, take-append-le, take_all}
 use Rattle.std.proofs.lemmas.Bool.{cases_eq, cases_lt}
-use Rattle.lc_disk.specs.Area.{IsImage, IsClean}
+use Rattle.lc_disk.specs.Area.{IsImage}
 use Rattle.lc_disk.specs.declared.area.Area.{Ghosts}
 use Rattle.lc_disk.proofs.Images.{image_kept}
 use Rattle.lc_record.specs.Content.{Content}
@@ -14,7 +14,7 @@ use Rattle.lc_record.specs.declared.geometry.Geometry.{Geometry}
 use Rattle.lc_recover.proofs.KeptLemmas.{get-append, get-append_end}
 use Rattle.lc_recover.specs.Reads.{AreHonest, AllMergeTo}
 use Rattle.lc_log.specs.OneCall.{IsOneCall}
-use Rattle.lc_recover.specs.Stage.{AreaFits, AreasFit, ReadsSo, OneCall, Quiet}
+use Rattle.lc_recover.specs.Stage.{AreaFits, AreasFit, OneCall, Quiet}
 use Rattle.lc_recover.specs.declared.stage.Stage.{Stage}
 use Rattle.lc_recover.specs.declared.stage.Stage.TheVariants.{Syncing}
 
@@ -116,29 +116,28 @@ module _ {D : Type 0} (a : Ghosts D) (g : Geometry) where
     one-call ok call = record { old = old; new = new; was = was; is = refl; honest = call.honest; counted = call.counted; call = call }
 
 -- one more area is read
-module _ {D : Type 0} (a : Ghosts D) (read : List (List ℕ)) (bytes : List ℕ) where
-  pub read-other : (j : ℕ) (area : D) → j ≢ length read → ReadsSo a read j area → ReadsSo a (read ++ bytes ∷ []) j area
-  read-other j area differ so = (
-    so.0,
-    λ less.
-        let before : j < length read = omega (arith, less, differ, length-append read (bytes ∷ [])) in
-        get-append read (bytes ∷ []) j before ∙ so.1 before,
-  )
+pub read-lengths : (read : List (List ℕ)) (bytes : List ℕ) (len : ℕ → Option ℕ) → ((j : ℕ) (b : List ℕ) → slice_get read j ≡ Some b → Some (length b) ≡ len j) → Some (length bytes) ≡ len (length read) →
+    (j : ℕ) (b : List ℕ) → slice_get (read ++ bytes ∷ []) j ≡ Some b → Some (length b) ≡ len j
+read-lengths read bytes len others own j b is =
+    elim (cases_lt j (length read)) [
+      | inl before ↦ others j b (sym (get-append read (bytes ∷ []) j before) ∙ is)
+      | inr not_before ↦
+          let within : j < length (read ++ bytes ∷ []) = slice_get_within (read ++ bytes ∷ []) j b is in
+          let here : j ≡ length read = omega (arith, not_before, within, length-append read (bytes ∷ [])) in
+          let same : b ≡ bytes = one_item b bytes (sym is ∙ ap (slice_get (read ++ bytes ∷ [])) here ∙ get-append_end read bytes) in
+          ap (λ (l : List ℕ). Some (length l)) same ∙ own ∙ ap len (sym here)
+    ]
 
-  pub read-own : (area : D) → IsClean (a.dirty area) → bytes ≡ a.now area → ReadsSo a (read ++ bytes ∷ []) (length read) area
-  read-own area clean same = (clean, λ less. get-append_end read bytes ∙ ap Some same)
-
-  pub read-lengths : (len : ℕ → Option ℕ) → ((j : ℕ) (b : List ℕ) → slice_get read j ≡ Some b → Some (length b) ≡ len j) → Some (length bytes) ≡ len (length read) →
-      (j : ℕ) (b : List ℕ) → slice_get (read ++ bytes ∷ []) j ≡ Some b → Some (length b) ≡ len j
-  read-lengths len others own j b is =
-      elim (cases_lt j (length read)) [
-        | inl before ↦ others j b (sym (get-append read (bytes ∷ []) j before) ∙ is)
-        | inr not_before ↦
-            let within : j < length (read ++ bytes ∷ []) = slice_get_within (read ++ bytes ∷ []) j b is in
-            let here : j ≡ length read = omega (arith, not_before, within, length-append read (bytes ∷ [])) in
-            let same : b ≡ bytes = one_item b bytes (sym is ∙ ap (slice_get (read ++ bytes ∷ [])) here ∙ get-append_end read bytes) in
-            ap (λ (l : List ℕ). Some (length l)) same ∙ own ∙ ap len (sym here)
-      ]
+-- what stands in a list behind which one item was put
+pub get-pushed : {A : Type 0} (xs : List A) (y : A) (j : ℕ) (x : A) → slice_get (xs ++ y ∷ []) j ≡ Some x → (slice_get xs j ≡ Some x) ⊎ ((j ≡ length xs) × (x ≡ y))
+get-pushed xs y j x is =
+    elim (cases_lt j (length xs)) [
+      | inl before ↦ inl (sym (get-append xs (y ∷ []) j before) ∙ is)
+      | inr not_before ↦
+          let within : j < length (xs ++ y ∷ []) = slice_get_within (xs ++ y ∷ []) j x is in
+          let here : j ≡ length xs = omega (arith, not_before, within, length-append xs (y ∷ [])) in
+          inr (here, one_item x y (sym is ∙ ap (slice_get (xs ++ y ∷ [])) here ∙ get-append_end xs y))
+    ]
 
 -- what a sync leaves dirty was dirty, whether it failed or not
 pub cleaner : {A B : Type 0} (r : Result A B) {H : Type 0} (old new : ℕ → Bool) → OnOk r (H → (k : ℕ) → new k ≡ false) → OnErr r (H → (k : ℕ) → new k ≡ old k) → H → (k : ℕ) → old k ≡ false → new k ≡ false
@@ -148,6 +147,16 @@ cleaner (Err e) old new ok err honest k clean = err honest k ∙ clean
 pub not_ok : {A B : Type 0} (r : Result A B) → IsErr r → false ≡ is_ok r
 not_ok (Ok x) err = err
 not_ok (Err e) err = refl
+
+-- what follows where a call was made
+pub on_ok : {A B : Type 0} (r : Result A B) (P Q : Type 0) → OnOk r P → (P → Q) → OnOk r Q
+on_ok (Ok x) P Q holds leads = leads holds
+on_ok (Err e) P Q holds leads = tt
+
+-- what holds whatever is answered
+pub on_err : {A B : Type 0} (r : Result A B) (P : Type 0) → P → OnErr r P
+on_err (Ok x) P holds = tt
+on_err (Err e) P holds = holds
 
 -- a buffer that was filled whole
 pub filled : (n : ℕ) (buffer items : List ℕ) → length items ≡ n → length buffer ≡ n → take n (buffer ++ drop (length buffer) items) ≡ buffer

@@ -117,7 +117,7 @@ its-seats : (log : ℕ) (xs : List (ℕ × Record)) → map (λ (s : Seat). s.it
 its-seats log [] = refl
 its-seats log (x ∷ xs) = ap (λ (l : List Record). x.1 ∷ l) (its-seats log xs)
 
-map-its : (n : ℕ) (logs : List (List ℕ)) → map (λ (s : Seat). s.its) (seats_from n logs) ≡ flat_map (λ (l : List Record). l) (map records_in logs)
+pub map-its : (n : ℕ) (logs : List (List ℕ)) → map (λ (s : Seat). s.its) (seats_from n logs) ≡ flat_map (λ (l : List Record). l) (map records_in logs)
 map-its n [] = refl
 map-its n (words ∷ logs) =
     map-append (λ (s : Seat). s.its) (seats_of n words) (seats_from (n + 1) logs)

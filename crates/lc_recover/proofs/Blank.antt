@@ -1,5 +1,5 @@
 -- Areas of zeros: logs without a record, and pages that were never written.
-use Rattle.std.proofs.Common.{◌≡◌, ℕ, zero, suc, ◌+◌, ◌-◌, ◌*◌, ◌%◌, ◌<◌, ◌≤◌, ◌≢◌, Bool, false, List, [], ◌∷◌, map, take, drop, length, replicate, Some, None, refl, sym, ap, subst, ◌∙◌, arith}
+use Rattle.std.proofs.Common.{◌≡◌, ℕ, zero, suc, ◌+◌, ◌-◌, ◌*◌, ◌%◌, ◌<◌, ◌≤◌, ◌≢◌, Bool, false, List, [], ◌∷◌, map, take, drop, length, replicate, Some, refl, sym, ap, subst, ◌∙◌, arith}
 use Rattle.std.specs.Prelude.{◌&&◌, ◌==◌, ◌^◌, nat_lt, nat_le, slice_get, slice_index, slice_index_or}
 use Rattle.std.specs.List.{list_all}
 use Rattle.std.proofs.lemmas.List.{drop-replicate, length-drop, length-replicate, length-take-le}
@@ -13,7 +13,7 @@ use Rattle.lc_record.specs.declared.record.Record.{Record}
 use Rattle.lc_log.specs.InPlace.{records_in}
 use Rattle.lc_log.proofs.InPlaceLemmas.{records_are}
 use Rattle.lc_log.proofs.LogLemmas.{at_rest_none, text_at_rest}
-use Rattle.lc_page.specs.Page.{Page as PageOfSlots, chosen_slot, is_open, no_page, page_at, page_in, present_slot, sequence_of, slot_at, slot_bytes}
+use Rattle.lc_page.specs.Page.{Page as PageOfSlots, chosen_slot, is_open, no_page, page_at, page_in, sequence_of, slot_at, slot_bytes}
 use Rattle.lc_page.specs.declared.slot.Slot.{Slot}
 use Rattle.lc_page.specs.declared.slot.Slot.TheVariants.{First, Second}
 use Rattle.lc_model.specs.Merge.{Page, Store, MergesTo}
@@ -22,7 +22,7 @@ use Rattle.lc_model.proofs.Unrefused.{zeros-merge}
 use Rattle.lc_recover.proofs.AreaLemmas.{one_item}
 use Rattle.lc_recover.specs.Pages.{page_read, pages_read}
 use Rattle.lc_recover.specs.Reads.{AllMergeTo, AreImages, AreZeros, HaveLengths, area_count, area_len, store_of}
-use Rattle.lc_recover.proofs.Images.{count-areas, count-images, get-drop, get-map, get-take, left-of, len-log, length-counting}
+use Rattle.lc_recover.proofs.Images.{count-images, get-drop, get-map, get-take, left-of, len-log, length-counting}
 
 -- Zeros
 

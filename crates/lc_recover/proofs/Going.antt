@@ -3,31 +3,33 @@ use Rattle.std.proofs.Common.{◌≡◌, ℕ, suc, ◌+◌, ◌-◌, ◌*◌, �
 use Rattle.std.specs.Prelude.{slice_get, slice_set, drop, if◌then◌else◌}
 use Rattle.std.proofs.lemmas.Option.{none-some, slice_get_within}
 use Rattle.std.proofs.lemmas.Bool.{cases_lt}
-use Rattle.std.proofs.lemmas.List.{length-drop, length-map, take-append-le, take_all}
+use Rattle.std.proofs.lemmas.List.{length-drop, length-map, length-take-le, take-append-le, take_all}
 use Rattle.lc_disk.specs.Area.{IsClean}
 use Rattle.lc_disk.specs.declared.area.Area.{Ghosts}
 use Rattle.lc_page.specs.Writing.{calls_of}
 use Rattle.lc_page.specs.declared.writing.Writing.{Writing}
 use Rattle.lc_page.specs.declared.writing.Writing.TheVariants.{AtClosing, AtClosed, AtFilling, AtFilled, AtOpening}
 use Rattle.lc_record.specs.Content.{Content}
+use Rattle.lc_record.specs.Words.{words_of}
 use Rattle.lc_record.specs.declared.geometry.Geometry.{Geometry}
 use Rattle.lc_recover.proofs.AreaLemmas.{one_item}
-use Rattle.lc_recover.proofs.Images.{count-areas, get-map, get-some}
+use Rattle.lc_recover.proofs.Images.{count-areas, from-map, get-drop, get-map, get-some, get-take}
+use Rattle.lc_recover.proofs.ReadLemmas.{count-read}
 use Rattle.lc_recover.proofs.SameArea.{same-areas-fit}
 use Rattle.lc_recover.specs.Page.{pages_of}
-use Rattle.lc_recover.specs.Reads.{area_count, AllMergeTo, HaveLengths, AreHonest, AreOfBytes, store_of}
-use Rattle.lc_recover.specs.Fault.{IsRefusal}
+use Rattle.lc_recover.specs.Pages.{AreKept}
+use Rattle.lc_recover.specs.Reads.{area_count, AllMergeTo, HaveLengths, AreHonest, AreOfBytes}
+use Rattle.lc_recover.specs.KeptAreas.{IsReadWhole, read_count}
 use Rattle.lc_recover.specs.Merging.{IsMergedStage}
-use Rattle.lc_recover.specs.declared.fault.RecoverFault.{RecoverFault}
-use Rattle.lc_model.specs.Merge.{MergesTo}
-use Rattle.std.specs.Global.{Vec}
-use Rattle.lc_recover.specs.Recovery.{Recovering, recovering, AreBehind, IsDone, IsLast, IsGoing, IsMerged, MakesItsCall}
-use Rattle.lc_recover.specs.Stage.{AreasFit, Fits, IsWriting}
-use Rattle.lc_recover.specs.Steps.{pages_in, all_pages, pages_left, calls_done, writes_done, resets_done, first_steps, steps_of, IsOver}
+use Rattle.lc_recover.specs.Recovery.{Recovering, recovering, IsDone, IsLast, IsGoing, IsMerged, MakesItsCall}
+use Rattle.lc_recover.specs.Stage.{Fits, IsWriting}
+use Rattle.lc_recover.specs.Steps.{pages_in, all_pages, calls_done, writes_done, resets_done, first_steps, steps_of, IsOver}
 use Rattle.lc_recover.specs.declared.change.Change.{Change}
 use Rattle.lc_recover.specs.declared.finished.Finished.{Finished}
 use Rattle.lc_recover.specs.declared.log_resets.LogResets.{LogResets}
 use Rattle.lc_recover.specs.declared.page_writes.PageWrites.{PageWrites}
+use Rattle.lc_recover.specs.declared.read_areas.ReadAreas.{ReadAreas}
+use Rattle.lc_recover.specs.declared.segment_pages.SegmentPages.{SegmentPages}
 use Rattle.lc_recover.specs.declared.stage.Stage.{Stage}
 use Rattle.lc_recover.specs.declared.stage.Stage.TheVariants.{Syncing, Reading, Writing as WritingPages, Resetting, Done}
 
@@ -107,14 +109,14 @@ last-reset g next false is = absurd (omega (arith, is))
 module _ {D : Type 0} (a : Ghosts D) (g : Geometry) (areas : List D) where
   pub over-done : (stage : Stage) → IsOver stage → IsDone (recovering g areas stage)
   over-done (Syncing synced) over = absurd over
-  over-done (Reading read) over = absurd over
+  over-done (Reading r) over = absurd over
   over-done (WritingPages w) over = absurd over
   over-done (Resetting r) over = absurd over
   over-done (Done f) over = (f.written, refl, refl)
 
   pub not_over-done : (stage : Stage) → IsGoing a g stage areas → (IsOver stage → ⊥) → IsDone (recovering g areas stage) → ⊥
   not_over-done (Syncing synced) going more done = none-some done.0 done.1
-  not_over-done (Reading read) going more done = none-some done.0 done.1
+  not_over-done (Reading r) going more done = none-some done.0 done.1
   not_over-done (WritingPages w) going more done =
       let pages : all_pages w ≡ done.0 = one_item (all_pages w) done.0 done.1 in
       omega (arith, pages, done.2, few-writes g w going.fits.1 w.current refl, g.some_nodes)
@@ -127,7 +129,7 @@ module _ {D : Type 0} (a : Ghosts D) (g : Geometry) (areas : List D) where
   pub done-last : (stage next : Stage) (news : List D) → IsGoing a g stage areas → ((pages : ℕ) → pages_in stage ≡ Some pages → pages_in next ≡ Some pages) → steps_of g next ≡ steps_of g stage + 1
       → IsDone (recovering g news next) → IsLast (recovering g areas stage)
   done-last (Syncing synced) next news going pages step done = absurd (omega (arith, going.fits.1, step, done.2, g.some_nodes))
-  done-last (Reading read) next news going pages step done = absurd (omega (arith, going.fits.1.0, step, done.2, g.some_nodes))
+  done-last (Reading r) next news going pages step done = absurd (omega (arith, count-read g going.fits.1.0 r going.fits.1.2, going.fits.1.1.count, step, done.2, g.some_nodes))
   done-last (WritingPages w) next news going pages step done =
       let same : all_pages w ≡ done.0 = one_item (all_pages w) done.0 (sym (pages (all_pages w) refl) ∙ done.1) in
       (all_pages w, refl, omega (arith, same, step, done.2))
@@ -155,14 +157,14 @@ module _ {D : Type 0} (a : Ghosts D) (g : Geometry) (areas : List D) where
 
   pub not_done : (stage : Stage) → ((f : Finished) → stage ≡ Done f → ⊥) → IsOver stage → ⊥
   not_done (Syncing synced) other over = over
-  not_done (Reading read) other over = over
+  not_done (Reading r) other over = over
   not_done (WritingPages w) other over = over
   not_done (Resetting r) other over = over
   not_done (Done f) other over = other f refl
 
   pub not_resetting-not_last : (stage : Stage) → IsGoing a g stage areas → ((r : LogResets) → stage ≡ Resetting r → ⊥) → IsLast (recovering g areas stage) → ⊥
   not_resetting-not_last (Syncing synced) going other last = none-some last.0 last.1
-  not_resetting-not_last (Reading read) going other last = none-some last.0 last.1
+  not_resetting-not_last (Reading r) going other last = none-some last.0 last.1
   not_resetting-not_last (WritingPages w) going other last = writing-not_last w going last
   not_resetting-not_last (Resetting r) going other last = other r refl
   not_resetting-not_last (Done f) going other last =
@@ -199,39 +201,71 @@ module _ {D : Type 0} (a : Ghosts D) (g : Geometry) where
     few = going.few;
   }
 
-  -- all areas that are honest were read as they are
-  all-read : (areas : List D) (read : Vec (List ℕ)) → AreasFit a g (Reading read) areas → AreHonest a areas → length read.items ≡ length areas → (k : ℕ) → k < length areas → slice_get read.items k ≡ slice_get (map a.now areas) k
-  all-read areas read fits honest all k within =
-      let area = get-some areas k within in
-      let its = fits.each k area.0 area.1 in
-      let alive : a.honest area.0 ≡ true = honest k area.0 area.1 in
-      let now_is : slice_get (map a.now areas) k ≡ Some (a.now area.0) = get-map a.now areas k area.0 area.1 in
-      elim (cases_lt k g.nodes) [
-        | inl log ↦ (its.log alive log).1 (omega (arith, within, all)) ∙ sym now_is
-        | inr segment ↦
-            let here : g.nodes + (k - g.nodes) ≡ k = omega (arith, segment) in
-            ap (slice_get read.items) (sym here) ∙ (its.segment alive segment).1 (omega (arith, within, all, here)) ∙ sym now_is
-      ]
+  -- all areas were read, whatever they are
+  pub all-read : (areas : List D) (r : ReadAreas) → (fits : Fits a g (Reading r) areas) → read_count r ≡ length areas → IsReadWhole g fits.1.0 r
+  all-read areas r fits all = record {
+    count = sym (count-read g fits.1.0 r fits.1.2) ∙ all ∙ fits.0.count;
+    first = fits.1.1;
+    kept = fits.1.2;
+  }
 
-  pub read-now : (areas : List D) (read : Vec (List ℕ)) → AreasFit a g (Reading read) areas → AreHonest a areas → length read.items ≡ length areas → read.items ≡ map a.now areas
-  read-now areas read fits honest all =
-      same_lists read.items (map a.now areas) (all ∙ sym (length-map areas a.now)) (λ k within. all-read areas read fits honest all k (omega (arith, within, all)))
+  -- where they are honest, as they are
+  module _ (areas : List D) (r : ReadAreas) (fits : Fits a g (Reading r) areas) (honest : AreHonest a areas) (all : read_count r ≡ length areas) where
+    whole : IsReadWhole g fits.1.0 r
+    whole = all-read areas r fits all
+
+    now-count : length (map a.now areas) ≡ area_count g
+    now-count = length-map areas a.now ∙ fits.0.count
+
+    logs-count : length r.kept.logs.items ≡ g.nodes
+    logs-count = ap (λ (l : List (List ℕ)). length l) fits.1.2.logs ∙ length-map (take g.nodes fits.1.0) words_of ∙ length-take-le g.nodes fits.1.0 (omega (arith, whole.count))
+
+    segments-count : length r.kept.segments.items ≡ g.segments
+    segments-count = fits.1.2.segments.count ∙ length-drop g.nodes fits.1.0 ∙ omega (arith, whole.count)
+
+    its-words : (k : ℕ) → k < length r.kept.logs.items → slice_get r.kept.logs.items k ≡ slice_get (map words_of (take g.nodes (map a.now areas))) k
+    its-words k less =
+        let log : k < g.nodes = omega (arith, less, logs-count) in
+        let area = get-some areas k (omega (arith, log, fits.0.count)) in
+        let words = get-some r.kept.logs.items k less in
+        let its = (fits.0.each k area.0 area.1).log (honest k area.0 area.1) log in
+        words.1 ∙ ap Some (its.words_are words.0 words.1)
+        ∙ sym (get-map words_of (take g.nodes (map a.now areas)) k (a.now area.0) (get-take g.nodes k (map a.now areas) log ∙ get-map a.now areas k area.0 area.1))
+
+    its-pages : (s : ℕ) (bytes : List ℕ) (pages : SegmentPages) → slice_get (drop g.nodes (map a.now areas)) s ≡ Some bytes → slice_get r.kept.segments.items s ≡ Some pages → AreKept bytes g.pages pages
+    its-pages s bytes pages bytes_is pages_is =
+        let area = from-map a.now areas (g.nodes + s) bytes (sym (get-drop g.nodes s (map a.now areas)) ∙ bytes_is) in
+        let its = (fits.0.each (g.nodes + s) area.0 area.1).segment (honest (g.nodes + s) area.0 area.1) (omega arith) in
+        let here : s ≡ g.nodes + s - g.nodes = omega arith in
+        subst (λ (l : List ℕ). AreKept l g.pages pages) area.2 (its.pages_are pages (ap (slice_get r.kept.segments.items) (sym here) ∙ pages_is))
+
+    pub read-now : IsReadWhole g (map a.now areas) r
+    read-now = record {
+      count = now-count;
+      first = record {
+        count = omega (arith, now-count);
+        lengths = λ k bytes is. (let area = from-map a.now areas k bytes is in ap (λ (l : List ℕ). Some (length l)) (sym area.2) ∙ (fits.0.each k area.0 area.1).len);
+      };
+      kept = record {
+        logs = same_lists r.kept.logs.items (map words_of (take g.nodes (map a.now areas)))
+            (logs-count ∙ sym (length-map (take g.nodes (map a.now areas)) words_of ∙ length-take-le g.nodes (map a.now areas) (omega (arith, now-count)))) its-words;
+        segments = record {
+          count = segments-count ∙ sym (length-drop g.nodes (map a.now areas) ∙ omega (arith, now-count));
+          each = its-pages;
+        };
+      };
+    }
 
   -- so the merge of what was read is that of what the areas read as
-  pub merged-now : (areas : List D) (read : Vec (List ℕ)) (stage : Stage) → AreasFit a g (Reading read) areas → AreHonest a areas → length read.items ≡ length areas → IsMergedStage g read.items stage → IsMerged a (recovering g areas stage)
-  merged-now areas read stage fits honest all merged =
-      let same : read.items ≡ map a.now areas = read-now areas read fits honest all in
-      record {
-        content = merged.content;
-        numbers = merged.numbers;
-        merges = subst (λ (l : List (List ℕ)). MergesTo (store_of g l) merged.content merged.numbers) same merged.merges;
-        pages = merged.pages;
-        kept = merged.kept ∙ ap (λ (l : List (List ℕ)). (store_of g l).pages) same;
-        behind = subst (λ (l : List (List ℕ)). AreBehind (store_of g l) (pages_left stage)) same merged.behind;
-      }
-
-  pub refused-now : (areas : List D) (read : Vec (List ℕ)) (fault : RecoverFault) → AreasFit a g (Reading read) areas → AreHonest a areas → length read.items ≡ length areas → IsRefusal (store_of g read.items) fault → IsRefusal (store_of g (map a.now areas)) fault
-  refused-now areas read fault fits honest all = subst (λ (l : List (List ℕ)). IsRefusal (store_of g l) fault) (read-now areas read fits honest all)
+  pub merged-now : (areas : List D) (stage : Stage) → IsMergedStage g (map a.now areas) stage → IsMerged a (recovering g areas stage)
+  merged-now areas stage merged = record {
+    content = merged.content;
+    numbers = merged.numbers;
+    merges = merged.merges;
+    pages = merged.pages;
+    kept = merged.kept;
+    behind = merged.behind;
+  }
 
   -- No position is dirty from the last sync up to the first write
 
@@ -269,12 +303,12 @@ module _ {D : Type 0} (a : Ghosts D) (g : Geometry) where
 
   pub clean-so_far : (stage : Stage) (areas : List D) → IsGoing a g stage areas → AreHonest a areas → area_count g ≤ steps_of g stage → steps_of g stage ≤ first_steps g → (k : ℕ) (area : D) → slice_get areas k ≡ Some area → IsClean (a.dirty area)
   clean-so_far (Syncing synced) areas going honest synced_all before k area is = absurd (omega (arith, synced_all, going.fits.1))
-  clean-so_far (Reading read) areas going honest synced_all before k area is =
+  clean-so_far (Reading r) areas going honest synced_all before k area is =
       let its = going.fits.0.each k area is in
       let alive : a.honest area ≡ true = honest k area is in
       elim (cases_lt k g.nodes) [
-        | inl log ↦ (its.log alive log).0
-        | inr segment ↦ (its.segment alive segment).0
+        | inl log ↦ (its.log alive log).clean
+        | inr segment ↦ (its.segment alive segment).clean
       ]
   clean-so_far (WritingPages w) areas going honest synced_all before k area is = clean-writing w areas going.fits (omega (arith, before)) honest k area is
   clean-so_far (Resetting r) areas going honest synced_all before k area is = clean-resetting r areas going.fits (omega (arith, before)) honest k area is

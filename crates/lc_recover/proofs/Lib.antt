@@ -17,6 +17,8 @@ pub mod Showing
 pub mod Writes
 pub mod Begins
 pub mod Settles
+pub mod Filling
+pub mod Newer
 pub mod MergeRead
 pub mod WholePages
 pub mod Keeping
@@ -24,9 +26,12 @@ pub mod Going
 pub mod SameArea
 pub mod PagesBehind
 pub mod Readable
+pub mod ReadLemmas
 pub mod StoppedFits
 pub mod PageEnd
+pub mod ReadSteps
 pub mod MergedFits
+pub mod MergeStep
 pub mod FinishedStore
 pub mod Calling
 pub mod Renewing
@@ -35,3 +40,4 @@ pub mod StillHonest
 pub mod Blank
 pub mod StepsBound
 pub mod PageCalls
+pub mod OneStore

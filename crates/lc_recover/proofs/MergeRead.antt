@@ -24,9 +24,8 @@ use Rattle.lc_page.specs.declared.entry.Entry.{Entry}
 use Rattle.lc_page.specs.declared.slot.Slot.{Slot}
 use Rattle.lc_page.specs.declared.slot.Slot.TheVariants.{First, Second}
 use Rattle.lc_page.proofs.PageLemmas.{first_small, second_small}
-use Rattle.lc_model.specs.Merge.{Page, Store, all_records, page_number, record_number, MergesTo, MergeFault, Refuses, BadGeometry, OutOfSegment, Twice, Gap}
+use Rattle.lc_model.specs.Merge.{Page, Store, all_records, page_number, record_number, MergesTo}
 use Rattle.lc_model.proofs.Numbers.{greatest-all, greatest-at_most}
-use Rattle.lc_model.proofs.SomeOutcome.{some-outcome}
 use Rattle.lc_model.proofs.Visible.{log-of, log-known}
 use Rattle.lc_recover.specs.Kept.{IsKept, IsMerging}
 use Rattle.lc_recover.specs.KeptAreas.{IsRead}
@@ -39,6 +38,7 @@ use Rattle.lc_recover.specs.declared.page_writes.PageWrites.{PageWrites}
 use Rattle.lc_recover.specs.declared.segment_pages.SegmentPages.{SegmentPages}
 use Rattle.lc_recover.proofs.Images.{get-some, get-map, from-map, get-segment, in-segment, length-pages_read, get-pages_read}
 use Rattle.lc_recover.proofs.AreaLemmas.{one_item}
+use Rattle.lc_recover.proofs.Newer.{faultless-merges}
 use Rattle.lc_recover.proofs.Counts.{all-from}
 
 same-list : {A : Type 0} (xs ys : List A) → length xs ≡ length ys → ((k : ℕ) (x y : A) → slice_get xs k ≡ Some x → slice_get ys k ≡ Some y → x ≡ y) → xs ≡ ys
@@ -63,6 +63,10 @@ kept-as-read area n s kept =
     ap (λ (e : Entry). record { sequence = e.stable; bytes = (page_in area p).content }) (sym (kept.entries p (omega (arith, less))))
     ∙ ap (λ (l : List ℕ). record { sequence = (entry_at s.texts p).stable; bytes = l }) (sym (kept.bytes p (omega (arith, less)))))
     ∙ ap (λ (m : ℕ). map (kept_page s) (counting 0 m)) (sym kept.count)
+
+page-len : (n page : ℕ) (s : SegmentPages) → page < n → length s.bytes.items ≡ n * 256 → length (bytes_of_page s page) ≡ 256
+page-len n page s within len =
+    length-take-le 256 (drop (page * 256) s.bytes.items) (omega (arith, within, len, length-drop (page * 256) s.bytes.items))
 
 module _ (g : Geometry) (read : List (List ℕ)) (kept : Kept) (is : IsRead g read kept) (count : length read ≡ area_count g) where
   few : length (take g.nodes read) ≡ g.nodes
@@ -130,25 +134,22 @@ module _ (g : Geometry) (read : List (List ℕ)) (kept : Kept) (is : IsRead g re
               ∙ ap Some (same_page page within)),
         )
 
-page-len : (n page : ℕ) (s : SegmentPages) → page < n → length s.bytes.items ≡ n * 256 → length (bytes_of_page s page) ≡ 256
-page-len n page s within len =
-    length-take-le 256 (drop (page * 256) s.bytes.items) (omega (arith, within, len, length-drop (page * 256) s.bytes.items))
-
--- what is not refused merges
-no-fault : (logs : List (List ℕ)) (store : Store) (merged : Merged) → IsMerging logs store merged → (fault : MergeFault) → Refuses store fault → ⊥
-no-fault logs store merged is (BadGeometry area) refused = is.own area refused.is
-no-fault logs store merged is (OutOfSegment area) refused = is.lying_within area refused.1.is
-no-fault logs store merged is (Twice segment seq) refused = is.once segment seq refused.2.is
-no-fault logs store merged is (Gap segment seq) refused = is.no_gap segment seq refused.3.is
+  pub long-pages : (segment page : ℕ) (text : Page) → slice_get (segment_of segment (store_of g read).pages) page ≡ Some text → length text.bytes ≡ 256
+  long-pages segment page text text_is =
+      let at = in-segment segment page (store_of g read).pages text text_is in
+      let within : at.before < length kept.segments.items = omega (arith, slice_get_within (store_of g read).pages at.before at.part at.part_is, length-map (drop g.nodes read) (pages_read g.pages), is.segments.count) in
+      let pages = get-some kept.segments.items at.before within in
+      let next_is : segment ≡ at.before + 1 = omega (arith, at.next) in
+      let there : slice_get (segment_of (at.before + 1) (store_of g read).pages) page ≡ Some text = ap (λ (n : ℕ). slice_get (segment_of n (store_of g read).pages) page) (sym next_is) ∙ text_is in
+      let here = its-page at.before pages.0 pages.1 page text there in
+      let its = its-pages at.before pages.0 pages.1 in
+      ap (λ (t : Page). length t.bytes) here.1 ∙ page-len g.pages page pages.0 here.0 its.len
 
 pub merged-result : (logs : List (List ℕ)) (store : Store) (merged : Merged) → IsMerging logs store merged →
     ((segment page : ℕ) (text : Page) → slice_get (segment_of segment store.pages) page ≡ Some text → length text.bytes ≡ 256) →
     (content : Content) × (numbers : ℕ → ℕ) × MergesTo store content numbers
 merged-result logs store merged is long =
-    elim (some-outcome store long) [
-      | inl refused ↦ absurd (no-fault logs store merged is refused.0 refused.1)
-      | inr result ↦ result
-    ]
+    faultless-merges store (record { own = is.own; lying_within = is.lying_within; once = is.once; no_gap = is.no_gap }) long
 
 -- Numbers of at most 2^60
 
@@ -190,16 +191,8 @@ module _ (g : Geometry) (read : List (List ℕ)) where
         (all-from (λ (r : Record). number_or_zero segment r.locks ≤ 2 ^ 60) (all_records (store_of g read)) (λ r has. lock-small segment r.locks (each-canonical r has).each_lock))
 
 module _ (g : Geometry) (read : List (List ℕ)) (w : PageWrites) (is : IsRead g read w.kept) (count : length read ≡ area_count g) (merging : IsMerging w.kept.logs.items (store_of g read) w.merged) (next : w.next ≡ 0) (written : w.written ≡ 0) (none : w.current ≡ None) where
-  pub long : (segment page : ℕ) (text : Page) → slice_get (segment_of segment (store_of g read).pages) page ≡ Some text → length text.bytes ≡ 256
-  long segment page text text_is =
-      let at = in-segment segment page (store_of g read).pages text text_is in
-      let within : at.before < length w.kept.segments.items = omega (arith, slice_get_within (store_of g read).pages at.before at.part at.part_is, length-map (drop g.nodes read) (pages_read g.pages), is.segments.count) in
-      let pages = get-some w.kept.segments.items at.before within in
-      let next_is : segment ≡ at.before + 1 = omega (arith, at.next) in
-      let there : slice_get (segment_of (at.before + 1) (store_of g read).pages) page ≡ Some text = ap (λ (n : ℕ). slice_get (segment_of n (store_of g read).pages) page) (sym next_is) ∙ text_is in
-      let here = its-page g read w.kept is count at.before pages.0 pages.1 page text there in
-      let kept = its-pages g read w.kept is count at.before pages.0 pages.1 in
-      ap (λ (t : Page). length t.bytes) here.1 ∙ page-len g.pages page pages.0 here.0 kept.len
+  long : (segment page : ℕ) (text : Page) → slice_get (segment_of segment (store_of g read).pages) page ≡ Some text → length text.bytes ≡ 256
+  long = long-pages g read w.kept is count
 
   pub result : (content : Content) × (numbers : ℕ → ℕ) × MergesTo (store_of g read) content numbers
   result = merged-result w.kept.logs.items (store_of g read) w.merged merging long

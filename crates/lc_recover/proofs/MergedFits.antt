@@ -1,11 +1,10 @@
 -- Areas that were read fit what a merge of them has made.
-use Rattle.std.proofs.Common.{◌≡◌, ℕ, ◌+◌, ◌-◌, ◌*◌, ◌<◌, ◌≤◌, true, Some, List, [], length, take, drop, sym, ◌∙◌, ap, subst, arith}
+use Rattle.std.proofs.Common.{◌≡◌, ℕ, ◌+◌, ◌-◌, ◌*◌, ◌<◌, ◌≤◌, true, Some, List, [], length, drop, sym, ◌∙◌, ap, subst, arith}
 use Rattle.std.specs.Prelude.{slice_get, slice_index_or}
 use Rattle.std.proofs.Math.Numerals.{add-one}
 use Rattle.std.proofs.lemmas.Option.{none-some, slice_get_within, get_or_from_slice_get}
 use Rattle.lc_disk.specs.declared.area.Area.{Ghosts}
 use Rattle.lc_record.specs.Content.{segment_of}
-use Rattle.lc_record.specs.Words.{words_of}
 use Rattle.lc_record.specs.declared.geometry.Geometry.{Geometry}
 use Rattle.lc_page.specs.Page.{slot_at}
 use Rattle.lc_page.specs.PageVector.{entry_text}
@@ -16,14 +15,16 @@ use Rattle.lc_model.specs.Merge.{Store, MergesTo}
 use Rattle.lc_recover.specs.Merging.{IsMergedFrom, IsMergedStage}
 use Rattle.lc_recover.specs.Page.{pages_of}
 use Rattle.lc_recover.specs.Pages.{AreKept}
-use Rattle.lc_recover.specs.Reads.{area_count, area_len}
+use Rattle.lc_recover.specs.Reads.{area_count}
 use Rattle.lc_recover.specs.Recovery.{AreBehind}
-use Rattle.lc_recover.specs.Stage.{AreasFit, ReadsSo, ReadsWords, RestsOrWrites}
+use Rattle.lc_recover.specs.Stage.{AreasFit, HasItsPages, HasItsWords, ReadsWords, RestsOrWrites}
 use Rattle.lc_recover.specs.Steps.{all_pages, pages_left}
+use Rattle.lc_recover.specs.declared.kept.Kept.{Kept}
 use Rattle.lc_recover.specs.declared.page_writes.PageWrites.{PageWrites}
+use Rattle.lc_recover.specs.declared.read_areas.ReadAreas.{ReadAreas}
 use Rattle.lc_recover.specs.declared.segment_pages.SegmentPages.{SegmentPages}
-use Rattle.lc_recover.specs.declared.stage.Stage.TheVariants.{Writing as WritingPages}
-use Rattle.lc_recover.proofs.Images.{get-take, get-drop, get-map, in-segment}
+use Rattle.lc_recover.specs.declared.stage.Stage.TheVariants.{Reading, Writing as WritingPages}
+use Rattle.lc_recover.proofs.Images.{get-some, in-segment}
 use Rattle.lc_recover.proofs.MergeRead.{kept-pages-are}
 use Rattle.lc_recover.proofs.PagesBehind.{pages-behind, few-pages}
 
@@ -57,45 +58,39 @@ module _ (g : Geometry) (read : List (List ℕ)) (w : PageWrites) (from : IsMerg
       omega (arith, slice_get_within (segment_of segment from.sound.store.pages) page text is, long)) in
       subst (λ (n : ℕ). n ≤ g.segments * g.pages) (sym all-are) few
 
-  module _ {D : Type 0} (a : Ghosts D) (areas : List D) (all : length read ≡ length areas)
-      (so : (k : ℕ) (area : D) → slice_get areas k ≡ Some area → a.honest area ≡ true → ReadsSo a read k area) where
-    -- what was read of an area
-    its-bytes : (k : ℕ) (area : D) → slice_get areas k ≡ Some area → a.honest area ≡ true → slice_get read k ≡ Some (a.now area)
-    its-bytes k area is honest = (so k area is honest).1 (omega (arith, slice_get_within areas k area is, all))
-
+  module _ {D : Type 0} (a : Ghosts D) (areas : List D) (r : ReadAreas) (fits : AreasFit a g (Reading r) areas) (same : w.kept ≡ r.kept) where
     its-words : (log : ℕ) (area : D) → log < g.nodes → slice_get areas log ≡ Some area → a.honest area ≡ true → ReadsWords a (slice_index_or w.kept.logs.items log []) area
-    its-words log area less is honest = record {
-      clean = (so log area is honest).0;
-      words_are = sym (get_or_from_slice_get w.kept.logs.items log (words_of (a.now area)) []
-          (ap (λ (l : List (List ℕ)). slice_get l log) from.kept.logs
-          ∙ get-map words_of (take g.nodes read) log (a.now area) (get-take g.nodes log read less ∙ its-bytes log area is honest)));
-    }
-
-    its-rests : (s : ℕ) (area : D) (pages : SegmentPages) → slice_get areas (g.nodes + s) ≡ Some area → a.honest area ≡ true → slice_get w.kept.segments.items s ≡ Some pages → RestsOrWrites a g w s pages area
-    its-rests s area pages is honest pages_is =
-        let clean = (so (g.nodes + s) area is honest).0 in
-        let kept : AreKept (a.now area) g.pages pages = from.kept.segments.each s (a.now area) pages (get-drop g.nodes s read ∙ its-bytes (g.nodes + s) area is honest) pages_is in
+    its-words log area less is honest =
+        let its : HasItsWords a r.kept.logs.items log area = (fits.each log area is).log honest less in
+        let words = get-some w.kept.logs.items log (omega (arith, less, from.sound.texts.count)) in
         record {
-          clean = λ none. clean;
+          clean = its.clean;
+          words_are = sym (get_or_from_slice_get w.kept.logs.items log words.0 [] words.1
+              ∙ its.words_are words.0 (ap (λ (k : Kept). slice_get k.logs.items log) (sym same) ∙ words.1));
+        }
+
+    its-rests : (s : ℕ) (area : D) (pages : SegmentPages) → HasItsPages a g r.kept.segments.items s area → slice_get w.kept.segments.items s ≡ Some pages → RestsOrWrites a g w s pages area
+    its-rests s area pages its pages_is =
+        let kept : AreKept (a.now area) g.pages pages = its.pages_are pages (ap (λ (k : Kept). slice_get k.segments.items s) (sym same) ∙ pages_is) in
+        record {
+          clean = λ none. its.clean;
           rests = λ page within none. record {
             settled = subst (λ (text : PageText). IsSettled (a.now area) (a.dirty area) page text) (sym (ap entry_text (kept.entries page within)))
-                (clean_settled (a.now area) (a.dirty area) page (λ slot k less. clean (slot_at page slot + k)));
+                (clean_settled (a.now area) (a.dirty area) page (λ slot k less. its.clean (slot_at page slot + k)));
             content = sym (kept.bytes page within);
           };
           writes = λ page write current. absurd (none-some write (sym from.current ∙ current.0));
         }
 
-    pub merged-fit : length areas ≡ area_count g → ((k : ℕ) (area : D) → slice_get areas k ≡ Some area → Some (length (a.now area)) ≡ area_len g k)
-        → ((k : ℕ) (area : D) → slice_get areas k ≡ Some area → a.honest area ≡ true → (at : ℕ) → slice_index_or (a.now area) at 0 < 256)
-        → AreasFit a g (WritingPages w) areas
-    merged-fit count lens bytes = record {
-      count = count;
-      each = λ k area is. record {
-        len = lens k area is;
-        bytes = bytes k area is;
-        log = λ honest less. its-words k area less is honest;
-        segment = λ honest more pages pages_is.
-            (let there : g.nodes + (k - g.nodes) ≡ k = omega (arith, more) in
-            its-rests (k - g.nodes) area pages (ap (slice_get areas) there ∙ is) honest pages_is);
-      };
+    pub merged-fit : AreasFit a g (WritingPages w) areas
+    merged-fit = record {
+      count = fits.count;
+      each = λ k area is.
+          let its = fits.each k area is in
+          record {
+            len = its.len;
+            bytes = its.bytes;
+            log = λ honest less. its-words k area less is honest;
+            segment = λ honest more pages pages_is. its-rests (k - g.nodes) area pages (its.segment honest more) pages_is;
+          };
     }

@@ -1,22 +1,22 @@
 -- The numbers of all records in order.
-use Rattle.std.proofs.Common.{◌≡◌, ℕ, suc, ◌+◌, ◌<◌, ◌≤◌, true, false, Some, List, [], ◌∷◌, ◌++◌, map, flat_map, length, take, get_or, arith, refl, sym, ◌∙◌, ap, inl, inr, append_assoc, append-nil}
+use Rattle.std.proofs.Common.{◌≡◌, ℕ, suc, ◌+◌, ◌<◌, ◌≤◌, true, false, Some, List, [], ◌∷◌, ◌++◌, map, length, take, get_or, arith, refl, sym, ◌∙◌, ap, inl, inr, append_assoc, append-nil}
 use Rattle.std.specs.Prelude.{slice_get}
 use Rattle.std.specs.List.{AllPairs}
 use Rattle.std.specs.List.Sorted.{IsSortedBy}
 use Rattle.std.specs.Ordering.{nat_cmp, is_lt, ordering_then}
 use Rattle.std.proofs.lemmas.Bool.{cases_order, lt-ltb, le-ltb, eq-eqb, true≢false}
 use Rattle.std.proofs.lemmas.Cmp.{nat_cmp_total, on_total, then_total}
-use Rattle.std.proofs.lemmas.List.{take_more, map-append}
+use Rattle.std.proofs.lemmas.List.{take_more, map-append, length-append}
 use Rattle.std.proofs.lemmas.List.Concat.{flat_map-append}
 use Rattle.std.proofs.lemmas.List.Sorted.{sorted_far, ranks_by}
 use Rattle.std.proofs.lemmas.Option.{slice_get_within, get_or_from_slice_get}
 use Rattle.lc_record.specs.declared.record.Lock.{Lock}
 use Rattle.lc_record.specs.declared.record.Record.{Record}
 use Rattle.lc_log.specs.InPlace.{records_in}
-use Rattle.lc_model.specs.Merge.{all_records}
 use Rattle.lc_recover.specs.Locks.{number_of, numbers_of, numbers_in, IsUpTo, AreInOrder}
-use Rattle.lc_recover.specs.Reading.{store_of}
+use Rattle.lc_recover.specs.Reading.{placed_in}
 use Rattle.lc_recover.specs.declared.lock_number.LockNumber.{LockNumber}
+use Rattle.lc_recover.proofs.Walks.{placed-records}
 
 -- The list
 
@@ -35,17 +35,20 @@ numbers-push before items rs r is =
     ∙ append_assoc before (numbers_in rs) (numbers_of r)
     ∙ ap (λ (l : List LockNumber). before ++ l) (ap (λ (l : List LockNumber). numbers_in rs ++ l) (sym (append-nil (numbers_of r))) ∙ sym (flat_map-append numbers_of rs (r ∷ [])))
 
-pub numbers-next : (logs : List (List ℕ)) (i : ℕ) (words : List ℕ) (items : List LockNumber) → i < length logs → get_or logs i [] ≡ words
-    → items ≡ numbers_in (all_records (store_of (take i logs) [])) → items ++ numbers_in (records_in words) ≡ numbers_in (all_records (store_of (take (i + 1) logs) []))
-numbers-next logs i words items within at is =
-    let front : List (List Record) = map records_in (take i logs) in
-    let more : map records_in (take (i + 1) logs) ≡ front ++ records_in words ∷ [] =
-    ap (map records_in) (take_more logs i [] within ∙ ap (λ (l : List ℕ). take i logs ++ l ∷ []) at) ∙ map-append records_in (take i logs) (words ∷ []) in
-    let all : flat_map (λ (l : List Record). l) (map records_in (take (i + 1) logs)) ≡ flat_map (λ (l : List Record). l) front ++ records_in words =
-    ap (flat_map (λ (l : List Record). l)) more ∙ flat_map-append (λ (l : List Record). l) front (records_in words ∷ []) ∙ ap (λ (l : List Record). flat_map (λ (l : List Record). l) front ++ l) (append-nil (records_in words)) in
-    ap (λ (l : List LockNumber). l ++ numbers_in (records_in words)) is
-    ∙ sym (flat_map-append numbers_of (flat_map (λ (l : List Record). l) front) (records_in words))
-    ∙ ap (flat_map numbers_of) (sym all)
+-- the numbers of what is seen and of what comes next are among all of them
+pub numbers-fit : (words : List ℕ) (seen left behind : List (ℕ × Record)) (x : ℕ × Record) → placed_in words ≡ seen ++ left → left ≡ x ∷ behind
+    → length (numbers_in (map (λ (y : ℕ × Record). y.1) seen)) + length (numbers_of x.1) ≤ length (numbers_in (records_in words))
+numbers-fit words seen left behind x split next =
+    let all : records_in words ≡ map (λ (y : ℕ × Record). y.1) seen ++ x.1 ∷ map (λ (y : ℕ × Record). y.1) behind =
+    sym (placed-records 0 (records_in words)) ∙ ap (map (λ (y : ℕ × Record). y.1)) (split ∙ ap (λ (l : List (ℕ × Record)). seen ++ l) next) ∙ map-append (λ (y : ℕ × Record). y.1) seen (x ∷ behind) in
+    let numbers : numbers_in (records_in words) ≡ numbers_in (map (λ (y : ℕ × Record). y.1) seen) ++ (numbers_of x.1 ++ numbers_in (map (λ (y : ℕ × Record). y.1) behind)) =
+    ap numbers_in all ∙ flat_map-append numbers_of (map (λ (y : ℕ × Record). y.1) seen) (x.1 ∷ map (λ (y : ℕ × Record). y.1) behind) in
+    omega (
+      arith,
+      ap (λ (l : List LockNumber). length l) numbers,
+      length-append (numbers_in (map (λ (y : ℕ × Record). y.1) seen)) (numbers_of x.1 ++ numbers_in (map (λ (y : ℕ × Record). y.1) behind)),
+      length-append (numbers_of x.1) (numbers_in (map (λ (y : ℕ × Record). y.1) behind)),
+    )
 
 -- Their order
 

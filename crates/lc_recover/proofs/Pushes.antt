@@ -18,7 +18,7 @@ use Rattle.lc_record.specs.declared.span.Span.{Span}
 use Rattle.lc_page.specs.PageVector.{entry_at}
 use Rattle.lc_model.specs.Merge.{Page}
 use Rattle.lc_recover.specs.Pages.{kept_page, kept_pages}
-use Rattle.lc_recover.specs.Changes.{Seat, Touches, Adds, IsOnRange, IsOf, Covers, AreOf}
+use Rattle.lc_recover.specs.Changes.{Seat, Touches, Adds, IsOnRange, IsOf, HasOf, Covers, AreOf}
 use Rattle.lc_recover.specs.declared.change.Change.{Change}
 use Rattle.lc_recover.specs.declared.segment_pages.SegmentPages.{SegmentPages}
 use Rattle.lc_recover.proofs.Walks.{length-kept, contains-at}
@@ -250,3 +250,14 @@ range-added pages s i range span its seq before now after canonical at span_is s
           (λ c on. of-range pages s i range its seq c canonical at own_same own_seq on);
       covers = covers-more pages s i range now after at own_adds.kept covered (covers-range pages s range its seq after own_same own_seq own_covers);
     }
+
+-- where the range is on a page that is older, the record is to be put on it
+pub range-newer : (pages : List (List Page)) (s : Seat) (i : ℕ) (range : RangeData) (span : Span) (its : SegmentPages) (seq : ℕ) → IsCanonical s.its → slice_get s.its.ranges i ≡ Some range → span ≡ span_of range
+    → segment_of span.segment pages ≡ kept_pages its → seq ≡ number_or_zero span.segment s.its.locks
+    → ((c : Change) × IsOnRange (record { segment = span.segment; page = 0; seq = seq; log = s.log; place = s.place }) span its.texts c) → HasOf pages s
+range-newer pages s i range span its seq canonical at span_is same seq_is on =
+    let own_same : segment_of range.segment pages ≡ kept_pages its = subst (λ (x : Span). segment_of x.segment pages ≡ kept_pages its) span_is same in
+    let own_seq : seq ≡ number_or_zero range.segment s.its.locks = subst (λ (x : Span). seq ≡ number_or_zero x.segment s.its.locks) span_is seq_is in
+    let own_on : IsOnRange (record { segment = range.segment; page = 0; seq = seq; log = s.log; place = s.place }) (span_of range) its.texts on.0 =
+    subst (λ (x : Span). IsOnRange (record { segment = x.segment; page = 0; seq = seq; log = s.log; place = s.place }) x its.texts on.0) span_is on.1 in
+    (on.0, of-range pages s i range its seq on.0 canonical at own_same own_seq own_on)

@@ -1,5 +1,5 @@
 -- An area of which nothing that is read or dirty has changed.
-use Rattle.std.proofs.Common.{◌≡◌, ◌≢◌, ℕ, ◌+◌, ◌-◌, ◌%◌, ◌<◌, Bool, true, Some, List, [], length, sym, ◌∙◌, ap, subst, inl, inr}
+use Rattle.std.proofs.Common.{◌≡◌, ◌≢◌, ℕ, ◌-◌, ◌%◌, ◌<◌, Bool, true, Some, List, [], length, sym, ◌∙◌, ap, subst, inl, inr}
 use Rattle.std.specs.Prelude.{slice_get, slice_set, slice_index, slice_index_or}
 use Rattle.lc_disk.specs.Area.{IsClean}
 use Rattle.lc_disk.specs.declared.area.Area.{Ghosts}
@@ -14,8 +14,8 @@ use Rattle.lc_page.specs.declared.page_text.PageText.{PageText}
 use Rattle.lc_page.specs.declared.writing.Writing.{Writing}
 use Rattle.lc_page.specs.declared.writing.Writing.TheVariants.{AtClosing, AtClosed, AtFilling, AtFilled, AtOpening}
 use Rattle.lc_recover.proofs.AreaLemmas.{fits-set}
-use Rattle.lc_recover.specs.Pages.{bytes_of_page}
-use Rattle.lc_recover.specs.Stage.{AreaFits, AreasFit, LogFits, SegmentFits, LogIs, IsEmptied, ReadsSo, ReadsWords, RestsAt, Rests, RestsOrWrites}
+use Rattle.lc_recover.specs.Pages.{AreKept, bytes_of_page}
+use Rattle.lc_recover.specs.Stage.{AreaFits, AreasFit, LogFits, SegmentFits, LogIs, IsEmptied, HasItsWords, HasItsPages, ReadsWords, RestsAt, Rests, RestsOrWrites}
 use Rattle.lc_recover.specs.declared.log_resets.LogResets.{LogResets}
 use Rattle.lc_recover.specs.declared.page_writes.PageWrites.{PageWrites}
 use Rattle.lc_recover.specs.declared.segment_pages.SegmentPages.{SegmentPages}
@@ -34,8 +34,14 @@ module _ {D : Type 0} (a : Ghosts D) (old new : D) (now : a.now new ≡ a.now ol
   same-clean : IsClean (a.dirty old) → IsClean (a.dirty new)
   same-clean clean = carried (λ bytes d. IsClean d) clean
 
-  same-reads : (read : List (List ℕ)) (k : ℕ) → ReadsSo a read k old → ReadsSo a read k new
-  same-reads read k so = (same-clean so.0, λ less. so.1 less ∙ ap Some (sym now))
+  same-its_words : (logs : List (List ℕ)) (log : ℕ) → HasItsWords a logs log old → HasItsWords a logs log new
+  same-its_words logs log has = record { clean = same-clean has.clean; words_are = λ words is. has.words_are words is ∙ ap words_of (sym now) }
+
+  same-its_pages : (g : Geometry) (segments : List SegmentPages) (s : ℕ) → HasItsPages a g segments s old → HasItsPages a g segments s new
+  same-its_pages g segments s has = record {
+    clean = same-clean has.clean;
+    pages_are = λ pages is. subst (λ (bytes : List ℕ). AreKept bytes g.pages pages) (sym now) (has.pages_are pages is);
+  }
 
   same-words : (words : List ℕ) → ReadsWords a words old → ReadsWords a words new
   same-words words reads = record { clean = same-clean reads.clean; words_are = ap words_of now ∙ reads.words_are }
@@ -86,14 +92,14 @@ module _ {D : Type 0} (a : Ghosts D) (old new : D) (now : a.now new ≡ a.now ol
 
   same-log_fits : (stage : Stage) (log : ℕ) → LogFits a stage log old → LogFits a stage log new
   same-log_fits (Syncing synced) log fits = λ less. same-clean (fits less)
-  same-log_fits (Reading read) log fits = same-reads read.items log fits
+  same-log_fits (Reading r) log fits = same-its_words r.kept.logs.items log fits
   same-log_fits (WritingPages w) log fits = same-words (slice_index_or w.kept.logs.items log []) fits
   same-log_fits (Resetting r) log fits = same-log_is r log fits
   same-log_fits (Done f) log fits = same-emptied fits
 
   same-segment_fits : (g : Geometry) (stage : Stage) (s : ℕ) → a.honest new ≡ a.honest old → SegmentFits a g stage s old → SegmentFits a g stage s new
   same-segment_fits g (Syncing synced) s same fits = λ less. same-clean (fits less)
-  same-segment_fits g (Reading read) s same fits = same-reads read.items (g.nodes + s) fits
+  same-segment_fits g (Reading r) s same fits = same-its_pages g r.kept.segments.items s fits
   same-segment_fits g (WritingPages w) s same fits = λ pages is. same-writes g w s pages same (fits pages is)
   same-segment_fits g (Resetting r) s same fits = λ pages is. same-rests g pages (fits pages is)
   same-segment_fits g (Done f) s same fits = λ pages is. same-rests g pages (fits pages is)

@@ -41,7 +41,7 @@ get_behind (x ∷ xs) ys (suc k) more =
     let less : k - length xs ≡ suc k - suc (length xs) = omega arith in
     get_behind xs ys k (omega (arith, more)) ∙ ap (λ (j : ℕ). slice_get ys j) less
 
-overlaid_whole : (old bytes : List ℕ) (at : ℕ) → at + length bytes ≤ length old → length (overlaid old at bytes) ≡ length old
+pub overlaid_whole : (old bytes : List ℕ) (at : ℕ) → at + length bytes ≤ length old → length (overlaid old at bytes) ≡ length old
 overlaid_whole old bytes at room =
     omega (arith, length-append (take at old ++ bytes) (drop (at + length bytes) old), length-append (take at old) bytes, length-take-le at old (omega arith), length-drop (at + length bytes) old)
 

@@ -1,16 +1,18 @@
 -- What stands behind a step that was not made.
-use Rattle.std.proofs.Common.{◌≡◌, ◌⊎◌, ℕ, ◌+◌, ◌-◌, ◌<◌, ◌≤◌, List, [], length, Some, None, refl, sym, ◌∙◌, ap, subst, arith, inl, inr}
-use Rattle.std.specs.Global.{Vec}
+use Rattle.std.proofs.Common.{◌≡◌, ◌⊎◌, ℕ, ◌-◌, ◌<◌, ◌≤◌, List, [], length, None, refl, sym, ◌∙◌, ap, subst, arith, inl, inr}
 use Rattle.std.specs.Prelude.{slice_get}
-use Rattle.std.proofs.lemmas.Option.{slice_get_within}
+use Rattle.std.proofs.lemmas.Option.{none-some, slice_get_within}
 use Rattle.lc_disk.specs.declared.area.Area.{Ghosts}
 use Rattle.lc_record.specs.declared.geometry.Geometry.{Geometry}
-use Rattle.lc_recover.specs.Reads.{area_count, area_len}
-use Rattle.lc_recover.specs.Stage.{AreasFit, Fits, ReadsSo}
+use Rattle.lc_recover.proofs.ReadLemmas.{counted-none, read-none, same-kept}
+use Rattle.lc_recover.specs.KeptAreas.{IsCounted}
+use Rattle.lc_recover.specs.Stage.{AreasFit, Fits, HasItsPages, HasItsWords}
 use Rattle.lc_recover.specs.Steps.{steps_of, pages_in, pages_left, pages_kept, HasNext}
 use Rattle.lc_recover.specs.Stopped.{IsStopped}
 use Rattle.lc_recover.specs.declared.fault.RecoverFault.{RecoverFault}
 use Rattle.lc_recover.specs.declared.fault.RecoverFault.TheVariants.{BadGeometry, Gap, Twice, OutOfSegment, DeviceFault, NoMemory}
+use Rattle.lc_recover.specs.declared.read_areas.ReadAreas.{ReadAreas}
+use Rattle.lc_recover.specs.declared.segment_pages.SegmentPages.{SegmentPages}
 use Rattle.lc_recover.specs.declared.stage.Stage.{Stage}
 use Rattle.lc_recover.specs.declared.stage.Stage.TheVariants.{Syncing, Reading}
 use Rattle.lc_recover.specs.declared.stopped.Stopped.{Stopped}
@@ -43,9 +45,9 @@ module _ {D : Type 0} (a : Ghosts D) (g : Geometry) where
   pub first-fits : (areas : List D) → AreasFit a g (Syncing 0) areas → Fits a g (Syncing 0) areas
   first-fits areas fits = (fits, omega (arith, g.some_nodes))
 
-  -- what is known rests on what was read alone
-  pub same-read : (areas : List D) (read other : Vec (List ℕ)) → other.items ≡ read.items → Fits a g (Reading read) areas → Fits a g (Reading other) areas
-  same-read areas read other same fits = (
+  -- what is known rests on what is kept and counted alone
+  pub same-read : (areas : List D) (r other : ReadAreas) → other.kept.logs.items ≡ r.kept.logs.items → other.kept.segments.items ≡ r.kept.segments.items → IsCounted other → Fits a g (Reading r) areas → Fits a g (Reading other) areas
+  same-read areas r other logs segments counted fits = (
     record {
       count = fits.0.count;
       each = λ k area is.
@@ -53,31 +55,42 @@ module _ {D : Type 0} (a : Ghosts D) (g : Geometry) where
           record {
             len = its.len;
             bytes = its.bytes;
-            log = λ honest less. subst (λ (items : List (List ℕ)). ReadsSo a items k area) (sym same) (its.log honest less);
-            segment = λ honest more. subst (λ (items : List (List ℕ)). ReadsSo a items (g.nodes + (k - g.nodes)) area) (sym same) (its.segment honest more);
+            log = λ honest less. subst (λ (items : List (List ℕ)). HasItsWords a items k area) (sym logs) (its.log honest less);
+            segment = λ honest more. subst (λ (items : List SegmentPages). HasItsPages a g items (k - g.nodes) area) (sym segments) (its.segment honest more);
           };
     },
-    subst (λ (items : List (List ℕ)). (length items ≤ area_count g) × ((k : ℕ) (bytes : List ℕ) → slice_get items k ≡ Some bytes → Some (length bytes) ≡ area_len g k)) (sym same) fits.1,
+    (fits.1.0, fits.1.1, same-kept g fits.1.0 r.kept other.kept logs segments fits.1.2, counted),
   )
 
   -- all areas are synced, and none is read
-  pub synced-fits : (areas : List D) (synced : ℕ) (read : Vec (List ℕ)) → read.items ≡ [] → length areas ≤ synced → AreasFit a g (Syncing synced) areas → Fits a g (Reading read) areas
-  synced-fits areas synced read none all fits =
-      let empty : length read.items ≡ 0 = ap length none in (
-        record {
-          count = fits.count;
-          each = λ k area is.
-              let its = fits.each k area is in
-              let within : k < length areas = slice_get_within areas k area is in
-              record {
-                len = its.len;
-                bytes = its.bytes;
-                log = λ honest less. (its.log honest less (omega (arith, within, all)), λ before. absurd (omega (arith, before, empty)));
-                segment = λ honest more. (its.segment honest more (omega (arith, within, all, more)), λ before. absurd (omega (arith, before, empty)));
-              };
-        },
-        (omega (arith, empty), λ k bytes is. absurd (omega (arith, slice_get_within read.items k bytes is, empty))),
-      )
+  pub synced-fits : (areas : List D) (synced : ℕ) (r : ReadAreas) → r.kept.logs.items ≡ [] → r.kept.segments.items ≡ [] → r.locks.items ≡ [] → r.numbers.items ≡ []
+      → length areas ≤ synced → AreasFit a g (Syncing synced) areas → Fits a g (Reading r) areas
+  synced-fits areas synced r logs segments locks numbers all fits = (
+    record {
+      count = fits.count;
+      each = λ k area is.
+          let its = fits.each k area is in
+          let within : k < length areas = slice_get_within areas k area is in
+          record {
+            len = its.len;
+            bytes = its.bytes;
+            log = λ honest less. record {
+              clean = its.log honest less (omega (arith, within, all));
+              words_are = λ words there. absurd (none-some words (sym (ap (λ (l : List (List ℕ)). slice_get l k) logs) ∙ there));
+            };
+            segment = λ honest more. record {
+              clean = its.segment honest more (omega (arith, within, all, more));
+              pages_are = λ pages there. absurd (none-some pages (sym (ap (λ (l : List SegmentPages). slice_get l (k - g.nodes)) segments) ∙ there));
+            };
+          };
+    },
+    (
+      [],
+      record { count = omega arith; lengths = λ k bytes is. absurd (none-some bytes is) },
+      read-none g r.kept logs segments,
+      counted-none r logs segments locks numbers,
+    ),
+  )
 
   -- where memory was wanted the recovery stays in a part like the one before
   pub stopped-fits : (olds news : List D) (stage stay : Stage) (stopped : Stopped) → AreasFit a g (Syncing 0) news →

@@ -61,6 +61,14 @@ pub record IsOf (pages : List (List Page)) (s : Seat) (c : Change) : Type 0 wher
   pub on_page : offset < 256
   pub has : IsTrue (has_byte c.segment (c.page * 256 + offset) text.sequence s.its)
 
+-- the record of the seat is to be put on some page
+abbrev pub HasOf : List (List Page) → Seat → Type 0
+HasOf pages s = (c : Change) × IsOf pages s c
+
+-- so with some record of these seats
+abbrev pub SomeIsOf : List (List Page) → List Seat → Type 0
+SomeIsOf pages seats = (s : Seat) × Contains seats s × HasOf pages s
+
 -- all pages that the record of the seat is to be put on are among these
 abbrev pub Covers : List (List Page) → Seat → List Change → Type 0
 Covers pages s changes =

@@ -6,6 +6,7 @@ use Rattle.lc_record.specs.Newest.{number_or_zero, has_byte}
 use Rattle.lc_record.specs.Record.{record_len}
 use Rattle.lc_record.specs.declared.record.Record.{Record}
 use Rattle.lc_log.specs.LogText.{IsLogText}
+use Rattle.lc_model.specs.Recovered.{IsBehind}
 use Rattle.lc_model.specs.Merge.{Page, Store, all_records, page_number, record_number, AreOwn, AreWithin, AreOnce, HasGap}
 use Rattle.lc_recover.specs.Pages.{kept_pages}
 use Rattle.lc_recover.specs.declared.change.Change.{Change}
@@ -55,6 +56,19 @@ pub record IsIndex (logs : List (List ℕ)) (store : Store) (changes : List Chan
       IsTrue (has_byte segment (page * 256 + offset) text.sequence r) →
       (c : Change) × Contains changes c × (c.segment ≡ segment) × (c.page ≡ page) × (c.seq ≡ number_or_zero segment r.locks)
   pub ascending : AreAscending changes
+
+-- no fault is found in the store
+pub record IsFaultless (store : Store) : Type 0 where
+  pub own : AreOwn store
+  pub lying_within : AreWithin store
+  pub once : AreOnce store
+  pub no_gap : (segment seq : ℕ) → HasGap store segment seq → ⊥
+
+-- some record is newer than a page of the store
+abbrev pub HasNewer : Store → Type 0
+HasNewer store =
+    (segment : ℕ) × (page : ℕ) × (text : Page)
+    × (slice_get (segment_of segment store.pages) page ≡ Some text) × IsBehind store segment page text
 
 -- the store is not refused, these are its numbers, and these the changes of its pages
 pub record IsMerging (logs : List (List ℕ)) (store : Store) (merged : Merged) : Type 0 where

@@ -3,6 +3,7 @@ pub mod Pages
 pub mod Kept
 pub mod KeptAreas
 pub mod Reads
+pub mod ReadsAs
 pub mod Position
 pub mod Stage
 pub mod Shows

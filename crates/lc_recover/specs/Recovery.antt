@@ -5,6 +5,7 @@ use Rattle.lc_record.specs.declared.geometry.Geometry.{Geometry}
 use Rattle.lc_record.specs.Content.{Content, segment_of}
 use Rattle.lc_model.specs.Merge.{Page, Store, MergesTo}
 use Rattle.lc_model.specs.Recovered.{IsBehind}
+use Rattle.lc_recover.specs.Kept.{HasNewer}
 use Rattle.lc_recover.specs.Page.{ArePagesAscending}
 use Rattle.lc_recover.specs.Reads.{area_count, store_of, AllMergeTo}
 use Rattle.lc_recover.specs.Shows.{new_page}
@@ -82,6 +83,13 @@ pub record AreBehind (store : Store) (pages : List (ℕ × ℕ)) : Type 0 where
   pub ascending : ArePagesAscending pages
   pub all : (segment page : ℕ) → Contains pages (segment, page)
       ↔ ((text : Page) × (slice_get (segment_of segment store.pages) page ≡ Some text) × IsBehind store segment page text)
+
+-- the store merges to some result, and some record is newer than a page of it
+pub record HasPageToWrite (store : Store) : Type 0 where
+  pub content : Content
+  pub numbers : ℕ → ℕ
+  pub merges : MergesTo store content numbers
+  pub newer : HasNewer store
 
 -- with this page of a segment in place of the one before
 abbrev pub with_page : ℕ → ℕ → Page → List (List Page) → List (List Page)

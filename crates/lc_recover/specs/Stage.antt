@@ -20,7 +20,8 @@ use Rattle.lc_model.specs.Merge.{Page, Store, MergesTo}
 use Rattle.lc_model.specs.Recovered.{IsBehind}
 use Rattle.lc_model.specs.Stored.{page_bytes}
 use Rattle.lc_recover.specs.Kept.{IsMerging}
-use Rattle.lc_recover.specs.Pages.{bytes_of_page}
+use Rattle.lc_recover.specs.KeptAreas.{AreFirst, IsRead, IsCounted}
+use Rattle.lc_recover.specs.Pages.{AreKept, bytes_of_page}
 use Rattle.lc_recover.specs.Position.{HasChange, IsBetween}
 use Rattle.lc_recover.specs.Reads.{area_count, area_len}
 use Rattle.lc_recover.specs.declared.change.Change.{Change}
@@ -117,8 +118,7 @@ pub record IsResetting (g : Geometry) (r : LogResets) : Type 0 where
 -- what is kept in a part
 abbrev pub IsSound : Geometry → Stage → Type 0
 IsSound g (Syncing synced) = synced < area_count g
-IsSound g (Reading read) =
-    (length read.items ≤ area_count g) × ((k : ℕ) (bytes : List ℕ) → slice_get read.items k ≡ Some bytes → Some (length bytes) ≡ area_len g k)
+IsSound g (Reading r) = (areas : List (List ℕ)) × AreFirst g areas × IsRead g areas r.kept × IsCounted r
 IsSound g (WritingPages w) = IsWriting g w
 IsSound g (Resetting r) = IsResetting g r
 IsSound g (Done f) = (store : Store) × (logs : List (List ℕ)) × AreTexts g logs store × IsWhole g f.segments.items f.numbers.items store
@@ -183,14 +183,20 @@ module _ {D : Type 0} (a : Ghosts D) where
       ⊎ ((log ≡ r.next) × (r.is_closing ≡ true) × ((records : List Record) → IsLogText (slice_index_or r.logs.items log []) records → IsShut (a.now area) (a.dirty area) records))
       ⊎ ((r.next ≤ log) × (log ≡ r.next → r.is_closing ≡ false) × ReadsWords (slice_index_or r.logs.items log []) area)
 
-  -- no position of it is dirty, and where it is one of the first, which read as these bytes, it reads so
-  abbrev pub ReadsSo : List (List ℕ) → ℕ → D → Type 0
-  ReadsSo read k area = IsClean (a.dirty area) × (k < length read → slice_get read k ≡ Some (a.now area))
+  -- no position of it is dirty, and where its words are kept they are those that it reads as
+  pub record HasItsWords (logs : List (List ℕ)) (log : ℕ) (area : D) : Type 0 where
+    pub clean : IsClean (a.dirty area)
+    pub words_are : (words : List ℕ) → slice_get logs log ≡ Some words → words ≡ words_of (a.now area)
+
+  -- so with the pages of a segment
+  pub record HasItsPages (g : Geometry) (segments : List SegmentPages) (s : ℕ) (area : D) : Type 0 where
+    pub clean : IsClean (a.dirty area)
+    pub pages_are : (pages : SegmentPages) → slice_get segments s ≡ Some pages → AreKept (a.now area) g.pages pages
 
   -- what is known of the log of a node, of an area that is honest
   abbrev pub LogFits : Stage → ℕ → D → Type 0
   LogFits (Syncing synced) log area = log < synced → IsClean (a.dirty area)
-  LogFits (Reading read) log area = ReadsSo read.items log area
+  LogFits (Reading r) log area = HasItsWords r.kept.logs.items log area
   LogFits (WritingPages w) log area = ReadsWords (slice_index_or w.kept.logs.items log []) area
   LogFits (Resetting r) log area = LogIs r log area
   LogFits (Done f) log area = IsEmptied area
@@ -198,7 +204,7 @@ module _ {D : Type 0} (a : Ghosts D) where
   -- what is known of the area of a segment, counted from 0, which is honest
   abbrev pub SegmentFits : Geometry → Stage → ℕ → D → Type 0
   SegmentFits g (Syncing synced) s area = g.nodes + s < synced → IsClean (a.dirty area)
-  SegmentFits g (Reading read) s area = ReadsSo read.items (g.nodes + s) area
+  SegmentFits g (Reading r) s area = HasItsPages g r.kept.segments.items s area
   SegmentFits g (WritingPages w) s area =
       (pages : SegmentPages) → slice_get w.kept.segments.items s ≡ Some pages → RestsOrWrites g w s pages area
   SegmentFits g (Resetting r) s area = (pages : SegmentPages) → slice_get r.segments.items s ≡ Some pages → Rests g pages area

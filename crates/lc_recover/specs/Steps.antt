@@ -4,6 +4,7 @@ use Rattle.lc_record.specs.declared.geometry.Geometry.{Geometry}
 use Rattle.lc_page.specs.Writing.{calls_of}
 use Rattle.lc_page.specs.declared.writing.Writing.{Writing}
 use Rattle.lc_model.specs.Merge.{Page}
+use Rattle.lc_recover.specs.KeptAreas.{read_count}
 use Rattle.lc_recover.specs.Page.{pages_of}
 use Rattle.lc_recover.specs.Pages.{kept_pages}
 use Rattle.lc_recover.specs.Reads.{area_count}
@@ -32,7 +33,7 @@ resets_done r = 2 * r.next + (if r.is_closing then 1 else 0)
 -- how many steps are done
 abbrev pub steps_of : Geometry → Stage → ℕ
 steps_of g (Syncing synced) = synced
-steps_of g (Reading read) = area_count g + length read.items
+steps_of g (Reading r) = area_count g + read_count r
 steps_of g (WritingPages w) = first_steps g + writes_done w
 steps_of g (Resetting r) = first_steps g + 6 * r.written + resets_done r
 steps_of g (Done f) = first_steps g + 6 * f.written + 2 * g.nodes
@@ -44,7 +45,7 @@ all_pages w = w.written + length (pages_of (drop w.next w.merged.changes.items))
 -- how many pages are to be written in all, once all is merged
 abbrev pub pages_in : Stage → Option ℕ
 pages_in (Syncing synced) = None
-pages_in (Reading read) = None
+pages_in (Reading r) = None
 pages_in (WritingPages w) = Some (all_pages w)
 pages_in (Resetting r) = Some r.written
 pages_in (Done f) = Some f.written
@@ -52,7 +53,7 @@ pages_in (Done f) = Some f.written
 -- the pages that are still to be written, in order
 abbrev pub pages_left : Stage → List (ℕ × ℕ)
 pages_left (Syncing synced) = []
-pages_left (Reading read) = []
+pages_left (Reading r) = []
 pages_left (WritingPages w) = pages_of (drop w.next w.merged.changes.items)
 pages_left (Resetting r) = []
 pages_left (Done f) = []
@@ -60,7 +61,7 @@ pages_left (Done f) = []
 -- the pages of each segment as they are kept, once all is merged
 abbrev pub pages_kept : Stage → List (List Page)
 pages_kept (Syncing synced) = []
-pages_kept (Reading read) = []
+pages_kept (Reading r) = []
 pages_kept (WritingPages w) = map kept_pages w.kept.segments.items
 pages_kept (Resetting r) = map kept_pages r.segments.items
 pages_kept (Done f) = map kept_pages f.segments.items
@@ -68,7 +69,7 @@ pages_kept (Done f) = map kept_pages f.segments.items
 -- while logs are emptied one is left
 abbrev pub HasNext : Geometry → Stage → Type 0
 HasNext g (Syncing synced) = Unit {0}
-HasNext g (Reading read) = Unit {0}
+HasNext g (Reading r) = Unit {0}
 HasNext g (WritingPages w) = Unit {0}
 HasNext g (Resetting r) = r.next < g.nodes
 HasNext g (Done f) = Unit {0}
@@ -76,7 +77,7 @@ HasNext g (Done f) = Unit {0}
 -- no step is left
 abbrev pub IsOver : Stage → Type 0
 IsOver (Syncing synced) = ⊥
-IsOver (Reading read) = ⊥
+IsOver (Reading r) = ⊥
 IsOver (WritingPages w) = ⊥
 IsOver (Resetting r) = ⊥
 IsOver (Done f) = Unit {0}

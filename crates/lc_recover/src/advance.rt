@@ -1,10 +1,11 @@
 //! From one step of a recovery to the next.
-ghost use Rattle.std.specs.Prelude.{◌≡◌, ◌≢◌, ◌+◌, ◌*◌, ◌<◌, ◌≤◌, ◌⊎◌, ℕ, Some, None, false, true, length, map, IfOk, IfErr, OnOk, is_ok};
+ghost use Rattle.std.specs.Prelude.{◌≡◌, ◌≢◌, ◌+◌, ◌*◌, ◌<◌, ◌≤◌, ◌⊎◌, ℕ, List, Some, None, false, true, length, map, IfOk, IfErr, OnOk, is_ok};
 ghost use Rattle.lc_record.specs.Content.{Content};
 ghost use Rattle.lc_recover.specs.Fault.{IsRefusal};
+ghost use Rattle.lc_recover.specs.KeptAreas.{IsReadWhole, read_count};
 ghost use Rattle.lc_recover.specs.Merging.{IsMergedStage};
 ghost use Rattle.lc_recover.specs.Reads.{AreHonest, AllMergeTo, store_of};
-ghost use Rattle.lc_recover.specs.Recovery.{begun, recovering, Renews, IsGoing, IsMerged, IsMergeNext, MakesItsCall, TakesMemory};
+ghost use Rattle.lc_recover.specs.Recovery.{begun, recovering, HasPageToWrite, Renews, IsGoing, IsMerged, IsMergeNext, MakesItsCall, TakesMemory};
 ghost use Rattle.lc_recover.specs.Stopped.{IsStopped};
 ghost use Rattle.lc_recover.specs.Stage.{AreasFit, Fits};
 ghost use Rattle.lc_recover.specs.Steps.{first_steps, steps_of, all_pages, pages_in, HasNext, IsOver};
@@ -13,15 +14,17 @@ ghost use Rattle.lc_recover.specs.declared.stage.Stage.{Stage};
 
 use crate::finished::Finished;
 use crate::log_resets::LogResets;
-use crate::merging::merge_read;
+use crate::merge::merge;
 use crate::page_steps::write_next;
 use crate::page_writes::PageWrites;
+use crate::read_areas::ReadAreas;
+use crate::reading::read_area;
 use crate::reset_steps::reset_next;
 use crate::stage::Stage;
 use crate::stopped::Stopped;
-use crate::syncing::{read_area, sync_area};
+use crate::syncing::sync_area;
 use lc_disk::{Area, DeviceFault};
-use lc_record::{Geometry, Items};
+use lc_record::Geometry;
 use std::alloc::Global;
 
 /// Makes the next step.
@@ -56,13 +59,15 @@ pub(crate) fn advance<D: Area>(
     ensures refused { IfErr result (λ stopped. IsMergeNext (recovering geometry.now areas.old stage) → AreHonest D.Area areas.old
         → IsRefusal (store_of geometry.now (map D.now areas.old)) stopped.fault) }
     ensures merge_fault { IfErr result (λ stopped. IsMergeNext (recovering geometry.now areas.old stage) → stopped.fault ≢ Failed) }
+    ensures no_memory_merged { IfErr result (λ stopped. stopped.fault ≡ NoMemory → IsMergeNext (recovering geometry.now areas.old stage)
+        → AreHonest D.Area areas.old → HasPageToWrite (store_of geometry.now (map D.now areas.old))) }
     ensures merges { (content : Content) (numbers : ℕ → ℕ) → AreHonest D.Area areas.new
         → AllMergeTo D.Area geometry.now areas.old content numbers → AllMergeTo D.Area geometry.now areas.new content numbers }
 {
     match stage {
         Stage::Syncing(synced) => Ok(sync_step(alloc, geometry, areas, synced)?),
         Stage::Reading(read) => {
-            if read.len() < areas.len() {
+            if read.count() < areas.len() {
                 return read_step(alloc, geometry, areas, read);
             }
             merge_step(alloc, geometry, areas, read)
@@ -97,7 +102,7 @@ pub(crate) fn sync_step<D: Area>(
     if synced + 1 < areas.len() {
         return Ok(Stage::Syncing(synced + 1));
     }
-    Ok(Stage::Reading(Vec::new(alloc)))
+    Ok(Stage::Reading(ReadAreas::new(alloc)))
 }
 
 /// Reads the next area. Where there is no memory nothing has changed.
@@ -105,10 +110,10 @@ pub(crate) fn read_step<D: Area>(
     alloc: Global,
     geometry: &Geometry,
     areas: &mut [D],
-    read: Vec<Items<u8>>,
+    read: ReadAreas,
 ) -> Result<Stage, Stopped>
     requires fits { Fits D.Area geometry.now (Stage.Reading read) areas.old }
-    requires left { length read.items < length areas.old }
+    requires left { read_count read < length areas.old }
     ensures fits { IfOk result (λ stage. Fits D.Area geometry.now stage areas.new) }
     ensures next { IfOk result (HasNext geometry.now) }
     ensures steps { IfOk result (λ stage. steps_of geometry.now stage ≡ steps_of geometry.now (Stage.Reading read) + 1) }
@@ -130,25 +135,30 @@ pub(crate) fn read_step<D: Area>(
     }
 }
 
-/// Merges what was read of all areas. Where there is no memory nothing has changed.
+/// Merges what was read of all areas. Memory is wanted only where some page is to be written; where there is none the
+/// merge may be tried again.
 pub(crate) fn merge_step<D: Area>(
     alloc: Global,
     geometry: &Geometry,
     areas: &[D],
-    read: Vec<Items<u8>>,
+    read: ReadAreas,
 ) -> Result<Stage, Stopped>
     requires fits { Fits D.Area geometry.now (Stage.Reading read) areas.now }
-    requires all { length read.items ≡ length areas.now }
+    requires all { read_count read ≡ length areas.now }
     ensures fits { IfOk result (λ stage. Fits D.Area geometry.now stage areas.now) }
     ensures next { IfOk result (HasNext geometry.now) }
     ensures steps { IfOk result (λ stage. steps_of geometry.now stage ≡ steps_of geometry.now (Stage.Reading read) + 1) }
-    ensures merged { IfOk result (IsMergedStage geometry.now read.items) }
+    ensures merged { IfOk result (λ stage. (bytes : List (List ℕ)) → IsReadWhole geometry.now bytes read → IsMergedStage geometry.now bytes stage) }
     ensures few { IfOk result (λ stage. (pages : ℕ) → pages_in stage ≡ Some pages → pages ≤ geometry.now.segments * geometry.now.pages) }
     ensures stopped { IfErr result (IsStopped D.Area geometry.now (Stage.Reading read) areas.now areas.now) }
-    ensures refused { IfErr result (λ stopped. IsRefusal (store_of geometry.now read.items) stopped.fault) }
+    ensures refused { IfErr result (λ stopped. (bytes : List (List ℕ)) → IsReadWhole geometry.now bytes read
+        → IsRefusal (store_of geometry.now bytes) stopped.fault) }
+    ensures no_memory { IfErr result (λ stopped. stopped.fault ≡ NoMemory → (bytes : List (List ℕ)) → IsReadWhole geometry.now bytes read
+        → HasPageToWrite (store_of geometry.now bytes)) }
 {
-    match merge_read(alloc, geometry, read.as_slice()) {
-        Ok(writes) => Ok(Stage::Writing(writes)),
+    let mut read = read;
+    match merge(alloc, &mut read) {
+        Ok(changes) => Ok(Stage::Writing(PageWrites::new(read, changes))),
         Err(fault) => Err(Stopped::new(read, fault)),
     }
 }

@@ -1,5 +1,5 @@
 //! The index of the changes: which records are to be put on which pages.
-ghost use Rattle.std.specs.Prelude.{◌≡◌, ◌⊎◌, ℕ, ◌+◌, ◌*◌, ◌<◌, ◌≤◌, [], ◌∷◌, ◌++◌, List, All, Contains, IfOk, length, map};
+ghost use Rattle.std.specs.Prelude.{◌≡◌, ◌⊎◌, ℕ, ◌+◌, ◌*◌, ◌<◌, ◌≤◌, [], ◌∷◌, ◌++◌, List, All, Contains, IfOk, OnErr, length, map};
 ghost use Rattle.lc_record.specs.Newest.{number_or_zero};
 ghost use Rattle.lc_record.specs.Record.{IsCanonical};
 ghost use Rattle.lc_page.specs.PageVector.{entry_at};
@@ -7,7 +7,8 @@ ghost use Rattle.lc_model.specs.Merge.{AreOnce};
 ghost use Rattle.lc_recover.specs.Pages.{kept_pages};
 ghost use Rattle.lc_recover.specs.Kept.{IsIndex};
 ghost use Rattle.lc_recover.specs.Reading.{store_of};
-ghost use Rattle.lc_recover.specs.Changes.{Adds, AreOf, Covers, IsOf, IsOnRange, Seat, Touches, on_page, seat, seats_from, seats_of};
+ghost use Rattle.lc_recover.specs.declared.change.Change.{Change};
+ghost use Rattle.lc_recover.specs.Changes.{Adds, AreOf, Covers, HasOf, IsOf, IsOnRange, Seat, SomeIsOf, Touches, on_page, seat, seats_from, seats_of};
 
 use crate::change::Change;
 use crate::page_count::{PAGE_LEN, pages_of};
@@ -18,14 +19,15 @@ use lc_record::{Items, Span, View};
 use std::alloc::{AllocError, Global};
 
 /// The records that are newer than pages that they have bytes on, ascending by segment, page and number. Each record is
-/// read once; then the changes are sorted.
+/// read once; then the changes are sorted. Memory is wanted only where there is a change.
 pub(crate) fn index(
     alloc: Global,
     logs: &[Items<u64>],
     segments: &[SegmentPages],
 ) -> Result<Vec<Change>, AllocError>
     requires { All (λ (s : SegmentPages). length s.texts ≤ 1024) segments.now }
-    ensures { IfOk result (λ changes. AreOnce (store_of logs.now segments.now) → IsIndex logs.now (store_of logs.now segments.now) changes.items) }
+    ensures index { IfOk result (λ changes. AreOnce (store_of logs.now segments.now) → IsIndex logs.now (store_of logs.now segments.now) changes.items) }
+    ensures memory { OnErr result (SomeIsOf (map kept_pages segments.now) (seats_from 0 logs.now)) }
 {
     let mut changes = changes_of(alloc, logs, segments)?;
     changes.sort_unstable();
@@ -39,7 +41,8 @@ fn changes_of(
     segments: &[SegmentPages],
 ) -> Result<Vec<Change>, AllocError>
     requires { All (λ (s : SegmentPages). length s.texts ≤ 1024) segments.now }
-    ensures { IfOk result (λ changes. AreOf (map kept_pages segments.now) (seats_from 0 logs.now) changes.items) }
+    ensures changes { IfOk result (λ changes. AreOf (map kept_pages segments.now) (seats_from 0 logs.now) changes.items) }
+    ensures memory { OnErr result (SomeIsOf (map kept_pages segments.now) (seats_from 0 logs.now)) }
 {
     let mut changes = Vec::new(alloc);
     for (log, words) in logs.iter().enumerate() {
@@ -55,8 +58,9 @@ fn add_log(
     segments: &[SegmentPages],
 ) -> Result<(), AllocError>
     requires { All (λ (s : SegmentPages). length s.texts ≤ 1024) segments.now }
-    ensures { IfOk result (λ _. (seats : List Seat) → AreOf (map kept_pages segments.now) seats changes.old.items →
+    ensures changes { IfOk result (λ _. (seats : List Seat) → AreOf (map kept_pages segments.now) seats changes.old.items →
         AreOf (map kept_pages segments.now) (seats ++ seats_of log words.now) changes.new.items) }
+    ensures memory { OnErr result (SomeIsOf (map kept_pages segments.now) (seats_of log words.now)) }
 {
     for (place, view) in records_of(words) {
         add_record(changes, log, place, &view, segments)?;
@@ -75,6 +79,7 @@ fn add_record(
     requires few_pages { All (λ (s : SegmentPages). length s.texts ≤ 1024) segments.now }
     ensures adds { IfOk result (λ _. Adds (IsOf (map kept_pages segments.now) (seat log place view.now)) changes.old.items changes.new.items) }
     ensures covers { IfOk result (λ _. Covers (map kept_pages segments.now) (seat log place view.now) changes.new.items) }
+    ensures memory { OnErr result (HasOf (map kept_pages segments.now) (seat log place view.now)) }
 {
     for index in 0..view.range_count() {
         if let Some(span) = view.range(index) {
@@ -118,6 +123,7 @@ fn add_range(
     ensures adds { IfOk result (λ _. Adds (IsOnRange change span texts.now) changes.old.items changes.new.items) }
     ensures covers { IfOk result (λ _. (page : ℕ) → page < length texts.now → Touches span page →
         (entry_at texts.now page).stable < change.seq → Contains changes.new.items (on_page change page)) }
+    ensures memory { OnErr result ((c : Change) × IsOnRange change span texts.now c) }
 {
     for page in first_page(span)..behind_page(span) {
         if (page as usize) < texts.len() && texts.stable(page) < change.seq {

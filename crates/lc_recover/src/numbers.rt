@@ -1,5 +1,5 @@
 //! The number of each segment.
-ghost use Rattle.std.specs.Prelude.{◌≡◌, ◌<◌, ◌≤◌, ◌^◌, ℕ, All, IfOk, IfErr, OnOk, OnErr, map, length};
+ghost use Rattle.std.specs.Prelude.{◌≡◌, ◌≤◌, ◌^◌, ℕ, All, IfOk, IfErr, OnOk, take, length};
 ghost use Rattle.lc_model.specs.Merge.{IsLeastPair};
 ghost use Rattle.lc_recover.specs.Locks.{AreInOrder, StandsTwice, IsNumbering, IsMissing, greatest_kept};
 ghost use Rattle.lc_recover.specs.declared.fault.RecoverFault.TheVariants.{Twice, Gap};
@@ -7,7 +7,10 @@ ghost use Rattle.lc_recover.specs.declared.fault.RecoverFault.TheVariants.{Twice
 use crate::RecoverFault;
 use crate::lock_number::LockNumber;
 use crate::segment_pages::SegmentPages;
-use std::alloc::{AllocError, Global};
+use lc_record::MAX_SEGMENT;
+
+// How many segments a store has at most.
+const SEGMENTS: usize = MAX_SEGMENT as usize;
 
 /// Refuses the least number of a segment that stands twice among these, which are in order.
 pub(crate) fn once(numbers: &[LockNumber]) -> Result<(), RecoverFault>
@@ -26,20 +29,8 @@ pub(crate) fn once(numbers: &[LockNumber]) -> Result<(), RecoverFault>
     Ok(())
 }
 
-/// The greatest sequence of each segment's pages, from segment 1 on. Without a segment no memory is asked for.
-pub(crate) fn kept_numbers(alloc: Global, segments: &[SegmentPages]) -> Result<Vec<u64>, AllocError>
-    requires { All (λ (s : SegmentPages). length s.texts ≤ 1024) segments.now }
-    ensures kept { IfOk result (λ kept. kept.items ≡ map greatest_kept segments.now) }
-    ensures memory { OnErr result (0 < length segments.now) }
-{
-    let mut kept = Vec::with_capacity(alloc, segments.len())?;
-    for segment in segments {
-        kept.push(greatest_sequence(segment))?;
-    }
-    Ok(kept)
-}
-
-fn greatest_sequence(segment: &SegmentPages) -> u64
+/// The greatest sequence of a segment's pages.
+pub(crate) fn greatest_sequence(segment: &SegmentPages) -> u64
     requires { length segment.now.texts ≤ 1024 }
     ensures { result ≡ greatest_kept segment.now }
 {
@@ -50,9 +41,24 @@ fn greatest_sequence(segment: &SegmentPages) -> u64
     greatest
 }
 
-/// Counts each segment's number up from its pages' by the numbers of the records, which are in order. Refuses the
-/// least number that is missing below one that is there.
-pub(crate) fn count_up(counts: &mut [u64], numbers: &[LockNumber]) -> Result<(), RecoverFault>
+/// The number of each segment, from segment 1 on, and zeros behind them: counted up from those of the pages by the numbers
+/// of the records, which are in order. Refuses the least number that is missing below one that is there.
+pub(crate) fn counted(kept: &[u64], numbers: &[LockNumber]) -> Result<[u64; SEGMENTS], RecoverFault>
+    requires few_segments { length kept.now ≤ 16 }
+    requires order { AreInOrder numbers.now }
+    requires each { All (λ (n : LockNumber). (1 ≤ n.segment) × (n.segment ≤ length kept.now)) numbers.now }
+    requires few { All (λ (n : LockNumber). n.seq ≤ 2 ^ 60) numbers.now }
+    ensures gap { IfErr result (λ fault. (segment : ℕ) × (seq : ℕ) × (fault ≡ Gap segment seq) × IsLeastPair (IsMissing kept.now numbers.now) segment seq) }
+    ensures counted { IfOk result (λ counts. IsNumbering kept.now numbers.now (take (length kept.now) counts)) }
+{
+    let mut counts = [0; SEGMENTS];
+    counts[..kept.len()].copy_from_slice(kept);
+    count_up(&mut counts[..kept.len()], numbers)?;
+    Ok(counts)
+}
+
+// Counts each segment's number up.
+fn count_up(counts: &mut [u64], numbers: &[LockNumber]) -> Result<(), RecoverFault>
     requires order { AreInOrder numbers.now }
     requires each { All (λ (n : LockNumber). (1 ≤ n.segment) × (n.segment ≤ length counts.old)) numbers.now }
     requires few { All (λ (n : LockNumber). n.seq ≤ 2 ^ 60) numbers.now }

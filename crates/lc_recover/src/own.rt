@@ -5,6 +5,7 @@ ghost use Rattle.lc_log.specs.InPlace.{records_in};
 ghost use Rattle.lc_model.specs.Merge.{AreOwn};
 ghost use Rattle.lc_recover.specs.Fault.{IsRefusal};
 ghost use Rattle.lc_recover.specs.Reading.{store_of};
+ghost use Rattle.lc_recover.specs.declared.fault.RecoverFault.TheVariants.{NoMemory};
 ghost use Rattle.lc_recover.specs.declared.segment_pages.SegmentPages.{SegmentPages};
 
 use crate::RecoverFault;
@@ -15,6 +16,7 @@ use lc_record::Items;
 pub(crate) fn own(logs: &[Items<u64>]) -> Result<(), RecoverFault>
     requires { length logs.now ≤ 8 }
     ensures refused { IfErr result (λ fault. (segments : List SegmentPages) → IsRefusal (store_of logs.now segments) fault) }
+    ensures named { IfErr result (λ fault. fault ≢ NoMemory) }
     ensures own { OnOk result ((segments : List SegmentPages) → AreOwn (store_of logs.now segments)) }
 {
     for (area, log) in logs.iter().enumerate() {

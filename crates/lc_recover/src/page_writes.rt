@@ -1,8 +1,10 @@
 //! The pages that records are newer than, being written.
-ghost use Rattle.std.specs.Prelude.{◌≡◌, ◌≤◌, ◌^◌};
+ghost use Rattle.std.specs.Prelude.{◌≡◌, ◌≤◌, ◌^◌, None};
 
+use crate::change::Change;
 use crate::kept::Kept;
 use crate::merged::Merged;
+use crate::read_areas::ReadAreas;
 use lc_page::Writing;
 
 /// How many device calls the write of a page takes.
@@ -23,6 +25,28 @@ pub(crate) struct PageWrites {
 
 impl PageWrites {
     ghost use Rattle.lc_recover.specs.Steps.{writes_done};
+
+    /// No page is written yet of areas that were read so, with these changes.
+    pub(crate) fn new(read: ReadAreas, changes: Vec<Change>) -> PageWrites
+        ensures { result ≡ record {
+          kept = read.kept;
+          merged = record { numbers = read.numbers; changes = changes };
+          next = 0;
+          written = 0;
+          current = None;
+        } }
+    {
+        PageWrites {
+            kept: read.kept,
+            merged: Merged {
+                numbers: read.numbers,
+                changes,
+            },
+            next: 0,
+            written: 0,
+            current: None,
+        }
+    }
 
     /// How many calls of the writes are done.
     pub(crate) fn calls(&self) -> u64

@@ -44,7 +44,7 @@ impl<D: Area> Model for Recovery<D> {
 
 impl<D: Area> Recovery<D> {
     ghost use Rattle.lc_recover.specs.Recovered.{IsFinished, page_read};
-    ghost use Rattle.lc_recover.specs.Recovery.{Recovering, all_steps, begun, IsDone, IsLast, IsMergeNext, IsMerged, IsReadFrom, MakesItsCall, Renews, TakesMemory, Tells};
+    ghost use Rattle.lc_recover.specs.Recovery.{Recovering, all_steps, begun, HasPageToWrite, IsDone, IsLast, IsMergeNext, IsMerged, IsReadFrom, MakesItsCall, Renews, TakesMemory, Tells};
 
     /// Begins the recovery of these areas. It takes no memory and calls no area. Where one has a length that is not
     /// that of the geometry, is missing, or is too many, the least such index is named, and the areas come back.
@@ -67,8 +67,8 @@ impl<D: Area> Recovery<D> {
         })
     }
 
-    /// Makes the next step, until one has answered `Recovered`. Memory is wanted by the steps that read an area and by
-    /// the merge alone.
+    /// Makes the next step, until one has answered `Recovered`. Memory is wanted by the steps that read an area, before
+    /// they call it, and by the merge alone, and by that only where some page is to be written.
     ///
     /// # Errors
     ///
@@ -104,6 +104,9 @@ impl<D: Area> Recovery<D> {
         ensures merged { OnOk result (IsMergeNext self.old → AreHonest D.Area self.old.areas → IsMerged D.Area self.new) }
         ensures refused { IfErr result (λ fault. IsMergeNext self.old → AreHonest D.Area self.old.areas
             → IsRefusal (store_of self.old.geometry (map D.now self.old.areas)) fault) }
+        // It wants memory only where it is not refused and some page is to be written.
+        ensures no_memory_merged { result ≡ Err NoMemory → IsMergeNext self.old → AreHonest D.Area self.old.areas
+            → HasPageToWrite (store_of self.old.geometry (map D.now self.old.areas)) }
         ensures merge_fault { IfErr result (λ fault. IsMergeNext self.old → fault ≢ Failed) }
         ensures accepted { (content : Content) (numbers : ℕ → ℕ) → AreHonest D.Area self.old.areas
             → AllMergeTo D.Area self.old.geometry self.old.areas content numbers
@@ -162,7 +165,7 @@ impl<D: Area> Recovery<D> {
         let first = 2 * areas + 1;
         match &self.stage {
             Stage::Syncing(synced) => *synced as u64,
-            Stage::Reading(read) => areas + read.len() as u64,
+            Stage::Reading(read) => areas + read.count() as u64,
             Stage::Writing(writes) => first + writes.calls(),
             Stage::Resetting(resets) => first + PAGE_CALLS * resets.written + resets.calls(),
             Stage::Done(finished) => {

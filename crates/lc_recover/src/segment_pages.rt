@@ -4,8 +4,16 @@ ghost use Rattle.lc_disk.specs.Area.{overlaid};
 ghost use Rattle.lc_page.specs.PageVector.{entry_at, entry_text, settled};
 ghost use Rattle.lc_recover.specs.Pages.{AreKept, bytes_of_page};
 
+use crate::buffers::zeros;
 use lc_page::{PAGE_BYTES, PageText, PageVector, page_bytes, read_page};
 use std::alloc::{AllocError, Global};
+
+// What an area says of a page that it does not have.
+const NO_PAGE: PageText = PageText {
+    seq: 0,
+    slot: None,
+    gates: [false, false],
+};
 
 /// The pages of a segment: what the disk says of each, and their bytes one after another, 256 of each.
 #[derive(Drop)]
@@ -15,21 +23,29 @@ pub(crate) struct SegmentPages {
 }
 
 impl SegmentPages {
-    /// So many pages of an area that reads as these bytes.
-    pub(crate) fn new(alloc: Global, area: &[u8], pages: u32) -> Result<SegmentPages, AllocError>
-        requires { 2 * 272 * pages ≤ length area.now }
-        ensures { IfOk result (AreKept area.now pages) }
+    /// Room for so many pages.
+    pub(crate) fn with_pages(alloc: Global, pages: u32) -> Result<SegmentPages, AllocError>
+        ensures texts { IfOk result (λ s. length s.texts ≡ pages) }
+        ensures bytes { IfOk result (λ s. length s.bytes.items ≡ pages * 256) }
     {
-        let mut texts = Vec::with_capacity(alloc, pages as usize)?;
-        let mut bytes = Vec::with_capacity(alloc, PAGE_BYTES * pages as usize)?;
-        for page in 0..pages {
-            texts.push(read_page(area, page))?;
-            bytes.extend_from_slice(page_bytes(area, page))?;
-        }
+        let texts = vec![in alloc; NO_PAGE; pages as usize]?;
         Ok(SegmentPages {
             texts: PageVector::new(alloc, &texts)?,
-            bytes,
+            bytes: zeros(alloc, PAGE_BYTES * pages as usize)?,
         })
+    }
+
+    /// Takes over as many pages of an area that reads as these bytes.
+    pub(crate) fn fill(&mut self, area: &[u8])
+        requires few { length self.old.texts ≤ 1024 }
+        requires long { 2 * 272 * length self.old.texts ≤ length area.now }
+        requires room { length self.old.bytes.items ≡ length self.old.texts * 256 }
+        ensures { AreKept area.now (length self.old.texts) self.new }
+    {
+        for page in 0..self.texts.len() as u32 {
+            self.texts.renew(page, read_page(area, page));
+            self.put(page, page_bytes(area, page));
+        }
     }
 
     /// The bytes of a page.
@@ -58,6 +74,16 @@ impl SegmentPages {
         ensures bytes { self.new.bytes.items ≡ overlaid self.old.bytes.items (page * 256) bytes.now }
     {
         self.texts.settle(page, number);
+        self.put(page, bytes);
+    }
+
+    // Puts these bytes in the place of a page's.
+    fn put(&mut self, page: u32, bytes: &[u8])
+        requires len { length bytes.now ≡ 256 }
+        requires room { page * 256 + 256 ≤ length self.old.bytes.items }
+        ensures texts { self.new.texts ≡ self.old.texts }
+        ensures bytes { self.new.bytes.items ≡ overlaid self.old.bytes.items (page * 256) bytes.now }
+    {
         let start = page as usize * PAGE_BYTES;
         self.bytes[start..start + PAGE_BYTES].copy_from_slice(bytes);
     }

@@ -2,15 +2,15 @@
 use crate::finished::Finished;
 use crate::log_resets::LogResets;
 use crate::page_writes::PageWrites;
-use lc_record::Items;
+use crate::read_areas::ReadAreas;
 
 /// Which part of a recovery is under way, and how far it is.
 #[derive(Drop)]
 pub(crate) enum Stage {
     /// This many areas are synced.
     Syncing(usize),
-    /// The first areas read as these bytes.
-    Reading(Vec<Items<u8>>),
+    /// All areas are synced, and this was read of the first ones.
+    Reading(ReadAreas),
     /// All is merged.
     Writing(PageWrites),
     /// All pages are written.

@@ -4,9 +4,9 @@ ghost use Rattle.lc_recover.specs.declared.fault.RecoverFault.TheVariants.{NoMem
 ghost use Rattle.lc_recover.specs.declared.stage.Stage.{Stage};
 
 use crate::RecoverFault;
+use crate::read_areas::ReadAreas;
 use crate::stage::Stage;
 use lc_disk::DeviceFault;
-use lc_record::Items;
 
 /// A step of a recovery that was not made: why, and where to go on.
 #[derive(Drop)]
@@ -28,7 +28,7 @@ impl From<DeviceFault> for Stopped {
 
 impl Stopped {
     /// Where memory was wanted the same step may be tried again, else the first sync is next.
-    pub(crate) fn new(read: Vec<Items<u8>>, fault: RecoverFault) -> Stopped
+    pub(crate) fn new(read: ReadAreas, fault: RecoverFault) -> Stopped
         ensures fault { result.fault ≡ fault }
         ensures kept { fault ≡ NoMemory → result.stage ≡ Stage.Reading read }
         ensures again { (fault ≡ NoMemory → ⊥) → result.stage ≡ Stage.Syncing 0 }

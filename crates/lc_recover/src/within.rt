@@ -1,5 +1,5 @@
 //! Whether the records lie within the segments.
-ghost use Rattle.std.specs.Prelude.{◌≡◌, ◌≤◌, ◌<◌, ◌+◌, ◌*◌, [], All, Contains, IfErr, OnOk, MatchBool, List, length, map};
+ghost use Rattle.std.specs.Prelude.{◌≡◌, ◌≢◌, ◌≤◌, ◌<◌, ◌+◌, ◌*◌, [], All, Contains, IfErr, OnOk, MatchBool, List, length, map};
 ghost use Rattle.lc_record.specs.Content.{segment_of};
 ghost use Rattle.lc_record.specs.GrammarVersion.{end_of};
 ghost use Rattle.lc_record.specs.Record.{IsCanonical, span_of};
@@ -11,6 +11,7 @@ ghost use Rattle.lc_model.specs.Merge.{AreOwn, AreWithin, IsOutside};
 ghost use Rattle.lc_recover.specs.Fault.{IsRefusal};
 ghost use Rattle.lc_recover.specs.Pages.{kept_pages};
 ghost use Rattle.lc_recover.specs.Reading.{store_of};
+ghost use Rattle.lc_recover.specs.declared.fault.RecoverFault.TheVariants.{NoMemory};
 
 use crate::RecoverFault;
 use crate::page_count::{PAGE_LEN, page_count};
@@ -24,6 +25,7 @@ pub(crate) fn within(logs: &[Items<u64>], segments: &[SegmentPages]) -> Result<(
     requires few_logs { length logs.now ≤ 8 }
     requires few_pages { All (λ (s : SegmentPages). length s.texts ≤ 1024) segments.now }
     ensures refused { IfErr result (λ fault. AreOwn (store_of logs.now segments.now) → IsRefusal (store_of logs.now segments.now) fault) }
+    ensures named { IfErr result (λ fault. fault ≢ NoMemory) }
     ensures within { OnOk result (AreWithin (store_of logs.now segments.now)) }
 {
     for (area, log) in logs.iter().enumerate() {

@@ -33,8 +33,8 @@ where
     ///
     /// A name of a store's file above those of the geometry (up to `log7` and `seg16`) that is taken is one area more than the
     /// geometry has, so that a store is not run with fewer nodes or segments than it has. Where a fault has left its mark,
-    /// each file is copied and the copy put in its place, unless the areas are not those of the geometry: then only what is on
-    /// the device is read.
+    /// each file is copied and the copy put in its place, so that only what is on the device is read; where the areas are not
+    /// those of the geometry nothing is copied.
     ///
     /// # Errors
     ///

@@ -2,8 +2,11 @@ use Rattle.std.proofs.Common.{ℕ, ◌∙◌, ap, inl, inr, length, refl, subst,
 use Rattle.lc_model.specs.State.{Setting}
 use Rattle.lc_core.specs.Faults.{phase_failures}
 use Rattle.lc_core.specs.Headline.{Holds}
+use Rattle.lc_core.specs.Observed.{observed}
+use Rattle.lc_core.specs.Stops.{HasAreas}
+use Rattle.lc_core.specs.declared.phase.Phase.{Phase}
 use Rattle.lc_core.proofs.Bases.{with_numbers, with_numbers-numbers, with_numbers-steps}
-use Rattle.lc_core.proofs.HeadlineHolds.{failures_are, failures_in, holds, settles}
+use Rattle.lc_core.proofs.HeadlineHolds.{all_of, failures_are, failures_in, holds, settles}
 use Rattle.lc_recover.specs.Reads.{AllMergeTo}
 use Rattle.lc_core.proofs.headline.run_areas.Goals as goal
 
@@ -11,11 +14,11 @@ pub returns-clause-headline : goal.returns-clause-headline
 returns-clause-headline g c = λ start numbers honest merges.
     let m : Setting = record { geometry = c.args.geometry; start = start } in
     let x = with_numbers c.args.geometry numbers in
-    subst (λ (failures : ℕ). Holds g.D.Area m numbers (take (length c.run-ran.result.replies.items) c.args.events.now) c.run-ran.result.replies.items failures c.run-ran.new.self)
+    subst (λ (failures : ℕ). Holds g.D.Area m numbers (take (length c.run-ran.result.replies.items) c.args.events.now) c.run-ran.result.replies.items failures (observed g.D.Area c.run-ran.new.self))
     (ap (λ phase. failures_in (phase_failures g.D.Area phase)) c.in_ok-world.ensures.down ∙ failures_are g.D.Area c.args.areas.items)
     (holds g.D.Area m x numbers c.in_ok-world.world c.run-ran.new.self _ c.run-ran.result.replies.items (with_numbers-numbers c.args.geometry numbers)
     (c.in_ok-world.ensures.fits m x refl honest
-    (subst (λ (n : ℕ → ℕ). AllMergeTo g.D.Area c.args.geometry c.args.areas.items start n) (sym (with_numbers-numbers c.args.geometry numbers)) merges)
+    (subst (λ (n : ℕ → ℕ). AllMergeTo g.D.Area c.args.geometry c.args.areas.items start n) (sym (with_numbers-numbers c.args.geometry numbers)) (all_of g.D.Area c.args.geometry c.args.areas.items start numbers merges))
     (with_numbers-steps c.args.geometry numbers)) c.run-ran.ensures.follows c.run-ran.ensures.faults)
 
 pub returns-clause-fits : goal.returns-clause-fits
@@ -33,3 +36,8 @@ returns-clause-asks g c = λ wants. elim (c.run-ran.ensures.asks wants) [
         next.1 m _ x (c.in_ok-world.ensures.fits m x refl honest merges none)),
   )
 ]
+
+pub returns-clause-calls : goal.returns-clause-calls
+returns-clause-calls g c = λ shape news gives.
+    c.run-ran.ensures.calls c.args.geometry shape c.args.areas.items news
+    (subst (λ (p : Phase g.row.D.Denot g.D.Area). HasAreas g.D.Area p c.args.geometry c.args.areas.items) (sym c.in_ok-world.ensures.down) (refl, refl)) gives

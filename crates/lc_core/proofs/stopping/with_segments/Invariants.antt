@@ -1,4 +1,4 @@
-use Rattle.std.proofs.Common.{◌≡◌, ◌+◌, ◌++◌, drop, length, take, vec_capacity, vec_len}
+use Rattle.std.proofs.Common.{◌≡◌, ◌+◌, ◌++◌, drop, take, vec_capacity, vec_len}
 use Rattle.lc_core.specs.Pages.{areas_of}
 use Rattle.lc_core.proofs.stopping.with_segments.Given as goal
 

@@ -1,7 +1,10 @@
-use Rattle.std.proofs.Common.{◌≡◌, length, false, true, sym, ap, subst, arith, inr}
+use Rattle.std.proofs.Common.{◌≡◌, length, map, false, true, sym, ap, subst, arith, inr}
 use Rattle.std.specs.Prelude.{Result, Ok, Err, IfOk, IfErr}
 use Rattle.std.proofs.lemmas.Result.{err_from_is_err_and}
-use Rattle.lc_recover.proofs.Going.{merged-now, refused-now}
+use Rattle.lc_recover.proofs.Going.{merged-now, read-now}
+use Rattle.lc_recover.proofs.ReadLemmas.{count-read}
+use Rattle.lc_recover.specs.KeptAreas.{IsReadWhole, read_count}
+use Rattle.lc_recover.specs.Reads.{AreHonest}
 use Rattle.lc_recover.specs.declared.stage.Stage.{Stage}
 use Rattle.lc_recover.specs.declared.stopped.Stopped.{Stopped}
 use Rattle.lc_recover.specs.declared.stage.Stage.TheVariants.{Reading}
@@ -21,16 +24,30 @@ module _ (g : Over) (c : goal.After-merge_step g) where
   going : IsGoing g.D.Area c.args.geometry.now (Reading c.in-Reading.read) c.args.areas.now
   going = subst (λ (s : Stage). IsGoing g.D.Area c.args.geometry.now s c.args.areas.now) c.in-Reading.is c.requires.going
 
-  all : length c.in-Reading.read.items ≡ length c.args.areas.now
-  all = omega (arith, c.if-len-areas.false, c.len.ensures, c.in-Reading.read.ok, going.fits.0.count, going.fits.1.0)
+  all : read_count c.in-Reading.read ≡ length c.args.areas.now
+  all = omega (arith, c.if-count-areas.false, c.count.ensures, count-read c.args.geometry.now going.fits.1.0 c.in-Reading.read going.fits.1.2, going.fits.0.count, going.fits.1.1.count)
 
-pub returns-else-len-areas-clause-merged : goal.returns-else-len-areas-clause-merged
-returns-else-len-areas-clause-merged g c =
-    if_ok c.merge_step.result _ _ c.merge_step.ensures.merged (λ next merged here honest. merged-now g.D.Area c.args.geometry.now c.args.areas.now c.in-Reading.read next (going g c).fits.0 honest (all g c) merged)
+  whole : AreHonest g.D.Area c.args.areas.now → IsReadWhole c.args.geometry.now (map g.D.Area.now c.args.areas.now) c.in-Reading.read
+  whole honest = read-now g.D.Area c.args.geometry.now c.args.areas.now c.in-Reading.read going.fits honest all
 
-pub returns-else-len-areas-clause-refused : goal.returns-else-len-areas-clause-refused
-returns-else-len-areas-clause-refused g c =
-    if_err c.merge_step.result _ _ c.merge_step.ensures.refused (λ stopped refusal here honest. refused-now g.D.Area c.args.geometry.now c.args.areas.now c.in-Reading.read stopped.fault (going g c).fits.0 honest (all g c) refusal)
+pub returns-else-count-areas-clause-merged : goal.returns-else-count-areas-clause-merged
+returns-else-count-areas-clause-merged g c =
+    if_ok c.merge_step.result _ _ c.merge_step.ensures.merged
+    (λ next merged here honest. merged-now g.D.Area c.args.geometry.now c.args.areas.now next (merged (map g.D.Area.now c.args.areas.now) (whole g c honest)))
+
+pub returns-else-count-areas-clause-refused : goal.returns-else-count-areas-clause-refused
+returns-else-count-areas-clause-refused g c =
+    if_err c.merge_step.result _ _ c.merge_step.ensures.refused (λ stopped refusal here honest. refusal (map g.D.Area.now c.args.areas.now) (whole g c honest))
+
+pub returns-else-count-areas-clause-no_memory_merged : goal.returns-else-count-areas-clause-no_memory_merged
+returns-else-count-areas-clause-no_memory_merged g c =
+    if_err c.merge_step.result _ _ c.merge_step.ensures.no_memory (λ stopped behind wants here honest. behind wants (map g.D.Area.now c.args.areas.now) (whole g c honest))
+
+pub count-requires : goal.count-requires
+count-requires g c =
+    let going : IsGoing g.D.Area c.args.geometry.now (Reading c.in-Reading.read) c.args.areas.now =
+    subst (λ (s : Stage). IsGoing g.D.Area c.args.geometry.now s c.args.areas.now) c.in-Reading.is c.requires.going in
+    omega (arith, count-read c.args.geometry.now going.fits.1.0 c.in-Reading.read going.fits.1.2, going.fits.1.1.count, c.args.geometry.now.few_nodes, c.args.geometry.now.few_segments)
 
 pub returns-in_err-write_step-in-Writing-clause-failed : goal.returns-in_err-write_step-in-Writing-clause-failed
 returns-in_err-write_step-in-Writing-clause-failed g c =

@@ -4,9 +4,10 @@ use Rattle.lc_record.specs.declared.span.Span.{Span}
 use Rattle.lc_record.specs.GrammarVersion.{end_of}
 use Rattle.lc_model.specs.Merge.{Page}
 use Rattle.lc_recover.specs.Pages.{kept_pages}
-use Rattle.lc_recover.specs.Changes.{seat, Seat}
+use Rattle.lc_recover.specs.Changes.{HasOf, seat, Seat}
 use Rattle.lc_recover.proofs.Walks.{range-at, no-range}
-use Rattle.lc_recover.proofs.Pushes.{RangeAdded, range-added, range-ends, covers-more, covers-nothing, covers-all}
+use Rattle.lc_recover.proofs.AreaLemmas.{on_err}
+use Rattle.lc_recover.proofs.Pushes.{RangeAdded, range-added, range-ends, range-newer, covers-more, covers-nothing, covers-all}
 use Rattle.lc_recover.proofs.index.add_record.Goals as goal
 use Rattle.lc_recover.proofs.index.add_record.Goals.{in-Some+in-Some-pages_of+in_ok-add_range, in-Some+in_default-pages_of, in_default}
 
@@ -39,3 +40,11 @@ loop-index-preserved c =
 pub returns-clause-covers : goal.returns-clause-covers
 returns-clause-covers c =
     covers-all (map kept_pages c.args.segments.now) (seat c.args.log c.args.place c.args.view.now) c.loop-index.index c.loop-index.changes.items (omega arith) c.loop-index.invariant.covers
+
+pub returns-in_err-add_range-clause-memory : goal.returns-in_err-add_range-clause-memory
+returns-in_err-add_range-clause-memory c =
+    let pages : List (List Page) = map kept_pages c.args.segments.now in
+    let s : Seat = seat c.args.log c.args.place c.args.view.now in
+    let at = range-at c.args.view.now.ranges c.loop-index.index c.in-Some.span c.in-Some.ensures in
+    on_err c.from_residual.result (HasOf (map kept_pages c.args.segments.now) (seat c.args.log c.args.place c.args.view.now))
+    (range-newer pages s c.loop-index.index at.0 c.in-Some.span c.in-Some-pages_of.pages.now c.number.result c.requires.canonical at.1 at.2 c.in-Some-pages_of.ensures.some c.number.ensures c.in_err-add_range.ensures.memory)

@@ -4,7 +4,7 @@ use Rattle.lc_recover.proofs.Showing.{writing-merges}
 use Rattle.lc_recover.specs.Pages.{kept_pages}
 use Rattle.lc_recover.specs.declared.segment_pages.SegmentPages.{SegmentPages}
 use Rattle.std.proofs.Common.{◌≡◌, ◌∙◌, ◌+◌, ◌-◌, ◌*◌, ℕ, List, refl, sym, ap, subst, arith, inr, Bool, true, map, length, get_or, Option, Some, None}
-use Rattle.std.specs.Prelude.{slice_get, slice_set, if◌then◌else◌}
+use Rattle.std.specs.Prelude.{slice_get, slice_set}
 use Rattle.std.proofs.lemmas.Option.{slice_get-get_or}
 use Rattle.lc_disk.specs.Area.{overlaid}
 use Rattle.lc_log.specs.OneCall.{IsOneCall}

@@ -1,4 +1,4 @@
-use Rattle.std.proofs.Common.{◌≡◌, ◌≤◌, ◌+◌, ℕ, length, refl, sym, ap, subst, ◌∙◌, arith}
+use Rattle.std.proofs.Common.{◌≤◌, ℕ, length, refl, sym, ap, subst, ◌∙◌, arith}
 use Rattle.lc_core.specs.Journal.{FitsLog}
 use Rattle.lc_core.specs.Records.{Kept, count_of, front_of, span_of}
 use Rattle.lc_core.proofs.Forgetting.{IsForgotten, is_forgotten, log_forgotten}

@@ -6,7 +6,7 @@ use Rattle.lc_core.proofs.Recoveries.{runs_up}
 use Rattle.lc_core.specs.Faults.{log_kinds}
 use Rattle.lc_core.proofs.Devices.{honest_kept, steps_devices, up_whole}
 use Rattle.lc_core.proofs.Refusing.{if_ok_both, on_err_both}
-use Rattle.lc_core.proofs.OneArea.{step_calls}
+use Rattle.lc_core.proofs.OneArea.{step_calls, step_keeps}
 use Rattle.lc_core.proofs.Ordinary.{plain_of}
 use Rattle.lc_core.proofs.up.Up.step.Goals as goal
 
@@ -44,3 +44,6 @@ returns-clause-geometry g c = (steps_devices g.D.Area c.args.self.now.running c.
 
 pub returns-clause-calls : goal.returns-clause-calls
 returns-clause-calls g c = step_calls g.D.Area c.args.self.now _ c.step.result refl c.step.ensures.faults c.step.ensures.no_fault
+
+pub returns-clause-kept : goal.returns-clause-kept
+returns-clause-kept g c = step_keeps g.D.Area c.args.self.now _ c.step.result refl c.step.ensures.no_fault

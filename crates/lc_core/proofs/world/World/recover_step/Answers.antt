@@ -6,7 +6,7 @@ use Rattle.lc_recover.specs.Recovery.{Recovering, IsLast, TakesMemory, all_steps
 use Rattle.lc_core.specs.declared.phase.Phase.TheVariants.{Down, Taken, Up}
 use Rattle.lc_core.proofs.Refusing.{on_err}
 use Rattle.lc_recover.specs.declared.fault.RecoverFault.{RecoverFault}
-use Rattle.lc_core.proofs.Logged.{err_then}
+use Rattle.lc_core.proofs.Logged.{err_any, err_then}
 use Rattle.lc_core.specs.Calls.{CallsArea}
 use Rattle.lc_core.specs.Recovering.{RepliesTo}
 use Rattle.lc_core.specs.World.{AsksIn}
@@ -19,7 +19,7 @@ use Rattle.lc_model.specs.declared.refusal.Refusal.TheVariants.{OutOfTurn}
 use Rattle.lc_core.specs.Faults.{CountsPhase}
 use Rattle.lc_core.proofs.Failures.{StepCalls, down_failures, no_faults, phase_counts, risen_counts}
 use Rattle.lc_core.proofs.Geometries.{down_geometry, replies_known, risen_geometry}
-use Rattle.lc_core.proofs.OneArea.{calls_none, down_calls, risen_calls}
+use Rattle.lc_core.proofs.OneArea.{calls_none, down_calls, down_keeps, risen_calls}
 use Rattle.lc_core.proofs.Recoveries.{FollowsPhase, StepLeaves, comes_up, down_same, not_down, down_follows, down_wants, same_still}
 use Rattle.lc_core.specs.Recovers.{RecoversDown}
 use Rattle.lc_core.proofs.Recovers.{IfOk-any, StepSays, down_asks, down_recovers, risen_recovers, up_refuses}
@@ -270,3 +270,15 @@ returns-clause-calls g c =
     let up = c.risen.ensures c.step-2.new.self c.replace.ensures.value in
     risen_calls g.D.Area c.in-Down.recovery c.step-2.new.self c.step-2.result (calls-last g (goal.at.returns-clause-calls g c).After-step-2) (λ none. (c.step-2.ensures.no_memory none).1)
     c.args.self.now.phase c.risen.result c.in-Down.is c.step-2.ensures.geometry up.0 up.1 up.2
+
+pub returns-then-not-is_last-clause-kept : goal.returns-then-not-is_last-clause-kept
+returns-then-not-is_last-clause-kept g c =
+    err_then c.reply_to.result (wants g c) (λ asks. down_keeps g.D.Area c.args.self.now.phase c.in-Down.recovery c.step.new.self c.in-Down.is asks.1)
+
+pub returns-in_err-room-clause-kept : goal.returns-in_err-room-clause-kept
+returns-in_err-room-clause-kept g c = err_any c.from_residual.result (down_keeps g.D.Area c.args.self.now.phase c.in-Down.recovery c.in-Down.recovery c.in-Down.is refl)
+
+pub returns-in-Err-clause-kept : goal.returns-in-Err-clause-kept
+returns-in-Err-clause-kept g c =
+    err_then c.stopped.result (down_wants g.D.Area c.args.self.now.phase c.in-Down.recovery c.step-2.new.self c.in-Down.is c.step-2.result c.stopped.result (replies-last g c) (leaves-last g (goal.at.returns-in-Err-clause-kept g c).After-step-2))
+    (λ asks. down_keeps g.D.Area c.args.self.now.phase c.in-Down.recovery c.step-2.new.self c.in-Down.is asks.1)

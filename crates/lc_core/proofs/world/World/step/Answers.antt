@@ -1,5 +1,6 @@
 use Rattle.std.proofs.lemmas.Result.{IfOk-weaker}
-use Rattle.std.proofs.Common.{refl, sym, ap, subst, ◌∙◌}
+use Rattle.std.proofs.Common.{List, refl, sym, ap, subst, ◌∙◌}
+use Rattle.lc_disk.specs.declared.choice.Choice.{Choice}
 use Rattle.lc_model.specs.declared.event.Event.{Event}
 use Rattle.lc_model.specs.declared.event.Event.TheVariants.{Stop}
 use Rattle.lc_core.specs.World.{AsksIn, Leads}
@@ -8,10 +9,12 @@ use Rattle.lc_core.specs.declared.phase.Phase.{Phase}
 use Rattle.lc_core.proofs.Asking.{asks_world}
 use Rattle.lc_core.proofs.Geometries.{down_outside, recovers_outside, stops_outside, up_geometry, up_outside}
 use Rattle.lc_core.proofs.Logged.{err_then}
-use Rattle.lc_core.proofs.OneArea.{calls_none, up_calls}
+use Rattle.lc_core.proofs.OneArea.{calls_none, up_calls, up_keeps}
 use Rattle.lc_core.proofs.Recovers.{IfOk-any, down_refuses, stop_asks, up_asks}
 use Rattle.lc_core.specs.declared.phase.Phase.TheVariants.{Up}
 use Rattle.lc_core.proofs.Recoveries.{else_works, up_follows, up_still}
+use Rattle.lc_core.proofs.Stopped.{same_stop}
+use Rattle.lc_core.specs.Stops.{IsLeftBy}
 use Rattle.lc_core.proofs.world.World.step.Goals as goal
 
 pub step-requires : goal.step-requires
@@ -64,6 +67,11 @@ returns-in-Stop-clause-at_once g c = stop_asks g.D.Area c.args.self.now.phase c.
 pub returns-in-Stop-clause-stops : goal.returns-in-Stop-clause-stops
 returns-in-Stop-clause-stops g c = λ choices is. (c.stop.ensures.answer, c.stop.ensures.stops)
 
+pub returns-in-Stop-clause-chosen : goal.returns-in-Stop-clause-chosen
+returns-in-Stop-clause-chosen g c = λ choices is.
+    subst (λ (list : List (List Choice)). IsLeftBy g.D.Area g.D.Stoppable.left list c.args.self.now.phase c.stop.new.self.phase)
+    (same_stop _ choices (ap Stop c.as_slice.ensures ∙ sym c.in-Stop.is ∙ is)) c.stop.ensures.chosen
+
 pub returns-in-RecoverStep-clause-unknown : goal.returns-in-RecoverStep-clause-unknown
 returns-in-RecoverStep-clause-unknown g c = IfOk-weaker c.recover_step.result _ _
     (λ reply known. recovers_outside g.D.Area c.args.self.now.phase c.args.event.now reply c.in-RecoverStep.is known) c.recover_step.ensures.unknown
@@ -92,3 +100,6 @@ returns-in-Up-clause-calls g c = λ no_stop. up_calls g.D.Area c.args.self.now.p
 
 pub returns-in_default-phase-clause-calls : goal.returns-in_default-phase-clause-calls
 returns-in_default-phase-clause-calls g c = λ no_stop. calls_none g.D.Area c.args.self.now.phase
+
+pub returns-in-Up-clause-kept : goal.returns-in-Up-clause-kept
+returns-in-Up-clause-kept g c = err_then c.step.result c.step.ensures.kept (up_keeps g.D.Area c.args.self.now.phase c.in-Up.up c.step.new.self c.in-Up.is)

@@ -1,13 +1,16 @@
-use Rattle.std.proofs.Common.{◌≡◌, ◌+◌, ◌++◌, List, length, take, drop, ◌∙◌, sym, ap, subst, arith, inl, inr, true, false, Err}
+use Rattle.std.proofs.Common.{◌≡◌, ◌+◌, ◌++◌, List, map, length, take, drop, refl, ◌∙◌, sym, ap, subst, arith, inl, inr, true, false, Err}
 use Rattle.std.proofs.lemmas.Bool.{cases_eq}
-use Rattle.lc_recover.specs.Reads.{AreHonest, AreOfBytes, AllMergeTo, HaveLengths}
+use Rattle.std.proofs.lemmas.Result.{IfErr-at_err}
+use Rattle.lc_recover.specs.Reads.{AreHonest, AreOfBytes, AllMergeTo, HaveLengths, store_of}
 use Rattle.lc_recover.specs.Steps.{first_steps}
 use Rattle.lc_recover.proofs.Exclusive.{merge-accepted}
 use Rattle.lc_recover.proofs.StillHonest.{AsHonest, step-honest}
 use Rattle.lc_recover.proofs.Going.{over-done, done-last, started, merges-carried, written-back, call-carried, reads-carried, clean-so_far}
 use Rattle.lc_recover.proofs.StepsBound.{steps-bound}
 use Rattle.lc_recover.proofs.Showing.{have-lengths}
-use Rattle.lc_recover.specs.Recovery.{Recovering, recovering, IsDone, IsLast, IsMergeNext, IsMerged, IsGoing, Renews}
+use Rattle.lc_recover.specs.Recovery.{Recovering, recovering, HasPageToWrite, IsDone, IsLast, IsMergeNext, IsMerged, IsGoing, Renews}
+use Rattle.lc_recover.specs.declared.fault.RecoverFault.{RecoverFault}
+use Rattle.lc_recover.specs.declared.fault.RecoverFault.TheVariants.{NoMemory}
 use Rattle.lc_recover.specs.declared.stage.Stage.{Stage}
 use Rattle.lc_recover.proofs.recovery.Recovery.step.Given.{Over}
 use Rattle.lc_recover.proofs.recovery.Recovery.step.Goals as goal
@@ -186,3 +189,11 @@ pub returns-in-Err-clause-reads : goal.returns-in-Err-clause-reads
 returns-in-Err-clause-reads g c =
     reads-carried g.D.Area c.self.inside.geometry c.as_mut_slice.result.now c.advance.new.areas (take c.self.inside.areas.len (c.advance.new.areas ++ drop (length c.advance.new.areas) c.self.inside.areas.items)) c.replace-stage.result c.args.self.now
     (start-stopped g c) (after-stopped g c) c.in-Err.ensures.reads
+
+-- The merge wants memory
+
+pub returns-in-Err-clause-no_memory_merged : goal.returns-in-Err-clause-no_memory_merged
+returns-in-Err-clause-no_memory_merged g c wants =
+    let fault : c.in-Err.stopped.fault ≡ NoMemory = sym (IfErr-at_err (λ (f : RecoverFault). f ≡ c.in-Err.stopped.fault) wants refl) in
+    subst (λ (r : Recovering g.row.D.Denot). IsMergeNext r → AreHonest g.D.Area r.areas → HasPageToWrite (store_of r.geometry (map g.D.Area.now r.areas))) (start-stopped g c)
+    (c.in-Err.ensures.no_memory_merged fault)
