@@ -2,6 +2,8 @@
 #![tactic(auto)]
 
 #[cfg(test)]
+mod answer_tests;
+#[cfg(test)]
 mod command_line_tests;
 #[cfg(test)]
 mod events;
@@ -11,6 +13,8 @@ mod folder_tests;
 mod growth_tests;
 #[cfg(test)]
 mod hostile_tests;
+#[cfg(test)]
+mod listed_files;
 #[cfg(test)]
 mod recovering_tests;
 #[cfg(test)]

@@ -230,6 +230,22 @@ fn each_step_makes_the_next_call(rt: HostRuntime) -> Result<(), Fail> {
     Ok(())
 }
 
+// A log whose first gate is closed is emptied by two calls too.
+#[test]
+fn an_empty_log_is_emptied_by_two_calls(rt: HostRuntime) -> Result<(), Fail> {
+    let alloc = rt.alloc();
+    for (call, steps) in [(3u32, 5), (4, 6)] {
+        let mut areas = Vec::with_capacity(alloc, 2)?;
+        areas.push(Fuse::new(log_area(alloc, &[])?, When::At(u64::from(call))))?;
+        areas.push(Fuse::new(segment_area(alloc, &[CLOSED; 2])?, When::At(0)))?;
+        let mut recovery = begun(geometry_of(1, 1, 1)?, areas)?;
+        let made = walk(&rt, alloc, &mut recovery, HELLO_STEPS);
+        let _areas = recovery.areas();
+        assert!(rt; made == Err(steps), "call {call}");
+    }
+    Ok(())
+}
+
 // Each choice at a stop behind so many steps, or behind the call of the log or of the segment that fails.
 fn stops(rt: &impl Abort, alloc: Global, log: u32, segment: u32, steps: u64) -> Result<(), Fail> {
     for choice in CHOICES {

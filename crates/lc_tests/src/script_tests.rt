@@ -3,7 +3,7 @@ use crate::stores::{CLOSED, SlotText, hello, log_area, segment_area, store_of};
 use lc_disk::{Fuse, MemArea, Stoppable, When};
 use lc_record::Geometry;
 use lc_text::ToolFault;
-use lc_tool::{run_script, zero_areas};
+use lc_tool::{Noted, run_script, zero_areas};
 use std::io::{self, Error, ErrorKind, Read, Write};
 use std::process::Abort;
 use std::test::*;
@@ -365,6 +365,33 @@ fn each_line_is_flushed(rt: HostRuntime) -> Result<(), Fail> {
     )?;
     assert!(rt; writer.bytes.as_slice() == "ok\nbytes 00\nok\n".as_bytes());
     assert!(rt; writer.lens.as_slice() == [3, 3, 12, 15].as_slice());
+    Ok(())
+}
+
+#[test]
+fn the_first_error_is_noted(rt: HostRuntime) -> Result<(), Fail> {
+    let mut writer = Noted::new(Narrow { room: 3 });
+    writer.write_all(b"abc")?;
+    assert!(rt; writer.error().is_none());
+    assert!(rt; writer.write_all(b"d").is_err() && writer.write_all(b"").is_ok());
+    assert!(rt;
+        writer
+            .error()
+            .is_some_and(|error| error.kind() == ErrorKind::Other)
+    );
+    let mut reader = Noted::new(Failing {
+        rest: b"ab",
+        fails_at: 1,
+        kind: ErrorKind::Interrupted,
+    });
+    let mut byte = [0];
+    assert!(rt; matches!(reader.read(&mut byte), Ok(1)) && byte == [b'a']);
+    assert!(rt; reader.error().is_none() && reader.read(&mut byte).is_err());
+    assert!(rt;
+        reader
+            .error()
+            .is_some_and(|error| error.kind() == ErrorKind::Interrupted)
+    );
     Ok(())
 }
 
