@@ -1,6 +1,8 @@
 //! Ranges that were set, and the bytes that stood there.
+ghost use Rattle.lc_range.specs.Undo.{LiesBelow};
+
 use lc_range::{Range, RangeFault, RangeSet, Undo};
-use std::alloc::Global;
+use std::alloc::{AllocError, Global};
 use std::test::Fail;
 
 fn run(segment: u32, offset: u32, len: u32) -> Range {
@@ -63,19 +65,27 @@ fn old_bytes_come_back(rt: HostRuntime) -> Result<(), Fail> {
     Ok(())
 }
 
+// Keeps every second byte of 160, in a copy each.
+fn keep_each_second(undo: &mut Undo, set: &RangeSet, image: &[u8; 160]) -> Result<(), AllocError>
+    requires { LiesBelow undo.old 1 160 }
+    ensures { LiesBelow undo.new 1 160 }
+{
+    for i in 0..80 {
+        undo.keep_old(set, 1, 2 * i, 1, image)?;
+    }
+    Ok(())
+}
+
 #[test]
 fn more_than_seventy_copies_are_kept(rt: HostRuntime) -> Result<(), Fail> {
-    let set = RangeSet::new(rt.alloc());
     let mut undo = Undo::new(rt.alloc());
-    let image = [7; 160];
-    for i in 0..80 {
-        undo.keep_old(&set, 1, 2 * i, 1, &image)?;
-    }
+    keep_each_second(&mut undo, &RangeSet::new(rt.alloc()), &[7; 160])?;
     assert!(rt; undo.copies() == 80 && undo.len() == 80);
     let mut later = [9; 160];
     undo.restore(1, &mut later);
-    for (i, byte) in later.iter().enumerate() {
-        assert!(rt; *byte == if i % 2 == 0 { 7 } else { 9 }, "at {i}");
+    for i in 0..160 {
+        let wanted = if i % 2 == 0 { 7 } else { 9 };
+        assert!(rt; later[i] == wanted, "at {i}");
     }
     Ok(())
 }

@@ -1,6 +1,6 @@
 //! Records: words and what they say.
 use lc_record::{
-    Geometry, Items, Lock, RangeData, Record, RecordFault, Span, View, check, decode, encode, gate,
+    Geometry, Items, Lock, RangeData, Record, RecordFault, View, check, decode, encode, gate,
     length, lock_count, node, range_count, version,
 };
 use std::alloc::{AllocError, Global};
@@ -301,10 +301,15 @@ fn the_longest_record_has_4096_words(rt: HostRuntime) -> Result<(), Fail> {
 
 #[test]
 fn the_first_two_words_have_fields(rt: HostRuntime) {
-    let (first, second) = (LETTERS[0], LETTERS[1]);
-    assert!(rt; gate(first) == 0xa5 && version(first) == 1);
-    assert!(rt; range_count(first) == 3 && length(first) == 17);
-    assert!(rt; node(second) == 7 && lock_count(second) == 2);
+    assert!(rt; is_front(LETTERS[0], LETTERS[1]));
+}
+
+// Whether these are the first two words of a record of the first version, of node 7, with 2 locks and 3 ranges in 17 words.
+fn is_front(first: u64, second: u64) -> bool {
+    let is_first = gate(first) == 0xa5 && version(first) == 1;
+    let is_long = range_count(first) == 3 && length(first) == 17;
+    let is_second = node(second) == 7 && lock_count(second) == 2;
+    is_first && is_long && is_second
 }
 
 #[test]
@@ -316,36 +321,63 @@ fn a_geometry_has_areas(rt: HostRuntime) -> Result<(), Fail> {
     Ok(())
 }
 
-#[test]
-fn a_record_is_read_in_place(rt: HostRuntime) -> Result<(), Fail> {
-    let mut words = Vec::from_slice(rt.alloc(), &HELLO)?;
+// The words of two records, one behind another.
+fn two_records(alloc: Global) -> Result<Vec<u64>, AllocError> {
+    let mut words = Vec::from_slice(alloc, &HELLO)?;
     words.extend_from_slice(&LETTERS)?;
+    Ok(words)
+}
+
+#[test]
+fn a_record_begins_at_its_first_word(rt: HostRuntime) -> Result<(), Fail> {
+    let words = two_records(rt.alloc())?;
     for place in [1, 7, 9, 24, 25, 26] {
         assert!(rt; View::at(&words, place).is_none(), "{place}");
     }
+    Ok(())
+}
+
+// Whether the range at this place is this one.
+fn has_range(view: &View<'_>, place: usize, segment: u32, offset: u32, len: u64) -> bool {
+    match view.range(place) {
+        Some(span) => span.segment == segment && span.offset == offset && span.len == len,
+        None => false,
+    }
+}
+
+// Whether the lock at this place is this one.
+fn has_lock(view: &View<'_>, place: usize, segment: u32, seq: u64) -> bool {
+    match view.lock(place) {
+        Some(lock) => lock.segment == segment && lock.seq == seq,
+        None => false,
+    }
+}
+
+// Whether this is the byte there.
+fn has_byte(view: &View<'_>, range: usize, place: usize, wanted: u8) -> bool {
+    match view.byte(range, place) {
+        Some(byte) => byte == wanted,
+        None => false,
+    }
+}
+
+#[test]
+fn a_record_is_read_in_place(rt: HostRuntime) -> Result<(), Fail> {
+    let words = two_records(rt.alloc())?;
     let letters = View::at(&words, 8).ok_or("a record begins here")?;
-    assert!(rt; letters.words() == LETTERS.as_slice() && letters.len() == 17);
-    assert!(rt; letters.node() == 7 && letters.lock_count() == 2 && letters.range_count() == 3);
-    assert!(rt; letters.lock(1) == Some(Lock { segment: 3, seq: 1 }) && letters.lock(2).is_none());
-    let span = Span {
-        segment: 3,
-        offset: 100,
-        len: 9,
-    };
-    assert!(rt; letters.range(2) == Some(span) && letters.range(3).is_none());
-    assert!(rt; letters.byte(2, 8) == Some(b'r') && letters.byte(2, 9).is_none());
+    assert!(rt; letters.words() == LETTERS.as_slice());
+    assert!(rt; letters.len() == 17 && letters.node() == 7);
+    assert!(rt; letters.lock_count() == 2 && letters.range_count() == 3);
+    assert!(rt; has_lock(&letters, 1, 3, 1) && letters.lock(2).is_none());
+    assert!(rt; has_range(&letters, 2, 3, 100, 9) && letters.range(3).is_none());
+    assert!(rt; has_byte(&letters, 2, 8, b'r') && letters.byte(2, 9).is_none());
     Ok(())
 }
 
 #[test]
 fn a_far_record_is_read_in_place(rt: HostRuntime) -> Result<(), Fail> {
     let far = View::at(&FAR_TWICE, 0).ok_or("a record begins here")?;
-    let span = Span {
-        segment: 1,
-        offset: 16389,
-        len: 8,
-    };
-    assert!(rt; far.range(1) == Some(span) && far.byte(1, 0) == Some(b'l'));
+    assert!(rt; has_range(&far, 1, 1, 16389, 8) && has_byte(&far, 1, 0, b'l'));
     Ok(())
 }
 

@@ -6,7 +6,8 @@ ghost use Rattle.lc_stage.specs.Publishing.{HoldsTaken, HasPublished};
 use lc_disk::{Area, MemArea};
 use lc_log::NodeLog;
 use lc_record::Group;
-use lc_stage::{CommitSeat, FlushSeat, Stage, StageFault};
+use lc_stage::{CommitSeat, FlushSeat, Receipt, Stage, StageFault};
+use std::alloc::Global;
 use std::test::Fail;
 use std::thread::{join, yield_now};
 
@@ -137,9 +138,37 @@ fn seal_at(stage: &Stage, flusher: &mut FlushSeat, seat: &mut CommitSeat, offset
 
 #[test]
 fn the_largest_stage(rt: HostRuntime) -> Result<(), Fail> {
-    let (stage, _flusher, mut seat) = Stage::new(rt.alloc(), 32_767)?;
-    assert!(rt; stage.words() == 32_767 && stage.tail(&mut seat) == 0);
+    assert!(rt; is_made(rt.alloc(), 32_767)?);
     Ok(())
+}
+
+// Whether a new stage has so many words, of which none is taken.
+fn is_made(alloc: Global, words: u32) -> Result<bool, Fail>
+    requires { (0 < words) × (words < 32768) }
+{
+    let (stage, _flusher, mut seat) = Stage::new(alloc, words)?;
+    Ok(stage.words() == words && stage.tail(&mut seat) == 0)
+}
+
+// Reserves 8 words, and 11 behind them: the second seat has seen the tail before, and is told of the newer one.
+fn moved_on(stage: &Stage, first: &mut CommitSeat, second: &mut CommitSeat) -> bool
+    requires own { IsSeatOf stage.now first.old × IsSeatOf stage.now second.old }
+    requires idle { IsIdle (commit_view first.old) × IsIdle (commit_view second.old) }
+    ensures own { IsSeatOf stage.now first.new × IsSeatOf stage.now second.new }
+    ensures fresh { result ≡ true → IsFresh 8 (commit_view first.new) × IsFresh 11 (commit_view second.new) }
+{
+    let at = stage.tail(first);
+    let also_at = stage.tail(second);
+    let Ok(place) = stage.reserve(first, at, 8) else {
+        return false;
+    };
+    let Err(StageFault::Moved { seen }) = stage.reserve(second, also_at, 11) else {
+        return false;
+    };
+    let Ok(behind) = stage.reserve(second, seen, 11) else {
+        return false;
+    };
+    at == 0 && also_at == 0 && place == 0 && seen == 8 && behind == 8
 }
 
 #[test]
@@ -148,46 +177,36 @@ fn two_seats(rt: HostRuntime) -> Result<(), Fail> {
     let mut group = Group::new(rt.alloc(), 64)?;
     let log = begun(MemArea::new(rt.alloc(), 520)?);
     let mut second = stage.split(&mut first);
-    let at = stage.tail(&mut first);
-    let also_at = stage.tail(&mut second);
-    assert!(rt; at == 0 && also_at == 0);
-    let Ok(place) = stage.reserve(&mut first, at, 8) else {
-        assert!(rt; false);
-        return Ok(());
-    };
-    assert!(rt; place == 0);
-    let Err(StageFault::Moved { seen }) = stage.reserve(&mut second, also_at, 11) else {
-        assert!(rt; false);
-        return Ok(());
-    };
-    assert!(rt; seen == 8);
-    let Ok(place) = stage.reserve(&mut second, seen, 11) else {
-        assert!(rt; false);
-        return Ok(());
-    };
-    assert!(rt; place == 8);
-    assert!(rt; stage.tail(&mut first) == 19);
+    assert!(rt; moved_on(&stage, &mut first, &mut second));
     close_eleven(&stage, &mut second, 2);
-    assert!(rt; stage.take(&mut flusher, &mut group) == 0);
-    assert!(rt; group.is_empty());
+    assert!(rt; stage.tail(&mut second) == 19);
+    assert!(rt; stage.take(&mut flusher, &mut group) == 0 && group.is_empty());
     close_eight(&stage, &mut first, 1);
     let Some(log) = settle(&stage, &mut flusher, &mut group, log) else {
         assert!(rt; false);
         return Ok(());
     };
-    assert!(rt; group.len() == 19);
-    assert!(rt; low_byte(&group, 3) == 1 && low_byte(&group, 7) == 8);
-    assert!(rt;
-        low_byte(&group, 8) == 0xa5 && low_byte(&group, 11) == 2 && low_byte(&group, 18) == 11
-    );
+    assert!(rt; has_both(&group));
     let mut first = stage.meet(&mut flusher, first);
     let Some(receipt) = stage.durable(&mut first) else {
         assert!(rt; false);
         return Ok(());
     };
-    assert!(rt; receipt.round() == 0 && receipt.place() == 0 && receipt.words() == 8);
+    assert!(rt; is_for(&receipt, 0));
     assert!(rt; stage.take(&mut flusher, &mut group) == 0);
     Ok(())
+}
+
+// Whether the group has a record of 8 words under number 1, and behind it one of 11 words under number 2.
+fn has_both(group: &Group) -> bool {
+    let has_first = low_byte(group, 3) == 1 && low_byte(group, 7) == 8;
+    let has_second = low_byte(group, 8) == 0xa5 && low_byte(group, 11) == 2;
+    group.len() == 19 && has_first && has_second && low_byte(group, 18) == 11
+}
+
+// Whether the receipt is for a record of 8 words at this place of the first round.
+fn is_for(receipt: &Receipt, place: u32) -> bool {
+    receipt.round() == 0 && receipt.place() == place && receipt.words() == 8
 }
 
 // Ends a round of 19 words, which are stable then.
@@ -337,11 +356,11 @@ fn one_thread_reserves_while_another_is_held(rt: HostRuntime) -> Result<(), Fail
         assert!(rt; false);
         return Ok(());
     };
-    assert!(rt; early.round() == 0 && early.place() == 0 && early.words() == 8);
+    assert!(rt; is_for(&early, 0));
     let Some(late) = stage.durable(&mut second) else {
         assert!(rt; false);
         return Ok(());
     };
-    assert!(rt; late.round() == 0 && late.place() == 8 && late.words() == 8);
+    assert!(rt; is_for(&late, 8));
     Ok(())
 }

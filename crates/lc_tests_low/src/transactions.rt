@@ -31,15 +31,29 @@ fn words_of(alloc: Global, segment: &mut OneSegment, tx: &Tx) -> Result<Items<u6
     }
 }
 
+// The words of the record of these ranges of segment 1.
+fn record_of(
+    alloc: Global,
+    segment: &mut OneSegment,
+    tx: &mut Tx,
+    ranges: &[(u32, u32)],
+) -> Result<Items<u64>, TxFault>
+    requires { RunsOn the_images segment.old tx.old }
+    ensures { RunsOn the_images segment.new tx.new }
+{
+    for (offset, len) in ranges {
+        tx.set_range(segment, 1, *offset, *len)?;
+    }
+    words_of(alloc, segment, tx)
+}
+
 #[test]
 fn ranges_merge_in_the_record(rt: HostRuntime) -> Result<(), Fail> {
     let alloc = rt.alloc();
     let mut segment = segment_of(alloc, &[0; 256])?;
     let mut tx = Tx::begin(alloc, &mut segment, 3, &[1], &[])?;
-    for (offset, len) in [(0, 4), (4, 4), (2, 3), (20, 1)] {
-        tx.set_range(&mut segment, 1, offset, len)?;
-    }
-    let words = words_of(alloc, &mut segment, &tx)?;
+    let ranges = [(0, 4), (4, 4), (2, 3), (20, 1)];
+    let words = record_of(alloc, &mut segment, &mut tx, &ranges)?;
     // The record of node 0 under lock 1:1, with eight zeros at 0 and one at 20 in segment 1.
     let wanted = [
         0xb_0002_01a5,
@@ -89,19 +103,38 @@ fn what_is_locked_for_reading_is_only_read(rt: HostRuntime) -> Result<(), Fail> 
     Ok(())
 }
 
+const LONGEST: u32 = 262_144;
+
 // The longest segment, of which one record of 4,096 words says what was set.
 #[test]
 fn the_longest_record_and_the_longest_read(rt: HostRuntime) -> Result<(), Fail> {
     let alloc = rt.alloc();
-    let mut segment = segment_of(alloc, &vec![in alloc; 7; 262_144]?)?;
+    let mut segment = segment_of(alloc, &vec![in alloc; 7; LONGEST as usize]?)?;
     let mut tx = Tx::begin(alloc, &mut segment, 0, &[1], &[])?;
-    tx.set_range(&mut segment, 1, 0, 32_704)?;
-    let words = words_of(alloc, &mut segment, &tx)?;
-    assert!(rt; words.as_slice().len() == 4096 && words.as_slice().last() == Some(&4096));
-    let read = tx.read(alloc, &mut segment, 1, 0, 262_144)?;
-    assert!(rt; read.as_slice().len() == 262_144 && read.as_slice().iter().all(|byte| *byte == 7));
+    let words = record_of(alloc, &mut segment, &mut tx, &[(0, 32_704)])?;
+    assert!(rt; is_longest(words.as_slice()));
+    let read = tx.read(alloc, &mut segment, 1, 0, LONGEST)?;
+    assert!(rt; are_sevens(read.as_slice()));
     tx.release(&mut segment);
     Ok(())
+}
+
+// Whether these words are as many as a record may have, which the last of them says.
+fn is_longest(words: &[u64]) -> bool {
+    match words.get(4095) {
+        Some(last) => words.len() == 4096 && *last == 4096,
+        None => false,
+    }
+}
+
+// Whether these bytes are those of the longest segment, each of them 7.
+fn are_sevens(bytes: &[u8]) -> bool {
+    for byte in bytes {
+        if *byte != 7 {
+            return false;
+        }
+    }
+    bytes.len() == LONGEST as usize
 }
 
 #[test]
