@@ -208,7 +208,7 @@ write store/seg2 0 1\nsync store/seg2\n";
 const SECOND_OF_2: &str = "sync store/seg2\nwrite store/seg2 545 271\nsync store/seg2\n\
 write store/seg2 544 1\nsync store/seg2\n";
 
-const USED: [Step; 6] = [
+static USED: [Step; 6] = [
     STEP,
     Step {
         ask: Ask::Run(ONE),
@@ -249,7 +249,7 @@ fn a_store_is_made_used_inspected_and_recovered(rt: HostRuntime) -> Result<(), F
     check_all(&rt, rt.alloc(), &Shelf::new(rt.alloc()), &USED)
 }
 
-const INSPECTED: [Step; 4] = [
+static INSPECTED: [Step; 4] = [
     STEP,
     Step {
         ask: Ask::Run(ONE),
@@ -280,7 +280,7 @@ fn a_whole_log_is_inspected_both_ways(rt: HostRuntime) -> Result<(), Fail> {
     check_all(&rt, rt.alloc(), &Shelf::new(rt.alloc()), &INSPECTED)
 }
 
-const NOT_OPENED: [Step; 3] = [
+static NOT_OPENED: [Step; 3] = [
     Step {
         ask: Ask::RunInMemory(ONE),
         script: COMMIT,
@@ -347,7 +347,7 @@ struct Misfit {
     calls: &'static [&'static str],
 }
 
-const MISFITS: [Misfit; 5] = [
+static MISFITS: [Misfit; 5] = [
     Misfit {
         size: ONE,
         printed: "refused BadGeometry 2\n",
@@ -438,7 +438,7 @@ const IN_USE: Step = Step {
     ..STEP
 };
 
-const NOT_SHARED: [Step; 5] = [
+static NOT_SHARED: [Step; 5] = [
     Step {
         calls: Some(&["look store/log0\nlook store/seg1\n", LOCKED]),
         ..IN_USE
@@ -495,7 +495,7 @@ const WRITE_FAILS: Step = Step {
 };
 
 // What comes behind.
-const COPIED: [Step; 2] = [
+static COPIED: [Step; 2] = [
     Step {
         ask: Ask::Recover(ONE),
         printed: "segment 1 sequence 0\nrecovered\n",
@@ -579,7 +579,7 @@ const TWO_PAGES: Size = Size {
     ..TWO_SEGMENTS
 };
 
-const IN_ORDER: [Step; 3] = [
+static IN_ORDER: [Step; 3] = [
     Step {
         ask: Ask::Init(TWO_PAGES),
         calls: None,
@@ -622,7 +622,7 @@ fn a_recovery_writes_pages_in_order(rt: HostRuntime) -> Result<(), Fail> {
 const LONG_SEGMENT: Size = Size { pages: 1024, ..ONE };
 
 // Its calls, of which there are many, are not looked at.
-const FAR: [Step; 4] = [
+static FAR: [Step; 4] = [
     Step {
         ask: Ask::Init(LONG_SEGMENT),
         calls: None,

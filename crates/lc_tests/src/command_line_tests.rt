@@ -5,7 +5,7 @@ use std::alloc::{AllocError, Global};
 use std::test::*;
 
 // Words that ask for nothing.
-const REFUSED: [&[&str]; 47] = [
+static REFUSED: [&[&str]; 47] = [
     &["lcrvm", "run", "--pages", "0"],
     &["lcrvm", "run", "--pages", "1025"],
     &["lcrvm", "run", "--words", "63"],
@@ -57,8 +57,8 @@ const REFUSED: [&[&str]; 47] = [
 
 #[test]
 fn words_that_ask_for_nothing(rt: HostRuntime) -> Result<(), AllocError> {
-    for words in REFUSED {
-        let asked = read_command_line(rt.alloc(), words)?;
+    for words in &REFUSED {
+        let asked = read_command_line(rt.alloc(), *words)?;
         assert!(rt; matches!(asked, Asked::NotUnderstood), "{words:?}");
     }
     Ok(())
@@ -130,7 +130,7 @@ const LEAST: [u32; 5] = [1, 1, 1, 1, 64];
 
 const MOST: [u32; 5] = [8, 16, 16, 1024, 4096];
 
-const ASKED: [(&[&str], Wanted); 22] = [
+static ASKED: [(&[&str], Wanted); 22] = [
     (&["lcrvm", "run"], Wanted::Run("", LEAST)),
     (&["lcrvm", "init", "bank"], Wanted::Init("bank", LEAST)),
     (
@@ -237,9 +237,9 @@ const ASKED: [(&[&str], Wanted); 22] = [
 
 #[test]
 fn words_that_ask_for_something(rt: HostRuntime) -> Result<(), AllocError> {
-    for (words, wanted) in ASKED {
-        let asked = read_command_line(rt.alloc(), words)?;
-        assert!(rt; asks(&asked, wanted), "{words:?}");
+    for (words, wanted) in &ASKED {
+        let asked = read_command_line(rt.alloc(), *words)?;
+        assert!(rt; asks(&asked, *wanted), "{words:?}");
     }
     Ok(())
 }
@@ -273,7 +273,7 @@ const SIZES: [&str; 9] = [
 ];
 
 // The usage, an option or a word of its own, and the example of each command.
-const HELPS: [(&str, &[&str], &[&str]); 4] = [
+static HELPS: [(&str, &[&str], &[&str]); 4] = [
     (
         "run",
         &[
@@ -336,17 +336,17 @@ fn shows(
 fn help_of_a_command_names_each_option_and_shows_an_example(
     rt: HostRuntime,
 ) -> Result<(), AllocError> {
-    for (name, parts, sizes) in HELPS {
+    for (name, parts, sizes) in &HELPS {
         assert!(rt;
-            shows(rt.alloc(), &["lcrvm", name, "--help"], parts, sizes)?,
+            shows(rt.alloc(), &["lcrvm", *name, "--help"], *parts, *sizes)?,
             "{name}"
         );
         assert!(rt;
-            shows(rt.alloc(), &["lcrvm", "help", name], parts, sizes)?,
+            shows(rt.alloc(), &["lcrvm", "help", *name], *parts, *sizes)?,
             "{name}"
         );
         assert!(rt;
-            shows(rt.alloc(), &["lcrvm", name, "-h"], parts, sizes)?,
+            shows(rt.alloc(), &["lcrvm", *name, "-h"], *parts, *sizes)?,
             "{name}"
         );
     }

@@ -11,7 +11,7 @@ use std::test::*;
 const MOST_RUNS: u32 = 8;
 
 // Behind all four commits both segments begin with 4. Their tokens are where they were at first.
-const READS_ALL: [(&str, &str); 6] = [
+static READS_ALL: [(&str, &str); 6] = [
     ("begin 1 0 r1", "ok"),
     ("read 1 0 1 0 2", "bytes 0400"),
     ("reserve 1 0", "ended"),
@@ -22,7 +22,7 @@ const READS_ALL: [(&str, &str); 6] = [
 
 // Node 0 commits 7, 8 and 9 on segment 2, and drops a fourth change. The records come to node 1 out of order, and the
 // token behind them.
-const TWO_PEERS: [(&str, &str); 41] = [
+static TWO_PEERS: [(&str, &str); 41] = [
     ("begin 0 0 2", "ok"),
     ("range 0 0 2 0 1", "ok"),
     ("write 0 0 2 0 07", "ok"),
@@ -150,7 +150,7 @@ const STEPS: u64 = 13;
 // One that writes the page of each segment, in six calls.
 const STEPS_WITH_PAGES: u64 = 25;
 
-const GOES_DOWN: [(&str, &str); 1] = [("stop keep", "down")];
+static GOES_DOWN: [(&str, &str); 1] = [("stop keep", "down")];
 
 // A store of zeros that is up.
 fn up(rt: &impl Abort, alloc: Global) -> Result<World<MemArea>, Fail> {

@@ -10,7 +10,7 @@ use std::test::*;
 
 // Node 0 commits 1 and then 2 on segment 2, and node 1 commits 3 on segment 1. The token of segment 2 goes to node 1,
 // which commits 4 on both, writes both pages, and resets its log.
-pub(crate) const EVENTS: [(&str, &str); 58] = [
+pub(crate) static EVENTS: [(&str, &str); 58] = [
     ("begin 0 0 2", "ok"),
     ("range 0 0 2 0 1", "ok"),
     ("write 0 0 2 0 01", "ok"),

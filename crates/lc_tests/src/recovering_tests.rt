@@ -33,7 +33,7 @@ fn check<D: Area + Drop>(
 }
 
 // A log of records of these numbers, the slots of each segment, what is printed and the status.
-const STORES: [(&[u64], u32, [SlotText; 6], &str, u8); 6] = [
+static STORES: [(&[u64], u32, [SlotText; 6], &str, u8); 6] = [
     (
         &[],
         2,
@@ -91,7 +91,7 @@ fn areas_of_another_length(rt: HostRuntime) -> Result<(), Fail> {
 }
 
 // The log is synced, read and reset by two calls; the segment is synced and read, and its page takes six calls.
-const CALLS: [(u8, u8, &str, u8); 7] = [
+static CALLS: [(u8, u8, &str, u8); 7] = [
     (1, 0, "device fault\n", 3),
     (2, 0, "device fault\n", 3),
     (0, 1, "device fault\n", 3),
@@ -103,14 +103,14 @@ const CALLS: [(u8, u8, &str, u8); 7] = [
 
 #[test]
 fn a_device_fault(rt: HostRuntime) -> Result<(), Fail> {
-    for (log, segment, want, status) in CALLS {
+    for (log, segment, want, status) in &CALLS {
         let records = log_area(rt.alloc(), &hello(0, 1, 1, 3))?;
         let pages = segment_area(rt.alloc(), &[CLOSED; 2])?;
         let areas = vec![in rt.alloc();
-            Fuse::new(records, When::At(u64::from(log))),
-            Fuse::new(pages, When::At(u64::from(segment))),
+            Fuse::new(records, When::At(u64::from(*log))),
+            Fuse::new(pages, When::At(u64::from(*segment))),
         ]?;
-        check(&rt, ONE, areas, (want, status))?;
+        check(&rt, ONE, areas, (want, *status))?;
     }
     Ok(())
 }

@@ -373,7 +373,7 @@ fn refusal_of(
     Ok(fault)
 }
 
-const REFUSED: [(&[Stands], [SlotText; 2], RecoverFault); 9] = [
+static REFUSED: [(&[Stands], [SlotText; 2], RecoverFault); 9] = [
     // A record of another node.
     (
         &[(1, 1, 1, 0)],

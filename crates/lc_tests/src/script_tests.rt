@@ -72,7 +72,7 @@ const COMMIT: &str = "begin 0 0 1\nrange 0 0 1 0 1\nend 0 0\nflush 0\ninspect 0\
 type Stands = &'static [(u16, u32, u64, u32)];
 
 // Records and slots, a script, what it prints and its status.
-const FOUND: [(Stands, [SlotText; 2], &str, &str, u8); 12] = [
+static FOUND: [(Stands, [SlotText; 2], &str, &str, u8); 12] = [
     (
         &[(1, 1, 1, 3)],
         [CLOSED; 2],
@@ -258,7 +258,7 @@ fn areas_of_another_store(rt: HostRuntime) -> Result<(), Fail> {
 const FLUSHED: &str = "begin 0 0 1\nrange 0 0 1 0 1\nend 0 0\nflush 0\nlog 0\nshow 0 1 9\njump\n";
 
 // The call of the log that fails, a script, what it prints and its status. A recovery makes four calls, and a flush four more.
-const FAILING: [(u8, &str, &str, u8); 11] = [
+static FAILING: [(u8, &str, &str, u8); 11] = [
     (1, FLUSHED, "device fault\n", 3),
     (2, FLUSHED, "device fault\n", 3),
     (3, FLUSHED, "device fault\n", 3),
@@ -274,14 +274,14 @@ const FAILING: [(u8, &str, &str, u8); 11] = [
 
 #[test]
 fn a_device_fault_ends_a_script(rt: HostRuntime) -> Result<(), Fail> {
-    for (call, script, want, status) in FAILING {
+    for (call, script, want, status) in &FAILING {
         let log = log_area(rt.alloc(), &[])?;
         let pages = segment_area(rt.alloc(), &[CLOSED; 2])?;
         let areas = vec![in rt.alloc();
-            Fuse::new(log, When::At(u64::from(call))),
+            Fuse::new(log, When::At(u64::from(*call))),
             Fuse::new(pages, When::At(0)),
         ]?;
-        check(&rt, ONE, areas, script.as_bytes(), (want, status))?;
+        check(&rt, ONE, areas, script.as_bytes(), (want, *status))?;
     }
     Ok(())
 }

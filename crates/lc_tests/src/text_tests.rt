@@ -51,7 +51,7 @@ fn replies_of_bytes(rt: HostRuntime) -> Result<(), Fail> {
     Ok(())
 }
 
-const REFUSALS: [(Refusal, &str); 29] = [
+static REFUSALS: [(Refusal, &str); 29] = [
     (Refusal::Down, "refused Down"),
     (Refusal::Unknown, "refused Unknown"),
     (Refusal::Halted, "refused Halted"),
@@ -100,8 +100,8 @@ const REFUSALS: [(Refusal, &str); 29] = [
 
 #[test]
 fn refusals(rt: HostRuntime) {
-    for (refusal, want) in REFUSALS {
-        assert!(rt; says(&Reply::Refused(refusal), want), "{want}");
+    for (refusal, want) in &REFUSALS {
+        assert!(rt; says(&Reply::Refused(*refusal), want), "{want}");
     }
 }
 
@@ -354,7 +354,7 @@ fn line_numbers(line: &Line) -> [u64; 6] {
     }
 }
 
-const LINES: [(&str, [u64; 6]); 26] = [
+static LINES: [(&str, [u64; 6]); 26] = [
     ("begin 0 1", [1, 0, 1, 0, 0, 0]),
     ("begin 7 15 2 1 2", [1, 7, 15, 2001002, 0, 0]),
     ("begin 0 0 r1 2 r03", [1, 0, 0, 2, 1003, 0]),
@@ -391,9 +391,9 @@ const LINES: [(&str, [u64; 6]); 26] = [
 
 #[test]
 fn commands(rt: HostRuntime) -> Result<(), Fail> {
-    for (line, want) in LINES {
+    for (line, want) in &LINES {
         assert!(rt;
-            line_numbers(&parse(rt.alloc(), line.as_bytes())?) == want,
+            line_numbers(&parse(rt.alloc(), line.as_bytes())?) == *want,
             "{line}"
         );
     }
@@ -401,7 +401,7 @@ fn commands(rt: HostRuntime) -> Result<(), Fail> {
 }
 
 // The last two have bytes that are no text.
-const NOT_UNDERSTOOD: [&[u8]; 56] = [
+static NOT_UNDERSTOOD: [&[u8]; 56] = [
     b"jump 1",
     b" # x",
     b"   ",
@@ -462,7 +462,7 @@ const NOT_UNDERSTOOD: [&[u8]; 56] = [
 
 #[test]
 fn not_understood(rt: HostRuntime) -> Result<(), Fail> {
-    for line in NOT_UNDERSTOOD {
+    for line in &NOT_UNDERSTOOD {
         let read = parse(rt.alloc(), line)?;
         assert!(rt; matches!(read, Line::NotUnderstood), "{line:?}");
     }

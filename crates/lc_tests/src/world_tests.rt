@@ -19,7 +19,7 @@ const ONE_NODE: Geometry = Geometry {
 };
 
 // A record of one lock and five bytes in one range has 3 + 2 + (2 + 1) words.
-const COMMIT: [(&str, &str); 5] = [
+static COMMIT: [(&str, &str); 5] = [
     ("begin 0 0 1", "ok"),
     ("range 0 0 1 3 5", "ok"),
     ("write 0 0 1 3 68656c6c6f", "ok"),
@@ -27,7 +27,7 @@ const COMMIT: [(&str, &str); 5] = [
     ("close 0 0", "ok"),
 ];
 
-const FLUSH: [(&str, &str); 4] = [
+static FLUSH: [(&str, &str); 4] = [
     ("step 0", "step 1"),
     ("step 0", "step 2"),
     ("step 0", "step 3"),
@@ -78,7 +78,7 @@ fn it_comes_up_at_the_thirteenth_step(rt: HostRuntime) -> Result<(), Fail> {
 }
 
 // Two areas are synced and read, nothing stands to be merged or written, and one log takes two calls.
-const RECOVERY: [(&str, &str); 8] = [
+static RECOVERY: [(&str, &str); 8] = [
     ("rstep", "step 1"),
     ("rstep", "step 2"),
     ("rstep", "step 3"),
@@ -205,7 +205,7 @@ fn each_area_has_its_list(rt: HostRuntime) -> Result<(), Fail> {
 }
 
 // The second of three records is missing.
-const MISSING: [(&str, &str); 8] = [
+static MISSING: [(&str, &str); 8] = [
     ("rstep", "step 1"),
     ("rstep", "step 2"),
     ("rstep", "step 3"),
@@ -235,7 +235,7 @@ fn a_missing_record_is_a_gap(rt: HostRuntime) -> Result<(), Fail> {
     play(&rt, alloc, &mut world, &MISSING[1..5])
 }
 
-const FAILED: [(&str, &str); 4] = [
+static FAILED: [(&str, &str); 4] = [
     ("step 0", "step 1"),
     ("step 0", "device fault"),
     ("begin 0 0 1", "refused Halted"),
@@ -258,7 +258,7 @@ fn a_stop_brings_a_halted_node_back(rt: HostRuntime) -> Result<(), Fail> {
     Ok(())
 }
 
-const HALTING: [(&str, &str); 20] = [
+static HALTING: [(&str, &str); 20] = [
     ("begin 0 0 2", "ok"),
     ("range 0 0 2 0 1", "ok"),
     ("reserve 0 0", "reserved 0 8"),
@@ -295,7 +295,7 @@ fn a_node_halts_alone(rt: HostRuntime) -> Result<(), Fail> {
     )
 }
 
-const FAILING: [(&str, &str); 29] = [
+static FAILING: [(&str, &str); 29] = [
     ("begin 1 0 1", "ok"),
     ("range 1 0 1 0 1", "ok"),
     ("reserve 1 0", "reserved 0 8"),
@@ -327,7 +327,7 @@ const FAILING: [(&str, &str); 29] = [
     ("page 0 2 0", "step 3"),
 ];
 
-const WRITTEN: [(&str, &str); 3] = [
+static WRITTEN: [(&str, &str); 3] = [
     ("page 0 2 0", "step 4"),
     ("page 0 2 0", "step 5"),
     ("page 0 2 0", "written 1"),

@@ -158,17 +158,19 @@ fn a_page_is_counted_touched_and_settled(rt: HostRuntime) -> Result<(), Fail> {
     Ok(())
 }
 
+static TEXTS: [(PageFault, &str); 3] = [
+    (PageFault::Uncommitted, "the page has uncommitted bytes"),
+    (
+        PageFault::NotNewer,
+        "the number is not above the page's sequence",
+    ),
+    (PageFault::DeviceFault, "the device failed"),
+];
+
 #[test]
 fn faults_have_texts(rt: HostRuntime) -> Result<(), Fail> {
-    for (fault, text) in [
-        (PageFault::Uncommitted, "the page has uncommitted bytes"),
-        (
-            PageFault::NotNewer,
-            "the number is not above the page's sequence",
-        ),
-        (PageFault::DeviceFault, "the device failed"),
-    ] {
-        assert!(rt; fault.to_string(rt.alloc())?.as_str() == text, "{text}");
+    for (fault, text) in &TEXTS {
+        assert!(rt; fault.to_string(rt.alloc())?.as_str() == *text, "{text}");
     }
     Ok(())
 }

@@ -35,18 +35,20 @@ fn ranges_merge(rt: HostRuntime) -> Result<(), Fail> {
     Ok(())
 }
 
+static TEXTS: [(RangeFault, &str); 4] = [
+    (
+        RangeFault::OutOfSegment,
+        "the range ends outside the segment",
+    ),
+    (RangeFault::EmptyRange, "the range is empty"),
+    (RangeFault::TooManyRanges, "there are too many ranges"),
+    (RangeFault::NoMemory, "out of memory"),
+];
+
 #[test]
 fn faults_have_texts(rt: HostRuntime) -> Result<(), Fail> {
-    for (fault, text) in [
-        (
-            RangeFault::OutOfSegment,
-            "the range ends outside the segment",
-        ),
-        (RangeFault::EmptyRange, "the range is empty"),
-        (RangeFault::TooManyRanges, "there are too many ranges"),
-        (RangeFault::NoMemory, "out of memory"),
-    ] {
-        assert!(rt; fault.to_string(rt.alloc())?.as_str() == text, "{text}");
+    for (fault, text) in &TEXTS {
+        assert!(rt; fault.to_string(rt.alloc())?.as_str() == *text, "{text}");
     }
     Ok(())
 }

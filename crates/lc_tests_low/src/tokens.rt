@@ -74,29 +74,31 @@ fn many_records_in_descending_order(rt: HostRuntime) -> Result<(), Fail> {
     Ok(())
 }
 
+static TEXTS: [(TokenFault, &str); 6] = [
+    (
+        TokenFault::Behind { applied: 4, seq: 9 },
+        "applied up to 4, and the token has seen 9",
+    ),
+    (
+        TokenFault::Unflushed,
+        "a record of the segment is not on the disk",
+    ),
+    (
+        TokenFault::Writing,
+        "a page of the segment is being written",
+    ),
+    (TokenFault::Held, "the token is held"),
+    (
+        TokenFault::NotHere { segment: 2 },
+        "the token of segment 2 is not here",
+    ),
+    (TokenFault::NoMemory, "out of memory"),
+];
+
 #[test]
 fn faults_have_texts(rt: HostRuntime) -> Result<(), Fail> {
-    for (fault, text) in [
-        (
-            TokenFault::Behind { applied: 4, seq: 9 },
-            "applied up to 4, and the token has seen 9",
-        ),
-        (
-            TokenFault::Unflushed,
-            "a record of the segment is not on the disk",
-        ),
-        (
-            TokenFault::Writing,
-            "a page of the segment is being written",
-        ),
-        (TokenFault::Held, "the token is held"),
-        (
-            TokenFault::NotHere { segment: 2 },
-            "the token of segment 2 is not here",
-        ),
-        (TokenFault::NoMemory, "out of memory"),
-    ] {
-        assert!(rt; fault.to_string(rt.alloc())?.as_str() == text, "{text}");
+    for (fault, text) in &TEXTS {
+        assert!(rt; fault.to_string(rt.alloc())?.as_str() == *text, "{text}");
     }
     Ok(())
 }

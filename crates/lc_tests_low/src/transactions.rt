@@ -158,40 +158,42 @@ fn a_part_is_laid_over_an_image(rt: HostRuntime) -> Result<(), Fail> {
     Ok(())
 }
 
+static TEXTS: [(TxFault, &str); 11] = [
+    (
+        TxFault::Busy { segment: 3 },
+        "a transaction holds segment 3",
+    ),
+    (
+        TxFault::NotHere { segment: 4 },
+        "the token of segment 4 is elsewhere",
+    ),
+    (TxFault::NoRange, "some byte was not set"),
+    (TxFault::OutOfSegment, "the bytes reach past the segment"),
+    (
+        TxFault::NotLocked,
+        "the transaction did not lock the segment",
+    ),
+    (TxFault::NoMemory, "out of memory"),
+    (
+        TxFault::TooLong { words: 4107 },
+        "the record would have 4107 words",
+    ),
+    (
+        TxFault::SequenceSpent { segment: 5 },
+        "segment 5 has used its last number",
+    ),
+    (TxFault::EmptyRange, "the range is empty"),
+    (TxFault::TooManyRanges, "there are too many ranges"),
+    (
+        TxFault::ReadOnly { segment: 6 },
+        "the transaction locked segment 6 for reading",
+    ),
+];
+
 #[test]
 fn faults_have_texts(rt: HostRuntime) -> Result<(), Fail> {
-    for (fault, text) in [
-        (
-            TxFault::Busy { segment: 3 },
-            "a transaction holds segment 3",
-        ),
-        (
-            TxFault::NotHere { segment: 4 },
-            "the token of segment 4 is elsewhere",
-        ),
-        (TxFault::NoRange, "some byte was not set"),
-        (TxFault::OutOfSegment, "the bytes reach past the segment"),
-        (
-            TxFault::NotLocked,
-            "the transaction did not lock the segment",
-        ),
-        (TxFault::NoMemory, "out of memory"),
-        (
-            TxFault::TooLong { words: 4107 },
-            "the record would have 4107 words",
-        ),
-        (
-            TxFault::SequenceSpent { segment: 5 },
-            "segment 5 has used its last number",
-        ),
-        (TxFault::EmptyRange, "the range is empty"),
-        (TxFault::TooManyRanges, "there are too many ranges"),
-        (
-            TxFault::ReadOnly { segment: 6 },
-            "the transaction locked segment 6 for reading",
-        ),
-    ] {
-        assert!(rt; fault.to_string(rt.alloc())?.as_str() == text, "{text}");
+    for (fault, text) in &TEXTS {
+        assert!(rt; fault.to_string(rt.alloc())?.as_str() == *text, "{text}");
     }
     Ok(())
 }
