@@ -2,10 +2,10 @@
 use crate::events::{STOPS, TWO_NODES, comes_up, event_of, events_of, play, says, up_on};
 use crate::hostile_tests::down_with;
 use lc_core::{Event, Refusal, Reply, ShowFault, World, run_areas, run_in_memory};
-use lc_disk::{Choice, Fuse, MemArea, Stoppable, When};
-use lc_record::{Geometry, Items};
+use lc_disk::{Fuse, MemArea, Stoppable, When};
+use lc_record::Geometry;
 use lc_recover::RecoverFault;
-use std::alloc::{AllocError, Global};
+use std::alloc::Global;
 use std::process::Abort;
 use std::test::*;
 
@@ -158,49 +158,6 @@ fn a_store_that_is_down_shows_its_logs_alone(rt: HostRuntime) -> Result<(), Fail
     assert!(rt; world.page(9, 9, 9) == Err(Refusal::Down));
     assert!(rt; world.log_words(alloc, 0)?.is_empty());
     assert!(rt; world.log_words(alloc, 1) == Err(ShowFault::Unknown));
-    Ok(())
-}
-
-// A stop with these choices, of each area in the order of the store.
-fn stop_of(alloc: Global, choices: &[&[Choice]]) -> Result<Event, AllocError> {
-    let mut lists = Vec::new(alloc);
-    for list in choices {
-        lists.push(Items::new(list.to_vec(alloc)?))?;
-    }
-    Ok(Event::Stop {
-        choices: Items::new(lists),
-    })
-}
-
-const OPEN: &[Choice] = &[Choice::Byte(0xa5)];
-
-const CLOSED: &[Choice] = &[Choice::Byte(0)];
-
-// Lists of the log and of the segment, of which nothing but the gate of the log is not stable, and whether the commit is
-// there behind them.
-const LISTS: [(&[&[Choice]], bool); 9] = [
-    (&[OPEN, CLOSED], true),
-    (&[CLOSED, OPEN], false),
-    (&[], true),
-    (&[&[], CLOSED], true),
-    (&[OPEN], true),
-    (&[CLOSED], false),
-    (&[&[Choice::Stable, Choice::Byte(0xa5)]], false),
-    (&[OPEN, CLOSED, CLOSED], true),
-    (&[CLOSED, OPEN, OPEN], false),
-];
-
-#[test]
-fn each_area_has_its_list(rt: HostRuntime) -> Result<(), Fail> {
-    let alloc = rt.alloc();
-    for (choices, is_kept) in LISTS {
-        let mut world = committed(&rt, alloc)?;
-        play(&rt, alloc, &mut world, &FLUSH[..3])?;
-        world.step(alloc, &stop_of(alloc, choices)?)?;
-        comes_up(alloc, &mut world)?;
-        let front: &[u8] = if is_kept { b"\0\0\0hello" } else { b"" };
-        assert!(rt; shows(&world, front));
-    }
     Ok(())
 }
 
