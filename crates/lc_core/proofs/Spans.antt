@@ -2,20 +2,23 @@
 use Rattle.std.proofs.Common.{◌≡◌, ℕ, zero, suc, ◌+◌, ◌-◌, ◌<◌, ◌≤◌, ◌^◌, Bool, true, false, List, [], ◌∷◌, ◌++◌, map, length, take, drop, slice_set, slice_index_or, slice_get, Some, get_or, refl, sym, ap, ◌∙◌, arith}
 use Rattle.std.specs.Prelude.{if◌then◌else◌}
 use Rattle.std.proofs.lemmas.Bool.{lt-ltb, le-ltb}
-use Rattle.std.proofs.lemmas.List.{length-append, take_at, drop_at, take-append-drop, append-nil, length-map, drop-map, map-append, map-set, length-drop, drop-drop}
+use Rattle.std.proofs.lemmas.List.{length-append, take_at, drop_at, take-append-drop, append-nil, length-map, drop-map, map-append, map-set, length-drop, drop-drop, drop-append-le}
 use Rattle.std.proofs.lemmas.List.Concat.{flat_map-append}
 use Rattle.lc_model.specs.History.{leading}
 use Rattle.lc_core.specs.Places.{same_some}
 use Rattle.lc_core.specs.declared.place.Place.{Place}
-use Rattle.lc_core.specs.Records.{Spelled, Kept, all_words, marks_of, count_of, span_of, closing, closed_at, spelled, places_of, shifted, AreKept}
+use Rattle.lc_core.specs.Records.{Spelled, Kept, all_words, marks_of, count_of, front_of, span_of, closing, closed_at, spelled, places_of, shifted, AreKept, Lie}
 
 -- the fields of what contracts see so
-pub record Holds (before : ℕ) (words : List ℕ) (places : List Place) (front : ℕ) (k : Kept) : Type 0 where
-  pub before_is : before ≡ k.before
-  pub words_are : words ≡ all_words k.records
-  pub places_are : places ≡ places_of 0 k.records
-  pub front_is : front ≡ leading (marks_of k.records)
-  pub few : count_of k < 2 ^ 63
+pub record Holds (first : ℕ) (words : List ℕ) (places : List Place) (gone front : ℕ) (k : Kept) : Type 0 where
+  pub whole : List Spelled
+  pub before_is : first + gone ≡ k.before
+  pub rest_is : drop gone whole ≡ k.records
+  pub words_are : words ≡ all_words whole
+  pub places_are : places ≡ places_of 0 whole
+  pub front_is : front ≡ leading (marks_of whole)
+  pub gone_closed : gone ≤ front
+  pub few : first + length whole < 2 ^ 63
 
 pub length-places_of : (start : ℕ) (rs : List Spelled) → length (places_of start rs) ≡ length rs
 length-places_of start [] = refl
@@ -34,46 +37,43 @@ spelled_again start (r ∷ rs) =
     ∙ ap (λ (ws : List ℕ). r ∷ spelled end ws (places_of end rs)) (drop_at r.words (all_words rs) (end - start) size)
     ∙ ap (λ (l : List Spelled). r ∷ l) (spelled_again end rs)
 
-pub held : (before : ℕ) (words : List ℕ) (places : List Place) (front : ℕ) (k : Kept) → AreKept before words places front
-    → record { before = before; records = spelled 0 words places } ≡ k → Holds before words places front k
-held before words places front k h is =
-    let rs : spelled 0 words places ≡ k.records = ap (λ (k : Kept). k.records) is in
-    let count : length places ≡ length k.records = ap length h.places_are ∙ length-places_of 0 (spelled 0 words places) ∙ ap length rs in
-    let before_is : before ≡ k.before = ap (λ (k : Kept). k.before) is in
+pub held : (first : ℕ) (words : List ℕ) (places : List Place) (gone front : ℕ) (k : Kept) → AreKept first words places gone front
+    → record { before = first + gone; records = drop gone (spelled 0 words places) } ≡ k → Holds first words places gone front k
+held first words places gone front k h is =
+    let count : length places ≡ length (spelled 0 words places) = ap length h.places_are ∙ length-places_of 0 (spelled 0 words places) in
     record {
-      before_is = before_is;
-      words_are = h.words_are ∙ ap all_words rs;
-      places_are = h.places_are ∙ ap (places_of 0) rs;
-      front_is = h.front_is ∙ ap (λ (l : List Spelled). leading (marks_of l)) rs;
-      few = omega (arith, h.few, count, before_is);
+      whole = spelled 0 words places;
+      before_is = ap (λ (k : Kept). k.before) is;
+      rest_is = ap (λ (k : Kept). k.records) is;
+      words_are = h.words_are;
+      places_are = h.places_are;
+      front_is = h.front_is;
+      gone_closed = h.gone_closed;
+      few = omega (arith, h.few, count);
     }
 
-pub seen_so : (before : ℕ) (words : List ℕ) (places : List Place) (front : ℕ) (k : Kept) → Holds before words places front k
-    → record { before = before; records = spelled 0 words places } ≡ k
-seen_so before words places front k h =
-    let rs : spelled 0 words places ≡ k.records = rw (h.words_are, h.places_are) (spelled_again 0 k.records) in
-    rw (rs, h.before_is) refl
+whole_is : (first : ℕ) (words : List ℕ) (places : List Place) (gone front : ℕ) (k : Kept) (h : Holds first words places gone front k)
+    → spelled 0 words places ≡ h.whole
+whole_is first words places gone front k h = rw (h.words_are, h.places_are) (spelled_again 0 h.whole)
 
-pub kept_so : (before : ℕ) (words : List ℕ) (places : List Place) (front : ℕ) (k : Kept) → Holds before words places front k
-    → AreKept before words places front
-kept_so before words places front k h =
-    let rs : spelled 0 words places ≡ k.records = ap (λ (k : Kept). k.records) (seen_so before words places front k h) in
+pub seen_so : (first : ℕ) (words : List ℕ) (places : List Place) (gone front : ℕ) (k : Kept) → Holds first words places gone front k
+    → record { before = first + gone; records = drop gone (spelled 0 words places) } ≡ k
+seen_so first words places gone front k h =
+    ap (λ (rs : List Spelled). record { before = first + gone; records = drop gone rs }) (whole_is first words places gone front k h)
+    ∙ ap (λ (rs : List Spelled). record { before = first + gone; records = rs }) h.rest_is
+    ∙ ap (λ (n : ℕ). record { before = n; records = k.records }) h.before_is
+
+pub kept_so : (first : ℕ) (words : List ℕ) (places : List Place) (gone front : ℕ) (k : Kept) → Holds first words places gone front k
+    → AreKept first words places gone front
+kept_so first words places gone front k h =
+    let rs : spelled 0 words places ≡ h.whole = whole_is first words places gone front k h in
     record {
       words_are = h.words_are ∙ ap all_words (sym rs);
       places_are = h.places_are ∙ ap (places_of 0) (sym rs);
       front_is = h.front_is ∙ ap (λ (l : List Spelled). leading (marks_of l)) (sym rs);
-      few = omega (arith, h.few, h.before_is, ap length h.places_are, length-places_of 0 k.records);
+      gone_closed = h.gone_closed;
+      few = omega (arith, h.few, ap length h.places_are, length-places_of 0 h.whole);
     }
-
-pub holds_as : (before : ℕ) (words words' : List ℕ) (places places' : List Place) (front : ℕ) (k : Kept)
-    → words ≡ words' → places ≡ places' → Holds before words' places' front k → Holds before words places front k
-holds_as before words words' places places' front k same same_places h = record {
-  before_is = h.before_is;
-  words_are = same ∙ h.words_are;
-  places_are = same_places ∙ h.places_are;
-  front_is = h.front_is;
-  few = h.few;
-}
 
 -- a record more
 
@@ -267,64 +267,142 @@ one_word [] place r is = absurd cc
 one_word (x ∷ rs) zero r is = append-nil x.words ∙ ap (λ (r : Spelled). r.words) (same_some x r is)
 one_word (x ∷ rs) (suc place) r is = one_word rs place r is
 
--- the fields behind each change
+-- what is dropped stands in front of what is closed and of what is added
 
-module _ (before : ℕ) (words : List ℕ) (places : List Place) (front : ℕ) (k : Kept) (h : Holds before words places front k) where
+drop_closing : (gone place : ℕ) (rs : List Spelled) → gone ≤ place → drop gone (closing place rs) ≡ closing (place - gone) (drop gone rs)
+drop_closing zero place rs few = let same : place ≡ place - 0 = omega arith in ap (λ (n : ℕ). closing n rs) same
+drop_closing (suc gone) place [] few = refl
+drop_closing (suc gone) zero (r ∷ rs) few = absurd (omega (arith, few))
+drop_closing (suc gone) (suc place) (r ∷ rs) few =
+    let same : place - gone ≡ suc place - suc gone = omega arith in
+    drop_closing gone place rs (omega (arith, few)) ∙ ap (λ (n : ℕ). closing n (drop gone rs)) same
+
+-- the fields, and those behind each change
+
+module _ (first : ℕ) (words : List ℕ) (places : List Place) (gone front : ℕ) (k : Kept) (h : Holds first words places gone front k) where
+  pub lie_so : Lie words places
+  lie_so = (h.whole, h.places_are, h.words_are)
+
+  pub few_gone : gone ≤ length h.whole
+  few_gone = omega (arith, h.gone_closed, h.front_is, leading_le h.whole)
+
+  pub count_so : length places ≡ gone + length k.records
+  count_so = omega (arith, few_gone, ap length h.places_are, length-places_of 0 h.whole, ap length h.rest_is, length-drop gone h.whole)
+
+  pub few_so : first + length places < 2 ^ 63
+  few_so = omega (arith, h.few, ap length h.places_are, length-places_of 0 h.whole)
+
+  pub front_so : front ≡ gone + leading (marks_of k.records)
+  front_so =
+      let less : gone ≤ leading (marks_of h.whole) = omega (arith, h.gone_closed, h.front_is) in
+      let left : leading (drop gone (marks_of h.whole)) ≡ leading (marks_of k.records) =
+      ap leading (drop_marks gone h.whole) ∙ ap (λ (rs : List Spelled). leading (marks_of rs)) h.rest_is in
+      omega (arith, h.front_is, leading_drop gone (marks_of h.whole) less, left)
+
+  -- what stands behind a place of a record that is kept
+  pub behind_so : (place kept : ℕ) → place ≡ gone + kept → drop place h.whole ≡ drop kept k.records
+  behind_so place kept is =
+      ap (λ (n : ℕ). drop n h.whole) is ∙ sym (drop-drop kept gone h.whole) ∙ ap (drop kept) h.rest_is
+
   pub grown_so : (more : List ℕ) (end : ℕ) → end ≡ length (words ++ more) → count_of k + 1 < 2 ^ 63
-      → Holds before (words ++ more) (places ++ record { end = end; closed = false } ∷ []) front (record k { records = k.records ++ record { words = more; closed = false } ∷ [] })
+      → Holds first (words ++ more) (places ++ record { end = end; closed = false } ∷ []) gone front (record k { records = k.records ++ record { words = more; closed = false } ∷ [] })
   grown_so more end is few =
       let r : Spelled = record { words = more; closed = false } in
-      let size : end ≡ 0 + length (all_words k.records) + length more = omega (arith, is, length-append words more, ap length h.words_are) in
+      let size : end ≡ 0 + length (all_words h.whole) + length more = omega (arith, is, length-append words more, ap length h.words_are) in
       record {
+        whole = h.whole ++ r ∷ [];
         before_is = h.before_is;
-        words_are = ap (λ (ws : List ℕ). ws ++ more) h.words_are ∙ sym (words_more k.records r);
-        places_are = ap (λ (ps : List Place). ps ++ record { end = end; closed = false } ∷ []) h.places_are ∙ sym (places_more 0 k.records r end size);
-        front_is = h.front_is ∙ sym (ap leading (map-append (λ (r : Spelled). r.closed) k.records (r ∷ [])) ∙ leading_more (marks_of k.records));
-        few = omega (arith, few, length-append k.records (r ∷ []));
+        rest_is = drop-append-le gone h.whole (r ∷ []) few_gone ∙ ap (λ (rs : List Spelled). rs ++ r ∷ []) h.rest_is;
+        words_are = ap (λ (ws : List ℕ). ws ++ more) h.words_are ∙ sym (words_more h.whole r);
+        places_are = ap (λ (ps : List Place). ps ++ record { end = end; closed = false } ∷ []) h.places_are ∙ sym (places_more 0 h.whole r end size);
+        front_is = h.front_is ∙ sym (ap leading (map-append (λ (r : Spelled). r.closed) h.whole (r ∷ [])) ∙ leading_more (marks_of h.whole));
+        gone_closed = h.gone_closed;
+        few = omega (arith, few, length-append h.whole (r ∷ []), h.before_is, few_gone, ap length h.rest_is, length-drop gone h.whole);
       }
 
-  pub closed_so : (place end now : ℕ) (d : Place) → end ≡ (slice_index_or places place d).end
+  pub closed_so : (place kept end now : ℕ) (d : Place) → place ≡ gone + kept → end ≡ (slice_index_or places place d).end
       → now ≡ leading (map (λ (p : Place). p.closed) (slice_set places place (record { end = end; closed = true })))
-      → Holds before words (slice_set places place (record { end = end; closed = true })) now (record k { records = closing place k.records })
-  closed_so place end now d is count =
-      let same : end ≡ (slice_index_or (places_of 0 k.records) place d).end = is ∙ ap (λ (ps : List Place). (slice_index_or ps place d).end) h.places_are in
-      let are : slice_set places place (record { end = end; closed = true }) ≡ places_of 0 (closing place k.records) =
+      → Holds first words (slice_set places place (record { end = end; closed = true })) gone now (record k { records = closing kept k.records })
+  closed_so place kept end now d at is count =
+      let same : end ≡ (slice_index_or (places_of 0 h.whole) place d).end = is ∙ ap (λ (ps : List Place). (slice_index_or ps place d).end) h.places_are in
+      let are : slice_set places place (record { end = end; closed = true }) ≡ places_of 0 (closing place h.whole) =
       ap (λ (ps : List Place). slice_set ps place (record { end = end; closed = true })) h.places_are
-      ∙ ap (λ (n : ℕ). slice_set (places_of 0 k.records) place (record { end = n; closed = true })) same
-      ∙ sym (closing_places 0 place k.records d) in
+      ∙ ap (λ (n : ℕ). slice_set (places_of 0 h.whole) place (record { end = n; closed = true })) same
+      ∙ sym (closing_places 0 place h.whole d) in
+      let front_is : now ≡ leading (marks_of (closing place h.whole)) =
+      count ∙ ap (λ (ps : List Place). leading (map (λ (p : Place). p.closed) ps)) are ∙ ap leading (marks-places_of 0 (closing place h.whole)) in
+      let rest : place - gone ≡ kept = omega (arith, at) in
       record {
+        whole = closing place h.whole;
         before_is = h.before_is;
-        words_are = h.words_are ∙ sym (closing_words place k.records);
+        rest_is =
+            drop_closing gone place h.whole (omega (arith, at))
+            ∙ ap (λ (n : ℕ). closing n (drop gone h.whole)) rest ∙ ap (closing kept) h.rest_is;
+        words_are = h.words_are ∙ sym (closing_words place h.whole);
         places_are = are;
-        front_is = count ∙ ap (λ (ps : List Place). leading (map (λ (p : Place). p.closed) ps)) are ∙ ap leading (marks-places_of 0 (closing place k.records));
-        few = omega (arith, h.few, closing_count place k.records);
+        front_is = front_is;
+        gone_closed = omega (arith, h.gone_closed, h.front_is, front_is, leading_set (marks_of h.whole) place, ap leading (closing_marks place h.whole));
+        few = omega (arith, h.few, closing_count place h.whole);
       }
 
   -- from the marks that stood in front, the others are counted
   pub known_so : (place end : ℕ) → front + leading (drop front (map (λ (p : Place). p.closed) (slice_set places place (record { end = end; closed = true }))))
       ≡ leading (map (λ (p : Place). p.closed) (slice_set places place (record { end = end; closed = true })))
   known_so place end =
-      let marks : map (λ (p : Place). p.closed) places ≡ marks_of k.records = ap (map (λ (p : Place). p.closed)) h.places_are ∙ marks-places_of 0 k.records in
-      let set : map (λ (p : Place). p.closed) (slice_set places place (record { end = end; closed = true })) ≡ slice_set (marks_of k.records) place true =
+      let marks : map (λ (p : Place). p.closed) places ≡ marks_of h.whole = ap (map (λ (p : Place). p.closed)) h.places_are ∙ marks-places_of 0 h.whole in
+      let set : map (λ (p : Place). p.closed) (slice_set places place (record { end = end; closed = true })) ≡ slice_set (marks_of h.whole) place true =
       map-set (λ (p : Place). p.closed) places place (record { end = end; closed = true }) ∙ ap (λ (ms : List Bool). slice_set ms place true) marks in
-      rw (set, h.front_is) (leading_set (marks_of k.records) place)
+      rw (set, h.front_is) (leading_set (marks_of h.whole) place)
 
-  pub dropped_so : (number count cut : ℕ) → k.before ≤ number → count ≡ number - k.before → count ≤ front → cut ≡ length (all_words (take count k.records))
-      → Holds number (drop cut words) (map (shifted cut) (drop count places)) (front - count) (record { before = number; records = drop count k.records })
-  dropped_so number count cut kept counted few size =
-      let less : count ≤ leading (marks_of k.records) = omega (arith, few, h.front_is) in
-      let left : leading (marks_of (drop count k.records)) ≡ leading (drop count (marks_of k.records)) = ap leading (sym (drop_marks count k.records)) in
-      let start : 0 + length (all_words (take count k.records)) ≡ 0 + cut = omega (arith, size) in
+  -- more in front are dropped
+  pub forgotten_so : (number now : ℕ) → k.before ≤ number → number ≤ front_of k → now ≡ number - first
+      → Holds first words places now front (record { before = number; records = drop (number - k.before) k.records })
+  forgotten_so number now kept closed is =
+      let at : now ≡ gone + (number - k.before) = omega (arith, is, kept, h.before_is) in
       record {
-        before_is = refl;
-        words_are = ap (drop cut) h.words_are ∙ ap (λ (n : ℕ). drop n (all_words k.records)) size ∙ words_from count k.records;
-        places_are =
-            ap (λ (ps : List Place). map (shifted cut) (drop count ps)) h.places_are
-            ∙ ap (map (shifted cut)) (places_from count 0 k.records)
-            ∙ places_shifted cut 0 (0 + length (all_words (take count k.records))) (drop count k.records) start;
-        front_is = omega (arith, left, leading_drop count (marks_of k.records) less, h.front_is);
-        few = omega (arith, h.few, length-drop count k.records, leading_le k.records, less, counted, kept);
+        whole = h.whole;
+        before_is = omega (arith, is, kept, h.before_is);
+        rest_is = behind_so now (number - k.before) at;
+        words_are = h.words_are;
+        places_are = h.places_are;
+        front_is = h.front_is;
+        gone_closed = omega (arith, at, kept, closed, h.before_is, front_so);
+        few = h.few;
       }
+
+  -- what is dropped is moved out
+  pub moved_so : (cut : ℕ) → cut ≡ length (all_words (take gone h.whole))
+      → Holds (first + gone) (drop cut words) (map (shifted cut) (drop gone places)) 0 (front - gone) k
+  moved_so cut size =
+      let less : gone ≤ leading (marks_of h.whole) = omega (arith, h.gone_closed, h.front_is) in
+      let left : leading (marks_of (drop gone h.whole)) ≡ leading (drop gone (marks_of h.whole)) = ap leading (sym (drop_marks gone h.whole)) in
+      let start : 0 + length (all_words (take gone h.whole)) ≡ 0 + cut = omega (arith, size) in
+      record {
+        whole = drop gone h.whole;
+        before_is = omega (arith, h.before_is);
+        rest_is = h.rest_is;
+        words_are = ap (drop cut) h.words_are ∙ ap (λ (n : ℕ). drop n (all_words h.whole)) size ∙ words_from gone h.whole;
+        places_are =
+            ap (λ (ps : List Place). map (shifted cut) (drop gone ps)) h.places_are
+            ∙ ap (map (shifted cut)) (places_from gone 0 h.whole)
+            ∙ places_shifted cut 0 (0 + length (all_words (take gone h.whole))) (drop gone h.whole) start;
+        front_is = omega (arith, left, leading_drop gone (marks_of h.whole) less, h.front_is);
+        gone_closed = omega arith;
+        few = omega (arith, h.few, length-drop gone h.whole, few_gone);
+      }
+
+pub holds_as : (first : ℕ) (words words' : List ℕ) (places places' : List Place) (gone front : ℕ) (k : Kept)
+    → words ≡ words' → places ≡ places' → Holds first words' places' gone front k → Holds first words places gone front k
+holds_as first words words' places places' gone front k same same_places h = record {
+  whole = h.whole;
+  before_is = h.before_is;
+  rest_is = h.rest_is;
+  words_are = same ∙ h.words_are;
+  places_are = same_places ∙ h.places_are;
+  front_is = h.front_is;
+  gone_closed = h.gone_closed;
+  few = h.few;
+}
 
 -- spans
 

@@ -1,5 +1,5 @@
 -- The records that a node reserved, as contracts see them, and how they are kept: all words in one list, with places.
-use Rattle.std.specs.Prelude.{◌≡◌, ℕ, zero, suc, ◌+◌, ◌-◌, ◌<◌, ◌^◌, nat_lt, if◌then◌else◌, Bool, true, List, [], ◌∷◌, map, length, take, drop}
+use Rattle.std.specs.Prelude.{◌≡◌, ℕ, zero, suc, ◌+◌, ◌-◌, ◌<◌, ◌≤◌, ◌^◌, nat_lt, if◌then◌else◌, Bool, true, List, [], ◌∷◌, map, length, take, drop}
 use Rattle.std.specs.List.{flat_map}
 use Rattle.lc_model.specs.History.{leading}
 use Rattle.lc_core.specs.declared.place.Place.{Place}
@@ -61,9 +61,15 @@ places_of start (r ∷ rs) =
 abbrev pub shifted : ℕ → Place → Place
 shifted cut p = record p { end = p.end - cut }
 
--- the words are those of the records that are kept, and the places are theirs
-pub record AreKept (before : ℕ) (words : List ℕ) (places : List Place) (front : ℕ) : Type 0 where
+-- the words are those of records with these places
+abbrev pub Lie : List ℕ → List Place → Type 0
+Lie words places = (rs : List Spelled) × (places ≡ places_of 0 rs) × (words ≡ all_words rs)
+
+-- the words are those of the records with these places, the first so many of which are closed; of these the first so many
+-- were dropped
+pub record AreKept (first : ℕ) (words : List ℕ) (places : List Place) (gone front : ℕ) : Type 0 where
   pub words_are : words ≡ all_words (spelled 0 words places)
   pub places_are : places ≡ places_of 0 (spelled 0 words places)
   pub front_is : front ≡ leading (marks_of (spelled 0 words places))
-  pub few : before + length places < 2 ^ 63
+  pub gone_closed : gone ≤ front
+  pub few : first + length places < 2 ^ 63

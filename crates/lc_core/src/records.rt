@@ -1,7 +1,7 @@
 //! The records that a node reserved, in the order of their reservations.
-ghost use Rattle.std.specs.Prelude.{◌≡◌, ◌+◌, ◌-◌, ◌<◌, ◌≤◌, ◌^◌, ℕ, [], ◌∷◌, ◌++◌, map, length, take, drop, false, Some, IfOk, OnErr, All, slice_get};
+ghost use Rattle.std.specs.Prelude.{◌≡◌, ◌+◌, ◌-◌, ◌<◌, ◌≤◌, ◌^◌, ℕ, List, [], ◌∷◌, ◌++◌, map, length, take, drop, false, Some, IfOk, OnErr, All, slice_get};
 ghost use Rattle.lc_model.specs.History.{leading};
-ghost use Rattle.lc_core.specs.Records.{Spelled, all_words, count_of, front_of, span_of, marks_of, shifted, closed_at};
+ghost use Rattle.lc_core.specs.Records.{Lie, Spelled, all_words, count_of, front_of, span_of, places_of, shifted, closed_at};
 
 use crate::place::Place;
 use std::alloc::{AllocError, Global};
@@ -11,25 +11,29 @@ use std::marker::Model;
 const MOST_RECORDS: u64 = (1 << 63) - 1;
 
 /// The records of a node since the last recovery, as one list of words, with the place of each. Those in front may
-/// have been dropped; a record keeps its number, which counts all that were reserved before it.
+/// have been dropped; a record keeps its number, which counts all that were reserved before it. What is dropped is moved
+/// out only where it is more than half of the words, so that a word is moved once for each that goes at most.
 #[derive(Drop)]
 pub(crate) struct Records {
     words: Vec<u64>,
     places: Vec<Place>,
-    // How many were dropped.
-    before: u64,
-    // How many of the rest stand in front of the first that is not closed.
+    // The number of the record at the first place.
+    first: u64,
+    // How many of the places, from the first, are of records that were dropped.
+    gone: usize,
+    // How many places stand in front of the first record that is not closed.
     leading: usize,
 }
 
 impl Model for Records {
+    ghost use Rattle.std.specs.Prelude.{◌+◌, drop};
     ghost use Rattle.lc_core.specs.Records.{Kept, spelled, AreKept};
 
     ghost Value = { Kept };
 
-    ghost view = { λ r. record { before = r.before; records = spelled 0 r.words.items r.places.items } };
+    ghost view = { λ r. record { before = r.first + r.gone; records = drop r.gone (spelled 0 r.words.items r.places.items) } };
 
-    ghost invariant = { λ r. AreKept r.before r.words.items r.places.items r.leading };
+    ghost invariant = { λ r. AreKept r.first r.words.items r.places.items r.gone r.leading };
 }
 
 impl Records {
@@ -40,7 +44,8 @@ impl Records {
         Records {
             words: Vec::new(alloc),
             places: Vec::new(alloc),
-            before: 0,
+            first: 0,
+            gone: 0,
             leading: 0,
         }
     }
@@ -49,14 +54,14 @@ impl Records {
     pub(crate) fn count(&self) -> u64
         ensures { result ≡ count_of self.now }
     {
-        self.before + self.places.len() as u64
+        self.first + self.places.len() as u64
     }
 
     /// How many stand in front of the first that is not closed.
     pub(crate) fn front(&self) -> u64
         ensures { result ≡ front_of self.now }
     {
-        self.before + self.leading as u64
+        self.first + self.leading as u64
     }
 
     /// Adds a record of these words, which is not closed, and answers its number. It takes memory for each, and where memory
@@ -86,10 +91,10 @@ impl Records {
     pub(crate) fn close(&mut self, number: u64)
         ensures { self.new ≡ closed_at number self.old }
     {
-        if number < self.before || number >= self.count() {
+        if number < self.first + self.gone as u64 || number >= self.count() {
             return;
         }
-        let place = (number - self.before) as usize;
+        let place = (number - self.first) as usize;
         self.places[place].closed = true;
         self.leading = leading_from(self.places.as_slice(), self.leading);
     }
@@ -100,8 +105,13 @@ impl Records {
         requires reserved { number < count_of self.now }
         ensures { (r : Spelled) → slice_get self.now.records (number - self.now.before) ≡ Some r → result.now ≡ r.words }
     {
-        let place = (number - self.before) as usize;
-        self.between(place, place + 1)
+        let place = (number - self.first) as usize;
+        between(
+            self.words.as_slice(),
+            self.places.as_slice(),
+            place,
+            place + 1,
+        )
     }
 
     /// The words of the records from one number up to another, one after another.
@@ -111,48 +121,65 @@ impl Records {
         requires reserved { to ≤ count_of self.now }
         ensures { result.now ≡ span_of self.now from to }
     {
-        self.between((from - self.before) as usize, (to - self.before) as usize)
+        between(
+            self.words.as_slice(),
+            self.places.as_slice(),
+            (from - self.first) as usize,
+            (to - self.first) as usize,
+        )
     }
 
-    /// Drops the records below this number, which are closed. It takes no memory.
+    /// Drops the records below this number, which are closed. It takes no memory, and over many calls the time of what is
+    /// dropped.
     pub(crate) fn forget(&mut self, number: u64)
         requires kept { self.old.before ≤ number }
         requires closed { number ≤ front_of self.old }
         ensures { self.new ≡ record { before = number; records = drop (number - self.old.before) self.old.records } }
     {
-        if number == self.before {
+        self.gone = (number - self.first) as usize;
+        self.move_up();
+    }
+
+    // Moves what is kept to the front, where more than half of the words are of records that were dropped.
+    fn move_up(&mut self)
+        ensures { self.new ≡ self.old }
+    {
+        let gone = self.gone;
+        let cut = start_of(self.places.as_slice(), gone);
+        if cut <= self.words.len() / 2 {
             return;
         }
-        let count = (number - self.before) as usize;
-        let cut = self.start(count);
         self.words.drain(..cut);
-        self.places.drain(..count);
+        self.places.drain(..gone);
         shift(self.places.as_mut_slice(), cut);
-        self.leading -= count;
-        self.before = number;
+        self.leading -= gone;
+        self.first += gone as u64;
+        self.gone = 0;
     }
+}
 
-    // The words of the records between two places of those that are kept.
-    fn between(&self, from: usize, to: usize) -> &[u64]
-        requires order { from ≤ to }
-        requires within { to ≤ length self.now.records }
-        ensures { result.now ≡ all_words (take (to - from) (drop from self.now.records)) }
-    {
-        let start = self.start(from);
-        let end = self.start(to);
-        &self.words[start..end]
-    }
+// The words of the records from one place up to another.
+fn between<'a>(words: &'a [u64], places: &[Place], from: usize, to: usize) -> &'a [u64]
+    requires order { from ≤ to }
+    requires within { to ≤ length places.now }
+    requires lie { Lie words.now places.now }
+    ensures { (rs : List Spelled) → places.now ≡ places_of 0 rs → words.now ≡ all_words rs
+        → result.now ≡ all_words (take (to - from) (drop from rs)) }
+{
+    let start = start_of(places, from);
+    let end = start_of(places, to);
+    &words[start..end]
+}
 
-    // Where the words begin of the record at this place among those that are kept.
-    fn start(&self, place: usize) -> usize
-        requires { place ≤ length self.now.records }
-        ensures { result ≡ length (all_words (take place self.now.records)) }
-    {
-        if place == 0 {
-            return 0;
-        }
-        self.places[place - 1].end
+// Where the words begin of the record at this place, or those end of the last.
+fn start_of(places: &[Place], place: usize) -> usize
+    requires { place ≤ length places.now }
+    ensures { (rs : List Spelled) → places.now ≡ places_of 0 rs → result ≡ length (all_words (take place rs)) }
+{
+    if place == 0 {
+        return 0;
     }
+    places[place - 1].end
 }
 
 // How many places stand in front of the first that is not closed, from so many that do.
