@@ -22,6 +22,9 @@ static ZEROS: [u8; 4096] = [0; 4096];
 /// Behind a write or a sync that failed each call is a fault, and none is made of the system, until the file is opened anew:
 /// what it holds in memory may then be other than what is on the device, and the system no longer tells.
 ///
+/// A sync calls the system only where there is something to sync: behind the opening, for whoever had the file before may have
+/// left bytes that are not stable, and behind a write. A write of no bytes calls nothing.
+///
 /// Nothing is known of what other processes do to the file, so contracts never see it as honest; a stop leaves it as it is.
 /// The file is closed where the area is dropped. This project's own.
 #[derive(Drop)]
@@ -30,6 +33,7 @@ pub struct FileArea<F = File, W = NoWitness> {
     len: usize,
     faults: FaultCount,
     is_given_up: bool,
+    is_unsynced: bool,
     witness: W,
 }
 
@@ -106,7 +110,7 @@ impl<F: HeldFile> FileArea<F> {
         Ok(FileArea::over(file, len))
     }
 
-    // A file of this length, which has not failed yet.
+    // A file of this length, which has not failed yet, and may hold what is not stable.
     fn over(file: F, len: usize) -> FileArea<F>
         ensures len { file_len result ≡ len }
         ensures failures { file_failures result ≡ 0 }
@@ -116,6 +120,7 @@ impl<F: HeldFile> FileArea<F> {
             len,
             faults: FaultCount::none(),
             is_given_up: false,
+            is_unsynced: true,
             witness: NoWitness,
         }
     }
@@ -130,6 +135,7 @@ impl<F: HeldFile> FileArea<F> {
             len,
             faults,
             is_given_up,
+            is_unsynced,
             witness: _,
         } = self;
         FileArea {
@@ -137,6 +143,7 @@ impl<F: HeldFile> FileArea<F> {
             len,
             faults,
             is_given_up,
+            is_unsynced,
             witness,
         }
     }
@@ -274,6 +281,10 @@ impl<F: HeldFile, W: FaultWitness> Area for FileArea<F, W> {
         if self.is_given_up {
             return self.refused();
         }
+        if bytes.is_empty() {
+            return Ok(());
+        }
+        self.is_unsynced = true;
         let done = self.file.write_all_at(bytes, at as u64);
         self.counted(FileCall::Write, done)
     }
@@ -282,7 +293,11 @@ impl<F: HeldFile, W: FaultWitness> Area for FileArea<F, W> {
         if self.is_given_up {
             return self.refused();
         }
+        if !self.is_unsynced {
+            return Ok(());
+        }
         let done = self.file.sync_data();
+        self.is_unsynced = done.is_err();
         self.counted(FileCall::Sync, done)
     }
 

@@ -91,9 +91,8 @@ const LOCKED: &str = "open store\nlock store\n";
 // What its recovery reads.
 const READING: &str = "sync store/log0\nsync store/seg1\nread store/log0\nread store/seg1\n";
 
-// Its recovery where no page is behind: the areas are synced and read, and the log, which is empty, is emptied.
-const RECOVERING: &str =
-    "sync store/log0\nsync store/seg1\nread store/log0\nread store/seg1\nsync store/log0\n";
+// Its recovery where no page is behind: the areas are synced and read, and the log, which is empty, has nothing to be synced.
+const RECOVERING: &str = READING;
 
 // The emptying of its log where it has records.
 const EMPTYING: &str = "write store/log0 0 1\nsync store/log0\n";
@@ -195,17 +194,17 @@ fn check_all(rt: &impl Abort, alloc: Global, shelf: &Shelf, steps: &[Step]) -> R
     Ok(())
 }
 
-// The writing of the first page of a segment, and of its second one.
-const FIRST_OF_1: &str = "sync store/seg1\nwrite store/seg1 1 271\nsync store/seg1\n\
+// The writing of the first page of a segment, and of its second one. What was synced before is not synced again.
+const FIRST_OF_1: &str = "write store/seg1 1 271\nsync store/seg1\n\
 write store/seg1 0 1\nsync store/seg1\n";
 
-const SECOND_OF_1: &str = "sync store/seg1\nwrite store/seg1 545 271\nsync store/seg1\n\
+const SECOND_OF_1: &str = "write store/seg1 545 271\nsync store/seg1\n\
 write store/seg1 544 1\nsync store/seg1\n";
 
-const FIRST_OF_2: &str = "sync store/seg2\nwrite store/seg2 1 271\nsync store/seg2\n\
+const FIRST_OF_2: &str = "write store/seg2 1 271\nsync store/seg2\n\
 write store/seg2 0 1\nsync store/seg2\n";
 
-const SECOND_OF_2: &str = "sync store/seg2\nwrite store/seg2 545 271\nsync store/seg2\n\
+const SECOND_OF_2: &str = "write store/seg2 545 271\nsync store/seg2\n\
 write store/seg2 544 1\nsync store/seg2\n";
 
 static USED: [Step; 6] = [
@@ -467,11 +466,11 @@ fn a_store_in_use_is_not_opened(rt: HostRuntime) -> Result<(), Fail> {
     check_all(&rt, rt.alloc(), &Shelf::new(rt.alloc()), &NOT_SHARED)
 }
 
-// Behind the three syncs of the recovery: that of the group.
+// Behind the two syncs of the recovery: that of the group.
 const SYNC_FAILS: Step = Step {
     ask: Ask::Run(ONE),
     script: COMMIT,
-    trouble: Trouble::Sync(4),
+    trouble: Trouble::Sync(3),
     printed: "ok\nok\nok\nclosed 0 8\ndevice fault\n",
     status: 3,
     calls: Some(&[

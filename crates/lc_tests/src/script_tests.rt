@@ -50,20 +50,6 @@ fn the_longest_script(rt: HostRuntime) -> Result<(), Fail> {
     check(&rt, ONE, areas, &script, ("refused Gap 1 1\n", 1))
 }
 
-#[test]
-fn more_than_a_thousand_lines(rt: HostRuntime) -> Result<(), Fail> {
-    let mut script = "begin 0 0 1\n".to_string(rt.alloc())?;
-    let mut want = "ok\n".to_string(rt.alloc())?;
-    for _ in 0..1100 {
-        script.push_str("read 0 0 1 0 1\n")?;
-        want.push_str("bytes 00\n")?;
-    }
-    script.push_str("jump\n")?;
-    want.push_str("line 1102: not understood\n")?;
-    let areas = zero_areas(rt.alloc(), &ONE)?;
-    check(&rt, ONE, areas, script.as_bytes(), (&want, 2))
-}
-
 const READ: &str = "begin 0 0 1\nread 0 0 1 2 7\nread 0 0 1 254 2\n";
 
 const COMMIT: &str = "begin 0 0 1\nrange 0 0 1 0 1\nend 0 0\nflush 0\ninspect 0\n";

@@ -1,7 +1,8 @@
 //! A store of several nodes by its events: how it comes up, what it shows, and devices that fail.
 use crate::events::{STOPS, TWO_NODES, comes_up, event_of, events_of, play, says, up_on};
 use crate::hostile_tests::down_with;
-use lc_core::{Event, Refusal, Reply, ShowFault, World, run_areas, run_in_memory};
+use crate::stores::{CLOSED, hello, store_of};
+use lc_core::{Event, Reply, World, run_areas, run_in_memory};
 use lc_disk::{Fuse, MemArea, Stoppable, When};
 use lc_record::Geometry;
 use lc_recover::RecoverFault;
@@ -34,47 +35,12 @@ static FLUSH: [(&str, &str); 4] = [
     ("step 0", "acked 1"),
 ];
 
-// The record of node 0 under this number of segment 1, with `hello` at 3.
-const fn hello(number: u64) -> [u64; 8] {
-    [
-        0x0000_0008_0001_01a5,
-        0x1_0000,
-        1,
-        number,
-        (3 << 32) | 1,
-        5,
-        0x6f_6c6c_6568,
-        8,
-    ]
-}
-
 // A store of one node in memory, which is up and has committed.
 fn committed(rt: &impl Abort, alloc: Global) -> Result<World<MemArea>, Fail> {
     let mut world = World::in_memory(alloc, ONE_NODE)?;
     comes_up(alloc, &mut world)?;
     play(rt, alloc, &mut world, &COMMIT)?;
     Ok(world)
-}
-
-// Four areas are synced and read, nothing stands to be merged or written, and two logs take two calls each.
-#[test]
-fn it_comes_up_at_the_thirteenth_step(rt: HostRuntime) -> Result<(), Fail> {
-    let alloc = rt.alloc();
-    let mut world = World::in_memory(alloc, TWO_NODES)?;
-    play(&rt, alloc, &mut world, &[("begin 0 0 2", "refused Down")])?;
-    for done in 1..13u64 {
-        let reply = world.step(alloc, &Event::RecoverStep)?;
-        assert!(rt;
-            matches!(reply, Reply::Stepped(steps) if steps == done),
-            "step {done}"
-        );
-    }
-    let script = [
-        ("rstep", "recovered"),
-        ("begin 0 0 2", "ok"),
-        ("rstep", "refused OutOfTurn"),
-    ];
-    play(&rt, alloc, &mut world, &script)
 }
 
 // Two areas are synced and read, nothing stands to be merged or written, and one log takes two calls.
@@ -111,34 +77,6 @@ fn areas_that_do_not_fit_come_back(rt: HostRuntime) -> Result<(), Fail> {
     Ok(())
 }
 
-#[test]
-fn a_flushed_commit_is_in_the_log(rt: HostRuntime) -> Result<(), Fail> {
-    let alloc = rt.alloc();
-    let mut world = committed(&rt, alloc)?;
-    assert!(rt; world.log_words(alloc, 0)?.is_empty());
-    play(&rt, alloc, &mut world, &FLUSH)?;
-    assert!(rt; world.log_words(alloc, 0)?.as_slice() == hello(1).as_slice());
-    assert!(rt; world.log_words(alloc, 1) == Err(ShowFault::Unknown));
-    Ok(())
-}
-
-#[test]
-fn a_page_is_shown_with_what_is_not_committed(rt: HostRuntime) -> Result<(), Fail> {
-    let alloc = rt.alloc();
-    let mut world = committed(&rt, alloc)?;
-    assert!(rt; shows(&world, b"\0\0\0hello"));
-    let open = [
-        ("begin 0 0 1", "ok"),
-        ("range 0 0 1 0 1", "ok"),
-        ("write 0 0 1 0 07", "ok"),
-    ];
-    play(&rt, alloc, &mut world, &open)?;
-    assert!(rt; shows(&world, b"\x07\0\0hello"));
-    assert!(rt; world.page(0, 1, 1) == Err(Refusal::Unknown));
-    assert!(rt; world.page(0, 0, 0) == Err(Refusal::Unknown));
-    Ok(())
-}
-
 // Whether the only page has these bytes for its front, and zeros behind.
 fn shows<D: Stoppable + Drop>(world: &World<D>, front: &[u8]) -> bool {
     match world.page(0, 1, 0) {
@@ -149,16 +87,6 @@ fn shows<D: Stoppable + Drop>(world: &World<D>, front: &[u8]) -> bool {
         }
         Err(_) => false,
     }
-}
-
-#[test]
-fn a_store_that_is_down_shows_its_logs_alone(rt: HostRuntime) -> Result<(), Fail> {
-    let alloc = rt.alloc();
-    let mut world = World::in_memory(alloc, ONE_NODE)?;
-    assert!(rt; world.page(9, 9, 9) == Err(Refusal::Down));
-    assert!(rt; world.log_words(alloc, 0)?.is_empty());
-    assert!(rt; world.log_words(alloc, 1) == Err(ShowFault::Unknown));
-    Ok(())
 }
 
 // The second of three records is missing.
@@ -176,15 +104,9 @@ static MISSING: [(&str, &str); 8] = [
 #[test]
 fn a_missing_record_is_a_gap(rt: HostRuntime) -> Result<(), Fail> {
     let alloc = rt.alloc();
-    let mut bytes = Vec::new(alloc);
-    for word in hello(1).iter().chain(&hello(3)) {
-        bytes.extend_from_slice(&word.to_le_bytes())?;
-    }
-    bytes.resize(520, 0)?;
-    let areas = vec![in alloc;
-        MemArea::from_bytes(alloc, &bytes)?,
-        MemArea::new(alloc, 544)?,
-    ]?;
+    let mut words = hello(0, 1, 1, 3).to_vec(alloc)?;
+    words.extend_from_slice(&hello(0, 1, 3, 3))?;
+    let areas = store_of(alloc, &words, &[CLOSED; 2])?;
     let Ok(mut world) = World::new(ONE_NODE, areas) else {
         return Err(Fail::from("the areas fit the geometry"));
     };
@@ -336,7 +258,7 @@ fn a_recovery_that_is_stopped_comes_to_the_same(rt: HostRuntime) -> Result<(), F
             assert!(rt; shows(&world, b"\0\0\0hello"), "step {steps}");
             play(&rt, alloc, &mut world, &COMMIT)?;
             play(&rt, alloc, &mut world, &FLUSH)?;
-            assert!(rt; world.log_words(alloc, 0)?.as_slice() == hello(2).as_slice());
+            assert!(rt; world.log_words(alloc, 0)?.as_slice() == hello(0, 1, 2, 3).as_slice());
         }
     }
     Ok(())

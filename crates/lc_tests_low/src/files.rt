@@ -47,10 +47,45 @@ fn each_failing_call_is_counted(rt: HostRuntime) -> Result<(), Fail> {
             area.write_at(0, &[7]).is_err(),
             area.sync().is_err(),
             area.read(0, &mut [9; 8]).is_err(),
-            area.sync().is_err(),
+            area.write_at(0, &[8]).is_err(),
         ];
         assert!(rt;
             failed == want && area.faults() == count(failed),
+            "{failing}"
+        );
+    }
+    Ok(())
+}
+
+// What fails of these in turn where the call of this number does: two syncs, a write of nothing, a sync, a write, two syncs.
+// None where the file has not its eight bytes.
+fn failed_syncs(alloc: Global, failing: u32) -> Result<Option<[bool; 7]>, OpenFault> {
+    let mut area = eight_bytes(alloc, Manner::Fails(failing))?;
+    if area.len() != 8 {
+        return Ok(None);
+    }
+    Ok(Some([
+        area.sync().is_err(),
+        area.sync().is_err(),
+        area.write_at(0, &[]).is_err(),
+        area.sync().is_err(),
+        area.write_at(0, &[7]).is_err(),
+        area.sync().is_err(),
+        area.sync().is_err(),
+    ]))
+}
+
+#[test]
+fn a_sync_of_nothing_makes_no_call(rt: HostRuntime) -> Result<(), Fail> {
+    // Of the seven three are calls: the first sync, for what stood in the file, the write, and the sync behind it.
+    for (failing, want) in [
+        (1, [true, true, true, true, true, true, true]),
+        (2, [false, false, false, false, true, true, true]),
+        (3, [false, false, false, false, false, true, true]),
+        (4, [false, false, false, false, false, false, false]),
+    ] {
+        assert!(rt;
+            failed_syncs(rt.alloc(), failing)? == Some(want),
             "{failing}"
         );
     }

@@ -62,8 +62,11 @@ fn a_walk_ends_where_no_record_begins(rt: HostRuntime) -> Result<(), Fail> {
     let alloc = rt.alloc();
     assert!(rt; found(alloc, &full(alloc)?)? == (7, 65));
     assert!(rt; found(alloc, &[0; 72])? == (0, 0));
-    for (len, count) in [(72, 1), (64, 1), (63, 0), (56, 0), (0, 0)] {
-        assert!(rt; found(alloc, &HELLO[..len])? == (count, 8 * count), "{len}");
+    for (len, count) in &[(72, 1), (64, 1), (63, 0), (56, 0), (0, 0)] {
+        assert!(rt;
+            found(alloc, &HELLO[..*len])? == (*count, 8 * *count),
+            "{len}"
+        );
     }
     Ok(())
 }
@@ -71,9 +74,9 @@ fn a_walk_ends_where_no_record_begins(rt: HostRuntime) -> Result<(), Fail> {
 #[test]
 fn one_changed_byte_leaves_no_record(rt: HostRuntime) -> Result<(), Fail> {
     // The gate twice, the length, what pads the data, and the last word.
-    for (place, changed) in [(0, 0x00), (0, 0x7f), (4, 9), (53, 1), (56, 7)] {
+    for (place, changed) in &[(0, 0x00), (0, 0x7f), (4, 9), (53, 1), (56, 7)] {
         let mut bytes = HELLO;
-        bytes[place] = changed;
+        bytes[*place] = *changed;
         assert!(rt; found(rt.alloc(), &bytes)? == (0, 0), "at {place}");
     }
     Ok(())
@@ -99,31 +102,46 @@ fn places_back(alloc: Global, bytes: &[u8]) -> Result<Vec<usize>, AllocError> {
     Ok(places)
 }
 
+// Whether the records of these bytes, walked in place, are at these places with these lengths, and the same back.
+fn are_walked(
+    alloc: Global,
+    bytes: &[u8],
+    there: &[(usize, usize)],
+    back: &[usize],
+) -> Result<bool, AllocError> {
+    let is_there = spans(alloc, bytes)?.as_slice() == there;
+    Ok(is_there && places_back(alloc, bytes)?.as_slice() == back)
+}
+
+static SPANS: [(usize, usize); 7] = [
+    (0, 11),
+    (11, 11),
+    (22, 11),
+    (33, 8),
+    (41, 8),
+    (49, 8),
+    (57, 8),
+];
+
 #[test]
-fn records_are_walked_in_place_and_back(rt: HostRuntime) -> Result<(), Fail> {
-    let alloc = rt.alloc();
-    let mut bytes = full(alloc)?;
-    let there = spans(alloc, &bytes)?;
-    let wanted = [
-        (0, 11),
-        (11, 11),
-        (22, 11),
-        (33, 8),
-        (41, 8),
-        (49, 8),
-        (57, 8),
-    ];
-    assert!(rt; there.as_slice() == wanted.as_slice());
-    let back = places_back(alloc, &bytes)?;
-    assert!(rt; back.as_slice() == [57, 49, 41, 33, 22, 11, 0].as_slice());
-    // Behind a broken record nothing is found: here the last word of the third is another one.
-    let last = bytes
-        .get_mut(256)
-        .ok_or("the third record has a last word")?;
-    *last = 9;
-    assert!(rt; spans(alloc, &bytes)?.as_slice() == [(0, 11), (11, 11)].as_slice());
-    assert!(rt; places_back(alloc, &bytes)?.as_slice() == [11, 0].as_slice());
-    assert!(rt; spans(alloc, &[])?.is_empty() && places_back(alloc, &[0; 72])?.is_empty());
+fn records_are_walked_in_place_and_back(rt: HostRuntime) -> Result<(), AllocError> {
+    let bytes = full(rt.alloc())?;
+    let back = [57, 49, 41, 33, 22, 11, 0];
+    assert!(rt; are_walked(rt.alloc(), &bytes, &SPANS, &back)?);
+    assert!(rt;
+        are_walked(rt.alloc(), &[], &[], &[])? && are_walked(rt.alloc(), &[0; 72], &[], &[])?
+    );
+    Ok(())
+}
+
+// Here the last word of the third is another one.
+#[test]
+fn behind_a_broken_record_nothing_is_found(rt: HostRuntime) -> Result<(), AllocError> {
+    let mut bytes = full(rt.alloc())?;
+    if let Some(last) = bytes.get_mut(256) {
+        *last = 9;
+    }
+    assert!(rt; are_walked(rt.alloc(), &bytes, &[(0, 11), (11, 11)], &[11, 0])?);
     Ok(())
 }
 
@@ -158,29 +176,36 @@ fn left(alloc: Global, mut area: Fuse, choice: Choice) -> Result<(u64, usize), A
     Ok((faults, count))
 }
 
+// The call of a flush that fails, and the records that each stop leaves.
+static OF_A_FLUSH: [(u8, Choice, usize); 11] = [
+    (1, Choice::Keep, 0),
+    (1, Choice::Byte(0xa5), 0),
+    (2, Choice::Keep, 0),
+    (2, Choice::Byte(0xa5), 0),
+    (3, Choice::Keep, 0),
+    (3, Choice::Stable, 0),
+    (3, Choice::Byte(0xa5), 1),
+    (4, Choice::Keep, 1),
+    (4, Choice::Stable, 0),
+    (4, Choice::Byte(0xa5), 1),
+    (4, Choice::Byte(0), 0),
+];
+
 #[test]
 fn a_flush_is_four_calls(rt: HostRuntime) -> Result<(), Fail> {
     let alloc = rt.alloc();
-    // The call that fails, and the records that each stop leaves.
-    for (call, choice, count) in [
-        (1, Choice::Keep, 0),
-        (1, Choice::Byte(0xa5), 0),
-        (2, Choice::Keep, 0),
-        (2, Choice::Byte(0xa5), 0),
-        (3, Choice::Keep, 0),
-        (3, Choice::Stable, 0),
-        (3, Choice::Byte(0xa5), 1),
-        (4, Choice::Keep, 1),
-        (4, Choice::Stable, 0),
-        (4, Choice::Byte(0xa5), 1),
-        (4, Choice::Byte(0), 0),
-    ] {
-        let failed = flushed(alloc, call)?.err().ok_or("it fails")?;
-        assert!(rt; left(alloc, failed.area, choice)? == (1, count), "{call}");
+    for (call, choice, count) in &OF_A_FLUSH {
+        let failed = flushed(alloc, *call)?.err().ok_or("it fails")?;
+        assert!(rt; left(alloc, failed.area, *choice)? == (1, *count), "{call}");
     }
-    let log = flushed(alloc, 5)?.ok().ok_or("it succeeds")?;
-    assert!(rt; log.end == 8);
-    assert!(rt; left(alloc, log.area, Choice::Byte(0))? == (0, 1));
+    Ok(())
+}
+
+#[test]
+fn a_flush_that_succeeds_is_stable(rt: HostRuntime) -> Result<(), Fail> {
+    let log = flushed(rt.alloc(), 5)?.ok().ok_or("it succeeds")?;
+    let end = log.end;
+    assert!(rt; left(rt.alloc(), log.area, Choice::Byte(0))? == (0, 1) && end == 8);
     Ok(())
 }
 
@@ -199,21 +224,23 @@ fn reset(alloc: Global, call: u8) -> Result<Option<Fuse>, AllocError> {
     }
 }
 
+// The call that fails, whether it does, and the records that each stop leaves.
+static OF_A_RESET: [(u8, u64, Choice, usize); 7] = [
+    (5, 1, Choice::Keep, 1),
+    (5, 1, Choice::Byte(0xa5), 1),
+    (5, 1, Choice::Byte(0), 0),
+    (6, 1, Choice::Keep, 0),
+    (6, 1, Choice::Stable, 1),
+    (6, 1, Choice::Byte(0xa5), 1),
+    (7, 0, Choice::Byte(0xa5), 0),
+];
+
 #[test]
 fn a_reset_is_two_calls(rt: HostRuntime) -> Result<(), Fail> {
     let alloc = rt.alloc();
-    // The call that fails, whether it does, and the records that each stop leaves.
-    for (call, faults, choice, count) in [
-        (5, 1, Choice::Keep, 1),
-        (5, 1, Choice::Byte(0xa5), 1),
-        (5, 1, Choice::Byte(0), 0),
-        (6, 1, Choice::Keep, 0),
-        (6, 1, Choice::Stable, 1),
-        (6, 1, Choice::Byte(0xa5), 1),
-        (7, 0, Choice::Byte(0xa5), 0),
-    ] {
-        let area = reset(alloc, call)?.ok_or("the flush succeeds")?;
-        assert!(rt; left(alloc, area, choice)? == (faults, count), "{call}");
+    for (call, faults, choice, count) in &OF_A_RESET {
+        let area = reset(alloc, *call)?.ok_or("the flush succeeds")?;
+        assert!(rt; left(alloc, area, *choice)? == (*faults, *count), "{call}");
     }
     Ok(())
 }
@@ -232,21 +259,24 @@ fn closed(alloc: Global, bytes: &[u8], choice: Choice) -> Result<usize, Fail> {
     Ok(found(alloc, area.bytes())?.0)
 }
 
+// What a stop leaves of seven records.
+static OF_SEVEN: [(Choice, usize); 4] = [
+    (Choice::Keep, 0),
+    (Choice::Stable, 7),
+    (Choice::Byte(0xa5), 7),
+    (Choice::Byte(0), 0),
+];
+
 #[test]
 fn a_reset_begins_on_whatever_was_found(rt: HostRuntime) -> Result<(), Fail> {
     let alloc = rt.alloc();
+    let seven = full(alloc)?;
+    for (choice, count) in &OF_SEVEN {
+        assert!(rt; closed(alloc, &seven, *choice)? == *count, "{count}");
+    }
     // An open gate over no record.
     let mut none = [0; 72];
     none[0] = 0xa5;
     assert!(rt; closed(alloc, &none, Choice::Stable)? == 0);
-    let seven = full(alloc)?;
-    for (choice, count) in [
-        (Choice::Keep, 0),
-        (Choice::Stable, 7),
-        (Choice::Byte(0xa5), 7),
-        (Choice::Byte(0), 0),
-    ] {
-        assert!(rt; closed(alloc, &seven, choice)? == count, "{count}");
-    }
     Ok(())
 }

@@ -63,22 +63,27 @@ fn stopped(alloc: Global, calls: u8, choice: Choice) -> Result<(u64, Option<Slot
     Ok((text.seq, text.slot, page_bytes(bytes, 1)[0]))
 }
 
+const OLD: (u64, Option<Slot>, u8) = (9, Some(Slot::Second), 0x99);
+
+const NEW: (u64, Option<Slot>, u8) = (10, Some(Slot::First), 0xaa);
+
+// How many calls are made, and what each stop leaves.
+static LEFT: [(u8, Choice, (u64, Option<Slot>, u8)); 9] = [
+    (1, Choice::Byte(0xa5), OLD),
+    (2, Choice::Byte(0xa5), OLD),
+    (3, Choice::Keep, OLD),
+    (3, Choice::Byte(0xa5), OLD),
+    (4, Choice::Byte(0xa5), OLD),
+    (5, Choice::Keep, NEW),
+    (5, Choice::Stable, OLD),
+    (5, Choice::Byte(0xa5), NEW),
+    (6, Choice::Stable, NEW),
+];
+
 #[test]
 fn a_stop_leaves_the_old_page_or_the_new_one(rt: HostRuntime) -> Result<(), Fail> {
-    let old = (9, Some(Slot::Second), 0x99);
-    let new = (10, Some(Slot::First), 0xaa);
-    for (calls, choice, left) in [
-        (1, Choice::Byte(0xa5), old),
-        (2, Choice::Byte(0xa5), old),
-        (3, Choice::Keep, old),
-        (3, Choice::Byte(0xa5), old),
-        (4, Choice::Byte(0xa5), old),
-        (5, Choice::Keep, new),
-        (5, Choice::Stable, old),
-        (5, Choice::Byte(0xa5), new),
-        (6, Choice::Stable, new),
-    ] {
-        assert!(rt; stopped(rt.alloc(), calls, choice)? == left, "{calls}");
+    for (calls, choice, left) in &LEFT {
+        assert!(rt; stopped(rt.alloc(), *calls, *choice)? == *left, "{calls}");
     }
     Ok(())
 }
@@ -91,17 +96,28 @@ fn failed(alloc: Global, bytes: &[u8; AREA_BYTES], call: u8) -> Result<(bool, u6
     Ok((fault == Some(PageFault::DeviceFault), area.faults()))
 }
 
+// The call that fails, if it is one of the write, and how often the device has failed.
+static FAILED: [(u8, (bool, u64)); 7] = [
+    (1, (true, 1)),
+    (2, (true, 1)),
+    (3, (true, 1)),
+    (4, (true, 1)),
+    (5, (true, 1)),
+    (6, (true, 1)),
+    (7, (false, 0)),
+];
+
 #[test]
 fn a_write_is_six_calls(rt: HostRuntime) -> Result<(), Fail> {
     let mut bytes = two_pages();
-    for call in 1..=6 {
-        assert!(rt; failed(rt.alloc(), &bytes, call)? == (true, 1), "{call}");
+    for (call, wanted) in &FAILED {
+        assert!(rt; failed(rt.alloc(), &bytes, *call)? == *wanted, "{call}");
     }
-    assert!(rt; failed(rt.alloc(), &bytes, 7)? == (false, 0));
     // Over a gate that stays open over a malformed number.
     bytes[559] = 0xff;
-    assert!(rt; failed(rt.alloc(), &bytes, 6)? == (true, 1));
-    assert!(rt; failed(rt.alloc(), &bytes, 7)? == (false, 0));
+    for (call, wanted) in &FAILED[5..] {
+        assert!(rt; failed(rt.alloc(), &bytes, *call)? == *wanted, "{call}");
+    }
     Ok(())
 }
 

@@ -106,7 +106,89 @@ const FAR_TWICE: [u64; 13] = [
     13,
 ];
 
-const LC: [u8; 8] = [0x6c, 0x63, 0x00, 0x00, 0x00, 0x00, 0x00, 0x00];
+// The record of node 0 under lock 1:1, with the same bytes at 262136 in segment 1, which are its last.
+const END: [u64; 9] = [0x9_0001_02a5, 0x1_0000, 1, 1, 1, 262136, 8, 0x636c, 9];
+
+const LC: &[u8] = &[0x6c, 0x63, 0x00, 0x00, 0x00, 0x00, 0x00, 0x00];
+
+// The segment, the offset and the bytes of each range.
+type Ranges = &'static [(u32, u32, &'static [u8])];
+
+// What a record says.
+#[derive(Clone, Copy)]
+struct Said {
+    node: u16,
+    locks: &'static [(u32, u64)],
+    ranges: Ranges,
+}
+
+static SPELLED: [(Said, &[u64]); 8] = [
+    (
+        Said {
+            node: 0,
+            locks: &[(1, 1)],
+            ranges: &[(1, 3, b"hello")],
+        },
+        &HELLO,
+    ),
+    (
+        Said {
+            node: 0,
+            locks: &[(1, 1)],
+            ranges: &[(1, 0, &[0; 8]), (1, 20, &[0])],
+        },
+        &ZEROS,
+    ),
+    (
+        Said {
+            node: 0,
+            locks: &[(1, 1), (2, 1)],
+            ranges: &[(1, 0, &[0x11]), (2, 0, &[0x22])],
+        },
+        &BOTH,
+    ),
+    (
+        Said {
+            node: 7,
+            locks: &[(1, 2), (3, 1)],
+            ranges: &[(1, 0, b"abcdefgh"), (1, 9, b"i"), (3, 100, b"jklmnopqr")],
+        },
+        &LETTERS,
+    ),
+    // Far ranges are written in the second version.
+    (
+        Said {
+            node: 0,
+            locks: &[(1, 1)],
+            ranges: &[(1, 16376, LC)],
+        },
+        &NEAR,
+    ),
+    (
+        Said {
+            node: 0,
+            locks: &[(1, 1)],
+            ranges: &[(1, 16380, LC)],
+        },
+        &FAR,
+    ),
+    (
+        Said {
+            node: 0,
+            locks: &[(1, 1)],
+            ranges: &[(1, 16380, LC), (1, 16389, LC)],
+        },
+        &FAR_TWICE,
+    ),
+    (
+        Said {
+            node: 0,
+            locks: &[(1, 1)],
+            ranges: &[(1, 262136, LC)],
+        },
+        &END,
+    ),
+];
 
 fn locks_of(alloc: Global, locks: &[(u32, u64)]) -> Result<Items<Lock>, AllocError> {
     let mut items = Vec::new(alloc);
@@ -119,14 +201,23 @@ fn locks_of(alloc: Global, locks: &[(u32, u64)]) -> Result<Items<Lock>, AllocErr
     Ok(Items::new(items))
 }
 
+fn range_of(
+    alloc: Global,
+    segment: u32,
+    offset: u32,
+    bytes: &[u8],
+) -> Result<RangeData, AllocError> {
+    Ok(RangeData {
+        segment,
+        offset,
+        bytes: Items::new(Vec::from_slice(alloc, bytes)?),
+    })
+}
+
 fn ranges_of(alloc: Global, ranges: &[(u32, u32, &[u8])]) -> Result<Items<RangeData>, AllocError> {
     let mut items = Vec::new(alloc);
     for (segment, offset, bytes) in ranges {
-        items.push(RangeData {
-            segment: *segment,
-            offset: *offset,
-            bytes: Items::new(Vec::from_slice(alloc, bytes)?),
-        })?;
+        items.push(range_of(alloc, *segment, *offset, *bytes)?)?;
     }
     Ok(Items::new(items))
 }
@@ -144,54 +235,39 @@ fn record_of(
     })
 }
 
-// The record is written as these words, and the record that is read from them is written so too, whatever follows them.
-fn is_spelled(rt: &impl Abort, alloc: Global, record: &Record, words: &[u64]) -> Result<(), Fail> {
-    let mut written = encode(alloc, record)?;
-    assert!(rt; written.as_slice() == words);
-    written.push(0xa5)?;
-    let (read, len) = decode(alloc, &written)?.ok_or("the words begin with a record")?;
-    assert!(rt; len == words.len());
-    let again = encode(alloc, &read)?;
-    assert!(rt; again.as_slice() == words);
-    Ok(())
+// How a record is written that says this.
+fn words_of(alloc: Global, said: &Said) -> Result<Vec<u64>, RecordFault> {
+    let record = match record_of(alloc, said.node, said.locks, said.ranges) {
+        Ok(record) => record,
+        Err(_) => return Err(RecordFault::NoMemory),
+    };
+    encode(alloc, &record)
+}
+
+// Whether the record that is read from these words, with another word behind them, is written so too.
+fn is_read_back(alloc: Global, words: &[u64]) -> Result<bool, RecordFault> {
+    let Ok(mut longer) = Vec::from_slice(alloc, words) else {
+        return Err(RecordFault::NoMemory);
+    };
+    if longer.push(0xa5).is_err() {
+        return Err(RecordFault::NoMemory);
+    }
+    match decode(alloc, &longer) {
+        Ok(Some((read, len))) => {
+            Ok(len == words.len() && encode(alloc, &read)?.as_slice() == words)
+        }
+        Ok(None) => Ok(false),
+        Err(_) => Err(RecordFault::NoMemory),
+    }
 }
 
 #[test]
 fn records_are_written_and_read(rt: HostRuntime) -> Result<(), Fail> {
-    let alloc = rt.alloc();
-    let hello = record_of(alloc, 0, &[(1, 1)], &[(1, 3, b"hello")])?;
-    is_spelled(&rt, alloc, &hello, &HELLO)?;
-    let zeros = record_of(alloc, 0, &[(1, 1)], &[(1, 0, &[0; 8]), (1, 20, &[0])])?;
-    is_spelled(&rt, alloc, &zeros, &ZEROS)?;
-    let both = record_of(
-        alloc,
-        0,
-        &[(1, 1), (2, 1)],
-        &[(1, 0, &[0x11]), (2, 0, &[0x22])],
-    )?;
-    is_spelled(&rt, alloc, &both, &BOTH)?;
-    let letters = record_of(
-        alloc,
-        7,
-        &[(1, 2), (3, 1)],
-        &[(1, 0, b"abcdefgh"), (1, 9, b"i"), (3, 100, b"jklmnopqr")],
-    )?;
-    is_spelled(&rt, alloc, &letters, &LETTERS)
-}
-
-#[test]
-fn far_ranges_are_written_in_the_second_version(rt: HostRuntime) -> Result<(), Fail> {
-    let alloc = rt.alloc();
-    let near = record_of(alloc, 0, &[(1, 1)], &[(1, 16376, &LC)])?;
-    is_spelled(&rt, alloc, &near, &NEAR)?;
-    let far = record_of(alloc, 0, &[(1, 1)], &[(1, 16380, &LC)])?;
-    is_spelled(&rt, alloc, &far, &FAR)?;
-    let twice = record_of(alloc, 0, &[(1, 1)], &[(1, 16380, &LC), (1, 16389, &LC)])?;
-    is_spelled(&rt, alloc, &twice, &FAR_TWICE)?;
-    let mut end_words = FAR;
-    end_words[5] = 262136;
-    let end = record_of(alloc, 0, &[(1, 1)], &[(1, 262136, &LC)])?;
-    is_spelled(&rt, alloc, &end, &end_words)
+    for (said, words) in &SPELLED {
+        assert!(rt; words_of(rt.alloc(), said)?.as_slice() == *words);
+        assert!(rt; is_read_back(rt.alloc(), words)?);
+    }
+    Ok(())
 }
 
 // With the word at this place changed the words are no record.
@@ -267,34 +343,50 @@ fn other_words_of_the_second_version_are_no_record(rt: HostRuntime) {
     is_none(&rt, &FAR_TWICE, 9, 16388);
 }
 
-// Why the record of this node, under lock 1:1, is not written.
-fn fault_of(alloc: Global, node: u16, ranges: &[(u32, u32, &[u8])]) -> Option<RecordFault> {
-    let record = record_of(alloc, node, &[(1, 1)], ranges).ok()?;
-    encode(alloc, &record).err()
-}
+// What records under lock 1:1 say that have no spelling.
+static NOT_SPELLED: [(u16, Ranges); 5] = [
+    (8, &[(1, 3, b"hello")]),
+    (0, &[(1, 3, b"hello"), (2, 0, b"you")]),
+    (0, &[(1, 3, b"hello"), (1, 8, b"you")]),
+    (0, &[(1, 3, b"")]),
+    (0, &[(1, 262137, LC)]),
+];
 
 #[test]
 fn other_records_have_no_spelling(rt: HostRuntime) {
-    let alloc = rt.alloc();
-    let none = Some(RecordFault::NotCanonical);
-    assert!(rt; fault_of(alloc, 8, &[(1, 3, b"hello")]) == none);
-    assert!(rt; fault_of(alloc, 0, &[(1, 3, b"hello"), (2, 0, b"you")]) == none);
-    assert!(rt; fault_of(alloc, 0, &[(1, 3, b"hello"), (1, 8, b"you")]) == none);
-    assert!(rt; fault_of(alloc, 0, &[(1, 3, b"")]) == none);
-    assert!(rt; fault_of(alloc, 0, &[(1, 262137, &LC)]) == none);
+    for (node, ranges) in &NOT_SPELLED {
+        let said = Said {
+            node: *node,
+            locks: &[(1, 1)],
+            ranges: *ranges,
+        };
+        let fault = words_of(rt.alloc(), &said).err();
+        assert!(rt; fault == Some(RecordFault::NotCanonical));
+    }
 }
+
+// How many words a record has of 16,384 bytes in segment 1 and so many in segment 2.
+fn long_words(alloc: Global, len: usize) -> Result<usize, RecordFault> {
+    const ZEROS: [u8; 16384] = [0; 16384];
+    let behind = ZEROS.get(..len).unwrap_or(&[]);
+    let Ok(record) = record_of(
+        alloc,
+        0,
+        &[(1, 1), (2, 1)],
+        &[(1, 0, &ZEROS), (2, 0, behind)],
+    ) else {
+        return Err(RecordFault::NoMemory);
+    };
+    Ok(encode(alloc, &record)?.len())
+}
+
+const TOO_LONG: RecordFault = RecordFault::TooLong { words: 4097 };
 
 #[test]
 fn the_longest_record_has_4096_words(rt: HostRuntime) -> Result<(), Fail> {
-    let alloc = rt.alloc();
-    let locks = [(1, 1), (2, 1)];
-    let zeros = vec![in alloc; 0u8; 16384]?;
-    let longest = record_of(alloc, 0, &locks, &[(1, 0, &zeros), (2, 0, &zeros[..16296])])?;
-    assert!(rt; encode(alloc, &longest)?.len() == 4096);
-    let longer = record_of(alloc, 0, &locks, &[(1, 0, &zeros), (2, 0, &zeros[..16297])])?;
-    let fault = encode(alloc, &longer).err().ok_or("there is a fault")?;
-    assert!(rt; fault == RecordFault::TooLong { words: 4097 });
-    let text = format!(in alloc; "{fault}")?;
+    assert!(rt; long_words(rt.alloc(), 16296) == Ok(4096));
+    assert!(rt; long_words(rt.alloc(), 16297) == Err(TOO_LONG));
+    let text = TOO_LONG.to_string(rt.alloc())?;
     assert!(rt; text.as_str() == "the record has 4097 words, which is too long");
     Ok(())
 }
@@ -316,8 +408,9 @@ fn is_front(first: u64, second: u64) -> bool {
 fn a_geometry_has_areas(rt: HostRuntime) -> Result<(), Fail> {
     let geometry = Geometry::new(2, 4, 2, 1024, 64).ok_or("segments may have 1024 pages")?;
     assert!(rt; geometry.log_len() == 520 && geometry.segment_len() == 262144);
-    assert!(rt; Geometry::new(9, 4, 2, 3, 64).is_none());
-    assert!(rt; Geometry::new(2, 4, 2, 1025, 64).is_none());
+    assert!(rt;
+        Geometry::new(9, 4, 2, 3, 64).is_none() && Geometry::new(2, 4, 2, 1025, 64).is_none()
+    );
     Ok(())
 }
 
@@ -361,16 +454,36 @@ fn has_byte(view: &View<'_>, range: usize, place: usize, wanted: u8) -> bool {
     }
 }
 
+// Whether the record is read so.
+fn are_letters(view: &View<'_>) -> bool {
+    view.words() == LETTERS.as_slice()
+        && view.len() == 17
+        && view.node() == 7
+        && view.lock_count() == 2
+        && view.range_count() == 3
+}
+
+// Whether its last lock and its last range are read so.
+fn ends_as_letters(view: &View<'_>) -> bool {
+    has_lock(view, 1, 3, 1)
+        && view.lock(2).is_none()
+        && has_range(view, 2, 3, 100, 9)
+        && view.range(3).is_none()
+        && has_byte(view, 2, 8, b'r')
+        && view.byte(2, 9).is_none()
+}
+
+// Whether the record at this place is read so.
+fn is_found(words: &[u64], place: usize) -> bool {
+    match View::at(words, place) {
+        Some(view) => are_letters(&view) && ends_as_letters(&view),
+        None => false,
+    }
+}
+
 #[test]
 fn a_record_is_read_in_place(rt: HostRuntime) -> Result<(), Fail> {
-    let words = two_records(rt.alloc())?;
-    let letters = View::at(&words, 8).ok_or("a record begins here")?;
-    assert!(rt; letters.words() == LETTERS.as_slice());
-    assert!(rt; letters.len() == 17 && letters.node() == 7);
-    assert!(rt; letters.lock_count() == 2 && letters.range_count() == 3);
-    assert!(rt; has_lock(&letters, 1, 3, 1) && letters.lock(2).is_none());
-    assert!(rt; has_range(&letters, 2, 3, 100, 9) && letters.range(3).is_none());
-    assert!(rt; has_byte(&letters, 2, 8, b'r') && letters.byte(2, 9).is_none());
+    assert!(rt; is_found(&two_records(rt.alloc())?, 8));
     Ok(())
 }
 
@@ -381,22 +494,25 @@ fn a_far_record_is_read_in_place(rt: HostRuntime) -> Result<(), Fail> {
     Ok(())
 }
 
+// A segment, where its bytes begin, and what the record of letters makes of twelve dots there.
+static PUT_ON: [(u32, usize, &[u8; 12]); 8] = [
+    (1, 0, b"abcdefgh.i.."),
+    (1, 3, b"defgh.i....."),
+    (1, 10, b"............"),
+    (2, 0, b"............"),
+    (3, 0, b"............"),
+    (3, 96, b"....jklmnopq"),
+    (3, 104, b"nopqr......."),
+    (3, usize::MAX, b"............"),
+];
+
 #[test]
 fn a_record_is_put_on_bytes(rt: HostRuntime) -> Result<(), Fail> {
     let letters = View::at(&LETTERS, 0).ok_or("a record begins here")?;
-    for (segment, offset, want) in [
-        (1, 0, b"abcdefgh.i.."),
-        (1, 3, b"defgh.i....."),
-        (1, 10, b"............"),
-        (2, 0, b"............"),
-        (3, 0, b"............"),
-        (3, 96, b"....jklmnopq"),
-        (3, 104, b"nopqr......."),
-        (3, usize::MAX, b"............"),
-    ] {
+    for (segment, offset, want) in &PUT_ON {
         let mut bytes = [b'.'; 12];
-        letters.put_on(segment, offset, &mut bytes);
-        assert!(rt; bytes == *want, "at {offset} of segment {segment}");
+        letters.put_on(*segment, *offset, &mut bytes);
+        assert!(rt; bytes == **want, "at {offset} of segment {segment}");
     }
     Ok(())
 }

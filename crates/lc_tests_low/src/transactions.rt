@@ -3,10 +3,9 @@ ghost use Rattle.std.specs.Prelude.{IfOk};
 ghost use Rattle.lc_tx.specs.Tx.{RunsOn};
 ghost use Rattle.lc_tx.specs.OneSegment.{the_images};
 
-use lc_record::{Items, Part, RangeData};
+use lc_record::Items;
 use lc_tx::{Image, OneSegment, Prepared, Tx, TxFault};
 use std::alloc::{AllocError, Global};
-use std::process::Abort;
 use std::test::Fail;
 
 // A segment of these bytes, of which no record was closed.
@@ -47,62 +46,6 @@ fn record_of(
     words_of(alloc, segment, tx)
 }
 
-#[test]
-fn ranges_merge_in_the_record(rt: HostRuntime) -> Result<(), Fail> {
-    let alloc = rt.alloc();
-    let mut segment = segment_of(alloc, &[0; 256])?;
-    let mut tx = Tx::begin(alloc, &mut segment, 3, &[1], &[])?;
-    let ranges = [(0, 4), (4, 4), (2, 3), (20, 1)];
-    let words = record_of(alloc, &mut segment, &mut tx, &ranges)?;
-    // The record of node 0 under lock 1:1, with eight zeros at 0 and one at 20 in segment 1.
-    let wanted = [
-        0xb_0002_01a5,
-        0x1_0000,
-        1,
-        1,
-        1,
-        8,
-        0,
-        0x14_0000_0001,
-        1,
-        0,
-        11,
-    ];
-    assert!(rt; words.as_slice() == wanted.as_slice());
-    assert!(rt; segment.image.holders().writer() == Some(3));
-    tx.release(&mut segment);
-    assert!(rt; segment.image.holders().is_free());
-    Ok(())
-}
-
-#[test]
-fn an_abort_gives_the_bytes_back(rt: HostRuntime) -> Result<(), Fail> {
-    let alloc = rt.alloc();
-    let mut segment = segment_of(alloc, b"abcdef")?;
-    let mut tx = Tx::begin(alloc, &mut segment, 7, &[1], &[])?;
-    for (offset, bytes) in [(0, b"1234"), (2, b"5678")] {
-        tx.set_range(&mut segment, 1, offset, 4)?;
-        tx.write(&mut segment, 1, offset, bytes)?;
-    }
-    assert!(rt; tx.read(alloc, &mut segment, 1, 0, 6)?.as_slice() == b"125678".as_slice());
-    tx.abort(&mut segment);
-    assert!(rt; segment.image.bytes() == b"abcdef".as_slice() && segment.image.holders().is_free());
-    Ok(())
-}
-
-#[test]
-fn what_is_locked_for_reading_is_only_read(rt: HostRuntime) -> Result<(), Fail> {
-    let alloc = rt.alloc();
-    let mut segment = segment_of(alloc, b"abcdef")?;
-    let mut tx = Tx::begin(alloc, &mut segment, 0, &[], &[1])?;
-    assert!(rt; tx.read(alloc, &mut segment, 1, 1, 2)?.as_slice() == b"bc".as_slice());
-    let read_only = TxFault::ReadOnly { segment: 1 };
-    assert!(rt; tx.set_range(&mut segment, 1, 0, 1) == Err(read_only));
-    let writer = Tx::begin(alloc, &mut segment, 1, &[1], &[]);
-    assert!(rt; writer.err() == Some(TxFault::Busy { segment: 1 }));
-    Ok(())
-}
-
 const LONGEST: u32 = 262_144;
 
 // The longest segment, of which one record of 4,096 words says what was set.
@@ -135,27 +78,6 @@ fn are_sevens(bytes: &[u8]) -> bool {
         }
     }
     bytes.len() == LONGEST as usize
-}
-
-#[test]
-fn a_part_is_laid_over_an_image(rt: HostRuntime) -> Result<(), Fail> {
-    let alloc = rt.alloc();
-    let mut image = Image::new(Vec::from_slice(alloc, b"abcdef")?);
-    let mut ranges = Vec::new(alloc);
-    for (offset, bytes) in [(1, b"123"), (3, b"456"), (5, b"789"), (9, b"xyz")] {
-        ranges.push(RangeData {
-            segment: 1,
-            offset,
-            bytes: Items::new(Vec::from_slice(alloc, bytes)?),
-        })?;
-    }
-    image.put(&Part {
-        segment: 1,
-        seq: 1,
-        ranges: Items::new(ranges),
-    });
-    assert!(rt; image.bytes() == b"a12457".as_slice());
-    Ok(())
 }
 
 static TEXTS: [(TxFault, &str); 11] = [
@@ -199,50 +121,64 @@ fn faults_have_texts(rt: HostRuntime) -> Result<(), Fail> {
 }
 
 // Begins a transaction, once more where there is no memory.
-fn begin_again(rt: &impl Abort, alloc: Global, segment: &mut OneSegment) -> Result<Tx, TxFault>
+fn begin_again(alloc: Global, segment: &mut OneSegment) -> Result<Tx, TxFault>
     ensures { IfOk result (λ tx. RunsOn the_images segment.new tx) }
 {
     match Tx::begin(alloc, segment, 1, &[1], &[]) {
-        Ok(tx) => Ok(tx),
-        Err(fault) => {
-            assert!(rt; fault == TxFault::NoMemory && segment.image.holders().is_free());
+        Err(TxFault::NoMemory) if segment.image.holders().is_free() => {
             Tx::begin(alloc, segment, 1, &[1], &[])
         }
+        begun => begun,
     }
 }
 
-// Sets and writes nine ranges, each once more where there is no memory.
-fn write_nine(rt: &impl Abort, segment: &mut OneSegment, tx: &mut Tx) -> Result<(), TxFault>
+// Sets two bytes, once more where there is no memory and no range was added.
+fn set_again(segment: &mut OneSegment, tx: &mut Tx, offset: u32) -> Result<(), TxFault>
+    requires { RunsOn the_images segment.old tx.old }
+    ensures { RunsOn the_images segment.new tx.new }
+{
+    let before = tx.ranges().len();
+    match tx.set_range(segment, 1, offset, 2) {
+        Err(TxFault::NoMemory) if tx.ranges().len() == before => {
+            tx.set_range(segment, 1, offset, 2)
+        }
+        set => set,
+    }
+}
+
+// Sets and writes nine ranges.
+fn write_nine(segment: &mut OneSegment, tx: &mut Tx) -> Result<(), TxFault>
     requires { RunsOn the_images segment.old tx.old }
     ensures { RunsOn the_images segment.new tx.new }
 {
     for i in 0..9 {
-        let before = tx.ranges().len();
-        if tx.set_range(segment, 1, 4 * i, 2).is_err() {
-            assert!(rt; tx.ranges().len() == before);
-            tx.set_range(segment, 1, 4 * i, 2)?;
-        }
+        set_again(segment, tx, 4 * i)?;
         tx.write(segment, 1, 4 * i, &[1, 2])?;
     }
     Ok(())
 }
 
+// How many words the record of nine ranges has. Each call is made once more where there is no memory.
+fn words_of_nine(alloc: Global, segment: &mut OneSegment) -> Result<usize, TxFault> {
+    let mut tx = begin_again(alloc, segment)?;
+    let done = write_nine(segment, &mut tx);
+    let words = match words_of(alloc, segment, &tx) {
+        Err(TxFault::NoMemory) => words_of(alloc, segment, &tx),
+        words => words,
+    };
+    tx.abort(segment);
+    done?;
+    Ok(words?.as_slice().len())
+}
+
 // Where memory is refused nothing has changed, and the next attempt succeeds.
 #[test]
 fn refused_memory_changes_nothing(rt: HostRuntime) -> Result<(), Fail> {
-    let alloc = rt.alloc();
-    let mut segment = match segment_of(alloc, &[0; 64]) {
+    let mut segment = match segment_of(rt.alloc(), &[0; 64]) {
         Ok(segment) => segment,
-        Err(_) => segment_of(alloc, &[0; 64])?,
+        Err(_) => segment_of(rt.alloc(), &[0; 64])?,
     };
-    let mut tx = begin_again(&rt, alloc, &mut segment)?;
-    write_nine(&rt, &mut segment, &mut tx)?;
-    let words = match words_of(alloc, &mut segment, &tx) {
-        Ok(words) => words,
-        Err(_) => words_of(alloc, &mut segment, &tx)?,
-    };
-    assert!(rt; words.as_slice().len() == 4 + 9 * 3 + 1);
-    tx.abort(&mut segment);
+    assert!(rt; words_of_nine(rt.alloc(), &mut segment)? == 4 + 9 * 3 + 1);
     assert!(rt; segment.image.bytes() == [0; 64].as_slice());
     Ok(())
 }
