@@ -179,11 +179,15 @@ take_two (suc len) n [] ys is =
 take_two (suc len) n (x ∷ xs) ys is = ap (λ (l : List ℕ). x ∷ l) (take_two len n xs ys (omega (arith, is)))
 
 -- one more word
+pub bytes_of-next : (words : List ℕ) (i w : ℕ) → i < length words → w ≡ get_or words i 0 → bytes_of (take (i + 1) words) ≡ bytes_of (take i words) ++ to_le_bytes w64 w
+bytes_of-next words i w below is =
+    ap bytes_of (take_more words i 0 below ∙ ap (λ (x : ℕ). take i words ++ x ∷ []) (sym is)) ∙ bytes_of-append (take i words) (w ∷ [])
+
 pub take_word : (len n : ℕ) (words : List ℕ) (i w : ℕ) (bytes : List ℕ) → i < length words → w ≡ get_or words i 0 → bytes ≡ take len (bytes_of (take i words)) → n ≡ min (len - length bytes) 8
     → bytes ++ take n (to_le_bytes w64 w) ≡ take len (bytes_of (take (i + 1) words))
 take_word len n words i w bytes below is so_far room =
     let before = bytes_of (take i words) in
-    let more : bytes_of (take (i + 1) words) ≡ before ++ to_le_bytes w64 w =
-    ap bytes_of (take_more words i 0 below ∙ ap (λ (x : ℕ). take i words ++ x ∷ []) (sym is)) ∙ bytes_of-append (take i words) (w ∷ []) in
     let count : length bytes ≡ min len (length before) = ap (λ (l : List ℕ). length l) so_far ∙ length-take len before in
-    ap (λ (l : List ℕ). l ++ take n (to_le_bytes w64 w)) so_far ∙ take_two len n before (to_le_bytes w64 w) (ap (λ (k : ℕ). min (len - k) 8) (sym count) ∙ sym room) ∙ ap (λ (l : List ℕ). take len l) (sym more)
+    ap (λ (l : List ℕ). l ++ take n (to_le_bytes w64 w)) so_far
+    ∙ take_two len n before (to_le_bytes w64 w) (ap (λ (k : ℕ). min (len - k) 8) (sym count) ∙ sym room)
+    ∙ ap (λ (l : List ℕ). take len l) (sym (bytes_of-next words i w below is))

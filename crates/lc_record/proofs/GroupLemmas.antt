@@ -54,3 +54,10 @@ pub pushed_bytes : (bytes ws : List ℕ) (end word : ℕ) → bytes ≡ bytes_of
 pushed_bytes bytes ws end word text at =
     ap (λ (l : List ℕ). (l ++ to_le_bytes w64 word) ++ to_le_bytes w64 0) (front_bytes bytes ws end text at)
     ∙ sym (bytes_of-append (ws ++ word ∷ []) (0 ∷ []) ∙ ap (λ (l : List ℕ). l ++ bytes_of (0 ∷ [])) (bytes_of-append ws (word ∷ [])))
+
+-- with more words
+pub extended_bytes : (bytes ws more : List ℕ) (end : ℕ) → bytes ≡ bytes_of (ws ++ 0 ∷ []) → end ≡ length bytes - 8 →
+    (take end bytes ++ bytes_of more) ++ to_le_bytes w64 0 ≡ bytes_of ((ws ++ more) ++ 0 ∷ [])
+extended_bytes bytes ws more end text at =
+    ap (λ (l : List ℕ). (l ++ bytes_of more) ++ to_le_bytes w64 0) (front_bytes bytes ws end text at)
+    ∙ sym (bytes_of-append (ws ++ more) (0 ∷ []) ∙ ap (λ (l : List ℕ). l ++ bytes_of (0 ∷ [])) (bytes_of-append ws more))

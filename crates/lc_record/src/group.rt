@@ -1,5 +1,5 @@
 //! A buffer for the words of records that are written together.
-ghost use Rattle.std.specs.Prelude.{◌≡◌, ◌+◌, ◌<◌, ◌≤◌, ◌↔◌, [], ◌∷◌, ◌++◌, length, IfOk, IsTrue, vec_len, vec_capacity};
+ghost use Rattle.std.specs.Prelude.{◌≡◌, ◌+◌, ◌*◌, ◌<◌, ◌≤◌, ◌↔◌, [], ◌∷◌, ◌++◌, length, IfOk, IsTrue, vec_len, vec_capacity};
 ghost use Rattle.std.specs.Int.{w64, to_le_bytes};
 ghost use Rattle.lc_record.specs.Words.{bytes_of};
 
@@ -70,12 +70,35 @@ impl Group {
         append(&mut self.bytes, 0);
     }
 
+    /// Adds these words at the end, in their order, in the room that there is.
+    pub fn extend(&mut self, words: &[u64])
+        requires { length self.old.words + length words.now ≤ self.old.room }
+        ensures { self.new ≡ record self.old { words = self.old.words ++ words.now } }
+    {
+        let end = self.bytes.len() - WORD_BYTES;
+        self.bytes.truncate(end);
+        append_all(&mut self.bytes, words);
+        append(&mut self.bytes, 0);
+    }
+
     /// Drops all words, and keeps the room.
     pub fn clear(&mut self)
         ensures { self.new ≡ record self.old { words = [] } }
     {
         self.bytes.clear();
         append(&mut self.bytes, 0);
+    }
+}
+
+// Adds the bytes of these words, in the room that there is.
+fn append_all(bytes: &mut Vec<u8>, words: &[u64])
+    requires { vec_len bytes.old + 8 * length words.now ≤ vec_capacity bytes.old }
+    ensures items { bytes.new.items ≡ bytes.old.items ++ bytes_of words.now }
+    ensures len { vec_len bytes.new ≡ vec_len bytes.old + 8 * length words.now }
+    ensures room { vec_capacity bytes.old ≤ vec_capacity bytes.new }
+{
+    for word in words {
+        append(bytes, *word);
     }
 }
 
