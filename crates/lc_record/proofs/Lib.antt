@@ -11,3 +11,4 @@ pub mod GroupLemmas
 pub mod SegmentLemmas
 pub mod LockLemmas
 pub mod PuttingLemmas
+pub mod LockWordsLemmas

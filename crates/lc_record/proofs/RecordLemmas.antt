@@ -1,9 +1,9 @@
 -- Whole records: what is read stands at the front, and what is spelled is read again.
-use Rattle.std.proofs.Common.{◌≡◌, ◌≢◌, ℕ, ◌+◌, ◌/◌, ◌<◌, ◌≤◌, ◌^◌, Bool, true, cond, eqb, ◌&&◌, List, [], ◌∷◌, ◌++◌, length, get_or, take, Option, Some, None, refl, sym, ap, subst, ◌∙◌, inl, inr, arith, append_assoc, length-append, drop, take-append-drop}
+use Rattle.std.proofs.Common.{◌≡◌, ◌≢◌, ℕ, suc, ◌+◌, ◌*◌, ◌/◌, ◌<◌, ◌≤◌, ◌^◌, Bool, true, cond, eqb, ◌&&◌, List, [], ◌∷◌, ◌++◌, length, get_or, take, Option, Some, None, refl, sym, ap, subst, ◌∙◌, inl, inr, arith, append_assoc, length-append, drop, take-append-drop}
 use Rattle.std.specs.Prelude.{IsTrue, ◌↔◌, IfSome, IfNone}
 use Rattle.std.specs.List.{flat_map, AllByRecursion}
 use Rattle.std.proofs.lemmas.Bool.{and_parts, and_from, eqb-true, eq-eqb}
-use Rattle.std.proofs.lemmas.List.{append-nil, take_at, length-take-le}
+use Rattle.std.proofs.lemmas.List.{append-nil, take_at, drop_at, length-take-le}
 use Rattle.std.proofs.lemmas.Option.{cond_some, none-some, same_Some}
 use Rattle.lc_record.specs.Words.{AreWords}
 use Rattle.lc_record.specs.GrammarVersion.{number}
@@ -16,7 +16,7 @@ use Rattle.lc_record.specs.declared.record.Lock.{Lock}
 use Rattle.lc_record.specs.declared.record.RangeData.{RangeData}
 use Rattle.lc_record.specs.declared.grammar_version.GrammarVersion.{GrammarVersion}
 use Rattle.lc_record.specs.declared.grammar_version.GrammarVersion.TheVariants.{First, Second}
-use Rattle.lc_record.proofs.SpellingLemmas.{length-spelling, AreWords-spelling, segment_small, word_len}
+use Rattle.lc_record.proofs.SpellingLemmas.{length-lock_words, length-spelling, AreWords-spelling, segment_small, word_len}
 use Rattle.lc_record.proofs.OrderLemmas.{ascend_takes, ascend_from, ascends_chain, locks_ascend, Fits, start_takes, start_from}
 use Rattle.lc_record.proofs.ReadingLemmas.{bind_some, behind_fit, head_first, head_second, IsHead, HeadTakes, head_takes, head_again, LocksTake, locks_take, locks_again, RangesTake, ranges_take, AreBelow, ranges_again}
 
@@ -75,7 +75,7 @@ closed_takes len words (last ∷ behind) e =
 -- Records
 
 -- what the first two words of a record say
-abbrev head_from : Record → Head
+abbrev pub head_from : Record → Head
 head_from r = record { version = version_of r.ranges; node = r.node; locks = length r.locks; ranges = length r.ranges; len = record_len r }
 
 -- the words of a record, and what stands behind it
@@ -258,6 +258,31 @@ none_begins words none r front rest is e =
 
 pub record_is : (r : Record) (words : List ℕ) → IsRecord r words → record_at words ≡ Some r
 record_is r words is = ap record_at (is.spelled ∙ sym (append-nil (spelling r))) ∙ record_again r is.canonical is.short []
+
+-- where its parts stand
+
+pub head_there : (r : Record) (words : List ℕ) → IsRecord r words → (rest : List ℕ) × (head_at words ≡ Some (head_from r, rest))
+head_there r words is =
+    let c : IsCanonical r = is.canonical in
+    let its : IsHead (head_from r) = record { node = c.node; some_locks = c.some_locks; few_locks = c.few_locks; some_ranges = c.some_ranges; few_ranges = c.few_ranges; short = is.short } in
+    let behind = flat_map lock_words r.locks ++ flat_map (range_words (version_of r.ranges)) r.ranges ++ record_len r ∷ [] in
+    (behind, ap head_at is.spelled ∙ head_again (head_from r) behind its)
+
+-- the words of its ranges, and its length behind them
+abbrev pub ranges_behind : Record → List ℕ
+ranges_behind r = flat_map (range_words (version_of r.ranges)) r.ranges ++ record_len r ∷ []
+
+pub behind_front : (r : Record) (words : List ℕ) → IsRecord r words → drop (2 + 2 * length r.locks) words ≡ ranges_behind r
+behind_front r words is =
+    let locks = flat_map lock_words r.locks in
+    let two : 2 + 2 * length r.locks ≡ suc (suc (2 * length r.locks)) = omega arith in
+    ap (λ (n : ℕ). drop n words) two
+    ∙ ap (drop (suc (suc (2 * length r.locks)))) is.spelled
+    ∙ ap (drop (2 * length r.locks)) (append_assoc locks (flat_map (range_words (version_of r.ranges)) r.ranges) (record_len r ∷ []))
+    ∙ drop_at locks (ranges_behind r) (2 * length r.locks) (length-lock_words r.locks)
+
+pub ranges_there : (r : Record) (words : List ℕ) → IsRecord r words → ranges_at (version_of r.ranges) (length r.ranges) (drop (2 + 2 * length r.locks) words) ≡ Some (r.ranges, record_len r ∷ [])
+ranges_there r words is = ap (ranges_at (version_of r.ranges) (length r.ranges)) (behind_front r words is) ∙ ranges_are r is.canonical is.short []
 
 -- no record is a prefix of another
 pub one_reading : (r q : Record) (a b x y : List ℕ) → IsRecord r a → IsRecord q b → a ++ x ≡ b ++ y → (r ≡ q) × (a ≡ b)

@@ -5,12 +5,12 @@ use Rattle.std.specs.Int.{w64, to_le_bytes}
 use Rattle.std.specs.List.{flat_map, AllByRecursion}
 use Rattle.std.specs.Option.{unwrap_or}
 use Rattle.std.proofs.lemmas.List.{length-take-le, length-drop, take_all}
-use Rattle.std.proofs.lemmas.Option.{same_Some}
+use Rattle.std.proofs.lemmas.Option.{none-some, same_Some}
 use Rattle.lc_record.specs.Words.{bytes_of, AreWords}
 use Rattle.lc_record.specs.Layout.{second_word}
 use Rattle.lc_record.specs.Record.{record_len, header, lock_words, range_words, version_of, IsLock, IsRecord}
 use Rattle.lc_record.specs.Codec.{BeginsWith}
-use Rattle.lc_record.specs.Reading.{◌>>=◌, many, lock_at, ranges_at, Front, front_at, len_at, record_of, record_at}
+use Rattle.lc_record.specs.Reading.{◌>>=◌, Gives, many, lock_at, len_at}
 use Rattle.lc_record.specs.View.{record_in}
 use Rattle.lc_record.specs.declared.record.Record.{Record}
 use Rattle.lc_record.specs.declared.record.Lock.{Lock}
@@ -25,9 +25,6 @@ range_behind words place = take_all (length words - place) (drop place words) (o
 
 pub in_is : (r : Record) (words : List ℕ) → IsRecord r words → record_in words ≡ r
 in_is r words is = ap (λ (o : Option Record). unwrap_or o (record { node = 0; locks = []; ranges = [] })) (record_is r words is)
-
-pub in_read : (words : List ℕ) → IsRecord (record_in words) words → record_at words ≡ Some (record_in words)
-in_read words is = record_is (record_in words) words is
 
 -- those that the record takes
 pub record Found (words : List ℕ) (len : ℕ) : Type 0 where
@@ -48,22 +45,10 @@ found words len fit e =
       within = its.begins.within;
     }
 
--- Its parts
-
-pub record Parts (words : List ℕ) (r : Record) : Type 0 where
-  pub front : Front
-  pub is : front_at words ≡ Some front
-  pub rest : List ℕ
-  pub ranges : ranges_at front.head.version front.head.ranges front.rest ≡ Some (r.ranges, rest)
-
-pub parts_of : (words : List ℕ) (r : Record) → record_at words ≡ Some r → Parts words r
-unfolding record_at
-parts_of words r e =
-    let f = bind_some (front_at words) (λ front. ranges_at front.head.version front.head.ranges front.rest >>= λ ranges. Some (record_of front ranges.0)) r e in
-    let its : Front = f.0 in
-    let a = bind_some (ranges_at its.head.version its.head.ranges its.rest) (λ ranges. Some (record_of its ranges.0)) r f.2 in
-    let same : record_of its a.0.0 ≡ r = same_Some _ _ a.2 in
-    record { front = its; is = f.1; rest = a.0.1; ranges = a.1 ∙ ap (λ (q : Record). Some (q.ranges, a.0.1)) same }
+-- what was read, where something stands
+pub given : {X Y : Type 0} (view : X → Y) (o : Option X) (read : Option Y) (y : Y) → Gives view o read → read ≡ Some y → (x : X) × (o ≡ Some x) × (view x ≡ y)
+given view None read y is there = absurd (none-some y (sym is ∙ there))
+given view (Some x) read y is there = (x, refl, same_Some (view x) y (sym is ∙ there))
 
 -- Locks
 

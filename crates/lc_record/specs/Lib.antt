@@ -12,6 +12,7 @@ pub mod Fault
 pub mod Content
 pub mod Transaction
 pub mod Reading
+pub mod LockWords
 pub mod Part
 pub mod View
 pub mod Marks

@@ -6,18 +6,17 @@ ghost use Rattle.lc_record.specs.Record.{HoldsBytes, IsCanonical, IsRange};
 ghost use Rattle.lc_record.specs.Reading.{Passes, ascend, follow, is_lock, start};
 
 use crate::limits::{MAX_LOCKS, MAX_NODE, MAX_OFFSET, MAX_RANGES, MAX_SEGMENT, MAX_SEQ};
-use crate::span::Span;
-use crate::walk::{start, step};
 use crate::{Lock, RangeData, Record};
 
-fn is_lock(lock: &Lock) -> bool
+/// Whether a record may have this lock.
+pub fn is_lock(lock: &Lock) -> bool
     ensures { result ≡ is_lock lock.now }
 {
     lock.segment >= 1 && lock.segment <= MAX_SEGMENT && lock.seq >= 1 && lock.seq <= MAX_SEQ
 }
 
-/// Whether these are locks that a record may have, ascending by segment.
-pub fn ascend(locks: &[Lock]) -> bool
+// Whether these are locks that a record may have, ascending by segment.
+fn ascend(locks: &[Lock]) -> bool
     ensures { result ≡ ascend 0 locks.now }
 {
     let mut before = 0;
@@ -54,23 +53,29 @@ fn are_ranges(ranges: &[RangeData]) -> bool
     true
 }
 
-/// Whether the ranges ascend, and are of the segments of these locks, which ascend.
+// Whether the ranges ascend, and are of the segments of these locks, which ascend.
 fn follow(locks: &[Lock], ranges: &[RangeData]) -> bool
     ensures { result ≡ follow (start locks.now) ranges.now }
 {
-    let mut walk = start(locks);
+    let mut segment = 0;
+    let mut end = MAX_OFFSET;
+    let mut rest = locks;
     for range in ranges {
-        let span = Span {
-            segment: range.segment,
-            offset: range.offset,
-            len: range.bytes.as_slice().len() as u64,
-        };
-        let Some(after) = step(walk, span) else {
+        if range.segment != segment {
+            let [lock, behind @ ..] = rest else {
+                return false;
+            };
+            if lock.segment != range.segment {
+                return false;
+            }
+            rest = behind;
+        } else if u64::from(range.offset) <= end {
             return false;
-        };
-        walk = after;
+        }
+        segment = range.segment;
+        end = u64::from(range.offset) + range.bytes.as_slice().len() as u64;
     }
-    walk.locks.is_empty()
+    rest.is_empty()
 }
 
 fn passes(node: u16, locks: &[Lock], ranges: &[RangeData]) -> bool

@@ -44,7 +44,7 @@ fn read_record(alloc: Global, words: &[u64]) -> Result<Option<Record>, AllocErro
     let Some(ranges) = read_ranges(alloc, head, rest)? else {
         return Ok(None);
     };
-    let locks = Vec::from_slice(alloc, &locks[..head.locks as usize])?;
+    let locks = locks.collect(alloc)?;
     Ok(Some(Record {
         node: head.node,
         locks: Items::new(locks),

@@ -14,6 +14,7 @@ mod items;
 mod laws;
 mod layout;
 mod limits;
+mod lock_words;
 mod part;
 mod parts;
 mod putting;

@@ -1,9 +1,10 @@
 //! Where the parts of a record stand in its words.
-ghost use Rattle.std.specs.Prelude.{◌≡◌, ◌*◌, ◌/◌, ◌%◌, ◌^◌, ◌≤◌, ℕ, IfSome, List, Some, length, slice_get, take};
+ghost use Rattle.std.specs.Prelude.{◌≡◌, ◌*◌, ◌/◌, ◌%◌, ◌^◌, ◌≤◌, ℕ, IfSome, List, Some, length, slice_get};
 ghost use Rattle.lc_record.specs.declared.record.RangeData.{RangeData};
-ghost use Rattle.lc_record.specs.Reading.{Gives, apart_at, front, front_at, has_room, head_at, is_closed, is_first, is_second, len_at, lock_at, locks_at, packed_at, place_at, range_at, range_of, ranges_at, start, walked};
+ghost use Rattle.lc_record.specs.LockWords.{locks_in};
+ghost use Rattle.lc_record.specs.Reading.{Gives, apart_at, front, front_at, has_room, head_at, is_closed, is_first, is_second, len_at, packed_at, place_at, range_at, range_of, ranges_at, start, walked};
 
-use crate::canonical::ascend;
+use crate::GrammarVersion;
 use crate::data::{data_len, is_padded};
 use crate::fields::{
     gate, length, lock_count, node, range_count, range_offset, range_segment, version,
@@ -11,9 +12,9 @@ use crate::fields::{
 use crate::limits::{
     GATE_OPEN, MAX_LOCKS, MAX_NODE, MAX_OFFSET, MAX_RANGES, MAX_WORDS, SECOND_END,
 };
+use crate::lock_words::{LockWords, locks_of};
 use crate::span::Span;
 use crate::walk::{start, step};
-use crate::{GrammarVersion, Lock};
 
 /// What the first two words say.
 #[derive(Clone, Copy)]
@@ -50,10 +51,10 @@ fn is_second(second: u64) -> bool
         && lock_count(second) as usize <= MAX_LOCKS
 }
 
+/// What the first two words say, and the words behind them.
 #[tactic(auto, unfolding(crate::specs::Reading::head_at))]
-fn head_of(words: &[u64]) -> Option<(Head, &[u64])>
-    ensures read { Gives (λ x. (x.0, x.1.now)) result (head_at words.now) }
-    ensures few { IfSome result (λ x. x.0.locks ≤ 16) }
+pub fn head_of(words: &[u64]) -> Option<(Head, &[u64])>
+    ensures { Gives (λ x. (x.0, x.1.now)) result (head_at words.now) }
 {
     let [first, second, rest @ ..] = words else {
         return None;
@@ -72,47 +73,14 @@ fn head_of(words: &[u64]) -> Option<(Head, &[u64])>
     Some((head, rest))
 }
 
-/// The lock at the front, and the words behind it.
-#[tactic(auto, unfolding(crate::specs::Reading::lock_at))]
-pub fn lock_of(words: &[u64]) -> Option<(Lock, &[u64])>
-    ensures { Gives (λ x. (x.0, x.1.now)) result (lock_at words.now) }
-{
-    let [segment, seq, rest @ ..] = words else {
-        return None;
-    };
-    if *segment > u64::from(u32::MAX) {
-        return None;
-    }
-    let lock = Lock {
-        segment: *segment as u32,
-        seq: *seq,
-    };
-    Some((lock, rest))
-}
-
-fn locks_of(count: u16, words: &[u64]) -> Option<([Lock; MAX_LOCKS], &[u64])>
-    requires { count ≤ 16 }
-    ensures { Gives (λ x. (take count x.0, x.1.now)) result (locks_at count words.now) }
-{
-    let mut locks = [Lock { segment: 0, seq: 0 }; MAX_LOCKS];
-    let mut rest = words;
-    for place in 0..count as usize {
-        let (lock, behind) = lock_of(rest)?;
-        locks[place] = lock;
-        rest = behind;
-    }
-    Some((locks, rest))
-}
-
 /// What stands before the ranges, and the words behind it.
 #[tactic(auto, unfolding(crate::specs::Reading::front_at))]
-pub fn front_of(words: &[u64]) -> Option<(Head, [Lock; MAX_LOCKS], &[u64])>
-    ensures read { Gives (λ x. front x.0 (take x.0.locks x.1) x.2.now) result (front_at words.now) }
-    ensures few { IfSome result (λ x. x.0.locks ≤ 16) }
+pub fn front_of(words: &[u64]) -> Option<(Head, LockWords<'_>, &[u64])>
+    ensures { Gives (λ x. front x.0 (locks_in x.1.words.now) x.2.now) result (front_at words.now) }
 {
     let (head, rest) = head_of(words)?;
     let (locks, rest) = locks_of(head.locks, rest)?;
-    if !ascend(&locks[..head.locks as usize]) {
+    if !locks.ascend() {
         return None;
     }
     Some((head, locks, rest))
@@ -209,8 +177,8 @@ pub fn nth_range(head: Head, index: usize, words: &[u64]) -> Option<RangeWords<'
 }
 
 // The words behind the ranges, which follow on these locks and are of the version that the head has.
-fn behind_ranges<'a>(head: Head, locks: &[Lock], words: &'a [u64]) -> Option<&'a [u64]>
-    ensures { Gives (λ rest. rest.now) result (walked head.version (start locks.now) (ranges_at head.version head.ranges words.now)) }
+fn behind_ranges<'a>(head: Head, locks: LockWords<'_>, words: &'a [u64]) -> Option<&'a [u64]>
+    ensures { Gives (λ rest. rest.now) result (walked head.version (start (locks_in locks.entry.words.now)) (ranges_at head.version head.ranges words.now)) }
 {
     let mut walk = start(locks);
     let mut needed = GrammarVersion::First;
@@ -245,7 +213,7 @@ pub fn len_of(words: &[u64]) -> Option<usize>
     ensures { Gives (λ len. len) result (len_at words.now) }
 {
     let (head, locks, rest) = front_of(words)?;
-    let behind = behind_ranges(head, &locks[..head.locks as usize], rest)?;
+    let behind = behind_ranges(head, locks, rest)?;
     if !is_closed(head.len, words, behind) {
         return None;
     }

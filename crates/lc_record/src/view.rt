@@ -1,17 +1,18 @@
 //! A record that is read where its words stand.
-ghost use Rattle.std.specs.Prelude.{◌≡◌, ◌+◌, ◌*◌, ◌<◌, ◌≤◌, ℕ, length, drop, option_map, slice_get, IfSome, IfNone};
+ghost use Rattle.std.specs.Prelude.{◌≡◌, ◌+◌, ◌*◌, ◌<◌, ◌≤◌, ℕ, List, Some, length, drop, option_map, slice_get, IfSome, IfNone};
 ghost use Rattle.std.specs.Option.{option_or};
 ghost use Rattle.lc_record.specs.Newest.{byte_of};
 ghost use Rattle.lc_record.specs.Codec.{BeginsWith, BeginsNoRecord};
-ghost use Rattle.lc_record.specs.Record.{record_len, span_of, IsRecord};
-ghost use Rattle.lc_record.specs.Reading.{Gives, range_of};
+ghost use Rattle.lc_record.specs.Record.{record_len, span_of, version_of, IsRecord};
+ghost use Rattle.lc_record.specs.Reading.{Gives, range_of, ranges_at};
 ghost use Rattle.lc_record.specs.View.{byte_at};
 
 use crate::Lock;
 use crate::data::read_byte;
 use crate::fields::{lock_count, node, range_count};
 use crate::limits::{HEAD_WORDS, LOCK_WORDS};
-use crate::parts::{RangeWords, front_of, len_of, lock_of, nth_range};
+use crate::lock_words::lock_of;
+use crate::parts::{Head, RangeWords, head_of, len_of, nth_range};
 use crate::putting::put_ranges;
 use crate::span::Span;
 use std::marker::Model;
@@ -120,9 +121,7 @@ impl<'a> View<'a> {
         ensures put { (k : ℕ) → k < length bytes.old →
             slice_get bytes.new k ≡ option_or (byte_of segment (offset + k) self.now.ranges) (slice_get bytes.old k) }
     {
-        if let Some((head, _, rest)) = front_of(self.words) {
-            put_ranges(head, rest, segment, offset, bytes);
-        }
+        put_ranges(self.head(), self.ranges(), segment, offset, bytes);
     }
 
     fn range_words(&self, index: usize) -> Option<RangeWords<'a>>
@@ -130,7 +129,30 @@ impl<'a> View<'a> {
         ensures short { IfSome result (λ x. x.span.len ≤ 262144) }
         ensures whole { IfSome result (λ x. x.span.len ≤ 8 * length x.data.now) }
     {
-        let (head, _, rest) = front_of(self.words)?;
-        nth_range(head, index, rest)
+        nth_range(self.head(), index, self.ranges())
+    }
+
+    // What the first two words say.
+    fn head(&self) -> Head
+        ensures version { result.version ≡ version_of self.now.ranges }
+        ensures locks { result.locks ≡ length self.now.locks }
+        ensures ranges { result.ranges ≡ length self.now.ranges }
+    {
+        let (head, _) = head_of(self.words).unwrap();
+        head
+    }
+
+    // How many words stand before the ranges.
+    fn front_words(&self) -> usize
+        ensures { result ≡ 2 + 2 * length self.now.locks }
+    {
+        HEAD_WORDS + LOCK_WORDS * self.head().locks as usize
+    }
+
+    // The words of the ranges, and all behind them.
+    fn ranges(&self) -> &'a [u64]
+        ensures { (rest : List ℕ) × (ranges_at (version_of self.now.ranges) (length self.now.ranges) result.now ≡ Some (self.now.ranges, rest)) }
+    {
+        &self.words[self.front_words()..]
     }
 }

@@ -1,9 +1,10 @@
 //! Ranges in order, against the locks of their segments.
 ghost use Rattle.std.specs.Prelude.{◌≡◌, ◌<◌, ◌^◌};
+ghost use Rattle.lc_record.specs.LockWords.{locks_in};
 ghost use Rattle.lc_record.specs.Reading.{Gives, next_lock, place, start, step};
 
-use crate::Lock;
 use crate::limits::MAX_OFFSET;
+use crate::lock_words::LockWords;
 use crate::span::Span;
 
 /// How far the ranges have come: where the last one ended, and the locks of which none came yet.
@@ -11,12 +12,12 @@ use crate::span::Span;
 pub struct Walk<'a> {
     pub segment: u32,
     pub end: u64,
-    pub locks: &'a [Lock],
+    pub locks: LockWords<'a>,
 }
 
 /// Before the first range. Nothing stands in segment 0 behind this end.
-pub fn start(locks: &[Lock]) -> Walk<'_>
-    ensures { place result.segment result.end result.locks.now ≡ start locks.now }
+pub fn start(locks: LockWords<'_>) -> Walk<'_>
+    ensures { place result.segment result.end (locks_in result.locks.words.now) ≡ start (locks_in locks.entry.words.now) }
 {
     Walk {
         segment: 0,
@@ -25,24 +26,22 @@ pub fn start(locks: &[Lock]) -> Walk<'_>
     }
 }
 
-fn next_lock(segment: u32, locks: &[Lock]) -> Option<&[Lock]>
-    ensures { Gives (λ rest. rest.now) result (next_lock segment locks.now) }
+fn next_lock(segment: u32, mut locks: LockWords<'_>) -> Option<LockWords<'_>>
+    ensures { Gives (λ rest. locks_in rest.words.now) result (next_lock segment (locks_in locks.entry.words.now)) }
 {
-    let [lock, rest @ ..] = locks else {
-        return None;
-    };
+    let lock = locks.next()?;
     if lock.segment != segment {
         return None;
     }
-    Some(rest)
+    Some(locks)
 }
 
 /// One range more, or None where it does not follow: it is of the same segment with a gap between, or of the segment
 /// of the next lock.
 pub fn step(before: Walk<'_>, span: Span) -> Option<Walk<'_>>
     requires { span.len < 2 ^ 63 }
-    ensures { Gives (λ w. place w.segment w.end w.locks.now) result
-        (step (place before.entry.segment before.entry.end before.entry.locks.now) span) }
+    ensures { Gives (λ w. place w.segment w.end (locks_in w.locks.words.now)) result
+        (step (place before.entry.segment before.entry.end (locks_in before.entry.locks.words.now)) span) }
 {
     let segment = span.segment;
     let end = u64::from(span.offset) + span.len;

@@ -1,25 +1,10 @@
-use Rattle.std.proofs.Common.{◌≡◌, ◌∙◌, Some, sym, ap, subst}
-use Rattle.std.specs.Prelude.{take}
-use Rattle.std.proofs.lemmas.Option.{none-some, same_Some}
-use Rattle.lc_record.specs.Reading.{Front, front, ranges_at}
-use Rattle.lc_record.specs.View.{record_in}
+use Rattle.std.proofs.Common.{◌≡◌, Some}
+use Rattle.lc_record.specs.Reading.{ranges_at}
 use Rattle.lc_record.specs.declared.record.Record.{Record}
-use Rattle.lc_record.proofs.ViewLemmas.{parts_of, in_read}
 use Rattle.lc_record.proofs.view.View.range_words.Goals as goal
-
-pub returns-in_err-head-clause-read : goal.returns-in_err-head-clause-read
-returns-in_err-head-clause-read c =
-    let words = c.self.inside.words.now in
-    let its = parts_of words (record_in words) (in_read words c.self.invariant) in
-    absurd (none-some its.front (sym c.in_err-head.ensures.read ∙ its.is))
 
 pub returns-clause-read : goal.returns-clause-read
 returns-clause-read c =
-    let words = c.self.inside.words.now in
-    let its = parts_of words (record_in words) (in_read words c.self.invariant) in
-    let head = c.in_ok-head.head in
-    let f : Front = front head (take head.locks c.in_ok-head.field-0-1) c.in_ok-head.rest.now in
-    let same : f ≡ its.front = same_Some f its.front (sym c.in_ok-head.ensures.read ∙ its.is) in
-    let read = subst (λ (g : Front). ranges_at g.head.version g.head.ranges g.rest ≡ Some ((record_in words).ranges, its.rest)) (sym same) its.ranges in
-    let there : ◌≡◌ (ranges_at head.version head.ranges c.in_ok-head.rest.now) (Some (c.args.self.now.ranges, its.rest)) = read ∙ ap (λ (r : Record). Some (r.ranges, its.rest)) c.self.view_is in
-    c.nth_range.ensures.read c.args.self.now.ranges its.rest there
+    let r : Record = c.args.self.now in
+    let there : ranges_at c.head.result.version c.head.result.ranges c.ranges-2.result.now ≡ Some (r.ranges, c.ranges-2.ensures.0) = rw (c.head.ensures.version, c.head.ensures.ranges) c.ranges-2.ensures.1 in
+    c.nth_range.ensures.read r.ranges c.ranges-2.ensures.0 there
