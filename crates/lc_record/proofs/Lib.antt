@@ -12,3 +12,4 @@ pub mod SegmentLemmas
 pub mod LockLemmas
 pub mod PuttingLemmas
 pub mod LockWordsLemmas
+pub mod SpansLemmas

@@ -268,21 +268,21 @@ head_there r words is =
     let behind = flat_map lock_words r.locks ++ flat_map (range_words (version_of r.ranges)) r.ranges ++ record_len r ∷ [] in
     (behind, ap head_at is.spelled ∙ head_again (head_from r) behind its)
 
--- the words of its ranges, and its length behind them
-abbrev pub ranges_behind : Record → List ℕ
-ranges_behind r = flat_map (range_words (version_of r.ranges)) r.ranges ++ record_len r ∷ []
-
-pub behind_front : (r : Record) (words : List ℕ) → IsRecord r words → drop (2 + 2 * length r.locks) words ≡ ranges_behind r
-behind_front r words is =
-    let locks = flat_map lock_words r.locks in
+-- whatever follows it
+pub ranges_stand : (r : Record) (words rest : List ℕ) → IsRecord r words
+    → ranges_at (version_of r.ranges) (length r.ranges) (drop (2 + 2 * length r.locks) (words ++ rest)) ≡ Some (r.ranges, record_len r ∷ rest)
+ranges_stand r words rest is =
     let two : 2 + 2 * length r.locks ≡ suc (suc (2 * length r.locks)) = omega arith in
-    ap (λ (n : ℕ). drop n words) two
-    ∙ ap (drop (suc (suc (2 * length r.locks)))) is.spelled
-    ∙ ap (drop (2 * length r.locks)) (append_assoc locks (flat_map (range_words (version_of r.ranges)) r.ranges) (record_len r ∷ []))
-    ∙ drop_at locks (ranges_behind r) (2 * length r.locks) (length-lock_words r.locks)
+    let stand : drop (2 + 2 * length r.locks) (words ++ rest) ≡ behind r is.canonical is.short rest =
+    ap (λ (n : ℕ). drop n (words ++ rest)) two
+    ∙ ap (λ (l : List ℕ). drop (suc (suc (2 * length r.locks))) (l ++ rest)) is.spelled
+    ∙ ap (drop (suc (suc (2 * length r.locks)))) (spelling_split r rest)
+    ∙ drop_at (flat_map lock_words r.locks) (behind r is.canonical is.short rest) (2 * length r.locks) (length-lock_words r.locks) in
+    ap (ranges_at (version_of r.ranges) (length r.ranges)) stand ∙ ranges_are r is.canonical is.short rest
 
 pub ranges_there : (r : Record) (words : List ℕ) → IsRecord r words → ranges_at (version_of r.ranges) (length r.ranges) (drop (2 + 2 * length r.locks) words) ≡ Some (r.ranges, record_len r ∷ [])
-ranges_there r words is = ap (ranges_at (version_of r.ranges) (length r.ranges)) (behind_front r words is) ∙ ranges_are r is.canonical is.short []
+ranges_there r words is =
+    ap (λ (l : List ℕ). ranges_at (version_of r.ranges) (length r.ranges) (drop (2 + 2 * length r.locks) l)) (sym (append-nil words)) ∙ ranges_stand r words [] is
 
 -- no record is a prefix of another
 pub one_reading : (r q : Record) (a b x y : List ℕ) → IsRecord r a → IsRecord q b → a ++ x ≡ b ++ y → (r ≡ q) × (a ≡ b)

@@ -15,6 +15,7 @@ pub mod Reading
 pub mod LockWords
 pub mod Part
 pub mod View
+pub mod Spans
 pub mod Marks
 pub mod Recorded
 pub mod Newest

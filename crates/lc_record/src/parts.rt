@@ -119,8 +119,8 @@ fn apart_of(words: &[u64]) -> Option<(Span, &[u64])>
     Some((span, rest))
 }
 
-// Where the range at the front stands, and the words behind that.
-fn place_of(version: GrammarVersion, words: &[u64]) -> Option<(Span, &[u64])>
+/// Where the range at the front stands, and the words behind that.
+pub fn place_of(version: GrammarVersion, words: &[u64]) -> Option<(Span, &[u64])>
     ensures { Gives (λ x. (x.0, x.1.now)) result (place_at version words.now) }
 {
     match version {

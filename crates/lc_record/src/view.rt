@@ -5,6 +5,7 @@ ghost use Rattle.lc_record.specs.Newest.{byte_of};
 ghost use Rattle.lc_record.specs.Codec.{BeginsWith, BeginsNoRecord};
 ghost use Rattle.lc_record.specs.Record.{record_len, span_of, version_of, IsRecord};
 ghost use Rattle.lc_record.specs.Reading.{Gives, range_of, ranges_at};
+ghost use Rattle.lc_record.specs.Spans.{left_of, placed_spans};
 ghost use Rattle.lc_record.specs.View.{byte_at};
 
 use crate::Lock;
@@ -15,6 +16,7 @@ use crate::lock_words::lock_of;
 use crate::parts::{Head, RangeWords, head_of, len_of, nth_range};
 use crate::putting::put_ranges;
 use crate::span::Span;
+use crate::spans::Spans;
 use std::marker::Model;
 
 /// The words of one record, which stay where they are: it is read without memory, and no word is copied. This project's
@@ -103,6 +105,14 @@ impl<'a> View<'a> {
     {
         let range = self.range_words(index)?;
         Some(range.span)
+    }
+
+    /// The ranges in their order, each with the place of its bytes. Each is read once, when it comes, and it takes no
+    /// memory.
+    pub fn spans(&self) -> Spans<'a>
+        ensures { left_of result ≡ placed_spans self.now }
+    {
+        Spans::new(self.words, self.head(), self.front_words())
     }
 
     /// The byte at this place, from 0, of the range at this index; None exactly where there is none. It goes over the
