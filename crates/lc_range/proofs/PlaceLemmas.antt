@@ -1,8 +1,11 @@
 -- The place of a range among a set's runs.
-use Rattle.std.proofs.Common.{◌≡◌, ℕ, zero, suc, pred, ◌<◌, ◌≤◌, Bool, true, false, ◌||◌, List, [], ◌∷◌, ◌++◌, length, get_or, take, drop, refl, sym, ap, ◌∙◌, inl, inr, arith}
+use Rattle.std.proofs.Common.{◌≡◌, ℕ, zero, suc, pred, ◌-◌, ◌<◌, ◌≤◌, Bool, true, false, ◌||◌, List, [], ◌∷◌, ◌++◌, length, get_or, take, drop, refl, sym, ap, ◌∙◌, inl, inr, arith}
 use Rattle.std.proofs.Math.Bool.{or-false}
+use Rattle.std.specs.Prelude.{◌↔◌, Option, Some, None, slice_get}
+use Rattle.std.specs.List.{AllWithin}
 use Rattle.std.specs.List.Sorted.{IsPartitionedBy, IsPartitionPoint}
 use Rattle.std.proofs.lemmas.Bool.{cases_Bool, cond-true, cond-false}
+use Rattle.std.proofs.lemmas.Option.{slice_get-get_or}
 use Rattle.lc_range.specs.Range.{IsBefore}
 use Rattle.lc_range.specs.RangeSet.{LiesBefore, IsCanonical}
 use Rattle.lc_range.specs.Walk.{is_before, is_holding, absorbed, merged, some_holds}
@@ -25,6 +28,25 @@ partitioned (run ∷ runs) range c zero (suc j) d le within e =
     before_from run range (before_before run (get_or runs j d) range (lies_at run runs j d c.1 (omega (arith, within))) (before_is (get_or runs j d) range e))
 partitioned (run ∷ runs) range c (suc i) zero d le within e = absurd (omega (arith, le))
 partitioned (run ∷ runs) range c (suc i) (suc j) d le within e = partitioned runs range c.2 i j d (omega (arith, le)) (omega (arith, within)) e
+
+-- so all lie before it where the last does
+pub last_tells : (runs : List Range) (range last : Range) → IsCanonical runs → Some last ≡ slice_get runs (length runs - 1)
+    → (is_before last range ≡ true) ↔ AllWithin (λ run. is_before run range ≡ true) runs 0 (length runs)
+last_tells [] range last c e = absurd cc
+last_tells (run ∷ runs) range last c e = (
+  (λ before k d low high. partitioned (run ∷ runs) range c k end d (omega arith) (omega arith) (ap (λ (r : Range). is_before r range) (sym (at d)) ∙ before)),
+  (λ all. ap (λ (r : Range). is_before r range) (at run) ∙ all end run (omega arith) (omega arith)),
+)
+  where
+    end : ℕ
+    end = length (run ∷ runs) - 1
+
+    unwrap_to : Range → Option Range → Range
+    unwrap_to d (Some l) = l
+    unwrap_to d None = d
+
+    at : (d : Range) → last ≡ get_or (run ∷ runs) end d
+    at d = ap (unwrap_to d) (e ∙ slice_get-get_or (run ∷ runs) end d (omega arith))
 
 -- where a range comes behind the runs before it
 pub merged_at : (runs : List Range) (range : Range) (i : ℕ) → i ≤ length runs → IsPartitionPoint (λ run. is_before run range ≡ true) (λ run. is_before run range ≡ false) runs i

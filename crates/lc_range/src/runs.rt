@@ -1,5 +1,6 @@
 //! A set's runs, walked and changed in place.
-ghost use Rattle.std.specs.Prelude.{◌≡◌, ◌+◌, ◌-◌, ◌^◌, ◌<◌, ◌≤◌, ◌∷◌, ◌++◌, IsTrue, true, false, length, take, drop};
+ghost use Rattle.std.specs.Prelude.{◌≡◌, ◌+◌, ◌-◌, ◌^◌, ◌<◌, ◌≤◌, ◌↔◌, ◌∷◌, ◌++◌, IsTrue, true, false, length, take, drop};
+ghost use Rattle.std.specs.List.{AllWithin};
 ghost use Rattle.std.specs.List.Sorted.{IsPartitionPoint};
 ghost use Rattle.smallvec.specs.SmallVec.{small_vec_len};
 ghost use Rattle.lc_range.specs.RangeSet.{EndWithin, IsCanonical};
@@ -9,13 +10,28 @@ use crate::Range;
 use crate::touched::Touched;
 use smallvec::SmallVec;
 
-/// How many of these runs, from the first on, lie before a range.
+// Whether all of these runs lie before a range. The last of them tells it.
+fn are_before(runs: &[Range], range: &Range) -> bool
+    requires { IsCanonical runs.now }
+    ensures { IsTrue result ↔ AllWithin (λ run. is_before run range.now ≡ true) runs.now 0 (length runs.now) }
+{
+    match runs.last() {
+        Some(last) => last.is_before(range),
+        None => true,
+    }
+}
+
+/// How many of these runs, from the first on, lie before a range. Where all do, as where ranges come in ascending order,
+/// nothing is searched.
 pub fn count_before(runs: &[Range], range: &Range) -> usize
     requires { IsCanonical runs.now }
     ensures within { result ≤ length runs.now }
     ensures place { IsPartitionPoint (λ run. is_before run range.now ≡ true) (λ run. is_before run range.now ≡ false) runs.now result }
     ensures rest { take result runs.now ++ absorbed range.now (drop result runs.now) ≡ merged range.now runs.now }
 {
+    if are_before(runs, range) {
+        return runs.len();
+    }
     let range = *range;
     runs.partition_point(
         |run: &Range| -> bool

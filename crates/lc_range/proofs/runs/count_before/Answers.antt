@@ -1,4 +1,4 @@
-use Rattle.std.proofs.Common.{rules}
+use Rattle.std.proofs.Common.{rules, length, arith}
 use Rattle.std.proofs.lemmas.List.Sorted.{IsPartitionPoint-from_clause}
 use Rattle.lc_range.specs.Walk.{is_before}
 use Rattle.lc_range.proofs.PlaceLemmas.{partitioned, merged_at}
@@ -11,3 +11,7 @@ returns-clause-place c =
 
 pub returns-clause-rest : goal.returns-clause-rest
 returns-clause-rest c = merged_at c.args.runs.now c.args.range.now c.partition_point.result c.partition_point.ensures.bound (returns-clause-place c)
+
+pub returns-then-are_before-clause-rest : goal.returns-then-are_before-clause-rest
+returns-then-are_before-clause-rest c =
+    merged_at c.args.runs.now c.args.range.now (length c.args.runs.now) (omega arith) (c.are_before.ensures.0 c.if-are_before.true, λ k d low high. absurd (omega (arith, low, high)))
