@@ -42,6 +42,13 @@ impl RangeSet {
         }
     }
 
+    /// No position is in the set any more. The memory that its runs have taken is kept for others.
+    pub fn clear(&mut self)
+        ensures { self.new ≡ [] }
+    {
+        self.runs.clear();
+    }
+
     /// Adds `len` positions, in bytes, of a segment of `segment_len` bytes, from `offset` on. Runs that overlap or
     /// touch become one. A binary search finds its place, and only the runs that it touches are looked at from there on. It
     /// takes memory only where a ninth run or a later one comes.

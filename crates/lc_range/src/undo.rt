@@ -46,6 +46,14 @@ impl Undo {
         }
     }
 
+    /// Nothing is kept any more. The memory that the copies have taken is kept for others.
+    pub fn clear(&mut self)
+        ensures { self.new ≡ [] }
+    {
+        self.ranges.clear();
+        self.bytes.clear();
+    }
+
     /// Keeps the bytes of `len` positions of a segment from `offset` on that are not in the set, as the segment's
     /// image has them. What was kept before stays. As in a `RangeSet`, no range ends behind 2^32 - 1.
     ///
