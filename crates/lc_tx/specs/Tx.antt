@@ -31,6 +31,13 @@ Reads tx segment = IsTrue (is_member segment tx.reading.items)
 abbrev pub Holds : Tx → ℕ → Type 0
 Holds tx segment = IsTrue (is_member segment tx.locked.items || is_member segment tx.reading.items)
 
+-- it holds no lock, has set nothing and keeps nothing
+pub record IsIdle (tx : Tx) : Type 0 where
+  pub none_locked : tx.locked.items ≡ []
+  pub none_read : tx.reading.items ≡ []
+  pub nothing_set : tx.set ≡ []
+  pub nothing_kept : tx.undo ≡ []
+
 -- each of len positions from offset on is set
 abbrev pub AreSet : Tx → ℕ → ℕ → ℕ → Type 0
 AreSet tx segment offset len = (k : ℕ) → offset ≤ k → k < offset + len → Has tx.set segment k

@@ -1,14 +1,13 @@
 //! The beginning of a transaction.
-ghost use Rattle.std.specs.Prelude.{◌≡◌, ◌↔◌, ◌<◌, ◌⊎◌, ℕ, List, length, None, IfOk, OnErr, IfErr, IsTrue};
+ghost use Rattle.std.specs.Prelude.{◌≡◌, ◌↔◌, ◌<◌, ◌⊎◌, ℕ, List, [], length, None, IfOk, OnOk, OnErr, IfErr, IsTrue};
 ghost use Rattle.lc_tx.specs.Images.{IsHere, IsLockable, IsFirstTaken, IsSame};
 ghost use Rattle.lc_tx.specs.Fault.{is_of_begin};
-ghost use Rattle.lc_tx.specs.Tx.{Begins, IsSetOf, RunsOn, none_of};
+ghost use Rattle.lc_tx.specs.Tx.{Begins, IsIdle, IsSetOf, RunsOn, none_of};
 
 use crate::lock_mode::LockMode;
-use crate::locking::{first_shut, lesser, lock, set_beside, set_of};
+use crate::locking::{add_all, add_beside, first_shut, lesser, lock};
 use crate::{Images, Tx, TxFault};
-use lc_range::{RangeSet, Undo};
-use std::alloc::Global;
+use std::alloc::{AllocError, Global};
 
 // Why a segment that cannot be locked is not.
 fn fault_of<I: Images>(images: &I, segment: u32) -> TxFault
@@ -55,25 +54,70 @@ impl Tx {
         ensures err { OnErr result (IsSame I.Images images.old images.new) }
         ensures faults { IfErr result (λ fault. IsTrue (is_of_begin fault)) }
     {
+        let mut tx = Tx::idle(alloc);
+        tx.begin_again(images, thread, segments, reading)?;
+        Ok(tx)
+    }
+
+    /// Begins a transaction as `begin` does, in this one, which is idle, and in the memory that its lists have.
+    ///
+    /// # Errors
+    ///
+    /// Those of `begin`. It is idle then as before, and the images are as before.
+    pub fn begin_again<I: Images>(
+        &mut self,
+        images: &mut I,
+        thread: u16,
+        segments: &[u32],
+        reading: &[u32],
+    ) -> Result<(), TxFault>
+        requires idle { IsIdle self.old }
+        requires thread { thread < 16 }
+        ensures begins { OnOk result (Begins I.Images thread segments.now reading.now images.old images.new self.new) }
+        ensures runs { OnOk result (RunsOn I.Images images.new self.new) }
+        ensures free { OnOk result ((s : ℕ) → IsLockable I.Images images.old segments.now reading.now s) }
+        ensures not_here { (s : ℕ) → (result ≡ Err (TxFault.NotHere s))
+            ↔ (IsFirstTaken I.Images images.old segments.now reading.now s × (I.number_of images.old s ≡ None)) }
+        ensures busy { (s : ℕ) → (result ≡ Err (TxFault.Busy s))
+            ↔ (IsFirstTaken I.Images images.old segments.now reading.now s × IsHere I.Images images.old s) }
+
+        // Memory is wanted only for more than 16 segments of one kind, where all can be locked.
+        ensures no_memory { result ≡ Err TxFault.NoMemory
+            → ((s : ℕ) → IsLockable I.Images images.old segments.now reading.now s)
+            × (((set : List ℕ) × IsSetOf segments.now set × (16 < length set))
+            ⊎ ((set : List ℕ) × IsSetOf (none_of segments.now reading.now) set × (16 < length set))) }
+
+        ensures err { OnErr result (IsSame I.Images images.old images.new) }
+        ensures idle { OnErr result (IsIdle self.new) }
+        ensures faults { IfErr result (λ fault. IsTrue (is_of_begin fault)) }
+    {
         let written = first_shut(images, segments, LockMode::Exclusive);
         let read = first_shut(images, reading, LockMode::Shared);
         if let Some(segment) = lesser(written, read) {
             return Err(fault_of(images, segment));
         }
-        let Ok(locked) = set_of(alloc, segments) else {
+        let Ok(()) = self.list(segments, reading) else {
+            self.clear();
             return Err(TxFault::NoMemory);
         };
-        let Ok(reading) = set_beside(alloc, segments, reading) else {
-            return Err(TxFault::NoMemory);
-        };
-        lock(images, locked.as_slice(), thread, LockMode::Exclusive);
-        lock(images, reading.as_slice(), thread, LockMode::Shared);
-        Ok(Tx {
-            thread,
-            locked,
-            reading,
-            set: RangeSet::new(alloc),
-            undo: Undo::new(alloc),
-        })
+        self.thread = thread;
+        lock(images, self.locked.as_slice(), thread, LockMode::Exclusive);
+        lock(images, self.reading.as_slice(), thread, LockMode::Shared);
+        Ok(())
+    }
+
+    // Lists the segments that it is to lock, where none is listed. Without memory some may be.
+    fn list(&mut self, segments: &[u32], reading: &[u32]) -> Result<(), AllocError>
+        requires none_locked { self.old.locked.items ≡ [] }
+        requires none_read { self.old.reading.items ≡ [] }
+        ensures locked { OnOk result (IsSetOf segments.now self.new.locked.items) }
+        ensures reading { OnOk result (IsSetOf (none_of segments.now reading.now) self.new.reading.items) }
+        ensures set { self.new.set ≡ self.old.set }
+        ensures undo { self.new.undo ≡ self.old.undo }
+        ensures memory { OnErr result (((set : List ℕ) × IsSetOf segments.now set × (16 < length set))
+            ⊎ ((set : List ℕ) × IsSetOf (none_of segments.now reading.now) set × (16 < length set))) }
+    {
+        add_all(&mut self.locked, segments)?;
+        add_beside(&mut self.reading, segments, reading)
     }
 }

@@ -8,7 +8,7 @@ ghost use Rattle.lc_tx.specs.Locking.{AreBack};
 ghost use Rattle.lc_tx.specs.Prepared.{AreSmall, AreUnspent, IsFirstSpent, IsLoggable, IsRecordOf, final_record};
 ghost use Rattle.lc_range.specs.RangeSet.{IsCanonical};
 ghost use Rattle.lc_tx.specs.Fault.{is_of_end, is_of_needs};
-ghost use Rattle.lc_tx.specs.Tx.{RunsOn};
+ghost use Rattle.lc_tx.specs.Tx.{IsIdle, RunsOn};
 
 use crate::locking::unlock;
 use crate::recording::{first_spent, layout_of, spell};
@@ -141,21 +141,44 @@ impl Tx {
     /// Ends the transaction without a commit: what it locked for writing has the bytes that it had, and is free; what it
     /// locked for reading has one reader less, and is free where it was the last. It takes no memory. Idea: RVM's restore
     /// mode (Satyanarayanan et al., TOCS 1994).
-    pub fn abort<I: Images>(self, images: &mut I)
+    pub fn abort<I: Images>(mut self, images: &mut I)
         requires runs { RunsOn I.Images images.old self }
         ensures { AreRestored I.Images self.undo self.thread self.locked.items self.reading.items images.old images.new }
     {
+        self.abort_in_place(images);
+    }
+
+    /// Ends the transaction without a commit, as `abort` does. It is idle then, with the memory of its lists kept for the
+    /// next one.
+    pub fn abort_in_place<I: Images>(&mut self, images: &mut I)
+        requires runs { RunsOn I.Images images.old self.old }
+        ensures restored { AreRestored I.Images self.old.undo self.old.thread self.old.locked.items self.old.reading.items
+            images.old images.new }
+        ensures idle { IsIdle self.new }
+    {
         self.restore(images);
-        self.release(images);
+        self.release_in_place(images);
     }
 
     /// Ends the transaction with its writes: what it locked for writing is free; what it locked for reading has one
     /// reader less, and is free where it was the last. It takes no memory.
-    pub fn release<I: Images>(self, images: &mut I)
+    pub fn release<I: Images>(mut self, images: &mut I)
         requires runs { RunsOn I.Images images.old self }
         ensures { AreReleased I.Images self.thread self.locked.items self.reading.items images.old images.new }
     {
+        self.release_in_place(images);
+    }
+
+    /// Ends the transaction with its writes, as `release` does. It is idle then, with the memory of its lists kept for the
+    /// next one.
+    pub fn release_in_place<I: Images>(&mut self, images: &mut I)
+        requires runs { RunsOn I.Images images.old self.old }
+        ensures released { AreReleased I.Images self.old.thread self.old.locked.items self.old.reading.items
+            images.old images.new }
+        ensures idle { IsIdle self.new }
+    {
         unlock(images, self.locked.as_slice(), self.thread);
         unlock(images, self.reading.as_slice(), self.thread);
+        self.clear();
     }
 }

@@ -1,5 +1,5 @@
 //! Which segments are free, and who holds them.
-ghost use Rattle.std.specs.Prelude.{◌≡◌, ◌↔◌, ◌++◌, ◌≤◌, ℕ, ◌<◌, List, IsTrue, length, take, drop, OnOk, OnErr, IfOk};
+ghost use Rattle.std.specs.Prelude.{◌≡◌, ◌↔◌, ◌++◌, ◌≤◌, ℕ, ◌<◌, List, [], IsTrue, length, take, drop, OnOk, OnErr};
 ghost use Rattle.smallvec.specs.SmallVec.{small_vec_len};
 ghost use Rattle.lc_record.specs.Transaction.{is_member};
 ghost use Rattle.lc_tx.specs.Images.{IsHere, IsSame};
@@ -11,7 +11,7 @@ ghost use Rattle.lc_tx.specs.Walk.{with_in_order};
 use crate::Images;
 use crate::lock_mode::LockMode;
 use smallvec::SmallVec;
-use std::alloc::{AllocError, Global};
+use std::alloc::AllocError;
 
 // Whether the segment's token is here, and those who hold the segment let it be locked.
 fn can_lock<I: Images>(images: &mut I, segment: u32, mode: LockMode) -> bool
@@ -74,30 +74,34 @@ fn insert(set: &mut SmallVec<u32, 16>, number: u32) -> Result<(), AllocError>
     Ok(())
 }
 
-/// Those numbers that are none of these, as a set: ascending, each once. It takes no memory for 16.
-pub fn set_beside(
-    alloc: Global,
+/// Adds those numbers that are none of these to an empty set: ascending, each once. It takes no memory for 16. Without
+/// memory some may be added.
+pub fn add_beside(
+    set: &mut SmallVec<u32, 16>,
     these: &[u32],
     numbers: &[u32],
-) -> Result<SmallVec<u32, 16>, AllocError>
-    ensures set { IfOk result (λ set. IsSetOf (none_of these.now numbers.now) set.items) }
-    ensures memory { OnErr result ((set : List ℕ) × IsSetOf (none_of these.now numbers.now) set × (16 < length set)) }
+) -> Result<(), AllocError>
+    requires { set.old.items ≡ [] }
+    ensures set { OnOk result (IsSetOf (none_of these.now numbers.now) set.new.items) }
+    ensures memory { OnErr result ((all : List ℕ) × IsSetOf (none_of these.now numbers.now) all × (16 < length all)) }
 {
-    let mut set = SmallVec::new(alloc);
+    // There is room for 16 at least.
+    let _room = set.capacity();
     for number in numbers {
         if !these.contains(number) {
-            insert(&mut set, *number)?;
+            insert(set, *number)?;
         }
     }
-    Ok(set)
+    Ok(())
 }
 
-/// These numbers as a set: ascending, each once. It takes no memory for 16.
-pub fn set_of(alloc: Global, numbers: &[u32]) -> Result<SmallVec<u32, 16>, AllocError>
-    ensures set { IfOk result (λ set. IsSetOf numbers.now set.items) }
-    ensures memory { OnErr result ((set : List ℕ) × IsSetOf numbers.now set × (16 < length set)) }
+/// Adds these numbers to an empty set: ascending, each once. It takes no memory for 16. Without memory some may be added.
+pub fn add_all(set: &mut SmallVec<u32, 16>, numbers: &[u32]) -> Result<(), AllocError>
+    requires { set.old.items ≡ [] }
+    ensures set { OnOk result (IsSetOf numbers.now set.new.items) }
+    ensures memory { OnErr result ((all : List ℕ) × IsSetOf numbers.now all × (16 < length all)) }
 {
-    set_beside(alloc, &[], numbers)
+    add_beside(set, &[], numbers)
 }
 
 /// Locks each of these segments, which are here, in this mode.

@@ -1,6 +1,9 @@
 //! One transaction.
+ghost use Rattle.lc_tx.specs.Tx.{IsIdle};
+
 use lc_range::{RangeSet, Undo};
 use smallvec::SmallVec;
+use std::alloc::Global;
 
 /// A transaction in restore mode: the segments that it locked for writing and those that it locked for reading, the
 /// positions that it has set, and their old bytes. Its writes stand in the images at once. Idea: RVM (Satyanarayanan et al., TOCS 1994).
@@ -11,4 +14,30 @@ pub struct Tx {
     pub(crate) reading: SmallVec<u32, 16>,
     pub(crate) set: RangeSet,
     pub(crate) undo: Undo,
+}
+
+impl Tx {
+    /// A transaction that is idle: it holds no lock, has set nothing and keeps nothing, until `begin_again`. It takes no
+    /// memory.
+    pub fn idle(alloc: Global) -> Self
+        ensures { IsIdle result }
+    {
+        Tx {
+            thread: 0,
+            locked: SmallVec::new(alloc),
+            reading: SmallVec::new(alloc),
+            set: RangeSet::new(alloc),
+            undo: Undo::new(alloc),
+        }
+    }
+
+    /// Forgets its locks, what it set and what it keeps, and keeps the memory of all these lists.
+    pub(crate) fn clear(&mut self)
+        ensures { IsIdle self.new }
+    {
+        self.locked.clear();
+        self.reading.clear();
+        self.set.clear();
+        self.undo.clear();
+    }
 }

@@ -5,7 +5,7 @@ use Rattle.lc_tx.specs.Locking.{AreLeft}
 use Rattle.lc_tx.proofs.HoldsLemmas.{read_apart, reads_not_locked}
 use Rattle.lc_tx.proofs.ImagesLemmas.{here_along}
 use Rattle.lc_tx.proofs.LockedLemmas.{released_from}
-use Rattle.lc_tx.proofs.tx.Tx.release.Goals as goal
+use Rattle.lc_tx.proofs.tx.Tx.release_in_place.Goals as goal
 
 pub unlock-requires : goal.unlock-requires
 unlock-requires g c = λ s e. c.requires.runs.here s (subst (λ (l : List ℕ). is_member s l ≡ true) c.as_slice.ensures e)
@@ -15,10 +15,10 @@ unlock-requires-2 g c = λ s e.
     here_along g.I.Images c.as_slice.result.now c.args.images.now c.unlock.new.images s c.unlock.ensures.same
     (c.requires.runs.read_here s (subst (λ (l : List ℕ). is_member s l ≡ true) c.as_slice-2.ensures e))
 
-pub returns : goal.returns
-returns g c =
+pub returns-clause-released : goal.returns-clause-released
+returns-clause-released g c =
     let m = g.I.Images in
-    let tx = c.args.self in
+    let tx = c.args.self.now in
     let old = c.args.images.now in
     let mid = c.unlock.new.images in
     let on = c.requires.runs in

@@ -4,8 +4,8 @@ use Rattle.lc_record.specs.Transaction.{is_member}
 use Rattle.lc_tx.specs.Tx.{IsSetOf, none_of}
 use Rattle.lc_tx.specs.Walk.{with_in_order}
 use Rattle.lc_tx.proofs.SetLemmas.{any_is, set_more, with_rest, others_both, others_one, others_none}
-use Rattle.lc_tx.proofs.locking.set_beside.Goals as goal
-use Rattle.lc_tx.proofs.locking.set_beside.Goals.{then-not-contains+in_ok-insert, else-not-contains}
+use Rattle.lc_tx.proofs.locking.add_beside.Goals as goal
+use Rattle.lc_tx.proofs.locking.add_beside.Goals.{then-not-contains+in_ok-insert, else-not-contains}
 
 -- one number more
 more : (these xs : List ℕ) (i : ℕ) → i < length xs → none_of these (take (i + 1) xs) ≡ none_of these (take i xs) ++ none_of these (get_or xs i 0 ∷ [])
