@@ -1,9 +1,9 @@
 -- The least number that a dirty page has on the disk, among the first pages.
-use Rattle.std.proofs.Common.{◌≡◌, ℕ, ◌+◌, ◌<◌, ◌≤◌, Option, Some, None, List, min, refl, sym, subst, inl, inr, arith}
+use Rattle.std.proofs.Common.{◌≡◌, ◌⊎◌, ◌^◌, ℕ, zero, suc, ◌+◌, ◌<◌, ◌≤◌, true, false, Bool, Option, Some, None, List, length, min, refl, sym, subst, inl, inr, arith}
 use Rattle.std.proofs.lemmas.Bool.{cases_eq, cases_lt}
 use Rattle.lc_page.specs.declared.entry.Entry.{Entry}
-use Rattle.lc_page.specs.PageVector.{entry_at}
-use Rattle.lc_token.specs.Token.{IsDirtyPage, least_with}
+use Rattle.lc_page.specs.PageVector.{entry_at, is_dirty}
+use Rattle.lc_token.specs.Token.{HasOlder, IsDirtyPage, IsLeastStable, least_with}
 
 abbrev pub OldestBelow : List Entry → ℕ → Option ℕ → Type 0
 OldestBelow pages end None = (page : ℕ) → page < end → ¬ IsDirtyPage pages page
@@ -43,3 +43,41 @@ dirty_page pages end (Some number) is h = (
     | inr other ↦ omega (arith, h.1 page (omega (arith, lt, other)) dirty)
   ],
 )
+
+either : (b : Bool) → (b ≡ true) ⊎ (b ≡ true → ⊥)
+either true = inl refl
+either false = inr (λ is. absurd cc)
+
+is_dirty_page : (pages : List Entry) (page : ℕ) → IsDirtyPage pages page ⊎ ¬ IsDirtyPage pages page
+is_dirty_page pages page = elim (cases_lt page (length pages)) [
+  | inr behind ↦ inr (λ dirty. omega (arith, behind, dirty.0))
+  | inl among ↦ elim (cases_lt page (2 ^ 32)) [
+    | inr large ↦ inr (λ dirty. omega (arith, large, dirty.1))
+    | inl small ↦ elim (either (is_dirty (entry_at pages page))) [
+      | inl dirty ↦ inl (among, small, dirty)
+      | inr clean ↦ inr (λ dirty. clean dirty.2)
+    ]
+  ]
+]
+
+oldest_below : (pages : List Entry) (end : ℕ) → (oldest : Option ℕ) × OldestBelow pages end oldest
+oldest_below pages zero = (None, λ page below dirty. omega (arith, below))
+oldest_below pages (suc end) =
+    let before = oldest_below pages end in
+    let next : end + 1 ≡ suc end = omega arith in
+    elim (is_dirty_page pages end) [
+      | inl dirty ↦ (Some (least_with before.0 (entry_at pages end).stable), subst (λ (n : ℕ). OldestBelow pages n (Some (least_with before.0 (entry_at pages end).stable))) next (dirty_page pages end before.0 dirty before.1))
+      | inr clean ↦ (before.0, subst (λ (n : ℕ). OldestBelow pages n before.0) next (clean_page pages end before.0 clean before.1))
+    ]
+
+-- where a page is dirty there is a least number
+least_of_all : (pages : List Entry) (page : ℕ) → IsDirtyPage pages page → (oldest : Option ℕ) → OldestBelow pages (length pages) oldest
+    → (number : ℕ) × IsLeastStable pages number × (number ≤ (entry_at pages page).stable)
+least_of_all pages page dirty None h = absurd (h page dirty.0 dirty)
+least_of_all pages page dirty (Some number) h = (number, (h.0, λ other is. h.1 other is.0 is), h.1 page dirty.0 dirty)
+
+pub least_stable : (pages : List Entry) (number : ℕ) → HasOlder pages number → (least : ℕ) × IsLeastStable pages least × (least ≤ number)
+least_stable pages number has =
+    let all = oldest_below pages (length pages) in
+    let least = least_of_all pages has.0 has.1 all.0 all.1 in
+    (least.0, least.1, omega (arith, least.2, has.2))

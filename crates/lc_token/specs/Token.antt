@@ -18,6 +18,10 @@ IsLeastStable pages number =
     ((page : ℕ) × IsDirtyPage pages page × ((entry_at pages page).stable ≡ number))
     × ((page : ℕ) → IsDirtyPage pages page → number ≤ (entry_at pages page).stable)
 
+-- some dirty page has no greater number on the disk
+abbrev pub HasOlder : List Entry → ℕ → Type 0
+HasOlder pages number = (page : ℕ) × IsDirtyPage pages page × ((entry_at pages page).stable ≤ number)
+
 -- the least number that a dirty page has on the disk, if a page is dirty
 abbrev pub IsOldestDirty : List Entry → Option ℕ → Type 0
 IsOldestDirty pages None = AreClean pages
