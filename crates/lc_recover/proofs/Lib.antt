@@ -5,6 +5,7 @@ pub mod MergedPage
 pub mod PagesOf
 pub mod ResetSteps
 pub mod Walks
+pub mod SpanWalks
 pub mod Orders
 pub mod Counts
 pub mod Pushes

@@ -6,14 +6,12 @@ use Rattle.std.proofs.lemmas.List.{drop-drop, length-map, get_or-map, take_all}
 use Rattle.std.proofs.lemmas.List.Elements.{All-map, All-weaker, All-contains, All-from_recursion, Contains-append_right, at_read, All-more}
 use Rattle.std.specs.Prelude.{slice_get}
 use Rattle.std.proofs.lemmas.Option.{none-some, same_Some, slice_get_cases, slice_get_within, get_or_from_slice_get, slice_get-get_or, slice_get_past}
-use Rattle.std.specs.Option.{MatchOption, IfSome, IfNone, option_map}
+use Rattle.std.specs.Option.{MatchOption, IfSome, IfNone}
 use Rattle.lc_record.specs.Content.{segment_of}
 use Rattle.lc_record.specs.Marks.{counting}
 use Rattle.lc_recover.specs.Pages.{kept_page, kept_pages}
 use Rattle.std.specs.List.{HoldsAt}
-use Rattle.lc_record.specs.Record.{spelling, record_len, span_of, IsCanonical}
-use Rattle.lc_record.specs.declared.span.Span.{Span}
-use Rattle.lc_record.specs.declared.record.RangeData.{RangeData}
+use Rattle.lc_record.specs.Record.{spelling, record_len, IsCanonical}
 use Rattle.lc_record.specs.Codec.{BeginsWith, BeginsNoRecord}
 use Rattle.lc_record.specs.declared.record.Record.{Record}
 use Rattle.lc_record.proofs.SpellingLemmas.{length-spelling}
@@ -204,16 +202,3 @@ none-within xs i none within = elim (slice_get_cases xs i).1 [
 
 pub contains-at : {A : Type 0} (xs : List A) (i : ℕ) (x : A) → slice_get xs i ≡ Some x → Contains xs x
 contains-at xs i x at = (i, slice_get_within xs i x at, get_or_from_slice_get xs i x x at)
-
-pub range-at : (ranges : List RangeData) (i : ℕ) (span : Span) → Some span ≡ option_map span_of (slice_get ranges i)
-    → (range : RangeData) × (slice_get ranges i ≡ Some range) × (span ≡ span_of range)
-range-at ranges i span is = elim (slice_get_cases ranges i).1 [
-  | inl some ↦ (some.0, some.2, same_Some span (span_of some.0) (is ∙ ap (option_map span_of) some.2))
-  | inr past ↦ absurd (none-some span (sym (is ∙ ap (option_map span_of) past.1)))
-]
-
-pub no-range : (ranges : List RangeData) (i : ℕ) → None ≡ option_map span_of (slice_get ranges i) → i < length ranges → ⊥
-no-range ranges i is within = elim (slice_get_cases ranges i).1 [
-  | inl some ↦ none-some (span_of some.0) (is ∙ ap (option_map span_of) some.2)
-  | inr past ↦ omega (arith, past.0)
-]

@@ -81,19 +81,19 @@ fn add_record(
     ensures covers { IfOk result (λ _. Covers (map kept_pages segments.now) (seat log place view.now) changes.new.items) }
     ensures memory { OnErr result (HasOf (map kept_pages segments.now) (seat log place view.now)) }
 {
-    for index in 0..view.range_count() {
-        if let Some(span) = view.range(index) {
-            if let Some(pages) = pages_of(segments, span.segment) {
-                let change = Change {
-                    segment: span.segment,
-                    page: 0,
-                    seq: number(view, span.segment),
-                    log,
-                    place,
-                };
-                add_range(changes, change, span, &pages.texts)?;
-            }
-        }
+    for placed in view.spans() {
+        let span = placed.span;
+        let Some(pages) = pages_of(segments, span.segment) else {
+            continue;
+        };
+        let change = Change {
+            segment: span.segment,
+            page: 0,
+            seq: number(view, span.segment),
+            log,
+            place,
+        };
+        add_range(changes, change, span, &pages.texts)?;
     }
     Ok(())
 }

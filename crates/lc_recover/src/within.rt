@@ -79,13 +79,12 @@ fn ranges_within(view: &View<'_>, segments: &[SegmentPages]) -> bool
         ((range : RangeData) × Contains view.now.ranges range
         × (length (segment_of range.segment (map kept_pages segments.now)) * 256 < end_of (span_of range))) }
 {
-    for index in 0..view.range_count() {
-        if let Some(span) = view.range(index) {
-            if u64::from(span.offset) + span.len
-                > page_count(segments, span.segment) as u64 * PAGE_LEN
-            {
-                return false;
-            }
+    for placed in view.spans() {
+        let span = placed.span;
+        if u64::from(span.offset) + span.len
+            > page_count(segments, span.segment) as u64 * PAGE_LEN
+        {
+            return false;
         }
     }
     true
