@@ -1,9 +1,10 @@
 -- Bytes that are put over others.
-use Rattle.std.proofs.Common.{◌≡◌, ◌≢◌, ℕ, zero, suc, ◌+◌, ◌-◌, ◌*◌, ◌/◌, ◌%◌, ◌<◌, ◌≤◌, Bool, List, [], ◌∷◌, ◌++◌, length, get_or, take, drop, Option, Some, None, refl, sym, ap, ◌∙◌, arith, ne_eqb, eq-eqb}
+use Rattle.std.proofs.Common.{◌≡◌, ◌≢◌, ℕ, zero, suc, ◌+◌, ◌-◌, ◌*◌, ◌/◌, ◌%◌, ◌<◌, ◌≤◌, Bool, List, [], ◌∷◌, ◌++◌, length, get_or, min, take, drop, Option, Some, None, refl, sym, ap, ◌∙◌, arith, inl, inr, ne_eqb, eq-eqb}
 use Rattle.std.specs.Prelude.{slice_get, if◌then◌else◌}
 use Rattle.std.specs.Int.{w64, to_le_bytes}
 use Rattle.std.specs.Option.{option_or}
-use Rattle.std.proofs.lemmas.List.{length-take}
+use Rattle.std.proofs.lemmas.List.{length-take, take_all}
+use Rattle.std.proofs.lemmas.Bool.{cases_lt}
 use Rattle.std.proofs.lemmas.Option.{slice_get-get_or, slice_get_past}
 use borrow.Rule.Slice.PartMut.{put_mid, post_of}
 use Rattle.lc_record.specs.Words.{bytes_of}
@@ -116,3 +117,15 @@ byte_in-same segment place range same = ap (λ (b : Bool). if b then byte_from r
 
 pub byte_in-other : (segment place : ℕ) (range : RangeData) → range.segment ≢ segment → byte_in segment place range ≡ None
 byte_in-other segment place range other = ap (λ (b : Bool). if b then byte_from range.offset range.bytes place else None) (ne_eqb range.segment segment other)
+
+-- as many bytes as there are
+take_least : {A : Type 0} (xs : List A) (n : ℕ) → take (min n (length xs)) xs ≡ take n xs
+take_least xs n = elim (cases_lt n (length xs)) [
+  | inl few ↦ (let same : min n (length xs) ≡ n = omega (arith, few) in ap (λ (m : ℕ). take m xs) same)
+  | inr all ↦ (let same : min n (length xs) ≡ length xs = omega (arith, all) in ap (λ (m : ℕ). take m xs) same ∙ take_all (length xs) xs (omega arith) ∙ sym (take_all n xs (omega (arith, all))))
+]
+
+pub take_of_words : (words : List ℕ) (n : ℕ) → take (min n (8 * length words)) (bytes_of words) ≡ take n (bytes_of words)
+take_of_words words n =
+    let long : 8 * length words ≡ length (bytes_of words) = omega (arith, length-bytes_of words) in
+    ap (λ (m : ℕ). take (min n m) (bytes_of words)) long ∙ take_least (bytes_of words) n

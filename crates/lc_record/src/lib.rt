@@ -39,6 +39,7 @@ pub use layout::Layout;
 pub use limits::{MAX_NODE, MAX_SEGMENT, MAX_SEQ, MAX_WORDS};
 pub use part::Part;
 pub use placed_span::PlacedSpan;
+pub use putting::put_words;
 pub use record::{Lock, RangeData, Record};
 pub use span::Span;
 pub use spans::Spans;

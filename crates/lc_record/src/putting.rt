@@ -8,7 +8,6 @@ ghost use Rattle.lc_record.specs.Reading.{ranges_at};
 
 use crate::limits::WORD;
 use crate::parts::{Head, range_of};
-use crate::span::Span;
 
 // Puts so many of the bytes of these words over others, from a place of them on and as far as both reach: a word at a
 // time.
@@ -30,18 +29,18 @@ fn put_data(words: &[u64], len: usize, skipped: usize, bytes: &mut [u8])
     }
 }
 
-// Puts the bytes of a range, of which these words are the data, over those that begin at an offset of its segment.
-fn put_range(span: Span, words: &[u64], offset: usize, bytes: &mut [u8])
-    requires { span.len ≤ 8 * length words.now }
+/// Puts so many bytes of these words, which stand at a place of a segment, over those that begin at an offset of it, as far as
+/// there are words and both reach. It takes no memory. This project's own.
+pub fn put_words(words: &[u64], start: usize, len: usize, offset: usize, bytes: &mut [u8])
     ensures len { length bytes.new ≡ length bytes.old }
     ensures put { (k : ℕ) → k < length bytes.old →
-        slice_get bytes.new k ≡ option_or (byte_from span.offset (take span.len (bytes_of words.now)) (offset + k)) (slice_get bytes.old k) }
+        slice_get bytes.new k ≡ option_or (byte_from start (take len (bytes_of words.now)) (offset + k)) (slice_get bytes.old k) }
 {
-    let start = span.offset as usize;
+    let count = len.min(words.len() * WORD);
     let skipped = offset.saturating_sub(start);
     let front = start.saturating_sub(offset);
     if front < bytes.len() {
-        put_data(words, span.len as usize, skipped, &mut bytes[front..]);
+        put_data(words, count, skipped, &mut bytes[front..]);
     }
 }
 
@@ -58,7 +57,8 @@ pub fn put_ranges(head: Head, words: &[u64], segment: u32, offset: usize, bytes:
             return;
         };
         if range.span.segment == segment {
-            put_range(range.span, range.data, offset, bytes);
+            let span = range.span;
+            put_words(range.data, span.offset as usize, span.len as usize, offset, bytes);
         }
         rest = behind;
     }

@@ -1,45 +1,62 @@
 -- The changes of all records, sorted, are the index.
-use Rattle.std.proofs.Common.{◌≡◌, ◌⊎◌, ℕ, suc, ◌+◌, ◌*◌, ◌<◌, ◌≤◌, Bool, true, ◌&&◌, ◌==◌, ltb, List, [], ◌∷◌, ◌++◌, map, flat_map, filter, length, get_or, drop, Contains, Some, IsTrue, is_some, Ordering, Less, Equal, Greater, arith, refl, sym, ◌∙◌, ap, ap₂, subst, inl, inr, IsPermutation}
+use Rattle.std.proofs.Common.{◌≡◌, ◌⊎◌, ℕ, zero, suc, ◌+◌, ◌*◌, ◌<◌, ◌≤◌, Bool, true, ◌&&◌, ◌==◌, List, [], ◌∷◌, ◌++◌, map, flat_map, length, get_or, take, drop, Contains, Some, IsTrue, Ordering, Less, Equal, Greater, arith, refl, sym, ◌∙◌, ap, ap₂, subst, inl, inr, IsPermutation}
 use Rattle.std.specs.Prelude.{slice_get}
 use Rattle.std.specs.Ordering.{nat_cmp, is_eq, ordering_then}
 use Rattle.std.specs.Cmp.{IsTotalOrder, IsEquivalence}
 use Rattle.std.specs.List.{dedup}
 use Rattle.std.specs.List.Sorted.{IsStrictlySortedBy, IsSorted}
-use Rattle.std.proofs.lemmas.Bool.{cases_order, cases_Bool, and_parts, eqb-true, eq-eqb, ne_eqb, lt-ltb, le-ltb, ltb-true}
+use Rattle.std.proofs.lemmas.Bool.{cases_order, and_parts, eqb-true, eq-eqb, ne_eqb, lt-ltb, le-ltb}
 use Rattle.std.proofs.lemmas.Cmp.{nat_cmp_total, on_total, then_total, nat_eq_equiv, on_equiv, and_equiv}
 use Rattle.std.proofs.lemmas.List.{map-append, get_or-map}
 use Rattle.std.proofs.lemmas.List.Elements.{All-from_recursion, Contains-append_cases}
 use Rattle.std.proofs.lemmas.List.Kept.{Contains-dedup, Contains-from_dedup, IsStrictlySortedBy-dedup}
 use Rattle.std.proofs.lemmas.List.Sorted.{Contains-permutation, IsPermutation-sym}
-use Rattle.std.proofs.lemmas.Option.{same_Some, slice_get-map, slice_get_read}
+use Rattle.std.proofs.lemmas.Option.{none-some, same_Some, slice_get-map, slice_get_read}
 use Rattle.std.specs.Option.{option_map}
 use Rattle.lc_record.specs.Codec.{BeginsWith}
-use Rattle.lc_record.specs.Record.{record_len, spelling}
-use Rattle.lc_record.specs.Newest.{number_or_zero, byte_of, has_byte}
+use Rattle.lc_record.specs.GrammarVersion.{place_words}
+use Rattle.lc_record.specs.Layout.{data_len}
+use Rattle.lc_record.specs.Record.{record_len, span_of, spelling, version_of}
+use Rattle.lc_record.specs.Newest.{number_or_zero, has_byte}
+use Rattle.lc_record.specs.Spans.{placed_from, placed_spans, range_in}
+use Rattle.lc_record.specs.Words.{bytes_of}
+use Rattle.lc_record.specs.declared.grammar_version.GrammarVersion.{GrammarVersion}
+use Rattle.lc_record.specs.declared.placed_span.PlacedSpan.{PlacedSpan}
+use Rattle.lc_record.specs.declared.record.RangeData.{RangeData}
+use Rattle.lc_record.specs.declared.span.Span.{Span}
+use Rattle.lc_record.proofs.SpansLemmas.{give_ranges}
 use Rattle.lc_record.specs.declared.record.Record.{Record}
 use Rattle.lc_record.proofs.SpellingLemmas.{length-spelling}
 use Rattle.lc_log.specs.LogText.{placed}
 use Rattle.lc_log.specs.InPlace.{records_in, spans_from}
 use Rattle.lc_log.proofs.InPlaceLemmas.{records_text, span_begins}
-use Rattle.lc_model.specs.Merge.{has_number, how_many, AreOnce}
 use Rattle.lc_recover.specs.Pages.{kept_pages}
 use Rattle.lc_recover.specs.Kept.{IsChange, IsBefore, AreAscending, IsIndex}
 use Rattle.lc_recover.specs.Reading.{placed_in, store_of}
 use Rattle.lc_recover.specs.Changes.{Seat, seat, seats_of, seats_from, IsOf, AreOf}
 use Rattle.lc_recover.specs.declared.change.Change.{Change}
 use Rattle.lc_recover.specs.declared.segment_pages.SegmentPages.{SegmentPages}
-use Rattle.lc_recover.proofs.Walks.{placed-records, record-in}
-use Rattle.lc_recover.proofs.Counts.{contains-cons, same-item, two-pass}
+use Rattle.lc_recover.proofs.Walks.{contains-at, placed-records, record-in}
+use Rattle.lc_recover.proofs.Counts.{contains-cons, same-item}
 
 -- Comparing
+
+-- by what says where the range stands
+abbrev pub behind : Change → Change → Ordering
+behind a b =
+    ordering_then (nat_cmp a.log b.log)
+    (ordering_then (nat_cmp a.place b.place) (ordering_then (nat_cmp a.words b.words) (ordering_then (nat_cmp a.offset b.offset) (nat_cmp a.len b.len))))
+
+abbrev pub alike : Change → Change → Bool
+alike a b = (a.log == b.log) && ((a.place == b.place) && ((a.words == b.words) && ((a.offset == b.offset) && (a.len == b.len))))
 
 abbrev pub compare : Change → Change → Ordering
 compare a b =
     ordering_then (nat_cmp a.segment b.segment)
-    (ordering_then (nat_cmp a.page b.page) (ordering_then (nat_cmp a.seq b.seq) (ordering_then (nat_cmp a.log b.log) (nat_cmp a.place b.place))))
+    (ordering_then (nat_cmp a.page b.page) (ordering_then (nat_cmp a.seq b.seq) (behind a b)))
 
 abbrev pub equal : Change → Change → Bool
-equal a b = (a.segment == b.segment) && ((a.page == b.page) && ((a.seq == b.seq) && ((a.log == b.log) && (a.place == b.place))))
+equal a b = (a.segment == b.segment) && ((a.page == b.page) && ((a.seq == b.seq) && alike a b))
 
 eq-nat : (a b : ℕ) → (a == b) ≡ is_eq (nat_cmp a b)
 eq-nat a b = elim (cases_order a b) [
@@ -60,39 +77,31 @@ eq-step a b t o same = ap₂ (λ (x y : Bool). x && y) (eq-nat a b) same ∙ eq-
 
 ties : (a b : Change) → equal a b ≡ is_eq (compare a b)
 ties a b =
-    eq-step a.segment b.segment _ _ (eq-step a.page b.page _ _ (eq-step a.seq b.seq _ _ (eq-step a.log b.log _ _ (eq-nat a.place b.place))))
+    eq-step a.segment b.segment _ _ (eq-step a.page b.page _ _ (eq-step a.seq b.seq _ _ (eq-step a.log b.log _ _ (eq-step a.place b.place _ _ (eq-step a.words b.words _ _ (eq-step a.offset b.offset _ _ (eq-nat a.len b.len)))))))
 
 same-change : (a b : Change) → equal a b ≡ true → a ≡ b
 same-change a b h =
-    let one = and_parts (a.segment == b.segment) ((a.page == b.page) && ((a.seq == b.seq) && ((a.log == b.log) && (a.place == b.place)))) h in
-    let two = and_parts (a.page == b.page) ((a.seq == b.seq) && ((a.log == b.log) && (a.place == b.place))) one.1 in
-    let three = and_parts (a.seq == b.seq) ((a.log == b.log) && (a.place == b.place)) two.1 in
-    let four = and_parts (a.log == b.log) (a.place == b.place) three.1 in
-    let make : ℕ → ℕ → ℕ → ℕ → ℕ → Change = λ s p q l k. record { segment = s; page = p; seq = q; log = l; place = k } in
-    ap (λ (s : ℕ). make s a.page a.seq a.log a.place) (eqb-true a.segment b.segment one.0)
-    ∙ ap (λ (p : ℕ). make b.segment p a.seq a.log a.place) (eqb-true a.page b.page two.0)
-    ∙ ap (λ (q : ℕ). make b.segment b.page q a.log a.place) (eqb-true a.seq b.seq three.0)
-    ∙ ap (λ (l : ℕ). make b.segment b.page b.seq l a.place) (eqb-true a.log b.log four.0)
-    ∙ ap (λ (k : ℕ). make b.segment b.page b.seq b.log k) (eqb-true a.place b.place four.1)
+    let one = and_parts (a.segment == b.segment) ((a.page == b.page) && ((a.seq == b.seq) && alike a b)) h in
+    let two = and_parts (a.page == b.page) ((a.seq == b.seq) && alike a b) one.1 in
+    let three = and_parts (a.seq == b.seq) (alike a b) two.1 in
+    let four = and_parts (a.log == b.log) ((a.place == b.place) && ((a.words == b.words) && ((a.offset == b.offset) && (a.len == b.len)))) three.1 in
+    let five = and_parts (a.place == b.place) ((a.words == b.words) && ((a.offset == b.offset) && (a.len == b.len))) four.1 in
+    let six = and_parts (a.words == b.words) ((a.offset == b.offset) && (a.len == b.len)) five.1 in
+    let seven = and_parts (a.offset == b.offset) (a.len == b.len) six.1 in
+    ap (λ (n : ℕ). record a { segment = n }) (eqb-true a.segment b.segment one.0)
+    ∙ ap (λ (n : ℕ). record a { segment = b.segment; page = n }) (eqb-true a.page b.page two.0)
+    ∙ ap (λ (n : ℕ). record a { segment = b.segment; page = b.page; seq = n }) (eqb-true a.seq b.seq three.0)
+    ∙ ap (λ (n : ℕ). record b { log = n; place = a.place; words = a.words; offset = a.offset; len = a.len }) (eqb-true a.log b.log four.0)
+    ∙ ap (λ (n : ℕ). record b { place = n; words = a.words; offset = a.offset; len = a.len }) (eqb-true a.place b.place five.0)
+    ∙ ap (λ (n : ℕ). record b { words = n; offset = a.offset; len = a.len }) (eqb-true a.words b.words six.0)
+    ∙ ap (λ (n : ℕ). record b { offset = n; len = a.len }) (eqb-true a.offset b.offset seven.0)
+    ∙ ap (λ (n : ℕ). record b { len = n }) (eqb-true a.len b.len seven.1)
 
 less-cases : (a b : ℕ) (p : Ordering) → ordering_then (nat_cmp a b) p ≡ Less → (a < b) ⊎ ((a ≡ b) × (p ≡ Less))
 less-cases a b p h = elim (cases_order a b) [
   | inl same ↦ (let upto : b ≤ a = omega (arith, same) in inr (same, rw (le-ltb a b upto, eq-eqb a b same) at h))
   | inr apart ↦ (elim apart [
     | inl less ↦ inl less
-    | inr more ↦
-        let differs : a ≡ b → ⊥ = λ e. omega (arith, e, more) in
-        let upto : b ≤ a = omega (arith, more) in
-        let is : Greater ≡ Less = rw (le-ltb a b upto, ne_eqb a b differs) at h in
-        absurd cc
-  ])
-]
-
-nat-less : (a b : ℕ) → nat_cmp a b ≡ Less → a < b
-nat-less a b h = elim (cases_order a b) [
-  | inl same ↦ (let upto : b ≤ a = omega (arith, same) in let is : Equal ≡ Less = rw (le-ltb a b upto, eq-eqb a b same) at h in absurd cc)
-  | inr apart ↦ (elim apart [
-    | inl less ↦ less
     | inr more ↦
         let differs : a ≡ b → ⊥ = λ e. omega (arith, e, more) in
         let upto : b ≤ a = omega (arith, more) in
@@ -123,13 +132,6 @@ map-its n (words ∷ logs) =
     map-append (λ (s : Seat). s.its) (seats_of n words) (seats_from (n + 1) logs)
     ∙ ap₂ (λ (x y : List Record). x ++ y) (its-seats n (placed_in words) ∙ placed-records 0 (records_in words)) (map-its (n + 1) logs)
 
-filter-map : {A B : Type 0} (f : A → B) (p : B → Bool) (xs : List A) → length (filter p (map f xs)) ≡ length (filter (λ (x : A). p (f x)) xs)
-filter-map f p [] = refl
-filter-map f p (x ∷ xs) = elim (cases_Bool (p (f x))) [
-  | inl passes ↦ rw passes (ap suc (filter-map f p xs))
-  | inr not ↦ rw not (filter-map f p xs)
-]
-
 record Known (n : ℕ) (logs : List (List ℕ)) (s : Seat) : Type 0 where
   place : ℕ
   is : s.log ≡ n + place
@@ -151,6 +153,14 @@ known n (words ∷ logs) s c = elim (Contains-append_cases (seats_of n words) (s
       let rest : Known (n + 1) logs s = known (n + 1) logs s behind in
       record { place = suc rest.place; is = omega (arith, rest.is); within = omega (arith, rest.within); among = rest.among }
 ]
+
+-- Where a range stands
+
+span_of_placed : (version : GrammarVersion) (place : ℕ) (ranges : List RangeData) (k : ℕ) (placed : PlacedSpan) → slice_get (placed_from version place ranges) k ≡ Some placed
+    → (range : RangeData) × (slice_get ranges k ≡ Some range) × (placed.span ≡ span_of range)
+span_of_placed version place [] k placed at = absurd (none-some placed at)
+span_of_placed version place (r ∷ rs) zero placed at = (r, refl, sym (ap (λ (x : PlacedSpan). x.span) (same_Some (record { span = span_of r; place = place + place_words version }) placed at)))
+span_of_placed version place (r ∷ rs) (suc k) placed at = span_of_placed version (place + place_words version + data_len (length r.bytes)) rs k placed at
 
 -- Where a record stands
 
@@ -178,99 +188,105 @@ compare_total =
     then_total (on_total (λ (c : Change). c.segment) nat_cmp_total)
     (then_total (on_total (λ (c : Change). c.page) nat_cmp_total)
     (then_total (on_total (λ (c : Change). c.seq) nat_cmp_total)
-    (then_total (on_total (λ (c : Change). c.log) nat_cmp_total) (on_total (λ (c : Change). c.place) nat_cmp_total))))
+    (then_total (on_total (λ (c : Change). c.log) nat_cmp_total)
+    (then_total (on_total (λ (c : Change). c.place) nat_cmp_total)
+    (then_total (on_total (λ (c : Change). c.words) nat_cmp_total)
+    (then_total (on_total (λ (c : Change). c.offset) nat_cmp_total) (on_total (λ (c : Change). c.len) nat_cmp_total)))))))
 
 equal_equiv : IsEquivalence equal
 equal_equiv =
     and_equiv (on_equiv (λ (c : Change). c.segment) nat_eq_equiv)
     (and_equiv (on_equiv (λ (c : Change). c.page) nat_eq_equiv)
     (and_equiv (on_equiv (λ (c : Change). c.seq) nat_eq_equiv)
-    (and_equiv (on_equiv (λ (c : Change). c.log) nat_eq_equiv) (on_equiv (λ (c : Change). c.place) nat_eq_equiv))))
+    (and_equiv (on_equiv (λ (c : Change). c.log) nat_eq_equiv)
+    (and_equiv (on_equiv (λ (c : Change). c.place) nat_eq_equiv)
+    (and_equiv (on_equiv (λ (c : Change). c.words) nat_eq_equiv)
+    (and_equiv (on_equiv (λ (c : Change). c.offset) nat_eq_equiv) (on_equiv (λ (c : Change). c.len) nat_eq_equiv)))))))
+
+-- a range whose bytes stand there is that of the record
+record IsThere (words : List ℕ) (r : Record) (placed : PlacedSpan) : Type 0 where
+  among : Contains r.ranges (range_in words placed)
+  long : length (range_in words placed).bytes ≡ placed.span.len
+
+is_there : (words : List ℕ) (r : Record) (placed : PlacedSpan) → BeginsWith words r (record_len r) → Contains (placed_spans r) placed → IsThere words r placed
+is_there words r placed begins has =
+    let all : map (range_in words) (placed_spans r) ≡ r.ranges = give_ranges r words (record_len r) begins in
+    let at : slice_get (placed_spans r) has.0 ≡ Some placed = slice_get_read (placed_spans r) (length (placed_spans r)) has.0 placed refl has.1 (sym has.2) in
+    let its : slice_get r.ranges has.0 ≡ Some (range_in words placed) =
+    sym (ap (λ (l : List RangeData). slice_get l has.0) all) ∙ slice_get-map (range_in words) (placed_spans r) has.0 ∙ ap (option_map (range_in words)) at in
+    let span = span_of_placed (version_of r.ranges) (2 + 2 * length r.locks) r.ranges has.0 placed at in
+    let same : span.0 ≡ range_in words placed = same_Some span.0 (range_in words placed) (sym span.1 ∙ its) in
+    record {
+      among = contains-at r.ranges has.0 (range_in words placed) its;
+      long = sym (ap (λ (x : Span). x.len) span.2 ∙ ap (λ (x : RangeData). length x.bytes) same);
+    }
 
 module _ (logs : List (List ℕ)) (segments : List SegmentPages) where
-  is-change : (s : Seat) (c : Change) → Contains (seats_from 0 logs) s → IsOf (map kept_pages segments) s c → IsChange logs (store_of logs segments) c
+  pub is-change : (s : Seat) (c : Change) → Contains (seats_from 0 logs) s → IsOf (map kept_pages segments) s c → IsChange logs (store_of logs segments) c
   is-change s c there its =
       let k : Known 0 logs s = known 0 logs s there in
-      let log : k.place ≡ c.log = omega (arith, k.is, its.log) in
+      let placed : PlacedSpan = its.placed in
+      let own_log : c.log ≡ s.log = ap (λ (d : Change). d.log) its.is in
+      let log : k.place ≡ c.log = omega (arith, k.is, own_log) in
       let among : Contains (placed_in (get_or logs c.log [])) (s.place, s.its) = subst (λ (n : ℕ). Contains (placed_in (get_or logs n [])) (s.place, s.its)) log k.among in
       let within : c.log < length logs = omega (arith, log, k.within) in
       let words : get_or (map records_in logs) c.log [] ≡ records_in (get_or logs c.log []) = get_or-map records_in logs c.log [] [] within in
+      let begins : BeginsWith (drop s.place (get_or logs c.log [])) s.its (record_len s.its) = placed-begins (get_or logs c.log []) (s.place, s.its) among in
+      let own = is_there (drop s.place (get_or logs c.log [])) s.its its.placed begins its.its in
+      let segment : c.segment ≡ its.placed.span.segment = ap (λ (d : Change). d.segment) its.is in
       record {
         changing = s.its;
         among = subst (λ (l : List Record). Contains l s.its) (sym words) (record-in (get_or logs c.log []) (s.place, s.its) among);
-        stands = record { within = within; begins = subst (λ (n : ℕ). BeginsWith (drop n (get_or logs c.log [])) s.its (record_len s.its)) (sym its.place) (placed-begins (get_or logs c.log []) (s.place, s.its) among) };
-        number = its.number;
+        canonical = begins.whole.canonical;
+        range = range_in (drop s.place (get_or logs c.log [])) its.placed;
+        its = own.among;
+        names = record {
+          within = within;
+          segment = sym segment;
+          offset = sym (ap (λ (d : Change). d.offset) its.is);
+          len = own.long ∙ sym (ap (λ (d : Change). d.len) its.is);
+          bytes = ap (λ (n : ℕ). take n (bytes_of (drop c.words (drop c.place (get_or logs c.log []))))) (ap (λ (d : Change). d.len) its.is)
+              ∙ ap (λ (n : ℕ). take its.placed.span.len (bytes_of (drop n (drop c.place (get_or logs c.log []))))) (ap (λ (d : Change). d.words) its.is)
+              ∙ ap (λ (n : ℕ). take its.placed.span.len (bytes_of (drop its.placed.place (drop n (get_or logs c.log []))))) (ap (λ (d : Change). d.place) its.is);
+        };
+        number = ap (λ (n : ℕ). number_or_zero n s.its.locks) segment ∙ sym (ap (λ (d : Change). d.seq) its.is);
         text = its.text;
         page = its.page;
+        newer = its.newer;
         offset = its.offset;
         on_page = its.on_page;
         has = its.has;
       }
 
-  some-number : (s : Seat) (c : Change) → IsOf (map kept_pages segments) s c → 0 < c.seq
-  some-number s c its =
-      let both = and_parts (is_some (byte_of c.segment (c.page * 256 + its.offset) s.its.ranges)) (ltb its.text.sequence (number_or_zero c.segment s.its.locks)) its.has in
-      omega (arith, ltb-true its.text.sequence (number_or_zero c.segment s.its.locks) both.1, its.number)
-
-  -- a number stands at one place alone
-  one-place : (s t : Seat) (c d : Change) → AreOnce (store_of logs segments) → Contains (seats_from 0 logs) s → Contains (seats_from 0 logs) t
-      → IsOf (map kept_pages segments) s c → IsOf (map kept_pages segments) t d → c.segment ≡ d.segment → c.seq ≡ d.seq → ((c.log ≡ d.log) → (c.place ≡ d.place) → ⊥) → ⊥
-  one-place s t c d once s_in t_in s_is t_is segment seq apart =
-      let all : List Seat = seats_from 0 logs in
-      let passes : Seat → Bool = λ u. has_number c.segment c.seq u.its in
-      let s_passes : passes s ≡ true = eq-eqb (number_or_zero c.segment s.its.locks) c.seq s_is.number in
-      let t_passes : passes t ≡ true = eq-eqb (number_or_zero c.segment t.its.locks) c.seq (ap (λ (n : ℕ). number_or_zero n t.its.locks) segment ∙ t_is.number ∙ sym seq) in
-      let some : 0 < c.seq = some-number s c s_is in
-      let same : length (filter passes all) ≡ how_many c.segment c.seq (store_of logs segments) =
-      sym (filter-map (λ (u : Seat). u.its) (has_number c.segment c.seq) all) ∙ ap (λ (l : List Record). length (filter (has_number c.segment c.seq) l)) (map-its 0 logs) in
-      let two : 2 ≤ length (filter passes all) → ⊥ = λ h. once c.segment c.seq (some, omega (arith, h, same)) in
-      elim (cases_order s_in.0 t_in.0) [
-        | inl equals ↦
-            let are : s ≡ t = sym s_in.2 ∙ ap (λ (k : ℕ). get_or all k s) equals ∙ same-item all t_in.0 s t t_in.1 ∙ t_in.2 in
-            apart (s_is.log ∙ ap (λ (u : Seat). u.log) are ∙ sym t_is.log) (s_is.place ∙ ap (λ (u : Seat). u.place) are ∙ sym t_is.place)
-        | inr differ ↦ (elim differ [
-          | inl less ↦ two (two-pass passes all s_in.0 t_in.0 s t less t_in.1 s_in.2 t_in.2 s_passes t_passes)
-          | inr more ↦ two (two-pass passes all t_in.0 s_in.0 t s more s_in.1 t_in.2 s_in.2 t_passes s_passes)
-        ])
-      ]
-
-  before : (c d : Change) → AreOnce (store_of logs segments) → compare c d ≡ Less
-      → (s : Seat) × Contains (seats_from 0 logs) s × IsOf (map kept_pages segments) s c → (s : Seat) × Contains (seats_from 0 logs) s × IsOf (map kept_pages segments) s d → IsBefore c d
-  before c d once less s t = elim (less-cases c.segment d.segment (ordering_then (nat_cmp c.page d.page) (ordering_then (nat_cmp c.seq d.seq) (ordering_then (nat_cmp c.log d.log) (nat_cmp c.place d.place)))) less) [
+  before : (c d : Change) → compare c d ≡ Less → IsBefore c d
+  before c d less = elim (less-cases c.segment d.segment (ordering_then (nat_cmp c.page d.page) (ordering_then (nat_cmp c.seq d.seq) (behind c d))) less) [
     | inl segment ↦ inl segment
     | inr one ↦ inr (
       one.0,
-      elim (less-cases c.page d.page (ordering_then (nat_cmp c.seq d.seq) (ordering_then (nat_cmp c.log d.log) (nat_cmp c.place d.place))) one.1) [
+      elim (less-cases c.page d.page (ordering_then (nat_cmp c.seq d.seq) (behind c d)) one.1) [
         | inl page ↦ inl page
         | inr two ↦ inr (
           two.0,
-          elim (less-cases c.seq d.seq (ordering_then (nat_cmp c.log d.log) (nat_cmp c.place d.place)) two.1) [
-            | inl seq ↦ seq
-            | inr three ↦ absurd (one-place s.0 t.0 c d once s.1 t.1 s.2 t.2 one.0 three.0 (λ log place. elim (less-cases c.log d.log (nat_cmp c.place d.place) three.1) [
-              | inl lower ↦ omega (arith, lower, log)
-              | inr four ↦ (let lower : c.place < d.place = nat-less c.place d.place four.1 in omega (arith, lower, place))
-            ]))
+          elim (less-cases c.seq d.seq (behind c d) two.1) [
+            | inl seq ↦ omega (arith, seq)
+            | inr three ↦ omega (arith, three.0)
           ],
         )
       ],
     )
   ]
 
-  ascending : (changes : List Change) → AreOnce (store_of logs segments) → ((c : Change) → Contains changes c → (s : Seat) × Contains (seats_from 0 logs) s × IsOf (map kept_pages segments) s c)
-      → IsStrictlySortedBy compare changes → AreAscending changes
+  ascending : (changes : List Change) → IsStrictlySortedBy compare changes → AreAscending changes
   unfolding IsStrictlySortedBy
-  ascending [] once sound sorted = tt
-  ascending (c ∷ cs) once sound sorted = (
-    (λ k d within.
-        before c (get_or cs k d) once (All-from_recursion (λ (x : Change). compare c x ≡ Less) cs sorted.0 k d within)
-        (sound c (0, omega arith, refl))
-        (sound (get_or cs k d) (suc k, omega (arith, within), same-item cs k (get_or cs k d) d within))),
-    ascending cs once (λ x there. sound x (contains-behind c cs x there)) sorted.1,
+  ascending [] sorted = tt
+  ascending (c ∷ cs) sorted = (
+    (λ k d within. before c (get_or cs k d) (All-from_recursion (λ (x : Change). compare c x ≡ Less) cs sorted.0 k d within)),
+    ascending cs sorted.1,
   )
 
   pub are-index : (added sorted kept : List Change) → AreOf (map kept_pages segments) (seats_from 0 logs) added → IsPermutation added sorted → IsSorted compare sorted → kept ≡ dedup equal sorted
-      → AreOnce (store_of logs segments) → IsIndex logs (store_of logs segments) kept
-  are-index added sorted kept of moved order is once =
+      → IsIndex logs (store_of logs segments) kept
+  are-index added sorted kept of moved order is =
       let sound : (c : Change) → Contains (dedup equal sorted) c → (s : Seat) × Contains (seats_from 0 logs) s × IsOf (map kept_pages segments) s c =
       λ c there. of.sound c (Contains-permutation sorted added c (IsPermutation-sym added sorted moved) (Contains-from_dedup equal sorted c there)) in
       subst (λ (l : List Change). IsIndex logs (store_of logs segments) l) (sym is) (record {
@@ -278,6 +294,6 @@ module _ (logs : List (List ℕ)) (segments : List SegmentPages) where
         whole = λ segment page offset text r at there within has.
             (let s = contains-from_map (λ (u : Seat). u.its) (seats_from 0 logs) r (subst (λ (l : List Record). Contains l r) (sym (map-its 0 logs)) there) in
             let c = of.whole s.0 s.1 segment page offset text at within (subst (λ (x : Record). IsTrue (has_byte segment (page * 256 + offset) text.sequence x)) (sym s.2) has) in
-            (c.0, Contains-dedup equal_equiv same-change sorted c.0 (Contains-permutation added sorted c.0 moved c.1), c.2, c.3, c.4 ∙ ap (λ (x : Record). number_or_zero segment x.locks) s.2));
-        ascending = ascending (dedup equal sorted) once sound (IsStrictlySortedBy-dedup compare_total ties sorted order);
+            (c.0, Contains-dedup equal_equiv same-change sorted c.0 (Contains-permutation added sorted c.0 moved c.1), c.2, c.3, c.4 ∙ ap (λ (x : Record). number_or_zero segment x.locks) s.2, c.5));
+        ascending = ascending (dedup equal sorted) (IsStrictlySortedBy-dedup compare_total ties sorted order);
       })

@@ -1,5 +1,5 @@
 -- The page that is written next: its changes, its bytes and its number.
-use Rattle.std.proofs.Common.{◌≡◌, ℕ, zero, suc, ◌+◌, ◌-◌, ◌*◌, ◌^◌, ◌<◌, ◌≤◌, Bool, true, false, ◌&&◌, nat_lt, true≢false, List, [], ◌∷◌, ◌++◌, length, get_or, take, drop, Some, All, Contains, refl, sym, ◌∙◌, ap, subst, arith, inl, inr, ltb-true}
+use Rattle.std.proofs.Common.{◌≡◌, ℕ, zero, suc, ◌+◌, ◌-◌, ◌*◌, ◌^◌, ◌<◌, ◌≤◌, Bool, true, false, ◌&&◌, true≢false, List, [], ◌∷◌, ◌++◌, length, get_or, take, drop, Some, All, Contains, refl, sym, ◌∙◌, ap, subst, arith, inl, inr}
 use Rattle.std.specs.Prelude.{slice_get, max}
 use Rattle.std.specs.Option.{option_or}
 use Rattle.std.proofs.Math.Nat.{le-max_right}
@@ -11,6 +11,7 @@ use Rattle.lc_record.specs.Content.{segment_of}
 use Rattle.lc_record.specs.Newest.{number_or_zero, byte_of}
 use Rattle.lc_record.specs.declared.geometry.Geometry.{Geometry}
 use Rattle.lc_record.specs.declared.record.Record.{Record}
+use Rattle.lc_record.specs.declared.record.RangeData.{RangeData}
 use Rattle.lc_page.specs.PageVector.{entry_at}
 use Rattle.lc_model.specs.Merge.{Page, all_records, page_number, record_number}
 use Rattle.lc_model.specs.Merging.{byte_at}
@@ -21,10 +22,10 @@ use Rattle.lc_model.proofs.One.{by_number-one, part-times}
 use Rattle.lc_model.proofs.Visible.{in-logs, log-known}
 use Rattle.lc_recover.proofs.Images.{get-take, get-drop}
 use Rattle.lc_recover.proofs.KeptLemmas.{get-append}
-use Rattle.lc_recover.proofs.MergedPage.{ascending_behind, page_merged, records_stand}
+use Rattle.lc_recover.proofs.MergedPage.{ascending_behind, page_merged, ranges_stand}
 use Rattle.lc_recover.proofs.PagesOf.{all_behind}
 use Rattle.lc_recover.specs.Kept.{IsChange, AreAscending}
-use Rattle.lc_recover.specs.Page.{IsOf, IsOfAnother, AreAt, AreOfPage, IsFirstPage, all_ranges, byte_with}
+use Rattle.lc_recover.specs.Page.{IsOf, IsOfAnother, AreAt, AreOfPage, IsFirstPage, byte_with}
 use Rattle.lc_recover.specs.Pages.{bytes_of_page}
 use Rattle.lc_recover.specs.Position.{HasChange}
 use Rattle.lc_recover.specs.Stage.{AsFarAs, IsNext, IsOld, IsWriting}
@@ -152,7 +153,7 @@ module _ (g : Geometry) (w : PageWrites) (i : IsWriting g w) (c : Change) (at : 
       let r : Record = its_change.changing in
       let among : Contains (all_records i.store) its_change.changing = in-logs i.store.logs c.log its_change.changing (log-known i.store.logs c.log its_change.changing its_change.among) its_change.among in
       let found = found_at (all_records i.store) 0 its_change.changing among in
-      let above : its_change.text.sequence < number_or_zero c.segment its_change.changing.locks = ltb-true its_change.text.sequence (number_or_zero c.segment its_change.changing.locks) (both_true _ (nat_lt its_change.text.sequence (number_or_zero c.segment its_change.changing.locks)) its_change.has) in
+      let above : its_change.text.sequence < number_or_zero c.segment its_change.changing.locks = omega (arith, its_change.newer, its_change.number) in
       let most : number_or_zero c.segment its_change.changing.locks ≤ record_number c.segment i.store = at_most-greatest (λ (q : Record). number_or_zero c.segment q.locks) (all_records i.store) found.0 its_change.changing found.1 in
       let counted : i.numbers c.segment ≡ max (page_number c.segment i.store) (record_number c.segment i.store) = i.result.merges.2.counted c.segment its_segment.0 (omega (arith, its_segment.1, i.pages.shape)) in
       let all : record_number c.segment i.store ≤ max (page_number c.segment i.store) (record_number c.segment i.store) = le-max_right (page_number c.segment i.store) (record_number c.segment i.store) in
@@ -161,24 +162,24 @@ module _ (g : Geometry) (w : PageWrites) (i : IsWriting g w) (c : Change) (at : 
   pub bytes_are : (here : List Change) → IsFirstPage (drop w.next w.merged.changes.items) here
       → (pages : SegmentPages) → slice_get w.kept.segments.items (c.segment - 1) ≡ Some pages
       → (bytes before : List ℕ) → length bytes ≡ 256 → before ≡ bytes_of_page pages c.page
-      → ((records : List Record) (segment page : ℕ) → AreAt w.kept.logs.items here records → All (IsOf segment page) here →
-      (offset : ℕ) → offset < 256 → slice_get bytes offset ≡ option_or (byte_of segment (page * 256 + offset) (all_ranges records)) (slice_get before offset))
+      → ((ranges : List RangeData) (segment page : ℕ) → AreAt w.kept.logs.items here ranges → All (IsOf segment page) here →
+      (offset : ℕ) → offset < 256 → slice_get bytes offset ≡ option_or (byte_of segment (page * 256 + offset) ranges) (slice_get before offset))
       → bytes ≡ page_bytes c.segment c.page i.content
   bytes_are here first pages kept bytes before long was put =
       let of = here_of here first in
       let text : Page = its_change.text in
-      let stand = records_stand w.kept.logs.items i.store w.merged.changes.items here c.segment c.page i.merging.index of in
+      let stand = ranges_stand w.kept.logs.items i.store w.merged.changes.items here c.segment c.page i.merging.index of in
       let same : before ≡ its_change.text.bytes = was ∙ (still_old pages kept).same in
       let part : List ℕ = drop (c.page * 256) (segment_of c.segment i.content) in
       same-items bytes (page_bytes c.segment c.page i.content) (λ place.
       elim (cases_lt place 256) [
         | inl within ↦
             put stand.0 c.segment c.page stand.1 of.of_page place within
-            ∙ ap (λ (l : List ℕ). option_or (byte_of c.segment (c.page * 256 + place) (all_ranges stand.0)) (slice_get l place)) same
+            ∙ ap (λ (l : List ℕ). option_or (byte_of c.segment (c.page * 256 + place) stand.0) (slice_get l place)) same
             ∙ by_number-one c.segment (c.page * 256 + place) its_change.text.sequence (all_records i.store) (slice_get its_change.text.bytes place)
             (byte_with c.segment c.page stand.0 its_change.text.bytes place) (byte_at c.segment (c.page * 256 + place) i.content)
             (λ seq some twice. i.merging.once c.segment seq (some, twice))
-            (page_merged w.kept.logs.items i.store w.merged.changes.items here c.segment c.page its_change.text stand.0 i.merging.index i.merging.once of its_change.page stand.1 place within)
+            (page_merged w.kept.logs.items i.store w.merged.changes.items here c.segment c.page its_change.text stand.0 i.merging.index of its_change.page stand.1 place within)
             (i.result.merges.2.bytes c.segment c.page its_change.text its_change.page place within)
             ∙ sym (get-take 256 place (drop (c.page * 256) (segment_of c.segment i.content)) within ∙ get-drop (c.page * 256) place (segment_of c.segment i.content))
         | inr past ↦

@@ -5,7 +5,6 @@ pub mod MergedPage
 pub mod PagesOf
 pub mod ResetSteps
 pub mod Walks
-pub mod SpanWalks
 pub mod Orders
 pub mod Counts
 pub mod Pushes
@@ -42,3 +41,5 @@ pub mod Blank
 pub mod StepsBound
 pub mod PageCalls
 pub mod OneStore
+pub mod RangeBytes
+pub mod SpanWalks

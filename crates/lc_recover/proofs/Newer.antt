@@ -3,9 +3,9 @@ use Rattle.std.proofs.Common.{◌≡◌, ℕ, zero, suc, ◌+◌, Some, List, []
 use Rattle.std.specs.Prelude.{slice_get}
 use Rattle.std.proofs.lemmas.Option.{none-some}
 use Rattle.std.proofs.lemmas.List.Elements.{Contains-append_left, Contains-append_right}
-use Rattle.lc_record.specs.declared.record.Record.{Record}
-use Rattle.lc_model.specs.Merge.{Page, Store, MergeFault, MergesTo, Refuses, BadGeometry, OutOfSegment, Twice, Gap}
+use Rattle.lc_model.specs.Merge.{Page, Store, all_records, MergeFault, MergesTo, Refuses, BadGeometry, OutOfSegment, Twice, Gap}
 use Rattle.lc_model.proofs.SomeOutcome.{some-outcome}
+use Rattle.lc_model.proofs.Visible.{in-logs, log-known}
 use Rattle.lc_record.specs.Content.{Content, segment_of}
 use Rattle.lc_recover.specs.Changes.{Seat, SomeIsOf, seats_of, seats_from}
 use Rattle.lc_recover.specs.Kept.{HasNewer, IsFaultless}
@@ -15,8 +15,8 @@ use Rattle.lc_recover.specs.Recovery.{HasPageToWrite}
 use Rattle.lc_recover.specs.declared.change.Change.{Change}
 use Rattle.lc_recover.specs.declared.segment_pages.SegmentPages.{SegmentPages}
 use Rattle.lc_recover.proofs.AreaLemmas.{one_item}
-use Rattle.lc_recover.proofs.Ascents.{map-its}
-use Rattle.lc_recover.proofs.Walks.{contains-map}
+use Rattle.lc_recover.proofs.Ascents.{is-change}
+use Rattle.lc_recover.proofs.MergedPage.{change_has}
 
 pub seat-in : (first : ℕ) (logs : List (List ℕ)) (k : ℕ) (words : List ℕ) (s : Seat) → slice_get logs k ≡ Some words → Contains (seats_of (first + k) words) s → Contains (seats_from first logs) s
 seat-in first [] k words s is has = absurd (none-some words is)
@@ -32,9 +32,9 @@ seat-in first (log ∷ logs) (suc k) words s is has =
 pub some-newer : (logs : List (List ℕ)) (segments : List SegmentPages) → SomeIsOf (map kept_pages segments) (seats_from 0 logs) → HasNewer (store_of logs segments)
 some-newer logs segments some =
     let c : Change = some.2.0 in
-    let of = some.2.1 in
-    let among = subst (λ (l : List Record). Contains l some.0.its) (map-its 0 logs) (contains-map (λ (s : Seat). s.its) (seats_from 0 logs) some.0 some.1) in
-    (c.segment, c.page, of.text, of.page, (some.0.its, among, of.offset, of.on_page, of.has))
+    let its = is-change logs segments some.0 some.2.0 some.1 some.2.1 in
+    let among : Contains (all_records (store_of logs segments)) its.changing = in-logs (store_of logs segments).logs some.2.0.log its.changing (log-known (store_of logs segments).logs some.2.0.log its.changing its.among) its.among in
+    (c.segment, c.page, its.text, its.page, (its.changing, among, its.offset, its.on_page, change_has logs (store_of logs segments) some.2.0 its))
 
 -- what has no fault merges
 no-fault : (store : Store) → IsFaultless store → (fault : MergeFault) → Refuses store fault → ⊥

@@ -1,5 +1,5 @@
 -- Areas read as one store, by the grammar and by the list that computes.
-use Rattle.std.proofs.Common.{◌≡◌, ℕ, ◌<◌, List, map, length, take, drop, Some, refl, sym, ap, subst, ◌∙◌, arith}
+use Rattle.std.proofs.Common.{◌≡◌, ℕ, ◌<◌, List, map, length, take, Some, refl, sym, ap, subst, ◌∙◌, arith}
 use Rattle.std.specs.Prelude.{slice_get}
 use Rattle.std.proofs.lemmas.List.{length-map}
 use Rattle.lc_record.specs.Words.{words_of}
@@ -9,7 +9,6 @@ use Rattle.lc_log.specs.InPlace.{records_in}
 use Rattle.lc_log.specs.LogText.{IsLogText}
 use Rattle.lc_log.proofs.InPlaceLemmas.{records_are, records_text}
 use Rattle.lc_model.specs.Merge.{Page, Store}
-use Rattle.lc_recover.specs.Pages.{pages_read}
 use Rattle.lc_recover.specs.Reads.{store_of}
 use Rattle.lc_recover.specs.ReadsAs.{ReadsAs}
 use Rattle.lc_recover.proofs.Going.{same_lists}

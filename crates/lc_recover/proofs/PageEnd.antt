@@ -16,6 +16,7 @@ use Rattle.lc_model.specs.Merge.{Page, Store, all_records}
 use Rattle.lc_model.specs.Recovered.{IsBehind}
 use Rattle.lc_model.proofs.Visible.{in-logs, log-known}
 use Rattle.lc_recover.proofs.AreaLemmas.{one_item}
+use Rattle.lc_recover.proofs.MergedPage.{change_has}
 use Rattle.lc_recover.specs.Kept.{IsChange, IsIndex}
 use Rattle.lc_recover.specs.Page.{IsOf, pages_of}
 use Rattle.lc_recover.specs.Pages.{bytes_of_page}
@@ -41,7 +42,7 @@ module _ (logs : List (List ℕ)) (store : Store) (changes : List Change) (index
       let has : IsTrue (has_byte segment (page * 256 + is.offset) text.sequence is.changing) =
       subst (λ (t : Page). IsTrue (has_byte segment (page * 256 + is.offset) t.sequence is.changing)) same
       (subst (λ (p : ℕ). IsTrue (has_byte segment (p * 256 + is.offset) is.text.sequence is.changing)) of.1
-      (subst (λ (s : ℕ). IsTrue (has_byte s (c.page * 256 + is.offset) is.text.sequence is.changing)) of.0 is.has)) in
+      (subst (λ (s : ℕ). IsTrue (has_byte s (c.page * 256 + is.offset) is.text.sequence is.changing)) of.0 (change_has logs store c is))) in
       (is.changing, among, is.offset, is.on_page, has)
 
   changed-behind : HasChange changes segment page → IsBehind store segment page text

@@ -1,18 +1,18 @@
--- The changes of one page, and their records.
-use Rattle.std.proofs.Common.{◌≡◌, ℕ, zero, suc, ◌<◌, ◌≤◌, List, [], ◌∷◌, ◌++◌, length, get_or, take, drop, Option, Some, All, refl, sym, ◌∙◌, ap, subst, arith, inl, inr}
-use Rattle.std.specs.Prelude.{slice_get}
+-- The changes of one page, and their ranges.
+use Rattle.std.proofs.Common.{◌≡◌, ℕ, zero, suc, ◌<◌, ◌≤◌, List, [], ◌∷◌, ◌++◌, length, get_or, min, take, drop, Option, Some, None, All, refl, sym, ◌∙◌, ap, subst, arith, inl, inr}
+use Rattle.std.specs.Prelude.{slice_get, slice_index_or}
 use Rattle.std.specs.Option.{option_or}
+use Rattle.std.proofs.lemmas.Bool.{cases_lt}
 use Rattle.std.proofs.lemmas.List.{append-nil}
-use Rattle.std.proofs.lemmas.List.Concat.{flat_map-append}
 use Rattle.std.proofs.lemmas.List.Elements.{All-nil, All-cons, All-head, All-tail, All-weaker}
 use Rattle.std.proofs.lemmas.Option.{same_Some}
-use Rattle.lc_record.specs.Newest.{byte_of}
-use Rattle.lc_record.specs.declared.record.Record.{Record}
+use Rattle.lc_record.specs.Newest.{byte_from, byte_in, byte_of}
+use Rattle.lc_record.specs.Words.{bytes_of}
 use Rattle.lc_record.specs.declared.record.RangeData.{RangeData}
 use Rattle.lc_model.proofs.Bytes.{option_or-assoc}
-use Rattle.lc_model.proofs.RecordBytes.{byte_of-append}
-use Rattle.lc_recover.specs.Kept.{StandsAt, IsBefore, AreAscending}
-use Rattle.lc_recover.specs.Page.{IsOf, IsOfAnother, AreAt, all_ranges, IsFirstPage}
+use Rattle.lc_record.proofs.PuttingLemmas.{byte_in-same, byte_of-push}
+use Rattle.lc_recover.specs.Kept.{Names, IsBefore, AreAscending}
+use Rattle.lc_recover.specs.Page.{IsOf, IsOfAnother, AreAt, IsFirstPage}
 use Rattle.lc_recover.specs.declared.change.Change.{Change}
 
 -- The first page
@@ -75,34 +75,81 @@ only_page changes first is all = record {
   no_more = λ f f_is ascending. All-nil (IsOfAnother f.segment f.page);
 }
 
--- One record more
+-- One range more
 
--- the record at the place of one of the changes
-pub record Standing (logs : List (List ℕ)) (c : Change) (records : List Record) (i : ℕ) : Type 0 where
-  pub its : Record
-  pub stands : StandsAt logs c.log c.place its
-  pub next : take (suc i) records ≡ take i records ++ its ∷ []
+-- the range that one of the changes is of
+pub record Standing (logs : List (List ℕ)) (c : Change) (ranges : List RangeData) (i : ℕ) : Type 0 where
+  pub its : RangeData
+  pub names : Names logs c its
+  pub next : take (suc i) ranges ≡ take i ranges ++ its ∷ []
 
-pub standing : (logs : List (List ℕ)) (cs : List Change) (rs : List Record) (i : ℕ) (default : Change) → AreAt logs cs rs → i < length cs → Standing logs (get_or cs i default) rs i
+pub standing : (logs : List (List ℕ)) (cs : List Change) (rs : List RangeData) (i : ℕ) (default : Change) → AreAt logs cs rs → i < length cs → Standing logs (get_or cs i default) rs i
 standing logs [] rs i default at lt = absurd (omega (arith, lt))
 standing logs (c ∷ cs) [] i default at lt = absurd at
-standing logs (c ∷ cs) (r ∷ rs) zero default at lt = record { its = r; stands = at.0; next = refl }
+standing logs (c ∷ cs) (r ∷ rs) zero default at lt = record { its = r; names = at.0; next = refl }
 standing logs (c ∷ cs) (r ∷ rs) (suc i) default at lt =
     let one = standing logs cs rs i default at.1 (omega (arith, lt)) in
-    record { its = one.its; stands = one.stands; next = ap (λ (xs : List Record). r ∷ xs) one.next }
+    record { its = one.its; names = one.names; next = ap (λ (xs : List RangeData). r ∷ xs) one.next }
 
-pub all_taken : (logs : List (List ℕ)) (cs : List Change) (rs : List Record) (n : ℕ) → AreAt logs cs rs → length cs ≤ n → take n rs ≡ rs
+pub all_taken : (logs : List (List ℕ)) (cs : List Change) (rs : List RangeData) (n : ℕ) → AreAt logs cs rs → length cs ≤ n → take n rs ≡ rs
 all_taken logs [] [] zero at le = refl
 all_taken logs [] [] (suc n) at le = refl
 all_taken logs [] (r ∷ rs) n at le = absurd at
 all_taken logs (c ∷ cs) [] n at le = absurd at
 all_taken logs (c ∷ cs) (r ∷ rs) zero at le = absurd (omega (arith, le))
-all_taken logs (c ∷ cs) (r ∷ rs) (suc n) at le = ap (λ (xs : List Record). r ∷ xs) (all_taken logs cs rs n at.1 (omega (arith, le)))
+all_taken logs (c ∷ cs) (r ∷ rs) (suc n) at le = ap (λ (xs : List RangeData). r ∷ xs) (all_taken logs cs rs n at.1 (omega (arith, le)))
 
-pub one_record_more : (segment place : ℕ) (front : List Record) (r : Record) (old : Option ℕ)
-    → option_or (byte_of segment place r.ranges) (option_or (byte_of segment place (all_ranges front)) old) ≡ option_or (byte_of segment place (all_ranges (front ++ r ∷ []))) old
-one_record_more segment place front r old =
-    let ranges : all_ranges (front ++ r ∷ []) ≡ all_ranges front ++ r.ranges =
-    flat_map-append (λ (q : Record). q.ranges) front (r ∷ []) ∙ ap (λ (xs : List RangeData). all_ranges front ++ xs) (append-nil r.ranges) in
-    sym (option_or-assoc (byte_of segment place r.ranges) (byte_of segment place (all_ranges front)) old)
-    ∙ ap (λ (o : Option ℕ). option_or o old) (sym (ap (byte_of segment place) ranges ∙ byte_of-append segment place (all_ranges front) r.ranges))
+-- the bytes at its place are those of its range
+pub named_byte : (logs : List (List ℕ)) (c : Change) (range : RangeData) (segment place : ℕ) → Names logs c range → c.segment ≡ segment
+    → byte_from c.offset (take c.len (bytes_of (drop c.words (drop c.place (slice_index_or logs c.log []))))) place ≡ byte_in segment place range
+named_byte logs c range segment place names of =
+    ap (λ (o : ℕ). byte_from o (take c.len (bytes_of (drop c.words (drop c.place (slice_index_or logs c.log []))))) place) (sym names.offset)
+    ∙ ap (λ (bytes : List ℕ). byte_from range.offset bytes place) names.bytes
+    ∙ sym (byte_in-same segment place range (names.segment ∙ of))
+
+pub one_range_more : (segment place : ℕ) (front : List RangeData) (r : RangeData) (old : Option ℕ)
+    → option_or (byte_in segment place r) (option_or (byte_of segment place front) old) ≡ option_or (byte_of segment place (front ++ r ∷ [])) old
+one_range_more segment place front r old =
+    sym (option_or-assoc (byte_in segment place r) (byte_of segment place front) old)
+    ∙ ap (λ (o : Option ℕ). option_or o old) (sym (byte_of-push segment place front r))
+
+-- Words behind others
+
+pub drop_all : {A : Type 0} (n : ℕ) (xs : List A) → length xs ≤ n → drop n xs ≡ []
+drop_all zero [] le = refl
+drop_all zero (x ∷ xs) le = absurd (omega (arith, le))
+drop_all (suc n) [] le = refl
+drop_all (suc n) (x ∷ xs) le = drop_all n xs (omega (arith, le))
+
+pub drop_least : {A : Type 0} (n : ℕ) (xs : List A) → drop (min n (length xs)) xs ≡ drop n xs
+drop_least n xs = elim (cases_lt n (length xs)) [
+  | inl few ↦ (let same : min n (length xs) ≡ n = omega (arith, few) in ap (λ (m : ℕ). drop m xs) same)
+  | inr all ↦
+      (let same : min n (length xs) ≡ length xs = omega (arith, all) in
+      let le : length xs ≤ length xs = omega arith in
+      ap (λ (m : ℕ). drop m xs) same ∙ drop_all (length xs) xs le ∙ sym (drop_all n xs all))
+]
+
+past : {A : Type 0} (n : ℕ) (xs : List A) (d : A) → length xs ≤ n → get_or xs n d ≡ d
+past n [] d le = refl
+past zero (x ∷ xs) d le = absurd (omega (arith, le))
+past (suc n) (x ∷ xs) d le = past n xs d (omega (arith, le))
+
+none_from : (offset place : ℕ) → byte_from offset [] place ≡ None
+none_from zero place = refl
+none_from (suc offset) zero = refl
+none_from (suc offset) (suc place) = none_from offset place
+
+take_none : {A : Type 0} (n : ℕ) (xs : List A) → xs ≡ [] → take n xs ≡ []
+take_none zero xs is = refl
+take_none (suc n) xs is = ap (take (suc n)) is
+
+-- what is in no log puts nothing
+pub put_nothing : (logs : List (List ℕ)) (log place words len offset at : ℕ) (old : Option ℕ) → length logs ≤ log
+    → old ≡ option_or (byte_from offset (take len (bytes_of (drop words (drop place (slice_index_or logs log []))))) at) old
+put_nothing logs log place words len offset at old le =
+    let none : drop words (drop place (slice_index_or logs log [])) ≡ [] =
+    ap (λ (l : List ℕ). drop words (drop place l)) (past log logs [] le) ∙ ap (drop words) (drop_all place [] (omega arith)) ∙ drop_all words [] (omega arith) in
+    sym (ap (λ (l : List ℕ). option_or (byte_from offset (take len (bytes_of l)) at) old) none
+    ∙ ap (λ (l : List ℕ). option_or (byte_from offset l at) old) (take_none len (bytes_of []) refl)
+    ∙ ap (λ (o : Option ℕ). option_or o old) (none_from offset at))

@@ -17,6 +17,7 @@ use Rattle.lc_model.specs.Recovered.{IsBehind}
 use Rattle.lc_model.proofs.Visible.{in-logs, log-known}
 use Rattle.lc_recover.proofs.Images.{in-segment}
 use Rattle.lc_recover.proofs.PagesOf.{are_listed, are_ascending, are_different}
+use Rattle.lc_recover.proofs.MergedPage.{change_has}
 use Rattle.lc_recover.specs.Kept.{IsChange, IsMerging}
 use Rattle.lc_recover.specs.Page.{pages_of, AreDifferent}
 use Rattle.lc_recover.specs.Recovery.{AreBehind}
@@ -34,7 +35,7 @@ module _ (logs : List (List ℕ)) (store : Store) (merged : Merged) (merging : I
       let its : IsChange logs store one.0 = All-contains (IsChange logs store) merged.changes.items one.0 merging.index.sound one.1 in
       let among : Contains (all_records store) its.changing = in-logs store.logs one.0.log its.changing (log-known store.logs one.0.log its.changing its.among) its.among in
       let behind : (text : Page) × (slice_get (segment_of one.0.segment store.pages) one.0.page ≡ Some text) × IsBehind store one.0.segment one.0.page text
-      = (its.text, its.page, (its.changing, among, its.offset, its.on_page, its.has)) in
+      = (its.text, its.page, (its.changing, among, its.offset, its.on_page, change_has logs store one.0 its)) in
       subst (λ (p : ℕ). (text : Page) × (slice_get (segment_of segment store.pages) p ≡ Some text) × IsBehind store segment p text) one.2.1
       (subst (λ (s : ℕ). (text : Page) × (slice_get (segment_of s store.pages) one.0.page ≡ Some text) × IsBehind store s one.0.page text) one.2.0 behind)
 

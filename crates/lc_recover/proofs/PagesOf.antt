@@ -137,7 +137,7 @@ are_different (c ∷ cs) =
 
 -- In order
 
-later_page : (c d : Change) → is_another (page_of c) (page_of d) ≡ true → c.segment ≡ d.segment → (c.page < d.page) ⊎ ((c.page ≡ d.page) × (c.seq < d.seq))
+later_page : (c d : Change) → is_another (page_of c) (page_of d) ≡ true → c.segment ≡ d.segment → (c.page < d.page) ⊎ ((c.page ≡ d.page) × (c.seq ≤ d.seq))
     → IsPageBefore (page_of c) (page_of d)
 later_page c d other segment (inl page) = inr (segment, page)
 later_page c d other segment (inr same) = absurd (another-differs (page_of c) (page_of d) other (same_pair (page_of c) (page_of d) segment same.0))
@@ -225,7 +225,7 @@ ascending_rest changes front its ascending =
 
 pub one_page_more : (changes front : List Change) → IsFirstPage changes front → 1 ≤ length changes → AreAscending changes → length (pages_of changes) ≡ 1 + length (pages_of (drop (length front) changes))
 one_page_more changes front its some ascending =
-    let none : Change = record { segment = 0; page = 0; seq = 0; log = 0; place = 0 } in
+    let none : Change = record { segment = 0; page = 0; seq = 0; log = 0; place = 0; words = 0; offset = 0; len = 0 } in
     let behind = pages_of (drop (length front) changes) in
     let count : length (page_of (get_or changes 0 none) ∷ behind) ≡ 1 + length behind = omega arith in
     ap (λ (ps : List Pair). length ps) (begin_with_the_first changes front (get_or changes 0 none) its (slice_get-get_or changes 0 none (omega (arith, some))) ascending) ∙ count

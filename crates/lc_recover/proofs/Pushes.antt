@@ -1,28 +1,33 @@
--- What a push adds, and which ranges have bytes on which pages.
-use Rattle.std.proofs.Common.{◌≡◌, ◌⊎◌, ℕ, zero, suc, ◌+◌, ◌-◌, ◌*◌, ◌<◌, ◌≤◌, true, ◌==◌, ltb, List, [], ◌∷◌, ◌++◌, length, drop, Contains, Option, Some, None, is_some, arith, refl, sym, ◌∙◌, ap, subst, inl, inr}
+-- What a push adds, and which ranges are to be put on which pages.
+use Rattle.std.proofs.Common.{◌≡◌, ℕ, zero, suc, ◌+◌, ◌-◌, ◌*◌, ◌<◌, ◌≤◌, ltb, List, [], ◌∷◌, ◌++◌, length, drop, Contains, Option, Some, is_some, arith, refl, sym, ◌∙◌, ap, subst, inl, inr}
 use Rattle.std.specs.Prelude.{slice_get}
-use Rattle.std.specs.Option.{option_or, unwrap_or}
+use Rattle.std.specs.Option.{unwrap_or}
 use Rattle.std.specs.List.{AllByRecursion}
 use Rattle.std.proofs.Math.Seq.{drop-cons}
-use Rattle.std.proofs.lemmas.Bool.{cases_lt, cases_Bool, and_parts, and_from, eqb-true, eq-eqb, ne_eqb, ltb-true, lt-ltb, true≢false}
-use Rattle.std.proofs.lemmas.Option.{none-some, same_Some, slice_get_within, slice_get-get_or, slice_get_cases, get_or_from_slice_get}
+use Rattle.std.proofs.lemmas.Bool.{cases_lt, and_parts, eq-eqb, ne_eqb, ltb-true}
+use Rattle.std.proofs.lemmas.Option.{none-some, same_Some, slice_get_within, slice_get-get_or, get_or_from_slice_get}
 use Rattle.std.proofs.lemmas.List.Elements.{All-contains, All-from_recursion, Contains-append_cases, Contains-append_left, Contains-append_right}
 use Rattle.lc_record.specs.Content.{segment_of}
-use Rattle.lc_record.specs.GrammarVersion.{end_of}
-use Rattle.lc_record.specs.Newest.{number_or_zero, byte_from, byte_in, byte_of}
+use Rattle.lc_record.specs.GrammarVersion.{end_of, place_words}
+use Rattle.lc_record.specs.Layout.{data_len}
+use Rattle.lc_record.specs.Newest.{number_or_zero, byte_of}
 use Rattle.lc_record.specs.Part.{number_in}
-use Rattle.lc_record.specs.Record.{span_of, IsCanonical, IsRange}
+use Rattle.lc_record.specs.Record.{span_of, version_of, IsRange}
+use Rattle.lc_record.specs.Spans.{placed_from, placed_spans}
 use Rattle.lc_record.specs.declared.record.Lock.{Lock}
 use Rattle.lc_record.specs.declared.record.RangeData.{RangeData}
+use Rattle.lc_record.specs.declared.grammar_version.GrammarVersion.{GrammarVersion}
+use Rattle.lc_record.specs.declared.placed_span.PlacedSpan.{PlacedSpan}
 use Rattle.lc_record.specs.declared.span.Span.{Span}
 use Rattle.lc_page.specs.PageVector.{entry_at}
 use Rattle.lc_model.specs.Merge.{Page}
 use Rattle.lc_recover.specs.Pages.{kept_page, kept_pages}
-use Rattle.lc_recover.specs.Changes.{Seat, Touches, Adds, IsOnRange, IsOf, HasOf, Covers, AreOf}
+use Rattle.lc_recover.specs.Changes.{Seat, Touches, Adds, IsOnRange, IsOf, HasOf, Covers, AreOf, change_on, change_under}
 use Rattle.lc_recover.specs.declared.change.Change.{Change}
 use Rattle.lc_recover.specs.declared.segment_pages.SegmentPages.{SegmentPages}
 use Rattle.lc_recover.proofs.Walks.{length-kept, contains-at}
 use Rattle.lc_recover.proofs.Counts.{kept-at, contains-cons}
+use Rattle.lc_recover.proofs.RangeBytes.{byte_in-known, byte_of-known}
 
 -- The number of a lock
 
@@ -42,56 +47,6 @@ number-next segment locks i lock at other so_far =
     let next : suc i ≡ i + 1 = omega arith in
     so_far ∙ ap (number_in segment) (lock-first locks i lock at) ∙ is ∙ ap (λ (n : ℕ). number_in segment (drop n locks)) next
 
--- Bytes
-
-or-left : (x y : Option ℕ) → is_some x ≡ true → is_some (option_or x y) ≡ true
-or-left None y h = absurd (true≢false (sym h))
-or-left (Some n) y h = refl
-
-or-right : (x y : Option ℕ) → is_some y ≡ true → is_some (option_or x y) ≡ true
-or-right None y h = h
-or-right (Some n) y h = refl
-
-or-cases : (x y : Option ℕ) → is_some (option_or x y) ≡ true → (is_some x ≡ true) ⊎ (is_some y ≡ true)
-or-cases None y h = inr h
-or-cases (Some n) y h = inl refl
-
-byte_from-some : (offset : ℕ) (bytes : List ℕ) (place : ℕ) → offset ≤ place → place < offset + length bytes → is_some (byte_from offset bytes place) ≡ true
-byte_from-some zero bytes place h within =
-    let inside : place < length bytes = omega arith in
-    ap is_some (slice_get-get_or bytes place 0 inside)
-byte_from-some (suc offset) bytes zero h within = absurd (omega arith)
-byte_from-some (suc offset) bytes (suc place) h within = byte_from-some offset bytes place (omega arith) (omega arith)
-
-byte_from-known : (offset : ℕ) (bytes : List ℕ) (place : ℕ) → is_some (byte_from offset bytes place) ≡ true → (offset ≤ place) × (place < offset + length bytes)
-byte_from-known zero bytes place h = elim (slice_get_cases bytes place).1 [
-  | inl some ↦ (omega arith, omega (arith, some.1))
-  | inr past ↦ absurd (true≢false (sym h ∙ ap is_some past.1))
-]
-byte_from-known (suc offset) bytes zero h = absurd (true≢false (sym h))
-byte_from-known (suc offset) bytes (suc place) h = (let rest = byte_from-known offset bytes place h in (omega (arith, rest.0), omega (arith, rest.1)))
-
-byte_in-some : (segment place : ℕ) (range : RangeData) → range.segment ≡ segment → range.offset ≤ place → place < end_of (span_of range) → is_some (byte_in segment place range) ≡ true
-byte_in-some segment place range own from upto = rw (eq-eqb range.segment segment own) (byte_from-some range.offset range.bytes place from upto)
-
-byte_in-known : (segment place : ℕ) (range : RangeData) → is_some (byte_in segment place range) ≡ true → (range.segment ≡ segment) × (range.offset ≤ place) × (place < end_of (span_of range))
-byte_in-known segment place range h = elim (cases_Bool (range.segment == segment)) [
-  | inl own ↦ (let bounds = byte_from-known range.offset range.bytes place (rw own at h) in (eqb-true range.segment segment own, bounds.0, bounds.1))
-  | inr other ↦ absurd (true≢false (sym (rw other at h)))
-]
-
-byte_of-some : (segment place : ℕ) (ranges : List RangeData) (k : ℕ) (range : RangeData) → slice_get ranges k ≡ Some range → is_some (byte_in segment place range) ≡ true → is_some (byte_of segment place ranges) ≡ true
-byte_of-some segment place [] k range at h = absurd (none-some range at)
-byte_of-some segment place (r ∷ rs) zero range at h = or-right (byte_of segment place rs) (byte_in segment place r) (ap (λ (x : RangeData). is_some (byte_in segment place x)) (same_Some r range at) ∙ h)
-byte_of-some segment place (r ∷ rs) (suc k) range at h = or-left (byte_of segment place rs) (byte_in segment place r) (byte_of-some segment place rs k range at h)
-
-byte_of-known : (segment place : ℕ) (ranges : List RangeData) → is_some (byte_of segment place ranges) ≡ true → (k : ℕ) × (range : RangeData) × (slice_get ranges k ≡ Some range) × (is_some (byte_in segment place range) ≡ true)
-byte_of-known segment place [] h = absurd (true≢false (sym h))
-byte_of-known segment place (r ∷ rs) h = elim (or-cases (byte_of segment place rs) (byte_in segment place r) h) [
-  | inl behind ↦ (let rest = byte_of-known segment place rs behind in (suc rest.0, rest.1, rest.2, rest.3))
-  | inr first ↦ (0, r, refl, first)
-]
-
 -- What a push adds
 
 pub adds-none : (Such : Change → Type 0) (xs : List Change) → Adds Such xs xs
@@ -108,27 +63,23 @@ adds-more Such Other xs ys zs first second such = record {
 
 -- Ranges
 
--- the change of the record of a seat on a page
-abbrev pub change_on : Seat → ℕ → ℕ → Change
-change_on s segment page = record { segment = segment; page = page; seq = number_or_zero segment s.its.locks; log = s.log; place = s.place }
-
 -- the pages under the ranges before this one are covered
-abbrev pub CoversRanges : List (List Page) → Seat → ℕ → List Change → Type 0
-CoversRanges pages s i changes =
-    (k : ℕ) (range : RangeData) → k < i → slice_get s.its.ranges k ≡ Some range →
-    (page : ℕ) (text : Page) → slice_get (segment_of range.segment pages) page ≡ Some text → Touches (span_of range) page →
-    text.sequence < number_or_zero range.segment s.its.locks → Contains changes (change_on s range.segment page)
+abbrev pub CoversSpans : List (List Page) → Seat → ℕ → List Change → Type 0
+CoversSpans pages s i changes =
+    (k : ℕ) (placed : PlacedSpan) → k < i → slice_get (placed_spans s.its) k ≡ Some placed →
+    (page : ℕ) (text : Page) → slice_get (segment_of placed.span.segment pages) page ≡ Some text → Touches placed.span page →
+    text.sequence < number_or_zero placed.span.segment s.its.locks → Contains changes (change_on s placed page)
 
-range-some : (r : List RangeData) (k : ℕ) (range : RangeData) → AllByRecursion IsRange r → slice_get r k ≡ Some range → 1 ≤ length range.bytes
+pub range-some : (r : List RangeData) (k : ℕ) (range : RangeData) → AllByRecursion IsRange r → slice_get r k ≡ Some range → 1 ≤ length range.bytes
 range-some r k range each at = (All-contains IsRange r range (All-from_recursion IsRange r each) (contains-at r k range at)).0
 
 pub range-ends : (r : List RangeData) (k : ℕ) (range : RangeData) → AllByRecursion IsRange r → slice_get r k ≡ Some range → end_of (span_of range) ≤ 262144
 range-ends r k range each at = (All-contains IsRange r range (All-from_recursion IsRange r each) (contains-at r k range at)).1
 
 -- a place on the page of which the range has the byte
-touched : (range : RangeData) (page : ℕ) → 1 ≤ length range.bytes → Touches (span_of range) page → (offset : ℕ) × (offset < 256) × (range.offset ≤ page * 256 + offset) × (page * 256 + offset < end_of (span_of range))
-touched range page some touches = elim (cases_lt (page * 256) range.offset) [
-  | inl before ↦ (range.offset - page * 256, omega (arith, touches.0), omega arith, omega (arith, some))
+touched : (span : Span) (page : ℕ) → 1 ≤ span.len → Touches span page → (offset : ℕ) × (offset < 256) × (span.offset ≤ page * 256 + offset) × (page * 256 + offset < span.offset + span.len)
+touched span page some touches = elim (cases_lt (page * 256) span.offset) [
+  | inl before ↦ (span.offset - page * 256, omega (arith, touches.0), omega arith, omega (arith, some))
   | inr after ↦ (0, omega arith, omega (arith, after), omega (arith, touches.1))
 ]
 
@@ -142,69 +93,77 @@ page-known s page text at =
     let inside : page < length s.texts = omega (arith, slice_get_within (kept_pages s) page text at, length-kept s) in
     (inside, same_Some text (kept_page s page) (sym at ∙ page-there s page inside))
 
-pub of-range : (pages : List (List Page)) (s : Seat) (k : ℕ) (range : RangeData) (its : SegmentPages) (seq : ℕ) (c : Change) → IsCanonical s.its → slice_get s.its.ranges k ≡ Some range
-    → segment_of range.segment pages ≡ kept_pages its → seq ≡ number_or_zero range.segment s.its.locks
-    → IsOnRange (record { segment = range.segment; page = 0; seq = seq; log = s.log; place = s.place }) (span_of range) its.texts c → IsOf pages s c
-of-range pages s k range its seq c canonical at same seq_is on =
-    let some : 1 ≤ length range.bytes = range-some s.its.ranges k range canonical.each_range at in
-    let place = touched range on.number some on.touches in
-    let p : ℕ = on.number * 256 + place.0 in
-    let byte : is_some (byte_of range.segment p s.its.ranges) ≡ true = byte_of-some range.segment p s.its.ranges k range at (byte_in-some range.segment p range refl place.2 place.3) in
-    let newer : (entry_at its.texts on.number).stable < number_or_zero range.segment s.its.locks = omega (arith, on.newer, seq_is) in
+of-span : (pages : List (List Page)) (s : Seat) (k : ℕ) (placed : PlacedSpan) (its : SegmentPages) (seq : ℕ) (c : Change) → slice_get (placed_spans s.its) k ≡ Some placed → 1 ≤ placed.span.len
+    → segment_of placed.span.segment pages ≡ kept_pages its → seq ≡ number_or_zero placed.span.segment s.its.locks
+    → IsOnRange (change_under seq s placed 0) placed.span its.texts c → IsOf pages s c
+of-span pages s k placed its seq c at some same seq_is on =
+    let place = touched placed.span on.number some on.touches in
     subst (λ (x : Change). IsOf pages s x) (sym on.is) (record {
-      log = refl;
-      place = refl;
-      number = sym seq_is;
+      placed = placed;
+      its = contains-at (placed_spans s.its) k placed at;
+      is = ap (λ (n : ℕ). change_under n s placed on.number) seq_is;
       text = kept_page its on.number;
       page = ap (λ (l : List Page). slice_get l on.number) same ∙ page-there its on.number on.within;
+      newer = on.newer;
       offset = place.0;
       on_page = place.1;
-      has = and_from (is_some (byte_of range.segment p s.its.ranges)) (ltb (entry_at its.texts on.number).stable (number_or_zero range.segment s.its.locks)) byte (lt-ltb (entry_at its.texts on.number).stable (number_or_zero range.segment s.its.locks) newer);
+      has = (place.2, place.3);
     })
 
 -- one range more is covered
-pub covers-more : (pages : List (List Page)) (s : Seat) (i : ℕ) (range : RangeData) (before after : List Change) → slice_get s.its.ranges i ≡ Some range
-    → ((c : Change) → Contains before c → Contains after c) → CoversRanges pages s i before
-    → ((page : ℕ) (text : Page) → slice_get (segment_of range.segment pages) page ≡ Some text → Touches (span_of range) page →
-    text.sequence < number_or_zero range.segment s.its.locks → Contains after (change_on s range.segment page)) → CoversRanges pages s (i + 1) after
-covers-more pages s i range before after at kept earlier new = λ k its k_in its_at page text is touches less. elim (cases_lt k i) [
-  | inl early ↦ kept (change_on s its.segment page) (earlier k its early its_at page text is touches less)
+pub covers-more : (pages : List (List Page)) (s : Seat) (i : ℕ) (placed : PlacedSpan) (before after : List Change) → slice_get (placed_spans s.its) i ≡ Some placed
+    → ((c : Change) → Contains before c → Contains after c) → CoversSpans pages s i before
+    → ((page : ℕ) (text : Page) → slice_get (segment_of placed.span.segment pages) page ≡ Some text → Touches placed.span page →
+    text.sequence < number_or_zero placed.span.segment s.its.locks → Contains after (change_on s placed page)) → CoversSpans pages s (i + 1) after
+covers-more pages s i placed before after at kept earlier new = λ k its k_in its_at page text is touches less. elim (cases_lt k i) [
+  | inl early ↦ kept (change_on s its page) (earlier k its early its_at page text is touches less)
   | inr late ↦
       let same_place : i ≡ k = omega (arith, late) in
-      let same : range ≡ its = same_Some range its (sym at ∙ ap (slice_get s.its.ranges) same_place ∙ its_at) in
-      let P : RangeData → Type 0 = λ (x : RangeData). slice_get (segment_of x.segment pages) page ≡ Some text → Touches (span_of x) page → text.sequence < number_or_zero x.segment s.its.locks → Contains after (change_on s x.segment page) in
+      let same : placed ≡ its = same_Some placed its (sym at ∙ ap (slice_get (placed_spans s.its)) same_place ∙ its_at) in
+      let P : PlacedSpan → Type 0 = λ (x : PlacedSpan). slice_get (segment_of x.span.segment pages) page ≡ Some text → Touches x.span page → text.sequence < number_or_zero x.span.segment s.its.locks → Contains after (change_on s x page) in
       subst P same (new page text) is touches less
 ]
 
 -- what a range adds covers its pages
-pub covers-range : (pages : List (List Page)) (s : Seat) (range : RangeData) (its : SegmentPages) (seq : ℕ) (after : List Change) → segment_of range.segment pages ≡ kept_pages its
-    → seq ≡ number_or_zero range.segment s.its.locks
-    → ((page : ℕ) → page < length its.texts → Touches (span_of range) page → (entry_at its.texts page).stable < seq
-    → Contains after (record { segment = range.segment; page = page; seq = seq; log = s.log; place = s.place }))
-    → (page : ℕ) (text : Page) → slice_get (segment_of range.segment pages) page ≡ Some text → Touches (span_of range) page →
-    text.sequence < number_or_zero range.segment s.its.locks → Contains after (change_on s range.segment page)
-covers-range pages s range its seq after same seq_is new page text at touches less =
+covers-span : (pages : List (List Page)) (s : Seat) (placed : PlacedSpan) (its : SegmentPages) (seq : ℕ) (after : List Change) → segment_of placed.span.segment pages ≡ kept_pages its
+    → seq ≡ number_or_zero placed.span.segment s.its.locks
+    → ((page : ℕ) → page < length its.texts → Touches placed.span page → (entry_at its.texts page).stable < seq → Contains after (change_under seq s placed page))
+    → (page : ℕ) (text : Page) → slice_get (segment_of placed.span.segment pages) page ≡ Some text → Touches placed.span page →
+    text.sequence < number_or_zero placed.span.segment s.its.locks → Contains after (change_on s placed page)
+covers-span pages s placed its seq after same seq_is new page text at touches less =
     let known = page-known its page text (sym (ap (λ (l : List Page). slice_get l page) same) ∙ at) in
     let newer : (entry_at its.texts page).stable < seq = omega (arith, less, ap (λ (p : Page). p.sequence) known.1, seq_is) in
-    subst (λ (n : ℕ). Contains after (record { segment = range.segment; page = page; seq = n; log = s.log; place = s.place })) seq_is (new page known.0 touches newer)
+    subst (λ (n : ℕ). Contains after (change_under n s placed page)) seq_is (new page known.0 touches newer)
 
 -- where there is no such segment there is no page
-pub covers-nothing : (pages : List (List Page)) (s : Seat) (range : RangeData) (after : List Change) → segment_of range.segment pages ≡ []
-    → (page : ℕ) (text : Page) → slice_get (segment_of range.segment pages) page ≡ Some text → Touches (span_of range) page →
-    text.sequence < number_or_zero range.segment s.its.locks → Contains after (change_on s range.segment page)
-covers-nothing pages s range after none page text at touches less = absurd (none-some text (sym (ap (λ (l : List Page). slice_get l page) none) ∙ at))
+pub covers-nothing : (pages : List (List Page)) (s : Seat) (placed : PlacedSpan) (after : List Change) → segment_of placed.span.segment pages ≡ []
+    → (page : ℕ) (text : Page) → slice_get (segment_of placed.span.segment pages) page ≡ Some text → Touches placed.span page →
+    text.sequence < number_or_zero placed.span.segment s.its.locks → Contains after (change_on s placed page)
+covers-nothing pages s placed after none page text at touches less = absurd (none-some text (sym (ap (λ (l : List Page). slice_get l page) none) ∙ at))
 
-pub covers-all : (pages : List (List Page)) (s : Seat) (i : ℕ) (changes : List Change) → length s.its.ranges ≤ i → CoversRanges pages s i changes → Covers pages s changes
+-- the place of a range
+placed-at : (version : GrammarVersion) (place : ℕ) (ranges : List RangeData) (k : ℕ) (range : RangeData) → slice_get ranges k ≡ Some range
+    → (placed : PlacedSpan) × (slice_get (placed_from version place ranges) k ≡ Some placed) × (placed.span ≡ span_of range)
+placed-at version place [] k range at = absurd (none-some range at)
+placed-at version place (r ∷ rs) zero range at = (record { span = span_of r; place = place + place_words version }, refl, ap span_of (same_Some r range at))
+placed-at version place (r ∷ rs) (suc k) range at = placed-at version (place + place_words version + data_len (length r.bytes)) rs k range at
+
+pub covers-all : (pages : List (List Page)) (s : Seat) (i : ℕ) (changes : List Change) → length s.its.ranges ≤ i → CoversSpans pages s i changes → Covers pages s changes
 covers-all pages s i changes all covers = λ segment page offset text at within has.
     let both = and_parts (is_some (byte_of segment (page * 256 + offset) s.its.ranges)) (ltb text.sequence (number_or_zero segment s.its.locks)) has in
     let range = byte_of-known segment (page * 256 + offset) s.its.ranges both.0 in
     let known = byte_in-known segment (page * 256 + offset) range.1 range.3 in
-    let less : text.sequence < number_or_zero range.1.segment s.its.locks = subst (λ (n : ℕ). text.sequence < number_or_zero n s.its.locks) (sym known.0) (ltb-true text.sequence (number_or_zero segment s.its.locks) both.1) in
-    let there : Contains changes (change_on s range.1.segment page) =
-    covers range.0 range.1 (omega (arith, slice_get_within s.its.ranges range.0 range.1 range.2, all)) range.2 page text
-    (ap (λ (n : ℕ). slice_get (segment_of n pages) page) known.0 ∙ at)
-    (omega (arith, known.1, within), omega (arith, known.2)) less in
-    (change_on s range.1.segment page, there, known.0, refl, ap (λ (n : ℕ). number_or_zero n s.its.locks) known.0)
+    let found = placed-at (version_of s.its.ranges) (2 + 2 * length s.its.locks) s.its.ranges range.0 range.1 range.2 in
+    let placed : PlacedSpan = found.0 in
+    let own : found.0.span.segment ≡ segment = ap (λ (x : Span). x.segment) found.2 ∙ known.0 in
+    let start : found.0.span.offset ≡ range.1.offset = ap (λ (x : Span). x.offset) found.2 in
+    let long : found.0.span.len ≡ length range.1.bytes = ap (λ (x : Span). x.len) found.2 in
+    let less : text.sequence < number_or_zero found.0.span.segment s.its.locks = subst (λ (n : ℕ). text.sequence < number_or_zero n s.its.locks) (sym own) (ltb-true text.sequence (number_or_zero segment s.its.locks) both.1) in
+    let there : Contains changes (change_on s found.0 page) =
+    covers range.0 found.0 (omega (arith, slice_get_within s.its.ranges range.0 range.1 range.2, all)) found.1 page text
+    (ap (λ (n : ℕ). slice_get (segment_of n pages) page) own ∙ at)
+    (omega (arith, known.1, within, start), omega (arith, known.2, start, long)) less in
+    (change_on s found.0 page, there, own, refl, ap (λ (n : ℕ). number_or_zero n s.its.locks) own, (omega (arith, known.1, start), omega (arith, known.2, start, long)))
 
 -- Seats
 
@@ -218,7 +177,7 @@ of-more pages seats s before after so_far adds covers = record {
     | inr new ↦ (s, Contains-append_right seats (s ∷ []) s (0, omega arith, refl), new)
   ];
   whole = λ t there. elim (Contains-append_cases seats (s ∷ []) t there) [
-    | inl old ↦ λ segment page offset text at within has. (let c = so_far.whole t old segment page offset text at within has in (c.0, adds.kept c.0 c.1, c.2, c.3, c.4))
+    | inl old ↦ λ segment page offset text at within has. (let c = so_far.whole t old segment page offset text at within has in (c.0, adds.kept c.0 c.1, c.2, c.3, c.4, c.5))
     | inr new ↦ (elim (contains-cons s [] t new) [
       | inl same ↦ subst (λ (x : Seat). Covers pages x after) same covers
       | inr nothing ↦ absurd (omega (arith, nothing.1))
@@ -228,36 +187,24 @@ of-more pages seats s before after so_far adds covers = record {
 
 -- One range
 
-pub record RangeAdded (pages : List (List Page)) (s : Seat) (i : ℕ) (before after : List Change) : Type 0 where
+pub record SpanAdded (pages : List (List Page)) (s : Seat) (i : ℕ) (before after : List Change) : Type 0 where
   pub adds : Adds (IsOf pages s) before after
-  pub covers : CoversRanges pages s (i + 1) after
+  pub covers : CoversSpans pages s (i + 1) after
 
-pub range-added : (pages : List (List Page)) (s : Seat) (i : ℕ) (range : RangeData) (span : Span) (its : SegmentPages) (seq : ℕ) (before now after : List Change)
-    → IsCanonical s.its → slice_get s.its.ranges i ≡ Some range → span ≡ span_of range → segment_of span.segment pages ≡ kept_pages its → seq ≡ number_or_zero span.segment s.its.locks
-    → Adds (IsOf pages s) before now → CoversRanges pages s i now
-    → Adds (IsOnRange (record { segment = span.segment; page = 0; seq = seq; log = s.log; place = s.place }) span its.texts) now after
-    → ((page : ℕ) → page < length its.texts → Touches span page → (entry_at its.texts page).stable < seq → Contains after (record { segment = span.segment; page = page; seq = seq; log = s.log; place = s.place }))
-    → RangeAdded pages s i before after
-range-added pages s i range span its seq before now after canonical at span_is same seq_is so_far covered adds covers =
-    let own_same : segment_of range.segment pages ≡ kept_pages its = subst (λ (x : Span). segment_of x.segment pages ≡ kept_pages its) span_is same in
-    let own_seq : seq ≡ number_or_zero range.segment s.its.locks = subst (λ (x : Span). seq ≡ number_or_zero x.segment s.its.locks) span_is seq_is in
-    let own_adds : Adds (IsOnRange (record { segment = range.segment; page = 0; seq = seq; log = s.log; place = s.place }) (span_of range) its.texts) now after =
-    subst (λ (x : Span). Adds (IsOnRange (record { segment = x.segment; page = 0; seq = seq; log = s.log; place = s.place }) x its.texts) now after) span_is adds in
-    let P : Span → Type 0 = λ (x : Span). (page : ℕ) → page < length its.texts → Touches x page → (entry_at its.texts page).stable < seq → Contains after (record { segment = x.segment; page = page; seq = seq; log = s.log; place = s.place }) in
-    let own_covers : P (span_of range) = subst P span_is covers in
-    record {
-      adds = adds-more (IsOf pages s) (IsOnRange (record { segment = range.segment; page = 0; seq = seq; log = s.log; place = s.place }) (span_of range) its.texts) before now after so_far own_adds
-          (λ c on. of-range pages s i range its seq c canonical at own_same own_seq on);
-      covers = covers-more pages s i range now after at own_adds.kept covered (covers-range pages s range its seq after own_same own_seq own_covers);
-    }
+pub span-added : (pages : List (List Page)) (s : Seat) (i : ℕ) (placed : PlacedSpan) (its : SegmentPages) (seq : ℕ) (before now after : List Change)
+    → slice_get (placed_spans s.its) i ≡ Some placed → 1 ≤ placed.span.len → segment_of placed.span.segment pages ≡ kept_pages its → seq ≡ number_or_zero placed.span.segment s.its.locks
+    → Adds (IsOf pages s) before now → CoversSpans pages s i now
+    → Adds (IsOnRange (change_under seq s placed 0) placed.span its.texts) now after
+    → ((page : ℕ) → page < length its.texts → Touches placed.span page → (entry_at its.texts page).stable < seq → Contains after (change_under seq s placed page))
+    → SpanAdded pages s i before after
+span-added pages s i placed its seq before now after at some same seq_is so_far covered adds covers = record {
+  adds = adds-more (IsOf pages s) (IsOnRange (change_under seq s placed 0) placed.span its.texts) before now after so_far adds
+      (λ c on. of-span pages s i placed its seq c at some same seq_is on);
+  covers = covers-more pages s i placed now after at adds.kept covered (covers-span pages s placed its seq after same seq_is covers);
+}
 
--- where the range is on a page that is older, the record is to be put on it
-pub range-newer : (pages : List (List Page)) (s : Seat) (i : ℕ) (range : RangeData) (span : Span) (its : SegmentPages) (seq : ℕ) → IsCanonical s.its → slice_get s.its.ranges i ≡ Some range → span ≡ span_of range
-    → segment_of span.segment pages ≡ kept_pages its → seq ≡ number_or_zero span.segment s.its.locks
-    → ((c : Change) × IsOnRange (record { segment = span.segment; page = 0; seq = seq; log = s.log; place = s.place }) span its.texts c) → HasOf pages s
-range-newer pages s i range span its seq canonical at span_is same seq_is on =
-    let own_same : segment_of range.segment pages ≡ kept_pages its = subst (λ (x : Span). segment_of x.segment pages ≡ kept_pages its) span_is same in
-    let own_seq : seq ≡ number_or_zero range.segment s.its.locks = subst (λ (x : Span). seq ≡ number_or_zero x.segment s.its.locks) span_is seq_is in
-    let own_on : IsOnRange (record { segment = range.segment; page = 0; seq = seq; log = s.log; place = s.place }) (span_of range) its.texts on.0 =
-    subst (λ (x : Span). IsOnRange (record { segment = x.segment; page = 0; seq = seq; log = s.log; place = s.place }) x its.texts on.0) span_is on.1 in
-    (on.0, of-range pages s i range its seq on.0 canonical at own_same own_seq own_on)
+-- where the range is on a page that is older, it is to be put on it
+pub span-newer : (pages : List (List Page)) (s : Seat) (i : ℕ) (placed : PlacedSpan) (its : SegmentPages) (seq : ℕ) → slice_get (placed_spans s.its) i ≡ Some placed → 1 ≤ placed.span.len
+    → segment_of placed.span.segment pages ≡ kept_pages its → seq ≡ number_or_zero placed.span.segment s.its.locks
+    → ((c : Change) × IsOnRange (change_under seq s placed 0) placed.span its.texts c) → HasOf pages s
+span-newer pages s i placed its seq at some same seq_is on = (on.0, of-span pages s i placed its seq on.0 at some same seq_is on.1)

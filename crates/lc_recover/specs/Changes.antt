@@ -1,13 +1,16 @@
--- Which records are to be put on which pages, while the records are walked.
+-- Which ranges are to be put on which pages, while the records are walked.
 use Rattle.std.specs.Prelude.{◌≡◌, ◌⊎◌, ℕ, ◌+◌, ◌*◌, ◌<◌, List, [], ◌∷◌, ◌++◌, length, map, Contains, Some, IsTrue, slice_get}
 use Rattle.lc_record.specs.Content.{segment_of}
 use Rattle.lc_record.specs.GrammarVersion.{end_of}
 use Rattle.lc_record.specs.Newest.{number_or_zero, has_byte}
+use Rattle.lc_record.specs.Spans.{placed_spans}
+use Rattle.lc_record.specs.declared.placed_span.PlacedSpan.{PlacedSpan}
 use Rattle.lc_record.specs.declared.record.Record.{Record}
 use Rattle.lc_record.specs.declared.span.Span.{Span}
 use Rattle.lc_page.specs.PageVector.{entry_at}
 use Rattle.lc_page.specs.declared.entry.Entry.{Entry}
 use Rattle.lc_model.specs.Merge.{Page}
+use Rattle.lc_recover.specs.Kept.{Reaches}
 use Rattle.lc_recover.specs.Reading.{placed_in}
 use Rattle.lc_recover.specs.declared.change.Change.{Change}
 
@@ -37,12 +40,29 @@ Touches span page = (span.offset < (page + 1) * 256) × (page * 256 < end_of spa
 abbrev pub on_page : Change → ℕ → Change
 on_page change page = record change { page = page }
 
+-- the change of a range of the record of a seat on a page, under a number
+abbrev pub change_under : ℕ → Seat → PlacedSpan → ℕ → Change
+change_under seq s placed page = record {
+  segment = placed.span.segment;
+  page = page;
+  seq = seq;
+  log = s.log;
+  place = s.place;
+  words = placed.place;
+  offset = placed.span.offset;
+  len = placed.span.len;
+}
+
+-- under its record's
+abbrev pub change_on : Seat → PlacedSpan → ℕ → Change
+change_on s placed page = change_under (number_or_zero placed.span.segment s.its.locks) s placed page
+
 -- what is there stays, and what is new is such
 pub record Adds (Such : Change → Type 0) (before after : List Change) : Type 0 where
   pub kept : (c : Change) → Contains before c → Contains after c
   pub only : (c : Change) → Contains after c → Contains before c ⊎ Such c
 
--- the record is to be put on the page, which the range has a byte on
+-- the range is to be put on the page, which it has a byte on
 pub record IsOnRange (change : Change) (span : Span) (texts : List Entry) (c : Change) : Type 0 where
   pub number : ℕ
   pub is : c ≡ on_page change number
@@ -50,18 +70,19 @@ pub record IsOnRange (change : Change) (span : Span) (texts : List Entry) (c : C
   pub touches : Touches span number
   pub newer : (entry_at texts number).stable < change.seq
 
--- the record of the seat is to be put on the page of the change
+-- the change is of a range of the record of the seat, which has a byte on the page, and a number above the page's
 pub record IsOf (pages : List (List Page)) (s : Seat) (c : Change) : Type 0 where
-  pub log : c.log ≡ s.log
-  pub place : c.place ≡ s.place
-  pub number : number_or_zero c.segment s.its.locks ≡ c.seq
+  pub placed : PlacedSpan
+  pub its : Contains (placed_spans s.its) placed
+  pub is : c ≡ change_on s placed c.page
   pub text : Page
   pub page : slice_get (segment_of c.segment pages) c.page ≡ Some text
+  pub newer : text.sequence < c.seq
   pub offset : ℕ
   pub on_page : offset < 256
-  pub has : IsTrue (has_byte c.segment (c.page * 256 + offset) text.sequence s.its)
+  pub has : Reaches c (c.page * 256 + offset)
 
--- the record of the seat is to be put on some page
+-- a range of the record of the seat is to be put on some page
 abbrev pub HasOf : List (List Page) → Seat → Type 0
 HasOf pages s = (c : Change) × IsOf pages s c
 
@@ -69,12 +90,13 @@ HasOf pages s = (c : Change) × IsOf pages s c
 abbrev pub SomeIsOf : List (List Page) → List Seat → Type 0
 SomeIsOf pages seats = (s : Seat) × Contains seats s × HasOf pages s
 
--- all pages that the record of the seat is to be put on are among these
+-- for each byte that the record of the seat has for an older page there is one of these
 abbrev pub Covers : List (List Page) → Seat → List Change → Type 0
 Covers pages s changes =
     (segment page offset : ℕ) (text : Page) → slice_get (segment_of segment pages) page ≡ Some text → offset < 256 →
     IsTrue (has_byte segment (page * 256 + offset) text.sequence s.its) →
     (c : Change) × Contains changes c × (c.segment ≡ segment) × (c.page ≡ page) × (c.seq ≡ number_or_zero segment s.its.locks)
+    × Reaches c (page * 256 + offset)
 
 -- these are the changes of these records
 pub record AreOf (pages : List (List Page)) (seats : List Seat) (changes : List Change) : Type 0 where

@@ -1,9 +1,10 @@
--- The store that the kept words and pages stand for, and which records are to be put on which pages.
-use Rattle.std.specs.Prelude.{ℕ, ◌≡◌, ◌+◌, ◌-◌, ◌*◌, ◌<◌, ◌≤◌, ◌⊎◌, max, List, [], ◌∷◌, length, map, drop, All, Contains, Some, IsTrue, slice_get, slice_index_or}
-use Rattle.lc_record.specs.Codec.{BeginsWith}
+-- The store that the kept words and pages stand for, and which ranges are to be put on which pages.
+use Rattle.std.specs.Prelude.{ℕ, ◌≡◌, ◌+◌, ◌-◌, ◌*◌, ◌<◌, ◌≤◌, ◌⊎◌, max, List, [], ◌∷◌, length, map, take, drop, All, Contains, Some, IsTrue, slice_get, slice_index_or}
 use Rattle.lc_record.specs.Content.{segment_of}
 use Rattle.lc_record.specs.Newest.{number_or_zero, has_byte}
-use Rattle.lc_record.specs.Record.{record_len}
+use Rattle.lc_record.specs.Record.{IsCanonical}
+use Rattle.lc_record.specs.Words.{bytes_of}
+use Rattle.lc_record.specs.declared.record.RangeData.{RangeData}
 use Rattle.lc_record.specs.declared.record.Record.{Record}
 use Rattle.lc_log.specs.LogText.{IsLogText}
 use Rattle.lc_model.specs.Recovered.{IsBehind}
@@ -19,42 +20,53 @@ pub record IsKept (logs : List (List ℕ)) (segments : List SegmentPages) (store
   pub texts : (log : ℕ) → log < length logs → IsLogText (slice_index_or logs log []) (slice_index_or store.logs log [])
   pub pages : store.pages ≡ map kept_pages segments
 
--- this record stands at a place of a log
-pub record StandsAt (logs : List (List ℕ)) (log place : ℕ) (r : Record) : Type 0 where
-  pub within : log < length logs
-  pub begins : BeginsWith (drop place (slice_index_or logs log [])) r (record_len r)
+-- the change is of this range: it says where the range stands in its segment, and where the words of its bytes stand
+pub record Names (logs : List (List ℕ)) (c : Change) (range : RangeData) : Type 0 where
+  pub within : c.log < length logs
+  pub segment : range.segment ≡ c.segment
+  pub offset : range.offset ≡ c.offset
+  pub len : length range.bytes ≡ c.len
+  pub bytes : take c.len (bytes_of (drop c.words (drop c.place (slice_index_or logs c.log [])))) ≡ range.bytes
 
--- it is a record of its log, which stands at its place, has this number, and has a byte on its page, whose sequence is
--- below the number
+-- the range of the change has a byte for the place
+abbrev pub Reaches : Change → ℕ → Type 0
+Reaches c place = (c.offset ≤ place) × (place < c.offset + c.len)
+
+-- it is of a range of a record of its log, which has this number, and a byte on the page, whose sequence is below the number
 pub record IsChange (logs : List (List ℕ)) (store : Store) (c : Change) : Type 0 where
   pub changing : Record
   pub among : Contains (slice_index_or store.logs c.log []) changing
-  pub stands : StandsAt logs c.log c.place changing
+  pub canonical : IsCanonical changing
+  pub range : RangeData
+  pub its : Contains changing.ranges range
+  pub names : Names logs c range
   pub number : number_or_zero c.segment changing.locks ≡ c.seq
   pub text : Page
   pub page : slice_get (segment_of c.segment store.pages) c.page ≡ Some text
+  pub newer : text.sequence < c.seq
   pub offset : ℕ
   pub on_page : offset < 256
-  pub has : IsTrue (has_byte c.segment (c.page * 256 + offset) text.sequence changing)
+  pub has : Reaches c (c.page * 256 + offset)
 
--- the first stands before the second: of a lower segment, or page, or number
+-- the first stands before the second: of a lower segment or page, or of the same page and no greater number
 abbrev pub IsBefore : Change → Change → Type 0
 IsBefore c d =
     (c.segment < d.segment)
-    ⊎ ((c.segment ≡ d.segment) × ((c.page < d.page) ⊎ ((c.page ≡ d.page) × (c.seq < d.seq))))
+    ⊎ ((c.segment ≡ d.segment) × ((c.page < d.page) ⊎ ((c.page ≡ d.page) × (c.seq ≤ d.seq))))
 
 -- each stands before all behind it
 abbrev pub AreAscending : List Change → Type 0
 AreAscending [] = Unit {0}
 AreAscending (c ∷ cs) = All (IsBefore c) cs × AreAscending cs
 
--- the changes are just those that are to be made, in order
+-- the changes are of ranges that are to be put on pages, and for each byte there is one of each record that has it; in order
 pub record IsIndex (logs : List (List ℕ)) (store : Store) (changes : List Change) : Type 0 where
   pub sound : All (IsChange logs store) changes
   pub whole : (segment page offset : ℕ) (text : Page) (r : Record) →
       slice_get (segment_of segment store.pages) page ≡ Some text → Contains (all_records store) r → offset < 256 →
       IsTrue (has_byte segment (page * 256 + offset) text.sequence r) →
       (c : Change) × Contains changes c × (c.segment ≡ segment) × (c.page ≡ page) × (c.seq ≡ number_or_zero segment r.locks)
+      × Reaches c (page * 256 + offset)
   pub ascending : AreAscending changes
 
 -- no fault is found in the store

@@ -1,13 +1,11 @@
--- The changes of one page, and the records that are put on it.
+-- The changes of one page, and the ranges that are put on it.
 use Rattle.std.specs.Prelude.{◌⊎◌, ◌≡◌, ◌≢◌, ◌↔◌, ℕ, ◌+◌, ◌*◌, ◌<◌, ◌≤◌, Bool, not, ◌&&◌, ◌==◌, List, [], ◌∷◌, ◌++◌, length, filter, drop, Option, Some, All, Contains, slice_get}
-use Rattle.std.specs.List.{flat_map}
 use Rattle.std.specs.Option.{option_or}
 use Rattle.lc_record.specs.Content.{segment_of}
 use Rattle.lc_record.specs.Newest.{byte_of, IsByNumber}
-use Rattle.lc_record.specs.declared.record.Record.{Record}
 use Rattle.lc_record.specs.declared.record.RangeData.{RangeData}
-use Rattle.lc_model.specs.Merge.{Page, Store, all_records, AreOnce}
-use Rattle.lc_recover.specs.Kept.{StandsAt, AreAscending, IsIndex}
+use Rattle.lc_model.specs.Merge.{Page, Store, all_records}
+use Rattle.lc_recover.specs.Kept.{Names, AreAscending, IsIndex}
 use Rattle.lc_recover.specs.declared.change.Change.{Change}
 
 -- it is of this page of a segment
@@ -18,20 +16,16 @@ IsOf segment page c = (c.segment ≡ segment) × (c.page ≡ page)
 abbrev pub IsOfAnother : ℕ → ℕ → Change → Type 0
 IsOfAnother segment page c = IsOf segment page c → ⊥
 
--- at the place of each change stands the record
-abbrev pub AreAt : List (List ℕ) → List Change → List Record → Type 0
+-- each change is of the range at its place
+abbrev pub AreAt : List (List ℕ) → List Change → List RangeData → Type 0
 AreAt logs [] [] = Unit {0}
 AreAt logs [] (r ∷ rs) = ⊥
 AreAt logs (c ∷ cs) [] = ⊥
-AreAt logs (c ∷ cs) (r ∷ rs) = StandsAt logs c.log c.place r × AreAt logs cs rs
+AreAt logs (c ∷ cs) (r ∷ rs) = Names logs c r × AreAt logs cs rs
 
--- the ranges of these records, one after another
-abbrev pub all_ranges : List Record → List RangeData
-all_ranges records = flat_map (λ (r : Record). r.ranges) records
-
--- the byte of a page with these records put on it, one after another
-abbrev pub byte_with : ℕ → ℕ → List Record → List ℕ → ℕ → Option ℕ
-byte_with segment page records bytes offset = option_or (byte_of segment (page * 256 + offset) (all_ranges records)) (slice_get bytes offset)
+-- the byte of a page with these ranges put on it, one after another
+abbrev pub byte_with : ℕ → ℕ → List RangeData → List ℕ → ℕ → Option ℕ
+byte_with segment page ranges bytes offset = option_or (byte_of segment (page * 256 + offset) ranges) (slice_get bytes offset)
 
 -- the changes in front are all of the first one's page, and in an ascending list none behind them is
 pub record IsFirstPage (changes front : List Change) : Type 0 where
@@ -50,19 +44,19 @@ pub record AreOfPage (changes : List Change) (segment page : ℕ) (here : List C
   pub none_before : All (IsOfAnother segment page) before
   pub none_behind : All (IsOfAnother segment page) behind
 
--- the records of a page's changes, put on its bytes one after another, make of each byte that of the record with the
+-- the ranges of a page's changes, put on its bytes one after another, make of each byte that of the record with the
 -- greatest number
 abbrev pub PagesMerge : Type 0
-PagesMerge = (logs : List (List ℕ)) (store : Store) (changes here : List Change) (segment page : ℕ) (text : Page) (records : List Record)
-    → IsIndex logs store changes → AreOnce store → AreOfPage changes segment page here
-    → slice_get (segment_of segment store.pages) page ≡ Some text → AreAt logs here records
+PagesMerge = (logs : List (List ℕ)) (store : Store) (changes here : List Change) (segment page : ℕ) (text : Page) (ranges : List RangeData)
+    → IsIndex logs store changes → AreOfPage changes segment page here
+    → slice_get (segment_of segment store.pages) page ≡ Some text → AreAt logs here ranges
     → (offset : ℕ) → offset < 256
-    → IsByNumber segment (page * 256 + offset) text.sequence (all_records store) (slice_get text.bytes offset) (byte_with segment page records text.bytes offset)
+    → IsByNumber segment (page * 256 + offset) text.sequence (all_records store) (slice_get text.bytes offset) (byte_with segment page ranges text.bytes offset)
 
--- where the changes are those to be made, some records stand at the places of the page's
-abbrev pub RecordsStand : Type 0
-RecordsStand = (logs : List (List ℕ)) (store : Store) (changes here : List Change) (segment page : ℕ)
-    → IsIndex logs store changes → AreOfPage changes segment page here → (records : List Record) × AreAt logs here records
+-- where the changes are those to be made, there are ranges that the page's are of
+abbrev pub RangesStand : Type 0
+RangesStand = (logs : List (List ℕ)) (store : Store) (changes here : List Change) (segment page : ℕ)
+    → IsIndex logs store changes → AreOfPage changes segment page here → (ranges : List RangeData) × AreAt logs here ranges
 
 -- no two of these, one of each list, are of the same page
 abbrev pub AreApart : List Change → List Change → Type 0

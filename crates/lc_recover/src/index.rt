@@ -1,9 +1,8 @@
-//! The index of the changes: which records are to be put on which pages.
+//! The index of the changes: which ranges are to be put on which pages.
 ghost use Rattle.std.specs.Prelude.{◌≡◌, ◌⊎◌, ℕ, ◌+◌, ◌*◌, ◌<◌, ◌≤◌, [], ◌∷◌, ◌++◌, List, All, Contains, IfOk, OnErr, length, map};
 ghost use Rattle.lc_record.specs.Newest.{number_or_zero};
 ghost use Rattle.lc_record.specs.Record.{IsCanonical};
 ghost use Rattle.lc_page.specs.PageVector.{entry_at};
-ghost use Rattle.lc_model.specs.Merge.{AreOnce};
 ghost use Rattle.lc_recover.specs.Pages.{kept_pages};
 ghost use Rattle.lc_recover.specs.Kept.{IsIndex};
 ghost use Rattle.lc_recover.specs.Reading.{store_of};
@@ -18,15 +17,15 @@ use lc_page::PageVector;
 use lc_record::{Items, Span, View};
 use std::alloc::{AllocError, Global};
 
-/// The records that are newer than pages that they have bytes on, ascending by segment, page and number. Each record is
-/// read once; then the changes are sorted. Memory is wanted only where there is a change.
+/// The ranges of records that are newer than pages that they have bytes on, ascending by segment, page and number. Each
+/// record is read once; then the changes are sorted. Memory is wanted only where there is a change.
 pub(crate) fn index(
     alloc: Global,
     logs: &[Items<u64>],
     segments: &[SegmentPages],
 ) -> Result<Vec<Change>, AllocError>
     requires { All (λ (s : SegmentPages). length s.texts ≤ 1024) segments.now }
-    ensures index { IfOk result (λ changes. AreOnce (store_of logs.now segments.now) → IsIndex logs.now (store_of logs.now segments.now) changes.items) }
+    ensures index { IfOk result (λ changes. IsIndex logs.now (store_of logs.now segments.now) changes.items) }
     ensures memory { OnErr result (SomeIsOf (map kept_pages segments.now) (seats_from 0 logs.now)) }
 {
     let mut changes = changes_of(alloc, logs, segments)?;
@@ -92,6 +91,9 @@ fn add_record(
             seq: number(view, span.segment),
             log,
             place,
+            words: placed.place,
+            offset: span.offset,
+            len: span.len,
         };
         add_range(changes, change, span, &pages.texts)?;
     }
@@ -147,16 +149,11 @@ fn behind_page(span: Span) -> u32
     (u64::from(span.offset) + span.len).div_ceil(PAGE_LEN) as u32
 }
 
-// Adds a change, but for one that was added last: where two ranges of a record touch one page, it takes memory once.
+// Adds a change.
 fn add(changes: &mut Vec<Change>, change: Change) -> Result<(), AllocError>
     ensures adds { IfOk result (λ _. Adds (λ c. c ≡ change) changes.old.items changes.new.items) }
     ensures there { IfOk result (λ _. Contains changes.new.items change) }
 {
-    if let Some(last) = changes.last() {
-        if *last == change {
-            return Ok(());
-        }
-    }
     changes.push(change)?;
     Ok(())
 }

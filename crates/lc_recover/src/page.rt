@@ -1,13 +1,13 @@
-//! The bytes of one page: the records that are newer than it are put on it, in the order of their numbers.
-ghost use Rattle.std.specs.Prelude.{◌≡◌, ℕ, ◌*◌, ◌+◌, ◌<◌, List, All, length, slice_get};
+//! The bytes of one page: the ranges that are newer than it are put on it, in the order of their numbers.
+ghost use Rattle.std.specs.Prelude.{◌≡◌, ℕ, ◌*◌, ◌+◌, ◌<◌, [], List, All, length, take, drop, slice_get, slice_index_or};
 ghost use Rattle.std.specs.Option.{option_or};
-ghost use Rattle.lc_record.specs.Newest.{byte_of};
-ghost use Rattle.lc_record.specs.declared.record.Record.{Record};
-ghost use Rattle.lc_recover.specs.Kept.{StandsAt};
+ghost use Rattle.lc_record.specs.Newest.{byte_from};
+ghost use Rattle.lc_record.specs.Words.{bytes_of};
+ghost use Rattle.lc_record.specs.declared.record.RangeData.{RangeData};
 ghost use Rattle.lc_recover.specs.Page.{IsOf, AreAt, byte_with, IsFirstPage};
 
 use crate::change::Change;
-use lc_record::{Items, PAGE, View};
+use lc_record::{Items, PAGE, put_words};
 
 /// The changes at the front that are of the first one's page; none where there are no changes.
 pub(crate) fn first_page(changes: &[Change]) -> &[Change]
@@ -24,30 +24,43 @@ pub(crate) fn first_page(changes: &[Change]) -> &[Change]
     changes
 }
 
-/// Puts the records of these changes on the bytes of their page, one after another.
+/// Puts the ranges of these changes on the bytes of their page, one after another.
 pub(crate) fn put_changes(logs: &[Items<u64>], changes: &[Change], bytes: &mut [u8])
     requires { length bytes.old ≡ 256 }
     ensures len { length bytes.new ≡ 256 }
-    ensures put { (records : List Record) (segment page : ℕ) → AreAt logs.now changes.now records → All (IsOf segment page) changes.now →
-        (offset : ℕ) → offset < 256 → slice_get bytes.new offset ≡ byte_with segment page records bytes.old offset }
+    ensures put { (ranges : List RangeData) (segment page : ℕ) → AreAt logs.now changes.now ranges → All (IsOf segment page) changes.now →
+        (offset : ℕ) → offset < 256 → slice_get bytes.new offset ≡ byte_with segment page ranges bytes.old offset }
 {
     for change in changes {
-        put_change(logs, *change, bytes);
+        put_change(logs, change, bytes);
     }
 }
 
-// A change at whose place no record begins puts nothing.
-fn put_change(logs: &[Items<u64>], change: Change, bytes: &mut [u8])
+// A change at whose place no words stand puts nothing.
+fn put_change(logs: &[Items<u64>], change: &Change, bytes: &mut [u8])
     requires { length bytes.old ≡ 256 }
     ensures len { length bytes.new ≡ 256 }
-    ensures put { (r : Record) → StandsAt logs.now change.log change.place r → (offset : ℕ) → offset < 256 →
-        slice_get bytes.new offset ≡ option_or (byte_of change.segment (change.page * 256 + offset) r.ranges) (slice_get bytes.old offset) }
-    ensures none { ((r : Record) → StandsAt logs.now change.log change.place r → ⊥) → bytes.new ≡ bytes.old }
+    ensures put { (offset : ℕ) → offset < 256 → slice_get bytes.new offset ≡ option_or
+        (byte_from change.now.offset (take change.now.len (bytes_of (drop change.now.words (drop change.now.place (slice_index_or logs.now change.now.log []))))) (change.now.page * 256 + offset))
+        (slice_get bytes.old offset) }
 {
     let Some(log) = logs.get(change.log) else {
         return;
     };
-    if let Some(record) = View::at(log.as_slice(), change.place) {
-        record.put_on(change.segment, change.page as usize * PAGE as usize, bytes);
-    }
+    let words = behind(behind(log.as_slice(), change.place), change.words);
+    let front = change.page as usize * PAGE as usize;
+    put_words(
+        words,
+        change.offset as usize,
+        change.len as usize,
+        front,
+        bytes,
+    );
+}
+
+// The words behind so many; none where there are not so many.
+fn behind(words: &[u64], place: usize) -> &[u64]
+    ensures { result.now ≡ drop place words.now }
+{
+    &words[place.min(words.len())..]
 }

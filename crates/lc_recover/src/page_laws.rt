@@ -1,14 +1,14 @@
 //! What the bytes of a page are made of.
 ghost use Rattle.std.specs.Prelude.{List};
 ghost use Rattle.lc_recover.specs.declared.change.Change.{Change};
-ghost use Rattle.lc_recover.specs.Page.{PagesMerge, RecordsStand, TakenPageByPage, pages_of, AreListed, AreDifferent, BeginWithTheFirst};
+ghost use Rattle.lc_recover.specs.Page.{PagesMerge, RangesStand, TakenPageByPage, pages_of, AreListed, AreDifferent, BeginWithTheFirst};
 
-/// The records of a page's changes, put on its bytes one after another, make of each byte that of the record with the
+/// The ranges of a page's changes, put on its bytes one after another, make of each byte that of the record with the
 /// greatest number among those that cover it and are newer than the page, or the page's where there is none; and there
-/// are such records.
+/// are such ranges.
 pub(crate) fn page_merged()
     ensures merged { PagesMerge }
-    ensures stand { RecordsStand }
+    ensures stand { RangesStand }
 {}
 
 /// Where the first page is taken from the front again and again, each has all the changes of its page.

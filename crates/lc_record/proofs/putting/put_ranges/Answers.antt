@@ -30,7 +30,7 @@ loop-preserved c =
           elim c.if-range-segment.branch [
             | then-range-segment w ↦
                 ap (λ (b : List ℕ). slice_get b k) w.bytes-is
-                ∙ w.put_range.ensures.put k (omega (arith, lt, l.auto.bytes))
+                ∙ w.put_words.ensures.put k (omega (arith, lt, l.auto.bytes))
                 ∙ ap (λ (o : Option ℕ). option_or o (slice_get l.bytes k)) (sym (byte_in-same c.args.segment (c.args.offset + k) range w.if-range-segment.true))
             | else-range-segment w ↦
                 ap (λ (b : List ℕ). slice_get b k) w.bytes-is

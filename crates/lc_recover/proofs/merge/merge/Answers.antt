@@ -39,10 +39,10 @@ lent-own : (logs logs' : List (List ℕ)) (segments : List SegmentPages) → log
 lent-own logs logs' segments one own = subst (λ (l : List (List ℕ)). AreOwn (store_of l segments)) one own
 
 lent-index : (logs logs' : List (List ℕ)) (segments segments' : List SegmentPages) (changes : List Change) → logs' ≡ logs → segments' ≡ segments
-    → (AreOnce (store_of logs' segments') → IsIndex logs' (store_of logs' segments') changes) → AreOnce (store_of logs segments) → IsIndex logs (store_of logs segments) changes
+    → IsIndex logs' (store_of logs' segments') changes → IsIndex logs (store_of logs segments) changes
 lent-index logs logs' segments segments' changes one two index =
-    subst (λ (l : List (List ℕ)). AreOnce (store_of l segments) → IsIndex l (store_of l segments) changes) one
-    (subst (λ (l : List SegmentPages). AreOnce (store_of logs' l) → IsIndex logs' (store_of logs' l) changes) two index)
+    subst (λ (l : List (List ℕ)). IsIndex l (store_of l segments) changes) one
+    (subst (λ (l : List SegmentPages). IsIndex logs' (store_of logs' l) changes) two index)
 
 pub returns-in_err-own-clause-refused : goal.returns-in_err-own-clause-refused
 returns-in_err-own-clause-refused c =
@@ -181,5 +181,5 @@ returns-clause-merged c store kept =
       no_gap = gap-none logs segments locks are counts counts_are new counted;
       count = ap (λ (l : List ℕ). length l) items ∙ new-long logs segments locks are counts counts_are new counted;
       numbers = λ segment some inside. ap (λ (l : List ℕ). slice_get l (segment - 1)) items ∙ new-count logs segments locks are counts counts_are new counted segment some inside;
-      index = lent-index logs c.as_slice-7.result.now segments c.as_slice-8.result.now c.in_ok-changes.changes.items c.as_slice-7.ensures.value c.as_slice-8.ensures.value c.in_ok-changes.ensures.index are_once;
+      index = lent-index logs c.as_slice-7.result.now segments c.as_slice-8.result.now c.in_ok-changes.changes.items c.as_slice-7.ensures.value c.as_slice-8.ensures.value c.in_ok-changes.ensures.index;
     })

@@ -10,7 +10,7 @@ use Rattle.lc_recover.proofs.page.first_page.Goals as goal
 use Rattle.lc_recover.proofs.page.first_page.Goals.{then-change-first-via-then-change-first, then-change-first-via-else-change-first+then-change-first-2}
 
 no_change : Change
-no_change = record { segment = 0; page = 0; seq = 0; log = 0; place = 0 }
+no_change = record { segment = 0; page = 0; seq = 0; log = 0; place = 0; words = 0; offset = 0; len = 0 }
 
 pub returns-then-change-first : goal.returns-then-change-first
 unfolding no_change

@@ -20,18 +20,18 @@ use Rattle.lc_recover.proofs.page_steps.begin_page.Goals as goal
 
 -- src/page_steps.rt:90:19
 pub overflow_sub-segment : goal.overflow_sub-segment
-overflow_sub-segment g c = some_there c.args.geometry.now c.args.writes.now c.requires.sound c.deref.result.now c.first_page-changes.result.now (record { segment = 0; page = 0; seq = 0; log = 0; place = 0 }) c.deref.ensures.value c.requires.left c.first_page-changes.ensures
+overflow_sub-segment g c = some_there c.args.geometry.now c.args.writes.now c.requires.sound c.deref.result.now c.first_page-changes.result.now (record { segment = 0; page = 0; seq = 0; log = 0; place = 0; words = 0; offset = 0; len = 0 }) c.deref.ensures.value c.requires.left c.first_page-changes.ensures
 
 -- src/page_steps.rt:91:18
 pub index-pages-requires : goal.index-pages-requires
-index-pages-requires g c = omega (arith, c.args.writes.now.kept.segments.ok.0, lies_within c.args.geometry.now c.args.writes.now c.requires.sound c.deref.result.now c.first_page-changes.result.now (record { segment = 0; page = 0; seq = 0; log = 0; place = 0 }) c.deref.ensures.value c.requires.left c.first_page-changes.ensures)
+index-pages-requires g c = omega (arith, c.args.writes.now.kept.segments.ok.0, lies_within c.args.geometry.now c.args.writes.now c.requires.sound c.deref.result.now c.first_page-changes.result.now (record { segment = 0; page = 0; seq = 0; log = 0; place = 0; words = 0; offset = 0; len = 0 }) c.deref.ensures.value c.requires.left c.first_page-changes.ensures)
 
 module _ (g : Over) (c : goal.After-bytes-1 g) where
   abbrev p_change : Change
-  p_change = get_or c.first_page-changes.result.now 0 (record { segment = 0; page = 0; seq = 0; log = 0; place = 0 })
+  p_change = get_or c.first_page-changes.result.now 0 (record { segment = 0; page = 0; seq = 0; log = 0; place = 0; words = 0; offset = 0; len = 0 })
 
   p_next : IsNext c.args.writes.now p_change c.index-pages.result.now
-  p_next = is_next c.args.geometry.now c.args.writes.now c.requires.sound c.deref.result.now c.first_page-changes.result.now (record { segment = 0; page = 0; seq = 0; log = 0; place = 0 }) c.deref.ensures.value c.requires.left c.first_page-changes.ensures c.index-pages.result.now _ c.index-pages.ensures
+  p_next = is_next c.args.geometry.now c.args.writes.now c.requires.sound c.deref.result.now c.first_page-changes.result.now (record { segment = 0; page = 0; seq = 0; log = 0; place = 0; words = 0; offset = 0; len = 0 }) c.deref.ensures.value c.requires.left c.first_page-changes.ensures c.index-pages.result.now _ c.index-pages.ensures
 
 -- src/page_steps.rt:93:27
 pub page-requires : goal.page-requires
@@ -44,17 +44,17 @@ page-requires g c =
 
 -- src/page_steps.rt:95:18
 pub index-number-requires : goal.index-number-requires
-index-number-requires g c = omega (arith, c.args.writes.now.merged.numbers.ok.0, lies_below c.args.geometry.now c.args.writes.now c.requires.sound c.deref.result.now c.first_page-changes.result.now (record { segment = 0; page = 0; seq = 0; log = 0; place = 0 }) c.deref.ensures.value c.requires.left c.first_page-changes.ensures)
+index-number-requires g c = omega (arith, c.args.writes.now.merged.numbers.ok.0, lies_below c.args.geometry.now c.args.writes.now c.requires.sound c.deref.result.now c.first_page-changes.result.now (record { segment = 0; page = 0; seq = 0; log = 0; place = 0; words = 0; offset = 0; len = 0 }) c.deref.ensures.value c.requires.left c.first_page-changes.ensures)
 
 module _ (g : Over) (c : goal.After-bytes-5-1 g) where
   abbrev change : Change
-  change = get_or c.first_page-changes.result.now 0 (record { segment = 0; page = 0; seq = 0; log = 0; place = 0 })
+  change = get_or c.first_page-changes.result.now 0 (record { segment = 0; page = 0; seq = 0; log = 0; place = 0; words = 0; offset = 0; len = 0 })
 
   near : ComesNext c.args.writes.now.merged.changes.items c.args.writes.now.next c.first_page-changes.result.now change
-  near = nearest c.args.geometry.now c.args.writes.now c.requires.sound c.deref.result.now c.first_page-changes.result.now (record { segment = 0; page = 0; seq = 0; log = 0; place = 0 }) c.deref.ensures.value c.requires.left c.first_page-changes.ensures
+  near = nearest c.args.geometry.now c.args.writes.now c.requires.sound c.deref.result.now c.first_page-changes.result.now (record { segment = 0; page = 0; seq = 0; log = 0; place = 0; words = 0; offset = 0; len = 0 }) c.deref.ensures.value c.requires.left c.first_page-changes.ensures
 
   next : IsNext c.args.writes.now change c.index-pages.result.now
-  next = is_next c.args.geometry.now c.args.writes.now c.requires.sound c.deref.result.now c.first_page-changes.result.now (record { segment = 0; page = 0; seq = 0; log = 0; place = 0 }) c.deref.ensures.value c.requires.left c.first_page-changes.ensures c.index-pages.result.now _ c.index-pages.ensures
+  next = is_next c.args.geometry.now c.args.writes.now c.requires.sound c.deref.result.now c.first_page-changes.result.now (record { segment = 0; page = 0; seq = 0; log = 0; place = 0; words = 0; offset = 0; len = 0 }) c.deref.ensures.value c.requires.left c.first_page-changes.ensures c.index-pages.result.now _ c.index-pages.ensures
 
 -- src/page_steps.rt:96:23
 pub begin-requires-clause-page : goal.begin-requires-clause-page
@@ -74,10 +74,10 @@ begin-requires-clause-seq g c =
 
 module _ (g : Over) (c : goal.After-begin-arg-1 g) where
   abbrev b_change : Change
-  b_change = get_or c.first_page-changes.result.now 0 (record { segment = 0; page = 0; seq = 0; log = 0; place = 0 })
+  b_change = get_or c.first_page-changes.result.now 0 (record { segment = 0; page = 0; seq = 0; log = 0; place = 0; words = 0; offset = 0; len = 0 })
 
   b_next : IsNext c.args.writes.now b_change c.index-pages.result.now
-  b_next = is_next c.args.geometry.now c.args.writes.now c.requires.sound c.deref.result.now c.first_page-changes.result.now (record { segment = 0; page = 0; seq = 0; log = 0; place = 0 }) c.deref.ensures.value c.requires.left c.first_page-changes.ensures c.index-pages.result.now _ c.index-pages.ensures
+  b_next = is_next c.args.geometry.now c.args.writes.now c.requires.sound c.deref.result.now c.first_page-changes.result.now (record { segment = 0; page = 0; seq = 0; log = 0; place = 0; words = 0; offset = 0; len = 0 }) c.deref.ensures.value c.requires.left c.first_page-changes.ensures c.index-pages.result.now _ c.index-pages.ensures
 
 -- src/page_steps.rt:97:22
 pub begin-requires-in-Ok : goal.begin-requires-in-Ok
@@ -86,13 +86,13 @@ begin-requires-in-Ok g c =
 
 module _ (g : Over) (c : goal.After-len-len g) where
   abbrev r_change : Change
-  r_change = get_or c.first_page-changes.result.now 0 (record { segment = 0; page = 0; seq = 0; log = 0; place = 0 })
+  r_change = get_or c.first_page-changes.result.now 0 (record { segment = 0; page = 0; seq = 0; log = 0; place = 0; words = 0; offset = 0; len = 0 })
 
   r_near : ComesNext c.args.writes.now.merged.changes.items c.args.writes.now.next c.first_page-changes.result.now r_change
-  r_near = nearest c.args.geometry.now c.args.writes.now c.requires.sound c.deref.result.now c.first_page-changes.result.now (record { segment = 0; page = 0; seq = 0; log = 0; place = 0 }) c.deref.ensures.value c.requires.left c.first_page-changes.ensures
+  r_near = nearest c.args.geometry.now c.args.writes.now c.requires.sound c.deref.result.now c.first_page-changes.result.now (record { segment = 0; page = 0; seq = 0; log = 0; place = 0; words = 0; offset = 0; len = 0 }) c.deref.ensures.value c.requires.left c.first_page-changes.ensures
 
   r_next : IsNext c.args.writes.now r_change c.index-pages.result.now
-  r_next = is_next c.args.geometry.now c.args.writes.now c.requires.sound c.deref.result.now c.first_page-changes.result.now (record { segment = 0; page = 0; seq = 0; log = 0; place = 0 }) c.deref.ensures.value c.requires.left c.first_page-changes.ensures c.index-pages.result.now _ c.index-pages.ensures
+  r_next = is_next c.args.geometry.now c.args.writes.now c.requires.sound c.deref.result.now c.first_page-changes.result.now (record { segment = 0; page = 0; seq = 0; log = 0; place = 0; words = 0; offset = 0; len = 0 }) c.deref.ensures.value c.requires.left c.first_page-changes.ensures c.index-pages.result.now _ c.index-pages.ensures
 
   -- the write begins
   r_ok : IsOk c.begin.result
@@ -152,8 +152,8 @@ module _ (g : Over) (c : goal.After-len-len g) (i : IsWriting c.args.geometry.no
       bytes_are c.args.geometry.now c.args.writes.now i (r_change g c) (r_near g c).at c.first_page-changes.result.now (r_near g c).first
       c.index-pages.result.now (r_next g c).kept c.put_changes.new.bytes c.copy_from_slice.new.self c.put_changes.ensures.len
       (c.copy_from_slice.ensures.after ∙ c.page.ensures.bytes)
-      (λ records segment page at. c.put_changes.ensures.put records segment page
-      (subst (λ (l : List (List ℕ)). AreAt l c.first_page-changes.result.now records) (sym c.deref-2.ensures.value) at))
+      (λ ranges segment page at. c.put_changes.ensures.put ranges segment page
+      (subst (λ (l : List (List ℕ)). AreAt l c.first_page-changes.result.now ranges) (sym c.deref-2.ensures.value) at))
 
   number_is : c.index-number.result.now ≡ i.numbers (r_change g c).segment
   number_is = c.index-number.ensures ∙ its_number c.args.geometry.now c.args.writes.now i (r_change g c) (r_near g c).at _

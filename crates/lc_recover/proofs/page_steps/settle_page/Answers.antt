@@ -22,18 +22,18 @@ index_mut-requires c =
     omega (
       arith,
       c.args.writes.now.kept.segments.ok.0,
-      lies_within c.args.geometry.now c.args.writes.now c.requires.drafted.0 c.deref.result.now c.first_page-changes.result.now (record { segment = 0; page = 0; seq = 0; log = 0; place = 0 }) c.deref.ensures.value c.requires.left c.first_page-changes.ensures,
+      lies_within c.args.geometry.now c.args.writes.now c.requires.drafted.0 c.deref.result.now c.first_page-changes.result.now (record { segment = 0; page = 0; seq = 0; log = 0; place = 0; words = 0; offset = 0; len = 0 }) c.deref.ensures.value c.requires.left c.first_page-changes.ensures,
     )
 
 module _ (c : goal.After-index_mut) where
   abbrev changing : Change
-  changing = get_or c.first_page-changes.result.now 0 (record { segment = 0; page = 0; seq = 0; log = 0; place = 0 })
+  changing = get_or c.first_page-changes.result.now 0 (record { segment = 0; page = 0; seq = 0; log = 0; place = 0; words = 0; offset = 0; len = 0 })
 
   near : ComesNext c.args.writes.now.merged.changes.items c.args.writes.now.next c.first_page-changes.result.now changing
-  near = nearest c.args.geometry.now c.args.writes.now c.requires.drafted.0 c.deref.result.now c.first_page-changes.result.now (record { segment = 0; page = 0; seq = 0; log = 0; place = 0 }) c.deref.ensures.value c.requires.left c.first_page-changes.ensures
+  near = nearest c.args.geometry.now c.args.writes.now c.requires.drafted.0 c.deref.result.now c.first_page-changes.result.now (record { segment = 0; page = 0; seq = 0; log = 0; place = 0; words = 0; offset = 0; len = 0 }) c.deref.ensures.value c.requires.left c.first_page-changes.ensures
 
   upcoming : IsNext c.args.writes.now changing c.index_mut.result.now
-  upcoming = is_next c.args.geometry.now c.args.writes.now c.requires.drafted.0 c.deref.result.now c.first_page-changes.result.now (record { segment = 0; page = 0; seq = 0; log = 0; place = 0 }) c.deref.ensures.value c.requires.left c.first_page-changes.ensures c.index_mut.result.now _ c.index_mut.ensures.value
+  upcoming = is_next c.args.geometry.now c.args.writes.now c.requires.drafted.0 c.deref.result.now c.first_page-changes.result.now (record { segment = 0; page = 0; seq = 0; log = 0; place = 0; words = 0; offset = 0; len = 0 }) c.deref.ensures.value c.requires.left c.first_page-changes.ensures c.index_mut.result.now _ c.index_mut.ensures.value
 
   within : c.args.draft.now.page < c.args.geometry.now.pages
   within = omega (arith, (c.requires.drafted.1 changing c.index_mut.result.now upcoming).page, its_page c.args.geometry.now c.args.writes.now c.requires.drafted.0 changing near.at)
@@ -52,13 +52,13 @@ overflow_add-writes-2 c = omega (arith, c.requires.drafted.0.few, c.requires.lef
 
 module _ (c : goal.After-writes-3-1) where
   abbrev settling : Change
-  settling = get_or c.first_page-changes.result.now 0 (record { segment = 0; page = 0; seq = 0; log = 0; place = 0 })
+  settling = get_or c.first_page-changes.result.now 0 (record { segment = 0; page = 0; seq = 0; log = 0; place = 0; words = 0; offset = 0; len = 0 })
 
   coming : ComesNext c.args.writes.now.merged.changes.items c.args.writes.now.next c.first_page-changes.result.now settling
-  coming = nearest c.args.geometry.now c.args.writes.now c.requires.drafted.0 c.deref.result.now c.first_page-changes.result.now (record { segment = 0; page = 0; seq = 0; log = 0; place = 0 }) c.deref.ensures.value c.requires.left c.first_page-changes.ensures
+  coming = nearest c.args.geometry.now c.args.writes.now c.requires.drafted.0 c.deref.result.now c.first_page-changes.result.now (record { segment = 0; page = 0; seq = 0; log = 0; place = 0; words = 0; offset = 0; len = 0 }) c.deref.ensures.value c.requires.left c.first_page-changes.ensures
 
   its : IsNext c.args.writes.now settling c.index_mut.result.now
-  its = is_next c.args.geometry.now c.args.writes.now c.requires.drafted.0 c.deref.result.now c.first_page-changes.result.now (record { segment = 0; page = 0; seq = 0; log = 0; place = 0 }) c.deref.ensures.value c.requires.left c.first_page-changes.ensures c.index_mut.result.now _ c.index_mut.ensures.value
+  its = is_next c.args.geometry.now c.args.writes.now c.requires.drafted.0 c.deref.result.now c.first_page-changes.result.now (record { segment = 0; page = 0; seq = 0; log = 0; place = 0; words = 0; offset = 0; len = 0 }) c.deref.ensures.value c.requires.left c.first_page-changes.ensures c.index_mut.result.now _ c.index_mut.ensures.value
 
   its_draft : IsDraft c.requires.drafted.0.content c.requires.drafted.0.numbers settling c.args.draft.now
   its_draft = c.requires.drafted.1 settling c.index_mut.result.now its
