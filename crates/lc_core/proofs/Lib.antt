@@ -104,3 +104,4 @@ pub mod OwnReplies
 pub mod Geometries
 pub mod OneArea
 pub mod EachCall
+pub mod BegunCounts

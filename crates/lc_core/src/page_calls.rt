@@ -10,7 +10,7 @@ ghost use Rattle.lc_model.specs.State.{Setting};
 ghost use Rattle.lc_core.specs.Numbers.{Numbers};
 ghost use Rattle.lc_core.specs.PageState.{is_begun};
 ghost use Rattle.lc_core.specs.Settled.{is_writing};
-ghost use Rattle.lc_core.specs.declared.page_state.PageState.TheVariants.{UnderWay};
+ghost use Rattle.lc_core.specs.declared.page_state.PageState.TheVariants.{AtRest, UnderWay};
 
 use crate::page_progress::PageProgress;
 use crate::page_state::PageState;
@@ -27,13 +27,14 @@ impl<D: Area> Pages<D> {
         ensures states { result ≡ list_any is_begun self.now.writes.items }
         ensures numbers { (m : Setting) (segment : ℕ) (x : Numbers) → FitsArea D.Area m.geometry segment self.now x → result ≡ is_writing m x segment }
     {
-        is_some_begun(self.writes.as_slice())
+        self.begun > 0
     }
 
     /// Makes the first call of a write of a page that is at rest. After a fault, which is one of the device, the page is
     /// as it was, and is not written any more.
     pub(crate) fn begin(&mut self, write: PageWrite<Begun>) -> Result<(), PageFault>
-        requires { write.draft.page < vec_len self.old.writes }
+        requires page { write.draft.page < vec_len self.old.writes }
+        requires rests { slice_get self.old.writes.items write.draft.page ≡ Some AtRest }
         ensures follows { FollowsBegin D.Area self.old write.draft write.state.gate self.new }
         ensures states { BeginsIn self.old.writes.items write.draft (is_ok result) self.new.writes.items }
         ensures call { Writes D.Area write.draft.page (slot_at write.draft.page write.draft.slot) (closing_bytes write.state.gate)
@@ -46,6 +47,7 @@ impl<D: Area> Pages<D> {
         let begun = Writing::begin(write, &mut self.area);
         // What an honest area holds are bytes.
         let _len = self.area.len();
+        self.begun += 1;
         match begun {
             Ok(write) => {
                 self.writes[place] = PageState::UnderWay(write);
@@ -90,17 +92,11 @@ impl<D: Area> Pages<D> {
                 }
                 None => {
                     self.writes[place] = PageState::AtRest;
+                    self.begun -= 1;
                     Ok(PageProgress::Written(number))
                 }
             },
             Err(fault) => Err(fault),
         }
     }
-}
-
-// Whether a write of one of these pages has begun, and is not over.
-fn is_some_begun(states: &[PageState]) -> bool
-    ensures { result ≡ list_any is_begun states.now }
-{
-    states.iter().any(|state| state.is_begun())
 }

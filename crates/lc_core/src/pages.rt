@@ -1,6 +1,9 @@
 //! The area of a segment, and the writes of its pages.
-ghost use Rattle.std.specs.Prelude.{◌*◌, ◌≤◌, length, vec_len};
-ghost use Rattle.lc_core.specs.PageState.{AreNamed};
+ghost use Rattle.std.specs.Prelude.{◌≡◌, ◌*◌, ◌≤◌, length, vec_len};
+ghost use Rattle.std.specs.Global.{Vec as TheVec};
+ghost use Rattle.std.specs.List.{count_by};
+ghost use Rattle.lc_core.specs.PageState.{AreNamed, is_begun};
+ghost use Rattle.lc_core.specs.declared.page_state.PageState.{PageState as TheState};
 
 use crate::page_state::PageState;
 use lc_disk::Area;
@@ -11,6 +14,32 @@ use lc_disk::Area;
 pub(crate) struct Pages<D: Area> {
     pub(crate) area: D,
     pub(crate) writes: Vec<PageState>,
+    /// How many of the writes have begun, and are not over.
+    pub(crate) begun: usize,
     ghost long: { 2 * 272 * vec_len writes ≤ length (D.now area) },
     ghost named: { AreNamed writes.items },
+    ghost counted: { begun ≡ count_by is_begun writes.items },
+}
+
+impl<D: Area> Pages<D> {
+    /// The area of a segment, whose pages are in these states.
+    pub(crate) fn new(area: D, writes: Vec<PageState>) -> Pages<D>
+        requires long { 2 * 272 * vec_len writes ≤ length (D.now area) }
+        requires named { AreNamed writes.items }
+        ensures area { result.area ≡ area }
+        ensures writes { result.writes ≡ writes }
+    {
+        let begun = count_begun(writes.as_slice());
+        Pages {
+            area,
+            writes,
+            begun,
+        }
+    }
+}
+
+fn count_begun(states: &[PageState]) -> usize
+    ensures { result ≡ count_by is_begun states.now }
+{
+    states.iter().filter(|state| state.is_begun()).count()
 }

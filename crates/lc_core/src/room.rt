@@ -187,7 +187,7 @@ fn with_areas<D: Area + Drop>(
     for _ in 0..areas.len() {
         let area = areas.remove(0);
         let writes = writes.remove(0);
-        segments.push_reserved(Pages { area, writes });
+        segments.push_reserved(Pages::new(area, writes));
     }
     (segments, areas)
 }

@@ -1,4 +1,4 @@
-use Rattle.std.proofs.Common.{◌+◌, ◌<◌, length, ap, refl, sym, ◌∙◌, arith}
+use Rattle.std.proofs.Common.{◌+◌, ◌<◌, length, ap, sym, ◌∙◌, arith}
 use Rattle.std.specs.Prelude.{slice_get}
 use Rattle.lc_record.proofs.PuttingLemmas.{at_drop}
 use Rattle.lc_core.specs.declared.pages.Pages.{Pages}
@@ -12,9 +12,9 @@ loop-preserved g c =
     let some_writes : 0 < length c.loop.writes.items = omega (arith, h.left_writes, c.loop-test.true, c.loop.auto.counter-end, c.len-end.ensures, c.requires.count, c.loop.writes.ok.0) in
     record {
       areas = goes_over (λ (p : Pages g.row.D.Denot g.D.Area). p.area) c.loop.segments.items c.push_reserved.new.self.items c.loop.areas.items c.remove-area.new.self.items c.args.areas.items _ c.remove-area.result
-          c.push_reserved.ensures.items c.remove-area.ensures.items h.areas some c.remove-area.ensures.value refl;
+          c.push_reserved.ensures.items c.remove-area.ensures.items h.areas some c.remove-area.ensures.value c.new.ensures.area;
       writes = goes_over (λ (p : Pages g.row.D.Denot g.D.Area). p.writes) c.loop.segments.items c.push_reserved.new.self.items c.loop.writes.items c.remove-writes.new.self.items c.args.writes.items _ c.remove-writes.result
-          c.push_reserved.ensures.items c.remove-writes.ensures.items h.writes some_writes c.remove-writes.ensures.value refl;
+          c.push_reserved.ensures.items c.remove-writes.ensures.items h.writes some_writes c.remove-writes.ensures.value c.new.ensures.writes;
       done = omega (arith, c.push_reserved.ensures.len, h.done);
       left = omega (arith, c.remove-area.ensures.len, h.left);
       left_writes = omega (arith, c.remove-writes.ensures.len, h.left_writes);

@@ -1,4 +1,5 @@
-use Rattle.std.proofs.Common.{◌≡◌, Bool, true, false, sym, ap, subst, ◌∙◌, arith}
+use Rattle.std.proofs.Common.{◌≡◌, ℕ, ◌+◌, Bool, true, false, cond, sym, ap, subst, ◌∙◌, arith}
+use Rattle.std.specs.List.{count_by}
 use Rattle.std.specs.Prelude.{is_ok, slice_set, Option, None, Some, Ok}
 use Rattle.std.proofs.lemmas.Option.{slice_get_within}
 use Rattle.lc_log.specs.OneCall.{IsOneCall}
@@ -6,9 +7,12 @@ use Rattle.lc_page.specs.Page.{Page}
 use Rattle.lc_page.specs.Writing.{Calls, GoesOn, IsNextOf, IsUnderWay, draft_of}
 use Rattle.lc_page.specs.declared.page_text.PageText.{PageText}
 use Rattle.lc_page.specs.declared.writing.Writing.{Writing}
+use Rattle.lc_core.specs.PageState.{is_begun}
 use Rattle.lc_core.specs.Pages.{StepsIn}
 use Rattle.lc_core.specs.declared.page_progress.PageProgress.TheVariants.{Stepped, Written}
+use Rattle.lc_core.specs.declared.page_state.PageState.{PageState}
 use Rattle.lc_core.specs.declared.page_state.PageState.TheVariants.{AtRest, UnderWay}
+use Rattle.lc_core.proofs.BegunCounts.{count_set}
 use Rattle.lc_recover.proofs.PageCalls.{calls_call}
 use Rattle.lc_core.proofs.PageCalls.{IsCall, goes_on, is_over, named_failed, named_set, one_write, same_write, set_twice, step_fails, taken, tells}
 use Rattle.lc_core.proofs.pages.Pages.step.Goals as goal
@@ -16,6 +20,12 @@ use Rattle.lc_core.proofs.pages.Pages.step.Goals as goal
 pub index_mut-requires-in-None : goal.index_mut-requires-in-None
 index_mut-requires-in-None g c =
     omega (arith, slice_get_within c.args.self.now.writes.items c.args.page (UnderWay c.requires.0) c.requires.1, c.args.self.now.writes.ok.0)
+
+pub overflow_sub-self : goal.overflow_sub-self
+overflow_sub-self g c =
+    let ws = c.args.self.now.writes.items in
+    let one : count_by is_begun (slice_set ws c.args.page AtRest) + 1 ≡ count_by is_begun ws + 0 = count_set is_begun ws c.args.page (UnderWay c.requires.0) AtRest c.requires.1 in
+    omega (arith, c.args.self.now.counted, one)
 
 pub invariant_of-self : goal.invariant_of-self
 invariant_of-self g c =
@@ -27,6 +37,12 @@ invariant_of-self g c =
       named = named_set (slice_set c.args.self.now.writes.items c.args.page c.replace.new.dest) c.args.page (UnderWay c.in-Some.next)
           (named_failed c.args.self.now.writes.items c.args.page c.replace.new.dest c.replace.ensures.after c.args.self.now.named)
           (λ w is. ap (λ (v : Writing). (draft_of v).page) (sym (same_write c.in-Some.next w is)) ∙ ap (λ d. d.page) next_is.0 ∙ c.args.self.now.named c.args.page write at);
+      counted =
+          (let ws = c.args.self.now.writes.items in
+          let one : count_by is_begun (slice_set ws c.args.page (UnderWay c.in-Some.next)) + 1 ≡ count_by is_begun ws + 1 = count_set is_begun ws c.args.page (UnderWay c.requires.0) (UnderWay c.in-Some.next) c.requires.1 in
+          let same : count_by is_begun (slice_set (slice_set ws c.args.page c.replace.new.dest) c.args.page (UnderWay c.in-Some.next)) ≡ count_by is_begun (slice_set ws c.args.page (UnderWay c.in-Some.next)) =
+          ap (count_by is_begun) (set_twice ws c.args.page c.replace.new.dest (UnderWay c.in-Some.next)) in
+          omega (arith, c.args.self.now.counted, one, same));
     }
 
 pub invariant_of-self-in-None : goal.invariant_of-self-in-None
@@ -36,6 +52,12 @@ invariant_of-self-in-None g c =
       named = named_set (slice_set c.args.self.now.writes.items c.args.page c.replace.new.dest) c.args.page AtRest
           (named_failed c.args.self.now.writes.items c.args.page c.replace.new.dest c.replace.ensures.after c.args.self.now.named)
           (λ w is. absurd (let no : AtRest ≡ UnderWay w = is in cc));
+      counted =
+          (let ws = c.args.self.now.writes.items in
+          let one : count_by is_begun (slice_set ws c.args.page AtRest) + 1 ≡ count_by is_begun ws + 0 = count_set is_begun ws c.args.page (UnderWay c.requires.0) AtRest c.requires.1 in
+          let same : count_by is_begun (slice_set (slice_set ws c.args.page c.replace.new.dest) c.args.page AtRest) ≡ count_by is_begun (slice_set ws c.args.page AtRest) =
+          ap (count_by is_begun) (set_twice ws c.args.page c.replace.new.dest AtRest) in
+          omega (arith, c.args.self.now.counted, one, same));
     }
 
 pub invariant_of-self-in-Err-1 : goal.invariant_of-self-in-Err-1
@@ -43,6 +65,12 @@ invariant_of-self-in-Err-1 g c =
     record {
       long = omega (arith, c.args.self.now.long, c.step-next.ensures.device.same_length);
       named = named_failed c.args.self.now.writes.items c.args.page c.replace.new.dest c.replace.ensures.after c.args.self.now.named;
+      counted =
+          (let ws = c.args.self.now.writes.items in
+          let bit : Bool → ℕ = λ b. cond b 1 0 in
+          let one : count_by is_begun (slice_set ws c.args.page c.replace.new.dest) + 1 ≡ count_by is_begun ws + cond (is_begun c.replace.new.dest) 1 0 = count_set is_begun ws c.args.page (UnderWay c.requires.0) c.replace.new.dest c.requires.1 in
+          let same : cond (is_begun c.replace.new.dest) 1 0 ≡ 1 = ap (λ (s : PageState). bit (is_begun s)) c.replace.ensures.after in
+          omega (arith, c.args.self.now.counted, one, same));
     }
 
 pub returns-in-Some-clause-follows : goal.returns-in-Some-clause-follows
