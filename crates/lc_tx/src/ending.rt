@@ -10,9 +10,8 @@ ghost use Rattle.lc_range.specs.RangeSet.{IsCanonical};
 ghost use Rattle.lc_tx.specs.Fault.{is_of_end, is_of_needs};
 ghost use Rattle.lc_tx.specs.Tx.{IsIdle, RunsOn};
 
-use crate::locking::unlock;
 use crate::recording::{first_spent, layout_of, spell};
-use crate::{Images, Prepared, Tx, TxFault};
+use crate::{Images, Prepared, Tx, TxFault, locking};
 use lc_record::{Items, Layout, MAX_WORDS};
 use std::alloc::Global;
 
@@ -138,14 +137,24 @@ impl Tx {
         }
     }
 
+    // Gives back its locks.
+    fn unlock<I: Images>(&self, images: &mut I)
+        requires { RunsOn I.Images images.old self.now }
+        ensures { AreReleased I.Images self.now.thread self.now.locked.items self.now.reading.items images.old images.new }
+    {
+        locking::unlock(images, self.locked.as_slice(), self.thread);
+        locking::unlock(images, self.reading.as_slice(), self.thread);
+    }
+
     /// Ends the transaction without a commit: what it locked for writing has the bytes that it had, and is free; what it
     /// locked for reading has one reader less, and is free where it was the last. It takes no memory. Idea: RVM's restore
     /// mode (Satyanarayanan et al., TOCS 1994).
-    pub fn abort<I: Images>(mut self, images: &mut I)
+    pub fn abort<I: Images>(self, images: &mut I)
         requires runs { RunsOn I.Images images.old self }
         ensures { AreRestored I.Images self.undo self.thread self.locked.items self.reading.items images.old images.new }
     {
-        self.abort_in_place(images);
+        self.restore(images);
+        self.release(images);
     }
 
     /// Ends the transaction without a commit, as `abort` does. It is idle then, with the memory of its lists kept for the
@@ -162,11 +171,11 @@ impl Tx {
 
     /// Ends the transaction with its writes: what it locked for writing is free; what it locked for reading has one
     /// reader less, and is free where it was the last. It takes no memory.
-    pub fn release<I: Images>(mut self, images: &mut I)
+    pub fn release<I: Images>(self, images: &mut I)
         requires runs { RunsOn I.Images images.old self }
         ensures { AreReleased I.Images self.thread self.locked.items self.reading.items images.old images.new }
     {
-        self.release_in_place(images);
+        self.unlock(images);
     }
 
     /// Ends the transaction with its writes, as `release` does. It is idle then, with the memory of its lists kept for the
@@ -177,8 +186,7 @@ impl Tx {
             images.old images.new }
         ensures idle { IsIdle self.new }
     {
-        unlock(images, self.locked.as_slice(), self.thread);
-        unlock(images, self.reading.as_slice(), self.thread);
+        self.unlock(images);
         self.clear();
     }
 }

@@ -5,23 +5,23 @@ use Rattle.lc_tx.specs.Locking.{AreLeft}
 use Rattle.lc_tx.proofs.HoldsLemmas.{read_apart, reads_not_locked}
 use Rattle.lc_tx.proofs.ImagesLemmas.{here_along}
 use Rattle.lc_tx.proofs.LockedLemmas.{released_from}
-use Rattle.lc_tx.proofs.tx.Tx.release_in_place.Goals as goal
+use Rattle.lc_tx.proofs.tx.Tx.unlock.Goals as goal
 
 pub unlock-requires : goal.unlock-requires
-unlock-requires g c = λ s e. c.requires.runs.here s (subst (λ (l : List ℕ). is_member s l ≡ true) c.as_slice.ensures e)
+unlock-requires g c = λ s e. c.requires.here s (subst (λ (l : List ℕ). is_member s l ≡ true) c.as_slice.ensures e)
 
 pub unlock-requires-2 : goal.unlock-requires-2
 unlock-requires-2 g c = λ s e.
     here_along g.I.Images c.as_slice.result.now c.args.images.now c.unlock.new.images s c.unlock.ensures.same
-    (c.requires.runs.read_here s (subst (λ (l : List ℕ). is_member s l ≡ true) c.as_slice-2.ensures e))
+    (c.requires.read_here s (subst (λ (l : List ℕ). is_member s l ≡ true) c.as_slice-2.ensures e))
 
-pub returns-clause-released : goal.returns-clause-released
-returns-clause-released g c =
+pub returns : goal.returns
+returns g c =
     let m = g.I.Images in
     let tx = c.args.self.now in
     let old = c.args.images.now in
     let mid = c.unlock.new.images in
-    let on = c.requires.runs in
+    let on = c.requires in
     released_from m g.met.I.Images.beside_chained tx.thread tx.locked.items tx.reading.items old mid c.unlock-2.new.images
     on.here on.read_here (λ s read. read_apart m old tx s on read)
     (λ s lock. false_from_ne_true (is_member s tx.reading.items) (λ read. reads_not_locked m old tx s on read lock))
