@@ -5,6 +5,7 @@ use Rattle.std.specs.Prelude.{◌↔◌, Option, Some, None, slice_get}
 use Rattle.std.specs.List.{AllWithin}
 use Rattle.std.specs.List.Sorted.{IsPartitionedBy, IsPartitionPoint}
 use Rattle.std.proofs.lemmas.Bool.{cases_Bool, cond-true, cond-false}
+use Rattle.std.proofs.lemmas.List.{get_or_push, length-append}
 use Rattle.std.proofs.lemmas.Option.{slice_get-get_or}
 use Rattle.lc_range.specs.Range.{IsBefore}
 use Rattle.lc_range.specs.RangeSet.{LiesBefore, IsCanonical}
@@ -47,6 +48,40 @@ last_tells (run ∷ runs) range last c e = (
 
     at : (d : Range) → last ≡ get_or (run ∷ runs) end d
     at d = ap (unwrap_to d) (e ∙ slice_get-get_or (run ∷ runs) end d (omega arith))
+
+lies_front : (run : Range) (front rest : List Range) → LiesBefore run (front ++ rest) → LiesBefore run front
+lies_front run [] rest lies = tt
+lies_front run (next ∷ front) rest lies = (lies.0, lies_front run front rest lies.1)
+
+pub canonical_front : (front rest : List Range) → IsCanonical (front ++ rest) → IsCanonical front
+canonical_front [] rest c = tt
+canonical_front (run ∷ front) rest c = (c.0, lies_front run front rest c.1, canonical_front front rest c.2)
+
+at_front : (front rest : List Range) (k : ℕ) (d : Range) → k < length front → get_or (front ++ rest) k d ≡ get_or front k d
+at_front [] rest k d within = absurd (omega (arith, within))
+at_front (run ∷ front) rest zero d within = refl
+at_front (run ∷ front) rest (suc k) d within = at_front front rest k d (omega (arith, within))
+
+-- the place of a range behind the last run
+pub placed_behind : (runs front : List Range) (last range : Range) → runs ≡ front ++ last ∷ [] → IsCanonical runs → is_before last range ≡ true
+    → IsPartitionPoint (λ run. is_before run range ≡ true) (λ run. is_before run range ≡ false) runs (length runs)
+placed_behind runs front last range e c before = (
+  (λ k d low high.
+      partitioned runs range c k (length front) d (omega (arith, high, ap length e, length-append front (last ∷ []))) (omega (arith, ap length e, length-append front (last ∷ [])))
+      (ap (λ (l : List Range). is_before (get_or l (length front) d) range) e ∙ ap (λ (r : Range). is_before r range) (get_or_push front last d (length front) refl) ∙ before)),
+  (λ k d low high. absurd (omega (arith, low, high))),
+)
+
+-- and of one behind all but that
+pub placed_at_last : (runs front : List Range) (last range : Range) → runs ≡ front ++ last ∷ [] → is_before last range ≡ false
+    → AllWithin (λ run. is_before run range ≡ true) front 0 (length front)
+    → IsPartitionPoint (λ run. is_before run range ≡ true) (λ run. is_before run range ≡ false) runs (length front)
+placed_at_last runs front last range e not all = (
+  (λ k d low high. ap (λ (l : List Range). is_before (get_or l k d) range) e ∙ ap (λ (r : Range). is_before r range) (at_front front (last ∷ []) k d high) ∙ all k d low high),
+  (λ k d low high.
+      ap (λ (l : List Range). is_before (get_or l k d) range) e
+      ∙ ap (λ (r : Range). is_before r range) (get_or_push front last d k (omega (arith, low, high, ap length e, length-append front (last ∷ [])))) ∙ not),
+)
 
 -- where a range comes behind the runs before it
 pub merged_at : (runs : List Range) (range : Range) (i : ℕ) → i ≤ length runs → IsPartitionPoint (λ run. is_before run range ≡ true) (λ run. is_before run range ≡ false) runs i

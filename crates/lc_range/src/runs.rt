@@ -21,16 +21,22 @@ fn are_before(runs: &[Range], range: &Range) -> bool
     }
 }
 
-/// How many of these runs, from the first on, lie before a range. Where all do, as where ranges come in ascending order,
-/// nothing is searched.
+/// How many of these runs, from the first on, lie before a range. Nothing is searched where all do, or all but the last,
+/// as where ranges come in ascending order.
 pub fn count_before(runs: &[Range], range: &Range) -> usize
     requires { IsCanonical runs.now }
     ensures within { result ≤ length runs.now }
     ensures place { IsPartitionPoint (λ run. is_before run range.now ≡ true) (λ run. is_before run range.now ≡ false) runs.now result }
     ensures rest { take result runs.now ++ absorbed range.now (drop result runs.now) ≡ merged range.now runs.now }
 {
-    if are_before(runs, range) {
+    let Some((last, front)) = runs.split_last() else {
+        return 0;
+    };
+    if last.is_before(range) {
         return runs.len();
+    }
+    if are_before(front, range) {
+        return front.len();
     }
     let range = *range;
     runs.partition_point(
