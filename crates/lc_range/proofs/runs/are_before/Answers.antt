@@ -1,4 +1,4 @@
-use Rattle.std.proofs.Common.{◌≡◌, true, sym, ◌∙◌}
+use Rattle.std.proofs.Common.{sym, ◌∙◌}
 use Rattle.lc_range.proofs.PlaceLemmas.{last_tells}
 use Rattle.lc_range.proofs.runs.are_before.Goals as goal
 
