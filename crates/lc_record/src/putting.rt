@@ -58,7 +58,13 @@ pub fn put_ranges(head: Head, words: &[u64], segment: u32, offset: usize, bytes:
         };
         if range.span.segment == segment {
             let span = range.span;
-            put_words(range.data, span.offset as usize, span.len as usize, offset, bytes);
+            put_words(
+                range.data,
+                span.offset as usize,
+                span.len as usize,
+                offset,
+                bytes,
+            );
         }
         rest = behind;
     }
