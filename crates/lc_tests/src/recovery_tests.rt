@@ -196,7 +196,7 @@ fn a_recovery_of_one_page_is_twelve_calls(rt: HostRuntime) -> Result<(), Fail> {
 }
 
 // The call of the log or of the segment that each step makes. The fifth makes none.
-const CALLS: [(u64, u32, u32); 12] = [
+static CALLS: [(u64, u32, u32); 12] = [
     (1, 1, 0),
     (2, 0, 1),
     (3, 2, 0),
@@ -214,8 +214,8 @@ const CALLS: [(u64, u32, u32); 12] = [
 #[test]
 fn each_step_makes_the_next_call(rt: HostRuntime) -> Result<(), Fail> {
     let alloc = rt.alloc();
-    for (step, log, segment) in CALLS {
-        let mut recovery = begun(geometry_of(1, 1, 1)?, hello_areas(alloc, log, segment)?)?;
+    for (step, log, segment) in &CALLS {
+        let mut recovery = begun(geometry_of(1, 1, 1)?, hello_areas(alloc, *log, *segment)?)?;
         let Err(made) = walk(&rt, alloc, &mut recovery, HELLO_STEPS) else {
             let _areas = recovery.areas();
             return Err(Fail::from("the call fails"));
@@ -266,8 +266,8 @@ fn a_stop_changes_nothing(rt: HostRuntime) -> Result<(), Fail> {
     for steps in 0..=HELLO_STEPS {
         stops(&rt, rt.alloc(), 0, 0, steps)?;
     }
-    for (_, log, segment) in CALLS {
-        stops(&rt, rt.alloc(), log, segment, HELLO_STEPS)?;
+    for (_, log, segment) in &CALLS {
+        stops(&rt, rt.alloc(), *log, *segment, HELLO_STEPS)?;
     }
     Ok(())
 }
@@ -472,7 +472,7 @@ const GREATEST: u64 = 1 << 60;
 
 // Slots of a page, its record's number and offset, the first and last byte of the page and its number behind a recovery,
 // and whether it is written.
-const BECOMES: [([SlotText; 2], u64, u32, u8, u8, u64, bool); 5] = [
+static BECOMES: [([SlotText; 2], u64, u32, u8, u8, u64, bool); 5] = [
     // The range ends at 256.
     ([CLOSED; 2], 1, 251, 0, b'o', 1, true),
     ([(0xa5, 3, 7), CLOSED], 4, 0, b'h', 7, 4, true),
@@ -503,19 +503,22 @@ fn a_page_takes_what_is_newer(rt: HostRuntime) -> Result<(), Fail> {
     Ok(())
 }
 
+// The slots of a page, the byte that fills it, and its number.
+static READ: [([SlotText; 2], u8, u64); 6] = [
+    ([(0xa5, 5, 6), (0xa5, 5, 7)], 6, 5),
+    ([(0xa5, 5, 6), (0xa5, 6, 7)], 7, 6),
+    ([(0xa5, GREATEST, 6), (0xa5, 6, 7)], 6, GREATEST),
+    ([(0xa5, 5, 6), (0xa5, GREATEST + 1, 7)], 6, 5),
+    ([(0x7f, 5, 6), (0xa5, 4, 7)], 7, 4),
+    ([CLOSED; 2], 0, 0),
+];
+
 #[test]
 fn a_page_is_read_from_the_slot_that_counts(rt: HostRuntime) -> Result<(), Fail> {
-    for (slots, byte, number) in [
-        ([open(5, 6), open(5, 7)], 6, 5),
-        ([open(5, 6), open(6, 7)], 7, 6),
-        ([open(GREATEST, 6), open(6, 7)], 6, GREATEST),
-        ([open(5, 6), open(GREATEST + 1, 7)], 6, 5),
-        ([(0x7f, 5, 6), open(4, 7)], 7, 4),
-        ([CLOSED; 2], 0, 0),
-    ] {
-        let page = page_of(rt.alloc(), &[], &slots)?;
+    for (slots, byte, number) in &READ {
+        let page = page_of(rt.alloc(), &[], slots)?;
         assert!(rt;
-            page == (Some(byte), Some(byte), number, 7),
+            page == (Some(*byte), Some(*byte), *number, 7),
             "{byte} {number}"
         );
     }
@@ -563,25 +566,27 @@ fn areas_of(alloc: Global, lens: &[usize]) -> Result<Vec<MemArea>, AllocError> {
     Ok(areas)
 }
 
+// Lengths that are not those of a store of two nodes and two segments, and the area that is named.
+static WRONG: [(&[usize], u32); 8] = [
+    (&[], 0),
+    (&[520, 520, 544], 3),
+    (&[520, 520, 544, 544, 544], 4),
+    (&[520, 520, 520, 544], 2),
+    (&[520, 512, 543, 544], 1),
+    (&[520, 520, 544, 545, 7], 3),
+    (&[544, 544, 520, 520], 0),
+    (&[520, 520, 544, 816], 3),
+];
+
 #[test]
 fn the_least_area_that_does_not_fit_is_named(rt: HostRuntime) -> Result<(), Fail> {
     let alloc = rt.alloc();
     let geometry = geometry_of(2, 2, 1)?;
-    let wrong: [(&[usize], u32); 8] = [
-        (&[], 0),
-        (&[520, 520, 544], 3),
-        (&[520, 520, 544, 544, 544], 4),
-        (&[520, 520, 520, 544], 2),
-        (&[520, 512, 543, 544], 1),
-        (&[520, 520, 544, 545, 7], 3),
-        (&[544, 544, 520, 520], 0),
-        (&[520, 520, 544, 816], 3),
-    ];
-    for (lens, area) in wrong {
+    for (lens, area) in &WRONG {
         let Err((areas, fault)) = Recovery::new(geometry, areas_of(alloc, lens)?) else {
             return Err(Fail::from("the areas are refused"));
         };
-        let is_named = fault == RecoverFault::BadGeometry { area };
+        let is_named = fault == RecoverFault::BadGeometry { area: *area };
         assert!(rt; is_named && areas.len() == lens.len(), "{area}");
     }
     Ok(())
