@@ -472,7 +472,7 @@ const GREATEST: u64 = 1 << 60;
 
 // Slots of a page, its record's number and offset, the first and last byte of the page and its number behind a recovery,
 // and whether it is written.
-static BECOMES: [([SlotText; 2], u64, u32, u8, u8, u64, bool); 5] = [
+const BECOMES: [([SlotText; 2], u64, u32, u8, u8, u64, bool); 5] = [
     // The range ends at 256.
     ([CLOSED; 2], 1, 251, 0, b'o', 1, true),
     ([(0xa5, 3, 7), CLOSED], 4, 0, b'h', 7, 4, true),
@@ -504,7 +504,7 @@ fn a_page_takes_what_is_newer(rt: HostRuntime) -> Result<(), Fail> {
 }
 
 // The slots of a page, the byte that fills it, and its number.
-static READ: [([SlotText; 2], u8, u64); 6] = [
+const READ: [([SlotText; 2], u8, u64); 6] = [
     ([(0xa5, 5, 6), (0xa5, 5, 7)], 6, 5),
     ([(0xa5, 5, 6), (0xa5, 6, 7)], 7, 6),
     ([(0xa5, GREATEST, 6), (0xa5, 6, 7)], 6, GREATEST),
