@@ -10,9 +10,9 @@ ghost use Rattle.lc_record.specs.View.{byte_at};
 
 use crate::Lock;
 use crate::data::read_byte;
-use crate::fields::{lock_count, node, range_count};
+use crate::fields::{node, range_count};
+use crate::kept_locks::{kept_lock, kept_lock_count};
 use crate::limits::{HEAD_WORDS, LOCK_WORDS};
-use crate::lock_words::lock_of;
 use crate::parts::{Head, RangeWords, head_of, len_of, nth_range};
 use crate::putting::put_ranges;
 use crate::span::Span;
@@ -77,7 +77,7 @@ impl<'a> View<'a> {
     pub fn lock_count(&self) -> usize
         ensures { result ≡ length self.now.locks }
     {
-        lock_count(self.words[1]) as usize
+        kept_lock_count(self.words)
     }
 
     /// How many ranges the record has.
@@ -91,11 +91,7 @@ impl<'a> View<'a> {
     pub fn lock(&self, index: usize) -> Option<Lock>
         ensures { result ≡ slice_get self.now.locks index }
     {
-        if index >= self.lock_count() {
-            return None;
-        }
-        let (lock, _) = lock_of(&self.words[HEAD_WORDS + LOCK_WORDS * index..])?;
-        Some(lock)
+        kept_lock(self.words, index)
     }
 
     /// Where the range at this index, from 0, stands; None exactly where the record has none there. It goes over the
