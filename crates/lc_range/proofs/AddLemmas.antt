@@ -1,5 +1,5 @@
 -- A set's runs after a range more.
-use Rattle.std.proofs.Common.{◌≡◌, ◌⊎◌, ℕ, ◌+◌, zero, suc, ◌<◌, ◌≤◌, true, false, inl, inr, refl, List, [], ◌∷◌, ◌++◌, length, take, drop, eqb, sym, subst, ap, ◌∙◌, arith, length-append, length-take, length-drop}
+use Rattle.std.proofs.Common.{◌≡◌, ◌⊎◌, ℕ, ◌+◌, zero, suc, ◌<◌, ◌≤◌, true, false, inl, inr, refl, List, [], ◌∷◌, ◌++◌, length, take, drop, eqb, sym, subst, ap, arith, length-append, length-take, length-drop}
 use Rattle.std.specs.Prelude.{◌↔◌, Result, Ok, Err, OnOk, OnErr, IsOk}
 use Rattle.std.specs.Result.{is_err}
 use Rattle.std.proofs.lemmas.Bool.{cases_eq, cases_lt, eqb-true, eq-eqb}
@@ -46,12 +46,6 @@ empty_iff (run ∷ runs) c = (λ e. absurd (no_run (length runs) (eqb-true _ _ e
     no_run : (n : ℕ) → suc n ≡ 0 → ⊥
     no_run n e = omega (arith, e)
 
--- a run in the place of those that the range touches
-pub made : (old items slice : List Range) (range run : Range) (start end : ℕ) (new : List Range) → items ≡ old → slice ≡ items
-    → take start slice ++ run ∷ drop end slice ≡ merged range slice → new ≡ take start items ++ run ∷ drop end items → new ≡ merged range old
-made old items slice range run start end new now is merges stored =
-    stored ∙ ap (λ (l : List Range). take start l ++ run ∷ drop end l) (sym is) ∙ merges ∙ ap (merged range) (is ∙ now)
-
 -- a result that is no error, and one that is
 pub ok_gives : {T E P : Type 0} (r : Result T E) → is_err r ≡ false → OnOk r P → P
 ok_gives (Ok x) e p = p
@@ -60,6 +54,10 @@ ok_gives (Err y) e p = absurd cc
 pub err_is_not_ok : {T E : Type 0} (r : Result T E) → is_err r ≡ true → IsOk r → ⊥
 err_is_not_ok (Ok x) e p = cc
 err_is_not_ok (Err y) e p = cc
+
+pub err_gives : {T E P : Type 0} (r : Result T E) → is_err r ≡ true → OnErr r P → P
+err_gives (Ok x) e p = absurd cc
+err_gives (Err y) e p = p
 
 pub on_err_of : {T E P : Type 0} (r : Result T E) → P → OnErr r P
 on_err_of (Ok x) p = tt

@@ -1,7 +1,7 @@
 -- The steps of the walks over a set's runs.
-use Rattle.std.proofs.Common.{◌≡◌, ℕ, suc, zero, ◌+◌, ◌<◌, ◌≤◌, false, List, [], ◌∷◌, length, get_or, drop, ◌∙◌, ◌-◌, min, max, sym, subst, arith}
-use Rattle.std.proofs.lemmas.List.{at_drop_more}
-use Rattle.std.proofs.lemmas.Bool.{cond-false}
+use Rattle.std.proofs.Common.{◌≡◌, ℕ, suc, zero, ◌+◌, ◌<◌, ◌≤◌, true, false, List, [], ◌∷◌, length, get_or, drop, ◌∙◌, ◌-◌, min, max, ap, sym, subst, arith}
+use Rattle.std.proofs.lemmas.List.{at_drop_more, drop_all}
+use Rattle.std.proofs.lemmas.Bool.{cond-true, cond-false}
 use Rattle.lc_range.specs.RangeSet.{EndWithin}
 use Rattle.lc_range.specs.Walk.{is_before, joined, absorbed}
 use Rattle.lc_range.specs.declared.range.Range.{Range}
@@ -21,3 +21,14 @@ end_joined run next both bound same end next_end =
   where
     below : (i m j n bound : ℕ) → i + m < bound → j + n < bound → min i j + (max (i + m) (j + n) - min i j) < bound
     below i m j n bound one two = omega arith
+
+-- a run that touches none of those from a place on
+pub absorbed_last : (run : Range) (runs : List Range) (i : ℕ) → length runs ≤ i → absorbed run (drop i runs) ≡ run ∷ drop i runs
+absorbed_last run runs i past =
+    let none : drop i runs ≡ [] = drop_all i runs past in
+    ap (absorbed run) none ∙ ap (λ (l : List Range). run ∷ l) (sym none)
+
+pub absorbed_before : (run : Range) (runs : List Range) (i : ℕ) (d : Range) → i < length runs → is_before run (get_or runs i d) ≡ true → absorbed run (drop i runs) ≡ run ∷ drop i runs
+absorbed_before run [] i d within before = absurd (omega (arith, within))
+absorbed_before run (next ∷ runs) zero d within before = cond-true (is_before run next) (run ∷ next ∷ runs) (absorbed (joined run next) runs) before
+absorbed_before run (next ∷ runs) (suc i) d within before = absorbed_before run runs i d (omega (arith, within)) before

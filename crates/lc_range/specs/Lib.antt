@@ -1,6 +1,7 @@
 pub mod Range
 pub mod RangeSet
 pub mod Walk
+pub mod Touched
 pub mod Undo
 pub mod Copies
 pub mod Fault

@@ -49,3 +49,7 @@ parts segment from to [] = piece segment from to
 parts segment from to (run ∷ runs) =
     if is_in_way run segment from to then piece segment from run.offset ++ parts segment (run.offset + run.len) to runs
     else parts segment from to runs
+
+-- the parts of a range that no run has
+abbrev pub parts_of : Range → List Range → List Range
+parts_of range runs = parts range.segment range.offset (range.offset + range.len) runs

@@ -7,6 +7,7 @@ mod laws;
 mod range;
 mod range_set;
 mod runs;
+mod setting;
 mod touched;
 mod undo;
 

@@ -1,11 +1,14 @@
 //! The positions that a transaction has set.
 ghost use Rattle.std.specs.Prelude.{◌≡◌, ◌+◌, ◌-◌, ◌^◌, ◌<◌, ◌≤◌, ◌↔◌, ℕ, [], false, length, Err, IsTrue, OnOk, OnErr};
+ghost use Rattle.lc_range.specs.Touched.{IsTouched};
 ghost use Rattle.lc_range.specs.RangeSet.{Has, IsCanonical, EndWithin, AddsPositions, MissesSome, NeedsRunsAbove};
+ghost use Rattle.lc_range.specs.Walk.{merged};
 
-use crate::runs::{is_touched, replace, some_holds, touched};
+use crate::runs::{replace, some_holds, touched};
+use crate::touched::Touched;
 use crate::{Range, RangeFault};
 use smallvec::SmallVec;
-use std::alloc::Global;
+use std::alloc::{AllocError, Global};
 use std::marker::Model;
 
 const MAX_RUNS: usize = 64;
@@ -89,32 +92,42 @@ impl RangeSet {
             offset,
             len,
         };
-        let place = touched(self.runs.as_slice(), &range);
-        if place.start < place.end {
-            replace(&mut self.runs, place.start, place.end, place.run);
-            return Ok(());
-        }
-        if self.runs.len() >= MAX_RUNS {
+        let place = touched(self.ranges(), &range);
+        if !self.has_room(&place) {
             return Err(RangeFault::TooManyRanges);
         }
-        if self.runs.insert(place.start, place.run).is_err() {
+        if self.put(&place).is_err() {
             return Err(RangeFault::NoMemory);
         }
         Ok(())
     }
 
-    /// Whether at most 64 runs stand with `len` positions more of a segment, from `offset` on. It takes no memory.
-    pub fn has_room(&self, segment: u32, offset: u32, len: u32) -> bool
-        requires { 0 < len }
-        ensures room { IsTrue result ↔ ¬ NeedsRunsAbove 64 self.now segment offset len }
-        ensures full { result ≡ false → NeedsRunsAbove 64 self.now segment offset len }
+    /// Whether at most 64 runs stand with the range that has this place.
+    pub(crate) fn has_room(&self, place: &Touched) -> bool
+        requires { IsTouched self.now place.now }
+        ensures { IsTrue result ↔ (length (merged place.now.range self.now) ≤ 64) }
     {
-        let range = Range {
-            segment,
-            offset,
-            len,
-        };
-        self.runs.len() < MAX_RUNS || is_touched(self.runs.as_slice(), &range)
+        place.start < place.end || self.runs.len() < MAX_RUNS
+    }
+
+    /// Adds the range that has this place. Where there is no memory for one run more, the set is as before.
+    pub(crate) fn put(&mut self, place: &Touched) -> Result<(), AllocError>
+        requires place { IsTouched self.old place.now }
+        requires some { 1 ≤ place.now.range.len }
+        requires end { place.now.range.offset + place.now.range.len < 2 ^ 32 }
+        requires room { length (merged place.now.range self.old) ≤ 64 }
+        ensures ok { OnOk result (self.new ≡ merged place.now.range self.old) }
+        ensures err { OnErr result (self.new ≡ self.old) }
+        ensures memory { OnErr result ((8 ≤ length self.old) × (length self.old < length (merged place.now.range self.old))) }
+    {
+        if place.start < place.end {
+            replace(&mut self.runs, place.start, place.end, place.run);
+            return Ok(());
+        }
+        if self.runs.insert(place.start, place.run).is_err() {
+            return Err(AllocError);
+        }
+        Ok(())
     }
 
     /// Whether each of `len` positions of a segment, from `offset` on, is in the set.

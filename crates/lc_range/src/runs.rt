@@ -3,6 +3,7 @@ ghost use Rattle.std.specs.Prelude.{◌≡◌, ◌+◌, ◌-◌, ◌^◌, ◌<�
 ghost use Rattle.std.specs.List.{AllWithin};
 ghost use Rattle.std.specs.List.Sorted.{IsPartitionPoint};
 ghost use Rattle.smallvec.specs.SmallVec.{small_vec_len};
+ghost use Rattle.lc_range.specs.Touched.{IsTouched};
 ghost use Rattle.lc_range.specs.RangeSet.{EndWithin, IsCanonical};
 ghost use Rattle.lc_range.specs.Walk.{absorbed, is_before, merged, some_holds};
 
@@ -46,24 +47,14 @@ pub fn count_before(runs: &[Range], range: &Range) -> usize
     )
 }
 
-/// Whether a range overlaps or touches a run, so that no run more stands with it.
-pub fn is_touched(runs: &[Range], range: &Range) -> bool
-    requires { IsCanonical runs.now }
-    ensures touched { IsTrue result → length (merged range.now runs.now) ≤ length runs.now }
-    ensures apart { result ≡ false → length (merged range.now runs.now) ≡ length runs.now + 1 }
-{
-    let place = count_before(runs, range);
-    place < runs.len() && !range.is_before(&runs[place])
-}
-
-/// Which runs a range takes the place of, and joined to which run.
+/// Which runs a range takes the place of, and joined to which run. This is the one search for the place of a range, whatever
+/// is then done there.
 pub fn touched(runs: &[Range], range: &Range) -> Touched
     requires canonical { IsCanonical runs.now }
     requires ends { EndWithin runs.now (2 ^ 32 - 1) }
     requires end { range.now.offset + range.now.len < 2 ^ 32 }
-    ensures ordered { result.start ≤ result.end }
-    ensures within { result.end ≤ length runs.now }
-    ensures merged { take result.start runs.now ++ result.run ∷ drop result.end runs.now ≡ merged range.now runs.now }
+    ensures place { IsTouched runs.now result }
+    ensures range { result.range ≡ range.now }
 {
     let start = count_before(runs, range);
     let mut run = *range;
@@ -72,7 +63,12 @@ pub fn touched(runs: &[Range], range: &Range) -> Touched
         run = run.joined(&runs[end]);
         end += 1;
     }
-    Touched { start, end, run }
+    Touched {
+        range: *range,
+        start,
+        end,
+        run,
+    }
 }
 
 /// Puts a run in the place of these, of which there is one at least.

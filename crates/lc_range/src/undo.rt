@@ -3,10 +3,12 @@ ghost use Rattle.std.specs.Prelude.{◌≡◌, ◌⊎◌, ◌+◌, ◌-◌, ◌^
 ghost use Rattle.lc_range.specs.RangeSet.{CountsOutside, EndWithin, IsCanonical, MissesSome};
 ghost use Rattle.lc_range.specs.Undo.{AddsCopies, KeepsOld, LiesBelow, NeedsBytesAbove, NeedsCopiesAbove, TakeMemory, bytes_kept, first_bytes, kept};
 ghost use Rattle.lc_range.specs.Copies.{with_copies};
-ghost use Rattle.lc_range.specs.Walk.{parts, piece};
+ghost use Rattle.lc_range.specs.Walk.{parts_of, piece};
+ghost use Rattle.lc_range.specs.Touched.{IsTouched};
 
 use crate::copies::{add, cut_back, put_back};
-use crate::runs::count_before;
+use crate::runs::touched;
+use crate::touched::Touched;
 use crate::{Range, RangeSet};
 use smallvec::SmallVec;
 use std::alloc::{AllocError, Global};
@@ -95,46 +97,74 @@ impl Undo {
         ensures memory { OnErr result (MissesSome set.now segment offset len) }
         ensures needs { OnErr result (NeedsCopiesAbove 8 self.old set.now segment offset len ⊎ NeedsBytesAbove 64 self.old set.now segment offset len) }
     {
+        let range = Range {
+            segment,
+            offset,
+            len,
+        };
+        let place = touched(set.ranges(), &range);
+        self.keep_at(set, &place, image)
+    }
+
+    /// Keeps the old bytes of the range that has this place among the runs of the set, as `keep_old` does.
+    pub(crate) fn keep_at(
+        &mut self,
+        set: &RangeSet,
+        place: &Touched,
+        image: &[u8],
+    ) -> Result<(), AllocError>
+        requires place { IsTouched set.now place.now }
+        requires within { place.now.range.offset + place.now.range.len ≤ min (length image.now) (2 ^ 32 - 1) }
+        ensures kept { OnOk result
+            (KeepsOld self.old set.now place.now.range.segment place.now.range.offset place.now.range.len (slice_index image.now) self.new) }
+        ensures front { OnOk result (first_bytes (bytes_kept self.old) self.new ≡ self.old) }
+        ensures count { OnOk result ((n : ℕ)
+            × CountsOutside set.now place.now.range.segment place.now.range.offset place.now.range.len n
+            × (bytes_kept self.new ≡ bytes_kept self.old + n)) }
+        ensures copies { OnOk result
+            (AddsCopies self.old set.now place.now.range.segment place.now.range.offset place.now.range.len self.new) }
+        ensures below { OnOk result ((s bound : ℕ) → LiesBelow self.old s bound
+            → (s ≡ place.now.range.segment → place.now.range.offset + place.now.range.len ≤ bound) → LiesBelow self.new s bound) }
+        ensures err { OnErr result (self.new ≡ self.old) }
+        ensures memory { OnErr result (MissesSome set.now place.now.range.segment place.now.range.offset place.now.range.len) }
+        ensures needs { OnErr result
+            (NeedsCopiesAbove 8 self.old set.now place.now.range.segment place.now.range.offset place.now.range.len
+            ⊎ NeedsBytesAbove 64 self.old set.now place.now.range.segment place.now.range.offset place.now.range.len) }
+    {
         let before = self.len();
-        let done = self.keep_outside(set.ranges(), segment, offset, offset + len, image);
+        let done = self.keep_outside(set.ranges(), place, image);
         if done.is_err() {
             self.truncate(before);
         }
         done
     }
 
-    // Keeps the bytes of the positions from one on up to another that no run has.
+    // Keeps the bytes of the range that has this place, at the positions that no run has.
     fn keep_outside(
         &mut self,
         runs: &[Range],
-        segment: u32,
-        offset: u32,
-        end: u32,
+        place: &Touched,
         image: &[u8],
     ) -> Result<(), AllocError>
         requires canonical { IsCanonical runs.now }
         requires ends { EndWithin runs.now (2 ^ 32 - 1) }
-        requires ordered { offset ≤ end }
-        requires within { end ≤ length image.now }
-        ensures ok { OnOk result (self.new ≡ with_copies self.old image.now (parts segment offset end runs.now)) }
+        requires place { IsTouched runs.now place.now }
+        requires within { place.now.range.offset + place.now.range.len ≤ min (length image.now) (2 ^ 32 - 1) }
+        ensures ok { OnOk result (self.new ≡ with_copies self.old image.now (parts_of place.now.range runs.now)) }
         ensures front { (n : ℕ) → n ≤ bytes_kept self.old → first_bytes n self.new ≡ first_bytes n self.old }
-        ensures memory { OnErr result (1 ≤ length (parts segment offset end runs.now)) }
-        ensures needs { OnErr result (TakeMemory (with_copies self.old image.now (parts segment offset end runs.now))) }
+        ensures memory { OnErr result (1 ≤ length (parts_of place.now.range runs.now)) }
+        ensures needs { OnErr result (TakeMemory (with_copies self.old image.now (parts_of place.now.range runs.now))) }
     {
-        let range = Range {
-            segment,
-            offset,
-            len: end - offset,
-        };
-        let mut from = offset;
-        for run in &runs[count_before(runs, &range)..] {
+        let range = place.range;
+        let mut from = range.offset;
+        for run in &runs[place.start..] {
             if range.is_before(run) {
                 break;
             }
-            self.keep(segment, from, run.offset, image)?;
+            self.keep(range.segment, from, run.offset, image)?;
             from = run.offset + run.len;
         }
-        self.keep(segment, from, end, image)
+        self.keep(range.segment, from, range.offset + range.len, image)
     }
 
     // Keeps the bytes of the positions from one on up to another, if there are some.

@@ -135,26 +135,15 @@ impl Tx {
         if !lies_within(bytes, offset, len as usize) || offset.checked_add(len).is_none() {
             return Err(TxFault::OutOfSegment);
         }
-        if !self.set.has_room(segment, offset, len) {
-            return Err(TxFault::TooManyRanges);
-        }
-        let kept = self.undo.len();
-        if self
-            .undo
-            .keep_old(&self.set, segment, offset, len, bytes)
-            .is_err()
+        match self
+            .set
+            .add_kept(&mut self.undo, segment, offset, len, bytes)
         {
-            return Err(TxFault::NoMemory);
-        }
-        match self.set.add(segment, u32::MAX, offset, len) {
             Ok(()) => Ok(()),
-            Err(RangeFault::NoMemory) => {
-                self.undo.truncate(kept);
-                Err(TxFault::NoMemory)
-            }
+            Err(RangeFault::TooManyRanges) => Err(TxFault::TooManyRanges),
+            Err(RangeFault::NoMemory) => Err(TxFault::NoMemory),
             Err(RangeFault::EmptyRange) => unreachable!(),
             Err(RangeFault::OutOfSegment) => unreachable!(),
-            Err(RangeFault::TooManyRanges) => unreachable!(),
         }
     }
 

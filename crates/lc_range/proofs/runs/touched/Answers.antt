@@ -1,8 +1,9 @@
-use Rattle.std.proofs.Common.{◌+◌, ◌-◌, ◌^◌, ap, sym, ◌∙◌, ◌++◌, List, get_or, take, drop, arith}
+use Rattle.std.proofs.Common.{◌≡◌, ◌∷◌, ◌+◌, ◌-◌, ◌^◌, ap, sym, ◌∙◌, ◌++◌, List, get_or, take, drop, arith}
 use Rattle.lc_range.specs.Walk.{absorbed}
 use Rattle.lc_range.specs.declared.range.Range.{Range}
-use Rattle.lc_range.proofs.WalkLemmas.{end_at, end_joined, absorbed_more}
+use Rattle.lc_range.proofs.WalkLemmas.{end_at, end_joined, absorbed_before, absorbed_last, absorbed_more}
 use Rattle.lc_range.proofs.runs.touched.Goals as goal
+use Rattle.lc_range.proofs.runs.touched.Goals.{then-loop-end-test+else-not-is_before, else-loop-end-test}
 
 pub joined-run-requires-clause-other_fits : goal.joined-run-requires-clause-other_fits
 joined-run-requires-clause-other_fits c =
@@ -21,3 +22,19 @@ loop-end-preserved c =
           ∙ ap (λ (l : List Range). take c.count_before-start.result c.args.runs.now ++ l) (sym (absorbed_more c.loop-end.run c.args.runs.now c.loop-end.end d within (sym c.is_before.ensures ∙ c.if-not-is_before.true)))
           ∙ c.loop-end.invariant.rest;
     }
+
+pub returns-clause-place : goal.returns-clause-place
+returns-clause-place c = record {
+  ordered = c.loop-end.invariant.ordered;
+  within = c.loop-end.invariant.within;
+  before = c.count_before-start.ensures.place;
+  added =
+      let d : Range = record { segment = 0; offset = 0; len = 0 } in
+      let runs = c.args.runs.now in
+      let placed : absorbed c.loop-end.run (drop c.loop-end.end runs) ≡ c.loop-end.run ∷ drop c.loop-end.end runs =
+      elim c.loop-end-test.branch [
+        | then-loop-end-test+else-not-is_before w ↦ absorbed_before c.loop-end.run runs c.loop-end.end d w.loop-end-test.true (sym w.is_before.ensures ∙ w.if-not-is_before.false)
+        | else-loop-end-test w ↦ absorbed_last c.loop-end.run runs c.loop-end.end w.loop-end-test.false
+      ] in
+      ap (λ (l : List Range). take c.count_before-start.result runs ++ l) (sym placed) ∙ c.loop-end.invariant.rest;
+}

@@ -1,81 +1,39 @@
-use Rattle.std.proofs.Common.{◌≡◌, ◌⊎◌, ◌+◌, ◌≤◌, ℕ, List, length, refl, sym, subst, inl, inr, arith}
-use Rattle.std.proofs.lemmas.Result.{on_ok_weaker, on_err_weaker}
-use Rattle.std.specs.Prelude.{slice_index, OnOk}
-use Rattle.lc_range.specs.RangeSet.{CountsOutside, total_len}
-use Rattle.lc_range.specs.Walk.{parts}
+use Rattle.std.proofs.Common.{◌≡◌, ◌⊎◌, ◌+◌, ◌≤◌, ℕ, ap, subst, arith}
+use Rattle.std.specs.Prelude.{slice_index, OnErr, OnOk}
+use Rattle.lc_range.specs.RangeSet.{CountsOutside, MissesSome}
+use Rattle.lc_range.specs.Undo.{AddsCopies, KeepsOld, LiesBelow, NeedsBytesAbove, NeedsCopiesAbove, bytes_kept}
 use Rattle.lc_range.specs.declared.range.Range.{Range}
-use Rattle.lc_range.specs.Undo.{OldBytes, AddsCopies, KeepsOld, LiesBelow, NeedsBytesAbove, NeedsCopiesAbove, TakeMemory, bytes_kept}
-use Rattle.lc_range.specs.Copies.{with_copies}
-use Rattle.lc_range.proofs.PartsLemmas.{ArePartsOf, parts_are, misses_some}
-use Rattle.lc_range.proofs.GrowLemmas.{bytes_with_copies, copies_with_all}
-use Rattle.lc_range.proofs.KeepLemmas.{keeps_first, keeps_bytes, keeps_others, keeps_below}
 use Rattle.lc_range.proofs.undo.Undo.keep_old.Goals as goal
-use Rattle.lc_range.proofs.undo.Undo.keep_old.Goals.{Else-is_err, After-truncate}
 
--- the parts that are copied
-abbrev the_parts : ℕ → ℕ → ℕ → List Range → List Range
-the_parts segment offset len runs = parts segment offset (offset + len) runs
+pub keep_at-requires-clause-within : goal.keep_at-requires-clause-within
+keep_at-requires-clause-within c = omega (arith, c.requires, ap (λ (r : Range). r.len) c.touched-place.ensures.range, ap (λ (r : Range). r.offset) c.touched-place.ensures.range)
 
-are : (c : Else-is_err) → ArePartsOf c.args.set.now c.args.segment c.args.offset c.args.len (length c.args.image.now) (the_parts c.args.segment c.args.offset c.args.len c.ranges-2.result.now)
-are c =
-    parts_are c.args.set.now c.ranges-2.result.now c.args.segment c.args.offset c.args.len (length c.args.image.now) (the_parts c.args.segment c.args.offset c.args.len c.ranges-2.result.now) _
-    c.ranges-2.ensures.runs c.ranges-2.ensures.canonical (omega (arith, c.requires)) refl refl
+pub returns-clause-kept : goal.returns-clause-kept
+returns-clause-kept c =
+    subst (λ (r : Range). OnOk c.keep_at.result (KeepsOld c.args.self.now c.args.set.now r.segment r.offset r.len (slice_index c.args.image.now) c.keep_at.new.self)) c.touched-place.ensures.range
+    c.keep_at.ensures.kept
 
--- what holds of the old copies with the new ones behind them
-shown : (c : Else-is_err) (P : List OldBytes → Type 0) → P (with_copies c.args.self.now c.args.image.now (the_parts c.args.segment c.args.offset c.args.len c.ranges-2.result.now))
-    → OnOk c.keep_outside-done.result (P c.keep_outside-done.new.self)
-shown c P p = on_ok_weaker c.keep_outside-done.result (λ grows. subst P (sym grows) p) c.keep_outside-done.ensures.ok
+pub returns-clause-count : goal.returns-clause-count
+returns-clause-count c =
+    subst (λ (r : Range). OnOk c.keep_at.result ((n : ℕ) × CountsOutside c.args.set.now r.segment r.offset r.len n × (bytes_kept c.keep_at.new.self ≡ bytes_kept c.args.self.now + n))) c.touched-place.ensures.range
+    c.keep_at.ensures.count
 
-pub returns-then-is_err-clause-memory : goal.returns-then-is_err-clause-memory
-returns-then-is_err-clause-memory c =
-    let set = c.args.set.now in
-    let xs : List Range = the_parts c.args.segment c.args.offset c.args.len c.ranges-2.result.now in
-    let parts : ArePartsOf set c.args.segment c.args.offset c.args.len (length c.args.image.now) xs =
-    parts_are set c.ranges-2.result.now c.args.segment c.args.offset c.args.len (length c.args.image.now) xs xs c.ranges-2.ensures.runs c.ranges-2.ensures.canonical (omega (arith, c.requires)) refl refl in
-    on_err_weaker c.keep_outside-done.result (misses_some set xs c.args.segment c.args.offset c.args.len parts.outside parts.canonical) c.keep_outside-done.ensures.memory
+pub returns-clause-copies : goal.returns-clause-copies
+returns-clause-copies c =
+    subst (λ (r : Range). OnOk c.keep_at.result (AddsCopies c.args.self.now c.args.set.now r.segment r.offset r.len c.keep_at.new.self)) c.touched-place.ensures.range
+    c.keep_at.ensures.copies
 
-pub returns-else-is_err-clause-kept : goal.returns-else-is_err-clause-kept
-returns-else-is_err-clause-kept c =
-    let parts = are c in
-    let xs : List Range = the_parts c.args.segment c.args.offset c.args.len c.ranges-2.result.now in
-    shown c (λ l. KeepsOld c.args.self.now c.args.set.now c.args.segment c.args.offset c.args.len (slice_index c.args.image.now) l) (record {
-      first = keeps_first c.args.self.now c.args.image.now xs c.args.set.now c.args.segment c.args.offset c.args.len parts.outside parts.ends;
-      fresh = keeps_bytes c.args.self.now c.args.image.now xs c.args.set.now c.args.segment c.args.offset c.args.len parts.outside parts.ends;
-      others = keeps_others c.args.self.now c.args.image.now xs c.args.set.now c.args.segment c.args.offset c.args.len parts.outside parts.ends;
-    })
+pub returns-clause-below : goal.returns-clause-below
+returns-clause-below c =
+    subst (λ (r : Range). OnOk c.keep_at.result ((s bound : ℕ) → LiesBelow c.args.self.now s bound → (s ≡ r.segment → r.offset + r.len ≤ bound) → LiesBelow c.keep_at.new.self s bound)) c.touched-place.ensures.range
+    c.keep_at.ensures.below
 
-pub returns-else-is_err-clause-count : goal.returns-else-is_err-clause-count
-returns-else-is_err-clause-count c =
-    let parts = are c in
-    let xs : List Range = the_parts c.args.segment c.args.offset c.args.len c.ranges-2.result.now in
-    shown c (λ l. (n : ℕ) × CountsOutside c.args.set.now c.args.segment c.args.offset c.args.len n × (bytes_kept l ≡ bytes_kept c.args.self.now + n))
-    (total_len xs, (xs, parts.canonical, parts.outside, refl), bytes_with_copies c.args.self.now c.args.image.now xs parts.ends)
+pub returns-clause-memory : goal.returns-clause-memory
+returns-clause-memory c =
+    subst (λ (r : Range). OnErr c.keep_at.result (MissesSome c.args.set.now r.segment r.offset r.len)) c.touched-place.ensures.range
+    c.keep_at.ensures.memory
 
-pub returns-else-is_err-clause-copies : goal.returns-else-is_err-clause-copies
-returns-else-is_err-clause-copies c =
-    let parts = are c in
-    let xs : List Range = the_parts c.args.segment c.args.offset c.args.len c.ranges-2.result.now in
-    shown c (λ l. AddsCopies c.args.self.now c.args.set.now c.args.segment c.args.offset c.args.len l)
-    (xs, parts.canonical, parts.outside, copies_with_all c.args.self.now c.args.image.now xs parts.canonical parts.ends)
-
-pub returns-else-is_err-clause-below : goal.returns-else-is_err-clause-below
-returns-else-is_err-clause-below c =
-    let parts = are c in
-    shown c (λ l. (s bound : ℕ) → LiesBelow c.args.self.now s bound → (s ≡ c.args.segment → c.args.offset + c.args.len ≤ bound) → LiesBelow l s bound)
-    (keeps_below c.args.self.now c.args.image.now (the_parts c.args.segment c.args.offset c.args.len c.ranges-2.result.now) c.args.set.now c.args.segment c.args.offset c.args.len parts.outside parts.ends)
-
--- what the copies of these parts take is what their positions need
-needed : (old : List OldBytes) (image : List ℕ) (set xs : List Range) (s offset len : ℕ) → ArePartsOf set s offset len (length image) xs → TakeMemory (with_copies old image xs)
-    → NeedsCopiesAbove 8 old set s offset len ⊎ NeedsBytesAbove 64 old set s offset len
-needed old image set xs s offset len parts takes = elim takes [
-  | inl many ↦ inl (xs, parts.canonical, parts.outside, omega (arith, many, copies_with_all old image xs parts.canonical parts.ends))
-  | inr large ↦ inr (total_len xs, (xs, parts.canonical, parts.outside, refl), omega (arith, large, bytes_with_copies old image xs parts.ends))
-]
-
-pub returns-then-is_err-clause-needs : goal.returns-then-is_err-clause-needs
-returns-then-is_err-clause-needs c =
-    let set = c.args.set.now in
-    let xs : List Range = the_parts c.args.segment c.args.offset c.args.len c.ranges-2.result.now in
-    let parts : ArePartsOf set c.args.segment c.args.offset c.args.len (length c.args.image.now) xs =
-    parts_are set c.ranges-2.result.now c.args.segment c.args.offset c.args.len (length c.args.image.now) xs xs c.ranges-2.ensures.runs c.ranges-2.ensures.canonical (omega (arith, c.requires)) refl refl in
-    on_err_weaker c.keep_outside-done.result (needed c.args.self.now c.args.image.now set xs c.args.segment c.args.offset c.args.len parts) c.keep_outside-done.ensures.needs
+pub returns-clause-needs : goal.returns-clause-needs
+returns-clause-needs c =
+    subst (λ (r : Range). OnErr c.keep_at.result (NeedsCopiesAbove 8 c.args.self.now c.args.set.now r.segment r.offset r.len ⊎ NeedsBytesAbove 64 c.args.self.now c.args.set.now r.segment r.offset r.len)) c.touched-place.ensures.range
+    c.keep_at.ensures.needs
