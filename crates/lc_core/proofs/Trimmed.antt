@@ -1,6 +1,6 @@
 -- The published records that every node has applied are counted, and trimmed.
-use Rattle.std.proofs.Common.{◌≡◌, ℕ, zero, suc, ◌+◌, ◌-◌, ◌<◌, ◌≤◌, Bool, true, false, List, [], ◌∷◌, map, length, take, All, Some, slice_get, refl, sym, ap, subst, ◌∙◌, inl, inr, arith, below_more}
-use Rattle.std.specs.Prelude.{not, ◌&&◌, if◌then◌else◌}
+use Rattle.std.proofs.Common.{◌≡◌, ℕ, zero, suc, ◌+◌, ◌-◌, ◌<◌, ◌≤◌, Bool, true, false, List, [], ◌∷◌, map, length, take, All, Some, slice_get, refl, sym, ap, subst, ◌∙◌, arith, below_more}
+use Rattle.std.specs.Prelude.{◌&&◌, if◌then◌else◌}
 use Rattle.std.specs.List.{list_all}
 use Rattle.std.proofs.lemmas.List.{length-map, length-drop, length-replicate, length-take-le}
 use Rattle.std.proofs.lemmas.List.Elements.{All-nil, All-cons, All-head, All-tail, All-weaker}
@@ -23,22 +23,18 @@ use Rattle.lc_model.proofs.Moves.{acked-records}
 use Rattle.lc_core.specs.Follows.{FitsJournal}
 use Rattle.lc_core.specs.Numbers.{Numbers, published}
 use Rattle.lc_core.specs.Places.{same_some}
-use Rattle.lc_core.specs.Published.{Finds, IsFound}
-use Rattle.lc_core.specs.Trimming.{is_done, IsKnown, AreKnown, AllFit, TellsWanted, Counts}
+use Rattle.lc_core.specs.Records.{Spelled, count_of, front_of}
+use Rattle.lc_core.specs.Trimming.{is_done, IsKnown, AreKnown, AllFit, TellsLocks, Counts}
 use Rattle.lc_core.specs.declared.journal.Journal.{Journal}
 use Rattle.lc_core.specs.declared.node.Node.{Node}
-use Rattle.lc_core.specs.declared.publishing.Published.{Published}
-use Rattle.lc_core.specs.declared.publishing.Published.TheVariants.{Unknown, Trimmed, Record as Found}
+use Rattle.lc_core.proofs.Published.{kept_at}
+use Rattle.lc_core.proofs.Spans.{leading_le}
 
 -- Lists
 
 and_false : (b : Bool) → (b && false) ≡ false
 and_false true = refl
 and_false false = refl
-
-pub not_not : (b : Bool) → not (not b) ≡ b
-not_not true = refl
-not_not false = refl
 
 pub all_pass : {A : Type 0} (p : A → Bool) (xs : List A) → ((k : ℕ) (x : A) → slice_get xs k ≡ Some x → p x ≡ true) → list_all p xs ≡ true
 all_pass p [] each = refl
@@ -160,34 +156,30 @@ module _ {D : Type 0} (a : Ghosts D) where
       let below : k < w.acked - w.trimmed = omega (arith, within, same) in
       done m n s x sound journal slots k r below at))
 
-  module _ (nodes : List (Node D a)) (w : Journal D a) (number : ℕ) (kept : w.trimmed ≤ number) (below : number < w.acked) (found : Published)
-      (finds : Finds a w (number + 1) found) where
-    -- what was found is the record of the number
-    looked_at : (answer : Bool) → TellsWanted a nodes found answer → (m : Setting) (n : ℕ) (s : State) (x : Numbers) → Sound m.geometry s → FitsJournal a m n w s x → AllFit a m nodes s x
-        → (r : Record) × (slice_get (published m s x n) (number - w.trimmed) ≡ Some r) × (not answer ≡ is_done m x r)
-    looked_at answer tells m n s x sound journal slots = looked found (finds m n s x journal) tells
-      where
-        looked : (found : Published) → IsFound m n s x (number + 1) found → TellsWanted a nodes found answer
-            → (r : Record) × (slice_get (published m s x n) (number - w.trimmed) ≡ Some r) × (not answer ≡ is_done m x r)
-        looked Unknown (inl none) tells = absurd (omega (arith, none))
-        looked Unknown (inr above) tells = absurd (omega (arith, above, below, journal.acked_is))
-        looked Trimmed is tells = absurd (omega (arith, is.2, kept, journal.trimmed_is))
-        looked (Found r) is tells =
-            let there : x.trimmed n + (number - w.trimmed) ≡ (number + 1) - 1 = omega (arith, kept, journal.trimmed_is) in
-            let within : x.trimmed n + (number - w.trimmed) < s.ack n = omega (arith, there, below, journal.acked_is) in (
-              r,
-              published_at m n s x (number - w.trimmed) within ∙ ap (slice_get (records_of m s x.disks n)) there ∙ is.3,
-              tells m s x slots (known_at m n s x ((number + 1) - 1) r sound is.3),
-            )
+  module _ (nodes : List (Node D a)) (w : Journal D a) (number : ℕ) (kept : w.trimmed ≤ number) (below : number < w.acked) (words : List ℕ)
+      (are : (r : Spelled) → slice_get w.records.records (number - w.records.before) ≡ Some r → words ≡ r.words) where
+    -- the words are those of the record of the number
+    looked_at : (answer : Bool) → TellsLocks a nodes words answer → (m : Setting) (n : ℕ) (s : State) (x : Numbers) → Sound m.geometry s → FitsJournal a m n w s x → AllFit a m nodes s x
+        → (r : Record) × (slice_get (published m s x n) (number - w.trimmed) ≡ Some r) × (answer ≡ is_done m x r)
+    looked_at answer tells m n s x sound journal slots =
+        let front : front_of w.records ≤ count_of w.records = omega (arith, leading_le w.records.records) in
+        let one = kept_at a m n s x w.log w.records w.dropped w.trimmed w.taken w.acked journal number words
+        (omega (arith, w.kept_for_peers, kept)) (omega (arith, below, w.acked_taken, w.taken_closed, front)) are in
+        let there : x.trimmed n + (number - w.trimmed) ≡ number = omega (arith, kept, journal.trimmed_is) in
+        let within : x.trimmed n + (number - w.trimmed) < s.ack n = omega (arith, there, below, journal.acked_is) in (
+          one.0,
+          published_at m n s x (number - w.trimmed) within ∙ ap (slice_get (records_of m s x.disks n)) there ∙ one.1,
+          tells m s x one.0 slots one.2 (known_at m n s x number one.0 sound one.1),
+        )
 
-    pub stops_at : AreDone nodes w (number - w.trimmed) → TellsWanted a nodes found true → Counts a nodes w (number - w.trimmed)
+    pub stops_at : AreDone nodes w (number - w.trimmed) → TellsLocks a nodes words false → Counts a nodes w (number - w.trimmed)
     stops_at done tells m n s x sound journal slots =
-        let one = looked_at true tells m n s x sound journal slots in
+        let one = looked_at false tells m n s x sound journal slots in
         sym (leads_to (is_done m x) (published m s x n) (number - w.trimmed) one.0 one.1 (sym one.2) (done m n s x sound journal slots))
 
-    pub one_more : AreDone nodes w (number - w.trimmed) → TellsWanted a nodes found false → AreDone nodes w ((number + 1) - w.trimmed)
+    pub one_more : AreDone nodes w (number - w.trimmed) → TellsLocks a nodes words true → AreDone nodes w ((number + 1) - w.trimmed)
     one_more done tells m n s x sound journal slots k r less at =
-        let one = looked_at false tells m n s x sound journal slots in
+        let one = looked_at true tells m n s x sound journal slots in
         below_more (λ (k : ℕ). (r : Record) → slice_get (published m s x n) k ≡ Some r → is_done m x r ≡ true) (number - w.trimmed)
         (λ k before r at. done m n s x sound journal slots k r before at)
         (λ r at. (let same : r ≡ one.0 = same_some r one.0 (sym at ∙ one.1) in ap (is_done m x) same ∙ sym one.2))

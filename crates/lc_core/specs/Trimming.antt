@@ -1,7 +1,8 @@
 -- What it is that records are counted which every node has applied.
-use Rattle.std.specs.Prelude.{◌≡◌, ℕ, ◌≤◌, Bool, true, not, List, map, nat_le, length, Some, slice_get}
+use Rattle.std.specs.Prelude.{◌≡◌, ℕ, ◌≤◌, Bool, List, map, nat_le, length, Some, slice_get}
 use Rattle.std.specs.List.{list_all}
 use Rattle.lc_disk.specs.declared.area.Area.{Ghosts}
+use Rattle.lc_record.specs.Record.{IsRecord}
 use Rattle.lc_record.specs.declared.record.Lock.{Lock}
 use Rattle.lc_record.specs.declared.record.Record.{Record as Spelled}
 use Rattle.lc_model.specs.History.{leading}
@@ -12,8 +13,6 @@ use Rattle.lc_core.specs.Numbers.{Numbers, is_applied, published}
 use Rattle.lc_core.specs.Slots.{FitsSlots, besides_of}
 use Rattle.lc_core.specs.declared.journal.Journal.{Journal}
 use Rattle.lc_core.specs.declared.node.Node.{Node}
-use Rattle.lc_core.specs.declared.publishing.Published.{Published}
-use Rattle.lc_core.specs.declared.publishing.Published.TheVariants.{Unknown, Trimmed, Record}
 
 -- every node has applied what the record locks
 abbrev pub is_done : Setting → Numbers → Spelled → Bool
@@ -44,16 +43,10 @@ module _ {D : Type 0} (a : Ghosts D) where
   TellsApplied nodes lock answer =
       (m : Setting) (s : State) (x : Numbers) → AllFit m nodes s x → IsKnown m lock → answer ≡ is_applied m.geometry x lock
 
-  -- that they have for each of these locks
-  abbrev pub TellsLocks : List (Node D a) → List Lock → Bool → Type 0
-  TellsLocks nodes locks answer =
-      (m : Setting) (s : State) (x : Numbers) → AllFit m nodes s x → AreKnown m locks → answer ≡ list_all (is_applied m.geometry x) locks
-
-  -- that some of them has not applied what was found; where there is no record that is so too
-  abbrev pub TellsWanted : List (Node D a) → Published → Bool → Type 0
-  TellsWanted nodes Unknown answer = answer ≡ true
-  TellsWanted nodes Trimmed answer = answer ≡ true
-  TellsWanted nodes (Record r) answer = TellsLocks nodes r.locks (not answer)
+  -- that they have for each lock of the record of these words
+  abbrev pub TellsLocks : List (Node D a) → List ℕ → Bool → Type 0
+  TellsLocks nodes words answer =
+      (m : Setting) (s : State) (x : Numbers) (r : Spelled) → AllFit m nodes s x → IsRecord r words → AreKnown m r.locks → answer ≡ is_done m x r
 
   -- so many of the records that a journal has published are applied everywhere, from the first
   abbrev pub Counts : List (Node D a) → Journal D a → ℕ → Type 0

@@ -14,7 +14,7 @@ use crate::journal::{Journal, reply_of};
 use crate::log::Log;
 use crate::{Refusal, Reply};
 use lc_disk::Area;
-use lc_record::View;
+use lc_record::{kept_lock, kept_lock_count};
 use lc_trunc::{KnownClean, Unclean, above, lesser};
 use std::mem;
 
@@ -124,14 +124,11 @@ fn least_with(words: &[u64], known: &KnownClean, rest: Option<Unclean>) -> Optio
     ensures { (r : Spelled) (locks : List Locked) → IsRecord r words.now → rest ≡ least_unclean (known_of known.now) locks
         → result ≡ least_unclean (known_of known.now) (r.locks ++ locks) }
 {
-    let Some(view) = View::at(words, 0) else {
-        return rest;
-    };
     let mut least = rest;
-    let mut index = view.lock_count();
-    while index > 0 {
-        index -= 1;
-        least = lesser(above(view.lock(index).unwrap(), known), least);
+    for index in (0..kept_lock_count(words)).rev() {
+        if let Some(lock) = kept_lock(words, index) {
+            least = lesser(above(lock, known), least);
+        }
     }
     least
 }

@@ -1,12 +1,11 @@
 //! How many of a node's published records no peer wants any more.
 ghost use Rattle.std.specs.Prelude.{◌+◌, ◌≤◌};
-ghost use Rattle.lc_core.specs.Trimming.{Counts, TellsApplied, TellsAppliedAt, TellsLocks, TellsWanted};
+ghost use Rattle.lc_core.specs.Trimming.{Counts, TellsApplied, TellsAppliedAt, TellsLocks};
 
 use crate::journal::Journal;
 use crate::node::Node;
-use crate::publishing::Published;
 use lc_disk::Area;
-use lc_record::{Lock, View};
+use lc_record::{Lock, kept_lock, kept_lock_count};
 
 /// How many of the published records of a journal, from the first, are applied at all of these nodes: at each of them every
 /// segment that the record has a lock on. It takes no memory.
@@ -15,29 +14,21 @@ pub(crate) fn applied_in_front<D: Area + Drop>(nodes: &[Node<D>], journal: &Jour
     ensures counts { Counts D.Area nodes.now journal.now result }
 {
     for number in journal.trimmed..journal.acked {
-        if is_wanted(nodes, &journal.published(number + 1)) {
+        if !are_locks_applied(nodes, journal.records.words(number)) {
             return number - journal.trimmed;
         }
     }
     journal.acked - journal.trimmed
 }
 
-// Whether some node has still to apply what was found under a number.
-fn is_wanted<D: Area + Drop>(nodes: &[Node<D>], found: &Published<'_>) -> bool
-    ensures { TellsWanted D.Area nodes.now found.now result }
+// Whether all nodes have applied each segment that the record of these words has a lock on, up to the lock's number.
+fn are_locks_applied<D: Area + Drop>(nodes: &[Node<D>], words: &[u64]) -> bool
+    ensures { TellsLocks D.Area nodes.now words.now result }
 {
-    match found {
-        Published::Record(view) => !are_locks_applied(nodes, view),
-        Published::Unknown | Published::Trimmed => true,
-    }
-}
-
-// Whether all nodes have applied each segment that a record has a lock on, up to the lock's number.
-fn are_locks_applied<D: Area + Drop>(nodes: &[Node<D>], view: &View<'_>) -> bool
-    ensures { TellsLocks D.Area nodes.now view.now.locks result }
-{
-    for index in 0..view.lock_count() {
-        let lock = view.lock(index).unwrap();
+    for index in 0..kept_lock_count(words) {
+        let Some(lock) = kept_lock(words, index) else {
+            return false;
+        };
         if !is_applied(nodes, lock) {
             return false;
         }

@@ -1,5 +1,7 @@
 use Rattle.std.proofs.Common.{◌≡◌, ℕ, ◌<◌, true, Some, slice_get}
+use Rattle.lc_record.specs.Record.{IsRecord}
 use Rattle.lc_record.specs.declared.record.Lock.{Lock}
+use Rattle.lc_record.specs.declared.record.Record.{Record}
 use Rattle.lc_model.specs.State.{Setting, State}
 use Rattle.lc_core.specs.Numbers.{Numbers, is_applied}
 use Rattle.lc_core.specs.Trimming.{AllFit, AreKnown}
@@ -7,5 +9,5 @@ use Rattle.lc_core.proofs.trimming.are_locks_applied.Given as goal
 
 abbrev pub invariant-loop-index : goal.invariant-loop-index
 invariant-loop-index g l =
-    (m : Setting) (s : State) (x : Numbers) → AllFit g.D.Area m l.nodes s x → AreKnown m l.view.locks → (k : ℕ) → k < l.index
-    → (lock : Lock) → slice_get l.view.locks k ≡ Some lock → is_applied m.geometry x lock ≡ true
+    (m : Setting) (s : State) (x : Numbers) (r : Record) → AllFit g.D.Area m l.nodes s x → IsRecord r l.words → AreKnown m r.locks → (k : ℕ) → k < l.index
+    → (lock : Lock) → slice_get r.locks k ≡ Some lock → is_applied m.geometry x lock ≡ true
