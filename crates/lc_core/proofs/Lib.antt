@@ -55,6 +55,7 @@ pub mod AtOnce
 pub mod Published
 pub mod Trimmed
 pub mod Trims
+pub mod Truncations
 pub mod PartPut
 pub mod Kept
 pub mod Away

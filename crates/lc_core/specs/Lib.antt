@@ -33,6 +33,7 @@ pub mod Running
 pub mod Refuses
 pub mod Published
 pub mod Trimming
+pub mod Truncating
 pub mod Receives
 pub mod Delivers
 pub mod Growing

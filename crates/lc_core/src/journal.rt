@@ -144,7 +144,5 @@ fn fill(group: &mut Group, words: &[u64])
     ensures { group.new ≡ record group.old { words = words.now } }
 {
     group.clear();
-    for word in words {
-        group.push(*word);
-    }
+    group.extend(words);
 }

@@ -26,4 +26,6 @@ mod stores;
 #[cfg(test)]
 mod text_tests;
 #[cfg(test)]
+mod truncation_tests;
+#[cfg(test)]
 mod world_tests;
