@@ -25,12 +25,10 @@ use Rattle.lc_tx.proofs.HoldsLemmas.{held_cases}
 use Rattle.lc_tx.proofs.StandsLemmas.{unwritten}
 use Rattle.lc_core.specs.Here.{the_images}
 use Rattle.lc_core.specs.Places.{get_set_same, get_set_other, same_some}
-use Rattle.lc_core.specs.Seat.{holder_of}
+use Rattle.lc_core.specs.Seat.{Seat, Free, Open, Reserved, holder_of}
 use Rattle.lc_core.specs.Seats.{Runs, AllRun}
 use Rattle.lc_core.specs.Desk.{IsOpen, IsReserved, FitsSeat, FitsDesk, Sits}
 use Rattle.lc_core.specs.declared.here.Here.{Here}
-use Rattle.lc_core.specs.declared.seat.Seat.{Seat}
-use Rattle.lc_core.specs.declared.seat.Seat.TheVariants.{Free, Open, Reserved}
 use Rattle.lc_core.proofs.Seating.{at_place, seat_of}
 use Rattle.lc_core.proofs.Holding.{find-left, find-right}
 

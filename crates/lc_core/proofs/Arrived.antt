@@ -20,7 +20,7 @@ use Rattle.lc_core.specs.Places.{same_some}
 use Rattle.lc_core.specs.Arrives.{Waits, Arrives}
 use Rattle.lc_core.specs.declared.desk.Desk.{Desk}
 use Rattle.lc_core.specs.declared.here.Here.{Here}
-use Rattle.lc_core.specs.declared.seat.Seat.{Seat}
+use Rattle.lc_core.specs.Seat.{Seat}
 use Rattle.lc_core.specs.declared.slot.Slot.{Slot}
 use Rattle.lc_core.proofs.Left.{as_before, runs_stay}
 use Rattle.lc_core.proofs.Moved.{runs_moved, desk_moved, away-free}

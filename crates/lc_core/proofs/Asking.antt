@@ -26,13 +26,12 @@ use Rattle.lc_core.specs.Here.{the_images}
 use Rattle.lc_core.specs.Numbers.{Numbers}
 use Rattle.lc_core.specs.Refuses.{Refuses}
 use Rattle.lc_core.specs.Running.{FitsRunning, WantsBytes, WantsRange}
-use Rattle.lc_core.specs.Seat.{holder_of}
+use Rattle.lc_core.specs.Seat.{Open, holder_of}
 use Rattle.lc_core.specs.Stepping.{AsksMemory, Wants}
 use Rattle.lc_core.specs.World.{AsksIn, AsksWorld, FitsDown, FitsPhase}
 use Rattle.lc_core.specs.declared.phase.Phase.{Phase}
 use Rattle.lc_core.specs.declared.phase.Phase.TheVariants.{Down, Up, Taken}
 use Rattle.lc_core.specs.declared.running.Running.{Running}
-use Rattle.lc_core.specs.declared.seat.Seat.TheVariants.{Open}
 use Rattle.lc_core.specs.declared.world.World.{World}
 use Rattle.lc_core.proofs.RangeRows.{all_reached, lock_is, size_is}
 

@@ -37,11 +37,9 @@ use Rattle.lc_tx.proofs.StandsLemmas.{begun_stands}
 use Rattle.lc_tx.proofs.AscendLemmas.{set_is_ascending}
 use Rattle.lc_core.specs.Places.{get_set_same, get_set_other, same_some}
 use Rattle.lc_core.specs.declared.here.Here.{Here}
-use Rattle.lc_core.specs.declared.seat.Seat.{Seat}
-use Rattle.lc_core.specs.declared.seat.Seat.TheVariants.{Free, Open, Reserved}
+use Rattle.lc_core.specs.Seat.{Seat, Free, Open, Reserved, holder_of, is_free}
 use Rattle.lc_core.specs.Refused.{refusal_of}
 use Rattle.lc_core.specs.Here.{the_images}
-use Rattle.lc_core.specs.Seat.{holder_of, is_free}
 use Rattle.lc_core.specs.Seats.{Runs, AllRun}
 use Rattle.lc_core.specs.Desk.{IsOpen, FitsSeat, FitsDesk, Sits}
 use Rattle.lc_core.specs.FollowsDesk.{SameButOpen}
@@ -192,7 +190,7 @@ module _ (m : Setting) (node i : ℕ) (old : Here) (seats : List Seat) (s : Stat
         begin-refused m s node i segments reading refusal turn
         (first_counted node s segments (λ k. is_member k (segments ++ reading)) x refusal 1 m.geometry.segments member bounds.0 (omega (arith, bounds.1)) (λ other asked less. open_to other asked (first.least other less)) taken)
 
-    pub begin_fault : (r : Result Tx TxFault) (fault : TxFault) (refusal : Refusal)
+    pub begin_fault : (r : Result (Unit {0}) TxFault) (fault : TxFault) (refusal : Refusal)
         → ((n : ℕ) → (r ≡ Err (IsNotHere n)) ↔ (IsFirstTaken the_images old segments reading n × (the_images.number_of old n ≡ None)))
         → ((n : ℕ) → (r ≡ Err (IsBusy n)) ↔ (IsFirstTaken the_images old segments reading n × IsHere the_images old n))
         → is_of_begin fault ≡ true → r ≡ Err fault → refusal_of fault ≡ Some refusal → Row m s (Begin node i segments reading) (Refused refusal) s

@@ -23,21 +23,13 @@ use Rattle.lc_tx.proofs.HolderLemmas.{writer_is_some}
 use Rattle.lc_tx.proofs.MemberLemmas.{is_one}
 use Rattle.lc_core.specs.Places.{get_set_same, get_set_other, same_some}
 use Rattle.lc_core.specs.declared.here.Here.{Here}
-use Rattle.lc_core.specs.declared.seat.Seat.{Seat}
-use Rattle.lc_core.specs.declared.seat.Seat.TheVariants.{Free, Open, Reserved}
+use Rattle.lc_core.specs.Seat.{Seat, Open, open_of, holder_of}
 use Rattle.lc_core.specs.Here.{the_images}
-use Rattle.lc_core.specs.Seat.{open_of, holder_of}
 use Rattle.lc_core.specs.Seats.{Runs, AllRun}
 use Rattle.lc_core.specs.Desk.{IsOpen, FitsSeat, FitsDesk, Sits}
 use Rattle.lc_core.specs.FollowsDesk.{SameButOpen}
 use Rattle.lc_core.proofs.Dropping.{seat_beside}
-use Rattle.lc_core.proofs.Seating.{at_place, seat_of, is_open}
-
--- a seat that is not open has no open transaction
-pub unopened : (seat : Seat) → ((tx : Tx) → seat ≡ Open tx → ⊥) → open_of seat ≡ None
-unopened Free not = refl
-unopened (Open tx) not = absurd (not tx refl)
-unopened (Reserved tx number) not = refl
+use Rattle.lc_core.proofs.Seating.{at_place, seat_of, open_seat}
 
 -- The images, where nobody's lock has changed
 
@@ -130,7 +122,7 @@ module _ (old new : Here) (seats : List Seat) (i : ℕ) (seat : Seat) (tx next :
       ]
 
   own_sits : (other : Tx) → Sits seats i other → tx ≡ other
-  own_sits other has = same_some tx other (sym (ap holder_of (at ∙ ap (λ x. Some x) (is_open seat tx is))) ∙ has)
+  own_sits other has = same_some tx other (sym (ap holder_of (at ∙ ap (λ x. Some x) (open_seat seat tx is))) ∙ has)
 
   module _ (m : Setting) (node : ℕ) (s : State) (h : FitsDesk m node old seats s) (held : IsSameHeld old new) (same_locked : next.locked.items ≡ tx.locked.items) (same_reading : next.reading.items ≡ tx.reading.items)
       (t u : Transaction) (running : running_of node i s ≡ Some t) (same_node : u.node ≡ t.node) (same_thread : u.thread ≡ t.thread)

@@ -23,12 +23,10 @@ use Rattle.lc_tx.specs.declared.tx.Tx.{Tx}
 use Rattle.lc_tx.proofs.BesideLemmas.{stands_beside}
 use Rattle.lc_tx.proofs.HoldsLemmas.{locked_holds, reads_holds}
 use Rattle.lc_core.specs.Here.{the_images}
-use Rattle.lc_core.specs.Seat.{reserved_of, holder_of}
+use Rattle.lc_core.specs.Seat.{Seat, Free, Open, Reserved, reserved_of, holder_of}
 use Rattle.lc_core.specs.Seats.{AllRun}
 use Rattle.lc_core.specs.Desk.{IsReserved, FitsSeat, FitsDesk}
 use Rattle.lc_core.specs.declared.here.Here.{Here}
-use Rattle.lc_core.specs.declared.seat.Seat.{Seat}
-use Rattle.lc_core.specs.declared.seat.Seat.TheVariants.{Free, Open, Reserved}
 use Rattle.lc_core.proofs.Seating.{at_place}
 use Rattle.lc_core.proofs.Dropping.{keeps_bytes}
 use Rattle.lc_core.proofs.Freeing.{other_keeps, desk_freed}

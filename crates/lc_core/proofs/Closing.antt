@@ -22,8 +22,7 @@ use Rattle.lc_core.specs.Turns.{closed_with, with_record}
 use Rattle.lc_core.specs.declared.desk.Desk.{Desk}
 use Rattle.lc_core.specs.declared.journal.Journal.{Journal}
 use Rattle.lc_core.specs.declared.node.Node.{Node}
-use Rattle.lc_core.specs.declared.seat.Seat.{Seat}
-use Rattle.lc_core.specs.declared.seat.Seat.TheVariants.{Reserved}
+use Rattle.lc_core.specs.Seat.{Seat, Reserved}
 use Rattle.lc_core.proofs.Closes.{not_unclosed}
 use Rattle.lc_core.proofs.Counted.{aside_closed, set_at_desk, slots_counted, unspent_of}
 use Rattle.lc_core.proofs.CountedDesk.{desk_counted}

@@ -16,15 +16,13 @@ use Rattle.lc_tx.proofs.BesideLemmas.{runs_beside, stands_beside, apart_keeps}
 use Rattle.lc_tx.proofs.HoldsLemmas.{held_cases}
 use Rattle.lc_tx.proofs.StandsLemmas.{read_shown}
 use Rattle.lc_core.specs.declared.here.Here.{Here}
-use Rattle.lc_core.specs.declared.seat.Seat.{Seat}
-use Rattle.lc_core.specs.declared.seat.Seat.TheVariants.{Free, Open, Reserved}
+use Rattle.lc_core.specs.Seat.{Seat, Free, Open, Reserved, open_of, holder_of}
 use Rattle.lc_core.specs.Here.{the_images}
-use Rattle.lc_core.specs.Seat.{open_of, closed_of, holder_of}
 use Rattle.lc_core.specs.Seats.{Runs, AllRun}
 use Rattle.lc_core.specs.Desk.{IsOpen, FitsSeat, FitsDesk}
 use Rattle.lc_core.specs.FollowsDesk.{SameButOpen}
 use Rattle.lc_core.proofs.Freeing.{own_runs, other_keeps, runs_freed, desk_freed}
-use Rattle.lc_core.proofs.Seating.{set_same, not_open, is_open, at_place}
+use Rattle.lc_core.proofs.Seating.{open_seat, at_place}
 
 -- what it locked has the bytes that it had
 pub keeps_bytes : (old new : Here) (tx : Tx) → KeepsLocked the_images old new tx → (segment : ℕ) → Holds tx segment → bytes_of the_images new segment ≡ bytes_of the_images old segment
@@ -69,11 +67,7 @@ no_turn here node i content s (Reserved tx number) fits none = fits.running
 -- the open transaction of a seat
 pub open_fits : (here : Here) (node i : ℕ) (seats : List Seat) (seat : Seat) (tx : Tx) (m : Setting) (s : State) → FitsDesk m node here seats s → slice_get seats i ≡ Some seat → open_of seat ≡ Some tx
     → IsOpen here node i tx (value m.start s.earlier s.history) s
-open_fits here node i seats seat tx m s h at is = subst (λ x. FitsSeat here node i (value m.start s.earlier s.history) s x) (is_open seat tx is) (h.threads i seat at)
-
--- a thread without its open transaction
-pub runs_closed : (here : Here) (seats : List Seat) (i : ℕ) (seat : Seat) → slice_get seats i ≡ Some seat → open_of seat ≡ None → AllRun here seats → AllRun here (slice_set seats i (closed_of seat))
-runs_closed here seats i seat at none runs = subst (λ (l : List Seat). AllRun here l) (sym (ap (slice_set seats i) (not_open seat none) ∙ set_same seats i seat at)) runs
+open_fits here node i seats seat tx m s h at is = subst (λ x. FitsSeat here node i (value m.start s.earlier s.history) s x) (open_seat seat tx is) (h.threads i seat at)
 
 -- What leaves the images as they are
 
@@ -121,17 +115,14 @@ only_dropped s node i = record {
 
 module _ (old new : Here) (seats : List Seat) (i : ℕ) (seat : Seat) (tx : Tx) (at : slice_get seats i ≡ Some seat) (is : open_of seat ≡ Some tx) (runs : AllRun old seats) where
   sits : holder_of (Some seat) ≡ Some tx
-  sits = ap (λ x. holder_of (Some x)) (is_open seat tx is)
-
-  free_now : closed_of seat ≡ Free
-  free_now = ap closed_of (is_open seat tx is)
+  sits = ap (λ x. holder_of (Some x)) (open_seat seat tx is)
 
   pub own_open_runs : Runs old i tx
   own_open_runs = own_runs old new seats i seat at tx sits runs
 
   module _ (freed : AreFreed the_images tx.thread tx.locked.items tx.reading.items old new) where
-    pub runs_after : AllRun new (slice_set seats i (closed_of seat))
-    runs_after = subst (λ x. AllRun new (slice_set seats i x)) (sym free_now) (runs_freed old new seats i seat at tx sits runs freed)
+    pub runs_after : AllRun new (slice_set seats i Free)
+    runs_after = runs_freed old new seats i seat at tx sits runs freed
 
     module _ (m : Setting) (node : ℕ) (s : State) (h : FitsDesk m node old seats s) where
       abbrev content : Content
@@ -155,8 +146,8 @@ module _ (old new : Here) (seats : List Seat) (i : ℕ) (seat : Seat) (tx : Tx) 
       -- where what it wrote is back to the content
       pub desk_dropped : ((segment : ℕ) → Locked tx segment → bytes_of the_images new segment ≡ segment_of segment content)
           → ((segment : ℕ) → Locked tx segment → length (bytes_of the_images new segment) ≡ length (bytes_of the_images old segment))
-          → FitsDesk m node new (slice_set seats i (closed_of seat)) (dropped s node i)
-      desk_dropped back lengths = subst (λ x. FitsDesk m node new (slice_set seats i x) (dropped s node i)) (sym free_now)
-          (desk_freed old new seats i seat at tx sits runs freed m node s h (dropped s node i) refl refl
+          → FitsDesk m node new (slice_set seats i Free) (dropped s node i)
+      desk_dropped back lengths =
+          desk_freed old new seats i seat at tx sits runs freed m node s h (dropped s node i) refl refl
           (λ segment read. read_shown the_images old tx content the_open.transaction segment the_open.stands own_open_runs.runs read)
-          back lengths threads_after)
+          back lengths threads_after

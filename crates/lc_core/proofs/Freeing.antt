@@ -18,12 +18,10 @@ use Rattle.lc_tx.proofs.BesideLemmas.{runs_beside, freed_keeps}
 use Rattle.lc_tx.proofs.MemberLemmas.{not_both}
 use Rattle.lc_core.specs.Places.{get_set_other, same_some}
 use Rattle.lc_core.specs.Here.{the_images}
-use Rattle.lc_core.specs.Seat.{holder_of}
+use Rattle.lc_core.specs.Seat.{Seat, Free, holder_of}
 use Rattle.lc_core.specs.Seats.{Runs, AllRun}
 use Rattle.lc_core.specs.Desk.{FitsSeat, FitsDesk, Sits}
 use Rattle.lc_core.specs.declared.here.Here.{Here}
-use Rattle.lc_core.specs.declared.seat.Seat.{Seat}
-use Rattle.lc_core.specs.declared.seat.Seat.TheVariants.{Free}
 use Rattle.lc_core.proofs.Seating.{at_place, seat_of}
 
 module _ (old new : Here) (seats : List Seat) (i : ℕ) (seat : Seat) (at : slice_get seats i ≡ Some seat) (tx : Tx) (its : holder_of (Some seat) ≡ Some tx) (runs : AllRun old seats) where

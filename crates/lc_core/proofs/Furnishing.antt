@@ -20,8 +20,7 @@ use Rattle.lc_core.specs.Places.{same_some, get_set_other}
 use Rattle.lc_core.specs.Seats.{AllRun, AreShort}
 use Rattle.lc_core.specs.Slots.{AreInPlace, Besides, besides_of}
 use Rattle.lc_core.specs.declared.here.Here.{Here}
-use Rattle.lc_core.specs.declared.seat.Seat.{Seat}
-use Rattle.lc_core.specs.declared.seat.Seat.TheVariants.{Free}
+use Rattle.lc_core.specs.Seat.{Seat, Free}
 use Rattle.lc_core.specs.declared.slot.Slot.{Slot}
 use Rattle.lc_core.proofs.Closes.{get-map}
 use Rattle.lc_core.proofs.Seating.{nobody_runs}

@@ -24,8 +24,7 @@ use Rattle.lc_core.specs.declared.desk.Desk.{Desk}
 use Rattle.lc_core.specs.declared.here.Here.{Here}
 use Rattle.lc_core.specs.declared.journal.Journal.{Journal}
 use Rattle.lc_core.specs.declared.node.Node.{Node}
-use Rattle.lc_core.specs.declared.seat.Seat.{Seat}
-use Rattle.lc_core.specs.declared.seat.Seat.TheVariants.{Free, Open, Reserved}
+use Rattle.lc_core.specs.Seat.{Seat, Free, Open, Reserved}
 use Rattle.lc_core.proofs.OtherLogs.{logs_open, logs_logged}
 use Rattle.lc_core.proofs.Others.{beside_open, beside_logged}
 use Rattle.lc_core.proofs.Slotted.{aside_open, aside_logged, slots_same}

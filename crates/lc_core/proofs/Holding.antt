@@ -25,11 +25,9 @@ use Rattle.lc_tx.proofs.HolderLemmas.{free_reads_not, writer_is_some}
 use Rattle.lc_core.specs.Here.{the_images}
 use Rattle.lc_core.specs.Desk.{FitsSeat, FitsDesk, Sits}
 use Rattle.lc_core.specs.Places.{same_some}
-use Rattle.lc_core.specs.Seat.{holder_of}
+use Rattle.lc_core.specs.Seat.{Seat, Free, Open, Reserved, holder_of}
 use Rattle.lc_core.specs.Seats.{Runs, AllRun}
 use Rattle.lc_core.specs.declared.here.Here.{Here}
-use Rattle.lc_core.specs.declared.seat.Seat.{Seat}
-use Rattle.lc_core.specs.declared.seat.Seat.TheVariants.{Free, Open, Reserved}
 use Rattle.lc_core.proofs.Seating.{seat_of, some_at}
 
 -- Lists

@@ -32,7 +32,7 @@ use Rattle.lc_core.specs.Settled.{is_writing, leave_answer, open_answer}
 use Rattle.lc_core.specs.Leaves.{with_token, IsAsBefore, Leaves, MayLeave}
 use Rattle.lc_core.specs.declared.desk.Desk.{Desk}
 use Rattle.lc_core.specs.declared.here.Here.{Here}
-use Rattle.lc_core.specs.declared.seat.Seat.{Seat}
+use Rattle.lc_core.specs.Seat.{Seat}
 use Rattle.lc_core.specs.declared.slot.Slot.{Slot}
 use Rattle.lc_core.proofs.Dropping.{runs_same, desk_seen}
 use Rattle.lc_core.proofs.Holding.{not_free-held, free-unheld}

@@ -2,6 +2,7 @@ pub mod Settling
 pub mod Turning
 pub mod Cohering
 pub mod Seating
+pub mod Seated
 pub mod Holding
 pub mod Freeing
 pub mod Dropping

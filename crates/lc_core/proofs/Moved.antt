@@ -21,12 +21,11 @@ use Rattle.lc_tx.proofs.BesideLemmas.{runs_beside}
 use Rattle.lc_tx.proofs.HoldsLemmas.{held_cases, locked_holds, reads_holds}
 use Rattle.lc_core.specs.Places.{get_set_other, get_set_same}
 use Rattle.lc_core.specs.Here.{the_images, number_in, number_at, image_at}
-use Rattle.lc_core.specs.Seat.{holder_of}
+use Rattle.lc_core.specs.Seat.{Seat, holder_of}
 use Rattle.lc_core.specs.Seats.{Runs, AllRun}
 use Rattle.lc_core.specs.Desk.{FitsDesk, Sits}
 use Rattle.lc_core.specs.Leaves.{with_token}
 use Rattle.lc_core.specs.declared.here.Here.{Here}
-use Rattle.lc_core.specs.declared.seat.Seat.{Seat}
 use Rattle.lc_core.specs.declared.slot.Slot.{Slot}
 use Rattle.lc_core.proofs.Dropping.{seat_beside}
 

@@ -19,12 +19,11 @@ use Rattle.lc_core.specs.Desk.{FitsDesk}
 use Rattle.lc_core.specs.Here.{the_images, number_in, number_at, image_at}
 use Rattle.lc_core.specs.Leaves.{HasToken}
 use Rattle.lc_core.specs.Places.{get_set_other, get_set_same, same_some}
-use Rattle.lc_core.specs.Seat.{holder_of}
+use Rattle.lc_core.specs.Seat.{Seat, holder_of}
 use Rattle.lc_core.specs.Seats.{Runs, AllRun}
 use Rattle.lc_core.specs.Drafts.{NotesWritten}
 use Rattle.lc_core.specs.declared.desk.Desk.{Desk}
 use Rattle.lc_core.specs.declared.here.Here.{Here}
-use Rattle.lc_core.specs.declared.seat.Seat.{Seat}
 use Rattle.lc_core.specs.declared.slot.Slot.{Slot}
 use Rattle.lc_core.proofs.Dropping.{seat_beside}
 

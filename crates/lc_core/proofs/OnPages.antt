@@ -18,7 +18,7 @@ use Rattle.lc_model.proofs.Lists.{All-left, found-all, found-passes, none_of}
 use Rattle.lc_model.proofs.RecordBytes.{sets-locks}
 use Rattle.lc_core.specs.Desk.{FitsDesk}
 use Rattle.lc_core.specs.Numbers.{sets_on}
-use Rattle.lc_core.specs.Seat.{holder_of}
+use Rattle.lc_core.specs.Seat.{Seat, Free, Open, Reserved, holder_of}
 use Rattle.lc_core.specs.Here.{the_images}
 use Rattle.lc_core.specs.Places.{same_some}
 use Rattle.lc_core.specs.Showing.{content_with, open_writer, page_of}
@@ -26,8 +26,6 @@ use Rattle.lc_tx.specs.Images.{IsHere, bytes_of}
 use Rattle.lc_core.specs.Uncommitted.{HasSeatOn, SetsPage}
 use Rattle.lc_tx.specs.declared.tx.Tx.{Tx}
 use Rattle.lc_core.specs.declared.here.Here.{Here}
-use Rattle.lc_core.specs.declared.seat.Seat.{Seat}
-use Rattle.lc_core.specs.declared.seat.Seat.TheVariants.{Free, Open, Reserved}
 use Rattle.lc_core.proofs.Counted.{on_place, place_on, same_truth, unset_on}
 use Rattle.lc_core.proofs.Holding.{free-none, holders-proper, only-holder, seat-holds}
 use Rattle.lc_core.proofs.Seating.{some_at}

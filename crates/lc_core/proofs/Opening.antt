@@ -16,7 +16,7 @@ use Rattle.lc_core.specs.Nodes.{AreWhole}
 use Rattle.lc_core.specs.Places.{same_some}
 use Rattle.lc_core.specs.declared.node.Node.{Node}
 use Rattle.lc_core.specs.declared.running.Running.{Running}
-use Rattle.lc_core.specs.declared.seat.Seat.TheVariants.{Free}
+use Rattle.lc_core.specs.Seat.{Free}
 
 module _ {D : Type 0} (a : Ghosts D) where
   -- the area of a node's log

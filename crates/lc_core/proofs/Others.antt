@@ -25,11 +25,9 @@ use Rattle.lc_core.specs.Desk.{FitsSeat, FitsDesk}
 use Rattle.lc_core.specs.Follows.{SameButLog}
 use Rattle.lc_core.specs.FollowsDesk.{SameButOpen}
 use Rattle.lc_core.specs.Here.{the_images}
-use Rattle.lc_core.specs.Seat.{holder_of}
+use Rattle.lc_core.specs.Seat.{Seat, Free, Open, Reserved, holder_of}
 use Rattle.lc_core.specs.Seats.{AllRun}
 use Rattle.lc_core.specs.declared.here.Here.{Here}
-use Rattle.lc_core.specs.declared.seat.Seat.{Seat}
-use Rattle.lc_core.specs.declared.seat.Seat.TheVariants.{Free, Open, Reserved}
 use Rattle.lc_core.proofs.Appending.{keeps_itself, get-before, filter-end}
 use Rattle.lc_core.proofs.Closes.{entries_shut, get-map, shut}
 use Rattle.lc_core.proofs.Holding.{find-left}

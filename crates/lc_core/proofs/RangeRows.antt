@@ -1,11 +1,10 @@
 -- What a thread sets, and why it may not.
 use Rattle.std.proofs.Common.{◌≡◌, ◌≢◌, ℕ, ◌+◌, ◌-◌, ◌^◌, ◌<◌, ◌≤◌, min, true, false, ◌==◌, ◌||◌, nat_le, List, length, Some, None, refl, sym, ap, subst, ◌∙◌, arith, le-leb, ne_eqb, eq-eqb, true≢false, inl, inr}
-use Rattle.std.specs.Prelude.{◌↔◌, Result, Ok, Err, OnOk, OnErr}
+use Rattle.std.specs.Prelude.{Result, Ok, Err, OnOk, OnErr}
 use Rattle.std.proofs.lemmas.Bool.{cases_lt, cases_Bool, false_from_ne_true, or_from}
 use Rattle.lc_record.specs.Transaction.{is_member, locks, holds}
 use Rattle.lc_record.specs.Geometry.{segment_len}
 use Rattle.lc_record.specs.Marks.{marked, ranges}
-use Rattle.lc_range.specs.RangeSet.{NeedsRunsAbove}
 use Rattle.lc_model.specs.History.{value}
 use Rattle.lc_model.specs.State.{Setting, State}
 use Rattle.lc_model.specs.Machine.{Row, changed}
@@ -26,8 +25,9 @@ use Rattle.lc_core.specs.Places.{same_some}
 use Rattle.lc_core.specs.Refused.{refusal_of}
 use Rattle.lc_core.specs.Here.{the_images}
 use Rattle.lc_core.specs.declared.here.Here.{Here}
-use Rattle.lc_core.specs.declared.seat.Seat.{Seat}
+use Rattle.lc_core.specs.Seat.{Seat}
 use Rattle.lc_core.specs.Desk.{IsOpen, FitsDesk}
+use Rattle.lc_core.specs.SeatCalls.{RangeAnswers}
 use Rattle.lc_core.proofs.Refusing.{le-false}
 
 -- The locks of an open transaction, and the length of what it locked
@@ -61,13 +61,6 @@ same_thread images old new n offset len (Ok v) sets same = sets.same_thread
 same_thread images old new n offset len (Err fault) sets same = ap (λ (x : Tx). x.thread) same
 
 -- What the call answers
-
-pub record RangeAnswers (bytes : List ℕ) (tx : Tx) (n offset len : ℕ) (r : Result (Unit {0}) TxFault) : Type 0 where
-  pub not_locked : (r ≡ Err IsNotLocked) ↔ (Holds tx n → ⊥)
-  pub read_only : (x : ℕ) → (r ≡ Err (IsReadOnly x)) ↔ (Reads tx n × (x ≡ n))
-  pub empty : (r ≡ Err IsEmpty) ↔ (Locked tx n × (len ≡ 0))
-  pub outside : (r ≡ Err IsOutside) ↔ (Locked tx n × (0 < len) × (min (length bytes) (2 ^ 32 - 1) < offset + len))
-  pub too_many : (r ≡ Err AreTooMany) ↔ (Locked tx n × (0 < len) × (offset + len ≤ min (length bytes) (2 ^ 32 - 1)) × NeedsRunsAbove 64 tx.set n offset len)
 
 module _ (m : Setting) (node i : ℕ) (here : Here) (seats : List Seat) (s : State) (h : FitsDesk m node here seats s) (tx : Tx)
     (one : IsOpen here node i tx (value m.start s.earlier s.history) s) (runs : RunsOn the_images here tx) (n offset len : ℕ) where

@@ -46,18 +46,16 @@ use Rattle.lc_core.specs.Here.{the_images, number_at}
 use Rattle.lc_core.specs.Numbers.{Numbers, token_number, next_record, log_end}
 use Rattle.lc_core.specs.Prepares.{FitsNumbers, EndsAt}
 use Rattle.lc_core.specs.Refused.{refusal_of}
-use Rattle.lc_core.specs.Seat.{open_of}
+use Rattle.lc_core.specs.Seat.{Seat, Open, open_of}
 use Rattle.lc_core.specs.Seats.{AreShort}
 use Rattle.lc_core.specs.Settled.{refusal_or, first_spent, record_refusal, reserve_answer, reserve_open}
 use Rattle.lc_core.specs.declared.desk.Desk.{Desk}
 use Rattle.lc_core.specs.declared.here.Here.{Here}
 use Rattle.lc_core.specs.declared.log_end.LogEnd.{LogEnd}
-use Rattle.lc_core.specs.declared.seat.Seat.{Seat}
-use Rattle.lc_core.specs.declared.seat.Seat.TheVariants.{Open}
 use Rattle.lc_core.specs.declared.slot.Slot.{Slot}
 use Rattle.lc_core.proofs.Dropping.{own_open_runs, open_fits}
 use Rattle.lc_core.proofs.Holding.{holders-proper}
-use Rattle.lc_core.proofs.Seating.{is_open}
+use Rattle.lc_core.proofs.Seating.{open_seat}
 use Rattle.lc_core.proofs.Settling.{may_all, refusal-may}
 
 -- What it locked is small
@@ -141,7 +139,7 @@ pub record IsSeated (desk : Desk) (i : ℕ) (tx : Tx) : Type 0 where
 
 pub seated : (desk : Desk) (i : ℕ) (seat : Seat) (tx : Tx) → i < vec_len desk.seats → seat ≡ get_or desk.seats.items i seat → Some tx ≡ open_of seat → IsSeated desk i tx
 seated desk i seat tx within got is = record {
-  at = at ∙ ap (λ y. Some y) (is_open seat tx (sym is));
+  at = at ∙ ap (λ y. Some y) (open_seat seat tx (sym is));
   runs = runs;
   small = small_here desk.here tx runs desk.few_slots desk.short;
 }

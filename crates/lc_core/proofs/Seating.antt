@@ -1,5 +1,5 @@
 -- The seats of a node's threads.
-use Rattle.std.proofs.Common.{◌≡◌, ◌≢◌, ℕ, zero, suc, ◌<◌, List, [], ◌∷◌, length, Option, Some, None, refl, sym, ap, ◌∙◌, inl, inr, arith}
+use Rattle.std.proofs.Common.{◌≡◌, ◌≢◌, ℕ, zero, suc, ◌<◌, true, false, List, [], ◌∷◌, length, Option, Some, None, is_some, refl, sym, ap, ◌∙◌, inl, inr, arith}
 use Rattle.std.specs.Prelude.{slice_get, slice_set, replicate, ◌⊎◌}
 use Rattle.std.proofs.lemmas.Bool.{cases_eq}
 use Rattle.lc_tx.specs.declared.tx.Tx.{Tx}
@@ -7,9 +7,8 @@ use Rattle.lc_core.specs.Places.{get_set_same, get_set_other, same_some}
 use Rattle.lc_core.specs.Desk.{Sits}
 use Rattle.lc_core.specs.Seats.{AllRun}
 use Rattle.lc_core.specs.declared.here.Here.{Here}
-use Rattle.lc_core.specs.Seat.{open_of, closed_of, reserved_of, freed_of, holder_of}
-use Rattle.lc_core.specs.declared.seat.Seat.{Seat}
-use Rattle.lc_core.specs.declared.seat.Seat.TheVariants.{Free, Open, Reserved}
+use Rattle.lc_core.specs.Seat.{Seat, Free, Open, Reserved, open_of, reserved_of, number_of, holder_of, is_open}
+use Rattle.lc_core.specs.SeatCalls.{IsOpenOn, HoldsOn}
 
 pub set_same : {A : Type 0} (xs : List A) (k : ℕ) (x : A) → slice_get xs k ≡ Some x → slice_set xs k x ≡ xs
 set_same [] k x is = refl
@@ -22,28 +21,59 @@ some_at [] k below = absurd (omega (arith, below))
 some_at (x ∷ xs) zero below = (x, refl)
 some_at (x ∷ xs) (suc k) below = (let less : k < length xs = omega (arith, below) in some_at xs k less)
 
-pub not_open : (seat : Seat) → open_of seat ≡ None → closed_of seat ≡ seat
+pub not_open : (seat : Seat) → is_open seat ≡ false → open_of seat ≡ None
 not_open Free is = refl
 not_open (Open tx) is = absurd cc
 not_open (Reserved tx number) is = refl
 
-pub is_open : (seat : Seat) (tx : Tx) → open_of seat ≡ Some tx → seat ≡ Open tx
-is_open Free tx is = absurd cc
-is_open (Open other) tx is = ap (λ x. Open x) (same_some other tx is)
-is_open (Reserved other number) tx is = absurd cc
+pub open_seat : (seat : Seat) (tx : Tx) → open_of seat ≡ Some tx → seat ≡ Open tx
+open_seat Free tx is = absurd cc
+open_seat (Open other) tx is = ap (λ x. Open x) (same_some other tx is)
+open_seat (Reserved other number) tx is = absurd cc
 
 pub same_open : (tx other : Tx) → Open tx ≡ Open other → tx ≡ other
 same_open tx other same = cc
 
-pub not_reserved : (seat : Seat) → reserved_of seat ≡ None → freed_of seat ≡ seat
+-- what holds the locks where a seat is open
+pub open_holder : (seat : Seat) (tx : Tx) → is_open seat ≡ true → holder_of (Some seat) ≡ Some tx → open_of seat ≡ Some tx
+open_holder Free tx is its = absurd cc
+open_holder (Open other) tx is its = its
+open_holder (Reserved other number) tx is its = absurd cc
+
+pub not_reserved : (seat : Seat) → is_some (number_of seat) ≡ false → reserved_of seat ≡ None
 not_reserved Free is = refl
 not_reserved (Open tx) is = refl
 not_reserved (Reserved tx number) is = absurd cc
 
-pub is_reserved : (seat : Seat) (tx : Tx) → reserved_of seat ≡ Some tx → (number : ℕ) × (seat ≡ Reserved tx number)
-is_reserved Free tx is = absurd cc
-is_reserved (Open other) tx is = absurd cc
-is_reserved (Reserved other number) tx is = (number, ap (λ x. Reserved x number) (same_some other tx is))
+pub none_reserved : (seat : Seat) → number_of seat ≡ None → reserved_of seat ≡ None
+none_reserved seat is = not_reserved seat (ap is_some is)
+
+pub reserved_seat : (seat : Seat) (number : ℕ) → number_of seat ≡ Some number → (tx : Tx) × (seat ≡ Reserved tx number)
+reserved_seat Free number is = absurd cc
+reserved_seat (Open tx) number is = absurd cc
+reserved_seat (Reserved tx other) number is = (tx, ap (λ n. Reserved tx n) (same_some other number is))
+
+-- what holds the locks where it is reserved
+pub reserved_holder : (seat : Seat) (tx : Tx) → is_some (number_of seat) ≡ true → holder_of (Some seat) ≡ Some tx → (number : ℕ) × (seat ≡ Reserved tx number)
+reserved_holder Free tx is its = absurd cc
+reserved_holder (Open other) tx is its = absurd cc
+reserved_holder (Reserved other number) tx is its = (number, ap (λ x. Reserved x number) (same_some other tx its))
+
+-- the seat's transaction runs where all do
+pub open_on : (here : Here) (seats : List Seat) (i : ℕ) (seat : Seat) → slice_get seats i ≡ Some seat → is_open seat ≡ true → AllRun here seats → IsOpenOn here seat
+open_on here seats i Free at is runs = absurd cc
+open_on here seats i (Open tx) at is runs = record { tx = tx; is = refl; runs = (runs i tx (ap holder_of at)).runs }
+open_on here seats i (Reserved tx number) at is runs = absurd cc
+
+pub open_holds : (here : Here) (seats : List Seat) (i : ℕ) (seat : Seat) → slice_get seats i ≡ Some seat → is_open seat ≡ true → AllRun here seats → HoldsOn here seat
+open_holds here seats i Free at is runs = absurd cc
+open_holds here seats i (Open tx) at is runs = record { tx = tx; its = refl; runs = (runs i tx (ap holder_of at)).runs }
+open_holds here seats i (Reserved tx number) at is runs = absurd cc
+
+pub reserved_holds : (here : Here) (seats : List Seat) (i : ℕ) (seat : Seat) → slice_get seats i ≡ Some seat → is_some (number_of seat) ≡ true → AllRun here seats → HoldsOn here seat
+reserved_holds here seats i Free at is runs = absurd cc
+reserved_holds here seats i (Open tx) at is runs = absurd cc
+reserved_holds here seats i (Reserved tx number) at is runs = record { tx = tx; its = refl; runs = (runs i tx (ap holder_of at)).runs }
 
 -- what is at a place after a write to one
 pub at_place : (seats : List Seat) (i j : ℕ) (seat new other : Seat) → slice_get seats i ≡ Some seat → slice_get (slice_set seats i new) j ≡ Some other

@@ -22,7 +22,7 @@ use Rattle.lc_tx.proofs.HoldsLemmas.{held_cases}
 use Rattle.lc_core.specs.Refused.{refusal_of}
 use Rattle.lc_core.specs.Here.{the_images}
 use Rattle.lc_core.specs.declared.here.Here.{Here}
-use Rattle.lc_core.specs.declared.seat.Seat.{Seat}
+use Rattle.lc_core.specs.Seat.{Seat}
 use Rattle.lc_core.specs.Desk.{IsOpen, FitsDesk}
 use Rattle.lc_core.proofs.Refusing.{le-false}
 

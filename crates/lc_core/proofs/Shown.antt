@@ -21,12 +21,10 @@ use Rattle.lc_core.specs.Desk.{FitsDesk}
 use Rattle.lc_core.specs.Here.{beside, hidden, image_at, number_at, number_in, the_images}
 use Rattle.lc_core.specs.Numbers.{Numbers}
 use Rattle.lc_core.specs.Places.{same_some}
-use Rattle.lc_core.specs.Seat.{holder_of}
+use Rattle.lc_core.specs.Seat.{Seat, Free, Open, Reserved, holder_of}
 use Rattle.lc_core.specs.Showing.{content_with, image_of, open_writer}
 use Rattle.lc_core.specs.Slots.{FitsSlots, besides_of, segment_to}
 use Rattle.lc_core.specs.declared.here.Here.{Here}
-use Rattle.lc_core.specs.declared.seat.Seat.{Seat}
-use Rattle.lc_core.specs.declared.seat.Seat.TheVariants.{Free, Open, Reserved}
 use Rattle.lc_core.specs.declared.slot.Slot.{Slot}
 use Rattle.lc_core.proofs.Holding.{find-left, only-holder}
 use Rattle.lc_core.proofs.Seating.{seat_of, some_at}

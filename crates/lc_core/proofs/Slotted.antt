@@ -45,7 +45,7 @@ use Rattle.lc_core.specs.Prepares.{FitsNumbers}
 use Rattle.lc_core.specs.Slots.{Besides, besides_of, segment_to, Awaits, FitsToken, FitsSlot, FitsSlots}
 use Rattle.lc_core.specs.Turns.{seen}
 use Rattle.lc_core.specs.declared.here.Here.{Here}
-use Rattle.lc_core.specs.declared.seat.Seat.{Seat}
+use Rattle.lc_core.specs.Seat.{Seat}
 use Rattle.lc_core.specs.declared.slot.Slot.{Slot}
 use Rattle.lc_core.proofs.Appending.{get-before}
 use Rattle.lc_core.proofs.Closes.{get-map}

@@ -24,7 +24,7 @@ use Rattle.lc_tx.proofs.StandsLemmas.{positions_set}
 use Rattle.lc_core.specs.Refused.{refusal_of}
 use Rattle.lc_core.specs.Here.{the_images}
 use Rattle.lc_core.specs.declared.here.Here.{Here}
-use Rattle.lc_core.specs.declared.seat.Seat.{Seat}
+use Rattle.lc_core.specs.Seat.{Seat}
 use Rattle.lc_core.specs.Desk.{IsOpen, FitsDesk}
 use Rattle.lc_core.specs.Places.{same_some}
 use Rattle.lc_core.specs.Seats.{Runs}

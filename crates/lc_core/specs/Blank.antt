@@ -11,7 +11,7 @@ use Rattle.lc_core.specs.Fresh.{IsFreshSlot, known_first}
 use Rattle.lc_core.specs.declared.desk.Desk.{Desk}
 use Rattle.lc_core.specs.declared.journal.Journal.{Journal}
 use Rattle.lc_core.specs.declared.node.Node.{Node}
-use Rattle.lc_core.specs.declared.seat.Seat.TheVariants.{Free}
+use Rattle.lc_core.specs.Seat.{Free}
 use Rattle.lc_core.specs.declared.slot.Slot.{Slot}
 
 -- a slot of a segment: as many bytes, which no transaction holds, an entry for each page where the token is, and no part

@@ -7,10 +7,8 @@ use Rattle.lc_token.specs.Backlog.{counted}
 use Rattle.lc_token.specs.declared.token.Token.{Token}
 use Rattle.lc_tx.specs.declared.tx.Tx.{Tx}
 use Rattle.lc_range.specs.RangeSet.{IsCanonical}
-use Rattle.lc_core.specs.Seat.{reserved_of}
+use Rattle.lc_core.specs.Seat.{Seat, Reserved, reserved_of}
 use Rattle.lc_core.specs.declared.desk.Desk.{Desk}
-use Rattle.lc_core.specs.declared.seat.Seat.{Seat}
-use Rattle.lc_core.specs.declared.seat.Seat.TheVariants.{Reserved}
 use Rattle.lc_core.specs.declared.slot.Slot.{Slot}
 
 -- some range is of this segment

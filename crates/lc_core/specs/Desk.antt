@@ -1,7 +1,7 @@
 -- The images of a node and its open transactions, against those of the machine.
 use Rattle.std.specs.Prelude.{◌≡◌, ◌≤◌, ◌↔◌, IsTrue, ℕ, true, false, List, map, length, replicate, find, None, Some, slice_get}
 use Rattle.lc_tx.specs.Tx.{Holds, Locked, Reads}
-use Rattle.lc_core.specs.Seat.{holder_of}
+use Rattle.lc_core.specs.Seat.{Seat, Free, Open, Reserved, holder_of}
 use Rattle.lc_record.specs.Content.{Content, segment_of}
 use Rattle.lc_range.specs.RangeSet.{Has}
 use Rattle.lc_record.specs.Transaction.{Transaction, all_set}
@@ -15,8 +15,6 @@ use Rattle.lc_tx.specs.Images.{IsHere, bytes_of, holders_of}
 use Rattle.lc_tx.specs.StandsFor.{StandsFor}
 use Rattle.lc_tx.specs.declared.tx.Tx.{Tx}
 use Rattle.lc_core.specs.declared.here.Here.{Here}
-use Rattle.lc_core.specs.declared.seat.Seat.{Seat}
-use Rattle.lc_core.specs.declared.seat.Seat.TheVariants.{Free, Open, Reserved}
 use Rattle.lc_core.specs.Here.{the_images}
 
 -- an open transaction of the machine, and what stands for it

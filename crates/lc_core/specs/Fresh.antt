@@ -14,7 +14,7 @@ use Rattle.lc_tx.specs.declared.holders.Holders.TheVariants.{Free as Unheld}
 use Rattle.lc_core.specs.Log.{Stands, area_of, is_idle}
 use Rattle.lc_core.specs.declared.node.Node.{Node}
 use Rattle.lc_core.specs.declared.running.Running.{Running}
-use Rattle.lc_core.specs.declared.seat.Seat.TheVariants.{Free}
+use Rattle.lc_core.specs.Seat.{Free}
 use Rattle.lc_core.specs.declared.slot.Slot.{Slot}
 
 module _ {D : Type 0} where

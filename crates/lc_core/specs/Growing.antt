@@ -6,7 +6,7 @@ use Rattle.lc_tx.specs.Tx.{Holds, Locked}
 use Rattle.lc_tx.specs.declared.tx.Tx.{Tx}
 use Rattle.lc_core.specs.Here.{the_images}
 use Rattle.lc_core.specs.declared.desk.Desk.{Desk}
-use Rattle.lc_core.specs.declared.seat.Seat.TheVariants.{Open}
+use Rattle.lc_core.specs.Seat.{Open}
 
 -- the thread's open transaction may set these positions, of which some is not set yet
 pub record MaySetMore (thread segment offset len : ℕ) (old : Desk) : Type 0 where

@@ -7,6 +7,8 @@ pub mod Headline
 pub mod Observed
 pub mod Here
 pub mod Seat
+pub mod Doing
+pub mod SeatCalls
 pub mod Seats
 pub mod Desk
 pub mod Devices

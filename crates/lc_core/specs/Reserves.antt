@@ -6,7 +6,7 @@ use Rattle.lc_model.specs.History.{reserved}
 use Rattle.lc_model.specs.State.{Setting, State, running_of, has_unclosed}
 use Rattle.lc_model.specs.Machine.{appended, dropped, closed_by}
 use Rattle.lc_core.specs.declared.desk.Desk.{Desk}
-use Rattle.lc_core.specs.declared.seat.Seat.TheVariants.{Open}
+use Rattle.lc_core.specs.Seat.{Open}
 use Rattle.lc_core.specs.Desk.{FitsDesk}
 
 -- where the number counts what the node reserved before, the desk fits the machine with the thread's transaction at the end

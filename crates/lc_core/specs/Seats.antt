@@ -4,9 +4,8 @@ use Rattle.lc_tx.specs.declared.tx.Tx.{Tx}
 use Rattle.lc_tx.specs.Images.{bytes_of}
 use Rattle.lc_tx.specs.Tx.{RunsOn}
 use Rattle.lc_core.specs.declared.here.Here.{Here}
-use Rattle.lc_core.specs.declared.seat.Seat.{Seat}
+use Rattle.lc_core.specs.Seat.{Seat, holder_of}
 use Rattle.lc_core.specs.Here.{the_images}
-use Rattle.lc_core.specs.Seat.{holder_of}
 
 -- a thread's own transaction, on these images
 pub record Runs (here : Here) (thread : ℕ) (tx : Tx) : Type 0 where

@@ -2,8 +2,7 @@
 use Rattle.std.specs.Prelude.{◌≡◌, ℕ, ◌+◌, ◌*◌, ◌<◌, ◌≤◌, List, Some, slice_get}
 use Rattle.lc_range.specs.RangeSet.{Has}
 use Rattle.lc_tx.specs.declared.tx.Tx.{Tx}
-use Rattle.lc_core.specs.Seat.{holder_of}
-use Rattle.lc_core.specs.declared.seat.Seat.{Seat}
+use Rattle.lc_core.specs.Seat.{Seat, holder_of}
 
 -- what holds locks for the thread has set a position on the page
 pub record SetsPage (segment page : ℕ) (seat : Seat) : Type 0 where

@@ -7,17 +7,14 @@ ghost use Rattle.lc_core.specs.FaultReplies.{is_own_reply};
 
 use crate::desk::Desk;
 use crate::refused::refused;
-use crate::seat::Seat;
 use crate::{Refusal, Reply};
-use lc_tx::Tx;
-use std::alloc::{AllocError, Global};
+use std::alloc::AllocError;
 
 impl Desk {
     /// A thread begins a transaction: it locks `segments` for writing and `reading` for reading. No more than 16 can be
     /// locked, so it takes no memory.
     pub(crate) fn begin(
         &mut self,
-        alloc: Global,
         thread: u16,
         segments: &[u32],
         reading: &[u32],
@@ -30,14 +27,12 @@ impl Desk {
         ensures seats { vec_len self.new.seats ≡ vec_len self.old.seats }
         ensures answer { IfOk result (λ reply. is_own_reply reply ≡ true) }
     {
-        if !self.seats[thread as usize].is_free() {
+        let seat = &mut self.seats[thread as usize];
+        if !seat.is_free() {
             return Ok(Reply::Refused(Refusal::OutOfTurn));
         }
-        match Tx::begin(alloc, &mut self.here, thread, segments, reading) {
-            Ok(tx) => {
-                self.seats[thread as usize] = Seat::Open(tx);
-                Ok(Reply::Ok)
-            }
+        match seat.begin(&mut self.here, thread, segments, reading) {
+            Ok(()) => Ok(Reply::Ok),
             Err(fault) => refused(fault),
         }
     }

@@ -4,7 +4,7 @@ ghost use Rattle.lc_model.specs.declared.event.Event.TheVariants.{Abort};
 ghost use Rattle.lc_core.specs.Here.{the_images};
 ghost use Rattle.lc_core.specs.Seats.{AllRun, AreShort};
 ghost use Rattle.lc_core.specs.Slots.{AreInPlace, besides_of};
-ghost use Rattle.lc_core.specs.declared.seat.Seat.TheVariants.{Free};
+ghost use Rattle.lc_core.specs.Seat.{Free};
 ghost use Rattle.lc_core.specs.FaultReplies.{is_own_reply};
 
 use crate::here::Here;
@@ -40,7 +40,7 @@ impl Desk {
     {
         let mut seats = Vec::with_capacity(alloc, threads as usize)?;
         for _ in 0..threads {
-            seats.push(Seat::Free)?;
+            seats.push(Seat::new(alloc))?;
         }
         Ok(Desk { here, seats })
     }
@@ -53,10 +53,11 @@ impl Desk {
         ensures seats { vec_len self.new.seats ≡ vec_len self.old.seats }
         ensures answer { is_own_reply result ≡ true }
     {
-        let Some(tx) = self.seats[thread as usize].take_open() else {
+        let seat = &mut self.seats[thread as usize];
+        if !seat.is_open() {
             return Reply::Refused(Refusal::OutOfTurn);
-        };
-        tx.abort(&mut self.here);
+        }
+        seat.abort(&mut self.here);
         Reply::Ok
     }
 }

@@ -34,7 +34,7 @@ ghost use Rattle.lc_core.specs.Pages.{FitsArea, FitsPages, IsStored};
 ghost use Rattle.lc_core.specs.Turns.{Turns, called, page_settled};
 ghost use Rattle.lc_core.specs.declared.pages.Pages.{Pages as ItsPages};
 ghost use Rattle.lc_core.specs.declared.here.Here.{Here as Slots};
-ghost use Rattle.lc_core.specs.declared.seat.Seat.{Seat as Sitting};
+ghost use Rattle.lc_core.specs.Seat.{Seat as Sitting};
 
 use crate::{Event, Refusal, Reply};
 use lc_disk::Area;

@@ -9,6 +9,7 @@ mod blank;
 mod common;
 mod delivering;
 mod desk;
+mod doing;
 mod drafting;
 mod due;
 mod ending;

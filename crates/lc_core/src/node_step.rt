@@ -29,7 +29,7 @@ impl<D: Area + Drop> Node<D> {
                 ..
             } => self
                 .desk
-                .begin(alloc, *thread, segments.as_slice(), reading.as_slice()),
+                .begin(*thread, segments.as_slice(), reading.as_slice()),
             Event::SetRange {
                 thread,
                 segment,

@@ -2,14 +2,11 @@
 ghost use Rattle.std.specs.Prelude.{◌≡◌, ◌<◌, [], None, Some, slice_get, vec_len};
 ghost use Rattle.lc_tx.specs.declared.tx.Tx.{Tx as Kept};
 ghost use Rattle.lc_core.specs.Here.{the_images};
-ghost use Rattle.lc_core.specs.Seat.{open_of, reserved_of};
-ghost use Rattle.lc_core.specs.declared.seat.Seat.{Seat as Sitting};
-ghost use Rattle.lc_core.specs.declared.seat.Seat.TheVariants.{Open};
+ghost use Rattle.lc_core.specs.Seat.{Seat as Sitting, Open, open_of, reserved_of};
 ghost use Rattle.lc_core.specs.Counts.{CountsSeat};
 ghost use Rattle.lc_core.specs.Reserves.{Reserves, Closes, EndsEmpty};
 
 use crate::desk::Desk;
-use crate::seat::Seat;
 
 impl Desk {
     /// The thread's open transaction is the node's record of this number, from 0, and is not closed yet. Where the thread
@@ -22,8 +19,8 @@ impl Desk {
         ensures seats { vec_len self.new.seats ≡ vec_len self.old.seats }
     {
         let seat = &mut self.seats[thread as usize];
-        if let Some(tx) = seat.take_open() {
-            *seat = Seat::Reserved { tx, number };
+        if seat.is_open() {
+            seat.reserve(number);
         }
     }
 
@@ -33,11 +30,10 @@ impl Desk {
         requires seat { thread < vec_len self.old.seats }
         ensures counts { CountsSeat thread self.old result self.new }
     {
-        let Seat::Reserved { tx, number } = &self.seats[thread as usize] else {
-            return None;
-        };
-        self.here.count(tx.ranges());
-        Some(*number)
+        let seat = &self.seats[thread as usize];
+        let number = seat.number()?;
+        self.here.count(seat.ranges());
+        Some(number)
     }
 
     /// The thread's reservation is closed: its locks are free. Where the thread has none, nothing changes. It takes no
@@ -50,8 +46,9 @@ impl Desk {
         ensures beside { the_images.IsSameBeside self.old.here self.new.here }
         ensures seats { vec_len self.new.seats ≡ vec_len self.old.seats }
     {
-        if let Some(tx) = self.seats[thread as usize].take_reserved() {
-            tx.release(&mut self.here);
+        let seat = &mut self.seats[thread as usize];
+        if seat.number().is_some() {
+            seat.release(&mut self.here);
         }
     }
 
@@ -66,8 +63,9 @@ impl Desk {
         ensures beside { the_images.IsSameBeside self.old.here self.new.here }
         ensures seats { vec_len self.new.seats ≡ vec_len self.old.seats }
     {
-        if let Some(tx) = self.seats[thread as usize].take_open() {
-            tx.release(&mut self.here);
+        let seat = &mut self.seats[thread as usize];
+        if seat.is_open() {
+            seat.release(&mut self.here);
         }
     }
 }

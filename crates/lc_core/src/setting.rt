@@ -6,7 +6,6 @@ ghost use Rattle.lc_core.specs.FaultReplies.{is_own_reply};
 
 use crate::desk::Desk;
 use crate::refused::refused;
-use crate::seat::Seat;
 use crate::{Refusal, Reply};
 use std::alloc::AllocError;
 
@@ -31,10 +30,11 @@ impl Desk {
         ensures seats { vec_len self.new.seats ≡ vec_len self.old.seats }
         ensures answer { IfOk result (λ reply. is_own_reply reply ≡ true) }
     {
-        let Seat::Open(tx) = &mut self.seats[thread as usize] else {
+        let seat = &mut self.seats[thread as usize];
+        if !seat.is_open() {
             return Ok(Reply::Refused(Refusal::OutOfTurn));
-        };
-        match tx.set_range(&mut self.here, segment, offset, len) {
+        }
+        match seat.set_range(&mut self.here, segment, offset, len) {
             Ok(()) => Ok(Reply::Ok),
             Err(fault) => refused(fault),
         }

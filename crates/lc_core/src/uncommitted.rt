@@ -27,10 +27,7 @@ impl Desk {
 fn sets_page(seat: &Seat, segment: u32, page: u32) -> bool
     ensures { IsTrue result ↔ SetsPage segment page seat.now }
 {
-    match seat {
-        Seat::Free => false,
-        Seat::Open(tx) | Seat::Reserved { tx, .. } => names_page(tx.ranges(), segment, page),
-    }
+    names_page(seat.ranges(), segment, page)
 }
 
 // Whether one of these ranges has a position on the page.

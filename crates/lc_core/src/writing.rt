@@ -6,7 +6,6 @@ ghost use Rattle.lc_core.specs.FaultReplies.{is_own_reply};
 
 use crate::desk::Desk;
 use crate::refused::refusal_of;
-use crate::seat::Seat;
 use crate::{Refusal, Reply};
 
 impl Desk {
@@ -20,7 +19,7 @@ impl Desk {
         ensures seats { vec_len self.new.seats ≡ vec_len self.old.seats }
         ensures answer { is_own_reply result ≡ true }
     {
-        let Seat::Open(tx) = &self.seats[thread as usize] else {
+        let Some(tx) = self.seats[thread as usize].open() else {
             return Reply::Refused(Refusal::OutOfTurn);
         };
         match tx.write(&mut self.here, segment, offset, bytes) {

@@ -1,56 +1,59 @@
-use Rattle.std.proofs.Common.{Some, sym, ap, ◌∙◌, true≢false}
+use Rattle.std.proofs.Common.{List, Some, length, is_some, sym, ap, subst, ◌∙◌, true≢false}
 use Rattle.std.proofs.lemmas.Option.{slice_get_read}
-use Rattle.lc_core.specs.Seat.{holder_of, freed_of}
-use Rattle.lc_core.proofs.Seating.{not_reserved, is_reserved, set_same}
-use Rattle.lc_core.proofs.Freeing.{own_runs, runs_freed}
+use Rattle.lc_core.specs.Seat.{Seat}
+use Rattle.lc_core.specs.Seats.{AllRun}
+use Rattle.lc_core.proofs.Seating.{not_reserved, reserved_holder, reserved_holds, set_same}
+use Rattle.lc_core.proofs.Freeing.{runs_freed}
 use Rattle.lc_core.proofs.Closes.{desk_closed, not_unclosed}
-use Rattle.std.proofs.Common.{length, ap}
 use Rattle.lc_core.proofs.Shortness.{few_slots, in_place_same, short_freed}
 use Rattle.lc_core.proofs.desk.Desk.close.Goals as goal
 
 pub release-requires : goal.release-requires
 release-requires c =
     let w = c.args.self.now in
-    let seat = c.index_mut.result.now in
-    let at = slice_get_read w.seats.items w.seats.len c.args.thread seat w.seats.ok.0 c.requires.seat c.index_mut.ensures.value in
-    let is = is_reserved seat c.in-Some.tx (sym c.take_reserved.ensures.value ∙ c.in-Some.is) in
-    record { runs = (own_runs w.here w.here w.seats.items c.args.thread seat at c.in-Some.tx (ap (λ x. holder_of (Some x)) is.1) w.runs).runs }
+    let seat = c.index_mut-seat.result.now in
+    let at = slice_get_read w.seats.items w.seats.len c.args.thread seat w.seats.ok.0 c.requires.seat c.index_mut-seat.ensures.value in
+    let some = sym (c.if-is_some.ensures ∙ ap is_some c.number.ensures) in
+    reserved_holds w.here w.seats.items c.args.thread seat at some w.runs
 
 pub invariant_of-self-clause-runs : goal.invariant_of-self-clause-runs
 invariant_of-self-clause-runs c =
     let w = c.args.self.now in
-    let seat = c.index_mut.result.now in
-    let at = slice_get_read w.seats.items w.seats.len c.args.thread seat w.seats.ok.0 c.requires.seat c.index_mut.ensures.value in
-    let is = is_reserved seat c.in-Some.tx (sym c.take_reserved.ensures.value ∙ c.in-Some.is) in
-    rw (c.take_reserved.ensures.rest, ap freed_of is.1) (runs_freed w.here c.release.new.images w.seats.items c.args.thread seat at c.in-Some.tx (ap (λ x. holder_of (Some x)) is.1) w.runs c.release.ensures.freed)
+    let seat = c.index_mut-seat.result.now in
+    let at = slice_get_read w.seats.items w.seats.len c.args.thread seat w.seats.ok.0 c.requires.seat c.index_mut-seat.ensures.value in
+    let done = c.release.ensures.releases in
+    rw c.release.ensures.free (runs_freed w.here c.release.new.here w.seats.items c.args.thread seat at done.tx done.its w.runs done.released.freed)
 
-pub invariant_of-self-in_default-clause-runs : goal.invariant_of-self-in_default-clause-runs
-invariant_of-self-in_default-clause-runs c =
+pub invariant_of-self-else-is_some-clause-runs : goal.invariant_of-self-else-is_some-clause-runs
+invariant_of-self-else-is_some-clause-runs c =
     let w = c.args.self.now in
-    let seat = c.index_mut.result.now in
-    let at = slice_get_read w.seats.items w.seats.len c.args.thread seat w.seats.ok.0 c.requires.seat c.index_mut.ensures.value in
-    rw (c.take_reserved.ensures.rest, not_reserved seat (sym c.take_reserved.ensures.value ∙ c.in_default.is), set_same w.seats.items c.args.thread seat at) w.runs
+    let seat = c.index_mut-seat.result.now in
+    let at = slice_get_read w.seats.items w.seats.len c.args.thread seat w.seats.ok.0 c.requires.seat c.index_mut-seat.ensures.value in
+    subst (λ (l : List Seat). AllRun w.here l) (sym (set_same w.seats.items c.args.thread seat at)) w.runs
 
-pub returns-in-Some-clause-closes : goal.returns-in-Some-clause-closes
-returns-in-Some-clause-closes c = λ m node s h unclosed.
+pub returns-then-is_some-clause-closes : goal.returns-then-is_some-clause-closes
+returns-then-is_some-clause-closes c = λ m node s h unclosed.
     let w = c.args.self.now in
-    let seat = c.index_mut.result.now in
-    let at = slice_get_read w.seats.items w.seats.len c.args.thread seat w.seats.ok.0 c.requires.seat c.index_mut.ensures.value in
-    let is = is_reserved seat c.in-Some.tx (sym c.take_reserved.ensures.value ∙ c.in-Some.is) in
-    rw (c.take_reserved.ensures.rest, ap freed_of is.1) (desk_closed w.here c.release.new.images w.seats.items c.args.thread is.0 c.in-Some.tx (at ∙ ap (λ x. Some x) is.1) w.runs c.release.ensures m node s h)
+    let seat = c.index_mut-seat.result.now in
+    let at = slice_get_read w.seats.items w.seats.len c.args.thread seat w.seats.ok.0 c.requires.seat c.index_mut-seat.ensures.value in
+    let done = c.release.ensures.releases in
+    let is = reserved_holder seat done.tx (sym (c.if-is_some.ensures ∙ ap is_some c.number.ensures)) done.its in
+    rw c.release.ensures.free (desk_closed w.here c.release.new.here w.seats.items c.args.thread is.0 done.tx (at ∙ ap (λ x. Some x) is.1) w.runs done.released m node s h)
 
-pub returns-in_default-clause-closes : goal.returns-in_default-clause-closes
-returns-in_default-clause-closes c = λ m node s h unclosed.
+pub returns-else-is_some-clause-closes : goal.returns-else-is_some-clause-closes
+returns-else-is_some-clause-closes c = λ m node s h unclosed.
     let w = c.args.self.now in
-    let seat = c.index_mut.result.now in
-    let at = slice_get_read w.seats.items w.seats.len c.args.thread seat w.seats.ok.0 c.requires.seat c.index_mut.ensures.value in
-    absurd (true≢false (sym unclosed ∙ not_unclosed w.here node c.args.thread _ s seat (h.threads c.args.thread seat at) (sym c.take_reserved.ensures.value ∙ c.in_default.is)))
+    let seat = c.index_mut-seat.result.now in
+    let at = slice_get_read w.seats.items w.seats.len c.args.thread seat w.seats.ok.0 c.requires.seat c.index_mut-seat.ensures.value in
+    absurd (true≢false (sym unclosed ∙ not_unclosed w.here node c.args.thread _ s seat (h.threads c.args.thread seat at) (not_reserved seat (sym (c.if-is_some.ensures ∙ ap is_some c.number.ensures)))))
 
 pub invariant_of-self-clause-few_slots : goal.invariant_of-self-clause-few_slots
-invariant_of-self-clause-few_slots c = few_slots c.args.self.now.here c.release.new.images c.release.ensures.freed.same.beside c.args.self.now.few_slots
+invariant_of-self-clause-few_slots c = few_slots c.args.self.now.here c.release.new.here c.release.ensures.releases.released.freed.same.beside c.args.self.now.few_slots
 
 pub invariant_of-self-clause-in_place : goal.invariant_of-self-clause-in_place
-invariant_of-self-clause-in_place c = in_place_same c.args.self.now.here c.release.new.images c.release.ensures.freed.same.beside c.args.self.now.in_place
+invariant_of-self-clause-in_place c = in_place_same c.args.self.now.here c.release.new.here c.release.ensures.releases.released.freed.same.beside c.args.self.now.in_place
 
 pub invariant_of-self-clause-short : goal.invariant_of-self-clause-short
-invariant_of-self-clause-short c = short_freed c.in-Some.tx.thread c.in-Some.tx.locked.items c.in-Some.tx.reading.items c.args.self.now.here c.release.new.images c.release.ensures.freed (λ segment lock. ap length (c.release.ensures.same_bytes segment lock)) c.args.self.now.short
+invariant_of-self-clause-short c =
+    let done = c.release.ensures.releases in
+    short_freed done.tx.thread done.tx.locked.items done.tx.reading.items c.args.self.now.here c.release.new.here done.released.freed (λ segment lock. ap length (done.released.same_bytes segment lock)) c.args.self.now.short

@@ -4,7 +4,7 @@ use Rattle.std.proofs.lemmas.Bool.{cases_lt}
 use Rattle.std.proofs.lemmas.Option.{slice_get-get_or, slice_get_within}
 use Rattle.lc_core.specs.Places.{same_some}
 use Rattle.lc_core.specs.Uncommitted.{SetsPage}
-use Rattle.lc_core.specs.declared.seat.Seat.{Seat}
+use Rattle.lc_core.specs.Seat.{Seat}
 use Rattle.lc_core.proofs.desk.Desk.is_uncommitted.Goals as goal
 
 pub loop-seat-init : goal.loop-seat-init

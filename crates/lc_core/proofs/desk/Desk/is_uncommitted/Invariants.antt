@@ -1,7 +1,7 @@
 use Rattle.std.proofs.Common.{◌≡◌, ℕ, ◌<◌, Some}
 use Rattle.std.specs.Prelude.{slice_get}
 use Rattle.lc_core.specs.Uncommitted.{SetsPage}
-use Rattle.lc_core.specs.declared.seat.Seat.{Seat}
+use Rattle.lc_core.specs.Seat.{Seat}
 use Rattle.lc_core.proofs.desk.Desk.is_uncommitted.Given as goal
 
 abbrev pub invariant-loop-seat : goal.invariant-loop-seat

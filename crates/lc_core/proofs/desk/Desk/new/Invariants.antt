@@ -1,6 +1,6 @@
 use Rattle.std.proofs.Common.{◌≡◌}
 use Rattle.std.specs.Prelude.{replicate}
-use Rattle.lc_core.specs.declared.seat.Seat.TheVariants.{Free}
+use Rattle.lc_core.specs.Seat.{Free}
 use Rattle.lc_core.proofs.desk.Desk.new.Given as goal
 
 abbrev pub invariant-loop : goal.invariant-loop

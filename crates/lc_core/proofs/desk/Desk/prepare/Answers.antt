@@ -7,7 +7,7 @@ use Rattle.lc_model.proofs.Rows.{reserve-no_turn}
 use Rattle.lc_tx.specs.declared.tx.Tx.{Tx}
 use Rattle.lc_core.specs.Places.{same_some}
 use Rattle.lc_core.specs.Settled.{reserve_open}
-use Rattle.lc_core.specs.declared.seat.Seat.TheVariants.{Open}
+use Rattle.lc_core.specs.Seat.{Open}
 use Rattle.lc_core.proofs.Dropping.{no_turn, runs_same, desk_seen}
 use Rattle.lc_core.proofs.Readied.{seated, ready, ready_words, record_is, set_some, ended_row, answered, sealed_refused, full_refused, needs_fault}
 use Rattle.lc_core.proofs.Seating.{same_open}

@@ -10,7 +10,7 @@ use Rattle.lc_core.proofs.Refusing.{memory_wanted}
 use Rattle.std.proofs.Common.{ap}
 use Rattle.lc_core.proofs.Shortness.{in_place_same, few_slots, short_same}
 use Rattle.std.specs.Prelude.{Some}
-use Rattle.lc_core.proofs.Seating.{is_open}
+use Rattle.lc_core.proofs.Seating.{open_seat}
 use Rattle.lc_core.proofs.desk.Desk.read.Goals as goal
 
 pub returns-in_default-clause-follows : goal.returns-in_default-clause-follows
@@ -71,7 +71,7 @@ returns-in-Err-clause-memory c = memory_wanted c.in-Err.fault c.refused.result _
     let wanted = c.read.ensures.no_memory (c.in-Err.is ∙ ap (λ f. Err f) none) in
     record {
       tx = c.in-Some.tx.now;
-      sits = at ∙ ap (λ x. Some x) (is_open seat c.in-Some.tx.now (sym c.in-Some.ensures));
+      sits = at ∙ ap (λ x. Some x) (open_seat seat c.in-Some.tx.now (sym c.in-Some.ensures));
       holds = wanted.0;
       some = wanted.1;
       inside = wanted.2;

@@ -1,4 +1,4 @@
-use Rattle.std.proofs.Common.{List, Some, length, refl, ap, subst, ◌∙◌}
+use Rattle.std.proofs.Common.{List, Some, length, refl, sym, ap, subst, ◌∙◌}
 use Rattle.std.specs.Prelude.{Err}
 use Rattle.std.proofs.lemmas.Option.{slice_get_read}
 use Rattle.lc_record.specs.Marks.{written}
@@ -10,14 +10,12 @@ use Rattle.lc_tx.specs.declared.tx.Tx.{Tx}
 use Rattle.lc_tx.specs.declared.tx_fault.TxFault.{TxFault}
 use Rattle.lc_tx.proofs.StandsLemmas.{write_stands}
 use Rattle.lc_core.specs.Here.{the_images}
-use Rattle.lc_core.specs.Seat.{open_of}
+use Rattle.lc_core.specs.Seat.{Seat, Open}
 use Rattle.lc_core.specs.Seats.{AllRun}
 use Rattle.lc_core.specs.Desk.{FitsDesk}
-use Rattle.lc_core.specs.declared.seat.Seat.{Seat}
-use Rattle.lc_core.specs.declared.seat.Seat.TheVariants.{Open}
-use Rattle.lc_core.proofs.Seating.{set_same}
+use Rattle.lc_core.proofs.Seating.{open_seat, set_same}
 use Rattle.lc_core.proofs.Dropping.{own_open_runs, open_fits, no_turn, still, desk_seen}
-use Rattle.lc_core.proofs.Changing.{unopened, written_held, changed_own, changed_but, runs_next, desk_next}
+use Rattle.lc_core.proofs.Changing.{written_held, changed_own, changed_but, runs_next, desk_next}
 use Rattle.lc_core.proofs.WriteRows.{WriteAnswers, write_leaves, write_fault, write_lock, write_done}
 use Rattle.std.proofs.Common.{length, ap}
 use Rattle.lc_core.proofs.Shortness.{in_place_written, short_written}
@@ -31,7 +29,7 @@ returns-in_default c =
     record {
       follows = λ node m s known sound h. (
         s,
-        write-no_turn m s node c.args.thread c.args.segment c.args.offset c.args.bytes.now (no_turn w.here node c.args.thread _ s seat (h.threads c.args.thread seat at) (unopened seat c.in_default.not-Open)),
+        write-no_turn m s node c.args.thread c.args.segment c.args.offset c.args.bytes.now (no_turn w.here node c.args.thread _ s seat (h.threads c.args.thread seat at) (sym c.in_default.ensures)),
         still node s,
         h,
       );
@@ -44,18 +42,18 @@ pub write-requires : goal.write-requires
 write-requires c =
     let w = c.args.self.now in
     let at = slice_get_read w.seats.items w.seats.len c.args.thread c.index.result.now w.seats.ok.0 c.requires.seat c.index.ensures in
-    record { runs = (own_open_runs w.here w.here w.seats.items c.args.thread c.index.result.now c.in-Open.tx at (ap open_of c.in-Open.is) w.runs).runs }
+    record { runs = (own_open_runs w.here w.here w.seats.items c.args.thread c.index.result.now c.in-Some.tx.now at (sym c.in-Some.ensures) w.runs).runs }
 
 pub invariant_of-self-2-clause-runs : goal.invariant_of-self-2-clause-runs
 invariant_of-self-2-clause-runs c =
     let w = c.args.self.now in
     let seat = c.index.result.now in
-    let tx : Tx = c.in-Open.tx in
+    let tx : Tx = c.in-Some.tx.now in
     let at = slice_get_read w.seats.items w.seats.len c.args.thread seat w.seats.ok.0 c.requires.seat c.index.ensures in
-    let is = ap open_of c.in-Open.is in
+    let is = sym c.in-Some.ensures in
     let own = own_open_runs w.here w.here w.seats.items c.args.thread seat tx at is w.runs in
     let leaves = write_leaves w.here c.write.new.images tx c.args.thread c.args.segment c.args.offset c.args.bytes.now c.write.result own c.write.ensures.written c.write.ensures.err (λ ok. (c.write.ensures.ok.0 ok).0) in
-    subst (λ (l : List Seat). AllRun c.write.new.images l) (set_same w.seats.items c.args.thread (Open tx) (at ∙ ap (λ x. Some x) c.in-Open.is))
+    subst (λ (l : List Seat). AllRun c.write.new.images l) (set_same w.seats.items c.args.thread (Open tx) (at ∙ ap (λ x. Some x) (open_seat seat tx is)))
     (runs_next w.here c.write.new.images w.seats.items c.args.thread seat tx tx at is w.runs leaves own.own c.write.ensures.runs)
 
 pub refusal_of-requires : goal.refusal_of-requires
@@ -65,9 +63,9 @@ pub returns-in-Ok-clause-follows : goal.returns-in-Ok-clause-follows
 returns-in-Ok-clause-follows c = λ node m s known sound h.
     let w = c.args.self.now in
     let seat = c.index.result.now in
-    let tx : Tx = c.in-Open.tx in
+    let tx : Tx = c.in-Some.tx.now in
     let at = slice_get_read w.seats.items w.seats.len c.args.thread seat w.seats.ok.0 c.requires.seat c.index.ensures in
-    let is = ap open_of c.in-Open.is in
+    let is = sym c.in-Some.ensures in
     let one = open_fits w.here node c.args.thread w.seats.items seat tx m s h at is in
     let own = own_open_runs w.here w.here w.seats.items c.args.thread seat tx at is w.runs in
     let answers : WriteAnswers (bytes_of the_images w.here c.args.segment) tx c.args.segment c.args.offset (length c.args.bytes.now) c.write.result = record {
@@ -85,7 +83,7 @@ returns-in-Ok-clause-follows c = λ node m s known sound h.
       changed s u,
       write_done m node c.args.thread w.here w.seats.items s h tx one own.runs c.args.segment c.args.offset c.args.bytes.now c.write.result answers c.in-Ok.is,
       changed_but s node c.args.thread t u one.running refl refl,
-      subst (λ (l : List Seat). FitsDesk m node c.write.new.images l (changed s u)) (set_same w.seats.items c.args.thread (Open tx) (at ∙ ap (λ x. Some x) c.in-Open.is))
+      subst (λ (l : List Seat). FitsDesk m node c.write.new.images l (changed s u)) (set_same w.seats.items c.args.thread (Open tx) (at ∙ ap (λ x. Some x) (open_seat seat tx is)))
           (desk_next w.here c.write.new.images w.seats.items c.args.thread seat tx tx at is w.runs leaves m node s h
           (written_held w.here c.write.new.images tx c.args.segment c.args.offset c.args.bytes.now own.runs why.0 wrote) refl refl t u one.running refl refl
           (record {
@@ -100,9 +98,9 @@ pub returns-in-Err-clause-follows : goal.returns-in-Err-clause-follows
 returns-in-Err-clause-follows c = λ node m s known sound h.
     let w = c.args.self.now in
     let seat = c.index.result.now in
-    let tx : Tx = c.in-Open.tx in
+    let tx : Tx = c.in-Some.tx.now in
     let at = slice_get_read w.seats.items w.seats.len c.args.thread seat w.seats.ok.0 c.requires.seat c.index.ensures in
-    let is = ap open_of c.in-Open.is in
+    let is = sym c.in-Some.ensures in
     let one = open_fits w.here node c.args.thread w.seats.items seat tx m s h at is in
     let own = own_open_runs w.here w.here w.seats.items c.args.thread seat tx at is w.runs in (
       s,

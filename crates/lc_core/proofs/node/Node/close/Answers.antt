@@ -3,7 +3,7 @@ use Rattle.std.specs.Prelude.{Option, slice_index_or, vec_len}
 use Rattle.std.proofs.lemmas.Option.{slice_get-get_or}
 use Rattle.lc_core.specs.Counts.{CountsSeat}
 use Rattle.lc_core.specs.declared.here.Here.{Here}
-use Rattle.lc_core.specs.declared.seat.Seat.TheVariants.{Free}
+use Rattle.lc_core.specs.Seat.{Free}
 use Rattle.lc_core.proofs.CountedDesk.{count_counted}
 use Rattle.lc_core.proofs.Shortness.{same_count}
 use Rattle.lc_core.proofs.Closing.{closes_one, none_closes}
