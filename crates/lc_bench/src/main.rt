@@ -1,15 +1,23 @@
-//! Measures the layers by hand. Without a word it prints the names of its measurements; with one of them it measures, beside
-//! the plain work done by hand in the same run, and prints both and their ratio.
+//! Measures the layers, each beside the plain work that a careful programmer would do by hand, in alternating rounds. Without
+//! a word it prints the names of its measurements; with one of them it measures, and prints both and their ratio.
 #![tactic(auto)]
 
+mod by_hand;
+mod choosing;
+mod copies;
+mod events;
 mod files;
+mod growth;
+mod harness;
 mod measurement;
-mod recoveries;
+mod measurements;
+mod memory;
+mod rounds;
 mod staging;
-mod timing;
+mod stores;
 mod transactions;
+mod writes;
 
-use measurement::Measurement;
 use std::process::ExitCode;
 use std::{env, io};
 
@@ -19,15 +27,16 @@ const NOT_UNDERSTOOD: u8 = 2;
 fn main(rt: HostRuntime) -> io::Result<ExitCode> {
     let mut words = env::args(&rt)?.skip(1);
     let Some(word) = words.next() else {
-        for measurement in Measurement::ALL {
-            rt.println(measurement.name())?;
-        }
+        choosing::explain(&rt)?;
         return Ok(ExitCode::SUCCESS);
     };
-    let Some(measurement) = Measurement::named(word.as_str()) else {
+    let folder = match words.next() {
+        Some(folder) => folder,
+        None => String::from_str(rt.alloc(), ".")?,
+    };
+    if !choosing::measure(&rt, word.as_str(), folder.as_str())? {
         rt.eprintln("no such measurement; without a word their names are printed")?;
         return Ok(ExitCode::from(NOT_UNDERSTOOD));
-    };
-    measurement.run(&rt)?;
+    }
     Ok(ExitCode::SUCCESS)
 }

@@ -1,93 +1,130 @@
-//! What can be measured.
-use crate::{files, recoveries, staging, transactions};
-use lc_disk::HeldFile;
-use std::io;
-use std::rt::{Clock, Files};
-use std::thread::Threads;
+//! What is measured, and how large it is.
+use lc_record::{Geometry, PAGE};
+use std::alloc::{AllocError, Global};
+use std::io::{self, Error, ErrorKind};
 
-/// One measurement.
-#[derive(Clone, Copy, PartialEq, Eq)]
-pub(crate) enum Measurement {
-    /// A transaction of one range.
-    OneRange,
-    /// A transaction of 64 ranges.
-    ManyRanges,
-    /// Staged records of one thread.
-    OneThread,
-    /// Staged records of four threads, side by side.
-    FourThreads,
-    /// A recovery of segments of 64 pages.
-    FewPages,
-    /// A recovery of segments of 1024 pages.
-    ManyPages,
-    /// Commits to files, each made durable on its own.
-    OneDurable,
-    /// Commits to files, made durable in groups of 8.
-    FewDurable,
-    /// Commits to files, made durable in groups of 64.
-    ManyDurable,
-    /// The opening of a store in files.
-    Reopening,
+/// The bytes that a transaction writes into each of its ranges.
+pub(crate) const DATA: [u8; 8] = *b"measured";
+
+/// The words of each log.
+pub(crate) const WORDS: u32 = 4096;
+
+// From one range of a transaction to the next, so that they do not touch.
+const GAP: u32 = 16;
+
+/// What a measurement is of.
+pub(crate) enum Subject {
+    /// Transactions on the image of one segment.
+    Image,
+    /// A store in memory.
+    Memory,
+    /// A store in files.
+    Files,
+    /// Staged records of threads that run.
+    Stage,
+    /// Each kind of event, one at a time.
+    Events,
+}
+
+/// What is timed of a round on a store.
+pub(crate) enum Timed {
+    /// The transactions, on a log that is emptied before them.
+    Transactions,
+    /// How the log is emptied, behind them.
+    Emptying,
+    /// Both: the log is emptied where it is full.
+    Both,
+    /// How the store comes up, behind them.
+    Recovery,
+}
+
+/// How a transaction ends.
+pub(crate) enum End {
+    Commit,
+    Abort,
+}
+
+/// A measurement by its name: so many transactions of so many ranges each on a store of this size, and a flush behind
+/// each group of them. A group of 0 is never flushed.
+pub(crate) struct Measurement {
+    pub(crate) name: &'static str,
+    pub(crate) subject: Subject,
+    pub(crate) timed: Timed,
+    pub(crate) nodes: u16,
+    pub(crate) threads: u16,
+    pub(crate) segments: u32,
+    pub(crate) pages: u32,
+    pub(crate) count: u32,
+    pub(crate) ranges: u32,
+    pub(crate) group: u32,
+    pub(crate) end: End,
+}
+
+/// What a transaction of a node changes in a segment: where its ranges begin, and whether a flush comes behind it.
+#[derive(Drop)]
+pub(crate) struct Transaction {
+    pub(crate) node: u16,
+    pub(crate) segment: u32,
+    pub(crate) offsets: Vec<u32>,
+    pub(crate) is_flushed: bool,
 }
 
 impl Measurement {
-    /// All that there are.
-    pub(crate) const ALL: [Measurement; 10] = [
-        Measurement::OneRange,
-        Measurement::ManyRanges,
-        Measurement::OneThread,
-        Measurement::FourThreads,
-        Measurement::FewPages,
-        Measurement::ManyPages,
-        Measurement::OneDurable,
-        Measurement::FewDurable,
-        Measurement::ManyDurable,
-        Measurement::Reopening,
-    ];
-
-    /// The word that asks for it.
-    pub(crate) fn name(self) -> &'static str {
-        match self {
-            Measurement::OneRange => "one-range",
-            Measurement::ManyRanges => "64-ranges",
-            Measurement::OneThread => "staging-1-thread",
-            Measurement::FourThreads => "staging-4-threads",
-            Measurement::FewPages => "recovery-64-pages",
-            Measurement::ManyPages => "recovery-1024-pages",
-            Measurement::OneDurable => "durable-commits",
-            Measurement::FewDurable => "durable-commits-by-8",
-            Measurement::ManyDurable => "durable-commits-by-64",
-            Measurement::Reopening => "reopening-400-commits",
+    /// The size of its store.
+    pub(crate) fn geometry(&self) -> io::Result<Geometry> {
+        match Geometry::new(self.nodes, self.threads, self.segments, self.pages, WORDS) {
+            Some(geometry) => Ok(geometry),
+            None => Err(Error::from(ErrorKind::InvalidInput)),
         }
     }
 
-    /// The measurement of this name.
-    pub(crate) fn named(name: &str) -> Option<Measurement> {
-        Measurement::ALL
-            .iter()
-            .copied()
-            .find(|measurement| measurement.name() == name)
+    /// The bytes of a segment.
+    pub(crate) fn segment_bytes(&self) -> u32 {
+        self.pages.wrapping_mul(PAGE)
     }
 
-    /// Measures, and prints what it found.
-    pub(crate) fn run<R: AllocGlobal + Clock + Files + Print + Threads + Sync>(
-        self,
-        rt: &R,
-    ) -> io::Result<()>
-    where
-        R::File: HeldFile,
-    {
-        match self {
-            Measurement::OneRange => transactions::measure(rt, 1),
-            Measurement::ManyRanges => transactions::measure(rt, 64),
-            Measurement::OneThread => staging::measure(rt, 1),
-            Measurement::FourThreads => staging::measure(rt, 4),
-            Measurement::FewPages => recoveries::measure(rt, 64),
-            Measurement::ManyPages => recoveries::measure(rt, 1024),
-            Measurement::OneDurable => files::measure_commits(rt, 1),
-            Measurement::FewDurable => files::measure_commits(rt, 8),
-            Measurement::ManyDurable => files::measure_commits(rt, 64),
-            Measurement::Reopening => files::measure_reopening(rt),
+    /// The node that has the token of a segment.
+    pub(crate) fn home(&self, segment: u32) -> u16 {
+        u16::try_from(segment).unwrap_or(0) % self.nodes.max(1)
+    }
+
+    /// What all transactions change.
+    pub(crate) fn transactions(&self, alloc: Global) -> Result<Vec<Transaction>, AllocError> {
+        let mut all = Vec::new(alloc);
+        for number in 0..self.count {
+            all.push(self.transaction(alloc, number)?)?;
+        }
+        Ok(all)
+    }
+
+    /// What a transaction changes. Each segment has its turn, and then each page of a segment.
+    pub(crate) fn transaction(
+        &self,
+        alloc: Global,
+        number: u32,
+    ) -> Result<Transaction, AllocError> {
+        let segment = (number % self.segments.max(1)).wrapping_add(1);
+        let page = number / self.segments.max(1);
+        let mut offsets = Vec::new(alloc);
+        for range in 0..self.ranges {
+            let behind = page
+                .wrapping_mul(PAGE)
+                .wrapping_add(range.wrapping_mul(GAP));
+            offsets.push(behind % self.segment_bytes().max(1))?;
+        }
+        Ok(Transaction {
+            node: self.home(segment),
+            segment,
+            offsets,
+            is_flushed: matches!(number.wrapping_add(1).checked_rem(self.group), Some(0)),
+        })
+    }
+
+    /// How many there are in a round of what a time is printed for.
+    pub(crate) fn units(&self) -> u32 {
+        match self.timed {
+            Timed::Transactions | Timed::Both => self.count,
+            Timed::Emptying | Timed::Recovery => 1,
         }
     }
 }

@@ -2,7 +2,8 @@
 ghost use Rattle.std.specs.Prelude.{◌≡◌};
 ghost use Rattle.lc_stage.specs.Seats.{commit_view, IsSeatOf, IsIdle, IsFresh};
 
-use crate::timing;
+use crate::harness::nanoseconds;
+use crate::rounds::Rounds;
 use lc_stage::{CommitSeat, Stage, StageFault};
 use std::alloc::Global;
 use std::io::{self, Error, ErrorKind};
@@ -11,14 +12,13 @@ use std::sync::atomic::{AtomicU64, Ordering};
 use std::thread::{Threads, map_vec};
 use std::time::{Duration, Instant};
 
-const REPETITIONS: u32 = 200;
+// How many stages are filled; a round is short.
+const ROUNDS: u32 = 101;
 
 // The places of one stage.
 const WORDS: u32 = 4096;
 
 const RECORD_WORDS: u32 = 8;
-
-const RECORDS: u32 = WORDS / RECORD_WORDS;
 
 // More tries than the records of one stage need.
 const TRIES: u32 = 10_000_000;
@@ -61,19 +61,21 @@ struct Writer<'a> {
 }
 
 /// Measures records of 8 words that so many threads reserve, fill and close side by side until the stage is full, beside
-/// a `fetch_add` of a shared number and 8 plain stores for each, into words of the thread's own. A record's time is
-/// the longest that a thread took, divided by the records of all threads.
-pub(crate) fn measure<R: AllocGlobal + Clock + Print + Threads + Sync>(
+/// a `fetch_add` of a shared number and 8 plain stores for each, into words of the thread's own. A round takes as long as the
+/// thread that took longest.
+pub(crate) fn measure<R: AllocGlobal + Clock + Threads + Sync>(
     rt: &R,
-    threads: u32,
-) -> io::Result<()> {
-    let mut work = Duration::ZERO;
-    let mut by_hand = Duration::ZERO;
-    for _ in 0..REPETITIONS {
-        work = work.saturating_add(stage_records(rt, threads)?);
-        by_hand = by_hand.saturating_add(write_records(rt, threads)?);
+    threads: u16,
+) -> io::Result<Rounds> {
+    let threads = u32::from(threads);
+    let mut rounds = Rounds::new(rt.alloc());
+    for _ in 0..ROUNDS {
+        let before = write_records(rt, threads)?;
+        let ours = stage_records(rt, threads)?;
+        let again = write_records(rt, threads)?;
+        rounds.push(nanoseconds(before), nanoseconds(ours), nanoseconds(again))?;
     }
-    timing::print(rt, work, by_hand, REPETITIONS * RECORDS)
+    Ok(rounds)
 }
 
 // How long it takes to fill one stage.

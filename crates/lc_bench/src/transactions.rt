@@ -1,75 +1,104 @@
-//! What a transaction costs.
-ghost use Rattle.std.specs.Prelude.{◌≤◌};
+//! Transactions on the image of one segment, in one `Tx` that is kept.
+ghost use Rattle.std.specs.Prelude.{◌≤◌, OnOk};
+ghost use Rattle.lc_tx.specs.Tx.{IsIdle};
 
-use crate::timing;
+use crate::harness::Work;
+use crate::measurement::{DATA, End, Measurement, Transaction};
 use lc_tx::{Image, OneSegment, Prepared, Tx, TxFault};
-use std::alloc::Global;
+use std::alloc::{AllocError, Global};
 use std::io::{self, Error, ErrorKind};
-use std::rt::Clock;
-use std::time::Instant;
 
-const REPETITIONS: u32 = 100_000;
+const SEGMENT: u32 = 1;
 
 const SEGMENT_BYTES: usize = 16_384;
 
-const DATA: &[u8; 5] = b"hello";
-// From one range to the next, so that they do not touch.
-const STRIDE: u32 = 16;
-
-/// Measures transactions of so many ranges of 5 bytes: begin, set_range and write for each, prepare_end and release, beside
-/// a plain copy of the bytes.
-pub(crate) fn measure<R: AllocGlobal + Clock + Print>(rt: &R, ranges: u32) -> io::Result<()> {
-    let alloc = rt.alloc();
-    let bytes = vec![in alloc; 0; SEGMENT_BYTES]?;
-    let mut segment = OneSegment {
-        image: Image::new(bytes),
-        records: 0,
-    };
-    let start = Instant::now(rt)?;
-    let mut words = 0u64;
-    for _ in 0..REPETITIONS {
-        match committed(alloc, &mut segment, ranges) {
-            Ok(count) => words = words.wrapping_add(count as u64),
-            Err(_) => return Err(Error::from(ErrorKind::OutOfMemory)),
-        }
-    }
-    let work = start.elapsed(rt)?;
-    let mut plain = vec![in alloc; 0; SEGMENT_BYTES]?;
-    let start = Instant::now(rt)?;
-    for _ in 0..REPETITIONS {
-        copy(&mut plain, ranges);
-    }
-    let by_hand = start.elapsed(rt)?;
-    let kept = plain.first().copied().unwrap_or(0);
-    println!(rt; "{words} words in all, first byte {kept}")?;
-    timing::print(rt, work, by_hand, REPETITIONS)
+/// The transactions of a round, and the image, which none of them holds.
+#[derive(Drop)]
+pub(crate) struct Transactions {
+    alloc: Global,
+    measurement: &'static Measurement,
+    transactions: Vec<Transaction>,
+    segment: OneSegment,
 }
 
-// How many words the record of a transaction of so many ranges has.
-fn committed(alloc: Global, segment: &mut OneSegment, ranges: u32) -> Result<usize, TxFault> {
-    let mut tx = Tx::begin(alloc, segment, 0, &[1], &[])?;
-    for range in 0..ranges {
-        let offset = range.wrapping_mul(STRIDE);
-        tx.set_range(segment, 1, offset, DATA.len() as u32)?;
-        tx.write(segment, 1, offset, DATA)?;
+impl Transactions {
+    /// On an image of zeros.
+    pub(crate) fn new(
+        alloc: Global,
+        measurement: &'static Measurement,
+    ) -> Result<Transactions, AllocError> {
+        let bytes = vec![in alloc; 0; SEGMENT_BYTES]?;
+        Ok(Transactions {
+            alloc,
+            measurement,
+            transactions: measurement.transactions(alloc)?,
+            segment: OneSegment {
+                image: Image::new(bytes),
+                records: 0,
+            },
+        })
+    }
+}
+
+impl Work for Transactions {
+    fn ready(&mut self) -> io::Result<()> {
+        Ok(())
+    }
+
+    fn run(&mut self) -> io::Result<u64> {
+        let transactions = self.transactions.as_slice();
+        let end = &self.measurement.end;
+        match transact_all(self.alloc, &mut self.segment, transactions, end) {
+            Ok(words) => Ok(words),
+            Err(_) => Err(Error::from(ErrorKind::OutOfMemory)),
+        }
+    }
+}
+
+// How many words the records of all transactions have.
+fn transact_all(
+    alloc: Global,
+    segment: &mut OneSegment,
+    transactions: &[Transaction],
+    end: &End,
+) -> Result<u64, TxFault> {
+    let mut tx = Tx::idle(alloc);
+    let mut words = 0u64;
+    for transaction in transactions {
+        let offsets = transaction.offsets.as_slice();
+        let more = transact(alloc, segment, &mut tx, offsets, end)?;
+        words = words.wrapping_add(more);
+    }
+    Ok(words)
+}
+
+// How many words the record of a transaction has.
+fn transact(
+    alloc: Global,
+    segment: &mut OneSegment,
+    tx: &mut Tx,
+    offsets: &[u32],
+    end: &End,
+) -> Result<u64, TxFault>
+    requires { IsIdle tx.old }
+    ensures { OnOk result (IsIdle tx.new) }
+{
+    tx.begin_again(segment, 0, &[SEGMENT], &[])?;
+    for offset in offsets {
+        tx.set_range(segment, SEGMENT, *offset, DATA.len() as u32)?;
+        tx.write(segment, SEGMENT, *offset, &DATA)?;
+    }
+    if let End::Abort = end {
+        tx.abort_in_place(segment);
+        return Ok(0);
     }
     if segment.image.bytes().len() > SEGMENT_BYTES {
         return Err(TxFault::OutOfSegment);
     }
-    let words = match tx.prepare_end(alloc, segment, 0)? {
-        Prepared::Empty => 0,
-        Prepared::Record(words) => words.as_slice().len(),
-    };
-    tx.release(segment);
-    Ok(words)
-}
-
-// The same bytes, copied by hand.
-fn copy(bytes: &mut [u8], ranges: u32) {
-    for range in 0..ranges as usize {
-        let start = range.wrapping_mul(STRIDE as usize);
-        for (place, byte) in bytes.iter_mut().skip(start).zip(DATA) {
-            *place = *byte;
-        }
+    let prepared = tx.prepare_end(alloc, segment, 0)?;
+    tx.release_in_place(segment);
+    match prepared {
+        Prepared::Empty => Ok(0),
+        Prepared::Record(words) => Ok(words.as_slice().len() as u64),
     }
 }

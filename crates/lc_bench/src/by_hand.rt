@@ -1,0 +1,126 @@
+//! Transactions by hand, as a careful programmer would do them without a store.
+use crate::harness::Work;
+use crate::measurement::{DATA, End, Measurement, Transaction, WORDS};
+use std::alloc::{AllocError, Global};
+use std::io;
+
+// The first word of a record.
+const MARK: u64 = 0xa5;
+
+/// The transactions of a round, and what they change.
+#[derive(Drop)]
+pub(crate) struct ByHand {
+    measurement: &'static Measurement,
+    transactions: Vec<Transaction>,
+    segment: Segment,
+}
+
+// The bytes of a segment; the old ones under a transaction; the words of the records that are not flushed and of those that
+// are; and the pages as they were last written.
+#[derive(Drop)]
+struct Segment {
+    bytes: Vec<u8>,
+    old: Vec<u8>,
+    log: Vec<u64>,
+    flushed: Vec<u64>,
+    pages: Vec<u8>,
+}
+
+impl ByHand {
+    /// On a segment of zeros.
+    pub(crate) fn new(
+        alloc: Global,
+        measurement: &'static Measurement,
+    ) -> Result<ByHand, AllocError> {
+        Ok(ByHand {
+            measurement,
+            transactions: measurement.transactions(alloc)?,
+            segment: Segment {
+                bytes: vec![in alloc; 0; measurement.segment_bytes() as usize]?,
+                old: Vec::new(alloc),
+                log: Vec::new(alloc),
+                flushed: Vec::new(alloc),
+                pages: Vec::new(alloc),
+            },
+        })
+    }
+}
+
+impl Work for ByHand {
+    fn ready(&mut self) -> io::Result<()> {
+        self.segment.log.clear();
+        self.segment.flushed.clear();
+        Ok(())
+    }
+
+    fn run(&mut self) -> io::Result<u64> {
+        let mut seen = 0u64;
+        for transaction in self.transactions.as_slice() {
+            self.segment.write(transaction.offsets.as_slice())?;
+            match self.measurement.end {
+                End::Commit => self.segment.append(transaction)?,
+                End::Abort => self.segment.restore(transaction.offsets.as_slice()),
+            }
+            if transaction.is_flushed {
+                self.segment.flush()?;
+            }
+            seen = seen.wrapping_add(self.segment.log.len() as u64);
+        }
+        Ok(seen.wrapping_add(self.segment.log.last().copied().unwrap_or(0)))
+    }
+}
+
+impl Segment {
+    // Writes each range, and keeps the old bytes.
+    fn write(&mut self, offsets: &[u32]) -> Result<(), AllocError> {
+        self.old.clear();
+        let bytes = self.bytes.as_mut_slice();
+        for offset in offsets {
+            let start = *offset as usize;
+            if let Some(place) = bytes.get_mut(start..start.wrapping_add(DATA.len())) {
+                self.old.extend_from_slice(place)?;
+                place.copy_from_slice(&DATA);
+            }
+        }
+        Ok(())
+    }
+
+    // Gives back the old bytes.
+    fn restore(&mut self, offsets: &[u32]) {
+        for (offset, old) in offsets.iter().zip(self.old.chunks_exact(DATA.len())) {
+            lay(&mut self.bytes, *offset as usize, old);
+        }
+    }
+
+    // Appends a record: a header of 64 bytes, and the place and the bytes of each range.
+    fn append(&mut self, transaction: &Transaction) -> Result<(), AllocError> {
+        let segment = u64::from(transaction.segment);
+        let ranges = transaction.offsets.len() as u64;
+        self.log
+            .extend_from_slice(&[MARK, 0, segment, ranges, 0, 0, 0, 0])?;
+        for offset in transaction.offsets.as_slice() {
+            self.log
+                .extend_from_slice(&[u64::from(*offset), u64::from_le_bytes(DATA)])?;
+        }
+        Ok(())
+    }
+
+    // Flushes the records. Where the log has no room for them, all pages are written, and it is emptied.
+    fn flush(&mut self) -> Result<(), AllocError> {
+        if self.flushed.len().wrapping_add(self.log.len()) > WORDS as usize {
+            self.pages.clear();
+            self.pages.extend_from_slice(self.bytes.as_slice())?;
+            self.flushed.clear();
+        }
+        self.flushed.extend_from_slice(self.log.as_slice())?;
+        self.log.clear();
+        Ok(())
+    }
+}
+
+/// Lays bytes over others from a place on, where they lie within.
+pub(crate) fn lay(to: &mut [u8], start: usize, bytes: &[u8]) {
+    if let Some(place) = to.get_mut(start..start.wrapping_add(bytes.len())) {
+        place.copy_from_slice(bytes);
+    }
+}

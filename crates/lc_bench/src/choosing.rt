@@ -1,0 +1,93 @@
+//! Which measurements are made.
+use crate::by_hand::ByHand;
+use crate::measurement::{Measurement, Subject};
+use crate::measurements::ALL;
+use crate::rounds::{Found, Rounds};
+use crate::transactions::Transactions;
+use crate::{files, growth, harness, memory, staging};
+use lc_disk::HeldFile;
+use std::io;
+use std::rt::{Clock, Files};
+use std::thread::Threads;
+
+// The word that asks for all measurements.
+const EACH: &str = "all";
+
+/// Prints how it is used, and the names of the measurements.
+pub(crate) fn explain<R: Print>(rt: &R) -> io::Result<()> {
+    rt.println(
+        "lc_bench NAME [FOLDER] measures NAME, one of those below, or all, with files in FOLDER, or where it runs:",
+    )?;
+    for measurement in &ALL {
+        rt.println(measurement.name)?;
+    }
+    Ok(())
+}
+
+/// Makes the measurements that this word names, and behind several a table of them. Whether there are any.
+pub(crate) fn measure<R: AllocGlobal + Clock + Files + Print + Threads + Sync>(
+    rt: &R,
+    word: &str,
+    folder: &str,
+) -> io::Result<bool>
+where
+    R::File: HeldFile,
+{
+    let mut all = Vec::new(rt.alloc());
+    let mut is_named = false;
+    for measurement in &ALL {
+        if word == EACH || word == measurement.name {
+            is_named = true;
+            if let Some(found) = make(rt, measurement, folder)? {
+                all.push(found)?;
+            }
+        }
+    }
+    if word == EACH {
+        print_table(rt, all.as_slice())?;
+    }
+    Ok(is_named)
+}
+
+fn print_table<R: Print>(rt: &R, all: &[Found]) -> io::Result<()> {
+    println!(rt;
+        "{:<28}{:>12}{:>12}{:>11}",
+        "", "ours, ns", "by hand, ns", "ratio"
+    )?;
+    for found in all {
+        found.print(rt)?;
+    }
+    Ok(())
+}
+
+// Makes a measurement and prints it. There is nothing to compare where single events are measured.
+fn make<R: AllocGlobal + Clock + Files + Print + Threads + Sync>(
+    rt: &R,
+    measurement: &'static Measurement,
+    folder: &str,
+) -> io::Result<Option<Found>>
+where
+    R::File: HeldFile,
+{
+    let rounds = match measurement.subject {
+        Subject::Image => on_image(rt, measurement)?,
+        Subject::Memory => memory::measure(rt, measurement)?,
+        Subject::Files => files::measure(rt, measurement, folder)?,
+        Subject::Stage => staging::measure(rt, measurement.threads)?,
+        Subject::Events => {
+            growth::measure(rt)?;
+            return Ok(None);
+        }
+    };
+    let found = rounds.print(rt, measurement.name, measurement.units())?;
+    Ok(Some(found))
+}
+
+fn on_image<R: AllocGlobal + Clock>(
+    rt: &R,
+    measurement: &'static Measurement,
+) -> io::Result<Rounds> {
+    let plain = ByHand::new(rt.alloc(), measurement)?;
+    let work = Transactions::new(rt.alloc(), measurement)?;
+    harness::measure(rt, work, plain)
+}

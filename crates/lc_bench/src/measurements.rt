@@ -1,0 +1,169 @@
+//! All measurements.
+use crate::measurement::{End, Measurement, Subject, Timed};
+
+// A transaction of one range on one segment of 64 pages.
+const ONE: Measurement = Measurement {
+    name: "one-range",
+    subject: Subject::Image,
+    timed: Timed::Transactions,
+    nodes: 1,
+    threads: 1,
+    segments: 1,
+    pages: 64,
+    count: 256,
+    ranges: 1,
+    group: 0,
+    end: End::Commit,
+};
+
+/// All that there are, in the order in which their names are printed.
+pub(crate) static ALL: [Measurement; 22] = [
+    ONE,
+    Measurement {
+        name: "32-ranges",
+        ranges: 32,
+        ..ONE
+    },
+    Measurement {
+        name: "64-ranges",
+        ranges: 64,
+        ..ONE
+    },
+    Measurement {
+        name: "abort-one-range",
+        end: End::Abort,
+        ..ONE
+    },
+    Measurement {
+        name: "abort-32-ranges",
+        ranges: 32,
+        end: End::Abort,
+        ..ONE
+    },
+    Measurement {
+        name: "store-one-range",
+        subject: Subject::Memory,
+        ..ONE
+    },
+    Measurement {
+        name: "store-32-ranges",
+        subject: Subject::Memory,
+        count: 32,
+        ranges: 32,
+        ..ONE
+    },
+    Measurement {
+        name: "store-abort-one-range",
+        subject: Subject::Memory,
+        end: End::Abort,
+        ..ONE
+    },
+    Measurement {
+        name: "store-abort-32-ranges",
+        subject: Subject::Memory,
+        count: 32,
+        ranges: 32,
+        end: End::Abort,
+        ..ONE
+    },
+    Measurement {
+        name: "durable-commits",
+        subject: Subject::Files,
+        count: 8,
+        group: 1,
+        ..ONE
+    },
+    Measurement {
+        name: "durable-commits-by-8",
+        subject: Subject::Files,
+        count: 64,
+        group: 8,
+        ..ONE
+    },
+    Measurement {
+        name: "durable-commits-by-64",
+        subject: Subject::Files,
+        group: 64,
+        ..ONE
+    },
+    Measurement {
+        name: "reopening-400-commits",
+        subject: Subject::Files,
+        timed: Timed::Recovery,
+        count: 400,
+        group: 400,
+        ..ONE
+    },
+    Measurement {
+        name: "emptying-64-pages",
+        subject: Subject::Files,
+        timed: Timed::Emptying,
+        count: 64,
+        ..ONE
+    },
+    Measurement {
+        name: "sustained",
+        subject: Subject::Memory,
+        timed: Timed::Both,
+        count: 4000,
+        group: 8,
+        ..ONE
+    },
+    Measurement {
+        name: "sustained-without-emptying",
+        subject: Subject::Memory,
+        count: 512,
+        group: 8,
+        ..ONE
+    },
+    Measurement {
+        name: "growth",
+        subject: Subject::Events,
+        ..ONE
+    },
+    Measurement {
+        name: "recovery-64-pages",
+        subject: Subject::Memory,
+        timed: Timed::Recovery,
+        nodes: 8,
+        segments: 16,
+        count: 4096,
+        group: 1,
+        ..ONE
+    },
+    Measurement {
+        name: "recovery-1024-pages",
+        subject: Subject::Memory,
+        timed: Timed::Recovery,
+        nodes: 8,
+        segments: 16,
+        pages: 1024,
+        count: 3712,
+        group: 1,
+        ..ONE
+    },
+    Measurement {
+        name: "recovery-64-ranges",
+        subject: Subject::Memory,
+        timed: Timed::Recovery,
+        nodes: 8,
+        segments: 16,
+        count: 160,
+        ranges: 64,
+        group: 1,
+        ..ONE
+    },
+    Measurement {
+        name: "staging-1-thread",
+        subject: Subject::Stage,
+        count: 512,
+        ..ONE
+    },
+    Measurement {
+        name: "staging-4-threads",
+        subject: Subject::Stage,
+        threads: 4,
+        count: 512,
+        ..ONE
+    },
+];
