@@ -24,7 +24,8 @@ pub(crate) fn explain<R: Print>(rt: &R) -> io::Result<()> {
     Ok(())
 }
 
-/// Makes the measurements that this word names, and behind several a table of them. Whether there are any.
+/// Makes the measurements that this word names, and prints a table of their medians and ratios behind them. Whether the word
+/// names any.
 pub(crate) fn measure<R: AllocGlobal + Clock + Files + Print + Threads + Sync>(
     rt: &R,
     word: &str,
@@ -43,7 +44,7 @@ where
             }
         }
     }
-    if word == EACH {
+    if !all.is_empty() {
         print_table(rt, all.as_slice())?;
     }
     Ok(is_named)
