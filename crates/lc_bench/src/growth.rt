@@ -3,7 +3,7 @@ use crate::events::{THREAD, changes, end, events_of_all, flush};
 use crate::harness::nanoseconds;
 use crate::measurement::{DATA, End, Measurement, Subject, Timed};
 use crate::rounds::median;
-use crate::stores::{PAGE_CALLS, come_up, empty_log, transact_all};
+use crate::stores::{come_up, empty_log, transact_all};
 use lc_core::{Event, Reply, World};
 use lc_disk::MemArea;
 use lc_record::PAGE;
@@ -17,6 +17,9 @@ const CYCLES: u32 = 101;
 
 // As many ranges of a transaction begin on a page.
 const RANGES_OF_A_PAGE: usize = 16;
+
+// The device calls that write a page.
+const PAGE_CALLS: u32 = 6;
 
 // The steps of a reset.
 const RESET_STEPS: u32 = 4;

@@ -11,9 +11,6 @@ use std::io::{self, Error, ErrorKind};
 /// The segment that a store of one segment has.
 pub(crate) const SEGMENT: u32 = 1;
 
-/// The device calls that write a page.
-pub(crate) const PAGE_CALLS: u32 = 6;
-
 // More steps than any recovery has.
 const MOST_STEPS: u32 = 1_000_000;
 
@@ -145,35 +142,14 @@ pub(crate) fn transact_all<D: Stoppable + Drop>(
     Ok(())
 }
 
-/// Empties the log of the node that has segment 1: flushes it, writes its dirty pages side by side, and resets it.
+/// Empties the log of the node that has segment 1.
 pub(crate) fn empty_log<D: Stoppable + Drop>(
     alloc: Global,
     world: &mut World<D>,
     measurement: &Measurement,
 ) -> io::Result<()> {
-    let node = measurement.home(SEGMENT);
-    finish(alloc, world, Event::FlushStep { node })?;
-    for _ in 0..PAGE_CALLS {
-        for page in 0..measurement.pages {
-            call_page(alloc, world, node, page)?;
-        }
+    match world.truncate(alloc, measurement.home(SEGMENT)) {
+        Reply::Refused(_) => Err(Error::from(ErrorKind::InvalidData)),
+        _ => Ok(()),
     }
-    finish(alloc, world, Event::ResetStep { node })
-}
-
-// Makes the next call of a page's write. A page that is as new on the device is refused.
-fn call_page<D: Stoppable + Drop>(
-    alloc: Global,
-    world: &mut World<D>,
-    node: u16,
-    page: u32,
-) -> Result<(), AllocError> {
-    let segment = SEGMENT;
-    let event = Event::PageStep {
-        node,
-        segment,
-        page,
-    };
-    let _reply = world.step(alloc, &event)?;
-    Ok(())
 }
