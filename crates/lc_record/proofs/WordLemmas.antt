@@ -1,8 +1,9 @@
 -- Bytes and words.
-use Rattle.std.proofs.Common.{◌≡◌, ℕ, zero, suc, ◌*◌, ◌<◌, ◌^◌, ◌%◌, List, [], ◌∷◌, ◌++◌, length, get_or, take, drop, refl, sym, ◌∙◌, ap, arith, append_assoc, length-drop, take-append-drop}
+use Rattle.std.proofs.Common.{◌≡◌, ℕ, zero, suc, ◌+◌, ◌*◌, ◌<◌, ◌^◌, ◌%◌, List, [], ◌∷◌, ◌++◌, length, get_or, take, drop, refl, sym, ◌∙◌, ap, arith, append_assoc, length-drop, take-append-drop}
 use Rattle.std.specs.Int.{w64, from_le_bytes, to_le_bytes}
 use Rattle.std.proofs.lemmas.Nat.{from_le_bytes-to_le_bytes_8, le_bytes_8}
 use Rattle.std.proofs.lemmas.List.{length-take, append-nil}
+use Rattle.std.proofs.Math.Seq.{drop-append-add}
 use Rattle.lc_record.specs.Words.{words_of, bytes_of, AreWords, AreBytes}
 
 -- each fits, at its place
@@ -133,3 +134,12 @@ bytes_of-words_of (suc n) bs len fit =
     ∙ ap (λ (l : List ℕ). l ++ bytes_of (words_of (drop 8 bs))) again
     ∙ ap (λ (l : List ℕ). take 8 bs ++ l) (bytes_of-words_of n (drop 8 bs) (rest_len n bs len) (AreBytes-drop 8 bs fit))
     ∙ take-append-drop 8 bs
+
+-- a word, of its bytes among those of all words
+pub word_at : (ws rest : List ℕ) (i : ℕ) → AreWords ws → i < length ws → from_le_bytes w64 (take 8 (drop (8 * i) (bytes_of ws ++ rest))) ≡ get_or ws i 0
+word_at [] rest i fit l = absurd (omega arith)
+word_at (w ∷ ws) rest zero fit l = from_le_bytes-to_le_bytes_8 w fit.0
+word_at (w ∷ ws) rest (suc i) fit l = let next : 8 * suc i ≡ 8 + 8 * i = omega arith in
+    let behind : drop (8 + 8 * i) (to_le_bytes w64 w ++ (bytes_of ws ++ rest)) ≡ drop (8 * i) (bytes_of ws ++ rest) = drop-append-add (to_le_bytes w64 w) (bytes_of ws ++ rest) (8 * i) in
+    ap (λ (k : ℕ). from_le_bytes w64 (take 8 (drop k (bytes_of (w ∷ ws) ++ rest)))) next
+    ∙ (ap (λ (l : List ℕ). from_le_bytes w64 (take 8 l)) behind ∙ word_at ws rest i fit.1 (omega arith))

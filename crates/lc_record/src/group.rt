@@ -1,5 +1,5 @@
 //! A buffer for the words of records that are written together.
-ghost use Rattle.std.specs.Prelude.{◌≡◌, ◌+◌, ◌*◌, ◌<◌, ◌≤◌, ◌↔◌, [], ◌∷◌, ◌++◌, length, IfOk, IsTrue, vec_len, vec_capacity};
+ghost use Rattle.std.specs.Prelude.{◌≡◌, ◌+◌, ◌*◌, ◌<◌, ◌≤◌, ◌↔◌, [], ◌∷◌, ◌++◌, length, slice_index, IfOk, IsTrue, vec_len, vec_capacity};
 ghost use Rattle.std.specs.Int.{w64, to_le_bytes};
 ghost use Rattle.lc_record.specs.Words.{bytes_of};
 
@@ -50,6 +50,18 @@ impl Group {
         ensures { IsTrue result ↔ (self.now.words ≡ []) }
     {
         self.len() == 0
+    }
+
+    /// The word at this index, from 0.
+    pub fn word(&self, index: usize) -> u64
+        requires { index < length self.now.words }
+        ensures { result ≡ slice_index self.now.words index }
+    {
+        let bytes = self.bytes.as_slice();
+        let start = WORD_BYTES * index;
+        let mut word = [0; WORD_BYTES];
+        word.copy_from_slice(&bytes[start..start + WORD_BYTES]);
+        u64::from_le_bytes(word)
     }
 
     /// The bytes of the words, and of a zero word behind them.

@@ -185,7 +185,7 @@ tells room id v other w none_own commits s rule at apart there = let b : View = 
 -- one seat with both parts learns that they agree
 pub agrees : (room slots id : ℕ) (me : M) → me.0.flushes ≡ true → Allows (Staged room) slots id me 0 (λ n. n) (agreed (step slots 0 0 0 none) me)
 agrees room slots id me flushes s rule _ at _ = let f : View = me.0 in let k = rule.known id f at in let first : id ≡ 0 = k.flusher flushes in let at0 : get_elem? s.views 0 ≡ some f = subst (λ (z : ℕ). get_elem? s.views z ≡ some f) first at in
-    let t = rule.took f at0 in let low = t.stable in let seen = k.durable in let count = t.rounds in (
+    let t = rule.took f at0 in let low = t.stable in let seen = k.durable in let stored = k.stored flushes in let count = t.rounds in (
       f,
       keeps,
       tt,
@@ -193,12 +193,14 @@ agrees room slots id me flushes s rule _ at _ = let f : View = me.0 in let k = r
       (
         refl,
         refl,
-        (
-          omega arith,
-          λ i r e. let has : Has s.views r = (id, f, i, at, e) in let top = (rule.sound r has).of_round in (omega arith, (λ here. t.present r has (here ∙ count)), λ l. t.before r has (omega arith)),
-          λ i r e. let x = k.receipts i r e in let y = x.2 in let has : Has s.views r = (id, f, x.0.0, at, x.0.1) in let some_words = (rule.sound r has).filled in let top = (rule.sound r has).of_round in
-              (omega arith, (λ here. ⊎_elim (λ (z : InLog f.taken r). z) (λ (z : length f.taken ≤ r.place). absurd (omega arith)) (t.present r has (here ∙ count))), λ l. t.before r has (omega arith)),
-        ),
+        record {
+          published = omega arith;
+          taken = omega arith;
+          staged = λ r o. let has : Has s.views r = (id, f, o.0, at, o.1) in let sound = rule.sound r has in let top = sound.of_round in
+              (omega arith, (λ here. t.present r has (here ∙ count)), (λ l. t.before r has (omega arith)), sound.shut);
+          received = λ r o. let x = k.receipts o.0 r o.1 in let y = x.2 in let has : Has s.views r = (id, f, x.0.0, at, x.0.1) in let some_words = (rule.sound r has).filled in let top = (rule.sound r has).of_round in
+              (x.0, x.1, omega arith, omega arith, (λ here. ⊎_elim (λ (z : InLog f.taken r). z) (λ (z : length f.taken ≤ r.place). absurd (omega arith)) (t.present r has (here ∙ count))), λ l. t.before r has (omega arith));
+        },
       ),
     )
 

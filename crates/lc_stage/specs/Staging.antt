@@ -254,8 +254,12 @@ At = Step (Unit {0})
 abbrev pub looked : At → Sat → ℕ → Sat → Type 0
 looked st m x m' = (m'.1 ≡ m.1) × (m'.0 ≡ saw x m.0) × (offset_of x ≤ m.0.room) × (m.0.seen ≤ x)
 
+-- each of these is of an earlier round than the tail, or ends at its offset or below
+abbrev pub LieBelow : ℕ → List Reservation → Type 0
+LieBelow at rs = (r : Reservation) → Owns rs r → (r.round < round_of at) ⊎ ((r.round ≡ round_of at) × (r.place + length r.words ≤ offset_of at))
+
 abbrev pub exchanged : At → Sat → ℕ → Sat → Type 0
-exchanged st m x m' = (m'.1 ≡ m.1) × Holds m'.0 × (x ≡ st.first → m'.0 ≡ reserved st.first (st.second - st.first) m.0) × (x ≢ st.first → (m'.0 ≡ saw x m.0) × (offset_of x ≤ m.0.room) × (m.0.seen ≤ x))
+exchanged st m x m' = (m'.1 ≡ m.1) × Holds m'.0 × (x ≡ st.first → (m'.0 ≡ reserved st.first (st.second - st.first) m.0) × LieBelow st.first m.0.mine) × (x ≢ st.first → (m'.0 ≡ saw x m.0) × (offset_of x ≤ m.0.room) × (m.0.seen ≤ x))
 
 abbrev pub put : At → Sat → ℕ → Sat → Type 0
 put st m x m' = (m'.1 ≡ m.1) × (m'.0 ≡ filled (st.word - word_of m.0.room (newest m.0.mine).round (newest m.0.mine).place) st.first m.0)
@@ -287,11 +291,17 @@ RaisesDurable v w = (w.published ≡ end_of w) × (v.published ≤ w.published)
 abbrev pub published : At → Sat → ℕ → Sat → Type 0
 published st m x m' = (m'.1 ≡ m.1) × (m'.0 ≡ record m.0 { published = st.first }) × RaisesDurable m.0 m'.0
 
--- the words of the committer's reservations were taken as it filled them, as far as places were taken. What it saw as durable was taken, and so was each record of which it has a receipt
-abbrev pub Agree : View → View → Type 0
-Agree f c = (c.durable ≤ end_of f)
-    × ((i : ℕ) (r : Reservation) → get_elem? c.mine i ≡ some r → (r.round ≤ length f.past) × (r.round ≡ length f.past → InLog f.taken r ⊎ (length f.taken ≤ r.place)) × (r.round < length f.past → InLog (slice_index_or f.past r.round []) r))
-    × ((i : ℕ) (r : Reservation) → get_elem? c.receipts i ≡ some r → (r.round ≤ length f.past) × (r.round ≡ length f.past → InLog f.taken r) × (r.round < length f.past → InLog (slice_index_or f.past r.round []) r))
+-- what a reservation's round has taken holds its words, or its places are still to be taken; a closed one's words are a record
+abbrev pub IsStaged : View → Reservation → Type 0
+IsStaged f r = (r.round ≤ length f.past) × (r.round ≡ length f.past → InLog f.taken r ⊎ (length f.taken ≤ r.place))
+    × (r.round < length f.past → InLog (slice_index_or f.past r.round []) r) × (r.closed ≡ true → IsOneRecord r.words)
+
+-- the words of the committer's reservations were taken as it filled them, as far as places were taken. What it saw as durable is published, and so is each record of which it has a receipt, which is a closed reservation of its own
+pub record Agree (f c : View) : Type 0 where
+  pub published : c.durable ≤ f.published
+  pub taken : f.published ≤ end_of f
+  pub staged : (r : Reservation) → Owns c.mine r → IsStaged f r
+  pub received : (r : Reservation) → Owns c.receipts r → Owns c.mine r × (r.closed ≡ true) × (durable_at r ≤ f.published) × (r.round ≤ length f.past) × (r.round ≡ length f.past → InLog f.taken r) × (r.round < length f.past → InLog (slice_index_or f.past r.round []) r)
 
 -- a load that tells that the two parts of a joined view agree
 abbrev pub agreed : At → Sat → ℕ → Sat → Type 0

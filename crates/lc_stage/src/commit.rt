@@ -1,6 +1,6 @@
 //! The calls of a committer.
 ghost use Rattle.std.specs.Prelude.{◌≡◌, ℕ, ◌+◌, ◌<◌, ◌≤◌, ◌↔◌, false, length, slice_set, IfOk, IfErr, IfSome, IfNone, Err};
-ghost use Rattle.lc_stage.specs.Staging.{latest, HasReached, learns_durable, with_receipt, saw, reserved, filled, shut_with, newest, offset_of, seal_of, IsOneRecord, Holds};
+ghost use Rattle.lc_stage.specs.Staging.{latest, HasReached, learns_durable, with_receipt, saw, reserved, filled, shut_with, newest, offset_of, seal_of, IsOneRecord, Holds, LieBelow};
 ghost use Rattle.lc_stage.specs.Receipts.{IsReceiptOf};
 ghost use Rattle.lc_stage.specs.Seats.{commit_view, IsSeatOf, IsRefused, IsIdle};
 ghost use Rattle.lc_stage.specs.declared.fault.StageFault.TheVariants.{Full, Sealed};
@@ -31,6 +31,8 @@ impl Stage {
         requires some { 0 < n }
         ensures same { IsSeatOf self.now seat.new }
         ensures ok { IfOk result (λ place. (place ≡ offset_of at) × (commit_view seat.new ≡ reserved at n (commit_view seat.old)) × Holds (commit_view seat.new)) }
+        // What the seat reserved before lies in front of it.
+        ensures below { IfOk result (λ _. LieBelow at (commit_view seat.old).mine) }
         ensures sealed { (result ≡ Err Sealed) ↔ (seal_of at ≡ 1) }
         ensures full { (result ≡ Err (Full (offset_of at) n)) ↔ (seal_of at ≡ 0) × (self.now.room < offset_of at + n) }
         ensures refused { IfErr result (IsRefused at n (commit_view seat.old) (commit_view seat.new)) }
