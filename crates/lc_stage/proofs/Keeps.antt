@@ -297,9 +297,22 @@ exchanges room slots id me old new more fit unsealed same_room s rule _ at _ = l
     let here : offset_of old ≡ rule.offset = ap offset_of (sym hit) ∙ o in
     let kept : Staged room (stepped s 0 (either (eqb x old) new x) id me.1 w keeps) = subst (λ b. Staged room (stepped s 0 (either b new x) id me.1 w keeps)) (sym (eq-eqb x old hit))
     (subst (λ (z : ℕ). Staged room record { words = set s.words 0 z; homes = s.homes; views = set s.views id w }) up
-    (grows room s rule id n me.0 (reservation (round_of old) (offset_of old) zeros false) at (tail_unsealed room s rule (ap seal_of hit ∙ unsealed)) (ap round_of (sym hit) ∙ tail_round room s rule) here (length-replicate n 0) (omega arith) (omega arith) (λ i l. get_or-replicate n i 0 0 l) refl)) in
-    (w, keeps, tt, kept, (refl, held room s (set s.words 0 (either (eqb x old) new x)) id me.0 w at same_room kept, (λ _. (refl, λ r o. let has : Has s.views r = (id, me.0, o.0, at, o.1) in let top = (rule.sound r has).of_round in let now : round_of old ≡ rule.round = ap round_of (sym hit) ∙ tail_round room s rule in
-        dite (ℕ_discrete r.round rule.round) (λ e. inr (e ∙ sym now, (let b = ends_below room s rule r has e in omega arith))) (λ d. inl (omega arith)))), λ not. absurd (not hit))))
+    (grows room s rule id n me.0 (reservation (round_of old) (offset_of old) zeros false) at (tail_unsealed room s rule (ap seal_of hit ∙ unsealed)) (ap round_of (sym hit) ∙ tail_round room s rule) here (length-replicate n 0) (omega arith) (omega arith) (λ i l. get_or-replicate n i 0 0 l) refl)) in (
+      w,
+      keeps,
+      tt,
+      kept,
+      (
+        refl,
+        held room s (set s.words 0 (either (eqb x old) new x)) id me.0 w at same_room kept,
+        (λ _. (
+          refl,
+          λ r o. let has : Has s.views r = (id, me.0, o.0, at, o.1) in let top = (rule.sound r has).of_round in let now : round_of old ≡ rule.round = ap round_of (sym hit) ∙ tail_round room s rule in
+              dite (ℕ_discrete r.round rule.round) (λ e. inr (e ∙ sym now, (let b = ends_below room s rule r has e in omega arith))) (λ d. inl (omega arith)),
+        )),
+        λ not. absurd (not hit),
+      ),
+    ))
     (λ miss. let w : View = saw x me.0 in
     let kept : Staged room (stepped s 0 (either (eqb x old) new x) id me.1 w keeps) = subst (λ b. Staged room (stepped s 0 (either b new x) id me.1 w keeps)) (sym (ne_eqb x old miss)) (loads room s 0 id w (quiet room s rule id me.0 w at refl (refl, refl, refl, refl, refl) (refl, refl, refl) (sees room s rule id me.0 at) (honest_back room s rule id me.0 w at refl refl)) me) in
     (w, keeps, tt, kept, (refl, held room s (set s.words 0 (either (eqb x old) new x)) id me.0 w at same_room kept, (λ hit. absurd (miss hit)), λ _. (refl, omega arith, seen))))
