@@ -64,20 +64,21 @@ fn a_log_is_reset_where_all_is_clean(rt: HostRuntime) -> Result<(), Fail> {
         (1, 4, Err(Unclean { segment: 2, seq: 7 })),
         (2, 8, Ok(())),
     ] {
-        assert!(rt; may_reset(&LOG, &[0, 13], &known) == answer, "{clean}");
+        assert!(rt; may_reset(&LOG, &known) == answer, "{clean}");
         assert!(rt; 1 <= segment && segment <= 16);
         known.see(&token_of(rt.alloc(), segment, clean)?);
         answer = next;
     }
-    assert!(rt; may_reset(&LOG, &[13, 0], &known) == answer);
     Ok(())
 }
 
 #[test]
-fn where_no_record_begins_there_is_no_lock(rt: HostRuntime) {
+fn behind_the_last_record_there_is_no_lock(rt: HostRuntime) {
     let known = KnownClean::new();
-    assert!(rt; may_reset(&LOG, &[1, 12, 14, 20, 21, 99], &known).is_ok());
-    assert!(rt; may_reset(&LOG[..12], &[0], &known).is_ok());
+    assert!(rt; may_reset(&LOG[..12], &known).is_ok());
+    assert!(rt; may_reset(&LOG[1..], &known).is_ok());
+    assert!(rt; may_reset(&[], &known).is_ok());
+    assert!(rt; may_reset(&LOG[..20], &known) == Err(Unclean { segment: 1, seq: 5 }));
 }
 
 #[test]

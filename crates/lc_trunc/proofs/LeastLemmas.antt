@@ -1,5 +1,5 @@
 -- The least of pairs.
-use Rattle.std.proofs.Common.{◌≡◌, ◌⊎◌, ℕ, ◌<◌, ◌≤◌, true, false, ltb, eqb, Option, Some, None, Ok, Err, refl, sym, subst, inl, inr, arith, eqb-true, eq-eqb}
+use Rattle.std.proofs.Common.{◌≡◌, ◌⊎◌, ℕ, ◌<◌, ◌≤◌, true, false, ltb, eqb, Option, Some, None, Ok, Err, refl, sym, ap, subst, inl, inr, arith, eqb-true, eq-eqb}
 use Rattle.std.specs.Prelude.{◌↔◌, ◌&&◌, Result}
 use Rattle.std.proofs.lemmas.Bool.{cases_Bool, cases_eq, ltb-true, ltb-false, or_cases, or_parts, and_parts}
 use Rattle.lc_model.specs.Merge.{IsLeastPair}
@@ -43,6 +43,45 @@ other_is a b e =
           inr (same, ltb-false a.seq b.seq not_lower)
       | inr other ↦ inl (omega (arith, not_less, other))
     ]
+
+-- neither is later than the other
+same_pair : (a b : Unclean) → IsUpTo a.segment a.seq b.segment b.seq → IsUpTo b.segment b.seq a.segment a.seq → a ≡ b
+same_pair a b one two = elim one [
+  | inl less ↦ elim two [
+    | inl more ↦ absurd (omega (arith, less, more))
+    | inr same ↦ absurd (omega (arith, less, same.0))
+  ]
+  | inr up ↦ elim two [
+    | inl more ↦ absurd (omega (arith, up.0, more))
+    | inr down ↦ (λ k. let segment : a.segment ≡ b.segment = up.0 in let seq : a.seq ≡ b.seq = omega (arith, up.1, down.1) in record { segment = segment k; seq = seq k })
+  ]
+]
+
+pub lesser_none : (least : Option Unclean) → lesser least None ≡ least
+lesser_none None = refl
+lesser_none (Some a) = refl
+
+-- of three it does not matter which two are looked at first
+pub lesser_again : (one other last : Option Unclean) → lesser (lesser one other) last ≡ lesser one (lesser other last)
+lesser_again None other last = refl
+lesser_again (Some a) None last = refl
+lesser_again (Some a) (Some b) None = lesser_none (lesser (Some a) (Some b))
+lesser_again (Some a) (Some b) (Some c) = elim (cases_Bool (is_before b a)) [
+  | inl earlier ↦ elim (cases_Bool (is_before c b)) [
+    | inl least ↦ rw (earlier, least) (elim (cases_Bool (is_before c a)) [
+      | inl first ↦ rw first refl
+      | inr late ↦ rw late (ap Some (same_pair c a (up_to-trans c.segment b.segment a.segment c.seq b.seq a.seq (before_is c b least) (before_is b a earlier)) (other_is c a late)))
+    ])
+    | inr later ↦ rw (earlier, later, earlier) refl
+  ]
+  | inr later ↦ elim (cases_Bool (is_before c b)) [
+    | inl least ↦ rw (later, least) refl
+    | inr last ↦ rw (later, last, later) (elim (cases_Bool (is_before c a)) [
+      | inl first ↦ rw first (ap Some (same_pair c a (before_is c a first) (up_to-trans a.segment b.segment c.segment a.seq b.seq c.seq (other_is b a later) (other_is c b last))))
+      | inr late ↦ rw late refl
+    ])
+  ]
+]
 
 module _ (P Q : ℕ → ℕ → Type 0) where
   abbrev Both : ℕ → ℕ → Type 0

@@ -1,19 +1,19 @@
--- The least lock above what is known, of the first locks of a record and of the records at the first places.
+-- The least lock above what is known, of the first locks of a record and of the records with which words begin.
 use Rattle.std.proofs.Common.{◌≡◌, ◌⊎◌, ℕ, ◌+◌, ◌<◌, ◌≤◌, eqb, ltb, List, [], ◌∷◌, ◌++◌, Option, Some, None, length, take, drop, get_or, Contains, refl, sym, ◌∙◌, ap, subst, inl, inr, arith, take-append-drop}
 use Rattle.std.specs.Prelude.{slice_get}
 use Rattle.std.proofs.lemmas.Bool.{cases_Bool, cases_lt, eqb-true, ltb-true, ltb-false}
 use Rattle.std.proofs.lemmas.List.{take_more, take_all}
 use Rattle.std.proofs.lemmas.Option.{slice_get_within, slice_get_cases, none-some, get_or_from_slice_get}
-use Rattle.std.proofs.lemmas.List.Elements.{Contains-push, Contains-push_cases, Contains-append_left, Contains-append_right}
+use Rattle.std.proofs.lemmas.List.Elements.{Contains-push, Contains-push_cases, Contains-append_cases, Contains-append_left, Contains-append_right}
 use Rattle.lc_record.specs.Record.{record_len}
 use Rattle.lc_record.specs.Newest.{number_or_zero}
 use Rattle.lc_record.specs.Codec.{BeginsWith, BeginsNoRecord}
 use Rattle.lc_record.specs.declared.record.Record.{Record}
 use Rattle.lc_record.specs.declared.record.Lock.{Lock}
 use Rattle.lc_record.proofs.RecordLemmas.{begins_once}
-use Rattle.lc_trunc.specs.Reset.{IsAbove, IsAboveIn, IsAboveAt, IsLeastOf, above, lesser}
+use Rattle.lc_trunc.specs.Reset.{BeginWith, IsAbove, IsAboveIn, IsLeastOf, above, lesser}
 use Rattle.lc_trunc.specs.declared.unclean.Unclean.{Unclean}
-use Rattle.lc_trunc.proofs.LeastLemmas.{lesser_least, same_least}
+use Rattle.lc_trunc.proofs.LeastLemmas.{lesser_again, lesser_least, lesser_none, same_least}
 
 -- A number is that of a lock
 
@@ -86,69 +86,67 @@ module _ (known : ℕ → ℕ) where
       take_more locks index lock (slice_get_within locks index lock is) ∙ ap (λ (l : Lock). take index locks ++ l ∷ []) (get_or_from_slice_get locks index lock lock is) in
       subst (λ (l : List Lock). IsLeastOf (IsAboveIn l known) (lesser least (above known lock))) (sym more) (lock_more (take index locks) lock least before)
 
-  -- The record at a place
-
-  record_above : (words : List ℕ) (place : ℕ) (r : Record) (least : Option Unclean) → BeginsWith (drop place words) r (record_len r) → IsLeastOf (IsAboveIn r.locks known) least → IsLeastOf (IsAboveAt words place known) least
-  record_above words place r least begins is =
-      same_least (IsAboveIn r.locks known) (IsAboveAt words place known) least
-      (λ segment seq its. (r, begins, its))
-      (λ segment seq its. subst (λ (q : Record). IsAboveIn q.locks known segment seq) (begins_once (drop place words) its.0 r (record_len its.0) (record_len r) its.1 begins).0 its.2)
-      is
-
   -- once all locks were looked at
-  pub all_above : (words : List ℕ) (place : ℕ) (r : Record) (index : ℕ) (least : Option Unclean) → BeginsWith (drop place words) r (record_len r) → length r.locks ≤ index
-      → IsLeastOf (IsAboveIn (take index r.locks) known) least → IsLeastOf (IsAboveAt words place known) least
-  all_above words place r index least begins all is =
-      record_above words place r least begins (subst (λ (l : List Lock). IsLeastOf (IsAboveIn l known) least) (take_all index r.locks all) is)
+  pub all_above : (locks : List Lock) (index : ℕ) (least : Option Unclean) → length locks ≤ index → IsLeastOf (IsAboveIn (take index locks) known) least → IsLeastOf (IsAboveIn locks known) least
+  all_above locks index least all is = subst (λ (l : List Lock). IsLeastOf (IsAboveIn l known) least) (take_all index locks all) is
 
-  pub none_above : (words : List ℕ) (place : ℕ) → BeginsNoRecord (drop place words) → IsLeastOf (IsAboveAt words place known) None
-  none_above words place none = λ segment seq its.
-      none its.0 (take (record_len its.0) (drop place words)) (drop (record_len its.0) (drop place words)) its.1.whole (sym (take-append-drop (record_len its.0) (drop place words)))
+  -- The records with which words begin
 
-  -- The records at places
+  abbrev InFront : Record → List ℕ → ℕ → ℕ → Type 0
+  InFront r rest segment seq = IsAboveIn r.locks known segment seq ⊎ IsAbove rest known segment seq
 
-  abbrev AmongPlaces : List ℕ → List ℕ → ℕ → ℕ → ℕ → Type 0
-  AmongPlaces words places place segment seq = IsAbove words places known segment seq ⊎ IsAboveAt words place known segment seq
-
-  place_to : (words places : List ℕ) (place segment seq : ℕ) → AmongPlaces words places place segment seq → IsAbove words (places ++ place ∷ []) known segment seq
-  place_to words places place segment seq among = elim among [
-    | inl before ↦ (before.0, before.1, Contains-append_left places (place ∷ []) before.0 before.2, before.3, before.4, before.5)
-    | inr own ↦ (place, own.0, Contains-push places place, own.1, own.2.0, own.2.1)
+  front_to : (words : List ℕ) (r : Record) (segment seq : ℕ) → BeginsWith words r (record_len r) → InFront r (drop (record_len r) words) segment seq → IsAbove words known segment seq
+  front_to words r segment seq begins such = elim such [
+    | inl own ↦ (r ∷ [], r, (begins, tt), (0, omega arith, refl), own)
+    | inr its ↦ (r ∷ its.0, its.1, (begins, its.2), Contains-append_right (r ∷ []) its.0 its.1 its.3, its.4)
   ]
 
-  place_from : (words places : List ℕ) (place segment seq : ℕ) → IsAbove words (places ++ place ∷ []) known segment seq → AmongPlaces words places place segment seq
-  place_from words places place segment seq its = elim (Contains-push_cases places place its.0 its.2) [
-    | inl before ↦ inl (its.0, its.1, before, its.3, its.4, its.5)
-    | inr same ↦ inr (its.1, subst (λ (n : ℕ). BeginsWith (drop n words) its.1 (record_len its.1)) (sym same) its.3, (its.4, its.5))
-  ]
+  front_from : (words : List ℕ) (r : Record) (segment seq : ℕ) → BeginsWith words r (record_len r) → (rs : List Record) (one : Record) → BeginWith rs words → Contains rs one → IsAboveIn one.locks known segment seq → InFront r (drop (record_len r) words) segment seq
+  front_from words r segment seq begins [] one fits among its = let within = among.1 in absurd (omega arith)
+  front_from words r segment seq begins (q ∷ rs) one fits among its =
+      let same : q ≡ r = (begins_once words q r (record_len q) (record_len r) fits.0 begins).0 in
+      elim (Contains-append_cases (q ∷ []) rs one among) [
+        | inl own ↦ elim (Contains-push_cases [] q one own) [
+          | inl none ↦ (let within = none.1 in absurd (omega arith))
+          | inr is ↦ inl (subst (λ (x : Record). IsAboveIn x.locks known segment seq) (sym is ∙ same) its)
+        ]
+        | inr behind ↦ inr (rs, one, subst (λ (x : Record). BeginWith rs (drop (record_len x) words)) same fits.1, behind, its)
+      ]
 
-  place_more : (words places : List ℕ) (place : ℕ) (least own : Option Unclean) → IsLeastOf (IsAbove words places known) least → IsLeastOf (IsAboveAt words place known) own
-      → IsLeastOf (IsAbove words (places ++ place ∷ []) known) (lesser least own)
-  place_more words places place least own is its =
-      same_least (AmongPlaces words places place) (IsAbove words (places ++ place ∷ []) known) (lesser least own) (place_to words places place) (place_from words places place)
-      (lesser_least (IsAbove words places known) (IsAboveAt words place known) least own is its)
+  record_in_front : (words : List ℕ) (r : Record) (own behind : Option Unclean) → BeginsWith words r (record_len r) → IsLeastOf (IsAboveIn r.locks known) own → IsLeastOf (IsAbove (drop (record_len r) words) known) behind → IsLeastOf (IsAbove words known) (lesser own behind)
+  record_in_front words r own behind begins is its =
+      let rest : List ℕ = drop (record_len r) words in
+      same_least (InFront r rest) (IsAbove words known) (lesser own behind)
+      (λ segment seq such. front_to words r segment seq begins such)
+      (λ segment seq above. front_from words r segment seq begins above.0 above.1 above.2 above.3 above.4)
+      (lesser_least (IsAboveIn r.locks known) (IsAbove rest known) own behind is its)
 
-  -- one place more
-  pub next_place : (words places : List ℕ) (index : ℕ) (least own : Option Unclean) → index < length places → IsLeastOf (IsAbove words (take index places) known) least
-      → IsLeastOf (IsAboveAt words (get_or places index 0) known) own → IsLeastOf (IsAbove words (take (index + 1) places) known) (lesser least own)
-  next_place words places index least own within before its =
-      subst (λ (l : List ℕ). IsLeastOf (IsAbove words l known) (lesser least own)) (sym (take_more places index 0 within))
-      (place_more words (take index places) (get_or places index 0) least own before its)
+  none_in_front : (words : List ℕ) → BeginsNoRecord words → (rs : List Record) (one : Record) → BeginWith rs words → Contains rs one → ⊥
+  none_in_front words none [] one fits among = let within = among.1 in absurd (omega arith)
+  none_in_front words none (q ∷ rs) one fits among =
+      none q (take (record_len q) words) (drop (record_len q) words) fits.0.whole (sym (take-append-drop (record_len q) words))
 
-  -- once all places were looked at
-  pub places_all : (words places : List ℕ) (index : ℕ) (least : Option Unclean) → length places ≤ index → IsLeastOf (IsAbove words (take index places) known) least → IsLeastOf (IsAbove words places known) least
-  places_all words places index least all is = subst (λ (l : List ℕ). IsLeastOf (IsAbove words l known) least) (take_all index places all) is
+  -- with the least of the rest, the least so far is that of the whole
+  abbrev pub IsOnward : List ℕ → List ℕ → Option Unclean → Type 0
+  IsOnward words rest least = (behind : Option Unclean) → IsLeastOf (IsAbove rest known) behind → IsLeastOf (IsAbove words known) (lesser least behind)
 
-  pub no_place_above : (words : List ℕ) (segment seq : ℕ) → IsAbove words [] known segment seq → ⊥
-  no_place_above words segment seq its = let within = its.2.1 in absurd (omega arith)
+  -- one record more
+  pub onward_more : (words rest : List ℕ) (r : Record) (least own : Option Unclean) → BeginsWith rest r (record_len r) → IsLeastOf (IsAboveIn r.locks known) own → IsOnward words rest least → IsOnward words (drop (record_len r) rest) (lesser least own)
+  onward_more words rest r least own begins is before = λ behind its.
+      subst (IsLeastOf (IsAbove words known)) (sym (lesser_again least own behind)) (before (lesser own behind) (record_in_front rest r own behind begins is its))
+
+  -- where none begins all were looked at
+  pub onward_all : (words rest : List ℕ) (least : Option Unclean) → BeginsNoRecord rest → IsOnward words rest least → IsLeastOf (IsAbove words known) least
+  onward_all words rest least none before =
+      subst (IsLeastOf (IsAbove words known)) (lesser_none least) (before None (λ segment seq its. none_in_front rest none its.0 its.1 its.2 its.3))
 
   -- where none is above what is known each number is known
-  pub numbers_known : (words places : List ℕ) → ((segment seq : ℕ) → IsAbove words places known segment seq → ⊥)
-      → (place : ℕ) (r : Record) → Contains places place → BeginsWith (drop place words) r (record_len r) → (segment : ℕ) → number_or_zero segment r.locks ≤ known segment
-  numbers_known words places none place r among begins segment = elim (cases_lt (known segment) (number_or_zero segment r.locks)) [
+  pub numbers_known : (words : List ℕ) → ((segment seq : ℕ) → IsAbove words known segment seq → ⊥)
+      → (rs : List Record) (r : Record) → BeginWith rs words → Contains rs r → (segment : ℕ) → number_or_zero segment r.locks ≤ known segment
+  numbers_known words none rs r begin among segment = elim (cases_lt (known segment) (number_or_zero segment r.locks)) [
     | inr low ↦ low
     | inl high ↦ elim (number_lock segment r.locks) [
       | inl zero_is ↦ omega (arith, zero_is)
-      | inr lock ↦ absurd (none segment (number_or_zero segment r.locks) (place, r, among, begins, lock, high))
+      | inr lock ↦ absurd (none segment (number_or_zero segment r.locks) (rs, r, begin, among, (lock, high)))
     ]
   ]

@@ -1,5 +1,5 @@
 -- Which locks of a log's records are above what is known to be on the pages.
-use Rattle.std.specs.Prelude.{◌≡◌, ℕ, ◌<◌, ◌||◌, ◌&&◌, ◌==◌, nat_lt, Bool, List, drop, Option, Some, None, Contains, if◌then◌else◌}
+use Rattle.std.specs.Prelude.{◌≡◌, ℕ, ◌<◌, ◌||◌, ◌&&◌, ◌==◌, nat_lt, Bool, List, [], ◌∷◌, drop, Option, Some, None, Contains, if◌then◌else◌}
 use Rattle.lc_record.specs.Record.{record_len}
 use Rattle.lc_record.specs.Codec.{BeginsWith}
 use Rattle.lc_record.specs.declared.record.Record.{Record}
@@ -7,21 +7,24 @@ use Rattle.lc_record.specs.declared.record.Lock.{Lock}
 use Rattle.lc_model.specs.Merge.{IsLeastPair}
 use Rattle.lc_trunc.specs.declared.unclean.Unclean.{Unclean}
 
--- a record at one of these places of the words has the segment's lock under this number, which is above what is known
-abbrev pub IsAbove : List ℕ → List ℕ → (ℕ → ℕ) → ℕ → ℕ → Type 0
-IsAbove words places known segment seq =
-    (place : ℕ) × (r : Record) × Contains places place × BeginsWith (drop place words) r (record_len r)
-    × ((lock : Lock) × Contains r.locks lock × (lock.segment ≡ segment) × (lock.seq ≡ seq)) × (known segment < seq)
+-- the words begin with these records, one after another
+abbrev pub BeginWith : List Record → List ℕ → Type 0
+BeginWith [] words = Unit {0}
+BeginWith (r ∷ rs) words = BeginsWith words r (record_len r) × BeginWith rs (drop (record_len r) words)
 
 -- one of these locks is the segment's under this number, which is above what is known
 abbrev pub IsAboveIn : List Lock → (ℕ → ℕ) → ℕ → ℕ → Type 0
 IsAboveIn locks known segment seq =
     ((lock : Lock) × Contains locks lock × (lock.segment ≡ segment) × (lock.seq ≡ seq)) × (known segment < seq)
 
--- a lock of the record at this place is
-abbrev pub IsAboveAt : List ℕ → ℕ → (ℕ → ℕ) → ℕ → ℕ → Type 0
-IsAboveAt words place known segment seq =
-    (r : Record) × BeginsWith (drop place words) r (record_len r) × IsAboveIn r.locks known segment seq
+-- a lock of one of the records with which the words begin is
+abbrev pub IsAbove : List ℕ → (ℕ → ℕ) → ℕ → ℕ → Type 0
+IsAbove words known segment seq =
+    (rs : List Record) × (r : Record) × BeginWith rs words × Contains rs r × IsAboveIn r.locks known segment seq
+
+-- no lock of the records with which the words begin is
+abbrev pub AreKnown : List ℕ → (ℕ → ℕ) → Type 0
+AreKnown words known = (segment seq : ℕ) → IsAbove words known segment seq → ⊥
 
 -- the least pair that is such, or none where none is
 abbrev pub IsLeastOf : (ℕ → ℕ → Type 0) → Option Unclean → Type 0

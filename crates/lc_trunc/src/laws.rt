@@ -1,8 +1,6 @@
 //! The laws of truncation, each the contract of a function with nothing to do.
 ghost use Rattle.std.specs.Prelude.{◌≡◌, ◌<◌, ◌≤◌, ◌+◌, ℕ, List, length, Some, All, Contains, max, slice_set, drop};
 ghost use Rattle.lc_record.specs.Newest.{number_or_zero};
-ghost use Rattle.lc_record.specs.Record.{record_len};
-ghost use Rattle.lc_record.specs.Codec.{BeginsWith};
 ghost use Rattle.lc_record.specs.declared.record.Record.{Record};
 ghost use Rattle.lc_record.specs.Transaction.{Transaction};
 ghost use Rattle.lc_page.specs.declared.entry.Entry.{Entry};
@@ -19,7 +17,7 @@ ghost use Rattle.lc_model.specs.Stored.{Disks, Fits, Shows, IsOnPages, records_o
 ghost use Rattle.lc_model.specs.Moves.{with_opened, with_settled};
 ghost use Rattle.lc_trunc.specs.Clean.{TokenFits, HasByteOn, all_of, closed_of};
 ghost use Rattle.lc_trunc.specs.KnownClean.{known, KnowsNothing, SeesAll};
-ghost use Rattle.lc_trunc.specs.Reset.{IsAbove};
+ghost use Rattle.lc_trunc.specs.Reset.{AreKnown, BeginWith};
 
 /// What a token calls clean is on the pages, so a log whose every record is clean may be reset.
 pub fn clean_pages()
@@ -69,10 +67,9 @@ pub fn known_is_clean()
         (segment : ℕ) → known new segment ≤ clean segment }
 {}
 
-/// Where no lock of the records at these places is above what is known, no number of any of them is.
+/// Where no lock of the records with which words begin is above what is known, no number of any of them is.
 pub fn known_numbers()
-    ensures { (words places : List ℕ) (known_of : ℕ → ℕ) →
-        ((segment seq : ℕ) → IsAbove words places known_of segment seq → ⊥) →
-        (place : ℕ) (r : Record) → Contains places place → BeginsWith (drop place words) r (record_len r) →
+    ensures { (words : List ℕ) (known_of : ℕ → ℕ) →
+        AreKnown words known_of → (rs : List Record) (r : Record) → BeginWith rs words → Contains rs r →
         (segment : ℕ) → number_or_zero segment r.locks ≤ known_of segment }
 {}

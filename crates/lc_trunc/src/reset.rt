@@ -2,24 +2,27 @@
 ghost use Rattle.std.specs.Prelude.{◌≡◌, ◌↔◌, ℕ, Err, IsOk};
 ghost use Rattle.lc_model.specs.Merge.{IsLeastPair};
 ghost use Rattle.lc_trunc.specs.KnownClean.{known as known_of};
-ghost use Rattle.lc_trunc.specs.Reset.{IsAbove, IsAboveAt, IsLeastOf, above, is_before, lesser};
+ghost use Rattle.lc_trunc.specs.Reset.{AreKnown, IsAbove, IsAboveIn, IsLeastOf, above, is_before, lesser};
 
 use crate::{KnownClean, Unclean};
 use lc_record::{Lock, View};
 
-/// Whether the pages are known to have all that the records at these places of a log's words say: of each lock, the
-/// number is at most what is known clean of its segment. A place where no record begins has no lock. It takes no memory.
+/// Whether the pages are known to have all that the records of a log say: of each lock, the number is at most what is known
+/// clean of its segment. The records are those with which the words begin, one after another; what comes behind the last
+/// has no lock. It takes no memory.
 ///
 /// # Errors
 ///
 /// Of the locks that are above what is known, the one of the least segment, and of that the one with the least number.
-pub fn may_reset(words: &[u64], places: &[usize], known: &KnownClean) -> Result<(), Unclean>
-    ensures unclean { (segment seq : ℕ) → (result ≡ Err (record { segment = segment; seq = seq })) ↔ IsLeastPair (IsAbove words.now places.now (known_of known.now)) segment seq }
-    ensures clean { IsOk result ↔ ((segment seq : ℕ) → IsAbove words.now places.now (known_of known.now) segment seq → ⊥) }
+pub fn may_reset(words: &[u64], known: &KnownClean) -> Result<(), Unclean>
+    ensures unclean { (segment seq : ℕ) → (result ≡ Err (record { segment = segment; seq = seq })) ↔ IsLeastPair (IsAbove words.now (known_of known.now)) segment seq }
+    ensures clean { IsOk result ↔ AreKnown words.now (known_of known.now) }
 {
+    let mut place = 0;
     let mut least = None;
-    for place in places {
-        least = lesser(least, least_at(words, *place, known));
+    while let Some(record) = View::at(words, place) {
+        least = lesser(least, least_in(&record, known));
+        place += record.len();
     }
     match least {
         Some(unclean) => Err(unclean),
@@ -27,14 +30,13 @@ pub fn may_reset(words: &[u64], places: &[usize], known: &KnownClean) -> Result<
     }
 }
 
-// The least lock above what is known of the record at this place, where one begins.
-fn least_at(words: &[u64], place: usize, known: &KnownClean) -> Option<Unclean>
-    ensures { IsLeastOf (IsAboveAt words.now place (known_of known.now)) result }
+// The least lock of the record that is above what is known.
+fn least_in(view: &View<'_>, known: &KnownClean) -> Option<Unclean>
+    ensures { IsLeastOf (IsAboveIn view.now.locks (known_of known.now)) result }
 {
-    let record = View::at(words, place)?;
     let mut least = None;
-    for index in 0..record.lock_count() {
-        let Some(lock) = record.lock(index) else {
+    for index in 0..view.lock_count() {
+        let Some(lock) = view.lock(index) else {
             break;
         };
         least = lesser(least, above(lock, known));

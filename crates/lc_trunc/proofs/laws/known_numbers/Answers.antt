@@ -2,4 +2,4 @@ use Rattle.lc_trunc.proofs.ResetLemmas.{numbers_known}
 use Rattle.lc_trunc.proofs.laws.known_numbers.Goals as goal
 
 pub returns : goal.returns
-returns c = λ words places known_of none. numbers_known known_of words places none
+returns c = λ words known_of none. numbers_known known_of words none

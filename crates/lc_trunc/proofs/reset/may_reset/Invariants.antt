@@ -1,7 +1,10 @@
-use Rattle.std.proofs.Common.{take}
+use Rattle.std.proofs.Common.{length, drop, ◌-◌}
 use Rattle.lc_trunc.specs.KnownClean.{known}
-use Rattle.lc_trunc.specs.Reset.{IsAbove, IsLeastOf}
+use Rattle.lc_trunc.proofs.ResetLemmas.{IsOnward}
 use Rattle.lc_trunc.proofs.reset.may_reset.Given as goal
 
-abbrev pub invariant-loop-place : goal.invariant-loop-place
-invariant-loop-place l = IsLeastOf (IsAbove l.words (take l.place-index l.places) (known l.known)) l.least
+abbrev pub invariant-loop-record : goal.invariant-loop-record
+invariant-loop-record l = IsOnward (known l.known) l.words (drop l.place l.words) l.least
+
+abbrev pub decreases-loop-record : goal.decreases-loop-record
+decreases-loop-record l = length l.words - l.place
