@@ -11,7 +11,7 @@ use Rattle.atomic_table.proofs.Lists.{at_set}
 use Rattle.lc_stage.specs.declared.view.Reservation.{Reservation}
 use Rattle.lc_stage.specs.declared.view.View.{View}
 use Rattle.lc_stage.specs.declared.view.Load.{Load}
-use Rattle.lc_stage.specs.Staging.{row, word_of, end_of, hears, below, covered, total, Has, InLog, Sound, Taken, Ended, Known, Staged, Honest, seal_weight, seal_of, round_of, offset_of, sealing, clearing, clearing_ended, reopening, latest, durable_at, HasReached, with_receipt, learns_durable, IsStable, knew_durable}
+use Rattle.lc_stage.specs.Staging.{row, word_of, end_of, hears, below, covered, total, Has, InLog, Sound, Taken, Ended, Known, Staged, Honest, seal_weight, seal_of, round_of, offset_of, sealing, clearing, clearing_ended, reopening, latest, durable_at, HasReached, with_receipt, learns_durable, IsStable, knew_durable, knew_stored}
 use Rattle.lc_stage.specs.Staging as is
 use Rattle.lc_stage.proofs.Calls.{no_records}
 use Rattle.lc_stage.proofs.Latest.{latest_one}
@@ -89,6 +89,12 @@ learns room slots id me s rule _ at _ = let x : ℕ = get_or s.words 1 0 in let 
       } (honest_back room s rule id v w at refl refl)) me,
       (refl, k.durable, (λ h. absurd (n h)), λ _. refl),
     )) (reached_or x v)
+
+-- the same by the flusher, who knows what it stored
+pub learns_stored : (room slots id : ℕ) (me : M) → me.0.flushes ≡ true → Allows (Staged room) slots id me 1 (λ n. n) (knew_stored (step slots 1 0 0 none) me)
+learns_stored room slots id me flushes s rule alone at ready =
+    let learnt = learns room slots id me s rule alone at ready in
+    (learnt.0, learnt.1, learnt.2, learnt.3, ((rule.known id me.0 at).stored flushes, learnt.4))
 
 -- the tail becomes sealed
 pub seals : (room slots id : ℕ) (me : M) (old new : ℕ) → me.0.flushes ≡ true → seal_of old ≡ 0 → new ≡ old + 32768

@@ -359,3 +359,7 @@ learns_durable x v = record v { durable = x }
 -- a load of the durable end: it gives a receipt exactly where it has reached the end of the last closed record
 abbrev pub knew_durable : At → Sat → ℕ → Sat → Type 0
 knew_durable st m x m' = (m'.1 ≡ m.1) × (m.0.durable ≤ x) × (HasReached x m.0 → m'.0 ≡ with_receipt (learns_durable x m.0)) × (¬ HasReached x m.0 → m'.0 ≡ learns_durable x m.0)
+
+-- the same by the flusher, with a committer's part beside its own: the durable end is the one that it stored last
+abbrev pub knew_stored : At → Sat → ℕ → Sat → Type 0
+knew_stored st m x m' = (x ≡ m.0.published) × knew_durable st m x m'

@@ -1,5 +1,5 @@
 //! What each step on the table tells.
-ghost use Rattle.lc_stage.specs.Staging.{knew_durable, joining, seals, clears_one, clears_ended, reopens, hears, note_of, looked, exchanged, put, closed, headed, copied, published, agreed, newcomer, with_commit, no_commit, only_commit};
+ghost use Rattle.lc_stage.specs.Staging.{knew_durable, knew_stored, joining, seals, clears_one, clears_ended, reopens, hears, note_of, looked, exchanged, put, closed, headed, copied, published, agreed, newcomer, with_commit, no_commit, only_commit};
 ghost use Rattle.std.specs.Prelude.{max};
 
 use crate::view::View;
@@ -105,6 +105,12 @@ pub(crate) struct Learn;
 
 impl Play<(), View> for Learn {
     ghost then = { knew_durable };
+}
+
+pub(crate) struct LearnStored;
+
+impl Play<(), View> for LearnStored {
+    ghost then = { knew_stored };
 }
 
 pub(crate) struct Seal;

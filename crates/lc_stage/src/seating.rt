@@ -1,12 +1,14 @@
 //! The stage at the start, and its seats.
-ghost use Rattle.std.specs.Prelude.{◌≡◌, ℕ, ◌<◌, ◌++◌, IfOk};
-ghost use Rattle.lc_stage.specs.Staging.{flusher, newcomer, joining, Agree};
+ghost use Rattle.std.specs.Prelude.{◌≡◌, ℕ, ◌<◌, ◌++◌, IfOk, IfSome, IfNone};
+ghost use Rattle.lc_stage.specs.Receipts.{IsReceiptOf};
+ghost use Rattle.lc_stage.specs.Staging.{flusher, newcomer, joining, latest, learns_durable, with_receipt, Agree, HasReached};
 ghost use Rattle.lc_stage.specs.Seats.{commit_view, flush_view, IsSeatOf, IsFlusherOf, IsIdle};
 
-use crate::Stage;
-use crate::plays::{Agreed, Cut, Glue, Meeting};
+use crate::layout::DURABLE;
+use crate::plays::{Agreed, Cut, Glue, LearnStored, Meeting};
 use crate::receipt::NONE;
 use crate::seats::{CommitSeat, FlushSeat};
+use crate::{Receipt, Stage};
 use atomic_table::Table;
 use std::alloc::{AllocError, Global};
 
@@ -113,5 +115,43 @@ impl Stage {
             words,
             last,
         }
+    }
+
+    /// A receipt of the seat's last closed record, by round and place, exactly where the end that the flusher published
+    /// last has reached its end. One load. Who has the flusher's seat so learns whether there is still something to
+    /// flush for this committer, which has no open reservation.
+    pub fn durable_beside(
+        &self,
+        flusher: &mut FlushSeat,
+        other: CommitSeat,
+    ) -> (CommitSeat, Option<Receipt>)
+        requires own { IsFlusherOf self.now flusher.old × IsSeatOf self.now other }
+        requires idle { IsIdle (commit_view other) }
+        ensures same { IsFlusherOf self.now flusher.new × IsSeatOf self.now result.0 }
+        ensures flusher { flush_view flusher.new ≡ flush_view flusher.old }
+        ensures some { IfSome result.1 (λ receipt. HasReached (flush_view flusher.old).published (commit_view other) × IsReceiptOf (latest (commit_view other).mine) receipt × (commit_view result.0 ≡ with_receipt (learns_durable (flush_view flusher.old).published (commit_view other)))) }
+        ensures none { IfNone result.1 (¬ HasReached (flush_view flusher.old).published (commit_view other) × (commit_view result.0 ≡ learns_durable (flush_view flusher.old).published (commit_view other))) }
+    {
+        let CommitSeat {
+            seat: theirs,
+            round,
+            place,
+            words,
+            last,
+        } = other;
+        let shared = &self.table.shared;
+        shared.join_seat::<Meeting>(&mut flusher.seat, theirs);
+        let stored = shared.load::<LearnStored>(&mut flusher.seat, DURABLE);
+        let seat = CommitSeat {
+            seat: shared.split_seat::<Meeting>(&mut flusher.seat),
+            round,
+            place,
+            words,
+            last,
+        };
+        if last.words == 0 || stored < last.end() {
+            return (seat, None);
+        }
+        (seat, Some(last))
     }
 }
