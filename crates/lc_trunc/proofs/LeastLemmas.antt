@@ -127,7 +127,7 @@ module _ (P Q : ℕ → ℕ → Type 0) where
 
 module _ (P : ℕ → ℕ → Type 0) where
   -- one pair is the least
-  least_once : (segment seq other number : ℕ) → IsLeastPair P segment seq → IsLeastPair P other number → (segment ≡ other) × (seq ≡ number)
+  pub least_once : (segment seq other number : ℕ) → IsLeastPair P segment seq → IsLeastPair P other number → (segment ≡ other) × (seq ≡ number)
   least_once segment seq other number one two = elim (one.least other number two.is) [
     | inl less ↦ elim (two.least segment seq one.is) [ inl more ↦ absurd (omega (arith, less, more)) | inr same ↦ absurd (omega (arith, less, same.0)) ]
     | inr up ↦ elim (two.least segment seq one.is) [ inl more ↦ absurd (omega (arith, up.0, more)) | inr down ↦ (up.0, omega (arith, up.1, down.1)) ]

@@ -1,0 +1,38 @@
+-- A flush keeps what a log's type says.
+use Rattle.std.proofs.Common.{◌≡◌, ℕ, ◌+◌, ◌*◌, ◌≤◌, ◌<◌, Bool, true, List, [], ◌∷◌, ◌++◌, length, refl, sym, ap, subst, ◌∙◌, arith, length-append}
+use Rattle.lc_disk.specs.declared.area.Area.{Ghosts}
+use Rattle.lc_stage.specs.declared.view.View.{View}
+use Rattle.lc_stage.specs.Publishing.{HoldsTaken}
+use Rattle.lc_stage.specs.Seats.{OnlyTakes, publishing}
+use Rattle.std.proofs.lemmas.List.Elements.{All-append}
+use Rattle.std.proofs.lemmas.List.Folds.{concat-append}
+use Rattle.lc_stage.specs.Staging.{AreRecords, IsOneRecord}
+use Rattle.lc_node.specs.LogSide.{HasStable}
+use Rattle.lc_node.specs.declared.log_state.LogState.{LogState}
+use Rattle.lc_node.specs.declared.log_state.LogState.TheVariants.{Idle}
+use Rattle.lc_log.specs.declared.idle.Idle.{Idle as AtRest}
+
+-- the log that is at rest holds what was taken
+pub at_rest : {D : Type 0} (a : Ghosts D) (state : LogState D a) (log : AtRest D a) (room : ℕ) (taken stable : List ℕ) → HasStable a state room taken stable → state ≡ Idle log
+    → (stable ≡ taken) × HoldsTaken a log.area log.end taken × (8 * room + 8 ≤ length (a.now log.area))
+at_rest a state log room taken stable h is = subst (λ (z : LogState _ a). HasStable a z room taken stable) is h
+
+-- what the flusher's view keeps while it takes and publishes
+pub record Taking (v z : View) : Type 0 where
+  pub same_room : z.room ≡ v.room
+  pub same_past : z.past ≡ v.past
+  pub clear : v.ended_cleared ≡ v.ended → z.ended_cleared ≡ z.ended
+  pub same_cleared : z.cleared ≡ v.cleared
+  pub published : z.published ≡ length v.past * 65536 + length z.taken
+
+pub takes_and_publishes : (v w z : View) → OnlyTakes v w → z ≡ publishing w → Taking v z
+takes_and_publishes v w z takes is = let past : z.past ≡ v.past = ap (λ (y : View). y.past) is ∙ ap (λ (y : View). y.past) takes.1 in record {
+  same_room = ap (λ (y : View). y.room) is ∙ ap (λ (y : View). y.room) takes.1;
+  same_past = past;
+  clear = λ e. ap (λ (y : View). y.ended_cleared) is ∙ (ap (λ (y : View). y.ended_cleared) takes.1 ∙ (e ∙ sym (ap (λ (y : View). y.ended) is ∙ ap (λ (y : View). y.ended) takes.1)));
+  same_cleared = ap (λ (y : View). y.cleared) is ∙ ap (λ (y : View). y.cleared) takes.1;
+  published = ap (λ (y : View). y.published) is ∙ (λ k. length ((ap (λ (y : View). y.past) takes.1) k) * 65536 + length ((sym (ap (λ (y : View). y.taken) is)) k));
+}
+
+pub records_append : (us ws : List ℕ) → AreRecords us → AreRecords ws → AreRecords (us ++ ws)
+records_append us ws h k = (h.0 ++ k.0, All-append IsOneRecord h.0 k.0 h.1 k.1, (λ j. h.2 j ++ k.2 j) ∙ sym (concat-append h.0 k.0))

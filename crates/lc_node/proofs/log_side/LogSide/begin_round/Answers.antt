@@ -1,0 +1,79 @@
+use Rattle.std.proofs.Common.{rules, ◌≡◌, ◌≢◌, ℕ, List, [], ◌∷◌, ◌+◌, ◌≤◌, ◌++◌, All, length, refl, sym, ap, subst, ◌∙◌, arith, length-append}
+use Rattle.lc_stage.specs.declared.view.View.{View}
+use Rattle.lc_stage.specs.Staging.{AreRecords, open_count}
+use Rattle.lc_stage.specs.Seats.{flush_view, commit_view}
+use Rattle.std.proofs.lemmas.List.Elements.{All-append}
+use Rattle.lc_trunc.specs.KnownClean.{known}
+use Rattle.lc_trunc.specs.Reset.{AreKnown}
+use Rattle.lc_node.proofs.Knowing.{all_alone}
+use Rattle.lc_node.proofs.FlushKeeps.{at_rest}
+use Rattle.lc_node.proofs.Rounds.{Reopened, reopened, to_clear, no_records}
+use Rattle.lc_node.specs.LogView.{LogView}
+use Rattle.lc_node.specs.Resets.{IsSpent}
+use Rattle.std.proofs.lemmas.List.{append-nil}
+use Rattle.lc_node.proofs.SideKeeps.{goes, published_to, steps_publishes}
+use Rattle.lc_node.proofs.Unfit.{has_some, not_spent}
+use Rattle.lc_node.proofs.log_side.LogSide.begin_round.Goals as goal
+
+pub invariant_of-self-in-Ok-reset_sync : goal.invariant_of-self-in-Ok-reset_sync
+invariant_of-self-in-Ok-reset_sync g c = let inv = c.self.invariant in let v : View = flush_view c.self.inside.flusher in let v3 : View = flush_view c.publish.new.flusher in let w : View = flush_view c.clear.new.flusher in
+    let some = has_some c.self.inside.stable.items (subst (λ (x : LogView g.row.D.Denot). x.stable ≢ []) (sym c.self.view_is) c.requires.can.0.1) in
+    let not_last = not_spent c.self.inside.round c.self.invariant.few_rounds (subst (λ (x : LogView g.row.D.Denot). ¬ IsSpent x) (sym c.self.view_is) c.requires.can.1) in
+    let known_all = subst (λ (x : LogView g.row.D.Denot). AreKnown x.stable (known x.known)) (sym c.self.view_is) c.requires.can.2 in
+    let held = at_rest g.D.Area c.self.inside.log c.in-Idle.log _ v.taken _ inv.holds (sym c.replace.ensures.value ∙ c.in-Idle.is) in
+    let o : Reopened v w = reopened v v3 _ w c.publish.ensures.published c.in-Ok-reopen.ensures.ok (c.clear.ensures.before (to_clear v v3 _ c.publish.ensures.published c.in-Ok-reopen.ensures.ok inv.uncleared (let n : (flush_view c.self.inside.flusher).sealed_at ≡ length c.self.inside.stable.items = subst (λ (x : LogView g.row.D.Denot). (flush_view x.flusher).sealed_at ≡ length x.stable) (sym c.self.view_is) c.requires.sealed.1 in let m = some in omega arith))) in
+    let none : c.clear-in-Ok-reset_sync.new.self.items ≡ [] = c.clear-in-Ok-reset_sync.ensures.items in
+    let closing = c.in-Ok.ensures in let synced = c.in-Ok-reset_sync.ensures in
+    let more : length w.past ≡ length v.past + 1 = ap (λ (l : List (List ℕ)). length l) o.past ∙ length-append v.past (v.taken ∷ []) in
+    let at = inv.at_round in let few : length v.taken ≤ v.room = c.self.inside.flusher.in_room in let room = o.same_room in record {
+      one_table = search rules;
+      idle_probe = inv.idle_probe;
+      group_room = inv.group_room ∙ sym o.same_room;
+      stable_room = (let a = inv.stable_room in let b = c.clear-in-Ok-reset_sync.ensures.capacity in omega arith);
+      at_round = omega arith;
+      few_rounds = (let a = inv.few_rounds in let b = not_last in omega arith);
+      clear = o.clear;
+      uncleared = o.uncleared;
+      clean = subst (All (λ (words : List ℕ). AreKnown words (known c.self.inside.known))) (sym o.past) (All-append (λ (words : List ℕ). AreKnown words (known c.self.inside.known)) v.past (v.taken ∷ []) inv.clean (all_alone (λ (words : List ℕ). AreKnown words (known c.self.inside.known)) v.taken (subst (λ (l : List ℕ). AreKnown l (known c.self.inside.known)) held.0 known_all)));
+      records = subst AreRecords (sym none) no_records;
+      published = (let a = o.published in let wide = c.args.stage.now.wide in let narrow = c.self.inside.flusher.of_table in let own : c.self.inside.flusher.seat.table_id.words ≡ c.args.stage.now.table.shared.table_id.words = ap (λ l. l.flusher.seat.table_id.words) c.self.view_is ∙ ap (λ t. t.words) c.requires.own.0 in omega arith);
+      holds = (
+        none ∙ sym o.taken,
+        (
+          synced.end ∙ ap (λ (l : List ℕ). length l) (sym o.taken),
+          λ honest. let was = sym (closing.device).honest ∙ (sym (synced.device).honest ∙ honest) in let h = held.1.1 was in
+              ([], synced.empty h.0 (closing.closing h.0 (λ _. h.1)) honest, sym o.taken),
+        ),
+        (let fits = held.2 in let one = (closing.device).same_length in let two = (synced.device).same_length in omega arith),
+      );
+    }
+
+pub invariant_of-self : goal.invariant_of-self
+invariant_of-self g c = let inv = c.self.invariant in let v : View = flush_view c.self.inside.flusher in let z : View = flush_view c.publish.new.flusher in
+    let held = at_rest g.D.Area c.self.inside.log c.in-Idle.log _ v.taken _ inv.holds (sym c.replace.ensures.value ∙ c.in-Idle.is) in
+    goes g.D.Area c.self.inside _ inv (record {
+      one_table = search rules;
+      idle_probe = inv.idle_probe;
+      same_group = refl;
+      same_stable = refl;
+      same_round = refl;
+      same_known = refl;
+      steps = steps_publishes v z c.publish.ensures.published;
+      published = published_to c.self.inside.stable.items v z c.self.inside.round c.publish.ensures.published held.0 inv.at_round;
+      holds = ([], ap (λ (y : View). y.taken) c.publish.ensures.published ∙ (sym held.0 ∙ sym (append-nil c.self.inside.stable.items)));
+    })
+
+pub invariant_of-self-in-Err-reset_sync : goal.invariant_of-self-in-Err-reset_sync
+invariant_of-self-in-Err-reset_sync g c = let inv = c.self.invariant in let v : View = flush_view c.self.inside.flusher in let z : View = flush_view c.publish.new.flusher in
+    let held = at_rest g.D.Area c.self.inside.log c.in-Idle.log _ v.taken _ inv.holds (sym c.replace.ensures.value ∙ c.in-Idle.is) in
+    goes g.D.Area c.self.inside _ inv (record {
+      one_table = search rules;
+      idle_probe = inv.idle_probe;
+      same_group = refl;
+      same_stable = refl;
+      same_round = refl;
+      same_known = refl;
+      steps = steps_publishes v z c.publish.ensures.published;
+      published = published_to c.self.inside.stable.items v z c.self.inside.round c.publish.ensures.published held.0 inv.at_round;
+      holds = ([], ap (λ (y : View). y.taken) c.publish.ensures.published ∙ (sym held.0 ∙ sym (append-nil c.self.inside.stable.items)));
+    })

@@ -1,0 +1,77 @@
+use Rattle.std.proofs.Common.{rules, ◌≡◌, ◌<◌, ◌++◌, ℕ, ◌+◌, ◌*◌, ◌≤◌, List, [], length, All, refl, sym, ap, ◌∙◌, subst, arith}
+use Rattle.lc_stage.specs.declared.view.View.{View}
+use Rattle.lc_stage.specs.Seats.{flush_view}
+use Rattle.lc_stage.specs.Staging.{AreRecords}
+use Rattle.lc_stage.specs.Publishing.{HoldsTaken}
+use Rattle.lc_stage.proofs.Flushed.{flush_holds}
+use Rattle.lc_trunc.specs.KnownClean.{known}
+use Rattle.lc_trunc.specs.Reset.{AreKnown}
+use Rattle.std.proofs.lemmas.List.{append-nil}
+use Rattle.lc_node.proofs.Fronts.{no_words}
+use Rattle.lc_node.proofs.SideKeeps.{goes, steps_publishes, steps_takes, steps_twice}
+use Rattle.lc_node.proofs.FlushKeeps.{at_rest, takes_and_publishes, records_append}
+use Rattle.lc_node.proofs.log_side.LogSide.flush.Goals as goal
+
+pub publish-requires-in-Ok-clause-stable : goal.publish-requires-in-Ok-clause-stable
+publish-requires-in-Ok-clause-stable g c = let ws : List ℕ = c.take-words.new.group.words in let taken : List ℕ = (flush_view c.self.inside.flusher).taken in let some : 0 < length ws = omega (arith, c.take-words.ensures.len, c.if-words-eq0.false) in
+    let held = at_rest g.D.Area c.self.inside.log c.in-Idle.log _ taken _ c.self.invariant.holds (sym c.replace.ensures.value ∙ c.in-Idle.is) in
+    subst (λ (z : List ℕ). HoldsTaken g.D.Area c.in-Ok.log.area c.in-Ok.log.end z) (sym c.take-words.ensures.words)
+    (flush_holds g.D.Area c.in-Idle.log.area c.in-Ok.log.area c.in-Idle.log.end c.in-Ok.log.end taken ws held.1 c.take-words.ensures.records some c.in-Ok.ensures.device c.in-Ok.ensures.end c.in-Ok.ensures.flushed)
+
+pub invariant_of-self-in-Ok : goal.invariant_of-self-in-Ok
+invariant_of-self-in-Ok g c = let v : View = flush_view c.self.inside.flusher in let w : View = flush_view c.take-words.new.flusher in let z : View = flush_view c.publish-in-Ok.new.flusher in let inv = c.self.invariant in
+    let same = takes_and_publishes v w z c.take-words.ensures.takes c.publish-in-Ok.ensures.published in
+    let held = at_rest g.D.Area c.self.inside.log c.in-Idle.log _ v.taken _ inv.holds (sym c.replace.ensures.value ∙ c.in-Idle.is) in
+    let taken : z.taken ≡ w.taken = ap (λ (y : View). y.taken) c.publish-in-Ok.ensures.published in
+    let all : c.keep.new.stable.items ≡ z.taken = c.keep.ensures.words ∙ (ap (λ (l : List ℕ). l ++ c.take-words.new.group.words) held.0 ∙ (sym c.take-words.ensures.words ∙ sym taken)) in record {
+      one_table = search rules;
+      idle_probe = inv.idle_probe;
+      group_room = c.take-words.ensures.same.1 ∙ (inv.group_room ∙ sym same.same_room);
+      stable_room = (let a = inv.stable_room in let b = same.same_room in let d = c.keep.ensures.room in omega arith);
+      at_round = inv.at_round ∙ ap (λ (l : List (List ℕ)). length l) (sym same.same_past);
+      few_rounds = inv.few_rounds;
+      clear = same.clear inv.clear;
+      uncleared = same.same_cleared ∙ inv.uncleared;
+      clean = subst (All (λ (words : List ℕ). AreKnown words (known c.self.inside.known))) (sym same.same_past) inv.clean;
+      records = subst AreRecords (sym c.keep.ensures.words) (records_append _ _ inv.records c.take-words.ensures.records);
+      published = (let a = same.published in let b = inv.at_round in let d : length c.keep.new.stable.items ≡ length z.taken = ap (λ (l : List ℕ). length l) all in omega arith);
+      holds = (all, subst (λ (l : List ℕ). HoldsTaken g.D.Area c.in-Ok.log.area c.in-Ok.log.end l) (sym taken) (subst (λ (l : List ℕ). HoldsTaken g.D.Area c.in-Ok.log.area c.in-Ok.log.end l) (sym c.take-words.ensures.words) (flush_holds g.D.Area c.in-Idle.log.area c.in-Ok.log.area c.in-Idle.log.end c.in-Ok.log.end v.taken c.take-words.new.group.words held.1 c.take-words.ensures.records (omega (arith, c.take-words.ensures.len, c.if-words-eq0.false)) c.in-Ok.ensures.device c.in-Ok.ensures.end c.in-Ok.ensures.flushed)), (let fits = held.2 in let long = (c.in-Ok.ensures.device).same_length in let b = same.same_room in omega arith));
+    }
+
+pub invariant_of-self-then-words-eq0 : goal.invariant_of-self-then-words-eq0
+invariant_of-self-then-words-eq0 g c = let v : View = flush_view c.self.inside.flusher in let w : View = flush_view c.take-words.new.flusher in let z : View = flush_view c.publish.new.flusher in let inv = c.self.invariant in
+    let same = takes_and_publishes v w z c.take-words.ensures.takes c.publish.ensures.published in
+    let held = at_rest g.D.Area c.self.inside.log c.in-Idle.log _ v.taken _ inv.holds (sym c.replace.ensures.value ∙ c.in-Idle.is) in
+    let none : c.take-words.new.group.words ≡ [] = no_words c.take-words.new.group.words (sym c.take-words.ensures.len ∙ c.if-words-eq0.true) in
+    let taken : z.taken ≡ v.taken = ap (λ (y : View). y.taken) c.publish.ensures.published ∙ (c.take-words.ensures.words ∙ (ap (λ (l : List ℕ). v.taken ++ l) none ∙ append-nil v.taken)) in
+    let all : c.self.inside.stable.items ≡ z.taken = held.0 ∙ sym taken in
+    goes g.D.Area c.self.inside _ inv (record {
+      one_table = search rules;
+      idle_probe = inv.idle_probe;
+      same_group = c.take-words.ensures.same.1;
+      same_stable = refl;
+      same_round = refl;
+      same_known = refl;
+      steps = steps_twice v w z (steps_takes v w c.take-words.ensures.takes) (steps_publishes w z c.publish.ensures.published);
+      published = (let a = same.published in let b = inv.at_round in let d : length c.self.inside.stable.items ≡ length z.taken = ap (λ (l : List ℕ). length l) all in omega arith);
+      holds = (
+        all,
+        subst (λ (l : List ℕ). HoldsTaken g.D.Area c.in-Idle.log.area c.in-Idle.log.end l) (sym taken) held.1,
+        (let fits = held.2 in let b = same.same_room in omega arith),
+      );
+    })
+
+pub invariant_of-self-in-Err : goal.invariant_of-self-in-Err
+invariant_of-self-in-Err g c = let v : View = flush_view c.self.inside.flusher in let w : View = flush_view c.take-words.new.flusher in let inv = c.self.invariant in
+    let held = at_rest g.D.Area c.self.inside.log c.in-Idle.log _ v.taken _ inv.holds (sym c.replace.ensures.value ∙ c.in-Idle.is) in
+    goes g.D.Area c.self.inside _ inv (record {
+      one_table = search rules;
+      idle_probe = inv.idle_probe;
+      same_group = c.take-words.ensures.same.1;
+      same_stable = refl;
+      same_round = refl;
+      same_known = refl;
+      steps = steps_takes v w c.take-words.ensures.takes;
+      published = (let old = inv.published in let same : w.published ≡ v.published = ap (λ (y : View). y.published) c.take-words.ensures.takes.1 in omega arith);
+      holds = (c.take-words.new.group.words, c.take-words.ensures.words ∙ ap (λ (l : List ℕ). l ++ c.take-words.new.group.words) (sym held.0));
+    })

@@ -1,0 +1,27 @@
+-- The numbers of the faults.
+use Rattle.std.specs.Prelude.{ℕ}
+use Rattle.lc_node.specs.declared.node_fault.NodeFault.{NodeFault}
+use Rattle.lc_node.specs.declared.node_fault.NodeFault.TheVariants.{Busy, NotHere, NoRange, OutOfSegment, NotLocked, NoMemory, TooLong, SequenceSpent, EmptyRange, TooManyRanges, Full, Sealed, Lost, DeviceFault, Halted, Mismatch, Token, RoundsSpent, Unclean, ChannelFull, ReadOnly}
+
+abbrev pub number_of : NodeFault → ℕ
+number_of (Busy segment) = 1
+number_of (NotHere segment) = 2
+number_of NoRange = 3
+number_of OutOfSegment = 4
+number_of NotLocked = 5
+number_of NoMemory = 6
+number_of (TooLong words) = 7
+number_of (SequenceSpent segment) = 8
+number_of EmptyRange = 9
+number_of TooManyRanges = 10
+number_of (Full tail need) = 11
+number_of Sealed = 12
+number_of (Lost seen) = 13
+number_of DeviceFault = 14
+number_of Halted = 15
+number_of (Mismatch part) = 16
+number_of (Token fault) = 17
+number_of RoundsSpent = 18
+number_of (Unclean segment seq) = 19
+number_of (ChannelFull to) = 20
+number_of (ReadOnly segment) = 21

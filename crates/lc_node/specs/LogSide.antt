@@ -1,0 +1,48 @@
+-- What a node's log holds.
+use Rattle.std.specs.Prelude.{◌≡◌, ℕ, ◌+◌, ◌*◌, ◌≤◌, ◌<◌, ◌^◌, Bool, true, false, List, [], ◌∷◌, ◌++◌, length, vec_capacity, All}
+use Rattle.lc_disk.specs.declared.area.Area.{Ghosts}
+use Rattle.lc_stage.specs.Publishing.{HoldsTaken}
+use Rattle.lc_stage.specs.Staging.{AreRecords}
+use Rattle.lc_stage.specs.Seats.{flush_view, commit_view, IsIdle}
+use Rattle.lc_trunc.specs.KnownClean.{known}
+use Rattle.lc_trunc.specs.Reset.{AreKnown}
+use Rattle.lc_node.specs.LogView.{LogView}
+use Rattle.lc_node.specs.declared.log_state.LogState.{LogState}
+use Rattle.lc_node.specs.declared.log_state.LogState.TheVariants.{Idle, Halted, Taken}
+use Rattle.lc_node.specs.declared.log_side.LogSide.TheInside.{Inside}
+
+module _ {D : Type 0} (a : Ghosts D) where
+  abbrev pub area_of : LogState D a → List D
+  area_of (Idle log) = log.area ∷ []
+  area_of (Halted failed) = failed.area ∷ []
+  area_of Taken = []
+
+  abbrev pub is_halted : LogState D a → Bool
+  is_halted (Idle log) = false
+  is_halted (Halted failed) = true
+  is_halted Taken = true
+
+  abbrev pub log_view : Inside D a → LogView D
+  log_view s = record { flusher = s.flusher; probe = s.probe; area = area_of s.log; is_halted = is_halted s.log; stable = s.stable.items; round = s.round; known = s.known }
+
+  -- the stable words are all that was taken in this round, and the log holds them; once halted they are the front of it
+  abbrev pub HasStable : LogState D a → ℕ → List ℕ → List ℕ → Type 0
+  HasStable (Idle log) room taken stable = (stable ≡ taken) × HoldsTaken a log.area log.end taken × (8 * room + 8 ≤ length (a.now log.area))
+  HasStable (Halted failed) room taken stable = (rest : List ℕ) × (taken ≡ stable ++ rest)
+  HasStable Taken room taken stable = ⊥
+
+  pub record IsLogSide (s : Inside D a) : Type 0 where
+    pub one_table : s.probe.seat.table_id ≡ s.flusher.seat.table_id
+    pub idle_probe : IsIdle (commit_view s.probe)
+    pub group_room : s.group.room ≡ (flush_view s.flusher).room
+    pub stable_room : (flush_view s.flusher).room ≤ vec_capacity s.stable
+    pub at_round : s.round ≡ length (flush_view s.flusher).past
+    pub few_rounds : s.round < 2 ^ 48
+    -- the row of the next round is clear, and nothing of this one is cleared
+    pub clear : (flush_view s.flusher).ended_cleared ≡ (flush_view s.flusher).ended
+    pub uncleared : (flush_view s.flusher).cleared ≡ 0
+    pub records : AreRecords s.stable.items
+    pub published : (flush_view s.flusher).published ≤ s.round * 65536 + length s.stable.items
+    pub holds : HasStable s.log (flush_view s.flusher).room (flush_view s.flusher).taken s.stable.items
+    -- each lock of a record that was taken in a round that has ended is known clean
+    pub clean : All (λ words. AreKnown words (known s.known)) (flush_view s.flusher).past

@@ -1,0 +1,41 @@
+-- What a committer's seat gains as it stages a record.
+use Rattle.std.specs.Prelude.{◌≡◌, ℕ, ◌+◌, ◌/◌, ◌<◌, ◌≤◌, Bool, true, false, List, ◌∷◌, length, slice_index}
+use Rattle.lc_stage.specs.declared.view.View.{View}
+use Rattle.lc_stage.specs.declared.view.Reservation.{Reservation}
+use Rattle.lc_stage.specs.Staging.{saw, reserved, with_newest, offset_of, seal_of}
+use Rattle.lc_node.specs.declared.node_fault.NodeFault.{NodeFault}
+use Rattle.lc_node.specs.declared.node_fault.NodeFault.TheVariants.{Full, Sealed, Lost}
+
+-- the seat has only seen a tail
+abbrev pub Sees : View → View → Type 0
+Sees v w = w ≡ saw w.seen v
+
+-- and has a reservation of n words more, from the tail that it saw
+abbrev pub Wins : ℕ → View → View → Type 0
+Wins n v w = w ≡ reserved w.seen n (saw w.seen v)
+
+-- why nothing was reserved: the words do not fit behind the tail that was seen, that is sealed, or all tries found another one
+abbrev pub IsUnwon : ℕ → ℕ → ℕ → NodeFault → Type 0
+IsUnwon room n seen (Full tail need) = (tail ≡ offset_of seen) × (need ≡ n) × (seal_of seen ≡ 0) × (room < tail + n)
+IsUnwon room n seen Sealed = seal_of seen ≡ 1
+IsUnwon room n seen (Lost tail) = tail ≡ seen
+IsUnwon room n seen _ = ⊥
+
+-- the view with these words in its newest reservation
+abbrev pub with_words : List ℕ → View → View
+with_words us v = record v { mine = with_newest (λ r. record r { words = us }) v.mine }
+
+-- of the newest reservation, the words behind the header and in front of one place are filled
+pub record IsFilling (v : View) (words : List ℕ) (next : ℕ) (w : View) : Type 0 where
+  pub filled : List ℕ
+  pub is : w ≡ with_words filled v
+  pub long : length filled ≡ length words
+  pub same : (j : ℕ) → 0 < j → j < next → slice_index filled j ≡ slice_index words j
+
+-- the seat has one closed reservation more, of these words
+pub record Closes (words : List ℕ) (v w : View) : Type 0 where
+  pub reservation : Reservation
+  pub closed : reservation.closed ≡ true
+  pub words_are : reservation.words ≡ words
+  pub of_tail : (reservation.round ≡ w.seen / 65536) × (reservation.place ≡ offset_of w.seen)
+  pub is : w ≡ record v { seen = w.seen; mine = reservation ∷ v.mine }

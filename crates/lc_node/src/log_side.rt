@@ -1,0 +1,32 @@
+//! A node's log, with what is staged for it.
+use crate::log_state::LogState;
+use lc_disk::Area;
+use lc_record::Group;
+use lc_stage::{CommitSeat, FlushSeat};
+use lc_trunc::KnownClean;
+use std::marker::Model;
+
+/// A node's log: its flusher, its device, the words of its stable records, which are what the flusher took in this round
+/// or, once it is halted, the front of that, and what is known clean of the segments. This project's own.
+#[derive(Drop)]
+pub struct LogSide<D: Area> {
+    pub(crate) flusher: FlushSeat,
+    /// A committer's seat, by which the tail is loaded.
+    pub(crate) probe: CommitSeat,
+    pub(crate) log: LogState<D>,
+    pub(crate) group: Group,
+    pub(crate) stable: Vec<u64>,
+    pub(crate) round: u64,
+    pub(crate) known: KnownClean,
+}
+
+impl<D: Area> Model for LogSide<D> {
+    ghost use Rattle.lc_node.specs.LogView.{LogView};
+    ghost use Rattle.lc_node.specs.LogSide.{log_view, IsLogSide};
+
+    ghost Value = { LogView D };
+
+    ghost view = { log_view D.Area };
+
+    ghost invariant = { IsLogSide D.Area };
+}
