@@ -1,0 +1,18 @@
+//! A lock for one value at a time: who has it has a value that fits the lock's key, and gives back one that does.
+#![tactic(auto)]
+
+mod keyed;
+mod laws;
+mod loan;
+mod lock;
+mod making;
+mod plays;
+mod taking;
+mod tickets;
+mod turn;
+
+pub use keyed::Keyed;
+pub use laws::{held_value_is_out, holders_are_one};
+pub use loan::Loan;
+pub use lock::Lock;
+pub use turn::{Place, Queue, Turn};

@@ -1,0 +1,36 @@
+//! What each step on the table tells.
+ghost use Rattle.lc_lock.specs.Queue.{came, drew, began, took};
+
+use crate::Keyed;
+use crate::turn::Place;
+use atomic_table::Play;
+
+pub(crate) struct Come;
+
+impl<T, K> Play<Option<T>, Place<K>> for Come {
+    ghost then = { came };
+}
+
+pub(crate) struct Draw;
+
+impl<T, K> Play<Option<T>, Place<K>> for Draw {
+    ghost then = { drew };
+}
+
+pub(crate) struct Begin;
+
+impl<T, K> Play<Option<T>, Place<K>> for Begin {
+    ghost then = { began };
+}
+
+pub(crate) struct Take;
+
+impl<T: Keyed<K>, K> Play<Option<T>, Place<K>> for Take {
+    ghost then = { took T.fits };
+}
+
+pub(crate) struct Serve;
+
+impl<T, K> Play<Option<T>, Place<K>> for Serve {
+    ghost then = { λ _ _ _ _. Unit {0} };
+}

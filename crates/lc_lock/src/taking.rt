@@ -1,0 +1,105 @@
+//! The calls of a lock.
+ghost use Rattle.std.specs.Prelude.{◌≡◌, ℕ, ◌%◌, ◌^◌, ◌<◌};
+ghost use Rattle.lc_lock.specs.Queue.{IsWaiting, IsServed};
+ghost use Rattle.lc_lock.specs.Loans.{key_of, IsLoanOf};
+
+use crate::plays::{Come, Draw, Serve, Take};
+use crate::tickets::{DRAWN, is_full, next_in, served_in, to_next};
+use crate::turn::{QueueSeat, SLOT, WORD};
+use crate::{Keyed, Loan, Lock};
+use std::sync::Wait;
+use std::thread;
+
+// How often a thread looks for its turn before it sleeps.
+const LOOKS: u32 = 16;
+
+impl<T: Keyed<K>, K> Lock<T, K> {
+    /// Waits until nobody else has the value and all who came before have had it, and takes it. Who has the value and
+    /// locks again waits for ever. It takes no memory. At most 2^32 - 1 tickets are out at a time: who comes then draws one when
+    /// another has been served.
+    pub fn lock<R: Wait>(&self, rt: &R) -> (T, Loan<T, K>)
+        ensures fits { T.fits (key_of self.now) result.0 }
+        ensures loan { IsLoanOf self.now result.1 }
+    {
+        let (mut seat, ticket) = self.draw(rt);
+        self.wait_for_turn(rt, &mut seat, ticket);
+        let Some(value) = self.table.shared.exchange(&mut seat, SLOT, None) else {
+            unreachable!();
+        };
+        (value, Loan { seat, ticket })
+    }
+
+    /// Gives a value back, which need not be the one that was lent, and serves the next ticket. It never waits, and takes
+    /// no memory.
+    pub fn unlock(&self, value: T, loan: Loan<T, K>)
+        requires fits { T.fits (key_of self.now) value }
+        requires loan { IsLoanOf self.now loan }
+    {
+        let Loan { mut seat, ticket } = loan;
+        let shared = &self.table.shared;
+        let before = shared.exchange(&mut seat, SLOT, Some(value));
+        let None = before else { unreachable!() };
+        let found = shared.fetch_add::<Serve>(&mut seat, WORD, to_next(ticket));
+        if next_in(found) != ticket.wrapping_add(1) {
+            shared.wake_all(WORD);
+        }
+    }
+
+    /// How many tickets are out at the moment of one load: that of the holder, and those of all who wait. It is a number to
+    /// look at: nothing is said of it, since others draw and serve meanwhile.
+    pub fn tickets_out(&self) -> u32 {
+        let word = self.table.shared.peek(WORD);
+        next_in(word).wrapping_sub(served_in(word))
+    }
+
+    // A new seat with the next ticket.
+    fn draw<R: Wait>(&self, rt: &R) -> (QueueSeat<T, K>, u32)
+        ensures own { result.0.table_id ≡ self.now.table.shared.table_id }
+        ensures waits { IsWaiting (key_of self.now) result.1 result.0.me }
+    {
+        let shared = &self.table.shared;
+        let (mut word, mut seat) = shared.load_new_seat::<Come>(WORD);
+        for _ in rt.forever() {
+            if is_full(word) {
+                thread::yield_now();
+                word = shared.peek(WORD);
+                continue;
+            }
+            let found = shared.compare_exchange::<Draw>(
+                &mut seat,
+                WORD,
+                word,
+                word.wrapping_add(DRAWN),
+            );
+            if found == word {
+                return (seat, next_in(word));
+            }
+            word = found;
+        }
+        unreachable!()
+    }
+
+    // Waits until the seat's ticket is served, and takes the slot.
+    fn wait_for_turn<R: Wait>(&self, rt: &R, seat: &mut QueueSeat<T, K>, ticket: u32)
+        requires own { seat.old.table_id ≡ self.now.table.shared.table_id }
+        requires waits { IsWaiting (key_of self.now) ticket seat.old.me }
+        ensures own { seat.new.table_id ≡ self.now.table.shared.table_id }
+        ensures served { IsServed T.fits (key_of self.now) ticket seat.new.me }
+    {
+        let shared = &self.table.shared;
+        let mut looks = 0;
+        for _ in rt.forever() {
+            let served = served_in(shared.load::<Take>(seat, WORD));
+            if served == ticket {
+                return;
+            }
+            if looks < LOOKS {
+                looks += 1;
+                thread::yield_now();
+            } else {
+                shared.park(rt, WORD, served);
+            }
+        }
+        unreachable!()
+    }
+}

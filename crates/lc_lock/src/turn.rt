@@ -1,0 +1,43 @@
+//! What a seat at a lock's table knows, and the rule of the table.
+use crate::Keyed;
+use atomic_table::{Seat, Table, TableRule};
+use std::alloc::Global;
+
+/// Where a seat stands. Its ticket is the number of those drawn before, without an end; the lock's word has the low 32 bits.
+/// No value of it is made.
+pub enum Turn {
+    /// It has no ticket.
+    Idle,
+    /// It waits with this ticket.
+    Waits(u64),
+    /// This ticket of it is served, and it has the value.
+    Holds(u64),
+}
+
+/// What a seat knows: the key of its lock, and where it stands. No value of it is made.
+pub struct Place<K> {
+    pub key: K,
+    pub turn: Turn,
+}
+
+/// The one word counts the tickets that were drawn and those that were served, and the one slot has the value until the
+/// seat whose ticket is served takes it.
+pub struct Queue;
+
+impl<T: Keyed<K>, K> TableRule<Option<T>, Place<K>, K> for Queue {
+    ghost use Rattle.lc_lock.specs.Queue.{IsQueue, first_place};
+
+    ghost holds = { IsQueue T.fits };
+
+    ghost first = { first_place };
+}
+
+pub(crate) type QueueTable<T, K> = Table<Option<T>, Place<K>, K, Queue, Global>;
+
+pub(crate) type QueueSeat<T, K> = Seat<Option<T>, Place<K>>;
+
+// The place of the word in the table.
+pub(crate) const WORD: usize = 0;
+
+// The place of the slot.
+pub(crate) const SLOT: usize = 0;
