@@ -12,7 +12,7 @@ use Rattle.atomic_table.proofs.Lists.{at_set, at_snoc, at_longer, set_here, set_
 use Rattle.lc_lock.specs.declared.turn.Turn.{Turn}
 use Rattle.lc_lock.specs.declared.turn.Turn.TheVariants.{Idle, Waits, Holds}
 use Rattle.lc_lock.specs.declared.turn.Place.{Place}
-use Rattle.lc_lock.specs.Queue.{word_of, ticket_of, HasTicket, Stands, place, first_place, HasComeTo, IsHome, IsOut, IsQueue, came, drew, began, took}
+use Rattle.lc_lock.specs.Queue.{word_of, ticket_of, HasTicket, Stands, place, first_place, HasComeTo, IsHome, IsOut, IsQueue, came, drew, began, took, gave}
 use Rattle.lc_lock.proofs.Halves.{served_half, next_half, one_drawn, one_served, has_room, same_ticket}
 
 more_drawn : (d s : ℕ) (t : Turn) → Stands d s t → Stands (d + 1) s t
@@ -186,7 +186,7 @@ module _ {T K : Type 0} (fits : K → T → Type 0) (key : K) where
 
   pub serves : (slots id t k : ℕ) (me : M) (x : T) → slots ≡ 1 → me.0.turn ≡ Holds t → me.1 ≡ (0, Some x) ∷ [] → fits key x
       → ((next : ℕ) → next < 4294967296 → (next * 4294967296 + t % 4294967296 + k) % 18446744073709551616 ≡ next * 4294967296 + (t % 4294967296 + 1) % 4294967296)
-      → Allows (IsQueue fits key) slots id me 0 (λ n. (n + k) % 18446744073709551616) (λ _ _. Unit {0})
+      → Allows (IsQueue fits key) slots id me 0 (λ n. (n + k) % 18446744073709551616) (gave (step slots 0 k 0 none) me)
   serves slots id t k me x one holds carried fit law s r wide at small = let d : ℕ = r.drawn in let f : ℕ = r.served in let w : Place K = place me.0.key Idle in
       let known = r.knows id me.0 at in let stands : (t ≡ f) × (t < d) = subst (Stands d f) holds known.1 in let same : t ≡ f = stands.0 in
       let mine : HasTicket me.0.turn f = holds_with me.0.turn f (holds ∙ ap (λ (z : ℕ). Holds z) same) in
@@ -208,7 +208,7 @@ module _ {T K : Type 0} (fits : K → T → Type 0) (key : K) where
                   (λ (z : (i ≢ id) × (get_elem? s.views i ≡ some u)). let now : (n ≡ f) × (n < d) = subst (Stands d f) held (r.knows i u z.1).1 in others i u z.0 z.1 (holds_with u.turn f (held ∙ ap (λ (m : ℕ). Holds m) now.0)))
                   (at_set s.views id i w u e),
             )),
-        tt,
+        (refl, refl),
       )
 
   pub opens : IsQueue fits key (opening (4294967296 ∷ []) (replicate 1 None) (first_place key))

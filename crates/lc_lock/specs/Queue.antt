@@ -4,7 +4,7 @@ use Rattle.std.specs.Prelude.{◌≡◌, ◌≢◌, ◌⊎◌, ℕ, ◌+◌, ◌
 use mathlib.Core.Option.{none, some}
 use mathlib.Core.Option as maybe
 use lib.ListN.{get_elem?}
-use Rattle.atomic_table.specs.Table.{State, Me, Step}
+use Rattle.atomic_table.specs.Table.{State, Me, Step, rest}
 use Rattle.atomic_table.specs.declared.shared.Seat.{Seat}
 use Rattle.lc_lock.specs.declared.turn.Turn.{Turn}
 use Rattle.lc_lock.specs.declared.turn.Turn.TheVariants.{Idle, Waits, Holds}
@@ -92,6 +92,10 @@ module _ {T K : Type 0} where
   -- it has where its ticket was the one that is served
   abbrev pub took : (K → T → Type 0) → Step (Option T) → Seated T K → ℕ → Seated T K → Type 0
   took fits st m n m' = (n % 2 ^ 32 ≡ ticket_of m.0.turn % 2 ^ 32 → Takes fits m m') × (n % 2 ^ 32 ≢ ticket_of m.0.turn % 2 ^ 32 → m' ≡ m)
+
+  -- it has given the slot back, and its ticket
+  abbrev pub gave : Step (Option T) → Seated T K → ℕ → Seated T K → Type 0
+  gave st m n m' = (m'.0.turn ≡ Idle) × (m'.1 ≡ rest m.1)
 
   -- a seat under this key waits with a ticket of these low 32 bits
   abbrev pub IsWaiting : K → ℕ → Seated T K → Type 0

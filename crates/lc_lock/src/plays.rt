@@ -1,5 +1,5 @@
 //! What each step on the table tells.
-ghost use Rattle.lc_lock.specs.Queue.{came, drew, began, took};
+ghost use Rattle.lc_lock.specs.Queue.{came, drew, began, took, gave};
 
 use crate::Keyed;
 use crate::turn::Place;
@@ -32,5 +32,5 @@ impl<T: Keyed<K>, K> Play<Option<T>, Place<K>> for Take {
 pub(crate) struct Serve;
 
 impl<T, K> Play<Option<T>, Place<K>> for Serve {
-    ghost then = { λ _ _ _ _. Unit {0} };
+    ghost then = { gave };
 }

@@ -1,6 +1,7 @@
 //! The calls of a lock.
-ghost use Rattle.std.specs.Prelude.{◌≡◌, ℕ, ◌%◌, ◌^◌, ◌<◌};
-ghost use Rattle.lc_lock.specs.Queue.{IsWaiting, IsServed};
+ghost use Rattle.std.specs.Prelude.{◌≡◌, ◌%◌, ◌^◌, []};
+ghost use Rattle.lc_lock.specs.declared.turn.Turn.TheVariants.{Idle};
+ghost use Rattle.lc_lock.specs.Queue.{IsWaiting, IsServed, holding, ticket_of};
 ghost use Rattle.lc_lock.specs.Loans.{key_of, IsLoanOf};
 
 use crate::plays::{Come, Draw, Serve, Take};
@@ -36,12 +37,9 @@ impl<T: Keyed<K>, K> Lock<T, K> {
         requires loan { IsLoanOf self.now loan }
     {
         let Loan { mut seat, ticket } = loan;
-        let shared = &self.table.shared;
-        let before = shared.exchange(&mut seat, SLOT, Some(value));
-        let None = before else { unreachable!() };
-        let found = shared.fetch_add::<Serve>(&mut seat, WORD, to_next(ticket));
+        let found = self.give_back(&mut seat, ticket, value);
         if next_in(found) != ticket.wrapping_add(1) {
-            shared.wake_all(WORD);
+            self.table.shared.wake_all(WORD);
         }
     }
 
@@ -101,5 +99,19 @@ impl<T: Keyed<K>, K> Lock<T, K> {
             }
         }
         unreachable!()
+    }
+
+    // Puts the value into the slot, which is empty, and serves the next ticket. It answers the word as it was before.
+    fn give_back(&self, seat: &mut QueueSeat<T, K>, ticket: u32, value: T) -> u64
+        requires own { seat.old.table_id ≡ self.now.table.shared.table_id }
+        requires holds { seat.old ≡ holding seat.old }
+        requires ticket { ticket ≡ ticket_of seat.old.me.0.turn % 2 ^ 32 }
+        requires fits { T.fits (key_of self.now) value }
+        ensures { (seat.new.me.0.turn ≡ Idle) × (seat.new.me.1 ≡ []) }
+    {
+        let shared = &self.table.shared;
+        let before = shared.exchange(seat, SLOT, Some(value));
+        let None = before else { unreachable!() };
+        shared.fetch_add::<Serve>(seat, WORD, to_next(ticket))
     }
 }

@@ -1,0 +1,186 @@
+//! A value that threads pass on under a lock.
+ghost use Rattle.std.specs.Prelude.{◌≡◌, ◌+◌};
+ghost use Rattle.lc_lock.specs.Loans.{key_of, IsLoanOf};
+
+use lc_lock::{Keyed, Loan, Lock};
+use std::sync::Wait;
+use std::test::Fail;
+use std::thread::{join, map_indices, yield_now};
+
+const THREADS: usize = 4;
+
+const ADDITIONS: u64 = 10_000;
+
+// What a lock keeps: a total, and how many additions of 1 led to it.
+#[derive(Drop)]
+struct Tally {
+    total: u64,
+    additions: u64,
+}
+
+// The key is the total without an addition.
+impl Keyed<u64> for Tally {
+    ghost fits = { λ first tally. tally.total ≡ first + tally.additions };
+}
+
+// One addition more, if there is room for it: both numbers grow alike.
+fn plus_one(tally: Tally) -> Tally
+    ensures { result.total + tally.additions ≡ tally.total + result.additions }
+{
+    let Tally { total, additions } = tally;
+    let Some(more) = total.checked_add(1) else {
+        return Tally { total, additions };
+    };
+    let Some(count) = additions.checked_add(1) else {
+        return Tally { total, additions };
+    };
+    Tally {
+        total: more,
+        additions: count,
+    }
+}
+
+fn add_all<R: Wait>(rt: &R, lock: &Lock<Tally, u64>) {
+    for _ in 0..ADDITIONS {
+        let (tally, loan) = lock.lock(rt);
+        lock.unlock(plus_one(tally), loan);
+    }
+}
+
+// Total and additions, under the lock.
+fn look<R: Wait>(rt: &R, lock: &Lock<Tally, u64>) -> (u64, u64) {
+    let (tally, loan) = lock.lock(rt);
+    let seen = (tally.total, tally.additions);
+    lock.unlock(tally, loan);
+    seen
+}
+
+// Waits until so many tickets are out, adds 1 under the lock, and answers which addition that was.
+fn add_as<R: Wait>(rt: &R, lock: &Lock<Tally, u64>, tickets: u32) -> u64 {
+    await_tickets(rt, lock, tickets);
+    let (tally, loan) = lock.lock(rt);
+    let tally = plus_one(tally);
+    let number = tally.additions;
+    lock.unlock(tally, loan);
+    number
+}
+
+fn await_tickets<R: Wait>(rt: &R, lock: &Lock<Tally, u64>, tickets: u32) {
+    for _ in rt.forever() {
+        if lock.tickets_out() >= tickets {
+            return;
+        }
+        yield_now();
+    }
+}
+
+// Who gives a vacant lock its value, at the latest when it is dropped.
+struct Bringer<'a> {
+    lock: &'a Lock<Tally, u64>,
+    loan: Loan<Tally, u64>,
+    ghost own: { IsLoanOf lock.now loan × (key_of lock.now ≡ 7) },
+}
+
+impl Drop for Bringer<'_> {
+    fn drop(self) {
+        let Self { lock, loan } = self;
+        lock.unlock(
+            Tally {
+                total: 7,
+                additions: 0,
+            },
+            loan,
+        );
+    }
+}
+
+// Gives the lock its value once so many tickets are out.
+fn bring<R: Wait>(rt: &R, bringer: Bringer, tickets: u32) {
+    await_tickets(rt, bringer.lock, tickets);
+    drop(bringer);
+}
+
+#[test]
+fn no_addition_is_lost(rt: HostRuntime) -> Result<(), Fail> {
+    let tally = Tally {
+        total: 7,
+        additions: 0,
+    };
+    let Ok(lock) = Lock::new(rt.alloc(), tally, &7) else {
+        return Err(Fail::from("there is memory for a lock"));
+    };
+    let shared = &lock;
+    let host = &rt;
+    map_indices(&rt, rt.alloc(), THREADS, &|_| add_all(host, shared))?;
+    assert!(rt; look(&rt, &lock) == (40_007, 40_000));
+    assert!(rt; lock.tickets_out() == 0);
+    Ok(())
+}
+
+#[test]
+fn who_locks_a_vacant_lock_waits_for_its_value(rt: HostRuntime) -> Result<(), Fail> {
+    let (lock, loan): (Lock<Tally, u64>, Loan<Tally, u64>) = Lock::vacant(rt.alloc(), &7)?;
+    let shared = &lock;
+    let host = &rt;
+    let bringer = Bringer { lock: shared, loan };
+    let (seen, ()) = join(&rt, || look(host, shared), || bring(host, bringer, 2));
+    assert!(rt; seen == (7, 0));
+    Ok(())
+}
+
+// The second draws its ticket once the first has, and the value comes once both wait.
+#[test]
+fn who_has_waited_longer_is_first(rt: HostRuntime) -> Result<(), Fail> {
+    let (lock, loan): (Lock<Tally, u64>, Loan<Tally, u64>) = Lock::vacant(rt.alloc(), &7)?;
+    let shared = &lock;
+    let host = &rt;
+    let bringer = Bringer { lock: shared, loan };
+    let (numbers, ()) = join(
+        &rt,
+        || join(host, || add_as(host, shared, 1), || add_as(host, shared, 2)),
+        || bring(host, bringer, 3),
+    );
+    assert!(rt; numbers == (1, 2));
+    Ok(())
+}
+
+// Where memory is refused the value comes back as it was, and the next attempt makes the lock.
+#[test]
+fn refused_memory_gives_the_value_back(rt: HostRuntime) -> Result<(), Fail> {
+    let tally = Tally {
+        total: 9,
+        additions: 2,
+    };
+    let lock = match Lock::new(rt.alloc(), tally, &7) {
+        Ok(lock) => lock,
+        Err(tally) => {
+            assert!(rt; tally.total == 9 && tally.additions == 2);
+            let Ok(lock) = Lock::new(rt.alloc(), tally, &7) else {
+                return Err(Fail::from("memory is refused once"));
+            };
+            lock
+        }
+    };
+    assert!(rt; look(&rt, &lock) == (9, 2));
+    Ok(())
+}
+
+fn crosses<X: Send>(_: &X) {}
+
+fn is_shared<X: Sync>(_: &X) {}
+
+// Both may cross threads wherever the value may.
+fn cross_threads<T: Keyed<K> + Send, K>(lock: &Lock<T, K>, loan: &Loan<T, K>) {
+    crosses(lock);
+    is_shared(lock);
+    crosses(loan);
+}
+
+#[test]
+fn lock_and_loan_cross_threads(rt: HostRuntime) -> Result<(), Fail> {
+    let (lock, loan): (Lock<Tally, u64>, Loan<Tally, u64>) = Lock::vacant(rt.alloc(), &7)?;
+    cross_threads(&lock, &loan);
+    drop(Bringer { lock: &lock, loan });
+    assert!(rt; look(&rt, &lock) == (7, 0));
+    Ok(())
+}
