@@ -21,8 +21,11 @@ inside n = omega arith
 pub one_drawn : (d s : ℕ) → (word_of d s + 4294967296) % 18446744073709551616 ≡ word_of (d + 1) s
 one_drawn d s = omega arith
 
-pub one_served : (d s k : ℕ) → ((next : ℕ) → next < 4294967296 → (next * 4294967296 + s % 4294967296 + k) % 18446744073709551616 ≡ next * 4294967296 + (s % 4294967296 + 1) % 4294967296)
-    → (word_of d s + k) % 18446744073709551616 ≡ word_of d (s + 1)
+-- k is what serves the ticket behind this one, added to the word
+abbrev pub ServesNext : ℕ → ℕ → Type 0
+ServesNext ticket k = (next : ℕ) → next < 4294967296 → (next * 4294967296 + ticket + k) % 18446744073709551616 ≡ next * 4294967296 + (ticket + 1) % 4294967296
+
+pub one_served : (d s k : ℕ) → ServesNext (s % 4294967296) k → (word_of d s + k) % 18446744073709551616 ≡ word_of d (s + 1)
 one_served d s k law = law (d % 4294967296) (inside d) ∙ ap (λ (z : ℕ). d % 4294967296 * 4294967296 + z) (wraps s)
 
 -- where the halves do not tell that all tickets but one are out, one more may be drawn

@@ -1,5 +1,5 @@
 -- Each step keeps the rule of a lock.
-use Rattle.std.proofs.Common.{◌≡◌, ◌≢◌, ◌⊎◌, ℕ, zero, suc, ◌+◌, ◌*◌, ◌/◌, ◌%◌, ◌<◌, ◌≤◌, eqb, List, [], ◌∷◌, length, replicate, get_or, set, refl, sym, ap, ◌∙◌, subst, inl, inr, ⊎_elim, arith}
+use Rattle.std.proofs.Common.{◌≡◌, ◌≢◌, ◌⊎◌, ℕ, zero, suc, ◌+◌, ◌/◌, ◌%◌, ◌<◌, ◌≤◌, eqb, List, [], ◌∷◌, length, replicate, get_or, set, refl, sym, ap, ◌∙◌, subst, inl, inr, ⊎_elim, arith}
 use mathlib.Core.Logic.{dite}
 use mathlib.Core.Option.{none, some, some-injective, some-ne-none}
 use mathlib.Core.Option as maybe
@@ -13,7 +13,7 @@ use Rattle.lc_lock.specs.declared.turn.Turn.{Turn}
 use Rattle.lc_lock.specs.declared.turn.Turn.TheVariants.{Idle, Waits, Holds}
 use Rattle.lc_lock.specs.declared.turn.Place.{Place}
 use Rattle.lc_lock.specs.Queue.{word_of, ticket_of, HasTicket, Stands, place, first_place, HasComeTo, IsHome, IsOut, IsQueue, came, drew, began, took, gave}
-use Rattle.lc_lock.proofs.Halves.{served_half, next_half, one_drawn, one_served, has_room, same_ticket}
+use Rattle.lc_lock.proofs.Halves.{served_half, next_half, one_drawn, ServesNext, one_served, has_room, same_ticket}
 
 more_drawn : (d s : ℕ) (t : Turn) → Stands d s t → Stands (d + 1) s t
 more_drawn d s Idle h = tt
@@ -184,14 +184,13 @@ module _ {T K : Type 0} (fits : K → T → Type 0) (key : K) where
       (λ y come. ((λ _. (y, subst (λ (z : ℕ). HasComeTo fits me.0.key z y) (sym is) come, λ k. (place me.0.key (Holds (sym is k)), (0, y) ∷ me.1))), λ other. absurd (other here))))
       (λ elsewhere. stays s r id me told at ((λ here. absurd (elsewhere here)), λ _. refl))
 
-  pub serves : (slots id t k : ℕ) (me : M) (x : T) → slots ≡ 1 → me.0.turn ≡ Holds t → me.1 ≡ (0, Some x) ∷ [] → fits key x
-      → ((next : ℕ) → next < 4294967296 → (next * 4294967296 + t % 4294967296 + k) % 18446744073709551616 ≡ next * 4294967296 + (t % 4294967296 + 1) % 4294967296)
+  pub serves : (slots id t ticket k : ℕ) (me : M) (x : T) → slots ≡ 1 → me.0.turn ≡ Holds t → me.1 ≡ (0, Some x) ∷ [] → ticket ≡ t % 4294967296 → fits key x → ServesNext ticket k
       → Allows (IsQueue fits key) slots id me 0 (λ n. (n + k) % 18446744073709551616) (gave (step slots 0 k 0 none) me)
-  serves slots id t k me x one holds carried fit law s r wide at small = let d : ℕ = r.drawn in let f : ℕ = r.served in let w : Place K = place me.0.key Idle in
+  serves slots id t ticket k me x one holds carried low fit law s r wide at small = let d : ℕ = r.drawn in let f : ℕ = r.served in let w : Place K = place me.0.key Idle in
       let known = r.knows id me.0 at in let stands : (t ≡ f) × (t < d) = subst (Stands d f) holds known.1 in let same : t ≡ f = stands.0 in
       let mine : HasTicket me.0.turn f = holds_with me.0.turn f (holds ∙ ap (λ (z : ℕ). Holds z) same) in
       let others : (j : ℕ) (u : Place K) → j ≢ id → get_elem? s.views j ≡ some u → HasTicket u.turn f → ⊥ = λ j u other e has. other (r.apart j id f u me.0 e at has mine) in
-      let law' = subst (λ (z : ℕ). (next : ℕ) → next < 4294967296 → (next * 4294967296 + z % 4294967296 + k) % 18446744073709551616 ≡ next * 4294967296 + (z % 4294967296 + 1) % 4294967296) same law in
+      let law' : ServesNext (f % 4294967296) k = subst (λ (z : ℕ). ServesNext z k) (low ∙ ap (λ (z : ℕ). z % 4294967296) same) law in
       let new : ℕ = (get_or s.words 0 0 + k) % 18446744073709551616 in
       let becomes : new ≡ word_of d (f + 1) = ap (λ (z : ℕ). (z + k) % 18446744073709551616) (found s r) ∙ one_served d f k law' in
       let home : put_back s.homes me.1 ≡ some (Some x) ∷ [] = ap (put_back s.homes) carried ∙ one_only s.homes (some (Some x)) (wide ∙ one) in let few : d < f + 4294967296 = r.few in (
@@ -211,11 +210,11 @@ module _ {T K : Type 0} (fits : K → T → Type 0) (key : K) where
         (refl, refl),
       )
 
-  pub opens : IsQueue fits key (opening (4294967296 ∷ []) (replicate 1 None) (first_place key))
-  opens = record {
+  pub opens : (words : List ℕ) → words ≡ word_of 1 0 ∷ [] → IsQueue fits key (opening words (replicate 1 None) (first_place key))
+  opens words is = record {
     drawn = 1;
     served = 0;
-    word = refl;
+    word = is;
     begun = omega arith;
     behind = omega arith;
     few = omega arith;

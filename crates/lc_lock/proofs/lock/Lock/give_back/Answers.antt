@@ -1,4 +1,4 @@
-use Rattle.std.proofs.Common.{rules, ◌≡◌, ◌∷◌, ◌+◌, ◌*◌, ◌%◌, ◌<◌, ℕ, sym, ap, ◌∙◌, subst, Some, None}
+use Rattle.std.proofs.Common.{rules, ◌∷◌, sym, ap, ◌∙◌, Some, None}
 use Rattle.atomic_table.specs.Table.{rest}
 use Rattle.lc_lock.specs.Queue.{ticket_of}
 use Rattle.lc_lock.proofs.Keeps.{serves}
@@ -11,6 +11,5 @@ pub fetch_add-requires : goal.fetch_add-requires
 fetch_add-requires g c = let s = c.requires.holds in let now = c.exchange-before.ensures.3 in (
   search rules,
   search rules,
-  serves g.T.Keyed.fits _ _ _ (ticket_of c.args.seat.now.me.0.turn) _ _ c.args.value (search rules) (ap (λ m. m.0.turn) now ∙ ap (λ z. z.me.0.turn) s) (ap (λ m. m.1) now ∙ (λ k. (0, Some c.args.value) ∷ ap (λ z. rest z.me.1) s k)) c.requires.fits
-      (subst (λ (z : ℕ). (next : ℕ) → next < 4294967296 → (next * 4294967296 + z + c.to_next.result) % 18446744073709551616 ≡ next * 4294967296 + (z + 1) % 4294967296) c.requires.ticket c.to_next.ensures),
+  serves g.T.Keyed.fits _ _ _ (ticket_of c.args.seat.now.me.0.turn) c.args.ticket _ _ c.args.value (search rules) (ap (λ m. m.0.turn) now ∙ ap (λ z. z.me.0.turn) s) (ap (λ m. m.1) now ∙ (λ k. (0, Some c.args.value) ∷ ap (λ z. rest z.me.1) s k)) c.requires.ticket c.requires.fits (search rules),
 )

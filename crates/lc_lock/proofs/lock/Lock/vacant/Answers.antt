@@ -1,19 +1,14 @@
-use Rattle.std.proofs.Common.{rules, ◌≡◌, ◌∷◌, ◌%◌, [], sym, ap, ◌∙◌, None}
-use Rattle.lc_lock.specs.declared.turn.Turn.TheVariants.{Holds}
-use Rattle.lc_lock.specs.Queue.{ticket_of}
+use Rattle.std.proofs.Common.{rules, ◌≡◌, ◌∷◌, [], ap, ◌∙◌, None}
 use Rattle.lc_lock.proofs.Keeps.{opens, begins}
 use Rattle.lc_lock.proofs.Seats.{is_holding}
 use Rattle.lc_lock.proofs.lock.Lock.vacant.Goals as goal
 
 pub vacant-requires : goal.vacant-requires
-vacant-requires g c = opens g.T.Keyed.fits c.args.key.now
+vacant-requires g c = opens g.T.Keyed.fits c.args.key.now _ (search rules)
 
 pub load-requires : goal.load-requires
 load-requires g c = (search rules, search rules, begins g.T.Keyed.fits _ _ _ _ (search rules))
 
-pub invariant_of-result-2 : goal.invariant_of-result-2
-invariant_of-result-2 g c = let now = c.load.ensures.2 in let bare : c.in_ok-table.seat.me.1 ≡ [] = search rules in
-    let turn : c.load.new.seat.me.0.turn ≡ Holds 0 = ap (λ m. m.0.turn) now in record {
-      holds = is_holding _ 0 turn (ap (λ m. m.1) now ∙ (λ k. (0, None) ∷ bare k));
-      at_ticket = sym (ap (λ z. ticket_of z % 4294967296) turn);
-    }
+pub invariant_of-result-2-clause-holds : goal.invariant_of-result-2-clause-holds
+invariant_of-result-2-clause-holds g c = let now = c.load.ensures.2 in let bare : c.in_ok-table.seat.me.1 ≡ [] = search rules in
+    is_holding _ 0 (ap (λ m. m.0.turn) now) (ap (λ m. m.1) now ∙ (λ k. (0, None) ∷ bare k))
