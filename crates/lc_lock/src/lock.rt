@@ -7,11 +7,11 @@ use crate::turn::QueueTable;
 /// A lock for a value that fits a key. The value goes out by move and comes back by move, and between the two the lock
 /// has none. The key is what contracts read of the lock (`key_of`), and takes no memory.
 ///
-/// It hands over: those who wait get it in the order of their tickets, so nobody passes who has waited longer, not even
-/// the one who gives it back. A waiting thread looks a few times and then sleeps; who gives the lock back wakes the sleepers
-/// where somebody waits, and makes no system call where nobody does. No proof says that a ticket is served.
+/// It hands over: those who wait get the value in the order of their tickets, so nobody passes one who has waited longer,
+/// not even who gives it back and comes again. A waiting thread looks a few times and then sleeps; who gives the value back wakes the
+/// sleepers where somebody waits, and makes no system call where nobody does. That a ticket is ever served is not proved.
 ///
-/// A ticket lock (D. Reed and R. Kanodia, Synchronization with Eventcounts and Sequencers, 1979), of one word with both counts.
+/// A ticket lock, with both counts in one word; that its value moves and fits a key is this project's own.
 #[derive(Drop)]
 pub struct Lock<T: Keyed<K>, K> {
     pub(crate) table: QueueTable<T, K>,

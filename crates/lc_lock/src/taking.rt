@@ -15,9 +15,9 @@ use std::thread;
 const LOOKS: u32 = 16;
 
 impl<T: Keyed<K>, K> Lock<T, K> {
-    /// Waits until nobody else has the value and all who came before have had it, and takes it. Who has the value and
-    /// locks again waits for ever. It takes no memory. At most 2^32 - 1 tickets are out at a time: who comes then draws one when
-    /// another has been served.
+    /// Waits until all who drew a ticket before have had the value and have given one back, and takes it. Who has the value and
+    /// locks again waits for ever. It takes no memory. At most 2^32 - 1 tickets are out at a time: who comes then draws one
+    /// once another is served.
     pub fn lock<R: Wait>(&self, rt: &R) -> (T, Loan<T, K>)
         ensures fits { T.fits (key_of self.now) result.0 }
         ensures loan { IsLoanOf self.now result.1 }
@@ -50,7 +50,7 @@ impl<T: Keyed<K>, K> Lock<T, K> {
         next_in(word).wrapping_sub(served_in(word))
     }
 
-    // A new seat with the next ticket.
+    // A new seat with the next ticket. A plain addition could not be refused where all tickets are out, so it exchanges.
     fn draw<R: Wait>(&self, rt: &R) -> (QueueSeat<T, K>, u32)
         ensures own { result.0.table_id ≡ self.now.table.shared.table_id }
         ensures waits { IsWaiting (key_of self.now) result.1 result.0.me }
