@@ -1,5 +1,5 @@
 -- What is known stays known.
-use Rattle.std.proofs.Common.{◌≡◌, ℕ, zero, suc, ◌<◌, ◌≤◌, ◌==◌, max, Bool, true, false, List, [], ◌∷◌, All, get_or, inl, inr, arith}
+use Rattle.std.proofs.Common.{◌≡◌, ℕ, zero, suc, ◌<◌, ◌≤◌, ◌==◌, max, Bool, true, false, List, [], ◌∷◌, All, get_or, length, ap, inl, inr, arith}
 use Rattle.std.specs.Prelude.{if◌then◌else◌}
 use Rattle.std.proofs.lemmas.Bool.{cases_Bool, eqb-true}
 use Rattle.lc_token.specs.declared.token.Token.{Token}
@@ -26,3 +26,7 @@ all-seen old new token past sees all = λ k d within. known-grows (known old) (k
 pub all_alone : {X : Type 0} (P : X → Type 0) (x : X) → P x → All P (x ∷ [])
 all_alone P x h zero d within = h
 all_alone P x h (suc k) d within = absurd (omega arith)
+
+-- no round has ended
+pub none_ended : {X : Type 0} (P : X → Type 0) (past : List X) → past ≡ [] → All P past
+none_ended P past none k d within = let same : length past ≡ 0 = ap (λ (l : List _). length l) none in absurd (omega arith)

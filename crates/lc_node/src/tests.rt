@@ -1,0 +1,149 @@
+//! A committed record is confirmed where it is, and after a reset as an earlier one.
+ghost use Rattle.std.specs.Prelude.{◌≡◌, ◌<◌, ◌≤◌, length, IfSome, IfOk};
+ghost use Rattle.lc_stage.specs.Staging.{IsOneRecord};
+ghost use Rattle.lc_stage.specs.Seats.{commit_view, IsSeatOf, IsIdle};
+ghost use Rattle.lc_node.specs.Receipts.{HasReceipt};
+
+use crate::{Confirmed, Gate, Node, NodeFault, stage_record};
+use lc_disk::{Area, MemArea};
+use lc_page::{PageText, PageVector};
+use lc_record::{Items, Lock, RangeData, Record, encode};
+use lc_stage::{CommitSeat, Receipt};
+use lc_token::Token;
+use std::alloc::{AllocError, Global};
+use std::sync::Wait;
+use std::test::Fail;
+
+struct Open;
+
+impl Gate for Open {
+    fn between(&self) {}
+}
+
+// Stages a record, flushes it, and gets its receipt.
+fn commit<D: Area + Drop, R: Wait>(
+    rt: &R,
+    node: &Node<D>,
+    seat: &mut CommitSeat,
+    words: &[u64],
+) -> Option<Receipt>
+    requires own { IsSeatOf node.now.stage seat.old }
+    requires idle { IsIdle (commit_view seat.old) }
+    requires one { IsOneRecord words.now × (0 < length words.now) × (length words.now ≤ 4096) }
+    ensures own { IsSeatOf node.now.stage seat.new }
+    ensures idle { IsIdle (commit_view seat.new) }
+    ensures received { IfSome result (HasReceipt (commit_view seat.new)) }
+{
+    stage_record(&node.stage, seat, words, 3, &Open).ok()?;
+    node.flush(rt).ok()?;
+    node.stage.durable(seat)
+}
+
+// Where the record of a receipt is.
+fn ask<D: Area + Drop, R: Wait>(
+    rt: &R,
+    node: &Node<D>,
+    seat: CommitSeat,
+    receipt: Receipt,
+) -> (CommitSeat, Confirmed)
+    requires own { IsSeatOf node.now.stage seat }
+    requires idle { IsIdle (commit_view seat) }
+    requires received { HasReceipt (commit_view seat) receipt }
+    ensures own { IsSeatOf node.now.stage result.0 }
+    ensures seat { commit_view result.0 ≡ commit_view seat }
+{
+    let lock = node.log_lock();
+    let (mut log, loan) = lock.lock(rt);
+    let (seat, confirmed) = node.confirm(seat, &mut log, receipt);
+    lock.unlock(log, loan);
+    (seat, confirmed)
+}
+
+// The log is reset.
+fn reset<D: Area + Drop, R: Wait>(rt: &R, node: &Node<D>) -> Result<u64, NodeFault> {
+    let lock = node.log_lock();
+    let (mut log, loan) = lock.lock(rt);
+    let round = log.reset(&node.stage);
+    lock.unlock(log, loan);
+    round
+}
+
+// The log is told of a token of segment 1 whose pages have all up to this number.
+fn see<D: Area + Drop, R: Wait>(
+    rt: &R,
+    alloc: Global,
+    node: &Node<D>,
+    clean: u64,
+) -> Result<(), AllocError> {
+    let text = PageText {
+        seq: clean,
+        slot: None,
+        gates: [false, false],
+    };
+    let token = Token {
+        segment: 1,
+        seq: clean,
+        clean,
+        pages: PageVector::new(alloc, &[text])?,
+    };
+    let lock = node.log_lock();
+    let (mut log, loan) = lock.lock(rt);
+    log.see(&token);
+    lock.unlock(log, loan);
+    Ok(())
+}
+
+// The words of a record of node 0 under this number of segment 1, with "hello" at 3.
+fn words_of(alloc: Global, seq: u64) -> Result<Option<Vec<u64>>, AllocError>
+    ensures { IfOk result (λ words. IfSome words (λ ws. IsOneRecord ws.items × (0 < length ws.items) × (length ws.items ≤ 4096))) }
+{
+    let mut locks = Vec::new(alloc);
+    locks.push(Lock { segment: 1, seq })?;
+    let mut ranges = Vec::new(alloc);
+    ranges.push(RangeData {
+        segment: 1,
+        offset: 3,
+        bytes: Items::new(Vec::from_slice(alloc, b"hello")?),
+    })?;
+    let record = Record {
+        node: 0,
+        locks: Items::new(locks),
+        ranges: Items::new(ranges),
+    };
+    match encode(alloc, &record) {
+        Ok(words) => Ok(Some(words)),
+        Err(_) => Ok(None),
+    }
+}
+
+#[test]
+fn here_and_then_earlier(rt: HostRuntime) -> Result<(), Fail> {
+    let alloc = rt.alloc();
+    let area = MemArea::new(alloc, 520)?;
+    let (node, mut seat) = Node::of_log(alloc, area, 64)?;
+    let words = words_of(alloc, 1)?.expect(&rt, "a record");
+    assert!(rt; reset(&rt, &node) == Ok(0), "nothing is stable");
+    let receipt = commit(&rt, &node, &mut seat, words.as_slice()).expect(&rt, "a receipt");
+    assert!(rt; receipt.round() == 0 && receipt.place() == 0 && receipt.words() == 8);
+    let (seat, confirmed) = ask(&rt, &node, seat, receipt);
+    assert!(rt; confirmed == Confirmed::Here(0), "it stands in the log");
+    let unclean = NodeFault::Unclean { segment: 1, seq: 1 };
+    assert!(rt; reset(&rt, &node) == Err(unclean), "the page lacks it");
+    see(&rt, alloc, &node, 1)?;
+    assert!(rt; reset(&rt, &node) == Ok(1), "the page has it");
+    let (mut seat, confirmed) = ask(&rt, &node, seat, receipt);
+    assert!(rt; confirmed == Confirmed::Earlier { round: 1 }, "a reset took it away");
+
+    let words = words_of(alloc, 2)?.expect(&rt, "a record");
+    let receipt = commit(&rt, &node, &mut seat, words.as_slice()).expect(&rt, "a receipt");
+    assert!(rt; receipt.round() == 1 && receipt.place() == 0 && receipt.words() == 8);
+    let (mut seat, confirmed) = ask(&rt, &node, seat, receipt);
+    assert!(rt; confirmed == Confirmed::Here(0), "it stands in the other row");
+
+    let words = words_of(alloc, 3)?.expect(&rt, "a record");
+    let staged = stage_record(&node.stage, &mut seat, words.as_slice(), 3, &Open);
+    assert!(rt; staged == Ok(()));
+    assert!(rt; node.flush(&rt) == Ok(1), "it was staged");
+    assert!(rt; node.flush(&rt) == Ok(0), "nothing is staged any more");
+    Ok(())
+}
