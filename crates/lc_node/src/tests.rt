@@ -132,13 +132,19 @@ fn here_and_then_earlier(rt: HostRuntime) -> Result<(), Fail> {
     see(&rt, alloc, &node, 1)?;
     assert!(rt; reset(&rt, &node) == Ok(1), "the page has it");
     let (mut seat, confirmed) = ask(&rt, &node, seat, receipt);
-    assert!(rt; confirmed == Confirmed::Earlier { round: 1 }, "a reset took it away");
+    assert!(rt;
+        confirmed == Confirmed::Earlier { round: 1 },
+        "a reset took it away"
+    );
 
     let words = words_of(alloc, 2)?.expect(&rt, "a record");
     let receipt = commit(&rt, &node, &mut seat, words.as_slice()).expect(&rt, "a receipt");
     assert!(rt; receipt.round() == 1 && receipt.place() == 0 && receipt.words() == 8);
     let (mut seat, confirmed) = ask(&rt, &node, seat, receipt);
-    assert!(rt; confirmed == Confirmed::Here(0), "it stands in the other row");
+    assert!(rt;
+        confirmed == Confirmed::Here(0),
+        "it stands in the other row"
+    );
 
     let words = words_of(alloc, 3)?.expect(&rt, "a record");
     let staged = stage_record(&node.stage, &mut seat, words.as_slice(), 3, &Open);
