@@ -1,5 +1,7 @@
 -- The numbers of the faults.
 use Rattle.std.specs.Prelude.{ℕ}
+use Rattle.lc_tx.specs.declared.tx_fault.TxFault.{TxFault}
+use Rattle.lc_tx.specs.declared.tx_fault.TxFault.TheVariants.{Busy as IsBusy, NotHere as IsNotHere, NoRange as HasNoRange, OutOfSegment as IsOutOfSegment, NotLocked as IsNotLocked, NoMemory as HasNoMemory, TooLong as IsTooLong, SequenceSpent as IsSequenceSpent, EmptyRange as IsEmptyRange, TooManyRanges as HasTooManyRanges, ReadOnly as IsReadOnly}
 use Rattle.lc_node.specs.declared.node_fault.NodeFault.{NodeFault}
 use Rattle.lc_node.specs.declared.node_fault.NodeFault.TheVariants.{Busy, NotHere, NoRange, OutOfSegment, NotLocked, NoMemory, TooLong, SequenceSpent, EmptyRange, TooManyRanges, Full, Sealed, Lost, DeviceFault, Halted, Mismatch, Token, RoundsSpent, Unclean, ChannelFull, ReadOnly}
 
@@ -25,3 +27,17 @@ number_of RoundsSpent = 18
 number_of (Unclean segment seq) = 19
 number_of (ChannelFull to) = 20
 number_of (ReadOnly segment) = 21
+
+-- the fault of the same name
+abbrev pub of_tx : TxFault → NodeFault
+of_tx (IsBusy segment) = Busy segment
+of_tx (IsNotHere segment) = NotHere segment
+of_tx HasNoRange = NoRange
+of_tx IsOutOfSegment = OutOfSegment
+of_tx IsNotLocked = NotLocked
+of_tx HasNoMemory = NoMemory
+of_tx (IsTooLong words) = TooLong words
+of_tx (IsSequenceSpent segment) = SequenceSpent segment
+of_tx IsEmptyRange = EmptyRange
+of_tx HasTooManyRanges = TooManyRanges
+of_tx (IsReadOnly segment) = ReadOnly segment

@@ -1,26 +1,40 @@
 //! A running node: the record of a receipt stands in its log.
 #![tactic(auto)]
 
+mod attempting;
 mod confirming;
 mod flushing;
 mod gate;
+mod held;
+mod holding;
+mod laws;
+mod lending;
+mod lent;
 mod log_side;
 mod log_state;
 mod node;
 mod node_fault;
 mod opening;
 mod places;
+mod preparing;
 mod resetting;
 mod running;
 mod seeing;
+mod seg_side;
 mod staging;
+mod taking_out;
+mod work;
 
 pub use confirming::Confirmed;
 pub use gate::Gate;
+pub use held::Held;
+pub use laws::work_is_laid_over;
 pub use log_side::LogSide;
 pub use node::Node;
 pub use node_fault::NodeFault;
+pub use seg_side::SegSide;
 pub use staging::stage_record;
+pub use work::Work;
 
 #[cfg(test)]
 mod tests;

@@ -1,16 +1,22 @@
 //! A running node.
-ghost use Rattle.std.specs.Prelude.{◌≡◌};
+ghost use Rattle.std.specs.Prelude.{◌≡◌, ◌+◌, ◌≤◌, ℕ, Some, slice_get, vec_len};
+ghost use Rattle.lc_lock.specs.declared.lock.Lock.{Lock as Keeps};
 ghost use Rattle.lc_lock.specs.Loans.{key_of};
+ghost use Rattle.lc_node.specs.SegView.{SegView};
 
-use crate::LogSide;
+use crate::{LogSide, SegSide};
 use lc_disk::Area;
 use lc_lock::Lock;
 use lc_stage::Stage;
 
-/// A running node: its stage, and a lock round its log. This project's own.
+/// A running node: its stage, a lock round its log, and one round each of its segments, at most 16, from segment 1 on. This
+/// project's own.
 #[derive(Drop)]
 pub struct Node<D: Area + Drop> {
     pub(crate) stage: Stage,
     pub(crate) log: Lock<LogSide<D>, Stage>,
+    pub(crate) segments: Vec<Lock<SegSide<D>, u32>>,
     ghost one_stage: { (key_of log).table.shared.table_id ≡ stage.table.shared.table_id },
+    ghost in_order: { (place : ℕ) (lock : Keeps (SegView D) ℕ) → slice_get segments.items place ≡ Some lock → key_of lock ≡ place + 1 },
+    ghost few: { vec_len segments ≤ 16 },
 }

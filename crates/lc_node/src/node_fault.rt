@@ -1,7 +1,9 @@
 //! Why a call on a running node is refused.
 ghost use Rattle.std.specs.Prelude.{◌≡◌};
+ghost use Rattle.lc_node.specs.Fault.{of_tx};
 
 use lc_token::TokenFault;
+use lc_tx::TxFault;
 use thiserror::Error;
 
 /// Why a call on a running node is refused. This project's own.
@@ -101,6 +103,26 @@ impl NodeFault {
             NodeFault::Unclean { .. } => 19,
             NodeFault::ChannelFull { .. } => 20,
             NodeFault::ReadOnly { .. } => 21,
+        }
+    }
+}
+
+impl From<TxFault> for NodeFault {
+    ghost from_gives = { λ fault own. own ≡ of_tx fault };
+
+    fn from(fault: TxFault) -> NodeFault {
+        match fault {
+            TxFault::Busy { segment } => NodeFault::Busy { segment },
+            TxFault::NotHere { segment } => NodeFault::NotHere { segment },
+            TxFault::NoRange => NodeFault::NoRange,
+            TxFault::OutOfSegment => NodeFault::OutOfSegment,
+            TxFault::NotLocked => NodeFault::NotLocked,
+            TxFault::NoMemory => NodeFault::NoMemory,
+            TxFault::TooLong { words } => NodeFault::TooLong { words },
+            TxFault::SequenceSpent { segment } => NodeFault::SequenceSpent { segment },
+            TxFault::EmptyRange => NodeFault::EmptyRange,
+            TxFault::TooManyRanges => NodeFault::TooManyRanges,
+            TxFault::ReadOnly { segment } => NodeFault::ReadOnly { segment },
         }
     }
 }

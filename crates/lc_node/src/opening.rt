@@ -38,7 +38,14 @@ impl<D: Area + Drop> Node<D> {
             known: KnownClean::new(),
         };
         match Lock::new(alloc, side, &stage) {
-            Ok(log) => Ok((Node { stage, log }, seat)),
+            Ok(log) => Ok((
+                Node {
+                    stage,
+                    log,
+                    segments: Vec::new(alloc),
+                },
+                seat,
+            )),
             Err(_) => Err(AllocError),
         }
     }

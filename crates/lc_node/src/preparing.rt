@@ -1,0 +1,98 @@
+//! What a commit makes ready before its record is reserved.
+ghost use Rattle.std.specs.Prelude.{◌≡◌, ◌≤◌, ◌<◌, ℕ, map, length, None, Some, IfOk, IfErr, IfSome};
+ghost use Rattle.lc_record.specs.declared.record.Record.{Record as Spelled};
+ghost use Rattle.lc_record.specs.Record.{IsRecord};
+ghost use Rattle.lc_record.specs.Part.{part_of};
+ghost use Rattle.lc_stage.specs.Staging.{IsOneRecord};
+ghost use Rattle.lc_stage.specs.Seats.{commit_view, IsSeatOf, IsIdle};
+ghost use Rattle.lc_tx.specs.Prepared.{AreSmall};
+ghost use Rattle.lc_node.specs.Lent.{the_images};
+ghost use Rattle.lc_node.specs.Attempts.{IsUndone};
+ghost use Rattle.lc_node.specs.Commits.{StagesWork};
+ghost use Rattle.lc_node.specs.Stages.{Sees};
+
+use crate::attempting::attempt;
+use crate::held::HeldSide;
+use crate::lent::Lent;
+use crate::{Gate, NodeFault, Work, stage_record};
+use lc_disk::Area;
+use lc_record::{Part, decode};
+use lc_stage::{CommitSeat, Stage};
+use lc_tx::Prepared;
+use std::alloc::{AllocError, Global};
+
+// The segments of the sides, in order.
+pub(crate) fn segments_in<D: Area + Drop>(
+    alloc: Global,
+    sides: &[HeldSide<D>],
+) -> Result<Vec<u32>, AllocError>
+    ensures { IfOk result (λ segments. segments.items ≡ map (λ h. h.side.segment) sides.now) }
+{
+    let mut segments = Vec::with_capacity(alloc, sides.len())?;
+    for held in sides {
+        segments.push_reserved(held.side.segment());
+    }
+    Ok(segments)
+}
+
+// The part that each of the segments has in the record of these words.
+fn parts_in(alloc: Global, words: &[u64], segments: &[u32]) -> Result<Vec<Option<Part>>, AllocError>
+    requires one { IsOneRecord words.now }
+    ensures { IfOk result (λ parts. (r : Spelled) → IsRecord r words.now → parts.items ≡ map (λ s. part_of s r) segments.now) }
+{
+    let Some((record, _)) = decode(alloc, words)? else {
+        unreachable!();
+    };
+    let mut parts = Vec::with_capacity(alloc, segments.len())?;
+    for segment in segments {
+        let part = Part::of(alloc, &record, *segment)?;
+        parts.push_reserved(part);
+    }
+    Ok(parts)
+}
+
+// Runs the work on these segments and stages the record of what it did; the part that each segment has in it, or None
+// where nothing was set. All memory is taken before the record is reserved. Where it is refused, the work is undone.
+pub(crate) fn stage_work<W: Work, G: Gate>(
+    alloc: Global,
+    lent: &mut Lent,
+    segments: &[u32],
+    work: &mut W,
+    stage: &Stage,
+    seat: &mut CommitSeat,
+    tries: u32,
+    gate: &G,
+) -> Result<Option<Vec<Option<Part>>>, NodeFault>
+    requires own { IsSeatOf stage.now seat.old }
+    requires idle { IsIdle (commit_view seat.old) }
+    requires tries { 0 < tries }
+    requires small { AreSmall the_images lent.old segments.now }
+    ensures own { IsSeatOf stage.now seat.new }
+    ensures idle { IsIdle (commit_view seat.new) }
+    ensures staged { IfOk result (λ done. IfSome done (λ parts. StagesWork segments.now lent.old parts.items lent.new (commit_view seat.old) (commit_view seat.new))) }
+    ensures nothing { result ≡ Ok None → (commit_view seat.new ≡ commit_view seat.old) × IsUndone the_images segments.now lent.old lent.new }
+    ensures refused { IfErr result (λ _. Sees (commit_view seat.old) (commit_view seat.new) × IsUndone the_images segments.now lent.old lent.new) }
+{
+    let (tx, prepared) = match attempt(alloc, lent, segments, work) {
+        Ok(made) => made,
+        Err(fault) => return Err(fault.into()),
+    };
+    let Prepared::Record(words) = prepared else {
+        tx.release(lent);
+        return Ok(None);
+    };
+    let Ok(parts) = parts_in(alloc, words.as_slice(), segments) else {
+        tx.abort(lent);
+        return Err(NodeFault::NoMemory);
+    };
+    match stage_record(stage, seat, words.as_slice(), tries, gate) {
+        Ok(()) => {
+            tx.release(lent);
+            Ok(Some(parts))
+        }
+        Err(fault) => {
+            tx.abort(lent);
+            Err(fault)
+        }
+    }
+}
