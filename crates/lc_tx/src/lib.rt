@@ -25,6 +25,7 @@ pub use laws::{
     one_ascending_list, one_record, range_set, read_shows_content, runs_are_ranges, runs_beside,
     same_images, set_positions, stands_beside, who_is_free,
 };
+pub use locking::set_of;
 pub use one_segment::OneSegment;
 pub use prepared::Prepared;
 pub use readers::Readers;

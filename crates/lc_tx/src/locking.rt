@@ -1,5 +1,5 @@
 //! Which segments are free, and who holds them.
-ghost use Rattle.std.specs.Prelude.{◌≡◌, ◌↔◌, ◌++◌, ◌≤◌, ℕ, ◌<◌, List, [], IsTrue, length, take, drop, OnOk, OnErr};
+ghost use Rattle.std.specs.Prelude.{◌≡◌, ◌↔◌, ◌++◌, ◌≤◌, ℕ, ◌<◌, List, [], IsTrue, length, take, drop, IfOk, OnOk, OnErr};
 ghost use Rattle.smallvec.specs.SmallVec.{small_vec_len};
 ghost use Rattle.lc_record.specs.Transaction.{is_member};
 ghost use Rattle.lc_tx.specs.Images.{IsHere, IsSame};
@@ -11,7 +11,7 @@ ghost use Rattle.lc_tx.specs.Walk.{with_in_order};
 use crate::Images;
 use crate::lock_mode::LockMode;
 use smallvec::SmallVec;
-use std::alloc::AllocError;
+use std::alloc::{AllocError, Global};
 
 // Whether the segment's token is here, and those who hold the segment let it be locked.
 fn can_lock<I: Images>(images: &mut I, segment: u32, mode: LockMode) -> bool
@@ -102,6 +102,21 @@ pub fn add_all(set: &mut SmallVec<u32, 16>, numbers: &[u32]) -> Result<(), Alloc
     ensures memory { OnErr result ((all : List ℕ) × IsSetOf numbers.now all × (16 < length all)) }
 {
     add_beside(set, &[], numbers)
+}
+
+/// These numbers as a set: ascending, each once, as a transaction lists the segments that it locks. It takes no memory for
+/// 16. This project's own.
+///
+/// # Errors
+///
+/// Where there is no memory, only for more than 16 different numbers.
+pub fn set_of(alloc: Global, numbers: &[u32]) -> Result<SmallVec<u32, 16>, AllocError>
+    ensures set { IfOk result (λ set. IsSetOf numbers.now set.items) }
+    ensures memory { OnErr result ((set : List ℕ) × IsSetOf numbers.now set × (16 < length set)) }
+{
+    let mut set = SmallVec::new(alloc);
+    add_all(&mut set, numbers)?;
+    Ok(set)
 }
 
 /// Locks each of these segments, which are here, in this mode.
