@@ -44,6 +44,7 @@ module _ {I : Type 0} (m : Ghosts I) (old new : I) (tx : Tx) (on : RunsOn m old 
     kept_inside = λ s lock. subst (λ (p : Picture). LiesBelow tx.undo s (length p.bytes.items)) (sym (keeps.same_image s lock)) (on.kept_inside s lock);
     holds = λ s lock. ap (λ (p : Picture). p.holders) (keeps.same_image s lock) ∙ on.holds s lock;
     set_kept = on.set_kept;
+    set_alone = on.set_alone;
     read_here = keeps.read_here;
     reads = keeps.still_reads;
   }

@@ -4,7 +4,7 @@ use Rattle.std.proofs.lemmas.Bool.{false_from_ne_true, or_cases, or_left, or_rig
 use Rattle.lc_record.specs.Transaction.{is_member}
 use Rattle.lc_range.specs.RangeSet.{Has}
 use Rattle.lc_range.specs.declared.range.Range.{Range}
-use Rattle.lc_range.specs.Undo.{LiesBelow, OldBytes}
+use Rattle.lc_range.specs.Undo.{LiesBelow, OldBytes, kept}
 use Rattle.lc_tx.specs.declared.holders.Holders.TheVariants.{Writer}
 use Rattle.lc_tx.specs.declared.images.Images.{Ghosts}
 use Rattle.lc_tx.specs.declared.tx.Tx.{Tx}
@@ -50,6 +50,7 @@ module _ {I : Type 0} (m : Ghosts I) where
       kept_inside = λ s lock. subst (λ (copies : List OldBytes). LiesBelow copies s (length (bytes_of m new s))) (sym begins.nothing_kept) (λ k some. absurd cc);
       holds = λ s lock. begins.held.writer_is s lock ∙ ap (λ (n : ℕ). Writer n) (sym begins.thread_is);
       set_kept = λ s k has. absurd (none s k has);
+      set_alone = λ s k apart. ap (λ (copies : List OldBytes). kept copies s k) begins.nothing_kept;
       read_here = λ s read. here_along m (tx.locked.items ++ tx.reading.items) old new s begins.held.same ((free s).for_reading (asked_reading s read)).0;
       reads = λ s read. joined_reads thread tx.thread (m.image_of old s).holders (m.image_of new s).holders begins.thread_is (begins.held.joins s read);
     }

@@ -5,6 +5,7 @@ pub mod PutLemmas
 pub mod ImagesLemmas
 pub mod ShutLemmas
 pub mod HoldsLemmas
+pub mod KeptLemmas
 pub mod LockedLemmas
 pub mod BeginLemmas
 pub mod SetLemmas

@@ -69,6 +69,7 @@ module _ {I : Type 0} (m : Ghosts I) (chain : (s t u : I) → m.IsSameBeside s t
       kept_inside = λ s lock. subst (λ (n : ℕ). LiesBelow tx.undo s n) (sym (back.same_length s lock)) (on.kept_inside s lock);
       holds = λ s lock. back.same_holders s lock ∙ on.holds s lock;
       set_kept = on.set_kept;
+      set_alone = on.set_alone;
       read_here = λ s read. here_along m tx.locked.items old mid s back.same (on.read_here s read);
       reads = λ s read. ap (λ (p : Picture). reads p.holders tx.thread) (read_same s read) ∙ on.reads s read;
     }

@@ -1,5 +1,5 @@
 -- A transaction on the images at a node.
-use Rattle.std.specs.Prelude.{◌≡◌, ◌⊎◌, ℕ, ◌+◌, ◌<◌, ◌≤◌, not, ◌||◌, List, [], filter, length, IsSome, IsTrue, slice_index}
+use Rattle.std.specs.Prelude.{◌≡◌, ◌⊎◌, ℕ, ◌+◌, ◌<◌, ◌≤◌, not, ◌||◌, List, [], filter, length, None, IsSome, IsTrue, slice_index}
 use Rattle.lc_record.specs.Record.{Chain}
 use Rattle.lc_record.specs.Transaction.{is_member}
 use Rattle.lc_range.specs.RangeSet.{Has, AddsPositions, NeedsRunsAbove}
@@ -38,6 +38,10 @@ pub record IsIdle (tx : Tx) : Type 0 where
   pub nothing_set : tx.set ≡ []
   pub nothing_kept : tx.undo ≡ []
 
+-- it keeps bytes of set positions alone
+abbrev pub KeepsSetAlone : Tx → Type 0
+KeepsSetAlone tx = (segment k : ℕ) → (Has tx.set segment k → ⊥) → kept tx.undo segment k ≡ None
+
 -- each of len positions from offset on is set
 abbrev pub AreSet : Tx → ℕ → ℕ → ℕ → Type 0
 AreSet tx segment offset len = (k : ℕ) → offset ≤ k → k < offset + len → Has tx.set segment k
@@ -50,7 +54,8 @@ RangeTakesMemory tx segment offset len =
 
 module _ {I : Type 0} (m : Ghosts I) where
   -- these are the images that it runs on: what it locked for writing is here, it is the writer, and what it set and kept
-  -- lies inside; what it locked for reading is here, and it is among the readers
+  -- lies inside; it keeps bytes of each set position, and of no other; what it locked for reading is here, and it is among
+  -- the readers
   pub record RunsOn (images : I) (tx : Tx) : Type 0 where
     pub here : (segment : ℕ) → Locked tx segment → IsHere m images segment
     pub set_locked : (segment k : ℕ) → Has tx.set segment k → Locked tx segment
@@ -58,6 +63,7 @@ module _ {I : Type 0} (m : Ghosts I) where
     pub kept_inside : (segment : ℕ) → Locked tx segment → LiesBelow tx.undo segment (length (bytes_of m images segment))
     pub holds : (segment : ℕ) → Locked tx segment → holders_of m images segment ≡ Writer tx.thread
     pub set_kept : (segment k : ℕ) → Has tx.set segment k → IsSome (kept tx.undo segment k)
+    pub set_alone : KeepsSetAlone tx
     pub read_here : (segment : ℕ) → Reads tx segment → IsHere m images segment
     pub reads : (segment : ℕ) → Reads tx segment → IsTrue (reads (holders_of m images segment) tx.thread)
 

@@ -4,7 +4,7 @@ ghost use Rattle.lc_range.specs.RangeSet.{AddsPositions, EndWithin, IsCanonical,
 ghost use Rattle.lc_range.specs.Undo.{KeepsOld, LiesBelow};
 ghost use Rattle.lc_tx.specs.Images.{IsSame, IsWritten, bytes_of};
 ghost use Rattle.lc_tx.specs.Fault.{is_of_lock, is_of_set_range, is_of_read};
-ghost use Rattle.lc_tx.specs.Tx.{AreSet, Holds, Locked, RangeTakesMemory, Reads, RunsOn, SetsRange};
+ghost use Rattle.lc_tx.specs.Tx.{AreSet, Holds, KeepsSetAlone, Locked, RangeTakesMemory, Reads, RunsOn, SetsRange};
 
 use crate::image::lay;
 use crate::lock_mode::LockMode;
@@ -119,6 +119,7 @@ impl Tx {
         ensures keeps { OnOk result (KeepsOld self.old.undo self.old.set segment offset len (slice_index bytes.now) self.new.undo) }
         ensures below { OnOk result ((s bound : ℕ) → LiesBelow self.old.undo s bound
             → (s ≡ segment → length bytes.now ≤ bound) → LiesBelow self.new.undo s bound) }
+        ensures alone { OnOk result (KeepsSetAlone self.old → KeepsSetAlone self.new) }
         ensures inside { OnOk result (offset + len ≤ length bytes.now) }
         ensures err { OnErr result (self.new ≡ self.old) }
         ensures outside { (result ≡ Err TxFault.OutOfSegment) ↔ (min (length bytes.now) (2 ^ 32 - 1) < offset + len) }

@@ -1,11 +1,12 @@
 //! Laws of transactions: what is kept of one stands for a transaction of the model.
-ghost use Rattle.std.specs.Prelude.{◌≡◌, ◌≢◌, ◌↔◌, ◌+◌, ◌<◌, ◌≤◌, ◌++◌, ℕ, List, [], None, true, false, map, length, IsTrue};
+ghost use Rattle.std.specs.Prelude.{◌≡◌, ◌≢◌, ◌↔◌, ◌+◌, ◌<◌, ◌≤◌, ◌++◌, ℕ, List, [], None, true, false, map, length, IsSome, IsTrue};
 ghost use Rattle.lc_record.specs.Content.{Content, segment_of};
 ghost use Rattle.lc_record.specs.Transaction.{Transaction, is_member, all_set};
 ghost use Rattle.lc_record.specs.Marks.{is_empty, ranges, ascending, marked, written};
 ghost use Rattle.lc_record.specs.Recorded.{record_of};
 ghost use Rattle.lc_record.specs.declared.geometry.Geometry.{Geometry};
-ghost use Rattle.lc_range.specs.RangeSet.{IsCanonical, NeedsRunsAbove};
+ghost use Rattle.lc_range.specs.RangeSet.{Has, IsCanonical, NeedsRunsAbove};
+ghost use Rattle.lc_range.specs.Undo.{kept};
 ghost use Rattle.lc_tx.specs.declared.holders.Holders.{Holders as Held};
 ghost use Rattle.lc_tx.specs.declared.holders.Holders.TheVariants.{Free};
 ghost use Rattle.lc_tx.specs.declared.tx.Tx.{Tx as Kept};
@@ -109,6 +110,12 @@ pub fn one_record<I: Images>()
     ensures { (images : I) (tx : Kept) (numbers : ℕ → ℕ) (content : Content) (t : Transaction) → IsCanonical tx.set
         → StandsFor I.Images images tx content t → AreNumbers I.Images images tx numbers
         → final_record I.Images images tx t.node ≡ record_of numbers content t }
+{}
+
+/// What is kept is of set positions, and of each.
+pub fn kept_is_set<I: Images>()
+    ensures { (images : I) (tx : Kept) (segment k : ℕ) → RunsOn I.Images images tx
+        → IsSome (kept tx.undo segment k) ↔ Has tx.set segment k }
 {}
 
 /// What it locked for reading shows the content.

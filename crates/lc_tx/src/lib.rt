@@ -21,7 +21,7 @@ pub use holders::Holders;
 pub use image::Image;
 pub use images::Images;
 pub use laws::{
-    begun, bytes_written, content_is_back, few_segments, keep_beside, nothing_is_set,
+    begun, bytes_written, content_is_back, few_segments, keep_beside, kept_is_set, nothing_is_set,
     one_ascending_list, one_record, range_set, read_shows_content, runs_are_ranges, runs_beside,
     same_images, set_positions, stands_beside, who_is_free,
 };
