@@ -1,8 +1,7 @@
 //! The end of a transaction.
-ghost use Rattle.std.specs.Prelude.{◌≡◌, ◌↔◌, ◌<◌, ◌≤◌, ℕ, [], None, List, IfOk, IfErr, IfSome, IsTrue, MatchResult, Some};
+ghost use Rattle.std.specs.Prelude.{◌≡◌, ◌↔◌, ◌<◌, ◌≤◌, ℕ, [], None, List, length, IfOk, IfErr, IfSome, IsTrue, MatchResult, Some};
 ghost use Rattle.lc_record.specs.Record.{record_layout, record_len, IsRecord};
 ghost use Rattle.lc_record.specs.declared.layout.Layout.{Layout as Laid};
-ghost use Rattle.lc_tx.specs.Walk.{runs_layout};
 ghost use Rattle.lc_tx.specs.Images.{AreReleased, AreRestored, IsSame};
 ghost use Rattle.lc_tx.specs.Locking.{AreBack};
 ghost use Rattle.lc_tx.specs.Prepared.{AreSmall, AreUnspent, IsFirstSpent, IsLoggable, IsRecordOf, final_record};
@@ -13,23 +12,30 @@ ghost use Rattle.lc_tx.specs.Tx.{IsIdle, RunsOn};
 use crate::recording::{first_spent, layout_of, spell};
 use crate::{Images, Prepared, Tx, TxFault, locking};
 use lc_record::{Items, Layout, MAX_WORDS};
-use std::alloc::Global;
+use std::alloc::{AllocError, Global};
 
 impl Tx {
-    // How the record of the transaction is laid out, in 4096 words at most; None where nothing is set.
-    fn layout<I: Images>(&self, images: &I) -> Result<Option<Layout>, TxFault>
+    /// How the record of the transaction is laid out, in 4096 words at most and for each node alike, or None where nothing is
+    /// set. It takes no memory, so that a caller looks for room in its log before `spell_end` takes some. This project's own.
+    ///
+    /// # Errors
+    ///
+    /// `SequenceSpent` of the least segment that has used its last number and `TooLong`, looked at in this order.
+    pub fn layout<I: Images>(&self, images: &I) -> Result<Option<Layout>, TxFault>
         requires runs { RunsOn I.Images images.now self.now }
         requires small { AreSmall I.Images images.now self.now.locked.items }
+
+        // Whichever node logs it.
         ensures empty { (result ≡ Ok None) ↔ (self.now.set ≡ []) }
         ensures laid { (node : ℕ) (layout : Laid) → (result ≡ Ok (Some layout)) ↔ (IsLoggable I.Images images.now self.now node
             × (layout ≡ record_layout (final_record I.Images images.now self.now node))) }
-        ensures runs { (layout : Laid) → result ≡ Ok (Some layout) → layout ≡ runs_layout self.now.set }
         ensures spent { (node s : ℕ) → (result ≡ Err (TxFault.SequenceSpent s))
             ↔ IsFirstSpent (final_record I.Images images.now self.now node).locks s }
         ensures too_long { (node words : ℕ) → (result ≡ Err (TxFault.TooLong words))
             ↔ (AreUnspent (final_record I.Images images.now self.now node).locks
             × (4096 < record_len (final_record I.Images images.now self.now node))
             × (words ≡ record_len (final_record I.Images images.now self.now node))) }
+
         ensures faults { IfErr result (λ fault. IsTrue (is_of_needs fault)) }
         ensures canonical { IsCanonical self.now.set }
     {
@@ -50,8 +56,8 @@ impl Tx {
         Ok(Some(layout))
     }
 
-    /// How many words the record of the transaction takes, 1 to 4096, or None where nothing is set. It takes no memory,
-    /// so that a caller looks for room in its log before `prepare_end` takes some.
+    /// How many words the record of the transaction takes, 1 to 4096, or None where nothing is set: those of its `layout`. It
+    /// takes no memory.
     ///
     /// # Errors
     ///
@@ -87,7 +93,7 @@ impl Tx {
     ///
     /// # Errors
     ///
-    /// Those of `end_needs`, and `NoMemory`, only where there is a record of at most 4096 words.
+    /// Those of `layout`, and `NoMemory`, only where there is a record of at most 4096 words.
     pub fn prepare_end<I: Images>(
         &self,
         alloc: Global,
@@ -109,7 +115,7 @@ impl Tx {
         ensures record { (words : List ℕ) → result ≡ Ok (Prepared.Record words)
             → IsRecord (final_record I.Images images.old self.now node) words }
 
-        // Where `end_needs` gives a number of words, there is a record of so many, or no memory; elsewhere no memory is wanted.
+        // Where there is a layout, there is a record that is laid out so, or no memory; elsewhere no memory is wanted.
         ensures ready { IsLoggable I.Images images.old self.now node
             → MatchResult result (IsRecordOf (final_record I.Images images.old self.now node)) (λ fault. fault ≡ TxFault.NoMemory) }
         ensures no_memory { result ≡ Err TxFault.NoMemory → IsLoggable I.Images images.old self.now node }
@@ -120,10 +126,40 @@ impl Tx {
         let Some(layout) = self.layout(images)? else {
             return Ok(Prepared::Empty);
         };
-        let Ok(words) = spell(alloc, images, self.set.ranges(), node, &layout) else {
+        let Ok(words) = self.spell_end(alloc, images, node, &layout) else {
             return Err(TxFault::NoMemory);
         };
-        Ok(Prepared::Record(Items::new(words)))
+        Ok(Prepared::Record(words))
+    }
+
+    /// The words of the record of the transaction, as a node, numbered up to 7, is about to log it, of which `layout` has
+    /// told that it is laid out so: the next number of each segment that has a set position, and the final bytes of all that
+    /// was set. They are written straight from the images into memory that is taken at once. Idea: RVM's new values
+    /// (Satyanarayanan et al., TOCS 1994).
+    ///
+    /// # Errors
+    ///
+    /// Where there is no memory.
+    pub fn spell_end<I: Images>(
+        &self,
+        alloc: Global,
+        images: &mut I,
+        node: u16,
+        layout: &Layout,
+    ) -> Result<Items<u64>, AllocError>
+        requires runs { RunsOn I.Images images.old self.now }
+        requires small { AreSmall I.Images images.old self.now.locked.items }
+        requires node { node ≤ 7 }
+        requires loggable { IsLoggable I.Images images.old self.now node }
+        requires laid { layout.now ≡ record_layout (final_record I.Images images.old self.now node) }
+        ensures record { IfOk result (λ words. IsRecord (final_record I.Images images.old self.now node) words) }
+        ensures len { IfOk result (λ words. length words ≡ record_len (final_record I.Images images.old self.now node)) }
+        ensures images { IsSame I.Images images.old images.new }
+        ensures runs { RunsOn I.Images images.new self.now }
+    {
+        let runs = self.set.ranges();
+        let words = spell(alloc, images, runs, node, layout)?;
+        Ok(Items::new(words))
     }
 
     // Gives back the bytes that what it locked for writing had.
