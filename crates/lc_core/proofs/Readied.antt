@@ -1,13 +1,15 @@
 -- A transaction at a node's desk as a record: its numbers, and what refuses it.
-use Rattle.std.proofs.Common.{◌≡◌, ℕ, zero, suc, ◌+◌, ◌<◌, ◌≤◌, Bool, true, false, nat_lt, List, [], ◌∷◌, filter, length, get_or, All, Option, Some, None, refl, sym, ap, subst, ◌∙◌, inl, inr, arith, true≢false}
-use Rattle.std.specs.Prelude.{◌↔◌, ◌^◌, MatchResult, slice_get, Result, Ok, Err, IsSome, vec_len, if◌then◌else◌}
+use Rattle.std.proofs.Common.{◌≡◌, ℕ, zero, suc, ◌+◌, ◌-◌, ◌<◌, ◌≤◌, min, Bool, true, false, nat_lt, List, [], ◌∷◌, filter, length, get_or, All, Option, Some, None, refl, sym, ap, subst, ◌∙◌, inl, inr, arith, true≢false}
+use Rattle.std.specs.Prelude.{◌↔◌, ◌^◌, slice_get, Result, Ok, Err, IsSome, vec_len, if◌then◌else◌}
 use Rattle.std.specs.Option.{ForSome}
 use Rattle.std.proofs.lemmas.Bool.{false_from_ne_true, lt-ltb, le-ltb}
 use Rattle.std.proofs.lemmas.List.Elements.{All-head, All-tail}
 use Rattle.std.proofs.lemmas.Option.{slice_get_read}
 use Rattle.lc_record.specs.Marks.{is_empty}
-use Rattle.lc_record.specs.Record.{record_len, IsRecord}
+use Rattle.lc_record.specs.Layout.{layout_len}
+use Rattle.lc_record.specs.Record.{record_layout, record_len}
 use Rattle.lc_record.specs.Transaction.{Transaction, is_member, locks}
+use Rattle.lc_record.specs.declared.layout.Layout.{Layout}
 use Rattle.lc_record.specs.declared.record.Record.{Record}
 use Rattle.lc_record.specs.declared.record.Lock.{Lock}
 use Rattle.lc_record.proofs.LockLemmas.{meet_locks}
@@ -32,14 +34,13 @@ use Rattle.lc_model.proofs.Rows.{reserve-ended, reserve-refused}
 use Rattle.lc_trunc.specs.Clean.{closed_of}
 use Rattle.lc_tx.specs.Fault.{is_of_needs}
 use Rattle.lc_tx.specs.Images.{IsHere}
-use Rattle.lc_tx.specs.Prepared.{AreSmall, AreUnspent, IsFirstSpent, IsLoggable, IsRecordOf, final_record}
-use Rattle.lc_tx.specs.declared.prepared.Prepared.{Prepared}
-use Rattle.lc_tx.specs.declared.prepared.Prepared.TheVariants.{Record as Words}
+use Rattle.lc_tx.specs.Prepared.{AreSmall, AreUnspent, IsFirstSpent, IsLoggable, final_record}
 use Rattle.lc_tx.specs.StandsFor.{AreNumbers}
 use Rattle.lc_tx.specs.Tx.{RunsOn}
 use Rattle.lc_tx.specs.declared.tx.Tx.{Tx}
 use Rattle.lc_tx.specs.declared.tx_fault.TxFault.{TxFault}
 use Rattle.lc_tx.specs.declared.tx_fault.TxFault.TheVariants.{Busy as IsBusy, NotHere as IsNotHere, NoRange as HasNoRange, OutOfSegment as IsOutside, NotLocked as IsNotLocked, NoMemory, TooLong as IsTooLong, SequenceSpent as IsSpent, EmptyRange as IsEmpty, TooManyRanges as AreTooMany, ReadOnly as IsReadOnly}
+use Rattle.lc_tx.proofs.EndLemmas.{loggable}
 use Rattle.lc_tx.proofs.StandsLemmas.{empty_set, record_stands}
 use Rattle.lc_core.specs.Desk.{IsOpen, FitsDesk}
 use Rattle.lc_core.specs.Here.{the_images, number_at}
@@ -112,9 +113,21 @@ token_now m s x node i t segment sound running lock =
     none = λ k d k_in. false_from_ne_true (sets segment (get_or (unclosed s.history) k d)) (λ its.
         (apart k d k_in).locks_differ (meet_locks t (get_or (unclosed s.history) k d) segment lock (sets-locks (get_or (unclosed s.history) k d) segment (proper k d k_in).well its)))
 
--- the words that are ready are the record's
-pub ready_words : (r : Result Prepared TxFault) (final : Record) (words : List ℕ) → MatchResult r (IsRecordOf final) (λ fault. fault ≡ NoMemory) → r ≡ Ok (Words words) → IsRecord final words × (length words ≡ record_len final)
-ready_words r final words ready is = subst (λ (q : Result Prepared TxFault). MatchResult q (IsRecordOf final) (λ fault. fault ≡ NoMemory)) is ready
+-- The record is laid out, and its words are counted
+
+pub record IsLaid (here : Here) (tx : Tx) (node : ℕ) (layout : Layout) (words : ℕ) : Type 0 where
+  pub loggable : IsLoggable the_images here tx node
+  pub laid : layout ≡ record_layout (final_record the_images here tx node)
+  pub count : words ≡ record_len (final_record the_images here tx node)
+
+pub laid_so : (here : Here) (tx : Tx) (node : ℕ) (told : Result (Option Layout) TxFault) (found : Option Layout) (layout : Layout) (words : ℕ)
+    → ((node : ℕ) (layout : Layout) → (told ≡ Ok (Some layout)) ↔ (IsLoggable the_images here tx node × (layout ≡ record_layout (final_record the_images here tx node))))
+    → told ≡ Ok found → found ≡ Some layout → words ≡ min (layout_len layout) (2 ^ 64 - 1) → IsLaid here tx node layout words
+laid_so here tx node told found layout words tells was is counted =
+    let both = loggable the_images here tx node told found layout tells was is in
+    let same : layout_len layout ≡ record_len (final_record the_images here tx node) = ap layout_len both.1 in
+    let short : record_len (final_record the_images here tx node) ≤ 4096 = both.0.short in
+    record { loggable = both.0; laid = both.1; count = omega (arith, same, short, counted) }
 
 -- What refuses a record
 
@@ -246,7 +259,7 @@ module _ {m : Setting} {node i : ℕ} {here : Here} {s : State} {x : Numbers} {t
         ∙ ap (λ b. refuse_if b (Full log.end (record_len final)) None) (le-ltb log.room (log.end + record_len final) (omega (arith, fits, needs))))
         ∙ ap (Reserved log.end) (sym needs)
 
-    pub needs_fault : (r : Result (Option ℕ) TxFault) (fault : TxFault) (refusal : Refusal)
+    pub needs_fault : {A : Type 0} (r : Result (Option A) TxFault) (fault : TxFault) (refusal : Refusal)
         → (tx.set ≡ [] → r ≡ Ok None)
         → ((n : ℕ) → (r ≡ Err (IsSpent n)) ↔ IsFirstSpent final.locks n)
         → ((words : ℕ) → (r ≡ Err (IsTooLong words)) ↔ (AreUnspent final.locks × (4096 < record_len final) × (words ≡ record_len final)))
@@ -257,7 +270,7 @@ module _ {m : Setting} {node i : ℕ} {here : Here} {s : State} {x : Numbers} {t
         same_refusal : (a b : Refusal) → Some a ≡ Some b → a ≡ b
         same_refusal a b e = cc
 
-        not_ok : (r : Result (Option ℕ) TxFault) (f : TxFault) → r ≡ Ok None → r ≡ Err f → ⊥
+        not_ok : {A : Type 0} (r : Result (Option A) TxFault) (f : TxFault) → r ≡ Ok None → r ≡ Err f → ⊥
         not_ok r f ok err = let both : Ok None ≡ Err f = sym ok ∙ err in cc
     needs_fault r (IsTooLong words) refusal empty spent long may err same =
         let why = (long words).0 err in
@@ -269,7 +282,7 @@ module _ {m : Setting} {node i : ℕ} {here : Here} {s : State} {x : Numbers} {t
         same_refusal : (a b : Refusal) → Some a ≡ Some b → a ≡ b
         same_refusal a b e = cc
 
-        not_ok : (r : Result (Option ℕ) TxFault) (f : TxFault) → r ≡ Ok None → r ≡ Err f → ⊥
+        not_ok : {A : Type 0} (r : Result (Option A) TxFault) (f : TxFault) → r ≡ Ok None → r ≡ Err f → ⊥
         not_ok r f ok err = let both : Ok None ≡ Err f = sym ok ∙ err in cc
     needs_fault r NoMemory refusal empty spent long may err same = absurd (true≢false (sym may))
     needs_fault r IsNotLocked refusal empty spent long may err same = absurd (true≢false (sym may))

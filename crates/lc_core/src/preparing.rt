@@ -10,7 +10,6 @@ use crate::desk::Desk;
 use crate::ending::Ending;
 use crate::log_end::LogEnd;
 use crate::refused::refusal_of;
-use lc_tx::Prepared;
 use std::alloc::{AllocError, Global};
 
 impl Desk {
@@ -39,8 +38,8 @@ impl Desk {
         let Some(tx) = self.seats[thread as usize].open() else {
             return Ok(Ending::Refused(Refusal::OutOfTurn));
         };
-        let need = match tx.end_needs(&self.here) {
-            Ok(Some(words)) => words,
+        let layout = match tx.layout(&self.here) {
+            Ok(Some(layout)) => layout,
             Ok(None) => {
                 self.end_empty(thread);
                 return Ok(Ending::Empty);
@@ -50,16 +49,14 @@ impl Desk {
         if log.sealed {
             return Ok(Ending::Refused(Refusal::Sealed));
         }
+        let need = layout.words() as u32;
         if need > log.room - log.end {
             return Ok(Ending::Refused(Refusal::Full {
                 tail: log.end,
                 need,
             }));
         }
-        match tx.prepare_end(alloc, &mut self.here, node) {
-            Ok(Prepared::Record(words)) => Ok(Ending::Record(words)),
-            Ok(Prepared::Empty) => unreachable!(),
-            Err(_) => Err(AllocError),
-        }
+        let words = tx.spell_end(alloc, &mut self.here, node, &layout)?;
+        Ok(Ending::Record(words))
     }
 }
