@@ -1,10 +1,11 @@
 -- The part with a number, what parts make due, and lists of parts that ascend.
-use Rattle.std.proofs.Common.{◌≡◌, ◌≢◌, ℕ, zero, suc, ◌+◌, ◌<◌, ◌≤◌, true, false, cond, eqb, ltb, leb, Option, Some, None, is_some, Result, Ok, Err, OnOk, OnErr, List, [], ◌∷◌, ◌++◌, length, refl, sym, ap, subst, ◌∙◌, inl, inr, arith, append_assoc}
+use Rattle.std.proofs.Common.{◌≡◌, ◌≢◌, ℕ, zero, suc, ◌+◌, ◌<◌, ◌≤◌, true, false, ◌||◌, cond, eqb, ltb, leb, Option, Some, None, is_some, Result, Ok, Err, OnOk, OnErr, List, [], ◌∷◌, ◌++◌, length, refl, sym, ap, subst, ◌∙◌, inl, inr, arith, append_assoc}
 use Rattle.std.specs.declared.alloc.AllocError.{AllocError}
-use Rattle.std.proofs.lemmas.Bool.{cond-true, cond-false, or_parts, leb-false, eq-eqb, ne_eqb, lt-ltb, le-ltb, cases_eq, cases_lt}
+use Rattle.std.proofs.lemmas.Bool.{cond-true, cond-false, or_parts, leb-false, lt-leb, eq-eqb, ne_eqb, lt-ltb, le-ltb, cases_eq, cases_lt}
 use Rattle.std.proofs.lemmas.Bool.Decides.{nat_tests}
 use Rattle.lc_record.specs.declared.part.Part.{Part}
-use Rattle.lc_token.specs.Backlog.{Backlog, Ascends, AreDue, TakesNext, above, advanced, due_behind, due_of, is_known, is_next, led_by, numbered, put, rest_of, run_of}
+use Rattle.lc_token.specs.declared.received.Received.TheVariants.{Applied}
+use Rattle.lc_token.specs.Backlog.{Backlog, Ascends, AreDue, IsNext, PassesOn, TakesNext, above, advanced, counted, due_behind, due_of, is_known, is_next, led_by, numbered, put, rest_of, run_of}
 
 -- The part with a number
 
@@ -280,3 +281,19 @@ pub applied_is : (b : Backlog) (p : Part) → Ascends b.applied b.kept → p.seq
     → record { segment = b.segment; applied = p.seq + length (run_of p.seq b.kept); due = (b.due ++ p ∷ []) ++ run_of p.seq b.kept; kept = rest_of p.seq b.kept }
     ≡ advanced b (due_behind b.applied (p ∷ b.kept))
 applied_is b p up e not = advanced_is b p up e (ap (λ (n : ℕ). numbered n b.kept) (sym e) ∙ (unknown b p.seq not).1)
+
+-- a part with the next number, where none is due or kept, is all that is due behind it
+pub passes_on : (old : Backlog) (number : ℕ) → IsNext old number → PassesOn number old (Applied number) (counted old number)
+passes_on old number h part same =
+    let next : part.seq ≡ old.applied + 1 = same ∙ h.next in
+    let low : leb part.seq old.applied ≡ false = lt-leb part.seq old.applied (omega (arith, next)) in
+    let unknown_is : is_known old part.seq ≡ false = ap (λ b. b || is_some (numbered part.seq old.kept)) low ∙ ap (λ (ps : List Part). is_some (numbered part.seq ps)) h.none_kept in
+    let due : due_behind old.applied (part ∷ old.kept) ≡ part ∷ [] = ap (λ (ps : List Part). due_behind old.applied (part ∷ ps)) h.none_kept ∙ due_next old.applied part [] next tt in
+    let between : advanced old (due_behind old.applied (part ∷ old.kept)) ≡ record (counted old number) { due = part ∷ old.due } =
+    ap (advanced old) due
+    ∙ ap (λ (n : ℕ). record old { applied = n; due = old.due ++ part ∷ []; kept = above n old.kept }) (sym h.next)
+    ∙ ap (λ (ps : List Part). record (counted old number) { due = ps }) (ap (λ (ps : List Part). ps ++ part ∷ []) h.none_due ∙ sym (ap (λ (ps : List Part). part ∷ ps) h.none_due)) in (
+      advanced old (due_behind old.applied (part ∷ old.kept)),
+      (unknown_is, next, sym (ap (λ (b : Backlog). b.applied) between), refl),
+      between,
+    )

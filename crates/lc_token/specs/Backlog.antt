@@ -96,7 +96,7 @@ advanced old run = record old {
 abbrev pub keeping : Backlog → Part → Backlog
 keeping old part = record old { kept = put part old.kept }
 
--- all up to this number are applied, the last of them a record of the node's own
+-- all up to this number are applied, the last of them by the node itself
 abbrev pub counted : Backlog → ℕ → Backlog
 counted old number = record old { applied = number; kept = above number old.kept }
 
@@ -113,3 +113,14 @@ Receives part old Ignored new = (is_known old part.seq ≡ true) × (new ≡ old
 abbrev pub HandsOut : Backlog → Option Part → Backlog → Type 0
 HandsOut old None new = (old.due ≡ []) × (new ≡ old)
 HandsOut old (Some part) new = old ≡ record new { due = part ∷ new.due }
+
+-- the number is the next, and no part is due or kept
+pub record IsNext (backlog : Backlog) (number : ℕ) : Type 0 where
+  pub next : number ≡ backlog.applied + 1
+  pub none_due : backlog.due ≡ []
+  pub none_kept : backlog.kept ≡ []
+
+-- a part with this number, whichever it is, is received, which is answered so, and handed out at once
+abbrev pub PassesOn : ℕ → Backlog → Received → Backlog → Type 0
+PassesOn number old answer new =
+    (part : Part) → part.seq ≡ number → (between : Backlog) × Receives part old answer between × HandsOut between (Some part) new

@@ -2,7 +2,7 @@
 ghost use Rattle.std.specs.Prelude.{◌≡◌, ◌+◌, ◌<◌, ◌≤◌, ◌↔◌, [], ◌∷◌, ◌++◌, false, true, length, IfOk, IfErr, IsSome, IsTrue, OnOk, OnErr};
 ghost use Rattle.std.specs.Option.{ForSome};
 ghost use Rattle.lc_record.specs.Part.{part_of};
-ghost use Rattle.lc_token.specs.Backlog.{Ascends, HandsOut, Receives, advanced, counted, due_behind, fresh, is_known, keeping};
+ghost use Rattle.lc_token.specs.Backlog.{Ascends, HandsOut, IsNext, PassesOn, Receives, advanced, counted, due_behind, fresh, is_known, keeping};
 
 use crate::kept::Kept;
 use crate::{Received, TokenFault};
@@ -69,6 +69,14 @@ impl HoldBack {
         seq <= self.applied || self.kept.contains(seq)
     }
 
+    /// Whether a record with this number can be put in place with no copy of its part: it is the next, and no part is due
+    /// or kept. It takes no memory.
+    pub fn is_next(&self, seq: u64) -> bool
+        ensures { IsTrue result ↔ IsNext self.now seq }
+    {
+        seq.checked_sub(1) == Some(self.applied) && self.due.is_empty() && self.kept.len() == 0
+    }
+
     /// Whether a part is due, which `next` hands out.
     pub fn has_due(&self) -> bool
         ensures some { IsTrue result ↔ (0 < length self.now.due) }
@@ -131,6 +139,19 @@ impl HoldBack {
     {
         let _ = self.kept.take_next(self.applied);
         self.applied = seq;
+    }
+
+    /// Counts a record as applied whose part the node puts in place itself: it has the next number, and no part is due or
+    /// kept, as `is_next` tells. What it answers and leaves is as if the part had been received, and handed out at once. It
+    /// takes no memory.
+    pub fn pass_on(&mut self, seq: u64) -> Received
+        requires { IsNext self.old seq }
+        ensures answer { result ≡ Received.Applied seq }
+        ensures counted { self.new ≡ counted self.old seq }
+        ensures passes { PassesOn seq self.old result self.new }
+    {
+        self.own(seq);
+        Received::Applied(seq)
     }
 
     // Keeps a part behind a hole.
