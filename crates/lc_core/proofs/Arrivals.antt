@@ -1,5 +1,5 @@
 -- A record that a node has published comes to a node, which goes on.
-use Rattle.std.proofs.Common.{◌≡◌, ℕ, zero, suc, ◌+◌, ◌-◌, ◌<◌, ◌≤◌, true, false, ◌||◌, ◌&&◌, ◌==◌, nat_le, List, [], ◌∷◌, drop, Option, Some, None, is_some, ltb-true, refl, sym, ap, subst, ◌∙◌, arith}
+use Rattle.std.proofs.Common.{◌≡◌, ℕ, zero, suc, ◌+◌, ◌-◌, ◌<◌, ◌≤◌, Bool, true, false, ◌||◌, ◌&&◌, ◌==◌, nat_le, List, [], ◌∷◌, drop, map, Option, Some, None, is_some, ltb-true, refl, sym, ap, subst, ◌∙◌, arith}
 use Rattle.std.specs.Prelude.{slice_get, slice_index_or, vec_len, IsSome, if◌then◌else◌}
 use Rattle.std.specs.List.{list_all}
 use Rattle.std.proofs.lemmas.Option.{slice_get_read}
@@ -8,9 +8,10 @@ use Rattle.lc_disk.specs.declared.area.Area.{Ghosts}
 use Rattle.lc_record.specs.Part.{number_in, part_of}
 use Rattle.lc_record.specs.Transaction.{is_member}
 use Rattle.lc_record.specs.declared.geometry.Geometry.{Geometry}
+use Rattle.lc_record.specs.declared.part.Part.{Part}
 use Rattle.lc_record.specs.declared.record.Lock.{Lock}
 use Rattle.lc_record.specs.declared.record.Record.{Record}
-use Rattle.lc_token.specs.Backlog.{is_known as knows}
+use Rattle.lc_token.specs.Backlog.{IsNext, is_known as knows}
 use Rattle.lc_token.specs.declared.received.Received.{Received}
 use Rattle.lc_token.specs.declared.received.Received.TheVariants.{Applied, HeldBack, Ignored}
 use Rattle.lc_token.specs.declared.token.Token.{Token}
@@ -23,7 +24,7 @@ use Rattle.lc_model.specs.declared.event.Event.TheVariants.{Deliver}
 use Rattle.lc_model.specs.declared.refusal.Refusal.TheVariants.{Unknown}
 use Rattle.lc_model.specs.declared.reply.Reply.TheVariants.{Ignored as IsIgnored, Refused}
 use Rattle.lc_model.proofs.Rows.{and-both}
-use Rattle.lc_core.specs.Delivers.{Brings, HasNewPart}
+use Rattle.lc_core.specs.Delivers.{Brings, CopiesPart, HasNewPart}
 use Rattle.lc_core.specs.Here.{beside}
 use Rattle.lc_core.specs.Node.{FitsNode, GoesOn}
 use Rattle.lc_core.specs.Numbers.{Numbers, token_number}
@@ -33,19 +34,20 @@ use Rattle.lc_core.specs.Receives.{FollowsReceive, received_numbers, reply_of}
 use Rattle.lc_core.specs.Running.{FitsRunning}
 use Rattle.lc_core.specs.Settled.{deliver_answer, number_of}
 use Rattle.lc_core.specs.Slots.{FitsSlot}
-use Rattle.lc_core.specs.declared.delivering.Delivery.TheVariants.{Unknown as NotThere, Known}
+use Rattle.lc_core.specs.declared.delivering.Delivery.TheVariants.{Unknown as NotThere, Known, Next}
 use Rattle.lc_core.specs.declared.desk.Desk.{Desk}
 use Rattle.lc_core.specs.declared.node.Node.{Node}
 use Rattle.lc_core.specs.declared.publishing.Published.TheVariants.{Unknown as IsNot, Trimmed, Record as Published}
 use Rattle.lc_core.specs.declared.running.Running.{Running}
 use Rattle.lc_core.specs.declared.slot.Slot.{Slot}
+use Rattle.lc_core.proofs.Away.{stands_there}
 use Rattle.lc_core.proofs.Caught.{ignored_is}
 use Rattle.lc_core.proofs.Closes.{get-map}
 use Rattle.lc_core.proofs.Delivered.{acked_counted}
 use Rattle.lc_core.proofs.Dropping.{still}
 use Rattle.lc_core.proofs.Gained.{aside_received, deliver_settled, deliver_trimmed, deliver_turns, deliver_unknown, log_received, logs_received}
 use Rattle.lc_core.proofs.Going.{settled_by}
-use Rattle.lc_core.proofs.Kept.{member_is}
+use Rattle.lc_core.proofs.Kept.{member_is, numbers}
 use Rattle.lc_core.proofs.Others.{beside_open}
 
 -- what a delivery names lies in the geometry
@@ -73,6 +75,16 @@ slot_knows m n k number slot s x fits closed = by_token slot.token.token refl
     by_token (Some token) is =
         let all = (fits.token token is).1 in
         sym (ap (λ b. b || is_member number (x.waiting n (k + 1))) (le-leb number (x.applied n (k + 1)) (omega (arith, all, closed))))
+
+-- a token that is not here
+away_is : (o : Option Token) (b : Bool) → (is_some o || b) ≡ false → o ≡ None
+away_is None b is = refl
+away_is (Some token) b is = absurd cc
+
+-- parts without a number
+none_kept : (parts : List Part) → numbers parts ≡ [] → parts ≡ []
+none_kept [] is = refl
+none_kept (part ∷ parts) is = absurd cc
 
 -- a record with a lock on the segment has a part of it
 pub has_part : (segment own : ℕ) (r : Record) → number_in segment r.locks ≡ Some own → IsSome (part_of segment r)
@@ -201,3 +213,31 @@ module _ {D : Type 0} (a : Ghosts D) where
         pub finds_new : (is_some slot.token.token || knows slot.parts own) ≡ false → (m : Setting) (s : State) (x : Numbers) → FitsRunning a m w s x → HasNewPart m s x sender number segment to r
         finds_new unknown m s x h =
             new_part m s x h.sound sender number segment to first r (finds m sender s x (h.each sender from at_sender).journal) own lock slot (its_slot m s x h) unknown
+
+        -- the same number, whichever record has it
+        own_number : (m : Setting) (s : State) (x : Numbers) (part : HasNewPart m s x sender number segment to r) → part.own ≡ own
+        own_number m s x part = same_some part.own own (sym part.lock ∙ lock)
+
+        pub finds_next : (is_some slot.token.token || knows slot.parts own) ≡ false → IsNext slot.parts own → Brings a sender number segment to w (Next own)
+        finds_next unknown next = (
+          record { node = node; slot = slot; at = at; at_segment = at_segment; takes = (away_is slot.token.token (knows slot.parts own) unknown, next) },
+          λ m s x h. (let part = finds_new unknown m s x h in (r, part, own_number m s x part)),
+        )
+
+        -- where its part is not put on the image at once, it is copied
+        pub finds_kept : (is_some slot.token.token || knows slot.parts own) ≡ false → (IsNext slot.parts own → ⊥) → (m : Setting) (s : State) (x : Numbers) → FitsRunning a m w s x
+            → CopiesPart m s x sender number segment to r
+        finds_kept unknown behind m s x h =
+            let part = finds_new unknown m s x h in
+            let fits = its_slot m s x h in
+            let same : segment - 1 + 1 ≡ segment = omega (arith, first) in
+            let applied : slot.parts.applied ≡ x.applied to segment = fits.applied ∙ ap (x.applied to) same in
+            let waiting : numbers slot.parts.kept ≡ x.waiting to segment = fits.waiting ∙ ap (x.waiting to) same in
+            record {
+              part = part;
+              waits = λ next none. behind (record {
+                next = sym (own_number m s x part) ∙ next ∙ ap (λ i. i + 1) (sym applied);
+                none_due = (stands_there node.desk.here segment slot first at_segment node.desk.in_place).1;
+                none_kept = none_kept slot.parts.kept (waiting ∙ none);
+              });
+            }

@@ -43,6 +43,13 @@ pub stands_there : (here : Here) (segment : ℕ) (slot : Slot) → 1 ≤ segment
 stands_there here segment slot first at placed =
     let its = placed (segment - 1) (beside slot) (get-map beside here.slots.items (segment - 1) slot at) in (omega (arith, its.1, first), its.2)
 
+-- and its image has no more bytes than a record can name
+pub short_at : (here : Here) (k : ℕ) (slot : Slot) → slice_get here.slots.items k ≡ Some slot → AreShort here → length slot.image.bytes.items ≤ 262144
+short_at here k slot at short =
+    let was : length (bytes_of the_images here (suc k)) ≤ 262144 = short (suc k) in
+    let own : length (bytes_of the_images here (suc k)) ≡ length slot.image.bytes.items = ap (λ o. length (image_at here.spare o).bytes.items) at in
+    omega (arith, was, own)
+
 -- Where the slot is as it was
 
 pub runs_kept : (here : Here) (k : ℕ) (slot next : Slot) (seats : List Seat) → slice_get here.slots.items k ≡ Some slot → next ≡ slot → AllRun here seats → AllRun (with_slot here k next) seats
@@ -93,18 +100,19 @@ module _ (here : Here) (k : ℕ) (slot next : Slot) (at : slice_get here.slots.i
   picture_other : (j : ℕ) → j ≢ k → image_at here.spare (slice_get (slice_set here.slots.items k next) j) ≡ image_at here.spare (slice_get here.slots.items j)
   picture_other j differ = ap (image_at here.spare) (get_set_other here.slots.items k j next differ)
 
-  pub short_away : length next.image.bytes.items ≡ length slot.image.bytes.items → AreShort here → AreShort there
-  short_away long short zero = short zero
-  short_away long short (suc j) = elim (cases_eq j k) [
+  pub short_put : length next.image.bytes.items ≤ 262144 → AreShort here → AreShort there
+  short_put few short zero = short zero
+  short_put few short (suc j) = elim (cases_eq j k) [
     | inl own ↦
-        let was : length (bytes_of the_images here (suc k)) ≤ 262144 = short (suc k) in
-        let before : length (bytes_of the_images here (suc k)) ≡ length slot.image.bytes.items = ap (λ o. length (image_at here.spare o).bytes.items) at in
         let after : length (bytes_of the_images there (suc k)) ≡ length next.image.bytes.items = ap (λ o. length (image_at here.spare o).bytes.items) (get_set_same here.slots.items k slot next at) in
-        subst (λ (n : ℕ). length (bytes_of the_images there (suc n)) ≤ 262144) (sym own) (omega (arith, was, before, after, long))
+        subst (λ (n : ℕ). length (bytes_of the_images there (suc n)) ≤ 262144) (sym own) (omega (arith, after, few))
     | inr differ ↦
         let was : length (bytes_of the_images here (suc j)) ≤ 262144 = short (suc j) in
         omega (arith, was, ap (λ (p : Picture). length p.bytes.items) (picture_other j differ))
   ]
+
+  pub short_away : length next.image.bytes.items ≡ length slot.image.bytes.items → AreShort here → AreShort there
+  short_away long short = short_put (let few = short_at here k slot at short in omega (arith, few, long)) short
 
   module _ (away : slot.token.token ≡ None) where
     number_is : (other : ℕ) → the_images.number_of there other ≡ the_images.number_of here other

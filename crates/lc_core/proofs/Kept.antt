@@ -3,17 +3,15 @@ use Rattle.std.proofs.Common.{◌≡◌, ℕ, suc, ◌+◌, ◌-◌, ◌≤◌, 
 use Rattle.std.specs.Prelude.{if◌then◌else◌}
 use Rattle.std.proofs.lemmas.Bool.{cases_eq, cases_lt}
 use Rattle.std.proofs.lemmas.List.Elements.{All-cons, All-head, All-tail}
-use Rattle.lc_record.specs.Content.{put as lay}
 use Rattle.lc_record.specs.Transaction.{is_member}
 use Rattle.lc_record.specs.declared.part.Part.{Part}
-use Rattle.lc_record.specs.declared.record.RangeData.{RangeData}
-use Rattle.lc_record.proofs.SegmentLemmas.{length-put}
 use Rattle.lc_token.specs.Backlog.{Ascends, above, numbered, put, run_of}
 use Rattle.lc_token.proofs.BacklogLemmas.{above_all, above_later}
 use Rattle.lc_core.specs.Numbers.{reached}
 use Rattle.lc_core.specs.Receives.{parts_over}
 use Rattle.lc_core.specs.Turns.{put_number}
 use Rattle.lc_tx.specs.Image.{laid_over}
+use Rattle.lc_tx.proofs.PutLemmas.{length-laid_over}
 
 -- by their numbers
 abbrev pub numbers : List Part → List ℕ
@@ -109,8 +107,4 @@ run_over shown a (p ∷ ps) all = elim (cases_eq p.seq (a + 1)) [
 -- the bytes stay as many
 pub over_long : (parts : List Part) (bytes : List ℕ) → length (parts_over parts bytes) ≡ length bytes
 over_long [] bytes = refl
-over_long (part ∷ parts) bytes = over_long parts (laid_over part.ranges bytes) ∙ laid_long part.ranges bytes
-  where
-    laid_long : (ranges : List RangeData) (old : List ℕ) → length (laid_over ranges old) ≡ length old
-    laid_long [] old = refl
-    laid_long (range ∷ ranges) old = laid_long ranges (lay range.offset range.bytes old) ∙ length-put range.offset range.bytes old
+over_long (part ∷ parts) bytes = over_long parts (laid_over part.ranges bytes) ∙ length-laid_over part.ranges bytes

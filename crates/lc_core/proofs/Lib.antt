@@ -70,6 +70,7 @@ pub mod OneSlot
 pub mod TwoNodes
 pub mod Travels
 pub mod Arrivals
+pub mod InPlace
 pub mod Ordinary
 pub mod OneMore
 pub mod PageTurns

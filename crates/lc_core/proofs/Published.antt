@@ -1,5 +1,5 @@
 -- A record that is published, found by its number in the words that a journal keeps.
-use Rattle.std.proofs.Common.{◌≡◌, ℕ, zero, suc, ◌+◌, ◌-◌, ◌<◌, ◌≤◌, List, [], ◌∷◌, map, length, take, drop, Some, slice_get, refl, sym, ap, subst, ◌∙◌, arith}
+use Rattle.std.proofs.Common.{◌≡◌, ℕ, zero, suc, ◌+◌, ◌-◌, ◌<◌, ◌≤◌, List, [], ◌∷◌, map, length, take, drop, Some, slice_get, refl, sym, ap, subst, ◌∙◌, inl, inr, arith}
 use Rattle.std.specs.List.{AllByRecursion}
 use Rattle.std.proofs.lemmas.List.{append-nil, take-append-drop}
 use Rattle.lc_record.specs.Codec.{BeginsWith, BeginsNoRecord}
@@ -14,8 +14,11 @@ use Rattle.lc_model.specs.Stored.{records_of}
 use Rattle.lc_core.specs.Journal.{FitsLog}
 use Rattle.lc_core.specs.Numbers.{Numbers}
 use Rattle.lc_core.specs.Places.{same_some}
+use Rattle.lc_core.specs.Published.{IsFound}
 use Rattle.lc_core.specs.Records.{Spelled, Kept, count_of}
 use Rattle.lc_core.specs.declared.log.Log.{Log}
+use Rattle.lc_core.specs.declared.publishing.Published.{Published}
+use Rattle.lc_core.specs.declared.publishing.Published.TheVariants.{Unknown, Trimmed, Record as Is}
 
 pub whole_at : (records : List Record) (place : ℕ) (r : Record) → AllByRecursion IsWhole records → slice_get records place ≡ Some r → IsWhole r
 whole_at [] place r whole is = absurd cc
@@ -47,6 +50,13 @@ read_so words q r len is begins =
 
 pub begun_so : (words : List ℕ) (q : Record) → IsRecord q words → BeginsNoRecord words → ⊥
 begun_so words q is none = none q words [] is (sym (append-nil words))
+
+-- where there is a record under the number, nothing else is found
+pub found_one : (m : Setting) (node : ℕ) (s : State) (x : Numbers) (number : ℕ) (found : Published) (r : Record) → IsFound m node s x number found → IsFound m node s x number (Is r) → found ≡ Is r
+found_one m node s x number Unknown r (inl none) is = absurd (let some = is.0 in omega (arith, none, some))
+found_one m node s x number Unknown r (inr above) is = absurd (let acked = is.1 in omega (arith, above, acked))
+found_one m node s x number Trimmed r its is = absurd (let trimmed = its.2 in let kept = is.2 in omega (arith, trimmed, kept))
+found_one m node s x number (Is q) r its is = ap (λ (p : Record). Is p) (same_some q r (sym its.3 ∙ is.3))
 
 module _ {D : Type 0} (a : Ghosts D) (m : Setting) (node : ℕ) (s : State) (x : Numbers) (log : Log D a) (k : Kept) (dropped trimmed taken acked : ℕ)
     (h : FitsLog a m node log k dropped trimmed taken acked s x) where

@@ -10,7 +10,7 @@ use Rattle.lc_model.specs.Refusals.{common_refusal, is_up, read_refusal, set_ran
 use Rattle.lc_model.specs.State.{State, Setting, running_of}
 use Rattle.lc_model.specs.declared.event.Event.{Event}
 use Rattle.lc_model.specs.declared.event.Event.TheVariants.{SetRange, Read, Reserve, Deliver, RecoverStep}
-use Rattle.lc_core.specs.Delivers.{HasNewPart}
+use Rattle.lc_core.specs.Delivers.{CopiesPart}
 use Rattle.lc_core.specs.Numbers.{Numbers}
 use Rattle.lc_core.specs.Prepares.{GetsPlace}
 
@@ -35,12 +35,13 @@ TakesRoom m x =
     ⊎ ((pages : ℕ) × (x.steps + 1 ≡ all_steps m.geometry pages))
 
 -- What an event needs room for: a position more that is set, bytes that are read, a record that gets its place, a record
--- that is new to its receiver, and what a recovery reads, merges and brings up. No other event needs any, a begin neither.
+-- that is new to its receiver, unless it is the next there and none waits, and what a recovery reads, merges and brings up. No
+-- other event needs any, a begin neither.
 abbrev pub Grows : Setting → State → Numbers → Event → Type 0
 Grows m s x (SetRange node thread segment offset len) = SetsMore m s node thread segment offset len
 Grows m s x (Read node thread segment offset len) = ReadsSome m s node thread segment offset len
 Grows m s x (Reserve node thread) = (place : ℕ) × GetsPlace m node thread s x place
-Grows m s x (Deliver sender number segment to) = (r : Record) × HasNewPart m s x sender number segment to r
+Grows m s x (Deliver sender number segment to) = (r : Record) × CopiesPart m s x sender number segment to r
 Grows m s x RecoverStep = (is_up s.phase ≡ false) × TakesRoom m x
 Grows m s x event = ⊥
 

@@ -1,5 +1,5 @@
 -- What a record that a node has published brings to the node that it comes to.
-use Rattle.std.specs.Prelude.{◌≡◌, ◌≤◌, ◌<◌, ℕ, ◌-◌, false, ◌||◌, nat_le, Some, slice_get, IsSome}
+use Rattle.std.specs.Prelude.{◌≡◌, ◌≤◌, ◌<◌, ℕ, ◌+◌, ◌-◌, false, ◌||◌, nat_le, [], Some, slice_get, IsSome}
 use Rattle.lc_disk.specs.declared.area.Area.{Ghosts}
 use Rattle.lc_record.specs.Part.{number_in, part_of}
 use Rattle.lc_record.specs.Transaction.{is_member}
@@ -8,12 +8,15 @@ use Rattle.lc_model.specs.State.{Setting, State}
 use Rattle.lc_model.specs.Stored.{records_of}
 use Rattle.lc_model.specs.declared.refusal.Refusal.TheVariants.{Unknown as IsUnknown}
 use Rattle.lc_model.specs.declared.reply.Reply.TheVariants.{Ignored, Refused}
+use Rattle.lc_core.specs.InPlace.{TakesAtOnce}
 use Rattle.lc_core.specs.Numbers.{Numbers}
 use Rattle.lc_core.specs.Running.{FitsRunning}
 use Rattle.lc_core.specs.Settled.{deliver_answer}
 use Rattle.lc_core.specs.declared.delivering.Delivery.{Delivery}
-use Rattle.lc_core.specs.declared.delivering.Delivery.TheVariants.{Unknown, Known, New}
+use Rattle.lc_core.specs.declared.delivering.Delivery.TheVariants.{Unknown, Known, New, Next}
+use Rattle.lc_core.specs.declared.node.Node.{Node}
 use Rattle.lc_core.specs.declared.running.Running.{Running}
+use Rattle.lc_core.specs.declared.slot.Slot.{Slot}
 
 -- the sender has published the record under this number, and its part of the segment is neither applied nor kept at the receiver
 pub record HasNewPart (m : Setting) (s : State) (x : Numbers) (sender number segment to : ℕ) (r : Record) : Type 0 where
@@ -25,11 +28,24 @@ pub record HasNewPart (m : Setting) (s : State) (x : Numbers) (sender number seg
   pub lock : number_in segment r.locks ≡ Some own
   pub unknown : (nat_le own (x.applied to segment) || is_member own (x.waiting to segment)) ≡ false
 
+-- there is no way but to copy the part: its number is not the next, or others wait behind it
+pub record CopiesPart (m : Setting) (s : State) (x : Numbers) (sender number segment to : ℕ) (r : Record) : Type 0 where
+  pub part : HasNewPart m s x sender number segment to r
+  pub waits : part.own ≡ x.applied to segment + 1 → x.waiting to segment ≡ [] → ⊥
+
 module _ {D : Type 0} (a : Ghosts D) where
+  -- the slot of the segment at the node takes a record with this number at once
+  pub record IsReady (segment to own : ℕ) (w : Running D a) : Type 0 where
+    pub node : Node D a
+    pub slot : Slot
+    pub at : slice_get w.nodes.items to ≡ Some node
+    pub at_segment : slice_get node.desk.here.slots.items (segment - 1) ≡ Some slot
+    pub takes : TakesAtOnce own slot
+
   -- there is such a record, in each state and with the numbers that this fits
   abbrev pub WantsPart : ℕ → ℕ → ℕ → ℕ → Running D a → Type 0
   WantsPart sender number segment to w =
-      (m : Setting) (s : State) (x : Numbers) → FitsRunning a m w s x → (r : Record) × HasNewPart m s x sender number segment to r
+      (m : Setting) (s : State) (x : Numbers) → FitsRunning a m w s x → (r : Record) × CopiesPart m s x sender number segment to r
 
   -- where nothing is new, the answer is the one that is settled
   abbrev pub Brings : ℕ → ℕ → ℕ → ℕ → Running D a → Delivery → Type 0
@@ -38,4 +54,7 @@ module _ {D : Type 0} (a : Ghosts D) where
   Brings sender number segment to w Known =
       (m : Setting) (s : State) (x : Numbers) → FitsRunning a m w s x → deliver_answer m s x sender number segment to ≡ Ignored
   Brings sender number segment to w (New r) =
-      IsSome (part_of segment r) × ((m : Setting) (s : State) (x : Numbers) → FitsRunning a m w s x → HasNewPart m s x sender number segment to r)
+      IsSome (part_of segment r) × ((m : Setting) (s : State) (x : Numbers) → FitsRunning a m w s x → CopiesPart m s x sender number segment to r)
+  Brings sender number segment to w (Next own) =
+      IsReady segment to own w
+      × ((m : Setting) (s : State) (x : Numbers) → FitsRunning a m w s x → (r : Record) × (part : HasNewPart m s x sender number segment to r) × (part.own ≡ own))

@@ -37,6 +37,7 @@ pub mod Published
 pub mod Trimming
 pub mod Truncating
 pub mod Receives
+pub mod InPlace
 pub mod Delivers
 pub mod Growing
 pub mod Asks

@@ -1,8 +1,10 @@
 -- What a peer finds that asks for a record of a node by its number.
-use Rattle.std.specs.Prelude.{◌≡◌, ◌⊎◌, ℕ, ◌-◌, ◌<◌, ◌≤◌, Some, slice_get}
+use Rattle.std.specs.Prelude.{◌≡◌, ◌⊎◌, ℕ, ◌-◌, ◌<◌, ◌≤◌, ◌==◌, List, filter, Some, slice_get}
 use Rattle.lc_disk.specs.declared.area.Area.{Ghosts}
+use Rattle.lc_record.specs.declared.record.Record.{Record as Whole}
 use Rattle.lc_model.specs.State.{Setting, State}
 use Rattle.lc_model.specs.Stored.{records_of}
+use Rattle.lc_tx.specs.Image.{laid_over}
 use Rattle.lc_core.specs.Follows.{FitsJournal}
 use Rattle.lc_core.specs.Numbers.{Numbers}
 use Rattle.lc_core.specs.declared.journal.Journal.{Journal}
@@ -21,3 +23,9 @@ module _ {D : Type 0} (a : Ghosts D) where
   abbrev pub Finds : Journal D a → ℕ → Published → Type 0
   Finds w number found =
       (m : Setting) (node : ℕ) (s : State) (x : Numbers) → FitsJournal a m node w s x → IsFound m node s x number found
+
+  -- the bytes have those laid over them that the record of this number, where there is one, has for the segment
+  abbrev pub LaysFound : Journal D a → ℕ → ℕ → List ℕ → List ℕ → Type 0
+  LaysFound w number segment old new =
+      (m : Setting) (node : ℕ) (s : State) (x : Numbers) → FitsJournal a m node w s x → (whole : Whole) → IsFound m node s x number (Record whole)
+      → new ≡ laid_over (filter (λ range. range.segment == segment) whole.ranges) old

@@ -24,13 +24,16 @@ enum Delivery {
     Unknown,
     // The node has the record's part already, or no peer wants the record any more.
     Known,
-    // A record whose part the node does not have.
+    // A record whose part the node does not have, and cannot put on its image at once.
     New(Record),
+    // A record whose part the node does not have, with the next number of the segment, while none is held back.
+    Next(u64),
 }
 
 impl<D: Area + Drop> Running<D> {
     /// A record that a node has published comes to a node, which applies its part of a segment once it has applied all
-    /// before it; the record is named by its number, from 1. It takes memory only for a part that the node does not know.
+    /// before it; the record is named by its number, from 1. It takes memory only for a part that the node does not know,
+    /// and not where that is the next and none is held back: it is put on the image from where the record stands.
     pub(crate) fn deliver(
         &mut self,
         alloc: Global,
@@ -54,10 +57,19 @@ impl<D: Area + Drop> Running<D> {
                 let received = desk.receive(alloc, segment, &record)?;
                 Ok(reply_of(received))
             }
+            Delivery::Next(seq) => {
+                let receiver = &mut self.nodes[to as usize];
+                let mut image = receiver.desk.take_image(alloc, segment);
+                let journal = &self.nodes[sender as usize].journal;
+                journal.put_on(number, segment, &mut image);
+                let receiver = &mut self.nodes[to as usize];
+                Ok(reply_of(receiver.desk.put_next(segment, seq, image)))
+            }
         }
     }
 
-    // What the record of this number brings. It takes memory only for one whose part is new.
+    // What the record of this number brings. It takes memory only for one whose part is new, and not for the next while none is
+    // held back.
     fn delivery(
         &self,
         alloc: Global,
@@ -81,6 +93,9 @@ impl<D: Area + Drop> Running<D> {
         let slot = &self.nodes[to as usize].desk.here.slots[segment as usize - 1];
         if slot.knows(seq) {
             return Ok(Delivery::Known);
+        }
+        if slot.parts.is_next(seq) {
+            return Ok(Delivery::Next(seq));
         }
         match decode(alloc, view.words())? {
             Some((record, _)) => Ok(Delivery::New(record)),

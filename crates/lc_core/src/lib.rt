@@ -18,6 +18,7 @@ mod giving_up;
 mod headline;
 mod here;
 mod in_memory;
+mod in_place;
 mod journal;
 mod laws;
 mod leaving;

@@ -1,9 +1,9 @@
-use Rattle.std.proofs.Common.{◌≡◌, sym, subst, ◌∙◌, arith}
+use Rattle.std.proofs.Common.{◌≡◌, sym, subst, ◌∙◌, true≢false, arith}
 use Rattle.std.specs.Prelude.{IfNone, IfSome, IsSome}
 use Rattle.lc_record.specs.Codec.{BeginsNoRecord, BeginsWith}
 use Rattle.lc_record.specs.Part.{part_of}
-use Rattle.lc_core.specs.Delivers.{HasNewPart}
-use Rattle.lc_core.proofs.Arrivals.{delivery_known, finds_known, finds_new, finds_trimmed, finds_unknown, finds_unlocked, has_part, node_at, slot_within}
+use Rattle.lc_core.specs.Delivers.{CopiesPart}
+use Rattle.lc_core.proofs.Arrivals.{delivery_known, finds_kept, finds_known, finds_next, finds_trimmed, finds_unknown, finds_unlocked, has_part, node_at, slot_within}
 use Rattle.lc_core.proofs.Away.{slot_at}
 use Rattle.lc_core.proofs.Published.{begun_so, read_so}
 use Rattle.lc_core.proofs.Refusing.{on_err}
@@ -55,6 +55,19 @@ returns-then-knows-clause-brings g c =
     finds_known g.D.Area w c.args.sender c.args.number c.args.segment c.args.to from at_sender c.in-Record.view c.in-Record.ensures c.in-Some.seq (sym c.number_in.ensures ∙ c.in-Some.is)
     known.2 node at slot at_segment (sym c.knows.ensures ∙ c.if-knows.true)
 
+pub returns-then-is_next-clause-brings : goal.returns-then-is_next-clause-brings
+returns-then-is_next-clause-brings g c =
+    let w = c.args.self.now in
+    let from = c.index.result.now in
+    let node = c.index-2.result.now in
+    let slot = c.index-slot.result.now in
+    let known = delivery_known w.geometry c.args.sender c.args.number c.args.segment c.args.to c.requires.known in
+    let at_sender = node_at g.D.Area w c.args.sender from known.1 c.index.ensures in
+    let at = node_at g.D.Area w c.args.to node known.0 c.index-2.ensures in
+    let at_segment = slot_at node.desk.here c.args.segment slot known.2 (slot_within g.D.Area w c.args.to c.args.segment node at known.3) c.index-slot.ensures in
+    finds_next g.D.Area w c.args.sender c.args.number c.args.segment c.args.to from at_sender c.in-Record.view c.in-Record.ensures c.in-Some.seq (sym c.number_in.ensures ∙ c.in-Some.is)
+    known.2 node at slot at_segment (sym c.knows.ensures ∙ c.if-knows.false) (c.is_next.ensures.0 c.if-is_next.true)
+
 pub returns-in_err-record-clause-memory : goal.returns-in_err-record-clause-memory
 returns-in_err-record-clause-memory g c =
     let w = c.args.self.now in
@@ -67,8 +80,8 @@ returns-in_err-record-clause-memory g c =
     let at_segment = slot_at node.desk.here c.args.segment slot known.2 (slot_within g.D.Area w c.args.to c.args.segment node at known.3) c.index-slot.ensures in
     on_err c.from_residual.result _ (λ m s x h. (
       c.in-Record.view,
-      finds_new g.D.Area w c.args.sender c.args.number c.args.segment c.args.to from at_sender c.in-Record.view c.in-Record.ensures c.in-Some.seq (sym c.number_in.ensures ∙ c.in-Some.is)
-          known.2 node at slot at_segment (sym c.knows.ensures ∙ c.if-knows.false) m s x h,
+      finds_kept g.D.Area w c.args.sender c.args.number c.args.segment c.args.to from at_sender c.in-Record.view c.in-Record.ensures c.in-Some.seq (sym c.number_in.ensures ∙ c.in-Some.is)
+          known.2 node at slot at_segment (sym c.knows.ensures ∙ c.if-knows.false) (λ next. true≢false (sym (c.is_next.ensures.1 next) ∙ c.if-is_next.false)) m s x h,
     ))
 
 pub unreachable-requires : goal.unreachable-requires
@@ -91,7 +104,7 @@ returns-clause-brings g c =
     let same : c.in-Some-2.record ≡ c.in-Record.view = read_so words c.in-Record.view c.in-Some-2.record c.in-Some-2.field-0-1 c.words.ensures begins in (
       subst (λ r. IsSome (part_of c.args.segment r)) (sym same) (has_part c.args.segment c.in-Some.seq c.in-Record.view lock),
       λ m s x h.
-          subst (HasNewPart m s x c.args.sender c.args.number c.args.segment c.args.to) (sym same)
-          (finds_new g.D.Area w c.args.sender c.args.number c.args.segment c.args.to from at_sender c.in-Record.view c.in-Record.ensures c.in-Some.seq lock
-          known.2 node at slot at_segment (sym c.knows.ensures ∙ c.if-knows.false) m s x h),
+          subst (CopiesPart m s x c.args.sender c.args.number c.args.segment c.args.to) (sym same)
+          (finds_kept g.D.Area w c.args.sender c.args.number c.args.segment c.args.to from at_sender c.in-Record.view c.in-Record.ensures c.in-Some.seq lock
+          known.2 node at slot at_segment (sym c.knows.ensures ∙ c.if-knows.false) (λ next. true≢false (sym (c.is_next.ensures.1 next) ∙ c.if-is_next.false)) m s x h),
     )
