@@ -2,6 +2,7 @@
 #![tactic(auto)]
 
 mod attempting;
+mod committing;
 mod confirming;
 mod flushing;
 mod gate;
