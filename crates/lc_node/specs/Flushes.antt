@@ -1,5 +1,5 @@
 -- What a flush does.
-use Rattle.std.specs.Prelude.{◌≡◌, ℕ, ◌+◌, true, false, List, [], ◌∷◌, ◌++◌, length}
+use Rattle.std.specs.Prelude.{◌≡◌, ◌⊎◌, ℕ, ◌+◌, true, false, List, [], ◌∷◌, ◌++◌, length}
 use Rattle.lc_disk.specs.declared.area.Area.{Ghosts}
 use Rattle.lc_stage.specs.declared.view.View.{View}
 use Rattle.lc_stage.specs.Seats.{flush_view, OnlyTakes, EndsAt, publishing}
@@ -34,7 +34,6 @@ module _ {D : Type 0} where
     pub new_area : new.area ≡ after ∷ []
     pub cause : a.failures after ≡ a.failures before + 1
 
+  -- the device failed before, and nothing has changed; or it failed now
   abbrev pub IsUnflushed : Ghosts D → LogView D → NodeFault → LogView D → Type 0
-  IsUnflushed a old Halted new = (old.is_halted ≡ true) × (new ≡ old)
-  IsUnflushed a old DeviceFault new = FailsDevice a old new
-  IsUnflushed a old _ new = ⊥
+  IsUnflushed a old fault new = ((fault ≡ Halted) × (old.is_halted ≡ true) × (new ≡ old)) ⊎ ((fault ≡ DeviceFault) × FailsDevice a old new)

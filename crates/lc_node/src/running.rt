@@ -1,5 +1,5 @@
 //! The calls of a running node.
-ghost use Rattle.std.specs.Prelude.{◌≡◌, ◌≢◌, ◌<◌, ℕ};
+ghost use Rattle.std.specs.Prelude.{◌≡◌, ◌≢◌, ◌⊎◌, ◌<◌, ℕ, IfErr};
 ghost use Rattle.lc_stage.specs.declared.view.Reservation.{Reservation as Run};
 ghost use Rattle.lc_stage.specs.Staging.{newcomer, joining, Owns};
 ghost use Rattle.lc_stage.specs.Receipts.{IsReceiptOf};
@@ -9,6 +9,7 @@ ghost use Rattle.lc_node.specs.Among.{IsAmong};
 ghost use Rattle.lc_node.specs.LogView.{IsSameLog};
 ghost use Rattle.lc_node.specs.Receipts.{HasReceipt};
 ghost use Rattle.lc_node.specs.declared.confirming.Confirmed.TheVariants.{Here, Earlier};
+ghost use Rattle.lc_node.specs.declared.node_fault.NodeFault.TheVariants.{DeviceFault, Halted};
 
 use crate::{Confirmed, LogSide, Node, NodeFault};
 use lc_disk::Area;
@@ -34,7 +35,9 @@ impl<D: Area + Drop> Node<D> {
     /// # Errors
     ///
     /// `DeviceFault` where the device fails, and `Halted` where it did before.
-    pub fn flush<R: Wait>(&self, rt: &R) -> Result<u64, NodeFault> {
+    pub fn flush<R: Wait>(&self, rt: &R) -> Result<u64, NodeFault>
+        ensures { IfErr result (λ fault. (fault ≡ DeviceFault) ⊎ (fault ≡ Halted)) }
+    {
         let (mut log, loan) = self.log.lock(rt);
         let flushed = log.flush(&self.stage);
         self.log.unlock(log, loan);

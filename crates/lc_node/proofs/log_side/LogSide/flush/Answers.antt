@@ -1,4 +1,4 @@
-use Rattle.std.proofs.Common.{rules, ◌≡◌, ◌<◌, ◌++◌, ℕ, ◌+◌, ◌*◌, ◌≤◌, List, [], length, All, refl, sym, ap, ◌∙◌, subst, arith}
+use Rattle.std.proofs.Common.{rules, ◌≡◌, ◌<◌, ◌++◌, ℕ, ◌+◌, ◌*◌, ◌≤◌, List, [], length, All, inr, refl, sym, ap, ◌∙◌, subst, arith}
 use Rattle.lc_stage.specs.declared.view.View.{View}
 use Rattle.lc_stage.specs.Seats.{flush_view}
 use Rattle.lc_stage.specs.Staging.{AreRecords}
@@ -75,3 +75,6 @@ invariant_of-self-in-Err g c = let v : View = flush_view c.self.inside.flusher i
       published = (let old = inv.published in let same : w.published ≡ v.published = ap (λ (y : View). y.published) c.take-words.ensures.takes.1 in omega arith);
       holds = (c.take-words.new.group.words, c.take-words.ensures.words ∙ ap (λ (l : List ℕ). l ++ c.take-words.new.group.words) (sym held.0));
     })
+
+pub returns-in-Err-clause-refused : goal.returns-in-Err-clause-refused
+returns-in-Err-clause-refused g c = inr (refl, search rules)
