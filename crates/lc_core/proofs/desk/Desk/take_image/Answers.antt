@@ -1,4 +1,4 @@
-use Rattle.std.proofs.Common.{◌≡◌, ◌-◌, ◌≤◌, ℕ, Global, Vec, length, ap, refl, ◌∙◌, arith}
+use Rattle.std.proofs.Common.{◌≡◌, ◌-◌, ℕ, Global, Vec, length, ap, refl, ◌∙◌, arith}
 use Rattle.lc_tx.specs.declared.image.Image.{Image as Picture}
 use Rattle.lc_core.proofs.Away.{in_place_away, runs_away, short_put, slot_at, stands_there}
 use Rattle.lc_core.proofs.desk.Desk.take_image.Goals as goal

@@ -1,4 +1,4 @@
-use Rattle.std.proofs.Common.{◌≡◌, ◌==◌, ◌∙◌, length, filter, ap, sym, subst}
+use Rattle.std.proofs.Common.{◌≡◌, ◌==◌, ◌∙◌, length, filter, ap, sym}
 use Rattle.lc_record.specs.declared.record.Record.{Record}
 use Rattle.lc_tx.specs.Image.{laid_over}
 use Rattle.lc_tx.proofs.PutLemmas.{length-laid_over}
