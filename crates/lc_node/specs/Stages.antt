@@ -2,7 +2,7 @@
 use Rattle.std.specs.Prelude.{◌≡◌, ℕ, ◌+◌, ◌/◌, ◌<◌, ◌≤◌, Bool, true, false, List, ◌∷◌, length, slice_index}
 use Rattle.lc_stage.specs.declared.view.View.{View}
 use Rattle.lc_stage.specs.declared.view.Reservation.{Reservation}
-use Rattle.lc_stage.specs.Staging.{saw, reserved, with_newest, offset_of, seal_of}
+use Rattle.lc_stage.specs.Staging.{saw, reserved, latest, with_newest, offset_of, seal_of, LieBelow}
 use Rattle.lc_node.specs.declared.node_fault.NodeFault.{NodeFault}
 use Rattle.lc_node.specs.declared.node_fault.NodeFault.TheVariants.{Full, Sealed, Lost}
 
@@ -10,9 +10,9 @@ use Rattle.lc_node.specs.declared.node_fault.NodeFault.TheVariants.{Full, Sealed
 abbrev pub Sees : View → View → Type 0
 Sees v w = w ≡ saw w.seen v
 
--- and has a reservation of n words more, from the tail that it saw
+-- and has a reservation of n words more, from the tail that it saw, which lies behind its earlier ones
 abbrev pub Wins : ℕ → View → View → Type 0
-Wins n v w = w ≡ reserved w.seen n (saw w.seen v)
+Wins n v w = (w ≡ reserved w.seen n (saw w.seen v)) × LieBelow w.seen v.mine
 
 -- why nothing was reserved: the words do not fit behind the tail that was seen, that is sealed, or all tries found another one
 abbrev pub IsUnwon : ℕ → ℕ → ℕ → NodeFault → Type 0
@@ -32,10 +32,11 @@ pub record IsFilling (v : View) (words : List ℕ) (next : ℕ) (w : View) : Typ
   pub long : length filled ≡ length words
   pub same : (j : ℕ) → 0 < j → j < next → slice_index filled j ≡ slice_index words j
 
--- the seat has one closed reservation more, of these words
+-- the seat has one closed reservation more, of these words, which is its last by round and place
 pub record Closes (words : List ℕ) (v w : View) : Type 0 where
   pub reservation : Reservation
   pub closed : reservation.closed ≡ true
   pub words_are : reservation.words ≡ words
   pub of_tail : (reservation.round ≡ w.seen / 65536) × (reservation.place ≡ offset_of w.seen)
   pub is : w ≡ record v { seen = w.seen; mine = reservation ∷ v.mine }
+  pub last : latest w.mine ≡ reservation

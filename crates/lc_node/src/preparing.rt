@@ -1,5 +1,5 @@
 //! What a commit makes ready before its record is reserved.
-ghost use Rattle.std.specs.Prelude.{◌≡◌, ◌≤◌, ◌<◌, ℕ, map, length, None, Some, IfOk, IfErr, IfSome};
+ghost use Rattle.std.specs.Prelude.{◌≡◌, ◌≤◌, ◌<◌, ℕ, map, length, None, Some, IfOk, IfErr, IfSome, OnOk};
 ghost use Rattle.lc_record.specs.declared.record.Record.{Record as Spelled};
 ghost use Rattle.lc_record.specs.Record.{IsRecord};
 ghost use Rattle.lc_record.specs.Part.{part_of};
@@ -70,6 +70,7 @@ pub(crate) fn stage_work<W: Work, G: Gate>(
     ensures own { IsSeatOf stage.now seat.new }
     ensures idle { IsIdle (commit_view seat.new) }
     ensures staged { IfOk result (λ done. IfSome done (λ parts. StagesWork segments.now lent.old parts.items lent.new (commit_view seat.old) (commit_view seat.new))) }
+    ensures ran { OnOk result (W.after work.old work.new) }
     ensures nothing { result ≡ Ok None → (commit_view seat.new ≡ commit_view seat.old) × IsUndone the_images segments.now lent.old lent.new }
     ensures refused { IfErr result (λ _. Sees (commit_view seat.old) (commit_view seat.new) × IsUndone the_images segments.now lent.old lent.new) }
 {
