@@ -2,6 +2,7 @@
 #![tactic(auto)]
 
 mod attempting;
+mod commit_kind;
 mod committing;
 mod confirming;
 mod flushing;
@@ -22,10 +23,13 @@ mod resetting;
 mod running;
 mod seeing;
 mod seg_side;
+mod settling;
 mod staging;
 mod taking_out;
+mod transacting;
 mod work;
 
+pub use commit_kind::{Commit, Mode};
 pub use confirming::Confirmed;
 pub use gate::Gate;
 pub use held::Held;

@@ -1,0 +1,22 @@
+//! How a transaction ends.
+use lc_stage::Receipt;
+
+/// Whether a transaction waits until its record is stable. This project's own.
+#[derive(Clone, Copy, Debug, PartialEq, Eq)]
+pub enum Mode {
+    /// It does not wait.
+    Lazy,
+    /// It does, and gets its receipt.
+    Flush,
+}
+
+/// What became of a transaction. This project's own.
+#[derive(Clone, Copy)]
+pub enum Commit {
+    /// Nothing was set, so there is no record.
+    Empty,
+    /// Its record is closed, and will be stable behind some flush.
+    Lazy,
+    /// Its record is stable, and this is its receipt.
+    Flushed(Receipt),
+}

@@ -1,0 +1,72 @@
+//! A whole transaction on a running node.
+ghost use Rattle.std.specs.Prelude.{◌≡◌, ◌⊎◌, ◌<◌, Ok, IfErr, OnOk};
+ghost use Rattle.lc_stage.specs.declared.receipt.Receipt.{Receipt as Given};
+ghost use Rattle.lc_stage.specs.declared.view.View.{View};
+ghost use Rattle.lc_stage.specs.Seats.{commit_view, IsSeatOf, IsIdle};
+ghost use Rattle.lc_node.specs.Receipts.{IsOfDevice, Learns, Receives};
+ghost use Rattle.lc_node.specs.Stages.{ClosesOne, Sees};
+ghost use Rattle.lc_node.specs.declared.commit_kind.Commit.TheVariants.{Empty, Lazy, Flushed};
+
+use crate::{Commit, Gate, Mode, Node, NodeFault, Work};
+use lc_disk::Area;
+use lc_stage::CommitSeat;
+use std::alloc::Global;
+use std::sync::Wait;
+
+impl<D: Area + Drop> Node<D> {
+    /// Runs the work in a transaction on these segments, whose locks it gets in ascending order, and closes its record in
+    /// the stage, with so many tries for a place. The locks are given back before it waits for a flush, which it does in
+    /// `Mode::Flush` alone. All memory is taken before a place is reserved. `gate` is called between reservation and
+    /// closing.
+    ///
+    /// # Errors
+    ///
+    /// Those of `hold` and of the work, and those of the record's end: then the work is undone, and the seat has at most
+    /// seen a tail. `DeviceFault` and `Halted` where the flush fails: the record stays closed, and what becomes of it a
+    /// recovery decides.
+    pub fn transact<R: Wait, W: Work, G: Gate>(
+        &self,
+        rt: &R,
+        alloc: Global,
+        seat: CommitSeat,
+        segments: &[u32],
+        work: &mut W,
+        mode: Mode,
+        tries: u32,
+        gate: &G,
+    ) -> (CommitSeat, Result<Commit, NodeFault>)
+        requires own { IsSeatOf self.now.stage seat }
+        requires idle { IsIdle (commit_view seat) }
+        requires tries { 0 < tries }
+        ensures own { IsSeatOf self.now.stage result.0 }
+        ensures ran { OnOk result.1 (W.after work.old work.new) }
+        ensures empty { result.1 ≡ Ok Empty → commit_view result.0 ≡ commit_view seat }
+        ensures lazy { result.1 ≡ Ok Lazy → ClosesOne (commit_view seat) (commit_view result.0) }
+        ensures flushed { (receipt : Given) → result.1 ≡ Ok (Flushed receipt)
+            → (w : View) × ClosesOne (commit_view seat) w × Receives w receipt (commit_view result.0) }
+        ensures refused { IfErr result.1 (λ fault. Sees (commit_view seat) (commit_view result.0)
+            ⊎ (IsOfDevice fault × ((w : View) × ClosesOne (commit_view seat) w × Learns w (commit_view result.0)))) }
+    {
+        let mut seat = seat;
+        let mut held = match self.hold(rt, alloc, segments) {
+            Ok(held) => held,
+            Err(fault) => return (seat, Err(fault)),
+        };
+        let committed = held.commit(alloc, self, &mut seat, work, tries, gate);
+        self.release(held);
+        match committed {
+            Err(fault) => (seat, Err(fault)),
+            Ok(false) => (seat, Ok(Commit::Empty)),
+            Ok(true) => match mode {
+                Mode::Lazy => (seat, Ok(Commit::Lazy)),
+                Mode::Flush => {
+                    let (seat, settled) = self.settle(rt, seat);
+                    match settled {
+                        Ok(receipt) => (seat, Ok(Commit::Flushed(receipt))),
+                        Err(fault) => (seat, Err(fault)),
+                    }
+                }
+            },
+        }
+    }
+}
