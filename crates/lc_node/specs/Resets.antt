@@ -1,8 +1,7 @@
 -- What the reset of a log does.
-use Rattle.std.specs.Prelude.{◌≡◌, ◌≢◌, ◌⊎◌, ℕ, ◌+◌, ◌*◌, ◌^◌, true, false, List, [], ◌∷◌, ◌++◌, length}
+use Rattle.std.specs.Prelude.{◌≡◌, ◌≢◌, ◌⊎◌, ℕ, ◌+◌, ◌*◌, ◌^◌, true, false, [], ◌∷◌, ◌++◌, length}
 use Rattle.lc_model.specs.Merge.{IsLeastPair}
-use Rattle.lc_stage.specs.Staging.{hears, sealing}
-use Rattle.lc_stage.specs.Seats.{flush_view}
+use Rattle.lc_stage.specs.Seats.{commit_view, flush_view}
 use Rattle.lc_trunc.specs.KnownClean.{known}
 use Rattle.lc_trunc.specs.Reset.{AreKnown, IsAbove}
 use Rattle.lc_node.specs.LogView.{LogView}
@@ -41,9 +40,10 @@ module _ {D : Type 0} where
   abbrev pub Seals : LogView D → LogView D → Type 0
   Seals old new = IsSealed new × IsKept old new × (new.is_halted ≡ old.is_halted)
 
-  -- something else stands behind the stable records, and the log serves on as it was
+  -- another tail was found, which is named, and the log serves on as it was
   abbrev pub IsUnsealed : LogView D → NodeFault → LogView D → Type 0
-  IsUnsealed old fault new = (seen : ℕ) × (fault ≡ Lost seen) × (seen ≢ old.round * 65536 + length old.stable) × IsKept old new × (new.is_halted ≡ old.is_halted) × (new.area ≡ old.area)
+  IsUnsealed old fault new = (seen : ℕ) × (fault ≡ Lost seen) × (seen ≢ old.round * 65536 + length old.stable)
+      × (((commit_view new.probe).seen ≡ seen) ⊎ ((flush_view new.flusher).heard ≡ seen)) × IsKept old new × (new.is_halted ≡ old.is_halted) × (new.area ≡ old.area)
 
   -- the next round has begun without a record, and what was taken stays under the ended one
   pub record Begins (old : LogView D) (round : ℕ) (new : LogView D) : Type 0 where

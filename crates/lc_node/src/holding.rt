@@ -3,7 +3,7 @@ ghost use Rattle.std.specs.Prelude.{◌≡◌, ◌+◌, ◌-◌, ◌<◌, ◌≤
 ghost use Rattle.lc_record.specs.Transaction.{is_member};
 ghost use Rattle.lc_tx.specs.Tx.{IsSetOf};
 ghost use Rattle.lc_node.specs.Held.{HasSegment, IsFirstOutside, IsHeldOf, IsUnheld, segments_of};
-ghost use Rattle.lc_node.specs.declared.node_fault.NodeFault.TheVariants.{NotHere};
+ghost use Rattle.lc_node.specs.declared.node_fault.NodeFault.TheVariants.{NotHere, NoMemory};
 
 use crate::held::{Held, HeldSide};
 use crate::{Node, NodeFault, SegSide};
@@ -41,6 +41,7 @@ impl<D: Area + Drop> Node<D> {
         ensures segments { IfOk result (λ held. IsSetOf segments.now (segments_of held)) }
         ensures not_here { (s : ℕ) → (result ≡ Err (NotHere s)) ↔ IsFirstOutside self.now segments.now s }
         ensures refused { IfErr result IsUnheld }
+        ensures no_memory { result ≡ Err NoMemory → 0 < length self.now.segments.items }
     {
         if let Some(segment) = self.first_outside(segments) {
             return Err(NodeFault::NotHere { segment });

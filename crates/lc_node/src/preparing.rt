@@ -1,5 +1,5 @@
 //! What a commit makes ready before its record is reserved.
-ghost use Rattle.std.specs.Prelude.{◌≡◌, ◌≤◌, ◌<◌, ℕ, map, length, None, Some, IfOk, IfErr, IfSome, OnOk};
+ghost use Rattle.std.specs.Prelude.{◌≡◌, ◌≤◌, ◌<◌, ℕ, map, length, None, Some, Ok, IfOk, IfErr, IfSome, OnOk};
 ghost use Rattle.lc_record.specs.declared.record.Record.{Record as Spelled};
 ghost use Rattle.lc_record.specs.Record.{IsRecord};
 ghost use Rattle.lc_record.specs.Part.{part_of};
@@ -8,7 +8,7 @@ ghost use Rattle.lc_stage.specs.Seats.{commit_view, IsSeatOf, IsIdle};
 ghost use Rattle.lc_tx.specs.Prepared.{AreSmall};
 ghost use Rattle.lc_node.specs.Lent.{the_images};
 ghost use Rattle.lc_node.specs.Attempts.{IsUndone};
-ghost use Rattle.lc_node.specs.Commits.{StagesWork};
+ghost use Rattle.lc_node.specs.Commits.{IsUncommitted, StagesWork};
 ghost use Rattle.lc_node.specs.Stages.{Sees};
 
 use crate::attempting::attempt;
@@ -70,8 +70,9 @@ pub(crate) fn stage_work<W: Work, G: Gate>(
     ensures own { IsSeatOf stage.now seat.new }
     ensures idle { IsIdle (commit_view seat.new) }
     ensures staged { IfOk result (λ done. IfSome done (λ parts. StagesWork segments.now lent.old parts.items lent.new (commit_view seat.old) (commit_view seat.new))) }
-    ensures ran { OnOk result (W.after work.old work.new) }
+    ensures ran { OnOk result (W.ran work.old (Ok tt) work.new) }
     ensures nothing { result ≡ Ok None → (commit_view seat.new ≡ commit_view seat.old) × IsUndone the_images segments.now lent.old lent.new }
+    ensures why { IfErr result (λ fault. IsUncommitted (λ answer. W.ran work.old answer work.new) stage.now.room (commit_view seat.new).seen fault) }
     ensures refused { IfErr result (λ _. Sees (commit_view seat.old) (commit_view seat.new) × IsUndone the_images segments.now lent.old lent.new) }
 {
     let (tx, prepared) = match attempt(alloc, lent, segments, work) {

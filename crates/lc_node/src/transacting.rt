@@ -1,10 +1,13 @@
 //! A whole transaction on a running node.
-ghost use Rattle.std.specs.Prelude.{◌≡◌, ◌⊎◌, ◌<◌, Ok, IfErr, OnOk};
+ghost use Rattle.std.specs.Prelude.{◌≡◌, ◌⊎◌, ◌<◌, ℕ, Ok, IfErr, OnOk};
 ghost use Rattle.lc_stage.specs.declared.receipt.Receipt.{Receipt as Given};
 ghost use Rattle.lc_stage.specs.declared.view.View.{View};
 ghost use Rattle.lc_stage.specs.Seats.{commit_view, IsSeatOf, IsIdle};
 ghost use Rattle.lc_node.specs.Receipts.{IsOfDevice, Learns, Receives};
 ghost use Rattle.lc_node.specs.Stages.{ClosesOne, Sees};
+ghost use Rattle.lc_node.specs.Commits.{IsUncommitted};
+ghost use Rattle.lc_node.specs.Held.{IsFirstOutside};
+ghost use Rattle.lc_node.specs.declared.node_fault.NodeFault.TheVariants.{NotHere};
 ghost use Rattle.lc_node.specs.declared.commit_kind.Commit.TheVariants.{Empty, Lazy, Flushed};
 
 use crate::{Commit, Gate, Mode, Node, NodeFault, Work};
@@ -39,12 +42,14 @@ impl<D: Area + Drop> Node<D> {
         requires idle { IsIdle (commit_view seat) }
         requires tries { 0 < tries }
         ensures own { IsSeatOf self.now.stage result.0 }
-        ensures ran { OnOk result.1 (W.after work.old work.new) }
+        ensures ran { OnOk result.1 (W.ran work.old (Ok tt) work.new) }
         ensures empty { result.1 ≡ Ok Empty → commit_view result.0 ≡ commit_view seat }
         ensures lazy { result.1 ≡ Ok Lazy → ClosesOne (commit_view seat) (commit_view result.0) }
         ensures flushed { (receipt : Given) → result.1 ≡ Ok (Flushed receipt)
             → (w : View) × ClosesOne (commit_view seat) w × Receives w receipt (commit_view result.0) }
-        ensures refused { IfErr result.1 (λ fault. Sees (commit_view seat) (commit_view result.0)
+        ensures refused { IfErr result.1 (λ fault. (Sees (commit_view seat) (commit_view result.0)
+            × (((s : ℕ) × (fault ≡ NotHere s) × IsFirstOutside self.now segments.now s)
+            ⊎ IsUncommitted (λ answer. W.ran work.old answer work.new) self.now.stage.room (commit_view result.0).seen fault))
             ⊎ (IsOfDevice fault × ((w : View) × ClosesOne (commit_view seat) w × Learns w (commit_view result.0)))) }
     {
         let mut seat = seat;
