@@ -1,11 +1,10 @@
 -- What a transaction's work left is the bytes before with the ranges of its record laid over them.
-use Rattle.std.proofs.Common.{◌≡◌, ◌⊎◌, ℕ, zero, suc, ◌+◌, ◌-◌, ◌<◌, ◌≤◌, ◌==◌, cond, Bool, true, false, List, [], ◌∷◌, length, get_or, filter, map, take, drop, refl, sym, ap, subst, ◌∙◌, inl, inr, ⊎_elim, arith, eqb-true, eq-eqb, true≢false}
+use Rattle.std.proofs.Common.{◌≡◌, ℕ, zero, suc, ◌+◌, ◌-◌, ◌<◌, ◌==◌, cond, Bool, true, false, List, [], ◌∷◌, length, get_or, filter, map, take, drop, refl, sym, ap, ◌∙◌, ⊎_elim, arith, eqb-true, eq-eqb, true≢false}
 use mathlib.Core.Logic.{dite}
 use native.Mathlib.Decide.{dec_le}
 use Rattle.std.proofs.lemmas.List.{ext_get_or, get_or_past, get_or-take, get_or-drop, length-take-le, length-drop}
 use Rattle.lc_record.specs.Content.{put}
 use Rattle.lc_record.proofs.SegmentLemmas.{length-put}
-use Rattle.lc_record.specs.declared.record.RangeData.{RangeData}
 use Rattle.lc_range.specs.declared.range.Range.{Range}
 use Rattle.lc_range.specs.RangeSet.{Has}
 use Rattle.lc_tx.specs.Image.{laid_over}
@@ -21,7 +20,7 @@ put_in zero (i ∷ is) (x ∷ xs) (suc k) (suc j) e l m = put_in zero is xs k j 
 put_in (suc p) items (x ∷ xs) zero j e l m = absurd (omega arith)
 put_in (suc p) items (x ∷ xs) (suc k) j e l m = put_in p items xs k j (omega arith) l (omega arith)
 
-put_out : (place : ℕ) (items xs : List ℕ) (k : ℕ) → ((j : ℕ) → j < length items → k ≡ place + j → ⊥) → get_or (put place items xs) k 0 ≡ get_or xs k 0
+pub put_out : (place : ℕ) (items xs : List ℕ) (k : ℕ) → ((j : ℕ) → j < length items → k ≡ place + j → ⊥) → get_or (put place items xs) k 0 ≡ get_or xs k 0
 put_out place items [] k n = refl
 put_out zero [] (x ∷ xs) k n = refl
 put_out zero (i ∷ is) (x ∷ xs) zero n = absurd (n 0 (omega arith) (omega arith))

@@ -1,7 +1,7 @@
 -- What an attempt of a transaction leaves, and how it is undone.
-use Rattle.std.proofs.Common.{◌≡◌, ◌⊎◌, ℕ, true, false, ◌||◌, eqb, Bool, List, [], ◌∷◌, ◌++◌, length, unwrap_or, get_or, refl, sym, ap, subst, ◌∙◌, inl, inr, arith}
+use Rattle.std.proofs.Common.{◌≡◌, ℕ, true, false, ◌||◌, eqb, Bool, List, [], ◌∷◌, ◌++◌, length, unwrap_or, refl, sym, ap, subst, ◌∙◌, inl, inr}
 use Rattle.std.specs.Prelude.{IsSome, IsTrue, slice_index}
-use Rattle.std.proofs.lemmas.Bool.{or_cases, or_from, cases_Bool, false≢true, false_from_ne_true}
+use Rattle.std.proofs.lemmas.Bool.{or_from, cases_Bool, false≢true, false_from_ne_true}
 use Rattle.std.proofs.lemmas.List.{ext_get_or}
 use Rattle.lc_record.specs.Transaction.{is_member}
 use Rattle.lc_range.specs.RangeSet.{Has}
@@ -9,7 +9,7 @@ use Rattle.lc_range.specs.Undo.{OldBytes, kept}
 use Rattle.lc_tx.specs.declared.holders.Holders.TheVariants.{Free}
 use Rattle.lc_tx.specs.declared.images.Images.{Ghosts}
 use Rattle.lc_tx.specs.declared.tx.Tx.{Tx}
-use Rattle.lc_tx.specs.Images.{IsHere, IsLockable, IsSameBut, IsSame, AreRestored, AreReleased, bytes_of, holders_of}
+use Rattle.lc_tx.specs.Images.{IsLockable, IsSameBut, IsSame, AreRestored, AreReleased, bytes_of, holders_of}
 use Rattle.lc_tx.specs.Tx.{Begins}
 use Rattle.lc_node.specs.Works.{Works}
 use Rattle.lc_node.specs.Attempts.{Leaves, IsUndone}

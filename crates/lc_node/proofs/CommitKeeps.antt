@@ -1,6 +1,6 @@
 -- What a commit makes of held segments.
-use Rattle.std.proofs.Common.{◌≡◌, ◌⊎◌, ℕ, zero, suc, ◌+◌, ◌<◌, ◌≤◌, ◌^◌, ◌==◌, Bool, true, false, List, [], ◌∷◌, ◌++◌, Some, None, length, map, refl, sym, ap, subst, ◌∙◌, inl, inr, arith, All, filter, get_or}
-use Rattle.std.specs.Prelude.{slice_get, slice_index, Option, IsSome, IsTrue, IsSomeAnd, unwrap_or}
+use Rattle.std.proofs.Common.{◌≡◌, ℕ, zero, suc, ◌+◌, ◌<◌, ◌≤◌, ◌^◌, ◌==◌, true, List, [], ◌∷◌, Some, None, length, map, refl, sym, ap, subst, ◌∙◌, arith, All, filter}
+use Rattle.std.specs.Prelude.{slice_get, slice_index, Option, IsSome, unwrap_or}
 use Rattle.std.proofs.lemmas.List.{ext_get_or, length-map}
 use Rattle.std.proofs.lemmas.Option.{slice_get_within, get_or_from_slice_get}
 use Rattle.lc_record.specs.Part.{number_in, part_of}
@@ -10,32 +10,27 @@ use Rattle.lc_record.specs.declared.record.Record.{Record}
 use Rattle.lc_range.specs.RangeSet.{Has}
 use Rattle.lc_stage.specs.declared.view.View.{View}
 use Rattle.lc_token.specs.declared.token.Token.{Token}
-use Rattle.lc_tx.specs.declared.holders.Holders.{Holders}
 use Rattle.lc_tx.specs.declared.holders.Holders.TheVariants.{Free}
 use Rattle.lc_tx.specs.declared.image.Image.{Image as Picture}
 use Rattle.lc_tx.specs.Image.{laid_over}
-use Rattle.lc_tx.specs.Images.{IsHere, bytes_of, holders_of}
+use Rattle.lc_tx.specs.Images.{IsHere, bytes_of}
 use Rattle.lc_tx.specs.Prepared.{AreSmall, next_number, segments_of}
 use Rattle.lc_tx.proofs.RecordLemmas.{inside_from}
 use Rattle.lc_node.specs.Attempts.{IsUndone}
 use Rattle.lc_node.specs.Commits.{StagesWork, IsAsBefore, HasPart, TakesPart, shown}
 use Rattle.lc_node.specs.Each.{Each, EachThree}
 use Rattle.lc_node.specs.Held.{lent_side}
-use Rattle.lc_node.specs.Lent.{the_images, beside, hidden}
-use Rattle.lc_node.specs.SegView.{SegView, laid_parts}
-use Rattle.lc_node.specs.Sides.{IsOut, IsReady, IsBack, CanCount, IsCounted, IsRoomier, HasRoomFor, IsNext, counting, number_in as number_here}
+use Rattle.lc_node.specs.Lent.{the_images}
+use Rattle.lc_node.specs.SegView.{laid_parts}
+use Rattle.lc_node.specs.Sides.{IsOut, IsReady, IsBack, CanCount, IsCounted, HasRoomFor, IsNext, number_in as number_here}
 use Rattle.lc_node.specs.declared.held.HeldSide.{HeldSide}
 use Rattle.lc_node.specs.declared.lent.LentSlot.{LentSlot}
 use Rattle.lc_node.specs.declared.lent.Lent.{Lent}
 use Rattle.lc_node.proofs.Applied.{laid_is_left}
 use Rattle.lc_node.proofs.Backwards.{some_same}
+use Rattle.lc_node.proofs.Laying.{laid_more}
 use Rattle.lc_node.proofs.PartsOf.{number_made, number_fits, part_is, none_set, lie_inside}
 use Rattle.lc_node.proofs.Slots.{AscendFrom, SameBeside, each_map, each_of, each_to, got_map, map_got, member_here, member_place, segments_in, image_is, number_is, same_beside, same_segments, hidden_image}
-
--- parts behind others are put on last
-laid_more : (parts : List Part) (part : Part) (bytes : List ℕ) → laid_parts (parts ++ part ∷ []) bytes ≡ laid_over part.ranges (laid_parts parts bytes)
-laid_more [] part bytes = refl
-laid_more (p ∷ parts) part bytes = laid_more parts part (laid_over p.ranges bytes)
 
 number_some : (token : Option Token) (n : ℕ) → number_here token ≡ Some n → (t : Token) × (token ≡ Some t) × (t.seq ≡ n)
 number_some None n is = absurd cc
@@ -45,12 +40,12 @@ some_number : (o : Option ℕ) → IsSome o → (n : ℕ) × (o ≡ Some n)
 some_number None is = absurd cc
 some_number (Some n) is = (n, refl)
 
-some_at : {A : Type 0} (xs : List A) (k : ℕ) → k < length xs → (x : A) × (slice_get xs k ≡ Some x)
+pub some_at : {A : Type 0} (xs : List A) (k : ℕ) → k < length xs → (x : A) × (slice_get xs k ≡ Some x)
 some_at [] k l = absurd (omega arith)
 some_at (x ∷ xs) zero l = (x, refl)
 some_at (x ∷ xs) (suc k) l = some_at xs k (omega arith)
 
-all_at : {A : Type 0} (P : A → Type 0) (xs : List A) (k : ℕ) (x : A) → All P xs → slice_get xs k ≡ Some x → P x
+pub all_at : {A : Type 0} (P : A → Type 0) (xs : List A) (k : ℕ) (x : A) → All P xs → slice_get xs k ≡ Some x → P x
 all_at P xs k x all is = subst P (get_or_from_slice_get xs k x x is) (all k x (slice_get_within xs k x is))
 
 module _ {D : Type 0} where

@@ -15,7 +15,6 @@ use Rattle.lc_node.specs.Lent.{the_images}
 use Rattle.lc_node.specs.Stages.{Closes}
 use Rattle.lc_node.specs.Sides.{IsOut, IsReady, IsBack, CanCount, IsCounted, IsRoomier, HasRoomFor}
 use Rattle.lc_node.specs.declared.held.HeldSide.{HeldSide}
-use Rattle.lc_node.specs.declared.lent.LentSlot.{LentSlot}
 use Rattle.lc_node.specs.declared.lent.Lent.{Lent}
 use Rattle.lc_node.proofs.CommitKeeps.{are_small, ready_undone, back_undone, can_count, ready_counted, takes_parts}
 use Rattle.lc_node.proofs.Slots.{AscendFrom, ascend_from}

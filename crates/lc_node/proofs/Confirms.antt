@@ -1,12 +1,12 @@
 -- The record of a receipt stands in the stable words.
-use Rattle.std.proofs.Common.{◌≡◌, ℕ, ◌+◌, ◌*◌, ◌≤◌, ◌<◌, List, [], ◌∷◌, ◌++◌, length, get_or, refl, sym, ap, subst, ◌∙◌, arith, length-append}
+use Rattle.std.proofs.Common.{◌≡◌, ℕ, ◌+◌, ◌*◌, ◌≤◌, ◌<◌, List, [], ◌++◌, length, get_or, sym, ap, subst, ◌∙◌, arith}
 use Rattle.std.proofs.Math.ListN.{take}
 use lib.ListN.{get_or-append}
 use Rattle.std.proofs.lemmas.List.{append-nil, take-append-le}
 use Rattle.lc_disk.specs.declared.area.Area.{Ghosts}
 use Rattle.lc_stage.specs.declared.view.View.{View}
 use Rattle.lc_stage.specs.declared.view.Reservation.{Reservation}
-use Rattle.lc_stage.specs.Staging.{Owns, InLog, Agree, AreRecords, IsOneRecord}
+use Rattle.lc_stage.specs.Staging.{Owns, Agree, AreRecords, IsOneRecord}
 use Rattle.lc_node.specs.Among.{AreInFront, IsAmong}
 use Rattle.lc_node.specs.LogSide.{HasStable}
 use Rattle.lc_node.specs.declared.log_state.LogState.{LogState}

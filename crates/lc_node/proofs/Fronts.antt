@@ -1,10 +1,10 @@
 -- Records in front of a place.
-use Rattle.std.proofs.Common.{◌≡◌, ℕ, zero, suc, ◌+◌, ◌/◌, ◌^◌, ◌≤◌, ◌<◌, List, [], ◌∷◌, ◌++◌, length, get_or, All, refl, sym, ap, subst, ◌∙◌, arith, append_assoc, length-append}
+use Rattle.std.proofs.Common.{◌≡◌, ℕ, zero, suc, ◌+◌, ◌/◌, ◌^◌, ◌≤◌, ◌<◌, List, [], ◌∷◌, ◌++◌, length, get_or, All, refl, sym, ap, ◌∙◌, arith, append_assoc, length-append}
 use Rattle.std.specs.List.{concat}
 use Rattle.std.proofs.Math.ListN.{take, drop}
 use lib.ListN.{get_or-append}
 use lib.Seq.{get_or-append-add}
-use Rattle.std.proofs.lemmas.List.{ext_get_or, append-nil, get_or-take, get_or-drop, take-append-drop, take-append-le, length-take-le, length-drop}
+use Rattle.std.proofs.lemmas.List.{ext_get_or, append-nil, get_or-take, get_or-drop, take-append-drop, length-take-le, length-drop}
 use Rattle.std.proofs.lemmas.List.Elements.{All-head, All-tail, All-append}
 use Rattle.std.proofs.lemmas.List.Folds.{concat-append}
 use Rattle.lc_stage.specs.Staging.{IsOneRecord, AreRecords}

@@ -1,10 +1,9 @@
 -- What is known stays known.
-use Rattle.std.proofs.Common.{◌≡◌, ℕ, zero, suc, ◌<◌, ◌≤◌, ◌==◌, max, Bool, true, false, List, [], ◌∷◌, All, get_or, length, ap, inl, inr, arith}
-use Rattle.std.specs.Prelude.{if◌then◌else◌}
-use Rattle.std.proofs.lemmas.Bool.{cases_Bool, eqb-true}
+use Rattle.std.proofs.Common.{◌≡◌, ℕ, zero, suc, ◌<◌, ◌≤◌, ◌==◌, max, List, [], ◌∷◌, All, get_or, length, ap, inl, inr, arith}
+use Rattle.std.proofs.lemmas.Bool.{cases_Bool}
 use Rattle.lc_token.specs.declared.token.Token.{Token}
 use Rattle.lc_trunc.specs.KnownClean.{known, Sees}
-use Rattle.lc_trunc.specs.Reset.{AreKnown, IsAbove}
+use Rattle.lc_trunc.specs.Reset.{AreKnown}
 
 -- no number falls
 pub sees-grows : (old new : List ℕ) (token : Token) → Sees old token new → (segment : ℕ) → known old segment ≤ known new segment

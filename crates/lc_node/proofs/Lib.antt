@@ -3,6 +3,8 @@ pub mod Asking
 pub mod Attempted
 pub mod Backwards
 pub mod Confirms
+pub mod Counted
+pub mod CountedFits
 pub mod CommitKeeps
 pub mod CommitPaths
 pub mod FlushKeeps
@@ -10,7 +12,9 @@ pub mod Forwards
 pub mod Fronts
 pub mod Knowing
 pub mod Laying
+pub mod Noted
 pub mod Outside
+pub mod PagesWritten
 pub mod PartsOf
 pub mod Rounds
 pub mod SegmentLocks
@@ -18,5 +22,7 @@ pub mod SideKeeps
 pub mod Slots
 pub mod StageKeeps
 pub mod Standing
+pub mod TouchedPages
+pub mod UnderWay
 pub mod Unfit
 pub mod Walking

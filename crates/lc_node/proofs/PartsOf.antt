@@ -1,16 +1,13 @@
 -- What the record of a transaction's runs has of one segment.
-use Rattle.std.proofs.Common.{◌≡◌, ◌⊎◌, ℕ, zero, suc, ◌+◌, ◌<◌, ◌≤◌, ◌^◌, ◌==◌, cond, eqb, Bool, true, false, List, [], ◌∷◌, ◌++◌, Some, None, length, map, filter, refl, sym, ap, subst, ◌∙◌, inl, inr, arith, eqb-true, eq-eqb, true≢false}
-use Rattle.std.specs.Prelude.{Option, IsSome, unwrap_or, option_map, slice_index}
+use Rattle.std.proofs.Common.{◌≡◌, ℕ, ◌+◌, ◌≤◌, ◌^◌, ◌==◌, cond, Bool, true, false, List, [], ◌∷◌, Some, None, length, map, filter, refl, sym, ap, subst, ◌∙◌, inl, inr, arith, eqb-true, eq-eqb, true≢false}
+use Rattle.std.specs.Prelude.{Option, option_map}
 use Rattle.std.specs.List.{AllByRecursion}
-use Rattle.std.proofs.lemmas.Bool.{cases_Bool}
-use Rattle.std.proofs.lemmas.List.{ext_get_or}
 use Rattle.std.proofs.lemmas.Option.{none-some}
 use Rattle.lc_record.specs.Part.{number_in, part_of}
 use Rattle.lc_record.specs.Record.{IsLock, IsRecord, Locks, Writes}
 use Rattle.lc_record.specs.declared.part.Part.{Part}
 use Rattle.lc_record.specs.declared.record.Record.{Record}
 use Rattle.lc_record.specs.declared.record.Lock.{Lock}
-use Rattle.lc_record.specs.declared.record.RangeData.{RangeData}
 use Rattle.lc_range.specs.declared.range.Range.{Range}
 use Rattle.lc_range.specs.RangeSet.{Has}
 use Rattle.lc_tx.specs.Walk.{AreInside}

@@ -1,5 +1,5 @@
 -- The locks of a node's segments, and those that a caller holds.
-use Rattle.std.proofs.Common.{◌≡◌, ℕ, ◌+◌, ◌-◌, ◌<◌, ◌≤◌, List, [], ◌∷◌, ◌++◌, All, Some, length, get_or, refl, sym, ap, subst, ◌∙◌, arith, length-append}
+use Rattle.std.proofs.Common.{◌≡◌, ℕ, ◌+◌, ◌-◌, ◌<◌, List, [], ◌∷◌, ◌++◌, All, Some, length, get_or, refl, sym, ap, subst, ◌∙◌, arith, length-append}
 use lib.ListN.{get_or-append}
 use lib.Seq.{get_or-append-add}
 use Rattle.std.specs.List.{slice_get}

@@ -1,12 +1,11 @@
 -- The slots of lent images, by their segments, which ascend.
-use Rattle.std.proofs.Common.{◌≡◌, ◌⊎◌, ℕ, zero, suc, ◌+◌, ◌<◌, ◌≤◌, ◌==◌, ◌||◌, cond, eqb, Bool, true, false, List, [], ◌∷◌, Some, None, length, map, refl, sym, ap, subst, ◌∙◌, inl, inr, arith, eqb-true, eq-eqb}
-use Rattle.std.specs.Prelude.{slice_get, Option, IsSome, IsTrue}
-use Rattle.std.proofs.lemmas.Bool.{cases_Bool, or_cases, or_left, or_right, ne_eqb, false≢true}
+use Rattle.std.proofs.Common.{◌≡◌, ℕ, zero, suc, ◌+◌, ◌<◌, ◌≤◌, cond, eqb, Bool, true, List, [], ◌∷◌, Some, None, length, map, refl, sym, ap, subst, ◌∙◌, inl, inr, arith, eqb-true, eq-eqb}
+use Rattle.std.specs.Prelude.{slice_get, Option}
+use Rattle.std.proofs.lemmas.Bool.{or_cases, or_left, or_right, ne_eqb, false≢true}
 use Rattle.std.proofs.lemmas.List.{length-map}
 use Rattle.lc_record.specs.Record.{Chain}
 use Rattle.lc_record.specs.Transaction.{is_member}
 use Rattle.lc_tx.specs.declared.image.Image.{Image as Picture}
-use Rattle.lc_tx.specs.Images.{bytes_of, holders_of}
 use Rattle.lc_node.specs.Each.{Each}
 use Rattle.lc_node.specs.Lent.{the_images, beside, hidden, slot_of, place_of, image_at, number_at}
 use Rattle.lc_node.specs.declared.lent.LentSlot.{LentSlot}

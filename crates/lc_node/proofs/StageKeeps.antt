@@ -1,14 +1,14 @@
 -- What a committer's view becomes as a record is staged.
-use Rattle.std.proofs.Common.{◌≡◌, ◌≢◌, ℕ, zero, suc, ◌+◌, ◌*◌, ◌/◌, ◌<◌, ◌≤◌, Bool, true, false, List, [], ◌∷◌, length, get_or, set, replicate, refl, sym, ap, subst, ◌∙◌, arith, length-set, get_or-set_other, get_or-set_same, eq-eqb, ne_eqb, inl, inr, true≢false}
+use Rattle.std.proofs.Common.{◌≡◌, ℕ, ◌+◌, ◌*◌, ◌<◌, ◌≤◌, Bool, true, false, List, [], ◌∷◌, length, get_or, set, refl, sym, ap, subst, ◌∙◌, arith, length-set, get_or-set_other, get_or-set_same, eq-eqb, ne_eqb, inl, inr, true≢false}
 use mathlib.Core.Logic.{dite}
 use native.Mathlib.Decide.{ℕ_discrete}
-use Rattle.std.proofs.lemmas.List.{ext_get_or, length-replicate}
+use Rattle.std.proofs.lemmas.List.{ext_get_or}
 use Rattle.std.specs.Prelude.{cond, nat_lt}
 use Rattle.lc_stage.proofs.Latest.{latest_one}
 use Rattle.std.proofs.lemmas.Bool.{lt-ltb}
 use Rattle.lc_stage.specs.declared.view.View.{View}
 use Rattle.lc_stage.specs.declared.view.Reservation.{Reservation}
-use Rattle.lc_stage.specs.Staging.{saw, reserved, filled, shut_with, latest, later, rank, LieBelow, newest, with_newest, open_count, offset_of, round_of, reservation}
+use Rattle.lc_stage.specs.Staging.{saw, reserved, filled, shut_with, latest, later, rank, LieBelow, newest, with_newest, open_count, offset_of, round_of}
 use Rattle.lc_stage.specs.Seats.{IsIdle}
 use Rattle.lc_node.specs.Stages.{Sees, Wins, IsFilling, with_words, Closes}
 

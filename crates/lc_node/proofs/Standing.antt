@@ -1,17 +1,15 @@
 -- Held sides through the steps of a commit.
-use Rattle.std.proofs.Common.{◌≡◌, ℕ, zero, suc, ◌+◌, ◌<◌, Bool, true, false, true≢false, Ok, Err, List, [], ◌∷◌, Some, None, length, map, refl, sym, ap, subst, ◌∙◌, arith, All, get_or}
+use Rattle.std.proofs.Common.{◌≡◌, ℕ, zero, suc, ◌<◌, false, true≢false, Ok, Err, List, [], ◌∷◌, Some, None, length, map, refl, sym, ap, subst, ◌∙◌, arith, All, get_or}
 use Rattle.std.specs.Prelude.{slice_get, Option, IsSome, Result, OnOk}
 use Rattle.std.specs.Result.{is_err}
 use Rattle.std.proofs.lemmas.Option.{slice_get_within, get_or_from_slice_get}
-use Rattle.lc_lock.specs.declared.lock.Lock.{Lock}
 use Rattle.lc_lock.specs.Loans.{IsLoanOf}
 use Rattle.lc_record.specs.Part.{part_of}
 use Rattle.lc_record.specs.declared.part.Part.{Part}
 use Rattle.lc_record.specs.declared.record.Record.{Record}
-use Rattle.lc_node.specs.Commits.{IsAsBefore, HasPart, TakesPart, shown}
+use Rattle.lc_node.specs.Commits.{IsAsBefore, TakesPart, shown}
 use Rattle.lc_node.specs.Each.{Each}
 use Rattle.lc_node.specs.Held.{IsHeldOf}
-use Rattle.lc_node.specs.SegView.{SegView}
 use Rattle.lc_node.specs.Sides.{IsRoomier, counting, number_in as number_here}
 use Rattle.lc_node.specs.declared.held.HeldSide.{HeldSide}
 use Rattle.lc_node.specs.declared.node.Node.{Node}

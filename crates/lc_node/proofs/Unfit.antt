@@ -1,8 +1,7 @@
 -- What a reset is refused for.
-use Rattle.std.proofs.Common.{◌≡◌, ◌≢◌, ◌⊎◌, ℕ, ◌+◌, ◌<◌, ◌^◌, true, false, List, [], ◌∷◌, Ok, Err, length, refl, sym, ap, subst, ◌∙◌, inl, inr, arith, true≢false}
+use Rattle.std.proofs.Common.{◌≡◌, ◌≢◌, ℕ, ◌+◌, ◌<◌, ◌^◌, List, [], ◌∷◌, Err, length, refl, sym, ap, subst, ◌∙◌, inl, inr, arith, true≢false}
 use Rattle.std.specs.Prelude.{◌↔◌, Result}
 use Rattle.lc_model.specs.Merge.{IsLeastPair}
-use Rattle.lc_stage.specs.Seats.{flush_view}
 use Rattle.lc_trunc.specs.KnownClean.{known}
 use Rattle.lc_trunc.specs.Reset.{AreKnown, IsAbove}
 use Rattle.lc_trunc.proofs.LeastLemmas.{least_once}

@@ -1,6 +1,5 @@
 -- What a caller holds of a node.
 use Rattle.std.specs.Prelude.{◌≡◌, ◌⊎◌, ◌+◌, ◌≤◌, ℕ, List, [], ◌∷◌, length, map, None, Some, IsSome, slice_get}
-use Rattle.lc_disk.specs.declared.area.Area.{Ghosts}
 use Rattle.lc_lock.specs.declared.lock.Lock.{Lock}
 use Rattle.lc_lock.specs.Loans.{IsLoanOf}
 use Rattle.lc_node.specs.SegView.{SegView}

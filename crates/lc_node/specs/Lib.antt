@@ -9,10 +9,14 @@ pub mod Laid
 pub mod Lent
 pub mod LogSide
 pub mod LogView
+pub mod Pages
 pub mod Receipts
 pub mod Resets
 pub mod SegSide
 pub mod SegView
 pub mod Sides
 pub mod Stages
+pub mod Touched
+pub mod Truncates
 pub mod Works
+pub mod Writes

@@ -1,5 +1,5 @@
 -- What a committer's seat gains as it stages a record.
-use Rattle.std.specs.Prelude.{◌≡◌, ℕ, ◌+◌, ◌/◌, ◌<◌, ◌≤◌, Bool, true, false, List, ◌∷◌, length, slice_index}
+use Rattle.std.specs.Prelude.{◌≡◌, ℕ, ◌+◌, ◌/◌, ◌<◌, true, List, ◌∷◌, length, slice_index}
 use Rattle.lc_stage.specs.declared.view.View.{View}
 use Rattle.lc_stage.specs.declared.view.Reservation.{Reservation}
 use Rattle.lc_stage.specs.Staging.{saw, reserved, latest, with_newest, offset_of, seal_of, IsOneRecord, LieBelow}

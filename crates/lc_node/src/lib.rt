@@ -2,6 +2,7 @@
 #![tactic(auto)]
 
 mod attempting;
+mod cleaning;
 mod commit_kind;
 mod committing;
 mod confirming;
@@ -17,6 +18,8 @@ mod log_state;
 mod node;
 mod node_fault;
 mod opening;
+mod page_area;
+mod page_writes;
 mod places;
 mod preparing;
 mod resetting;
@@ -26,7 +29,9 @@ mod seg_side;
 mod settling;
 mod staging;
 mod taking_out;
+mod touching;
 mod transacting;
+mod truncating;
 mod work;
 
 pub use commit_kind::{Commit, Mode};

@@ -15,7 +15,7 @@ use lc_trunc::may_reset;
 use std::mem;
 
 // No round comes after it.
-const LAST_ROUND: u64 = (1 << 48) - 1;
+pub(crate) const LAST_ROUND: u64 = (1 << 48) - 1;
 
 // A tail is so many times its round, and its offset.
 const ROUND_TAIL: u64 = 65536;

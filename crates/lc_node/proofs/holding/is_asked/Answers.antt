@@ -1,4 +1,4 @@
-use Rattle.std.proofs.Common.{◌≡◌, refl, sym, ◌∙◌}
+use Rattle.std.proofs.Common.{refl, sym, ◌∙◌}
 use Rattle.lc_node.proofs.Asking.{asked_now, asked_later, asked_none}
 use Rattle.lc_node.proofs.holding.is_asked.Goals as goal
 

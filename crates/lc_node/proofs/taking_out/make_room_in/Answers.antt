@@ -1,6 +1,6 @@
-use Rattle.std.proofs.Common.{rules, ◌≡◌, ◌+◌, ◌<◌, ◌≤◌, ℕ, length, refl, ap, arith}
+use Rattle.std.proofs.Common.{rules, ◌+◌, refl, ap, arith}
 use Rattle.lc_node.specs.Sides.{IsRoomier, HasRoomFor}
-use Rattle.lc_node.proofs.Forwards.{Forwards, begin, next, all_of, each_new}
+use Rattle.lc_node.proofs.Forwards.{Forwards, next, all_of, each_new}
 use Rattle.lc_node.proofs.taking_out.make_room_in.Goals as goal
 
 pub loop-place-preserved : goal.loop-place-preserved

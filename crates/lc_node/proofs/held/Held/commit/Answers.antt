@@ -1,4 +1,4 @@
-use Rattle.std.proofs.Common.{rules, ◌≡◌, ℕ, List, All, Ok, map, refl, sym, ap, subst, ◌∙◌}
+use Rattle.std.proofs.Common.{ℕ, List, All, Ok, map, refl, sym, ap, subst, ◌∙◌}
 use Rattle.std.specs.Prelude.{IfSome}
 use Rattle.lc_stage.specs.Seats.{commit_view}
 use Rattle.lc_tx.specs.Prepared.{AreSmall}
@@ -7,7 +7,6 @@ use Rattle.lc_node.specs.Lent.{the_images}
 use Rattle.lc_node.specs.Commits.{StagesWork}
 use Rattle.lc_node.specs.Sides.{HasRoomFor}
 use Rattle.lc_node.specs.declared.held.HeldSide.{HeldSide}
-use Rattle.lc_node.specs.declared.lent.Lent.{Lent}
 use Rattle.lc_node.proofs.CommitPaths.{small, may_return, returned, may_count, may_go_back, all_of_it}
 use Rattle.lc_node.proofs.Standing.{before_of_roomier, held_before, held_here, held_roomier, held_takes, on_ok, same_before, segments_before, segments_roomier, segments_takes}
 use Rattle.lc_node.proofs.held.Held.commit.Goals as goal

@@ -1,7 +1,7 @@
-use Rattle.std.proofs.Common.{rules, ◌≡◌, ◌≢◌, ℕ, List, [], ◌∷◌, ◌+◌, ◌≤◌, ◌++◌, All, length, refl, sym, ap, subst, ◌∙◌, arith, length-append}
+use Rattle.std.proofs.Common.{rules, ◌≡◌, ◌≢◌, ℕ, List, [], ◌∷◌, ◌+◌, ◌≤◌, All, length, refl, sym, ap, subst, ◌∙◌, arith, length-append}
 use Rattle.lc_stage.specs.declared.view.View.{View}
-use Rattle.lc_stage.specs.Staging.{AreRecords, open_count}
-use Rattle.lc_stage.specs.Seats.{flush_view, commit_view}
+use Rattle.lc_stage.specs.Staging.{AreRecords}
+use Rattle.lc_stage.specs.Seats.{flush_view}
 use Rattle.std.proofs.lemmas.List.Elements.{All-append}
 use Rattle.lc_trunc.specs.KnownClean.{known}
 use Rattle.lc_trunc.specs.Reset.{AreKnown}

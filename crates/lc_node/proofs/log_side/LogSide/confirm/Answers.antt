@@ -1,9 +1,7 @@
-use Rattle.std.proofs.Common.{rules, ◌≡◌, ℕ, List, refl, sym, subst, ap, ◌∙◌, length, arith}
+use Rattle.std.proofs.Common.{rules, ◌≡◌, ℕ, List, refl, sym, subst, ◌∙◌, length, arith}
 use Rattle.std.proofs.Math.ListN.{take}
 use Rattle.lc_stage.specs.declared.view.View.{View}
-use Rattle.lc_stage.specs.declared.view.Reservation.{Reservation}
-use Rattle.lc_stage.specs.Staging.{Agree, Owns, AreRecords}
-use Rattle.lc_stage.specs.Receipts.{IsReceiptOf}
+use Rattle.lc_stage.specs.Staging.{Agree, AreRecords}
 use Rattle.lc_stage.specs.Seats.{commit_view, flush_view}
 use Rattle.lc_node.specs.Among.{AreInFront, IsAmong}
 use Rattle.lc_node.proofs.Confirms.{Stands, is_front, stands, among_stable}

@@ -1,4 +1,4 @@
-use Rattle.std.proofs.Common.{rules, ◌≡◌, ◌<◌, ◌++◌, ℕ, ◌+◌, ◌*◌, ◌≤◌, List, [], length, All, inr, refl, sym, ap, ◌∙◌, subst, arith}
+use Rattle.std.proofs.Common.{rules, ◌≡◌, ◌<◌, ◌++◌, ℕ, List, [], length, All, inr, refl, sym, ap, ◌∙◌, subst, arith}
 use Rattle.lc_stage.specs.declared.view.View.{View}
 use Rattle.lc_stage.specs.Seats.{flush_view}
 use Rattle.lc_stage.specs.Staging.{AreRecords}

@@ -1,10 +1,10 @@
-use Rattle.std.proofs.Common.{rules, ◌≡◌, ℕ, ◌+◌, ◌^◌, false, List, [], sym, ap, subst, refl, inr, arith}
+use Rattle.std.proofs.Common.{rules, ℕ, List, ap, subst, refl, inr, arith}
 use Rattle.lc_trunc.specs.KnownClean.{known as known_of}
 use Rattle.lc_trunc.specs.Reset.{AreKnown, IsAbove}
 use Rattle.lc_model.specs.Merge.{IsLeastPair}
 use Rattle.lc_node.specs.LogSide.{is_halted}
 use Rattle.lc_node.specs.LogView.{LogView}
-use Rattle.lc_node.specs.Resets.{CanReset, IsReady, IsSpent, IsUnfit}
+use Rattle.lc_node.specs.Resets.{CanReset, IsUnfit}
 use Rattle.lc_node.specs.declared.node_fault.NodeFault.TheVariants.{Unclean}
 use Rattle.lc_node.proofs.log_side.LogSide.is_due.Goals as goal
 

@@ -1,7 +1,6 @@
-use Rattle.std.proofs.Common.{rules, ◌≡◌, ℕ, Err, sym, ap, subst, ◌∙◌}
+use Rattle.std.proofs.Common.{rules, ◌≡◌, Err, sym, ap, subst, ◌∙◌}
 use Rattle.std.specs.Prelude.{IfErr}
 use Rattle.lc_node.specs.Resets.{CanReset, FailsToBegin}
-use Rattle.lc_node.specs.declared.node_fault.NodeFault.TheVariants.{Unclean, Lost, DeviceFault}
 use Rattle.lc_node.proofs.Unfit.{can_still, err_same, none_unclean, unclean_if, unclean_not_fault, unclean_not_lost}
 use Rattle.lc_node.proofs.log_side.LogSide.reset.Goals as goal
 

@@ -1,0 +1,41 @@
+use Rattle.std.proofs.Common.{◌≡◌, ◌+◌, ◌∷◌, ◌++◌, List, [], ap, arith, subst, sym, ◌∙◌}
+use Rattle.std.specs.VecDeque.{deque_capacity, deque_len}
+use Rattle.lc_page.specs.declared.writing.Writing.{Writing}
+use Rattle.lc_node.specs.Writes.{AreUnderWay}
+use Rattle.lc_node.proofs.UnderWay.{begins, passes}
+use Rattle.lc_node.proofs.page_writes.begin_all.Goals as goal
+use Rattle.lc_node.proofs.page_writes.begin_all.Goals.{then-dirty+in_ok-write, else-dirty}
+
+pub loop-page-preserved : goal.loop-page-preserved
+loop-page-preserved g c =
+    let a = g.D.Area in
+    let token = c.args.token.now in
+    let bytes = c.args.bytes.now in
+    let page = c.loop-page.page in
+    let items = c.loop-page.writes.items in
+    let so_far = c.loop-page.invariant in
+    elim c.if-dirty.branch [
+      | then-dirty+in_ok-write w ↦
+          let write = w.in_ok-write.write in
+          let new = w.begin_page.new.area in
+          let queue = w.push_back_reserved.new.self in
+          let begun : AreUnderWay a new token bytes (page + 1) (items ++ write ∷ []) =
+          begins a c.loop-page.area new page token bytes w.begin_page.ensures.others w.in_ok-write.ensures.device.same_length items write so_far.under_way w.in_ok-write.ensures.page w.in_ok-write.ensures.under_way in
+          let pushed : c.if-dirty.writes.items ≡ items ++ write ∷ [] = ap (λ q. q.items) w.writes-is ∙ w.push_back_reserved.ensures.items in
+          record {
+            under_way = subst (λ (ws : List Writing). AreUnderWay a c.if-dirty.area token bytes (page + 1) ws) (sym pushed)
+                (subst (λ area. AreUnderWay a area token bytes (page + 1) (items ++ write ∷ [])) (sym w.area-is) begun);
+            few = (let longer = ap deque_len w.writes-is in let one = w.push_back_reserved.ensures.len in let few = so_far.few in omega (arith, longer, one, few));
+            same_capacity = ap deque_capacity w.writes-is ∙ w.push_back_reserved.ensures.capacity ∙ so_far.same_capacity;
+            no_failure = ap a.failures w.area-is ∙ w.in_ok-write.ensures.device.counted ∙ so_far.no_failure;
+          }
+      | else-dirty w ↦
+          let same : c.if-dirty.writes.items ≡ items = ap (λ q. q.items) w.writes-is in
+          record {
+            under_way = subst (λ (ws : List Writing). AreUnderWay a c.if-dirty.area token bytes (page + 1) ws) (sym same)
+                (subst (λ area. AreUnderWay a area token bytes (page + 1) items) (sym w.area-is) (passes a c.loop-page.area token bytes page items (sym c.dirty.ensures ∙ w.if-dirty.false) so_far.under_way));
+            few = (let longer = ap deque_len w.writes-is in let few = so_far.few in omega (arith, longer, few));
+            same_capacity = ap deque_capacity w.writes-is ∙ so_far.same_capacity;
+            no_failure = ap a.failures w.area-is ∙ so_far.no_failure;
+          }
+    ]

@@ -1,0 +1,17 @@
+use Rattle.std.proofs.Common.{◌≡◌, Option, Some, subst, sym}
+use Rattle.std.specs.Prelude.{IsSomeAnd}
+use Rattle.lc_token.specs.declared.token.Token.{Token}
+use Rattle.lc_node.specs.Pages.{AreWritten, FitsToken}
+use Rattle.lc_node.proofs.Noted.{with_token, written_fits}
+use Rattle.lc_node.proofs.page_writes.write_dirty.Goals as goal
+
+pub returns-clause-fits : goal.returns-clause-fits
+returns-clause-fits g c =
+    let a = g.D.Area in
+    let token = c.in-Some.token.now in
+    let bytes = c.args.bytes.now in
+    let area = c.write_pages-written.new.area in
+    let at : c.args.place.now.token ≡ Some token = sym c.in-Some.ensures.token in
+    let fits : FitsToken a c.args.area.now token bytes = subst (λ (o : Option Token). IsSomeAnd o (λ t. FitsToken a c.args.area.now t bytes)) at c.requires.fits in
+    with_token c.note_written.new.place.token (AreWritten token) (λ new. FitsToken a area new bytes)
+    (λ new is. written_fits a c.args.area.now area token new bytes fits c.in_ok-written.ensures.over is) (c.note_written.ensures.written token at)

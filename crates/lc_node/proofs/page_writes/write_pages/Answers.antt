@@ -1,0 +1,24 @@
+use Rattle.std.proofs.Common.{ℕ, List, length}
+use Rattle.std.specs.Prelude.{Err, Ok, OnOk, Result}
+use Rattle.lc_page.specs.declared.fault.PageFault.{PageFault}
+use Rattle.lc_token.specs.declared.token.Token.{Token}
+use Rattle.lc_node.specs.Writes.{AreOver, AreUnderWay}
+use Rattle.lc_node.proofs.UnderWay.{room_of}
+use Rattle.lc_node.proofs.page_writes.write_pages.Goals as goal
+
+pub finish_all-requires : goal.finish_all-requires
+finish_all-requires g c =
+    let begun = c.in_ok-begin_all.ensures.under_way in
+    room_of g.D.Area c.begin_all.new.area c.args.token.now c.args.bytes.now (length c.args.token.now.pages) c.begin_all.new.writes.items begun.room begun.each
+
+pub returns-clause-over : goal.returns-clause-over
+returns-clause-over g c =
+    let a = g.D.Area in
+    let old = c.begin_all.new.area in
+    let new = c.finish_all.new.area in
+    let items = c.begin_all.new.writes.items in
+    elim c.finish_all.result as (λ (r : Result (Unit {0}) PageFault).
+    OnOk r ((token : Token) (bytes : List ℕ) → AreUnderWay a old token bytes (length token.pages) items → AreOver a new token bytes) → OnOk r (AreOver a new c.args.token.now c.args.bytes.now)) [
+      | Ok done ↦ λ over. over c.args.token.now c.args.bytes.now c.in_ok-begin_all.ensures.under_way
+      | Err fault ↦ λ over. tt
+    ] c.finish_all.ensures.over

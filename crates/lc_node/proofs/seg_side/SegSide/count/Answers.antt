@@ -1,0 +1,66 @@
+use Rattle.std.proofs.Common.{rules, ◌≡◌, ℕ, ◌+◌, ◌≤◌, List, Some, None, length, sym, ap, subst, ◌∙◌, ◌∷◌, [], ◌++◌, arith}
+use Rattle.std.specs.Prelude.{Option}
+use Rattle.std.specs.Option.{ForSome}
+use Rattle.lc_record.specs.declared.part.Part.{Part}
+use Rattle.lc_record.specs.declared.record.RangeData.{RangeData}
+use Rattle.lc_token.specs.Standing.{Standing}
+use Rattle.lc_token.specs.declared.token.Token.{Token}
+use Rattle.lc_node.specs.SegSide.{FitsArea}
+use Rattle.lc_node.specs.SegView.{laid_parts}
+use Rattle.lc_node.specs.Sides.{next_token, IsNext}
+use Rattle.lc_node.specs.Touched.{touched_pages}
+use Rattle.lc_node.proofs.Laying.{laid_more}
+use Rattle.lc_node.proofs.Counted.{token_before, token_counted, area_counted, number_counted, few_behind, few_before}
+use Rattle.lc_node.proofs.seg_side.SegSide.count.Goals as goal
+
+pub invariant_of-self : goal.invariant_of-self
+invariant_of-self g c = let inv = c.self.invariant in let old = c.self.inside in let part : Part = c.args.part in
+    let next : IsNext part old.token.token = search rules in
+    let before = token_before part old.token.token next in
+    let slice : c.as_slice.result.now ≡ part.ranges = search rules in
+    let touches : ForSome c.count_record.new.self.token (λ x. c.touch_ranges.new.place ≡ record { segment = c.count_record.new.self.segment; token = Some (record x { pages = touched_pages part.ranges x.seq x.pages }) }) =
+    subst (λ (rs : List RangeData). ForSome c.count_record.new.self.token (λ x. c.touch_ranges.new.place ≡ record { segment = c.count_record.new.self.segment; token = Some (record x { pages = touched_pages rs x.seq x.pages }) })) slice c.touch_ranges.ensures in
+    let is : c.touch_ranges.new.place ≡ record { segment = old.token.segment; token = next_token part old.token.token } =
+    token_counted part old.token c.count_record.new.self c.touch_ranges.new.place before.0 before.1 c.count_record.ensures touches in
+    let token : c.touch_ranges.new.place.token ≡ next_token part old.token.token = ap (λ (x : Standing). x.token) is in
+    let items : c.push.new.self.items ≡ old.applied.items ++ part ∷ [] = search rules in
+    let none : old.image ≡ None = search rules in
+    let own = c.own.ensures in
+    record {
+      shows = λ image is_some. absurd cc;
+      of_token = ap (λ (x : Standing). x.segment) is ∙ inv.of_token;
+      of_hold_back = search rules;
+      first = inv.first;
+      last = inv.last;
+      short = inv.short;
+      all_applied = λ x there.
+          let same : Some x ≡ next_token part old.token.token = sym there ∙ token in
+          let counted : x.seq ≡ before.0.seq + 1 = number_counted part old.token.token before.0 x before.1 same in
+          let applied : c.own.new.self.applied ≡ part.seq = search rules in
+          counted ∙ (sym before.2 ∙ sym applied);
+      few_pages = subst (λ (o : Option Token). ForSome o (λ t. length t.pages ≤ 1024)) (sym token) (few_behind part old.token.token 1024 inv.few_pages);
+      fits_area = subst (λ (o : Option Token). FitsArea g.D.Area old.pages o (laid_parts c.push.new.self.items old.base.bytes.items)) (sym token)
+          (subst (λ (l : List ℕ). FitsArea g.D.Area old.pages (next_token part old.token.token) l)
+          (sym (ap (λ (l : List Part). laid_parts l old.base.bytes.items) items ∙ laid_more old.applied.items part old.base.bytes.items))
+          (area_counted g.D.Area old.pages old.token.token part (laid_parts old.applied.items old.base.bytes.items) next inv.fits_area));
+    }
+
+pub touch_ranges-requires-clause-few : goal.touch_ranges-requires-clause-few
+touch_ranges-requires-clause-few g c = let old = c.self.inside in let part : Part = c.args.part in
+    let next : IsNext part old.token.token = search rules in
+    let before = token_before part old.token.token next in
+    let mid : c.count_record.new.self ≡ record old.token { token = Some (record before.0 { seq = before.0.seq + 1 }) } = c.count_record.ensures before.0 before.1 in
+    let few = few_before old.token.token c.count_record.new.self.token before.0 1024 before.1 (ap (λ (s : Standing). s.token) mid) c.self.invariant.few_pages in
+    λ x is. let n = few x is in omega arith
+
+pub returns : goal.returns
+returns g c = let old = c.self.inside in let part : Part = c.args.part in
+    let next : IsNext part old.token.token = search rules in
+    let before = token_before part old.token.token next in
+    let slice : c.as_slice.result.now ≡ part.ranges = search rules in
+    let touches : ForSome c.count_record.new.self.token (λ x. c.touch_ranges.new.place ≡ record { segment = c.count_record.new.self.segment; token = Some (record x { pages = touched_pages part.ranges x.seq x.pages }) }) =
+    subst (λ (rs : List RangeData). ForSome c.count_record.new.self.token (λ x. c.touch_ranges.new.place ≡ record { segment = c.count_record.new.self.segment; token = Some (record x { pages = touched_pages rs x.seq x.pages }) })) slice c.touch_ranges.ensures in
+    let is : c.touch_ranges.new.place ≡ record { segment = old.token.segment; token = next_token part old.token.token } =
+    token_counted part old.token c.count_record.new.self c.touch_ranges.new.place before.0 before.1 c.count_record.ensures touches in
+    let items : c.push.new.self.items ≡ old.applied.items ++ part ∷ [] = search rules in
+    search rules

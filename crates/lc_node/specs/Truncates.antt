@@ -1,0 +1,96 @@
+-- What a truncation does to the segments that it holds, and to the log.
+use Rattle.std.specs.Prelude.{◌≡◌, ◌⊎◌, ℕ, ◌+◌, ◌*◌, ◌<◌, ◌≤◌, List, [], ◌∷◌, length, Option, Some, None, slice_get}
+use Rattle.lc_disk.specs.declared.area.Area.{Ghosts}
+use Rattle.lc_token.specs.declared.token.Token.{Token}
+use Rattle.lc_trunc.specs.KnownClean.{Sees}
+use Rattle.lc_node.specs.Each.{Each}
+use Rattle.lc_node.specs.Flushes.{Flushes, IsUnflushed}
+use Rattle.lc_node.specs.LogView.{LogView}
+use Rattle.lc_node.specs.Pages.{AreWritten}
+use Rattle.lc_node.specs.Receipts.{IsOfDevice}
+use Rattle.lc_node.specs.Resets.{Empties, IsSpent, IsUnemptied}
+use Rattle.lc_node.specs.SegView.{SegView, laid_parts}
+use Rattle.lc_node.specs.declared.held.HeldSide.{HeldSide}
+use Rattle.lc_node.specs.declared.node_fault.NodeFault.{NodeFault}
+use Rattle.lc_node.specs.declared.node_fault.NodeFault.TheVariants.{NoMemory, Lost, DeviceFault, Halted, RoundsSpent, Unclean}
+use Rattle.lc_node.specs.declared.page_area.PageArea.TheVariants.{Elsewhere, Serves, Failed}
+
+-- what the token calls clean is seen, if it is here
+abbrev pub SeesToken : List ℕ → Option Token → List ℕ → Type 0
+SeesToken old None new = new ≡ old
+SeesToken old (Some token) new = Sees old token new
+
+module _ {D : Type 0} where
+  -- the applied records are folded into the base; the pages and their token may be others, and there may be more room
+  abbrev pub IsFolded : SegView D → SegView D → Type 0
+  IsFolded old new = new ≡ record old { base = laid_parts old.applied old.base; applied = []; room = new.room; standing = new.standing; pages = new.pages }
+
+  -- no area is here, or each dirty page was written to it, which the token notes
+  abbrev pub WritesPages : SegView D → SegView D → Type 0
+  WritesPages old new =
+      IsFolded old new
+      × (((old.pages ≡ Elsewhere) × (new.pages ≡ Elsewhere) × (new.standing ≡ old.standing))
+      ⊎ ((before : D) × (after : D) × (t : Token) × (u : Token) × (old.pages ≡ Serves before) × (new.pages ≡ Serves after)
+      × (old.standing.token ≡ Some t) × (new.standing ≡ record old.standing { token = Some u }) × AreWritten t u))
+
+  -- the same of a held side, whose lock and image stay
+  abbrev pub IsSameHeld : HeldSide D → HeldSide D → Type 0
+  IsSameHeld h g = (g ≡ record h { side = g.side }) × (g.side.segment ≡ h.side.segment) × (g.side.image ≡ h.side.image)
+
+  abbrev pub WritesSide : HeldSide D → HeldSide D → Type 0
+  WritesSide h g = (g ≡ record h { side = g.side }) × WritesPages h.side g.side
+
+  -- the pages of the segment fit into so many places
+  abbrev pub HasPagesIn : ℕ → HeldSide D → Type 0
+  HasPagesIn places h = length h.side.base ≤ places * 256
+
+  -- of each of these segments, one after another
+  abbrev pub SeesSides : List ℕ → List (HeldSide D) → List ℕ → Type 0
+  SeesSides old [] new = new ≡ old
+  SeesSides old (h ∷ hs) new = (next : List ℕ) × SeesToken old h.side.standing.token next × SeesSides next hs new
+
+module _ {D : Type 0} (a : Ghosts D) where
+  -- a call of the area failed before, and nothing has changed but what is folded; or one fails now
+  abbrev pub FailsPages : SegView D → NodeFault → SegView D → Type 0
+  FailsPages old fault new =
+      IsFolded old new × (new.standing ≡ old.standing)
+      × (((fault ≡ Halted) × ((area : D) × (old.pages ≡ Failed area) × (new.pages ≡ Failed area)))
+      ⊎ ((fault ≡ DeviceFault) × ((before : D) × (after : D) × (old.pages ≡ Serves before) × (new.pages ≡ Failed after) × (a.failures after ≡ a.failures before + 1))))
+
+  -- the pages of one of these segments fail; those in front of it are written, and those behind it are as they were
+  pub record FailsSides (olds : List (HeldSide D)) (fault : NodeFault) (news : List (HeldSide D)) : Type 0 where
+    pub place : ℕ
+    pub same_length : length news ≡ length olds
+    pub front : (k : ℕ) (h g : HeldSide D) → k < place → slice_get olds k ≡ Some h → slice_get news k ≡ Some g → WritesSide h g
+    pub behind : (k : ℕ) → place < k → slice_get news k ≡ slice_get olds k
+    pub old : HeldSide D
+    pub new : HeldSide D
+    pub was : slice_get olds place ≡ Some old
+    pub is : slice_get news place ≡ Some new
+    pub same : new ≡ record old { side = new.side }
+    pub fails : FailsPages old.side fault new.side
+
+  -- the log is flushed, the pages of the segments are written, the log sees what is clean then, and is emptied
+  pub record Truncates (room : ℕ) (old : LogView D) (olds : List (HeldSide D)) (round : ℕ) (new : LogView D) (news : List (HeldSide D)) : Type 0 where
+    pub count : ℕ
+    pub flushed : LogView D
+    pub flushes : Flushes room old count flushed
+    pub written : Each WritesSide olds news
+    pub known : List ℕ
+    pub sees : SeesSides flushed.known news known
+    pub empties : Empties (record flushed { known = known }) round new
+
+  -- it is in its last round, its flush failed, the pages of a segment did, or it could not be emptied
+  abbrev pub IsUntruncated : ℕ → LogView D → List (HeldSide D) → NodeFault → LogView D → List (HeldSide D) → Type 0
+  IsUntruncated room old olds fault new news =
+      ((fault ≡ RoundsSpent) × IsSpent old × (new ≡ old) × (news ≡ olds))
+      ⊎ ((IsUnflushed a old fault new × (news ≡ olds))
+      ⊎ ((count : ℕ) × (flushed : LogView D) × Flushes room old count flushed
+      × ((FailsSides olds fault news × (new ≡ flushed))
+      ⊎ ((known : List ℕ) × Each WritesSide olds news × SeesSides flushed.known news known × IsUnemptied (record flushed { known = known }) fault new))))
+
+-- why a truncation is refused
+abbrev pub IsOfTruncation : NodeFault → Type 0
+IsOfTruncation fault =
+    (fault ≡ NoMemory)
+    ⊎ (IsOfDevice fault ⊎ ((fault ≡ RoundsSpent) ⊎ (((segment : ℕ) × (seq : ℕ) × (fault ≡ Unclean segment seq)) ⊎ ((seen : ℕ) × (fault ≡ Lost seen)))))
