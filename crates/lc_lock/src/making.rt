@@ -39,3 +39,15 @@ impl<T: Keyed<K>, K> Lock<T, K> {
         Ok(lock)
     }
 }
+
+impl<T: Keyed<K> + Drop, K> Lock<T, K> {
+    /// Ends a lock whose value is out, which then comes back no more: nobody can wait for it, since the lock is owned.
+    pub fn end(self, loan: Loan<T, K>)
+        requires { IsLoanOf self loan }
+    {
+        let Loan {
+            seat: _seat,
+            ticket: _ticket,
+        } = loan;
+    }
+}
