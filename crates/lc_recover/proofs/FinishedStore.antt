@@ -1,5 +1,5 @@
 -- What is kept behind the last step of a recovery is a recovered store.
-use Rattle.std.proofs.Common.{◌≡◌, ℕ, ◌+◌, ◌-◌, ◌^◌, ◌<◌, ◌≤◌, Some, List, map, length, get_or, sym, ◌∙◌, ap, subst, arith, inl, inr}
+use Rattle.std.proofs.Common.{◌≡◌, ℕ, ◌+◌, ◌-◌, ◌^◌, ◌<◌, ◌≤◌, true, Some, List, map, length, get_or, sym, ◌∙◌, ap, subst, arith, inl, inr}
 use Rattle.std.specs.Prelude.{slice_get}
 use Rattle.std.specs.Option.{unwrap_or}
 use Rattle.std.proofs.Math.Numerals.{add-one}
@@ -17,16 +17,18 @@ use Rattle.lc_page.proofs.StateLemmas.{settled_reads}
 use Rattle.lc_model.specs.Merge.{Page, Store}
 use Rattle.lc_model.specs.Recovered.{IsRenewed}
 use Rattle.lc_recover.specs.Pages.{bytes_of_page}
-use Rattle.lc_recover.specs.Reads.{AreHonest}
-use Rattle.lc_recover.specs.Recovered.{RecoveredPage, RecoveredStore, recovered_pages, no_page, page_of, page_read_of, HasPages, IsFinished}
+use Rattle.lc_recover.specs.Reads.{AreHonest, HaveLengths}
+use Rattle.lc_recover.specs.Recovered.{RecoveredPage, RecoveredStore, recovered_pages, no_page, page_of, page_read_of, AreFinished, HasPages, IsFinished}
 use Rattle.lc_recover.specs.Stage.{AreasFit, AreTexts, IsWhole, IsEmptied, Rests, RestsAt}
 use Rattle.lc_recover.specs.declared.finished.Finished.{Finished}
 use Rattle.lc_recover.specs.declared.segment_pages.SegmentPages.{SegmentPages}
 use Rattle.lc_recover.specs.declared.stage.Stage.TheVariants.{Done}
+use Rattle.lc_model.proofs.Numbers.{at_most-greatest}
+use Rattle.lc_recover.proofs.AreaLemmas.{one_item}
 use Rattle.lc_recover.proofs.Bridge.{same_page}
 use Rattle.lc_recover.proofs.Images.{get-some, get-map, get-counting, get-segment, in-segment}
 use Rattle.lc_recover.proofs.Readable.{readable}
-use Rattle.lc_recover.proofs.Showing.{done-merges}
+use Rattle.lc_recover.proofs.Showing.{done-merges, have-lengths}
 
 -- a page that is kept
 abbrev pub recovered_page : SegmentPages → ℕ → RecoveredPage
@@ -56,7 +58,7 @@ same_area_page p q sequence content =
     ap (λ (n : ℕ). let x : AreaPage = record { sequence = n; content = p.content } in x) sequence
     ∙ ap (λ (l : List ℕ). let x : AreaPage = record { sequence = q.sequence; content = l } in x) content
 
-module _ {D : Type 0} (a : Ghosts D) (g : Geometry) (f : Finished) (areas : List D) (fits : AreasFit a g (Done f) areas) (honest : AreHonest a areas) (logs : List (List ℕ)) (store : Store) (texts : AreTexts g logs store) (whole : IsWhole g f.segments.items f.numbers.items store) where
+module _ {D : Type 0} (a : Ghosts D) (g : Geometry) (f : Finished) (areas : List D) (fits : AreasFit a g (Done f) areas) (logs : List (List ℕ)) (store : Store) (texts : AreTexts g logs store) (whole : IsWhole g f.segments.items f.numbers.items store) where
   -- what it has made of the store
   abbrev stored : RecoveredStore D
   stored = record { geometry = g; areas = areas; sequences = f.numbers.items; pages = map recovered_pages f.segments.items }
@@ -97,44 +99,54 @@ module _ {D : Type 0} (a : Ghosts D) (g : Geometry) (f : Finished) (areas : List
 
   -- an area
 
-  its-log : (log : ℕ) (area : D) → log < g.nodes → slice_get areas log ≡ Some area → IsEmptied a area
-  its-log log area within is = (fits.each log area is).log (honest log area is) within
+  its-log : (log : ℕ) (area : D) → log < g.nodes → slice_get areas log ≡ Some area → a.honest area ≡ true → IsEmptied a area
+  its-log log area within is honest = (fits.each log area is).log honest within
 
   -- the area of a segment, with the pages that are kept of it
-  its-segment : (s : ℕ) (area : D) → slice_get areas (g.nodes + s) ≡ Some area → (pages : SegmentPages) × (slice_get f.segments.items s ≡ Some pages) × Rests a g pages area
-  its-segment s area is =
+  its-segment : (s : ℕ) (area : D) → slice_get areas (g.nodes + s) ≡ Some area → a.honest area ≡ true → (pages : SegmentPages) × (slice_get f.segments.items s ≡ Some pages) × Rests a g pages area
+  its-segment s area is honest =
       let known : s < g.segments = omega (arith, slice_get_within areas (g.nodes + s) area is, fits.count) in
       let pages = get-some f.segments.items s (omega (arith, known, whole.pages.count)) in
       let back : (g.nodes + s) - g.nodes ≡ s = omega arith in
-      (pages.0, pages.1, (fits.each (g.nodes + s) area is).segment (honest (g.nodes + s) area is) (omega arith) pages.0 (ap (slice_get f.segments.items) back ∙ pages.1))
+      (pages.0, pages.1, (fits.each (g.nodes + s) area is).segment honest (omega arith) pages.0 (ap (slice_get f.segments.items) back ∙ pages.1))
 
-  its-clean : (k : ℕ) (area : D) → slice_get areas k ≡ Some area → IsClean (a.dirty area)
-  its-clean k area is =
+  its-clean : (k : ℕ) (area : D) → slice_get areas k ≡ Some area → a.honest area ≡ true → IsClean (a.dirty area)
+  its-clean k area is honest =
       elim (cases_lt k g.nodes) [
-        | inl log ↦ (its-log k area log is).clean
+        | inl log ↦ (its-log k area log is honest).clean
         | inr segment ↦
             let back : k ≡ g.nodes + (k - g.nodes) = omega (arith, segment) in
-            (its-segment (k - g.nodes) area (ap (slice_get areas) (sym back) ∙ is)).2.clean
+            (its-segment (k - g.nodes) area (ap (slice_get areas) (sym back) ∙ is) honest).2.clean
       ]
 
-  its-text : (s page : ℕ) (area : D) → slice_get areas (g.nodes + s) ≡ Some area → page < g.pages → text_in (a.now area) page ≡ (page_of stored (s + 1) page).text
-  its-text s page area is within =
-      let its = its-segment s area is in
+  its-text : (s page : ℕ) (area : D) → slice_get areas (g.nodes + s) ≡ Some area → a.honest area ≡ true → page < g.pages → text_in (a.now area) page ≡ (page_of stored (s + 1) page).text
+  its-text s page area is honest within =
+      let its = its-segment s area is honest in
       let rests : RestsAt a its.0 area page = its.2.rests page within in
-      settled_reads (a.now area) (a.dirty area) page (entry_text (entry_at its.0.texts page)) ((fits.each (g.nodes + s) area is).bytes (honest (g.nodes + s) area is)) rests.settled
+      settled_reads (a.now area) (a.dirty area) page (entry_text (entry_at its.0.texts page)) ((fits.each (g.nodes + s) area is).bytes honest) rests.settled
       ∙ ap (λ (p : RecoveredPage). p.text) (sym (page-is s page its.0 its.1 within))
 
-  its-reads : (s page : ℕ) (area : D) → slice_get areas (g.nodes + s) ≡ Some area → page < g.pages
+  its-reads : (s page : ℕ) (area : D) → slice_get areas (g.nodes + s) ≡ Some area → a.honest area ≡ true → page < g.pages
       → page_in (a.now area) page ≡ record { sequence = (page_of stored (s + 1) page).text.seq; content = (page_of stored (s + 1) page).bytes }
-  its-reads s page area is within =
-      let its = its-segment s area is in
+  its-reads s page area is honest within =
+      let its = its-segment s area is honest in
       let rests : RestsAt a its.0 area page = its.2.rests page within in
       same_area_page (page_in (a.now area) page) (record { sequence = (page_of stored (s + 1) page).text.seq; content = (page_of stored (s + 1) page).bytes })
-      (ap (λ (t : PageText). t.seq) (its-text s page area is within))
+      (ap (λ (t : PageText). t.seq) (its-text s page area is honest within))
       (rests.content ∙ ap (λ (p : RecoveredPage). p.bytes) (sym (page-is s page its.0 its.1 within)))
 
-  is-finished : IsFinished a stored
-  is-finished = record {
+  are-finished : AreFinished a stored
+  are-finished k area is honest =
+      let there : (s : ℕ) → k ≡ g.nodes + s → slice_get areas (g.nodes + s) ≡ Some area = λ s at. ap (slice_get areas) (sym at) ∙ is in
+      record {
+        clean = its-clean k area is honest;
+        closed = λ log. (its-log k area log is honest).closed;
+        texts = λ s page at. its-text s page area (there s at) honest;
+        reads = λ s page at. its-reads s page area (there s at) honest;
+      }
+
+  is-finished : AreHonest a areas → IsFinished a stored
+  is-finished honest = record {
     store = store;
     content = whole.content;
     numbers = whole.numbers;
@@ -144,12 +156,53 @@ module _ {D : Type 0} (a : Ghosts D) (g : Geometry) (f : Finished) (areas : List
     sequences = its-number;
     small = its-small;
     renewed = renewed;
-    clean = its-clean;
-    closed = λ log area within is. (its-log log area within is).closed;
-    texts = its-text;
-    reads = its-reads;
+    clean = λ k area is. its-clean k area is (honest k area is);
+    closed = λ log area within is. (its-log log area within is (honest log area is)).closed;
+    texts = λ s page area is. its-text s page area is (honest (g.nodes + s) area is);
+    reads = λ s page area is. its-reads s page area is (honest (g.nodes + s) area is);
   }
 
   -- a store that is what it has made
-  pub finished : (r : RecoveredStore D) → r ≡ stored → IsFinished a r
-  finished r is = subst (λ (x : RecoveredStore D). IsFinished a x) (sym is) is-finished
+  pub finished : (r : RecoveredStore D) → r ≡ stored → AreHonest a areas → IsFinished a r
+  finished r is honest = subst (λ (x : RecoveredStore D). IsFinished a x) (sym is) (is-finished honest)
+
+  -- and each of its areas by itself
+  pub areas_finished : (r : RecoveredStore D) → r ≡ stored → AreFinished a r
+  areas_finished r is = subst (λ (x : RecoveredStore D). AreFinished a x) (sym is) are-finished
+
+  -- which are as long as its geometry says
+  pub areas_long : (r : RecoveredStore D) → r ≡ stored → HaveLengths a r.geometry r.areas
+  areas_long r is = subst (λ (x : RecoveredStore D). HaveLengths a x.geometry x.areas) (sym is) (have-lengths a g (Done f) areas fits)
+
+-- What is kept behind the last page
+
+module _ (g : Geometry) (segments : List SegmentPages) (known : List ℕ) (store : Store) (whole : IsWhole g segments known store) where
+  number_is : (s number : ℕ) → slice_get known s ≡ Some number → (s < g.segments) × (number ≡ whole.numbers (s + 1))
+  number_is s number is =
+      let there : s < g.segments = omega (arith, slice_get_within known s number is, whole.result.count) in
+      (there, one_item number (whole.numbers (s + 1)) (sym is ∙ whole.result.numbers_are s there))
+
+  -- no page that was read has a greater sequence than its segment's number
+  read_within : (s page : ℕ) (old : Page) → s < g.segments → slice_get (segment_of (s + 1) store.pages) page ≡ Some old → old.sequence ≤ whole.numbers (s + 1)
+  read_within s page old there is =
+      let most = at_most-greatest (λ (p : Page). p.sequence) (segment_of (s + 1) store.pages) page old is in
+      let counted = whole.result.merges.2.counted (s + 1) (omega arith) (omega (arith, there, whole.pages.shape)) in
+      omega (arith, most, counted)
+
+  page_within : (s page : ℕ) (pages : SegmentPages) → slice_get segments s ≡ Some pages → s < g.segments → page < g.pages → (entry_at pages.texts page).stable ≤ whole.numbers (s + 1)
+  page_within s page pages is there within =
+      let old = get-some (segment_of (s + 1) store.pages) page (omega (arith, within, whole.pages.shapes s there)) in
+      elim (whole.pages.each s page pages old.0 is old.1) [
+        | inl new ↦ omega (arith, new.1.sequence)
+        | inr stays ↦ omega (arith, stays.1.sequence, read_within s page old.0 there old.1)
+      ]
+
+  pub has_pages : HasPages g segments known
+  has_pages = record {
+    count = whole.pages.count;
+    numbers_count = whole.result.count;
+    entries = whole.pages.entries;
+    bytes = whole.pages.bytes;
+    small = λ s number is. (let its = number_is s number is in omega (arith, its.1, whole.result.small s its.0));
+    within = λ s page number pages pages_are is within. (let its = number_is s number is in omega (arith, its.1, page_within s page pages pages_are its.0 within));
+  }

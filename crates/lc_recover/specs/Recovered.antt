@@ -1,5 +1,5 @@
 -- What a recovery has made of a store.
-use Rattle.std.specs.Prelude.{◌≡◌, ◌≢◌, ℕ, ◌+◌, ◌-◌, ◌*◌, ◌%◌, ◌^◌, ◌<◌, ◌≤◌, false, List, [], ◌∷◌, length, map, None, Some, slice_get, slice_index, slice_index_or}
+use Rattle.std.specs.Prelude.{◌≡◌, ◌≢◌, ℕ, ◌+◌, ◌-◌, ◌*◌, ◌%◌, ◌^◌, ◌<◌, ◌≤◌, true, false, List, [], ◌∷◌, length, map, None, Some, slice_get, slice_index, slice_index_or}
 use Rattle.std.specs.Option.{unwrap_or}
 use Rattle.lc_disk.specs.Area.{IsClean}
 use Rattle.lc_disk.specs.declared.area.Area.{Ghosts}
@@ -52,14 +52,31 @@ module _ {D : Type 0} where
   abbrev pub page_read_of : RecoveredStore D → ℕ → ℕ → Page
   page_read_of r segment page = page_read (page_of r segment page)
 
--- the number of each segment is there, and as many pages of 256 bytes as the geometry says
+-- the number of each segment is there, at most 2^60, and as many pages of 256 bytes as the geometry says, none of which has a
+-- greater sequence than its segment's number
 pub record HasPages (g : Geometry) (segments : List SegmentPages) (numbers : List ℕ) : Type 0 where
   pub count : length segments ≡ g.segments
   pub numbers_count : length numbers ≡ g.segments
   pub entries : (s : ℕ) (pages : SegmentPages) → slice_get segments s ≡ Some pages → length pages.texts ≡ g.pages
   pub bytes : (s : ℕ) (pages : SegmentPages) → slice_get segments s ≡ Some pages → length pages.bytes.items ≡ g.pages * 256
+  pub small : (s number : ℕ) → slice_get numbers s ≡ Some number → number ≤ 2 ^ 60
+  pub within : (s page number : ℕ) (pages : SegmentPages) → slice_get segments s ≡ Some pages → slice_get numbers s ≡ Some number → page < g.pages →
+      (entry_at pages.texts page).stable ≤ number
 
 module _ {D : Type 0} (a : Ghosts D) where
+  -- What is known of one area of the store: no position is dirty, a log begins with no open gate, and the area of a segment
+  -- has each of its pages.
+  pub record IsFinishedArea (r : RecoveredStore D) (k : ℕ) (area : D) : Type 0 where
+    pub clean : IsClean (a.dirty area)
+    pub closed : k < r.geometry.nodes → slice_index (a.now area) 0 % 256 ≢ 165
+    pub texts : (s page : ℕ) → k ≡ r.geometry.nodes + s → page < r.geometry.pages → text_in (a.now area) page ≡ (page_of r (s + 1) page).text
+    pub reads : (s page : ℕ) → k ≡ r.geometry.nodes + s → page < r.geometry.pages →
+        page_in (a.now area) page ≡ record { sequence = (page_of r (s + 1) page).text.seq; content = (page_of r (s + 1) page).bytes }
+
+  -- so is each area that keeps to the model of a disk, whatever the others do
+  abbrev pub AreFinished : RecoveredStore D → Type 0
+  AreFinished r = (k : ℕ) (area : D) → slice_get r.areas k ≡ Some area → a.honest area ≡ true → IsFinishedArea r k area
+
   -- The areas are the whole of a store that was merged: each page on which some record is newer has its part of the result,
   -- under its segment's number, and any other is as it was read; the logs are empty, and no position is dirty.
   pub record IsFinished (r : RecoveredStore D) : Type 0 where

@@ -1,5 +1,5 @@
 //! What a recovery has made of a store.
-ghost use Rattle.std.specs.Prelude.{◌≡◌, ◌<◌, ◌≤◌, length, map};
+ghost use Rattle.std.specs.Prelude.{◌≡◌, ◌^◌, ◌<◌, ◌≤◌, length, map};
 
 use crate::finished::Finished;
 use crate::segment_pages::SegmentPages;
@@ -61,11 +61,12 @@ impl<D: Area> Recovered<D> {
         self.geometry
     }
 
-    /// The number of a segment, from 1.
+    /// The number of a segment, from 1: at most 2^60.
     pub fn sequence(&self, segment: u32) -> u64
         requires first { 1 ≤ segment }
         requires last { segment ≤ self.now.geometry.segments }
-        ensures { result ≡ sequence_of self.now segment }
+        ensures number { result ≡ sequence_of self.now segment }
+        ensures small { result ≤ 2 ^ 60 }
     {
         self.numbers[segment as usize - 1]
     }
@@ -81,12 +82,13 @@ impl<D: Area> Recovered<D> {
         self.segments[segment as usize - 1].page(page)
     }
 
-    /// What its area says of a page of a segment, from 1.
+    /// What its area says of a page of a segment, from 1. Its sequence is at most the segment's number.
     pub fn text(&self, segment: u32, page: u32) -> PageText
         requires first { 1 ≤ segment }
         requires last { segment ≤ self.now.geometry.segments }
         requires page { page < self.now.geometry.pages }
-        ensures { result ≡ (page_of self.now segment page).text }
+        ensures text { result ≡ (page_of self.now segment page).text }
+        ensures within { result.seq ≤ sequence_of self.now segment }
     {
         self.segments[segment as usize - 1].text(page)
     }

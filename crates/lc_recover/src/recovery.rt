@@ -43,7 +43,7 @@ impl<D: Area> Model for Recovery<D> {
 }
 
 impl<D: Area> Recovery<D> {
-    ghost use Rattle.lc_recover.specs.Recovered.{IsFinished, page_read};
+    ghost use Rattle.lc_recover.specs.Recovered.{AreFinished, IsFinished, page_read};
     ghost use Rattle.lc_recover.specs.Recovery.{Recovering, all_steps, begun, HasPageToWrite, IsDone, IsLast, IsMergeNext, IsMerged, IsReadFrom, MakesItsCall, Renews, TakesMemory, Tells};
 
     /// Begins the recovery of these areas. It takes no memory and calls no area. Where one has a length that is not
@@ -222,9 +222,11 @@ impl<D: Area> Recovery<D> {
         requires { IsDone self }
         ensures geometry { result.geometry ≡ self.geometry }
         ensures areas { result.areas ≡ self.areas }
+        ensures lengths { HaveLengths D.Area result.geometry result.areas }
         ensures all { self.left ≡ [] }
         ensures kept { map (map page_read) result.pages ≡ self.kept }
         ensures finished { AreHonest D.Area self.areas → IsFinished D.Area result }
+        ensures each { AreFinished D.Area result }
     {
         let Recovery {
             geometry,

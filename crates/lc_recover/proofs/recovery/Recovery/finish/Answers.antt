@@ -6,7 +6,7 @@ use Rattle.lc_recover.specs.Stage.{Fits}
 use Rattle.lc_recover.specs.Steps.{pages_kept}
 use Rattle.lc_recover.specs.declared.stage.Stage.{Stage}
 use Rattle.lc_recover.specs.declared.stage.Stage.TheVariants.{Done}
-use Rattle.lc_recover.proofs.FinishedStore.{finished}
+use Rattle.lc_recover.proofs.FinishedStore.{areas_finished, areas_long, finished, has_pages}
 use Rattle.lc_recover.proofs.Going.{not_over-done, not_done}
 use Rattle.lc_recover.proofs.Renewing.{handed-out}
 use Rattle.lc_recover.proofs.recovery.Recovery.finish.Goals as goal
@@ -17,13 +17,34 @@ unreachable-requires g c =
     (not_done g.D.Area c.self.inside.geometry c.self.inside.areas.items c.self.inside.stage c.in_default.not-Done)
     (subst (λ (r : Recovering g.row.D.Denot). IsDone r) (sym c.self.view_is) c.requires)
 
+pub new-requires : goal.new-requires
+new-requires g c =
+    let inside = c.self.inside in
+    let fits : Fits g.D.Area inside.geometry (Done c.in-Done.finished) inside.areas.items =
+    subst (λ (s : Stage). Fits g.D.Area inside.geometry s inside.areas.items) c.in-Done.is c.self.invariant.fits in
+    has_pages inside.geometry c.in-Done.finished.segments.items c.in-Done.finished.numbers.items fits.1.0 fits.1.3
+
+pub returns-clause-lengths : goal.returns-clause-lengths
+returns-clause-lengths g c =
+    let inside = c.self.inside in
+    let fits : Fits g.D.Area inside.geometry (Done c.in-Done.finished) inside.areas.items =
+    subst (λ (s : Stage). Fits g.D.Area inside.geometry s inside.areas.items) c.in-Done.is c.self.invariant.fits in
+    areas_long g.D.Area inside.geometry c.in-Done.finished inside.areas.items fits.0 fits.1.1 fits.1.0 fits.1.2 fits.1.3 c.new.result c.new.ensures
+
 pub returns-clause-finished : goal.returns-clause-finished
 returns-clause-finished g c honest =
     let inside = c.self.inside in
     let fits : Fits g.D.Area inside.geometry (Done c.in-Done.finished) inside.areas.items =
     subst (λ (s : Stage). Fits g.D.Area inside.geometry s inside.areas.items) c.in-Done.is c.self.invariant.fits in
     let own : AreHonest g.D.Area inside.areas.items = subst (λ (r : Recovering g.row.D.Denot). AreHonest g.D.Area r.areas) (sym c.self.view_is) honest in
-    finished g.D.Area inside.geometry c.in-Done.finished inside.areas.items fits.0 own fits.1.1 fits.1.0 fits.1.2 fits.1.3 c.new.result c.new.ensures
+    finished g.D.Area inside.geometry c.in-Done.finished inside.areas.items fits.0 fits.1.1 fits.1.0 fits.1.2 fits.1.3 c.new.result c.new.ensures own
+
+pub returns-clause-each : goal.returns-clause-each
+returns-clause-each g c =
+    let inside = c.self.inside in
+    let fits : Fits g.D.Area inside.geometry (Done c.in-Done.finished) inside.areas.items =
+    subst (λ (s : Stage). Fits g.D.Area inside.geometry s inside.areas.items) c.in-Done.is c.self.invariant.fits in
+    areas_finished g.D.Area inside.geometry c.in-Done.finished inside.areas.items fits.0 fits.1.1 fits.1.0 fits.1.2 fits.1.3 c.new.result c.new.ensures
 
 pub returns-clause-kept : goal.returns-clause-kept
 returns-clause-kept g c =
