@@ -7,8 +7,11 @@ pub mod Counted
 pub mod CountedFits
 pub mod CommitKeeps
 pub mod CommitPaths
+pub mod EachPlace
 pub mod FlushKeeps
 pub mod Forwards
+pub mod FreshFits
+pub mod FreshPages
 pub mod Fronts
 pub mod Knowing
 pub mod Laying

@@ -4,6 +4,7 @@ pub mod Commits
 pub mod Each
 pub mod Fault
 pub mod Flushes
+pub mod Fresh
 pub mod Held
 pub mod Laid
 pub mod Lent
@@ -12,6 +13,7 @@ pub mod LogView
 pub mod Pages
 pub mod Receipts
 pub mod Resets
+pub mod Rooms
 pub mod SegSide
 pub mod SegView
 pub mod Sides

@@ -1,23 +1,62 @@
 //! A committed record is confirmed where it is, and after a reset as an earlier one.
 ghost use Rattle.std.specs.Prelude.{◌≡◌, ◌<◌, ◌≤◌, length, IfSome, IfOk};
-ghost use Rattle.lc_stage.specs.Staging.{IsOneRecord};
+ghost use Rattle.lc_recover.specs.Recovered.{AreFinished};
+ghost use Rattle.lc_recover.specs.Reads.{HaveLengths};
+ghost use Rattle.lc_stage.specs.Staging.{IsOneRecord, newcomer};
 ghost use Rattle.lc_stage.specs.Seats.{commit_view, IsSeatOf, IsIdle};
 ghost use Rattle.lc_node.specs.Receipts.{HasReceipt};
 
 use crate::{Confirmed, Gate, Node, NodeFault, stage_record};
 use lc_disk::{Area, MemArea};
 use lc_page::{PageText, PageVector};
-use lc_record::{Items, Lock, RangeData, Record, encode};
+use lc_record::{Geometry, Items, Lock, RangeData, Record, encode};
+use lc_recover::{Progress, Recovered, Recovery};
 use lc_stage::{CommitSeat, Receipt};
 use lc_token::Token;
 use std::alloc::{AllocError, Global};
 use std::sync::Wait;
 use std::test::Fail;
 
+// More steps than the recovery of a store of one segment has.
+const MOST_STEPS: u64 = 100;
+
 struct Open;
 
 impl Gate for Open {
     fn between(&self) {}
+}
+
+// The recovery of a store of zeros, of one node with a log of 64 words and a segment of one page.
+fn recovered(alloc: Global) -> Result<Recovered<MemArea>, Fail>
+    ensures one { IfOk result (λ r. (r.geometry.nodes ≡ 1) × (r.geometry.words ≡ 64)) }
+    ensures lengths { IfOk result (λ r. HaveLengths MemArea.Area r.geometry r.areas) }
+    ensures finished { IfOk result (AreFinished MemArea.Area) }
+{
+    let geometry = Geometry::new(1, 1, 1, 1, 64).ok_or("these numbers are a geometry")?;
+    let mut areas = Vec::with_capacity(alloc, 2)?;
+    areas.push(MemArea::new(alloc, 520)?)?;
+    areas.push(MemArea::new(alloc, 544)?)?;
+    let Ok(mut recovery) = Recovery::new(geometry, areas) else {
+        return Err(Fail::from("the areas have their lengths"));
+    };
+    for _ in 0..MOST_STEPS {
+        match recovery.step(alloc) {
+            Ok(Progress::Stepped(_)) => {}
+            Ok(Progress::Recovered) => return Ok(recovery.finish()),
+            Err(_) => return Err(Fail::from("a step fails")),
+        }
+    }
+    Err(Fail::from("there are too many steps"))
+}
+
+// The node of that store, and a committer's seat.
+fn opened(alloc: Global) -> Result<(Node<MemArea>, CommitSeat), Fail>
+    ensures { IfOk result (λ made. IsSeatOf made.0.stage made.1 × (commit_view made.1 ≡ newcomer 64)) }
+{
+    match Node::open(alloc, recovered(alloc)?) {
+        Ok(made) => Ok(made),
+        Err(_) => Err(Fail::from("out of memory")),
+    }
 }
 
 // Stages a record, flushes it, and gets its receipt.
@@ -119,8 +158,7 @@ fn words_of(alloc: Global, seq: u64) -> Result<Option<Vec<u64>>, AllocError>
 #[test]
 fn here_and_then_earlier(rt: HostRuntime) -> Result<(), Fail> {
     let alloc = rt.alloc();
-    let area = MemArea::new(alloc, 520)?;
-    let (node, mut seat) = Node::of_log(alloc, area, 64)?;
+    let (node, mut seat) = opened(alloc)?;
     let words = words_of(alloc, 1)?.expect(&rt, "a record");
     assert!(rt; reset(&rt, &node) == Ok(0), "nothing is stable");
     let receipt = commit(&rt, &node, &mut seat, words.as_slice()).expect(&rt, "a receipt");

@@ -16,5 +16,5 @@ loop-page-preserved g c =
     record {
       len = ap length c.renew.ensures ∙ length-set old page _ ∙ len;
       entries = ap (λ l. take (page + 1) l) c.renew.ensures
-          ∙ entry_put (λ p. new_entry (page_of c.args.recovered.now c.args.segment p).text) page _ old (ap new_entry c.text.ensures) within c.loop-page.invariant.entries;
+          ∙ entry_put (λ p. new_entry (page_of c.args.recovered.now c.args.segment p).text) page _ old (ap new_entry c.text.ensures.text) within c.loop-page.invariant.entries;
     }

@@ -1,0 +1,37 @@
+use Rattle.std.proofs.Common.{◌≡◌, ◌+◌, ◌*◌, ◌≤◌, ℕ, List, [], length, sym, ap, subst, ◌∙◌, arith, vec_capacity}
+use Rattle.lc_stage.specs.declared.view.View.{View}
+use Rattle.lc_stage.specs.Staging.{flusher, open_count, AreRecords}
+use Rattle.lc_stage.specs.Seats.{flush_view}
+use Rattle.lc_trunc.specs.KnownClean.{known}
+use Rattle.lc_trunc.specs.Reset.{AreKnown}
+use Rattle.lc_node.proofs.Knowing.{none_ended}
+use Rattle.lc_node.proofs.Rounds.{no_records}
+use Rattle.lc_node.proofs.log_room.LogRoom.open.Goals as goal
+
+pub invariant_of-fill : goal.invariant_of-fill
+invariant_of-fill g c =
+    let self = c.args.self in
+    let words : ℕ = self.stage.room in
+    let is : flush_view self.flusher ≡ flusher words = self.new_flusher in
+    let room : (flush_view self.flusher).room ≡ words = ap (λ (v : View). v.room) is in
+    record {
+      one_table = self.own_probe ∙ sym self.own_flusher;
+      idle_probe = ap (λ (v : View). open_count v.mine) self.new_probe;
+      group_room = ap (λ x. x.room) self.empty_group ∙ sym room;
+      stable_room = (let place : words ≤ vec_capacity self.stable = self.place in omega (arith, room, place));
+      at_round = ap (λ (v : View). length v.past) (sym is);
+      few_rounds = omega arith;
+      clear = ap (λ (v : View). v.ended_cleared) is ∙ sym (ap (λ (v : View). v.ended) is);
+      uncleared = ap (λ (v : View). v.cleared) is;
+      records = subst AreRecords (sym self.empty) no_records;
+      published = (let p : (flush_view self.flusher).published ≡ 0 = ap (λ (v : View). v.published) is in omega (arith, p));
+      clean = none_ended (λ (words : List ℕ). AreKnown words (known c.new-2.result)) (flush_view self.flusher).past (ap (λ (v : View). v.past) is);
+      holds = (
+        self.empty ∙ sym (ap (λ (v : View). v.taken) is),
+        (
+          c.new.ensures.end ∙ ap (λ (v : View). length v.taken) (sym is),
+          λ honest. ([], c.new.ensures.idle honest, sym (ap (λ (v : View). v.taken) is)),
+        ),
+        (let e = ap (λ a. length (g.D.Area.now a)) c.new.ensures.area in omega (arith, room, e, c.requires.room)),
+      );
+    }

@@ -1,0 +1,56 @@
+-- What a segment of a recovered store is, as it comes up at a node.
+use Rattle.std.specs.Prelude.{◌≡◌, ℕ, ◌<◌, ◌≤◌, ◌^◌, List, [], length, map, Some}
+use Rattle.std.specs.List.{flat_map}
+use Rattle.lc_record.specs.Marks.{counting}
+use Rattle.lc_page.specs.PageVector.{new_entry}
+use Rattle.lc_page.specs.declared.page_text.PageText.{PageText}
+use Rattle.lc_recover.specs.Recovered.{RecoveredStore, page_of, sequence_of}
+use Rattle.lc_token.specs.Backlog.{fresh}
+use Rattle.lc_token.specs.declared.token.Token.{Token}
+use Rattle.lc_tx.specs.declared.holders.Holders.TheVariants.{Free}
+use Rattle.lc_node.specs.SegView.{SegView}
+use Rattle.lc_node.specs.declared.fresh.FreshSegment.{FreshSegment}
+use Rattle.lc_node.specs.declared.page_area.PageArea.TheVariants.{Serves}
+
+module _ {D : Type 0} where
+  -- the pages of a segment, one after another
+  abbrev pub segment_bytes : RecoveredStore D → ℕ → List ℕ
+  segment_bytes r segment = flat_map (λ page. (page_of r segment page).bytes) (counting 0 r.geometry.pages)
+
+  -- what the disk says of each
+  abbrev pub segment_texts : RecoveredStore D → ℕ → List PageText
+  segment_texts r segment = map (λ page. (page_of r segment page).text) (counting 0 r.geometry.pages)
+
+  -- the token of a segment has counted all its records, and all of them are on its pages
+  abbrev pub fresh_token : RecoveredStore D → ℕ → Token
+  fresh_token r segment = record {
+    segment = segment;
+    seq = sequence_of r segment;
+    clean = sequence_of r segment;
+    pages = map new_entry (segment_texts r segment);
+  }
+
+  -- a segment's bytes, twice, and its token
+  pub record IsFresh (r : RecoveredStore D) (segment : ℕ) (s : FreshSegment) : Type 0 where
+    pub image : s.image.items ≡ segment_bytes r segment
+    pub base : s.base.items ≡ segment_bytes r segment
+    pub token : s.token ≡ fresh_token r segment
+
+  -- each page of a segment has 256 bytes, and a sequence of at most the segment's number, which is at most 2^60
+  pub record HasWholePages (r : RecoveredStore D) (segment : ℕ) : Type 0 where
+    pub small : sequence_of r segment ≤ 2 ^ 60
+    pub long : (page : ℕ) → page < r.geometry.pages → length (page_of r segment page).bytes ≡ 256
+    pub within : (page : ℕ) → page < r.geometry.pages → (page_of r segment page).text.seq ≤ sequence_of r segment
+
+  -- the segment at a node, whose token is there: nothing is applied, nothing is held back, and its area serves
+  abbrev pub fresh_side : FreshSegment → D → ℕ → SegView D
+  fresh_side s area room = record {
+    segment = s.token.segment;
+    image = Some (record { bytes = s.image; holders = Free });
+    base = s.base.items;
+    applied = [];
+    room = room;
+    backlog = fresh s.token.segment s.token.seq;
+    standing = record { segment = s.token.segment; token = Some s.token };
+    pages = Serves area;
+  }

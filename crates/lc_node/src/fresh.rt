@@ -1,0 +1,111 @@
+//! A segment of a recovered store, before its area is taken.
+ghost use Rattle.std.specs.Prelude.{◌≡◌, ℕ, ◌<◌, ◌≤◌, length, map, IfOk, OnOk};
+ghost use Rattle.lc_page.specs.PageVector.{new_entry};
+ghost use Rattle.lc_recover.specs.Recovered.{page_of, sequence_of};
+ghost use Rattle.lc_node.specs.Fresh.{HasWholePages, IsFresh, fresh_side, segment_bytes, segment_texts};
+ghost use Rattle.lc_node.specs.Pages.{FitsToken};
+
+use crate::SegSide;
+use crate::page_area::PageArea;
+use lc_disk::Area;
+use lc_page::PageVector;
+use lc_record::PAGE;
+use lc_recover::Recovered;
+use lc_token::{HoldBack, Token, TokenPlace};
+use lc_tx::Image;
+use std::alloc::{AllocError, Global};
+
+/// What a segment needs of memory at a node, with what the recovery has made of it: its bytes, for its image and its base,
+/// and its token.
+#[derive(Drop)]
+pub(crate) struct FreshSegment {
+    pub(crate) image: Vec<u8>,
+    pub(crate) base: Vec<u8>,
+    pub(crate) token: Token,
+}
+
+impl FreshSegment {
+    /// That of a segment, from 1.
+    pub(crate) fn new<D: Area>(
+        alloc: Global,
+        segment: u32,
+        recovered: &Recovered<D>,
+    ) -> Result<FreshSegment, AllocError>
+        requires first { 1 ≤ segment }
+        requires last { segment ≤ recovered.now.geometry.segments }
+        ensures fresh { IfOk result (λ s. IsFresh recovered.now segment s) }
+        ensures whole { OnOk result (HasWholePages recovered.now segment) }
+    {
+        let number = recovered.sequence(segment);
+        let image = bytes_of(alloc, segment, recovered)?;
+        let base = bytes_of(alloc, segment, recovered)?;
+        let pages = pages_of(alloc, segment, recovered)?;
+        let token = Token {
+            segment,
+            seq: number,
+            clean: number,
+            pages,
+        };
+        Ok(FreshSegment { image, base, token })
+    }
+
+    /// The segment at a node, with the area of its pages. It takes no memory.
+    pub(crate) fn with_area<D: Area>(self, alloc: Global, area: D) -> SegSide<D>
+        requires same { self.image.items ≡ self.base.items }
+        requires first { 1 ≤ self.token.segment }
+        requires last { self.token.segment ≤ 16 }
+        requires fits { FitsToken D.Area area self.token self.base.items }
+        ensures { result ≡ fresh_side self area result.room }
+    {
+        let FreshSegment { image, base, token } = self;
+        let segment = token.segment;
+        SegSide {
+            segment,
+            image: Some(Image::new(image)),
+            base: Image::new(base),
+            applied: Vec::new(alloc),
+            hold_back: HoldBack::new(alloc, segment, token.seq),
+            token: TokenPlace::new(segment, Some(token)),
+            pages: PageArea::Serves(area),
+        }
+    }
+}
+
+// The pages of a segment, one after another.
+fn bytes_of<D: Area>(
+    alloc: Global,
+    segment: u32,
+    recovered: &Recovered<D>,
+) -> Result<Vec<u8>, AllocError>
+    requires first { 1 ≤ segment }
+    requires last { segment ≤ recovered.now.geometry.segments }
+    ensures bytes { IfOk result (λ bytes. bytes.items ≡ segment_bytes recovered.now segment) }
+    ensures long { OnOk result ((page : ℕ) → page < recovered.now.geometry.pages → length (page_of recovered.now segment page).bytes ≡ 256) }
+{
+    let pages = recovered.geometry().pages;
+    let mut bytes = Vec::with_capacity(alloc, (pages * PAGE) as usize)?;
+    for page in 0..pages {
+        bytes.extend_from_slice(recovered.page(segment, page))?;
+    }
+    Ok(bytes)
+}
+
+// What is kept of the pages of a segment.
+fn pages_of<D: Area>(
+    alloc: Global,
+    segment: u32,
+    recovered: &Recovered<D>,
+) -> Result<PageVector, AllocError>
+    requires first { 1 ≤ segment }
+    requires last { segment ≤ recovered.now.geometry.segments }
+    ensures pages { IfOk result (λ pages. pages ≡ map new_entry (segment_texts recovered.now segment)) }
+    ensures within { OnOk result ((page : ℕ) → page < recovered.now.geometry.pages
+        → (page_of recovered.now segment page).text.seq ≤ sequence_of recovered.now segment) }
+{
+    let pages = recovered.geometry().pages;
+    let mut texts = Vec::with_capacity(alloc, pages as usize)?;
+    for page in 0..pages {
+        texts.push(recovered.text(segment, page))?;
+    }
+    PageVector::new(alloc, texts.as_slice())
+}

@@ -1,0 +1,118 @@
+//! The memory of a node's log, taken before its area is.
+ghost use Rattle.std.specs.Prelude.{◌≡◌, ◌≢◌, ◌+◌, ◌*◌, ◌%◌, ◌<◌, ◌≤◌, ℕ, true, false, [], Some, length, slice_get, slice_index, vec_capacity, vec_len, IfOk};
+ghost use Rattle.lc_lock.specs.declared.lock.Lock.{Lock as Keeps};
+ghost use Rattle.lc_lock.specs.Loans.{key_of};
+ghost use Rattle.lc_stage.specs.Staging.{newcomer, flusher as first_flusher};
+ghost use Rattle.lc_stage.specs.Seats.{commit_view, flush_view, IsFlusherOf, IsSeatOf};
+ghost use Rattle.lc_node.specs.SegView.{SegView};
+
+use crate::log_state::LogState;
+use crate::vacant::Vacant;
+use crate::{LogSide, Node, SegSide};
+use lc_disk::Area;
+use lc_lock::Lock;
+use lc_log::NodeLog;
+use lc_record::Group;
+use lc_stage::{CommitSeat, FlushSeat, Stage};
+use lc_trunc::KnownClean;
+use std::alloc::{AllocError, Global};
+
+/// A node's stage with the first committer's seat, and its log before the area is there. It is never dropped: it ends in
+/// `open` or in `end`.
+pub(crate) struct LogRoom<D: Area + Drop> {
+    pub(crate) stage: Stage,
+    pub(crate) seat: CommitSeat,
+    flusher: FlushSeat,
+    probe: CommitSeat,
+    group: Group,
+    stable: Vec<u64>,
+    lock: Vacant<LogSide<D>, Stage>,
+    ghost own_seat: { IsSeatOf stage seat },
+    ghost own_probe: { IsSeatOf stage probe },
+    ghost own_flusher: { IsFlusherOf stage flusher },
+    ghost new_probe: { commit_view probe ≡ newcomer stage.room },
+    ghost new_flusher: { flush_view flusher ≡ first_flusher stage.room },
+    ghost empty_group: { group ≡ record { words = []; room = stage.room } },
+    ghost empty: { stable.items ≡ [] },
+    ghost place: { stage.room ≤ vec_capacity stable },
+    ghost key: { key_of lock.lock ≡ stage },
+}
+
+impl<D: Area + Drop> LogRoom<D> {
+    /// That of a log of so many words.
+    pub(crate) fn new(alloc: Global, words: u32) -> Result<LogRoom<D>, AllocError>
+        requires { (0 < words) × (words < 32768) }
+        ensures room { IfOk result (λ log. log.stage.room ≡ words) }
+        ensures seat { IfOk result (λ log. commit_view log.seat ≡ newcomer words) }
+    {
+        let (stage, flusher, mut seat) = Stage::new(alloc, words)?;
+        let probe = stage.split(&mut seat);
+        let group = Group::new(alloc, words)?;
+        let stable = Vec::with_capacity(alloc, words as usize)?;
+        let lock = Vacant::new(alloc, &stage)?;
+        Ok(LogRoom {
+            stage,
+            seat,
+            flusher,
+            probe,
+            group,
+            stable,
+            lock,
+        })
+    }
+
+    /// The node with these segments, whose log is on this area, which begins with no open gate. It takes no memory.
+    pub(crate) fn open(
+        self,
+        area: D,
+        segments: Vec<Lock<SegSide<D>, u32>>,
+    ) -> (Node<D>, CommitSeat)
+        requires room { 8 * self.stage.room + 8 ≤ length (D.now area) }
+        requires closed { D.honest area ≡ true → slice_index (D.now area) 0 % 256 ≢ 165 }
+        requires clean { D.honest area ≡ true → D.dirty area 0 ≡ false }
+        requires in_order { (place : ℕ) (lock : Keeps (SegView D) ℕ) → slice_get segments.items place ≡ Some lock → key_of lock ≡ place + 1 }
+        requires few { vec_len segments ≤ 16 }
+        ensures seat { IsSeatOf result.0.stage result.1 × (result.1 ≡ self.seat) }
+        ensures room { result.0.stage.room ≡ self.stage.room }
+        ensures segments { result.0.segments ≡ segments }
+    {
+        let LogRoom {
+            stage,
+            seat,
+            flusher,
+            probe,
+            group,
+            stable,
+            lock,
+        } = self;
+        let log = lock.fill(LogSide {
+            flusher,
+            probe,
+            log: LogState::Idle(NodeLog::new(area)),
+            group,
+            stable,
+            round: 0,
+            known: KnownClean::new(),
+        });
+        let node = Node {
+            stage,
+            log,
+            segments,
+        };
+        (node, seat)
+    }
+
+    /// The log does not come up.
+    pub(crate) fn end(self) {
+        let LogRoom {
+            stage: _stage,
+            seat: _seat,
+            flusher: _flusher,
+            probe: _probe,
+            group: _group,
+            stable: _stable,
+            lock,
+        } = self;
+        lock.end();
+    }
+}

@@ -1,0 +1,115 @@
+//! The memory of the segments of a recovered store, taken before its areas are.
+ghost use Rattle.std.specs.Prelude.{◌≡◌, ◌+◌, ◌≤◌, ℕ, [], Some, length, slice_get, vec_capacity, vec_len, IfOk};
+ghost use Rattle.lc_lock.specs.declared.lock.Lock.{Lock as Keeps};
+ghost use Rattle.lc_lock.specs.Loans.{key_of};
+ghost use Rattle.lc_node.specs.Rooms.{FitsRoom, IsRoomOf};
+ghost use Rattle.lc_node.specs.SegView.{SegView};
+ghost use Rattle.lc_node.specs.declared.seg_room.SegRoom.{SegRoom as Room};
+
+use crate::SegSide;
+use crate::fresh::FreshSegment;
+use crate::vacant::Vacant;
+use lc_disk::Area;
+use lc_lock::Lock;
+use lc_recover::Recovered;
+use std::alloc::{AllocError, Global};
+
+/// A segment of a recovered store, and the lock that waits for it. It is never dropped: it ends in `fill` or in `end`.
+pub(crate) struct SegRoom<D: Area + Drop> {
+    pub(crate) fresh: FreshSegment,
+    pub(crate) lock: Vacant<SegSide<D>, u32>,
+}
+
+impl<D: Area + Drop> SegRoom<D> {
+    /// That of a segment, from 1.
+    fn new(
+        alloc: Global,
+        segment: u32,
+        recovered: &Recovered<D>,
+    ) -> Result<SegRoom<D>, AllocError>
+        requires first { 1 ≤ segment }
+        requires last { segment ≤ recovered.now.geometry.segments }
+        ensures { IfOk result (IsRoomOf recovered.now segment) }
+    {
+        let fresh = FreshSegment::new(alloc, segment, recovered)?;
+        let lock = Vacant::new(alloc, &segment)?;
+        Ok(SegRoom { fresh, lock })
+    }
+
+    // The lock with the segment, on the area of its pages. It takes no memory.
+    fn fill(self, alloc: Global, segment: u32, area: D) -> Lock<SegSide<D>, u32>
+        requires first { 1 ≤ segment }
+        requires last { segment ≤ 16 }
+        requires fits { FitsRoom D.Area segment self area }
+        ensures { key_of result ≡ segment }
+    {
+        let SegRoom { fresh, lock } = self;
+        lock.fill(fresh.with_area(alloc, area))
+    }
+
+    // The segment does not come up.
+    fn end(self) {
+        let SegRoom {
+            fresh: _fresh,
+            lock,
+        } = self;
+        lock.end();
+    }
+}
+
+/// Those of all segments of a store.
+pub(crate) fn rooms_of<D: Area + Drop>(
+    alloc: Global,
+    recovered: &Recovered<D>,
+) -> Result<Vec<SegRoom<D>>, AllocError>
+    ensures count { IfOk result (λ rooms. vec_len rooms ≡ recovered.now.geometry.segments) }
+    ensures each { IfOk result (λ rooms. (place : ℕ) (room : Room D) → slice_get rooms.items place ≡ Some room → IsRoomOf recovered.now (place + 1) room) }
+{
+    let segments = recovered.geometry().segments;
+    let mut rooms = Vec::with_capacity(alloc, segments as usize)?;
+    for place in 0..segments {
+        match SegRoom::new(alloc, place + 1, recovered) {
+            Ok(room) => rooms.push_reserved(room),
+            Err(fault) => {
+                end_all(rooms);
+                return Err(fault);
+            }
+        }
+    }
+    Ok(rooms)
+}
+
+/// The segments come up, each on its area, in the room that is there for their locks.
+pub(crate) fn fill_all<D: Area + Drop>(
+    alloc: Global,
+    rooms: Vec<SegRoom<D>>,
+    areas: Vec<D>,
+    locks: Vec<Lock<SegSide<D>, u32>>,
+) -> Vec<Lock<SegSide<D>, u32>>
+    requires count { vec_len rooms ≡ vec_len areas }
+    requires few { vec_len rooms ≤ 16 }
+    requires each { (place : ℕ) (room : Room D) (area : D) → slice_get rooms.items place ≡ Some room → slice_get areas.items place ≡ Some area
+        → FitsRoom D.Area (place + 1) room area }
+    requires empty { locks.items ≡ [] }
+    requires place { vec_len rooms ≤ vec_capacity locks }
+    ensures count { vec_len result ≡ vec_len rooms }
+    ensures in_order { (place : ℕ) (lock : Keeps (SegView D) ℕ) → slice_get result.items place ≡ Some lock → key_of lock ≡ place + 1 }
+{
+    let (mut rooms, mut areas, mut locks) = (rooms, areas, locks);
+    for place in 0..areas.len() {
+        let room = rooms.remove(0);
+        let area = areas.remove(0);
+        locks.push_reserved(room.fill(alloc, place as u32 + 1, area));
+    }
+    rooms.destroy_empty();
+    locks
+}
+
+/// No segment comes up.
+pub(crate) fn end_all<D: Area + Drop>(rooms: Vec<SegRoom<D>>) {
+    let mut rooms = rooms;
+    while let Some(room) = rooms.pop() {
+        room.end();
+    }
+    rooms.destroy_empty();
+}
