@@ -29,3 +29,4 @@ pub mod TouchedPages
 pub mod UnderWay
 pub mod Unfit
 pub mod Walking
+pub mod WorkSteps

@@ -19,6 +19,7 @@ impl<D: Area + Drop> LogSide<D> {
         requires own { IsSeatOf stage.now seat × IsFlusherOf stage.now self.old.flusher }
         requires idle { IsIdle (commit_view seat) }
         ensures same { IsSeatOf stage.now result.0 }
+        ensures idle { IsIdle (commit_view result.0) }
         ensures log { IsFlusherOf stage.now self.new.flusher × IsSameLog self.old self.new }
         ensures some { IfSome result.1 (λ receipt. HasReached (flush_view self.old.flusher).published (commit_view seat) × IsReceiptOf (latest (commit_view seat).mine) receipt × (commit_view result.0 ≡ with_receipt (learns_durable (flush_view self.old.flusher).published (commit_view seat)))) }
         ensures none { IfNone result.1 (¬ HasReached (flush_view self.old.flusher).published (commit_view seat) × (commit_view result.0 ≡ learns_durable (flush_view self.old.flusher).published (commit_view seat))) }
@@ -35,6 +36,7 @@ impl<D: Area + Drop> LogSide<D> {
         requires own { IsSeatOf stage.now seat × IsFlusherOf stage.now self.old.flusher }
         requires idle { IsIdle (commit_view seat) }
         ensures same { IsSeatOf stage.now result.0 }
+        ensures idle { IsIdle (commit_view result.0) }
         ensures log { IsFlusherOf stage.now self.new.flusher × (self.new.probe ≡ self.old.probe) }
         ensures settled { IfOk result.1 (λ found. MatchOption found (Learns (commit_view seat) (commit_view result.0)) (λ receipt. Receives (commit_view seat) receipt (commit_view result.0))) }
         ensures refused { IfErr result.1 (λ fault. IsOfDevice fault × Learns (commit_view seat) (commit_view result.0)) }
@@ -64,6 +66,7 @@ impl<D: Area + Drop> Node<D> {
         requires own { IsSeatOf self.now.stage seat }
         requires idle { IsIdle (commit_view seat) }
         ensures own { IsSeatOf self.now.stage result.0 }
+        ensures idle { IsIdle (commit_view result.0) }
         ensures settled { IfOk result.1 (λ receipt. Receives (commit_view seat) receipt (commit_view result.0)) }
         ensures refused { IfErr result.1 (λ fault. IsOfDevice fault × Learns (commit_view seat) (commit_view result.0)) }
     {
@@ -88,6 +91,7 @@ impl<D: Area + Drop> Node<D> {
         requires own { IsSeatOf self.now.stage seat }
         requires idle { IsIdle (commit_view seat) }
         ensures own { IsSeatOf self.now.stage result.0 }
+        ensures idle { IsIdle (commit_view result.0) }
         ensures settled { IfOk result.1 (λ found. MatchOption found (Learns (commit_view seat) (commit_view result.0)) (λ receipt. Receives (commit_view seat) receipt (commit_view result.0))) }
         ensures refused { IfErr result.1 (λ fault. IsOfDevice fault × Learns (commit_view seat) (commit_view result.0)) }
     {

@@ -42,6 +42,7 @@ impl<D: Area + Drop> Node<D> {
         requires idle { IsIdle (commit_view seat) }
         requires tries { 0 < tries }
         ensures own { IsSeatOf self.now.stage result.0 }
+        ensures idle { IsIdle (commit_view result.0) }
         ensures ran { OnOk result.1 (W.ran work.old (Ok tt) work.new) }
         ensures empty { result.1 ≡ Ok Empty → commit_view result.0 ≡ commit_view seat }
         ensures lazy { result.1 ≡ Ok Lazy → ClosesOne (commit_view seat) (commit_view result.0) }
