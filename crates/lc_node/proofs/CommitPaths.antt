@@ -1,24 +1,23 @@
 -- The ways of a commit: its images go out of sides with more room, and come back.
 use Rattle.std.proofs.Common.{◌≡◌, ◌∙◌, ℕ, ◌<◌, List, map, All, sym, subst}
 use Rattle.std.specs.Prelude.{Option}
-use Rattle.lc_record.specs.Part.{part_of}
 use Rattle.lc_record.specs.Record.{Chain, IsRecord}
 use Rattle.lc_record.specs.declared.part.Part.{Part}
 use Rattle.lc_record.specs.declared.record.Record.{Record}
 use Rattle.lc_stage.specs.declared.view.View.{View}
 use Rattle.lc_tx.specs.Prepared.{AreSmall}
 use Rattle.lc_node.specs.Attempts.{IsUndone}
-use Rattle.lc_node.specs.Commits.{IsAsBefore, StagesWork, TakesPart}
+use Rattle.lc_node.specs.Commits.{IsAsBefore, IsKept, IsKeptTidy, StagesWork, TakesOf}
 use Rattle.lc_node.specs.Each.{Each, EachThree}
 use Rattle.lc_node.specs.Held.{lent_side}
 use Rattle.lc_node.specs.Lent.{the_images}
 use Rattle.lc_node.specs.Stages.{Closes}
-use Rattle.lc_node.specs.Sides.{IsOut, IsReady, IsBack, CanCount, IsCounted, IsRoomier, HasRoomFor}
+use Rattle.lc_node.specs.Sides.{IsOut, IsReady, IsBack, CanCount, IsCounted, IsRoomier, HasFewParts, HasRoomFor}
 use Rattle.lc_node.specs.declared.held.HeldSide.{HeldSide}
 use Rattle.lc_node.specs.declared.lent.Lent.{Lent}
 use Rattle.lc_node.proofs.CommitKeeps.{are_small, ready_undone, back_undone, can_count, ready_counted, takes_parts}
 use Rattle.lc_node.proofs.Slots.{AscendFrom, ascend_from}
-use Rattle.lc_node.proofs.Standing.{before_of_roomier, takes_of_roomier, segments_roomier}
+use Rattle.lc_node.proofs.Standing.{kept_of_roomier, tidy_of_roomier, takes_of_roomier, segments_roomier}
 
 module _ {D : Type 0} (xs ys zs : List (HeldSide D)) (lent : Lent) (segments : List ℕ)
     (same : segments ≡ map (λ (h : HeldSide D). h.side.segment) xs) (up : Chain (λ a b. a < b) (map (λ (h : HeldSide D). h.side.segment) xs))
@@ -41,9 +40,14 @@ module _ {D : Type 0} (xs ys zs : List (HeldSide D)) (lent : Lent) (segments : L
     pub may_return : Each IsReady zs new.slots.items
     may_return = subst (λ (l : List (HeldSide D)). Each IsReady l new.slots.items) (sym gone) (ready_undone ys lent out ascend new of_all)
 
-    pub returned : (after : List (HeldSide D)) → EachThree IsBack zs new.slots.items after → Each IsAsBefore xs after
-    returned after back = before_of_roomier xs ys after more
-        (back_undone ys lent out ascend new of_all after (subst (λ (l : List (HeldSide D)). EachThree IsBack l new.slots.items after) gone back))
+    back_before : (after : List (HeldSide D)) → EachThree IsBack zs new.slots.items after → Each IsAsBefore ys after
+    back_before after back = back_undone ys lent out ascend new of_all after (subst (λ (l : List (HeldSide D)). EachThree IsBack l new.slots.items after) gone back)
+
+    pub returned : (after : List (HeldSide D)) → EachThree IsBack zs new.slots.items after → Each IsKept xs after
+    returned after back = kept_of_roomier xs ys after more (back_before after back)
+
+    pub returned_tidy : All HasFewParts ys → (after : List (HeldSide D)) → EachThree IsBack zs new.slots.items after → Each IsKeptTidy xs after
+    returned_tidy few after back = tidy_of_roomier xs ys after more few (back_before after back)
 
   -- The record was staged
 
@@ -61,10 +65,10 @@ module _ {D : Type 0} (xs ys zs : List (HeldSide D)) (lent : Lent) (segments : L
       pub may_go_back : Each IsReady counted new.slots.items
       may_go_back = ready_counted ys lent out ascend parts new before after staged counted these
 
-      pub taken : (last : List (HeldSide D)) → EachThree IsBack counted new.slots.items last → Each (λ h g. TakesPart (part_of h.side.segment staged.whole) h g) xs last
-      taken last back = takes_of_roomier staged.whole xs ys last more (takes_parts ys lent out ascend parts new before after staged counted these last back)
+      pub taken : All HasFewParts ys → (last : List (HeldSide D)) → EachThree IsBack counted new.slots.items last → Each (TakesOf staged.whole) xs last
+      taken few last back = takes_of_roomier staged.whole xs ys last more few (takes_parts ys lent out ascend parts new before after staged counted these last back)
 
       -- the record, its words, and what each side took of it
-      pub all_of_it : (last : List (HeldSide D)) → EachThree IsBack counted new.slots.items last
-          → (r : Record) × (words : List ℕ) × IsRecord r words × Closes words before after × Each (λ h g. TakesPart (part_of h.side.segment r) h g) xs last
-      all_of_it last back = (staged.whole, staged.words, staged.is_record, staged.closes, taken last back)
+      pub all_of_it : All HasFewParts ys → (last : List (HeldSide D)) → EachThree IsBack counted new.slots.items last
+          → (r : Record) × (words : List ℕ) × IsRecord r words × Closes words before after × Each (TakesOf r) xs last
+      all_of_it few last back = (staged.whole, staged.words, staged.is_record, staged.closes, taken few last back)

@@ -25,6 +25,7 @@ pub mod SideKeeps
 pub mod Slots
 pub mod StageKeeps
 pub mod Standing
+pub mod Stored
 pub mod TouchedPages
 pub mod UnderWay
 pub mod Unfit

@@ -5,6 +5,7 @@ pub mod Each
 pub mod Fault
 pub mod Flushes
 pub mod Fresh
+pub mod Growing
 pub mod Held
 pub mod Laid
 pub mod Lent

@@ -64,6 +64,7 @@ impl FreshSegment {
             image: Some(Image::new(image)),
             base: Image::new(base),
             applied: Vec::new(alloc),
+            stored: 0,
             hold_back: HoldBack::new(alloc, segment, token.seq),
             token: TokenPlace::new(segment, Some(token)),
             pages: PageArea::Serves(area),

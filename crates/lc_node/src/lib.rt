@@ -10,6 +10,7 @@ mod flushing;
 mod fresh;
 mod gate;
 mod get;
+mod growing;
 mod held;
 mod holding;
 mod laws;

@@ -5,12 +5,14 @@ use Rattle.lc_record.specs.declared.part.Part.{Part}
 use Rattle.lc_record.specs.declared.record.RangeData.{RangeData}
 use Rattle.lc_token.specs.Standing.{Standing}
 use Rattle.lc_token.specs.declared.token.Token.{Token}
+use Rattle.lc_node.specs.Growing.{part_size, parts_size}
 use Rattle.lc_node.specs.SegSide.{FitsArea}
 use Rattle.lc_node.specs.SegView.{laid_parts}
 use Rattle.lc_node.specs.Sides.{next_token, IsNext}
 use Rattle.lc_node.specs.Touched.{touched_pages}
 use Rattle.lc_node.proofs.Laying.{laid_more}
 use Rattle.lc_node.proofs.Counted.{token_before, token_counted, area_counted, number_counted, few_behind, few_before}
+use Rattle.lc_node.proofs.Stored.{parts_size_more}
 use Rattle.lc_node.proofs.seg_side.SegSide.count.Goals as goal
 
 pub invariant_of-self : goal.invariant_of-self
@@ -32,6 +34,8 @@ invariant_of-self g c = let inv = c.self.invariant in let old = c.self.inside in
       of_hold_back = search rules;
       first = inv.first;
       last = inv.last;
+      all_stored = (let was = inv.all_stored in let size = c.size_of_part-size.ensures in let sum = c.saturating_add-self-inside.ensures in
+          let more : parts_size c.push.new.self.items ≡ parts_size old.applied.items + part_size part = ap parts_size items ∙ parts_size_more old.applied.items part in omega arith);
       short = inv.short;
       all_applied = λ x there.
           let same : Some x ≡ next_token part old.token.token = sym there ∙ token in

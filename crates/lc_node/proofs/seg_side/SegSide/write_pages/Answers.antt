@@ -29,6 +29,7 @@ invariant_of-self-in-Ok g c = let inside = c.self.inside in let inv = c.self.inv
       of_hold_back = inv.of_hold_back;
       first = inv.first;
       last = inv.last;
+      all_stored = inv.all_stored;
       short = inv.short;
       all_applied = λ x is. same_seq inside.token.token c.write_dirty.new.place.token here.0 x inside.hold_back.applied here.1 c.in-Ok.ensures.written inv.all_applied is;
       few_pages = λ x is. let was = inv.few_pages here.0 here.1 in
