@@ -6,6 +6,7 @@ use lc_tx::{Images, Tx, TxFault};
 use std::alloc::Global;
 
 /// Sets the range of these bytes in a segment and writes them. This project's own.
+#[derive(Clone, Copy)]
 pub struct Put<'a> {
     pub segment: u32,
     pub offset: u32,
