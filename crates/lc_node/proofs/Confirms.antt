@@ -1,12 +1,14 @@
 -- The record of a receipt stands in the stable words.
 use Rattle.std.proofs.Common.{◌≡◌, ℕ, ◌+◌, ◌*◌, ◌≤◌, ◌<◌, List, [], ◌++◌, length, get_or, sym, ap, subst, ◌∙◌, arith}
 use Rattle.std.proofs.Math.ListN.{take}
-use lib.ListN.{get_or-append}
+use lib.ListN.{get_elem?, get_or-append}
 use Rattle.std.proofs.lemmas.List.{append-nil, take-append-le}
 use Rattle.lc_disk.specs.declared.area.Area.{Ghosts}
 use Rattle.lc_stage.specs.declared.view.View.{View}
 use Rattle.lc_stage.specs.declared.view.Reservation.{Reservation}
-use Rattle.lc_stage.specs.Staging.{Owns, Agree, AreRecords, IsOneRecord}
+use Rattle.lc_stage.specs.Staging.{Owns, Agree, AreRecords, IsOneRecord, latest}
+use Rattle.lc_stage.specs.declared.receipt.Receipt.{Receipt}
+use Rattle.lc_node.specs.Receipts.{HasReceipt, Receives}
 use Rattle.lc_node.specs.Among.{AreInFront, IsAmong}
 use Rattle.lc_node.specs.LogSide.{HasStable}
 use Rattle.lc_node.specs.declared.log_state.LogState.{LogState}
@@ -38,3 +40,7 @@ stands f c stable rest r agree own here split low = let x = agree.received r own
 
 pub among_stable : (stable : List ℕ) (r : Reservation) (index : ℕ) → Stands stable r → AreInFront stable r.place index → IsAmong stable index r.place r.words
 among_stable stable r index s front = among stable r.place index r.words front s.one s.inside s.words
+
+-- what a seat receives it has
+pub has_received : (v w : View) (c : Receipt) → Receives v c w → HasReceipt w c
+has_received v w c got = (latest v.mine, (0, ap (λ (u : View). get_elem? u.receipts 0) got.1.1), got.0)

@@ -62,11 +62,7 @@ impl<D: Area + Drop> LogRoom<D> {
     }
 
     /// The node with these segments, whose log is on this area, which begins with no open gate. It takes no memory.
-    pub(crate) fn open(
-        self,
-        area: D,
-        segments: Vec<Lock<SegSide<D>, u32>>,
-    ) -> (Node<D>, CommitSeat)
+    pub(crate) fn open(self, area: D, segments: Vec<Lock<SegSide<D>, u32>>) -> (Node<D>, CommitSeat)
         requires room { 8 * self.stage.room + 8 ≤ length (D.now area) }
         requires closed { D.honest area ≡ true → slice_index (D.now area) 0 % 256 ≢ 165 }
         requires clean { D.honest area ≡ true → D.dirty area 0 ≡ false }

@@ -22,11 +22,7 @@ pub(crate) struct SegRoom<D: Area + Drop> {
 
 impl<D: Area + Drop> SegRoom<D> {
     /// That of a segment, from 1.
-    fn new(
-        alloc: Global,
-        segment: u32,
-        recovered: &Recovered<D>,
-    ) -> Result<SegRoom<D>, AllocError>
+    fn new(alloc: Global, segment: u32, recovered: &Recovered<D>) -> Result<SegRoom<D>, AllocError>
         requires first { 1 ≤ segment }
         requires last { segment ≤ recovered.now.geometry.segments }
         ensures { IfOk result (IsRoomOf recovered.now segment) }

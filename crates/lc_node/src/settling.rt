@@ -56,6 +56,20 @@ impl<D: Area + Drop> LogSide<D> {
 }
 
 impl<D: Area + Drop> Node<D> {
+    /// The receipt of the seat's last closed record, if it is stable. It waits for the lock of the log, and takes no memory.
+    pub fn durable<R: Wait>(&self, rt: &R, seat: CommitSeat) -> (CommitSeat, Option<Receipt>)
+        requires own { IsSeatOf self.now.stage seat }
+        requires idle { IsIdle (commit_view seat) }
+        ensures own { IsSeatOf self.now.stage result.0 }
+        ensures idle { IsIdle (commit_view result.0) }
+        ensures found { MatchOption result.1 (Learns (commit_view seat) (commit_view result.0)) (λ receipt. Receives (commit_view seat) receipt (commit_view result.0)) }
+    {
+        let (mut log, loan) = self.log.lock(rt);
+        let (seat, found) = log.durable(&self.stage, seat);
+        self.log.unlock(log, loan);
+        (seat, found)
+    }
+
     // The receipt of the seat's last closed record, once it is stable. Under the lock it is looked first whether it is, so
     // that who waited behind another's flush makes no call of the device.
     pub(crate) fn settle<R: Wait>(

@@ -3,7 +3,7 @@ ghost use Rattle.std.specs.Prelude.{◌≡◌, ◌⊎◌, ◌<◌, ℕ, Ok, IfEr
 ghost use Rattle.lc_stage.specs.declared.receipt.Receipt.{Receipt as Given};
 ghost use Rattle.lc_stage.specs.declared.view.View.{View};
 ghost use Rattle.lc_stage.specs.Seats.{commit_view, IsSeatOf, IsIdle};
-ghost use Rattle.lc_node.specs.Receipts.{IsOfDevice, Learns, Receives};
+ghost use Rattle.lc_node.specs.Receipts.{HasReceipt, IsOfDevice, Learns, Receives};
 ghost use Rattle.lc_node.specs.Stages.{ClosesOne, Sees};
 ghost use Rattle.lc_node.specs.Commits.{IsUncommitted};
 ghost use Rattle.lc_node.specs.Held.{IsFirstOutside};
@@ -48,6 +48,7 @@ impl<D: Area + Drop> Node<D> {
         ensures lazy { result.1 ≡ Ok Lazy → ClosesOne (commit_view seat) (commit_view result.0) }
         ensures flushed { (receipt : Given) → result.1 ≡ Ok (Flushed receipt)
             → (w : View) × ClosesOne (commit_view seat) w × Receives w receipt (commit_view result.0) }
+        ensures received { (receipt : Given) → result.1 ≡ Ok (Flushed receipt) → HasReceipt (commit_view result.0) receipt }
         ensures refused { IfErr result.1 (λ fault. (Sees (commit_view seat) (commit_view result.0)
             × (((s : ℕ) × (fault ≡ NotHere s) × IsFirstOutside self.now segments.now s)
             ⊎ IsUncommitted (λ answer. W.ran work.old answer work.new) self.now.stage.room (commit_view result.0).seen fault))
