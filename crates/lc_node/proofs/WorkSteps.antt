@@ -1,8 +1,7 @@
 -- What the calls of a transaction do is what a work may do.
-use Rattle.std.proofs.Common.{◌≡◌, ℕ, ◌+◌, ◌<◌, ◌≤◌, true, false, List, [], ◌∷◌, length, Option, Some, None, unwrap_or, refl, sym, ap, subst, ◌∙◌, inl, inr, arith, true≢false}
-use Rattle.std.specs.Prelude.{◌↔◌, IsSome, IsTrue, slice_index, Result, Ok, Err, IsOk, OnOk, OnErr}
+use Rattle.std.proofs.Common.{◌≡◌, ℕ, ◌+◌, ◌<◌, ◌≤◌, false, List, [], ◌∷◌, length, Option, Some, None, unwrap_or, refl, sym, ap, subst, ◌∙◌, inl, inr, arith, true≢false}
+use Rattle.std.specs.Prelude.{◌↔◌, IsSome, slice_index, Result, Ok, Err, IsOk, OnOk, OnErr}
 use Rattle.std.proofs.lemmas.Bool.{cases_Bool, cases_lt, cases_eq, false_from_ne_true}
-use Rattle.lc_record.specs.Content.{put}
 use Rattle.lc_record.specs.Transaction.{is_member}
 use Rattle.lc_record.proofs.SegmentLemmas.{length-put}
 use Rattle.lc_range.specs.RangeSet.{Has}
@@ -11,7 +10,7 @@ use Rattle.lc_tx.specs.declared.image.Image.{Image as Picture}
 use Rattle.lc_tx.specs.declared.images.Images.{Ghosts}
 use Rattle.lc_tx.specs.declared.tx.Tx.{Tx}
 use Rattle.lc_tx.specs.declared.tx_fault.TxFault.{TxFault}
-use Rattle.lc_tx.specs.Images.{IsHere, IsSame, IsSameBut, IsWritten, bytes_of, holders_of}
+use Rattle.lc_tx.specs.Images.{IsSame, IsSameBut, IsWritten, bytes_of, holders_of}
 use Rattle.lc_tx.specs.Tx.{AreSet, Locked, RunsOn, SetsRange}
 use Rattle.lc_tx.proofs.MemberLemmas.{is_one}
 use Rattle.lc_node.specs.Works.{Works}
