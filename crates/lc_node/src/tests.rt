@@ -26,16 +26,16 @@ impl Gate for Open {
     fn between(&self) {}
 }
 
-// The recovery of a store of zeros, of one node with a log of 64 words and a segment of one page.
-fn recovered(alloc: Global) -> Result<Recovered<MemArea>, Fail>
-    ensures one { IfOk result (λ r. (r.geometry.nodes ≡ 1) × (r.geometry.words ≡ 64)) }
-    ensures lengths { IfOk result (λ r. HaveLengths MemArea.Area r.geometry r.areas) }
-    ensures finished { IfOk result (AreFinished MemArea.Area) }
+// The store of these areas, recovered.
+fn recovered<D: Area + Drop>(
+    alloc: Global,
+    geometry: Geometry,
+    areas: Vec<D>,
+) -> Result<Recovered<D>, Fail>
+    ensures geometry { IfOk result (λ r. r.geometry ≡ geometry) }
+    ensures lengths { IfOk result (λ r. HaveLengths D.Area r.geometry r.areas) }
+    ensures finished { IfOk result (AreFinished D.Area) }
 {
-    let geometry = Geometry::new(1, 1, 1, 1, 64).ok_or("these numbers are a geometry")?;
-    let mut areas = Vec::with_capacity(alloc, 2)?;
-    areas.push(MemArea::new(alloc, 520)?)?;
-    areas.push(MemArea::new(alloc, 544)?)?;
     let Ok(mut recovery) = Recovery::new(geometry, areas) else {
         return Err(Fail::from("the areas have their lengths"));
     };
@@ -49,11 +49,15 @@ fn recovered(alloc: Global) -> Result<Recovered<MemArea>, Fail>
     Err(Fail::from("there are too many steps"))
 }
 
-// The node of that store, and a committer's seat.
+// The node of a store of zeros, with a log of 64 words and a segment of one page, and a committer's seat.
 fn opened(alloc: Global) -> Result<(Node<MemArea>, CommitSeat), Fail>
     ensures { IfOk result (λ made. IsSeatOf made.0.stage made.1 × (commit_view made.1 ≡ newcomer 64)) }
 {
-    match Node::open(alloc, recovered(alloc)?) {
+    let geometry = Geometry::new(1, 1, 1, 1, 64).ok_or("these numbers are a geometry")?;
+    let mut areas = Vec::with_capacity(alloc, 2)?;
+    areas.push(MemArea::new(alloc, 520)?)?;
+    areas.push(MemArea::new(alloc, 544)?)?;
+    match Node::open(alloc, recovered(alloc, geometry, areas)?) {
         Ok(made) => Ok(made),
         Err(_) => Err(Fail::from("out of memory")),
     }
