@@ -1,4 +1,4 @@
-use Rattle.std.proofs.Common.{◌≡◌, ◌+◌, ◌≤◌, length, ap, sym, ◌∙◌, arith}
+use Rattle.std.proofs.Common.{◌≡◌, length, ap, sym, ◌∙◌, arith}
 use Rattle.std.specs.List.{flat_map}
 use Rattle.lc_record.specs.Marks.{counting}
 use Rattle.lc_recover.specs.Recovered.{page_of}

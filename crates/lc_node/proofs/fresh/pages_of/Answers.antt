@@ -1,6 +1,5 @@
-use Rattle.std.proofs.Common.{rules, ◌≡◌, ℕ, ◌+◌, ◌<◌, ◌≤◌, map, ap, subst, ◌∙◌, arith}
+use Rattle.std.proofs.Common.{rules, ◌≡◌, ℕ, ◌<◌, ◌≤◌, map, ap, subst, ◌∙◌, arith}
 use Rattle.lc_record.specs.Marks.{counting}
-use Rattle.lc_page.specs.PageVector.{new_entry}
 use Rattle.lc_page.specs.declared.page_text.PageText.{PageText}
 use Rattle.lc_recover.specs.Recovered.{page_of, sequence_of}
 use Rattle.lc_node.specs.Fresh.{segment_texts}

@@ -1,4 +1,4 @@
-use Rattle.std.proofs.Common.{◌≡◌, ◌+◌, arith, ap}
+use Rattle.std.proofs.Common.{◌+◌, arith, ap}
 use Rattle.lc_node.specs.Rooms.{IsRoomOf}
 use Rattle.lc_node.specs.declared.seg_room.SegRoom.{SegRoom}
 use Rattle.lc_node.proofs.EachPlace.{each_more, each_none}

@@ -1,5 +1,4 @@
-use Rattle.std.proofs.Common.{◌≡◌, ◌+◌, ◌*◌, ◌<◌, ◌≤◌, Some, length, ap, arith}
-use Rattle.std.specs.Prelude.{slice_get}
+use Rattle.std.proofs.Common.{◌<◌, length, ap, arith}
 use Rattle.lc_node.proofs.FreshFits.{areas_count, first_area, fits_room, log_clean, log_closed, log_long, next_area}
 use Rattle.lc_node.proofs.opening.Room.open.Goals as goal
 
