@@ -1,0 +1,110 @@
+//! Devices that fail, and memory that is refused.
+ghost use Rattle.std.specs.Prelude.{IfOk};
+ghost use Rattle.lc_disk.specs.When.{IsCountable};
+ghost use Rattle.lc_stage.specs.Seats.{commit_view, IsSeatOf, IsIdle};
+
+use crate::seats::put;
+use crate::stores::{LOG_BYTES, SEGMENT_BYTES, in_memory, opened, recovered, two_segments};
+use lc_disk::{Fuse, MemArea, When};
+use lc_node::{Commit, Mode, Node, NodeFault, Put};
+use lc_stage::CommitSeat;
+use std::alloc::Global;
+use std::test::*;
+
+const NEVER: When = When::At(0);
+
+// The second call of a flush: a recovery makes four calls of an empty log.
+const IN_A_FLUSH: When = When::At(6);
+
+// The fourth call of a page's write: a recovery makes two calls of a segment that has nothing to be written.
+const IN_A_PAGE: When = When::At(6);
+
+const ONE: Put<'static> = Put {
+    segment: 1,
+    offset: 0,
+    bytes: &[1],
+};
+
+// The areas of a store, of which the log's and the first segment's fail so.
+fn fused(alloc: Global, log: When, segment: When) -> Result<Vec<Fuse>, Fail>
+    requires { IsCountable log × IsCountable segment }
+{
+    let mut areas = Vec::with_capacity(alloc, 3)?;
+    areas.push(Fuse::new(MemArea::new(alloc, LOG_BYTES)?, log))?;
+    areas.push(Fuse::new(MemArea::new(alloc, SEGMENT_BYTES)?, segment))?;
+    areas.push(Fuse::new(MemArea::new(alloc, SEGMENT_BYTES)?, NEVER))?;
+    Ok(areas)
+}
+
+#[test]
+fn a_log_that_fails_halts_its_flushes(rt: HostRuntime) -> Result<(), Fail> {
+    let alloc = rt.alloc();
+    let (node, seat) = opened(alloc, two_segments()?, fused(alloc, IN_A_FLUSH, NEVER)?)?;
+    let (seat, failed) = put(&rt, alloc, &node, seat, &[1], ONE, Mode::Flush);
+    assert!(rt; matches!(failed, Err(NodeFault::DeviceFault)));
+    let (seat, halted) = put(&rt, alloc, &node, seat, &[1], ONE, Mode::Flush);
+    assert!(rt; matches!(halted, Err(NodeFault::Halted)));
+    assert!(rt; node.flush(&rt) == Err(NodeFault::Halted));
+    assert!(rt; node.truncate(&rt, alloc) == Err(NodeFault::Halted));
+    let (seat, none) = node.durable(&rt, seat);
+    assert!(rt; none.is_none(), "nothing is stable");
+    let (_seat, closed) = put(&rt, alloc, &node, seat, &[1], ONE, Mode::Lazy);
+    assert!(rt;
+        matches!(closed, Ok(Commit::Lazy)),
+        "nobody waits for the device"
+    );
+    Ok(())
+}
+
+#[test]
+fn a_page_that_fails_halts_its_truncations(rt: HostRuntime) -> Result<(), Fail> {
+    let alloc = rt.alloc();
+    let (node, seat) = opened(alloc, two_segments()?, fused(alloc, NEVER, IN_A_PAGE)?)?;
+    let (seat, stable) = put(&rt, alloc, &node, seat, &[1], ONE, Mode::Flush);
+    assert!(rt; matches!(stable, Ok(Commit::Flushed(_))));
+    assert!(rt; node.truncate(&rt, alloc) == Err(NodeFault::DeviceFault));
+    assert!(rt; node.truncate(&rt, alloc) == Err(NodeFault::Halted));
+    let (_seat, stable) = put(&rt, alloc, &node, seat, &[1], ONE, Mode::Flush);
+    assert!(rt;
+        matches!(stable, Ok(Commit::Flushed(_))),
+        "the log serves on"
+    );
+    Ok(())
+}
+
+// Opens a node, once more where there was no memory.
+fn opened_again(alloc: Global) -> Result<(Node<MemArea>, CommitSeat), Fail>
+    ensures own { IfOk result (λ made. IsSeatOf made.0.stage made.1) }
+    ensures idle { IfOk result (λ made. IsIdle (commit_view made.1)) }
+{
+    let store = recovered(alloc, two_segments()?, in_memory(alloc)?)?;
+    let store = match Node::open(alloc, store) {
+        Ok(made) => return Ok(made),
+        Err((store, _)) => store,
+    };
+    match Node::open(alloc, store) {
+        Ok(made) => Ok(made),
+        Err(_) => Err(Fail::from("memory is refused once")),
+    }
+}
+
+// Where memory is refused nothing is done, and the next attempt does it.
+#[test]
+fn refused_memory_leaves_all_as_it_was(rt: HostRuntime) -> Result<(), Fail> {
+    let alloc = rt.alloc();
+    let (node, seat) = opened_again(alloc)?;
+    let (seat, first) = put(&rt, alloc, &node, seat, &[1, 2], ONE, Mode::Flush);
+    let (seat, again) = match first {
+        Err(NodeFault::NoMemory) => put(&rt, alloc, &node, seat, &[1, 2], ONE, Mode::Flush),
+        done => (seat, done),
+    };
+    assert!(rt; matches!(again, Ok(Commit::Flushed(_))));
+    let truncated = match node.truncate(&rt, alloc) {
+        Err(NodeFault::NoMemory) => node.truncate(&rt, alloc),
+        done => done,
+    };
+    assert!(rt; truncated == Ok(1));
+    let (_seat, receipt) = node.durable(&rt, seat);
+    assert!(rt; receipt.expect(&rt, "it is stable").place() == 0);
+    Ok(())
+}

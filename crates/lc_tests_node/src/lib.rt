@@ -1,0 +1,21 @@
+//! Tests by public names of a running node.
+#![tactic(auto)]
+
+#[cfg(test)]
+mod commits;
+#[cfg(test)]
+mod crowds;
+#[cfg(test)]
+mod failures;
+#[cfg(test)]
+mod folders;
+#[cfg(test)]
+mod gates;
+#[cfg(test)]
+mod restarts;
+#[cfg(test)]
+mod seats;
+#[cfg(test)]
+mod shared;
+#[cfg(test)]
+mod stores;

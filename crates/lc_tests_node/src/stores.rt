@@ -1,0 +1,82 @@
+//! Stores that were recovered.
+ghost use Rattle.std.specs.Prelude.{◌≡◌, IfOk};
+ghost use Rattle.lc_record.specs.Geometry.{HasNumbers};
+ghost use Rattle.lc_recover.specs.Reads.{HaveLengths};
+ghost use Rattle.lc_recover.specs.Recovered.{AreFinished};
+ghost use Rattle.lc_stage.specs.Seats.{commit_view, IsSeatOf, IsIdle};
+
+use lc_disk::{Area, MemArea};
+use lc_node::Node;
+use lc_record::Geometry;
+use lc_recover::{Progress, Recovered, Recovery};
+use lc_stage::CommitSeat;
+use std::alloc::Global;
+use std::test::Fail;
+
+/// The bytes of a log's area.
+pub(crate) const LOG_BYTES: usize = 8 * (WORDS as usize + 1);
+
+/// The bytes of the area of a segment of two pages.
+pub(crate) const SEGMENT_BYTES: usize = 2 * 544;
+
+/// The words of a log.
+pub(crate) const WORDS: u32 = 4096;
+
+// More steps than a recovery of these stores has.
+const MOST_STEPS: u64 = 2000;
+
+/// One node, two segments of two pages.
+pub(crate) fn two_segments() -> Result<Geometry, Fail>
+    ensures { IfOk result (λ g. HasNumbers g 1 1 2 2 4096) }
+{
+    Ok(Geometry::new(1, 1, 2, 2, WORDS).ok_or("these numbers are a geometry")?)
+}
+
+/// The store of these areas, recovered.
+pub(crate) fn recovered<D: Area + Drop>(
+    alloc: Global,
+    geometry: Geometry,
+    areas: Vec<D>,
+) -> Result<Recovered<D>, Fail>
+    ensures geometry { IfOk result (λ r. r.geometry ≡ geometry) }
+    ensures lengths { IfOk result (λ r. HaveLengths D.Area r.geometry r.areas) }
+    ensures finished { IfOk result (AreFinished D.Area) }
+{
+    let Ok(mut recovery) = Recovery::new(geometry, areas) else {
+        return Err(Fail::from("the areas have their lengths"));
+    };
+    for _ in 0..MOST_STEPS {
+        match recovery.step(alloc) {
+            Ok(Progress::Stepped(_)) => {}
+            Ok(Progress::Recovered) => return Ok(recovery.finish()),
+            Err(_) => break,
+        }
+    }
+    let _areas = recovery.areas();
+    Err(Fail::from("the recovery ends"))
+}
+
+/// A node over the store of these areas, and its first seat.
+pub(crate) fn opened<D: Area + Drop>(
+    alloc: Global,
+    geometry: Geometry,
+    areas: Vec<D>,
+) -> Result<(Node<D>, CommitSeat), Fail>
+    requires { geometry.nodes ≡ 1 }
+    ensures own { IfOk result (λ made. IsSeatOf made.0.stage made.1) }
+    ensures idle { IfOk result (λ made. IsIdle (commit_view made.1)) }
+{
+    match Node::open(alloc, recovered(alloc, geometry, areas)?) {
+        Ok(made) => Ok(made),
+        Err(_) => Err(Fail::from("there is memory for a node")),
+    }
+}
+
+/// Areas of zeros in memory.
+pub(crate) fn in_memory(alloc: Global) -> Result<Vec<MemArea>, Fail> {
+    let mut areas = Vec::with_capacity(alloc, 3)?;
+    for len in [LOG_BYTES, SEGMENT_BYTES, SEGMENT_BYTES] {
+        areas.push(MemArea::new(alloc, len)?)?;
+    }
+    Ok(areas)
+}
