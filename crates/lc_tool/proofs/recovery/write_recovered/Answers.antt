@@ -14,7 +14,7 @@ loop-segment-preserved g c =
     let mid = g.W.Write.contents c.loop-segment.writer in
     let holds = g.W.Write.contents c.write_segment.new.writer in
     one_segment (sequence_of c.args.store.now) c.loop-segment.segment held mid holds (omega arith) c.loop-segment.invariant
-    (subst (λ (n : ℕ). Appends mid holds (segment_text c.loop-segment.segment n)) c.sequence.ensures c.in_ok-write_segment.ensures)
+    (subst (λ (n : ℕ). Appends mid holds (segment_text c.loop-segment.segment n)) c.sequence.ensures.number c.in_ok-write_segment.ensures)
 
 pub returns : goal.returns
 returns g c =
