@@ -4,10 +4,11 @@ use crate::measurement::{Measurement, Subject};
 use crate::measurements::ALL;
 use crate::rounds::{Found, Rounds};
 use crate::transactions::Transactions;
-use crate::{files, growth, harness, memory, staging};
+use crate::{files, growth, harness, memory, running, staging};
 use lc_disk::HeldFile;
 use std::io;
 use std::rt::{Clock, Files};
+use std::sync::Wait;
 use std::thread::Threads;
 
 // The word that asks for all measurements.
@@ -26,13 +27,13 @@ pub(crate) fn explain<R: Print>(rt: &R) -> io::Result<()> {
 
 /// Makes the measurements that this word names, and prints a table of their medians and ratios behind them. Whether the word
 /// names any.
-pub(crate) fn measure<R: AllocGlobal + Clock + Files + Print + Threads + Sync>(
+pub(crate) fn measure<R: AllocGlobal + Clock + Files + Print + Threads + Wait + Sync>(
     rt: &R,
     word: &str,
     folder: &str,
 ) -> io::Result<bool>
 where
-    R::File: HeldFile,
+    R::File: HeldFile + Send,
 {
     let mut all = Vec::new(rt.alloc());
     let mut is_named = false;
@@ -62,19 +63,21 @@ fn print_table<R: Print>(rt: &R, all: &[Found]) -> io::Result<()> {
 }
 
 // Makes a measurement and prints it. There is nothing to compare where single events are measured.
-fn make<R: AllocGlobal + Clock + Files + Print + Threads + Sync>(
+fn make<R: AllocGlobal + Clock + Files + Print + Threads + Wait + Sync>(
     rt: &R,
     measurement: &'static Measurement,
     folder: &str,
 ) -> io::Result<Option<Found>>
 where
-    R::File: HeldFile,
+    R::File: HeldFile + Send,
 {
     let rounds = match measurement.subject {
         Subject::Image => on_image(rt, measurement)?,
         Subject::Memory => memory::measure(rt, measurement)?,
         Subject::Files => files::measure(rt, measurement, folder)?,
         Subject::Stage => staging::measure(rt, measurement.threads)?,
+        Subject::Node => running::in_memory(rt, measurement)?,
+        Subject::NodeFiles => running::in_files(rt, measurement, folder)?,
         Subject::Events => {
             growth::measure(rt)?;
             return Ok(None);

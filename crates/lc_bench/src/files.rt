@@ -118,7 +118,8 @@ fn time_reads<R: AllocGlobal + Clock + Files>(
     Ok(nanoseconds(start.elapsed(rt)?))
 }
 
-fn path_of(alloc: Global, folder: &str, area: usize) -> io::Result<String> {
+/// The file of an area.
+pub(crate) fn path_of(alloc: Global, folder: &str, area: usize) -> io::Result<String> {
     Ok(format!(in alloc; "{folder}/area{area}")?)
 }
 

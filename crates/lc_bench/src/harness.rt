@@ -32,8 +32,8 @@ pub(crate) fn measure<R: AllocGlobal + Clock, W: Work + Drop, P: Work + Drop>(
     Ok(rounds)
 }
 
-// How many nanoseconds a round takes.
-fn time<R: Clock, W: Work>(rt: &R, work: &mut W, seen: &mut u64) -> io::Result<u64> {
+/// How many nanoseconds a round takes.
+pub(crate) fn time<R: Clock, W: Work>(rt: &R, work: &mut W, seen: &mut u64) -> io::Result<u64> {
     work.ready()?;
     let start = Instant::now(rt)?;
     let number = work.run()?;

@@ -4,7 +4,9 @@
 
 mod by_hand;
 mod choosing;
+mod committing;
 mod copies;
+mod counted;
 mod events;
 mod files;
 mod growth;
@@ -12,7 +14,10 @@ mod harness;
 mod measurement;
 mod measurements;
 mod memory;
+mod nodes;
 mod rounds;
+mod running;
+mod side_by_side;
 mod staging;
 mod stores;
 mod transactions;

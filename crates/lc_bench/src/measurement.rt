@@ -24,6 +24,10 @@ pub(crate) enum Subject {
     Stage,
     /// Each kind of event, one at a time.
     Events,
+    /// A running node in memory.
+    Node,
+    /// A running node in files, where each commit waits until it is stable.
+    NodeFiles,
 }
 
 /// What is timed of a round on a store.
@@ -83,6 +87,11 @@ impl Measurement {
         self.pages.wrapping_mul(PAGE)
     }
 
+    /// How many areas its store has.
+    pub(crate) fn areas(&self) -> usize {
+        (self.nodes as usize).wrapping_add(self.segments as usize)
+    }
+
     /// The node that has the token of a segment.
     pub(crate) fn home(&self, segment: u32) -> u16 {
         u16::try_from(segment).unwrap_or(0) % self.nodes.max(1)
@@ -95,6 +104,16 @@ impl Measurement {
             all.push(self.transaction(alloc, number)?)?;
         }
         Ok(all)
+    }
+
+    /// What one of its threads changes, from 0, where each has as many of the transactions, all on a segment of its own.
+    pub(crate) fn share(&self, alloc: Global, thread: u32) -> Result<Vec<Transaction>, AllocError> {
+        let mut share = Vec::new(alloc);
+        for turn in 0..self.count / u32::from(self.threads).max(1) {
+            let number = turn.wrapping_mul(self.segments).wrapping_add(thread);
+            share.push(self.transaction(alloc, number)?)?;
+        }
+        Ok(share)
     }
 
     /// What a transaction changes. Each segment has its turn, and then each page of a segment.

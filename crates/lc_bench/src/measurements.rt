@@ -16,8 +16,16 @@ const ONE: Measurement = Measurement {
     end: End::Commit,
 };
 
+// As many commits of one range on one segment of 64 pages as fill the log.
+const NODE: Measurement = Measurement {
+    name: "node-lazy",
+    subject: Subject::Node,
+    count: 512,
+    ..ONE
+};
+
 /// All that there are, in the order in which their names are printed.
-pub(crate) static ALL: [Measurement; 22] = [
+pub(crate) static ALL: [Measurement; 28] = [
     ONE,
     Measurement {
         name: "32-ranges",
@@ -165,5 +173,40 @@ pub(crate) static ALL: [Measurement; 22] = [
         threads: 4,
         count: 512,
         ..ONE
+    },
+    NODE,
+    Measurement {
+        name: "node-lazy-4-threads",
+        threads: 4,
+        segments: 16,
+        ..NODE
+    },
+    Measurement {
+        name: "node-lazy-16-threads",
+        threads: 16,
+        segments: 16,
+        ..NODE
+    },
+    Measurement {
+        name: "node-sustained",
+        timed: Timed::Both,
+        count: 4000,
+        group: 8,
+        ..NODE
+    },
+    Measurement {
+        name: "node-flush-one-thread",
+        subject: Subject::NodeFiles,
+        count: 32,
+        group: 1,
+        ..NODE
+    },
+    Measurement {
+        name: "node-flush-16-threads",
+        subject: Subject::NodeFiles,
+        threads: 16,
+        segments: 16,
+        group: 16,
+        ..NODE
     },
 ];
