@@ -27,31 +27,14 @@ struct Segment {
 }
 
 impl ByHand {
-    /// All transactions, on a segment of zeros.
+    /// On a segment of zeros.
     pub(crate) fn new(
         alloc: Global,
         measurement: &'static Measurement,
     ) -> Result<ByHand, AllocError> {
-        ByHand::of(alloc, measurement, measurement.transactions(alloc)?)
-    }
-
-    /// The share of a thread, on a segment of zeros.
-    pub(crate) fn of_thread(
-        alloc: Global,
-        measurement: &'static Measurement,
-        thread: u32,
-    ) -> Result<ByHand, AllocError> {
-        ByHand::of(alloc, measurement, measurement.share(alloc, thread)?)
-    }
-
-    fn of(
-        alloc: Global,
-        measurement: &'static Measurement,
-        transactions: Vec<Transaction>,
-    ) -> Result<ByHand, AllocError> {
         Ok(ByHand {
             measurement,
-            transactions,
+            transactions: measurement.transactions(alloc)?,
             segment: Segment {
                 bytes: vec![in alloc; 0; measurement.segment_bytes() as usize]?,
                 old: Vec::new(alloc),

@@ -40,6 +40,11 @@ impl Rounds {
         Ok(())
     }
 
+    /// The median of the plain work.
+    pub(crate) fn plain(&mut self) -> u64 {
+        median(&mut self.plain)
+    }
+
     /// Prints the median and the least time of each, for one of so many units, and answers the medians.
     pub(crate) fn print<R: Print>(
         mut self,

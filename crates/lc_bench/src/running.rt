@@ -41,12 +41,6 @@ struct Committer<'a, D: Area + Drop> {
     ghost idle: { IsIdle (commit_view seat) },
 }
 
-#[derive(Drop)]
-struct Hand<'a> {
-    thread: u32,
-    line: &'a StartingLine,
-}
-
 // What the flushes of all rounds come to.
 #[derive(Clone, Copy)]
 struct Flushes {
@@ -55,7 +49,7 @@ struct Flushes {
 }
 
 /// Measures lazy commits of 5 bytes on a node in memory, which so many threads make in equal shares, each on a segment of its
-/// own, beside transactions by hand of as many threads, each in its own memory, of 8 bytes each. Where the log is not emptied
+/// own, beside as many transactions by hand, of 8 bytes, which one thread does in its own memory. Where the log is not emptied
 /// within the time, it is before each round. A round takes from where the first thread begins to where the last ends.
 pub(crate) fn in_memory<R: AllocGlobal + Clock + Threads + Wait + Sync>(
     rt: &R,
@@ -63,18 +57,18 @@ pub(crate) fn in_memory<R: AllocGlobal + Clock + Threads + Wait + Sync>(
 ) -> io::Result<Rounds> {
     let areas = areas_in_memory(rt.alloc(), measurement)?;
     let mut running = Running::new(rt.alloc(), measurement.geometry()?, areas)?;
+    let mut plain = ByHand::new(rt.alloc(), measurement)?;
     let mut rounds = Rounds::new(rt.alloc());
     for _ in 0..ROUNDS {
-        let before = by_hand(rt, measurement)?;
         empty(rt, measurement, &running.node)?;
-        let ours = commit_round(rt, measurement, &mut running, Mode::Lazy)?;
-        let again = by_hand(rt, measurement)?;
-        rounds.push(
-            nanoseconds(before.duration()),
-            nanoseconds(ours.duration()),
-            nanoseconds(again.duration()),
+        measure_round(
+            rt,
+            measurement,
+            &mut running,
+            Mode::Lazy,
+            &mut plain,
+            &mut rounds,
         )?;
-        rounds.seen = rounds.seen.wrapping_add(ours.seen);
     }
     Ok(rounds)
 }
@@ -108,28 +102,59 @@ fn measure_files<R: AllocGlobal + Clock + Files + Print + Threads + Wait + Sync>
 where
     R::File: HeldFile + Send,
 {
-    let of_log = Arc::new(rt.alloc(), AtomicU64::new(0))?;
-    let areas = areas_in_files(rt, measurement, folder, &of_log)?;
+    let syncs = Arc::new(rt.alloc(), AtomicU64::new(0))?;
+    let areas = areas_in_files(rt, measurement, folder, &syncs)?;
     let mut running = Running::new(rt.alloc(), measurement.geometry()?, areas)?;
     let mut plain = Writes::new(rt, measurement, folder)?;
     let mut rounds = Rounds::new(rt.alloc());
+    let flushes = measure_flushes(
+        rt,
+        measurement,
+        &mut running,
+        &syncs,
+        &mut plain,
+        &mut rounds,
+    )?;
+    flushes.print(rt, measurement, rounds.plain())?;
+    Ok(rounds)
+}
+
+// All rounds of commits that are each flushed, of which the syncs of the log are counted.
+fn measure_flushes<R: AllocGlobal + Clock + Threads + Wait + Sync, D: Area + Drop + Send, P: Work>(
+    rt: &R,
+    measurement: &Measurement,
+    running: &mut Running<D>,
+    syncs: &AtomicU64,
+    plain: &mut P,
+    rounds: &mut Rounds,
+) -> io::Result<Flushes> {
     let mut flushes = Flushes {
         commits: 0,
         syncs: 0,
     };
-    let mut by_hand = 0u64;
     for _ in 0..ROUNDS {
-        let before = time(rt, &mut plain, &mut rounds.seen)?;
         empty(rt, measurement, &running.node)?;
-        let syncs = of_log.load(Ordering::SeqCst);
-        let ours = commit_round(rt, measurement, &mut running, Mode::Flush)?;
-        flushes.add(ours.seen, of_log.load(Ordering::SeqCst).wrapping_sub(syncs));
-        let again = time(rt, &mut plain, &mut rounds.seen)?;
-        rounds.push(before, nanoseconds(ours.duration()), again)?;
-        by_hand = by_hand.wrapping_add(before);
+        let before = syncs.load(Ordering::SeqCst);
+        let commits = measure_round(rt, measurement, running, Mode::Flush, plain, rounds)?;
+        flushes.add(commits, syncs.load(Ordering::SeqCst).wrapping_sub(before));
     }
-    flushes.print(rt, measurement, by_hand / u64::from(ROUNDS))?;
-    Ok(rounds)
+    Ok(flushes)
+}
+
+// Measures a round, beside the plain work; how many commits it has.
+fn measure_round<R: AllocGlobal + Clock + Threads + Wait + Sync, D: Area + Drop + Send, P: Work>(
+    rt: &R,
+    measurement: &Measurement,
+    running: &mut Running<D>,
+    mode: Mode,
+    plain: &mut P,
+    rounds: &mut Rounds,
+) -> io::Result<u64> {
+    let before = time(rt, plain, &mut rounds.seen)?;
+    let ours = commit_round(rt, measurement, running, mode)?;
+    let again = time(rt, plain, &mut rounds.seen)?;
+    rounds.push(before, nanoseconds(ours.duration()), again)?;
+    Ok(ours.seen)
 }
 
 impl Flushes {
@@ -228,37 +253,6 @@ fn committers<'a, D: Area + Drop>(
         })?;
     }
     Ok(committers)
-}
-
-// The same for the transactions by hand. Each thread does its own once before, so that their memory is there.
-fn by_hand<R: AllocGlobal + Clock + Threads + Sync>(
-    rt: &R,
-    measurement: &'static Measurement,
-) -> io::Result<Span> {
-    let line = StartingLine::new(measurement.threads);
-    let mut hands = Vec::new(rt.alloc());
-    for thread in 0..u32::from(measurement.threads) {
-        hands.push(Hand {
-            thread,
-            line: &line,
-        })?;
-    }
-    let spans = map_vec(
-        rt,
-        hands,
-        &|hand: Hand| {
-            let Hand { thread, line } = hand;
-            let mut work = ByHand::of_thread(rt.alloc(), measurement, thread)?;
-            work.run()?;
-            work.ready()?;
-            line.pass();
-            let from = Instant::now(rt)?;
-            let seen = work.run()?;
-            let to = Instant::now(rt)?;
-            Ok(Span { from, to, seen })
-        },
-    )?;
-    whole(spans.as_slice())
 }
 
 // Zeros in memory, as many as the areas of the store have.
