@@ -141,7 +141,7 @@ fn measure_flushes<R: AllocGlobal + Clock + Threads + Wait + Sync, D: Area + Dro
     Ok(flushes)
 }
 
-// Measures a round, beside the plain work; how many commits it has.
+// Measures a round, beside the plain work; how many commits it has. It fails where one of them is refused.
 fn measure_round<R: AllocGlobal + Clock + Threads + Wait + Sync, D: Area + Drop + Send, P: Work>(
     rt: &R,
     measurement: &Measurement,
@@ -152,6 +152,9 @@ fn measure_round<R: AllocGlobal + Clock + Threads + Wait + Sync, D: Area + Drop 
 ) -> io::Result<u64> {
     let before = time(rt, plain, &mut rounds.seen)?;
     let ours = commit_round(rt, measurement, running, mode)?;
+    if ours.seen != u64::from(measurement.count) {
+        return Err(Error::from(ErrorKind::InvalidData));
+    }
     let again = time(rt, plain, &mut rounds.seen)?;
     rounds.push(before, nanoseconds(ours.duration()), again)?;
     Ok(ours.seen)
