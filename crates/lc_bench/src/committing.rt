@@ -7,7 +7,7 @@ use lc_node::{Commit, Gate, Mode, Node, NodeFault, Put};
 use lc_stage::CommitSeat;
 use std::sync::Wait;
 
-/// The bytes that a commit writes.
+// How many bytes a commit writes.
 const LEN: usize = 5;
 
 // More tries than a place in the stage needs.
