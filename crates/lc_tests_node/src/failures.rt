@@ -4,6 +4,7 @@ ghost use Rattle.lc_disk.specs.When.{IsCountable};
 ghost use Rattle.lc_stage.specs.Seats.{commit_view, IsSeatOf, IsIdle};
 
 use crate::seats::put;
+use crate::shared::Shelf;
 use crate::stores::{LOG_BYTES, SEGMENT_BYTES, in_memory, opened, recovered, two_segments};
 use lc_disk::{Fuse, MemArea, When};
 use lc_node::{Commit, Mode, Node, NodeFault, Put};
@@ -16,8 +17,17 @@ const NEVER: When = When::At(0);
 // The second call of a flush: a recovery makes four calls of an empty log.
 const IN_A_FLUSH: When = When::At(6);
 
+// The first call of the flush behind.
+const IN_THE_SECOND_FLUSH: When = When::At(9);
+
 // The fourth call of a page's write: a recovery makes two calls of a segment that has nothing to be written.
 const IN_A_PAGE: When = When::At(6);
+
+const TWO: Put<'static> = Put {
+    segment: 2,
+    offset: 0,
+    bytes: &[2],
+};
 
 const ONE: Put<'static> = Put {
     segment: 1,
@@ -53,6 +63,26 @@ fn a_log_that_fails_halts_its_flushes(rt: HostRuntime) -> Result<(), Fail> {
         matches!(closed, Ok(Commit::Lazy)),
         "nobody waits for the device"
     );
+    Ok(())
+}
+
+// What was acknowledged before is in the areas, and what was not, is not.
+#[test]
+fn a_log_that_fails_keeps_what_was_acknowledged(rt: HostRuntime) -> Result<(), Fail> {
+    let alloc = rt.alloc();
+    let shelf = Shelf::new(alloc)?;
+    let areas = shelf.failing(alloc, IN_THE_SECOND_FLUSH)?;
+    let (node, seat) = opened(alloc, two_segments()?, areas)?;
+    let (seat, stable) = put(&rt, alloc, &node, seat, &[1], ONE, Mode::Flush);
+    assert!(rt; matches!(stable, Ok(Commit::Flushed(_))));
+    let (seat, failed) = put(&rt, alloc, &node, seat, &[2], TWO, Mode::Flush);
+    assert!(rt; matches!(failed, Err(NodeFault::DeviceFault)));
+    let (_seat, halted) = put(&rt, alloc, &node, seat, &[1], ONE, Mode::Flush);
+    assert!(rt; matches!(halted, Err(NodeFault::Halted)));
+
+    let store = recovered(alloc, two_segments()?, shelf.areas(alloc)?)?;
+    assert!(rt; store.sequence(1) == 1 && store.page(1, 0)[0] == 1);
+    assert!(rt; store.sequence(2) == 0 && store.page(2, 0)[0] == 0);
     Ok(())
 }
 

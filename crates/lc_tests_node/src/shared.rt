@@ -1,8 +1,9 @@
 //! Areas whose bytes outlive them.
-ghost use Rattle.std.specs.Prelude.{length, replicate, false};
+ghost use Rattle.std.specs.Prelude.{length, replicate, true, false};
+ghost use Rattle.lc_disk.specs.When.{IsCountable};
 
 use crate::stores::{LOG_BYTES, SEGMENT_BYTES};
-use lc_disk::{Area, DeviceFault};
+use lc_disk::{Area, DeviceFault, Fuse, MemArea, When};
 use std::alloc::{AllocError, Global};
 use std::sync::atomic::{AtomicU8, Ordering};
 
@@ -22,6 +23,17 @@ impl Shelf {
             first: zeros(alloc, SEGMENT_BYTES)?,
             second: zeros(alloc, SEGMENT_BYTES)?,
         })
+    }
+
+    /// The areas of these bytes, of which the log's fails so.
+    pub(crate) fn failing(&self, alloc: Global, log: When) -> Result<Vec<Mirror<'_>>, AllocError>
+        requires { IsCountable log }
+    {
+        let mut areas = Vec::with_capacity(alloc, 3)?;
+        areas.push(Mirror::new(alloc, &self.log, log)?)?;
+        areas.push(Mirror::new(alloc, &self.first, NEVER)?)?;
+        areas.push(Mirror::new(alloc, &self.second, NEVER)?)?;
+        Ok(areas)
     }
 
     /// The areas of these bytes.
@@ -50,6 +62,17 @@ pub(crate) struct SharedArea<'a> {
     bytes: &'a [AtomicU8],
 }
 
+impl SharedArea<'_> {
+    // Lays bytes over its own from a position on.
+    fn lay(&self, at: usize, bytes: &[u8]) {
+        for place in 0..bytes.len() {
+            if let Some(byte) = self.bytes.get(at.wrapping_add(place)) {
+                byte.store(bytes[place], Ordering::SeqCst);
+            }
+        }
+    }
+}
+
 impl Area for SharedArea<'_> {
     ghost now = { λ a. replicate (length a.bytes.now) 0 };
 
@@ -73,11 +96,7 @@ impl Area for SharedArea<'_> {
     }
 
     fn write_at(&mut self, at: usize, bytes: &[u8]) -> Result<(), DeviceFault> {
-        for place in 0..bytes.len() {
-            if let Some(byte) = self.bytes.get(at.wrapping_add(place)) {
-                byte.store(bytes[place], Ordering::SeqCst);
-            }
-        }
+        self.lay(at, bytes);
         Ok(())
     }
 
@@ -87,5 +106,64 @@ impl Area for SharedArea<'_> {
 
     fn faults(&self) -> u64 {
         0
+    }
+}
+
+// No call fails.
+const NEVER: When = When::At(0);
+
+/// An area that fails as its fuse says. What it was told to write, where it did not fail, is in bytes that outlive it too.
+#[derive(Drop)]
+pub(crate) struct Mirror<'a> {
+    fuse: Fuse,
+    copy: SharedArea<'a>,
+}
+
+impl<'a> Mirror<'a> {
+    // Zeros, which these bytes are.
+    fn new(alloc: Global, bytes: &'a Vec<AtomicU8>, when: When) -> Result<Mirror<'a>, AllocError>
+        requires { IsCountable when }
+    {
+        Ok(Mirror {
+            fuse: Fuse::new(MemArea::new(alloc, bytes.len())?, when),
+            copy: SharedArea {
+                bytes: bytes.as_slice(),
+            },
+        })
+    }
+}
+
+impl Area for Mirror<'_> {
+    ghost use Rattle.lc_disk.specs.Fuse.{fuse_area, fuse_failures};
+    ghost use Rattle.lc_disk.specs.MemArea.{memory_now, memory_dirty};
+
+    ghost now = { λ m. memory_now (fuse_area m.fuse) };
+
+    ghost dirty = { λ m. memory_dirty (fuse_area m.fuse) };
+
+    ghost failures = { λ m. fuse_failures m.fuse };
+
+    ghost honest = { λ m. true };
+
+    fn len(&self) -> usize {
+        self.fuse.len()
+    }
+
+    fn read(&mut self, at: usize, buffer: &mut [u8]) -> Result<(), DeviceFault> {
+        self.fuse.read(at, buffer)
+    }
+
+    fn write_at(&mut self, at: usize, bytes: &[u8]) -> Result<(), DeviceFault> {
+        self.fuse.write_at(at, bytes)?;
+        self.copy.lay(at, bytes);
+        Ok(())
+    }
+
+    fn sync(&mut self) -> Result<(), DeviceFault> {
+        self.fuse.sync()
+    }
+
+    fn faults(&self) -> u64 {
+        self.fuse.faults()
     }
 }
