@@ -1,0 +1,15 @@
+//! A line from one node to another: what has been taken from it is what was sent on it first, in order.
+#![tactic(auto)]
+
+mod closing;
+mod ends;
+mod log;
+mod opening;
+mod refused;
+mod sending;
+mod taking;
+
+pub use closing::close_line;
+pub use ends::{RecvEnd, Rest, SendEnd};
+pub use opening::{ROOM, open_line};
+pub use refused::Refused;
