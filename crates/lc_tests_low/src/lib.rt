@@ -8,6 +8,8 @@ mod fake_file;
 #[cfg(test)]
 mod files;
 #[cfg(test)]
+mod lines;
+#[cfg(test)]
 mod locks;
 #[cfg(test)]
 mod logs;

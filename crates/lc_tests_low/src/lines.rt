@@ -1,0 +1,118 @@
+//! Messages over a line.
+use lc_line::{ROOM, RecvEnd, Refused, SendEnd, close_line, open_line};
+use std::sync::Wait;
+use std::test::Fail;
+use std::thread::{join, yield_now};
+
+const MESSAGES: u64 = 10_000;
+
+// Sends the numbers below `MESSAGES`, and answers how many were sent when the receiving end was gone or all were.
+fn send_all<R: Wait>(rt: &R, mut to: SendEnd<u64>) -> u64 {
+    let mut next = 0;
+    for _ in rt.forever() {
+        if next >= MESSAGES {
+            return next;
+        }
+        match to.send(rt, next) {
+            Ok(()) => next += 1,
+            Err(Refused::Full(_)) => yield_now(),
+            Err(Refused::Gone(_)) => return next,
+        }
+    }
+    unreachable!()
+}
+
+// Takes numbers as long as each is the next, and answers how many were.
+fn take_all<R: Wait>(rt: &R, mut from: RecvEnd<u64>) -> u64 {
+    let mut next = 0;
+    for _ in rt.forever() {
+        if next >= MESSAGES {
+            return next;
+        }
+        match from.take(rt) {
+            Some(number) if number == next => next += 1,
+            Some(_) => return next,
+            None => yield_now(),
+        }
+    }
+    unreachable!()
+}
+
+#[test]
+fn a_line_has_room_for_64_messages(rt: HostRuntime) -> Result<(), Fail> {
+    let (mut to, mut from) = open_line(rt.alloc())?;
+    assert!(rt; ROOM == 64);
+    for number in 0..64u64 {
+        assert!(rt; to.send(&rt, number) == Ok(()));
+    }
+    assert!(rt; to.send(&rt, 64) == Err(Refused::Full(64)));
+    assert!(rt; from.take(&rt) == Some(0));
+    assert!(rt; to.send(&rt, 65) == Ok(()));
+    assert!(rt; to.send(&rt, 66) == Err(Refused::Full(66)));
+    for number in 1..64 {
+        assert!(rt; from.take(&rt) == Some(number));
+    }
+    assert!(rt; from.take(&rt) == Some(65));
+    assert!(rt; from.take(&rt).is_none());
+    Ok(())
+}
+
+#[test]
+fn messages_cross_threads_in_order(rt: HostRuntime) -> Result<(), Fail> {
+    let (to, from) = open_line(rt.alloc())?;
+    let host = &rt;
+    let counts = join(
+        &rt,
+        move || send_all(host, to),
+        move || take_all(host, from),
+    );
+    assert!(rt; counts == (MESSAGES, MESSAGES));
+    Ok(())
+}
+
+#[test]
+fn a_closed_line_hands_out_the_rest(rt: HostRuntime) -> Result<(), Fail> {
+    let (mut to, mut from) = open_line(rt.alloc())?;
+    let sent = (to.send(&rt, 7), to.send(&rt, 8), to.send(&rt, 9));
+    assert!(rt; sent == (Ok(()), Ok(()), Ok(())));
+    assert!(rt; from.take(&rt) == Some(7));
+    let mut rest = close_line(to, from);
+    assert!(rt; rest.take(&rt) == Some(8));
+    assert!(rt; rest.take(&rt) == Some(9));
+    assert!(rt; rest.take(&rt).is_none());
+    Ok(())
+}
+
+#[test]
+fn what_was_sent_can_be_taken_when_the_sending_end_is_gone(rt: HostRuntime) -> Result<(), Fail> {
+    let (mut to, mut from) = open_line(rt.alloc())?;
+    assert!(rt; to.send(&rt, 7u64) == Ok(()));
+    drop(to);
+    assert!(rt; from.take(&rt) == Some(7));
+    assert!(rt; from.take(&rt).is_none());
+    Ok(())
+}
+
+#[test]
+fn nothing_is_sent_when_the_receiving_end_is_gone(rt: HostRuntime) -> Result<(), Fail> {
+    let (mut to, from) = open_line(rt.alloc())?;
+    assert!(rt; to.send(&rt, 7u64) == Ok(()));
+    drop(from);
+    assert!(rt; to.send(&rt, 8) == Err(Refused::Gone(8)));
+    Ok(())
+}
+
+fn crosses<X: Send>(_: &X) {}
+
+// Both may cross threads wherever the messages may.
+fn cross_threads<T: Drop + Send>(to: &SendEnd<T>, from: &RecvEnd<T>) {
+    crosses(to);
+    crosses(from);
+}
+
+#[test]
+fn the_ends_cross_threads(rt: HostRuntime) -> Result<(), Fail> {
+    let (to, from) = open_line::<u64>(rt.alloc())?;
+    cross_threads(&to, &from);
+    Ok(())
+}
