@@ -1,17 +1,15 @@
 -- The areas of a recovered store fit the log and the segments that come up on them.
-use Rattle.std.proofs.Common.{◌≡◌, ◌≢◌, ℕ, ◌+◌, ◌*◌, ◌%◌, ◌<◌, ◌≤◌, true, false, List, length, map, drop, Some, None, Option, refl, sym, ap, subst, ◌∙◌, arith}
+use Rattle.std.proofs.Common.{◌≡◌, ◌≢◌, ℕ, ◌+◌, ◌*◌, ◌%◌, ◌<◌, true, false, List, length, drop, Some, refl, sym, ap, subst, ◌∙◌, arith}
 use Rattle.std.specs.Prelude.{slice_get, slice_index, slice_index_or, option_map}
 use Rattle.std.proofs.lemmas.Option.{slice_get-map, slice_get_within}
 use Rattle.lc_disk.specs.declared.area.Area.{Ghosts}
-use Rattle.lc_record.specs.declared.geometry.Geometry.{Geometry}
-use Rattle.lc_page.specs.Page.{Page, page_in, slot_at, text_in}
-use Rattle.lc_page.specs.PageVector.{entry_at, entry_text, new_entry}
+use Rattle.lc_page.specs.Page.{Page, slot_at}
+use Rattle.lc_page.specs.PageVector.{entry_at, new_entry}
 use Rattle.lc_page.specs.PageWrite.{IsSettled}
 use Rattle.lc_page.specs.declared.entry.Entry.{Entry}
-use Rattle.lc_page.specs.declared.page_text.PageText.{PageText}
 use Rattle.lc_page.proofs.StateLemmas.{clean_settled}
 use Rattle.lc_recover.specs.Reads.{HaveLengths, area_count, area_len}
-use Rattle.lc_recover.specs.Recovered.{RecoveredStore, AreFinished, page_of, sequence_of}
+use Rattle.lc_recover.specs.Recovered.{RecoveredStore, AreFinished, page_of}
 use Rattle.lc_recover.proofs.AreaLemmas.{one_item}
 use Rattle.lc_recover.proofs.Images.{count-areas, len-log, len-segment}
 use Rattle.lc_token.specs.declared.token.Token.{Token}

@@ -19,6 +19,7 @@ pub mod Noted
 pub mod Outside
 pub mod PagesWritten
 pub mod PartsOf
+pub mod Published
 pub mod Rounds
 pub mod SegmentLocks
 pub mod SideKeeps

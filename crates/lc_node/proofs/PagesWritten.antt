@@ -9,20 +9,23 @@ use Rattle.std.proofs.lemmas.List.Elements.{All-append}
 use Rattle.std.specs.Option.{ForSome}
 use Rattle.std.specs.Ordering.{ord_max, nat_cmp}
 use Rattle.lc_disk.specs.declared.area.Area.{Ghosts}
+use Rattle.lc_stage.specs.declared.view.View.{View}
+use Rattle.lc_stage.specs.Seats.{flush_view}
 use Rattle.lc_trunc.specs.KnownClean.{Sees}
 use Rattle.lc_token.specs.Standing.{Standing}
 use Rattle.lc_token.specs.declared.token.Token.{Token}
 use Rattle.lc_node.specs.Pages.{AreWritten, FitsToken}
 use Rattle.lc_node.specs.SegSide.{FitsArea}
 use Rattle.lc_node.specs.Each.{Each}
-use Rattle.lc_node.specs.Flushes.{IsUnflushed}
+use Rattle.lc_node.specs.Ended.{HasRoom}
+use Rattle.lc_node.specs.Flushes.{Flushes, IsUnflushed}
 use Rattle.lc_node.specs.Held.{IsHeldOf}
 use Rattle.lc_node.specs.LogView.{LogView}
 use Rattle.lc_node.specs.Resets.{IsUnemptied, IsUnfit}
 use Rattle.lc_node.specs.SegView.{SegView}
 use Rattle.lc_node.specs.declared.node.Node.{Node}
 use Rattle.lc_node.specs.declared.node_fault.NodeFault.{NodeFault}
-use Rattle.lc_node.specs.Truncates.{HasPagesIn, IsFolded, IsOfTruncation, IsUntruncated, IsSameHeld, FailsPages, FailsSides, SeesSides, SeesToken, WritesSide}
+use Rattle.lc_node.specs.Truncates.{HasPagesIn, IsFolded, IsOfTruncation, IsUntruncated, IsUntruncatedInRoom, IsSameHeld, FailsPages, FailsSides, SeesSides, SeesToken, WritesSide}
 use Rattle.lc_node.specs.declared.held.HeldSide.{HeldSide}
 use Rattle.lc_node.specs.declared.page_area.PageArea.{PageArea}
 use Rattle.lc_node.specs.declared.page_area.PageArea.TheVariants.{Serves}
@@ -186,8 +189,18 @@ of_reset old new fault (inl unfit) = of_unfit old fault unfit.0
 of_reset old new fault (inr (inl lost)) = inr (inr (inr (inr (lost.1.0, lost.1.1))))
 of_reset old new fault (inr (inr failed)) = inr (inl (inl failed.1.0))
 
-pub of_truncation : {D : Type 0} (a : Ghosts D) (room : ℕ) (old new : LogView D) (olds news : List (HeldSide D)) (fault : NodeFault) → IsUntruncated a room old olds fault new news → IsOfTruncation fault
-of_truncation a room old new olds news fault (inl spent) = inr (inr (inl spent.0))
-of_truncation a room old new olds news fault (inr (inl unflushed)) = of_flush a old new fault unflushed.0
-of_truncation a room old new olds news fault (inr (inr (count, flushed, flushes, inl failed))) = of_pages a failed.0.old.side failed.0.new.side fault failed.0.fails
-of_truncation a room old new olds news fault (inr (inr (count, flushed, flushes, inr unemptied))) = of_reset (record flushed { known = unemptied.0 }) new fault unemptied.3
+of_untruncated : {D : Type 0} (a : Ghosts D) (room : ℕ) (old new : LogView D) (olds news : List (HeldSide D)) (fault : NodeFault) → IsUntruncated a room old olds fault new news → IsOfTruncation fault
+of_untruncated a room old new olds news fault (inl spent) = inr (inr (inl spent.0))
+of_untruncated a room old new olds news fault (inr (inl unflushed)) = of_flush a old new fault unflushed.0
+of_untruncated a room old new olds news fault (inr (inr (count, flushed, flushes, inl failed))) = of_pages a failed.0.old.side failed.0.new.side fault failed.0.fails
+of_untruncated a room old new olds news fault (inr (inr (count, flushed, flushes, inr unemptied))) = of_reset (record flushed { known = unemptied.0 }) new fault unemptied.3
+
+pub of_truncation : {D : Type 0} (a : Ghosts D) (room : ℕ) (old new : LogView D) (olds news : List (HeldSide D)) (fault : NodeFault) → IsUntruncatedInRoom a room old olds fault new news → IsOfTruncation fault
+of_truncation a room old new olds news fault (inl memory) = inl memory.0
+of_truncation a room old new olds news fault (inr (roomy, makes, refused)) = of_untruncated a room roomy new olds news fault refused
+
+-- a flush leaves room for the words of its round
+pub room_behind : {D : Type 0} (room count : ℕ) (old new : LogView D) → Flushes room old count new → HasRoom old → HasRoom new
+room_behind room count old new f has =
+    let words : (flush_view new.flusher).room ≡ (flush_view old.flusher).room = ap (λ (v : View). v.room) f.publishes ∙ ap (λ (v : View). v.room) f.takes.1 in
+    let long : length new.ended ≡ length old.ended = ap (λ (l : List ℕ). length l) f.ended in let most = f.ended_room in omega arith

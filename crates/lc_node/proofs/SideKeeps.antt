@@ -1,5 +1,6 @@
 -- A step of the flusher keeps what a log's type says.
 use Rattle.std.proofs.Common.{◌≡◌, ℕ, ◌+◌, ◌*◌, ◌≤◌, List, All, length, refl, sym, ap, subst, ◌∙◌, arith, vec_capacity}
+use Rattle.std.specs.List.{concat}
 use Rattle.lc_disk.specs.declared.area.Area.{Ghosts}
 use Rattle.lc_stage.specs.declared.seats.CommitSeat.{CommitSeat}
 use Rattle.lc_stage.specs.declared.seats.FlushSeat.{FlushSeat}
@@ -74,6 +75,7 @@ module _ {D : Type 0} (a : Ghosts D) where
     pub idle_probe : IsIdle (commit_view t.probe)
     pub same_group : t.group.room ≡ s.group.room
     pub same_stable : t.stable ≡ s.stable
+    pub same_ended : t.ended ≡ s.ended
     pub same_round : t.round ≡ s.round
     pub same_known : t.known ≡ s.known
     pub steps : Steps (flush_view s.flusher) (flush_view t.flusher)
@@ -93,6 +95,8 @@ module _ {D : Type 0} (a : Ghosts D) where
     records = subst (λ l. AreRecords l.items) (sym g.same_stable) inv.records;
     published = g.published;
     holds = g.holds;
+    ended = ap (λ l. l.items) g.same_ended ∙ (inv.ended ∙ ap concat (sym g.steps.same_past));
+    ended_records = subst (λ l. AreRecords l.items) (sym g.same_ended) inv.ended_records;
     clean = subst (λ (numbers : List ℕ). All (λ (words : List ℕ). AreKnown words (known numbers)) (flush_view t.flusher).past) (sym g.same_known)
         (subst (λ (past : List (List ℕ)). All (λ (words : List ℕ). AreKnown words (known s.known)) past) (sym g.steps.same_past) inv.clean);
   }
@@ -103,6 +107,7 @@ module _ {D : Type 0} (a : Ghosts D) where
     idle_probe = idle;
     same_group = refl;
     same_stable = refl;
+    same_ended = refl;
     same_round = refl;
     same_known = refl;
     steps = st.steps;

@@ -5,6 +5,7 @@ use Rattle.lc_model.specs.Merge.{IsLeastPair}
 use Rattle.lc_trunc.specs.KnownClean.{known}
 use Rattle.lc_trunc.specs.Reset.{AreKnown, IsAbove}
 use Rattle.lc_trunc.proofs.LeastLemmas.{least_once}
+use Rattle.lc_node.specs.Ended.{HasRoom}
 use Rattle.lc_node.specs.LogView.{LogView}
 use Rattle.lc_node.specs.Resets.{CanReset, IsReady, IsSpent, IsUnfit, IsKept, Seals}
 use Rattle.lc_node.specs.declared.node_fault.NodeFault.{NodeFault}
@@ -49,6 +50,10 @@ module _ {D : Type 0} (s : LogView D) where
   -- nor where nothing is stable
   pub nothing_unclean : s.stable ≡ [] → (segment seq : ℕ) → IsFirstUnclean segment seq → ⊥
   nothing_unclean none segment seq first = first.0.1 none
+
+  -- there is still room for the words of its round
+  pub room_still : (t : LogView D) → HasRoom s → Seals s t → HasRoom t
+  room_still t has seals = let kept : IsKept s t = seals.1 in let long : length t.ended ≡ length s.ended = ap (λ (l : List ℕ). length l) kept.5 in let most = kept.6 in let words = kept.7 in omega arith
 
   pub can_still : (t : LogView D) → CanReset s → Seals s t → CanReset t
   can_still t can seals = let kept : IsKept s t = seals.1 in (

@@ -18,6 +18,8 @@ module _ {D : Type 0} where
     pub ends : EndsAt room (flush_view old.flusher) taking
     pub publishes : flush_view new.flusher ≡ publishing taking
     pub stable : new.stable ≡ old.stable ++ words
+    pub ended : new.ended ≡ old.ended
+    pub ended_room : new.ended_room ≡ old.ended_room
     pub records : AreInFront words (length words) count
     pub serves : new.is_halted ≡ false
     pub nothing : words ≡ [] → new.area ≡ old.area
@@ -27,6 +29,8 @@ module _ {D : Type 0} where
     pub served : old.is_halted ≡ false
     pub halted : new.is_halted ≡ true
     pub stable : new.stable ≡ old.stable
+    pub ended : new.ended ≡ old.ended
+    pub ended_room : new.ended_room ≡ old.ended_room
     pub takes : OnlyTakes (flush_view old.flusher) (flush_view new.flusher)
     pub before : D
     pub after : D

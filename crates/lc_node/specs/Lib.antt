@@ -2,6 +2,7 @@ pub mod Among
 pub mod Attempts
 pub mod Commits
 pub mod Each
+pub mod Ended
 pub mod Fault
 pub mod Flushes
 pub mod Fresh
@@ -12,6 +13,7 @@ pub mod Lent
 pub mod LogSide
 pub mod LogView
 pub mod Pages
+pub mod Published
 pub mod Receipts
 pub mod Resets
 pub mod Rooms

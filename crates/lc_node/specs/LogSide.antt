@@ -1,5 +1,6 @@
 -- What a node's log holds.
 use Rattle.std.specs.Prelude.{◌≡◌, ℕ, ◌+◌, ◌*◌, ◌≤◌, ◌<◌, ◌^◌, Bool, true, false, List, [], ◌∷◌, ◌++◌, length, vec_capacity, All}
+use Rattle.std.specs.List.{concat}
 use Rattle.lc_disk.specs.declared.area.Area.{Ghosts}
 use Rattle.lc_stage.specs.Publishing.{HoldsTaken}
 use Rattle.lc_stage.specs.Staging.{AreRecords}
@@ -23,7 +24,7 @@ module _ {D : Type 0} (a : Ghosts D) where
   is_halted Taken = true
 
   abbrev pub log_view : Inside D a → LogView D
-  log_view s = record { flusher = s.flusher; probe = s.probe; area = area_of s.log; is_halted = is_halted s.log; stable = s.stable.items; round = s.round; known = s.known }
+  log_view s = record { flusher = s.flusher; probe = s.probe; area = area_of s.log; is_halted = is_halted s.log; stable = s.stable.items; ended = s.ended.items; ended_room = vec_capacity s.ended; round = s.round; known = s.known }
 
   -- the stable words are all that was taken in this round, and the log holds them; once halted they are the front of it
   abbrev pub HasStable : LogState D a → ℕ → List ℕ → List ℕ → Type 0
@@ -44,5 +45,8 @@ module _ {D : Type 0} (a : Ghosts D) where
     pub records : AreRecords s.stable.items
     pub published : (flush_view s.flusher).published ≤ s.round * 65536 + length s.stable.items
     pub holds : HasStable s.log (flush_view s.flusher).room (flush_view s.flusher).taken s.stable.items
+    -- the words of the rounds that have ended are all that was taken in them, and they are whole records
+    pub ended : s.ended.items ≡ concat (flush_view s.flusher).past
+    pub ended_records : AreRecords s.ended.items
     -- each lock of a record that was taken in a round that has ended is known clean
     pub clean : All (λ words. AreKnown words (known s.known)) (flush_view s.flusher).past

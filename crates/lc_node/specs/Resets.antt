@@ -28,9 +28,10 @@ module _ {D : Type 0} where
       ⊎ (((fault ≡ RoundsSpent) × IsReady old × IsSpent old)
       ⊎ ((segment : ℕ) × (seq : ℕ) × (fault ≡ Unclean segment seq) × IsReady old × ¬ IsSpent old × IsLeastPair (IsAbove old.stable (known old.known)) segment seq))
 
-  -- the stable records, the round and what was taken are as they were
+  -- the stable records, the round, what was taken, and the words of the ended rounds and their room are as they were
   abbrev pub IsKept : LogView D → LogView D → Type 0
   IsKept old new = (new.stable ≡ old.stable) × (new.round ≡ old.round) × (new.known ≡ old.known) × ((flush_view new.flusher).past ≡ (flush_view old.flusher).past) × ((flush_view new.flusher).taken ≡ (flush_view old.flusher).taken)
+      × (new.ended ≡ old.ended) × (new.ended_room ≡ old.ended_room) × ((flush_view new.flusher).room ≡ (flush_view old.flusher).room)
 
   -- nothing more is reserved in its round, which ends where its stable records do
   abbrev pub IsSealed : LogView D → Type 0
@@ -45,13 +46,16 @@ module _ {D : Type 0} where
   IsUnsealed old fault new = (seen : ℕ) × (fault ≡ Lost seen) × (seen ≢ old.round * 65536 + length old.stable)
       × (((commit_view new.probe).seen ≡ seen) ⊎ ((flush_view new.flusher).heard ≡ seen)) × IsKept old new × (new.is_halted ≡ old.is_halted) × (new.area ≡ old.area)
 
-  -- the next round has begun without a record, and what was taken stays under the ended one
+  -- the next round has begun without a record, what was taken stays under the ended one, and the words that were stable stand behind
+  -- those of the rounds before
   pub record Begins (old : LogView D) (round : ℕ) (new : LogView D) : Type 0 where
     pub none_left : new.stable ≡ []
     pub round_is : round ≡ new.round
     pub next_round : new.round ≡ old.round + 1
     pub serves : new.is_halted ≡ false
     pub past : (flush_view new.flusher).past ≡ (flush_view old.flusher).past ++ (flush_view old.flusher).taken ∷ []
+    pub ended : new.ended ≡ old.ended ++ old.stable
+    pub ended_room : new.ended_room ≡ old.ended_room
 
   -- the device failed
   abbrev pub FailsToBegin : LogView D → NodeFault → LogView D → Type 0

@@ -4,6 +4,7 @@ use Rattle.lc_disk.specs.declared.area.Area.{Ghosts}
 use Rattle.lc_token.specs.declared.token.Token.{Token}
 use Rattle.lc_trunc.specs.KnownClean.{Sees}
 use Rattle.lc_node.specs.Each.{Each}
+use Rattle.lc_node.specs.Ended.{LacksRoom, MakesRoom}
 use Rattle.lc_node.specs.Flushes.{Flushes, IsUnflushed}
 use Rattle.lc_node.specs.LogView.{LogView}
 use Rattle.lc_node.specs.Pages.{AreWritten}
@@ -88,6 +89,16 @@ module _ {D : Type 0} (a : Ghosts D) where
       ⊎ ((count : ℕ) × (flushed : LogView D) × Flushes room old count flushed
       × ((FailsSides olds fault news × (new ≡ flushed))
       ⊎ ((known : List ℕ) × Each WritesSide olds news × SeesSides flushed.known news known × IsUnemptied (record flushed { known = known }) fault new))))
+
+  -- the same, behind room for the words of its round
+  abbrev pub TruncatesInRoom : ℕ → LogView D → List (HeldSide D) → ℕ → LogView D → List (HeldSide D) → Type 0
+  TruncatesInRoom room old olds round new news = (roomy : LogView D) × MakesRoom old roomy × Truncates room roomy olds round new news
+
+  -- that room could not be made, and nothing has changed; or it was, and then the truncation was refused
+  abbrev pub IsUntruncatedInRoom : ℕ → LogView D → List (HeldSide D) → NodeFault → LogView D → List (HeldSide D) → Type 0
+  IsUntruncatedInRoom room old olds fault new news =
+      ((fault ≡ NoMemory) × LacksRoom old new × (news ≡ olds))
+      ⊎ ((roomy : LogView D) × MakesRoom old roomy × IsUntruncated room roomy olds fault new news)
 
 -- why a truncation is refused
 abbrev pub IsOfTruncation : NodeFault → Type 0

@@ -2,6 +2,7 @@
 ghost use Rattle.std.specs.Prelude.{◌≡◌, ◌↔◌, ◌+◌, ◌≤◌, ◌++◌, true, length, vec_len, vec_capacity, IfOk, IfErr, Err};
 ghost use Rattle.lc_stage.specs.Seats.{IsFlusherOf};
 ghost use Rattle.lc_node.specs.Flushes.{Flushes, IsUnflushed};
+ghost use Rattle.lc_node.specs.Published.{Publishes};
 ghost use Rattle.lc_node.specs.declared.node_fault.NodeFault.TheVariants.{Halted};
 
 use crate::log_state::LogState;
@@ -35,6 +36,7 @@ impl<D: Area + Drop> LogSide<D> {
         requires own { IsFlusherOf stage.now self.old.flusher }
         ensures own { IsFlusherOf stage.now self.new.flusher × (self.new.probe ≡ self.old.probe) × (self.new.round ≡ self.old.round) × (self.new.known ≡ self.old.known) }
         ensures flushed { IfOk result (λ count. Flushes stage.now.room self.old count self.new) }
+        ensures published { IfOk result (λ count. Publishes self.old count self.new) }
         ensures halted { (result ≡ Err Halted) ↔ (self.old.is_halted ≡ true) }
         ensures refused { IfErr result (λ fault. IsUnflushed D.Area self.old fault self.new) }
     {

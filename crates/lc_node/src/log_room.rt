@@ -26,6 +26,7 @@ pub(crate) struct LogRoom<D: Area + Drop> {
     probe: CommitSeat,
     group: Group,
     stable: Vec<u64>,
+    ended: Vec<u64>,
     lock: Vacant<LogSide<D>, Stage>,
     ghost own_seat: { IsSeatOf stage seat },
     ghost own_probe: { IsSeatOf stage probe },
@@ -34,6 +35,7 @@ pub(crate) struct LogRoom<D: Area + Drop> {
     ghost new_flusher: { flush_view flusher ≡ first_flusher stage.room },
     ghost empty_group: { group ≡ record { words = []; room = stage.room } },
     ghost empty: { stable.items ≡ [] },
+    ghost none_ended: { ended.items ≡ [] },
     ghost place: { stage.room ≤ vec_capacity stable },
     ghost key: { key_of lock.lock ≡ stage },
 }
@@ -49,6 +51,7 @@ impl<D: Area + Drop> LogRoom<D> {
         let probe = stage.split(&mut seat);
         let group = Group::new(alloc, words)?;
         let stable = Vec::with_capacity(alloc, words as usize)?;
+        let ended = Vec::new(alloc);
         let lock = Vacant::new(alloc, &stage)?;
         Ok(LogRoom {
             stage,
@@ -57,6 +60,7 @@ impl<D: Area + Drop> LogRoom<D> {
             probe,
             group,
             stable,
+            ended,
             lock,
         })
     }
@@ -79,6 +83,7 @@ impl<D: Area + Drop> LogRoom<D> {
             probe,
             group,
             stable,
+            ended,
             lock,
         } = self;
         let log = lock.fill(LogSide {
@@ -87,6 +92,7 @@ impl<D: Area + Drop> LogRoom<D> {
             log: LogState::Idle(NodeLog::new(area)),
             group,
             stable,
+            ended,
             round: 0,
             known: KnownClean::new(),
         });
@@ -107,6 +113,7 @@ impl<D: Area + Drop> LogRoom<D> {
             probe: _probe,
             group: _group,
             stable: _stable,
+            ended: _ended,
             lock,
         } = self;
         lock.end();

@@ -7,7 +7,8 @@ use lc_trunc::KnownClean;
 use std::marker::Model;
 
 /// A node's log: its flusher, its device, the words of its stable records, which are what the flusher took in this round
-/// or, once it is halted, the front of that, and what is known clean of the segments. This project's own.
+/// or, once it is halted, the front of that, those of the records of the rounds that have ended since it was opened, for its
+/// peers, and what is known clean of the segments. This project's own.
 #[derive(Drop)]
 pub struct LogSide<D: Area> {
     pub(crate) flusher: FlushSeat,
@@ -16,6 +17,7 @@ pub struct LogSide<D: Area> {
     pub(crate) log: LogState<D>,
     pub(crate) group: Group,
     pub(crate) stable: Vec<u64>,
+    pub(crate) ended: Vec<u64>,
     pub(crate) round: u64,
     pub(crate) known: KnownClean,
 }

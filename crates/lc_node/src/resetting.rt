@@ -4,9 +4,12 @@ ghost use Rattle.lc_model.specs.Merge.{IsLeastPair};
 ghost use Rattle.lc_stage.specs.Seats.{IsFlusherOf, IsSeatOf};
 ghost use Rattle.lc_trunc.specs.KnownClean.{known as known_of};
 ghost use Rattle.lc_trunc.specs.Reset.{IsAbove};
+ghost use Rattle.lc_node.specs.Ended.{HasRoom};
+ghost use Rattle.lc_node.specs.Published.{published};
 ghost use Rattle.lc_node.specs.Resets.{Begins, CanReset, Empties, FailsToBegin, IsReady, IsSealed, IsSpent, IsUnemptied, IsUnfit, IsUnsealed, Seals};
 ghost use Rattle.lc_node.specs.declared.node_fault.NodeFault.TheVariants.{RoundsSpent, Unclean};
 
+use crate::ending::extend;
 use crate::log_state::LogState;
 use crate::{LogSide, NodeFault};
 use lc_disk::Area;
@@ -23,8 +26,9 @@ const ROUND_TAIL: u64 = 65536;
 impl<D: Area + Drop> LogSide<D> {
     /// Empties the log and begins the next round, and answers which round the log is in then. Where the log has no
     /// stable record nothing is done, and the present round is answered. The stage is sealed while the device is called,
-    /// and commits go on in the other row once the next round has begun, before this one's is clear. It takes no memory.
-    /// The stage is that of the log.
+    /// and commits go on in the other row once the next round has begun, before this one's is clear. The records stay
+    /// published: their words go behind those of the rounds before, where `make_room` has made room for them. It takes no
+    /// memory. The stage is that of the log.
     ///
     /// # Errors
     ///
@@ -34,7 +38,9 @@ impl<D: Area + Drop> LogSide<D> {
     /// device fails: the log is halted, with its stable records and its round, and stays sealed.
     pub fn reset(&mut self, stage: &Stage) -> Result<u64, NodeFault>
         requires own { IsFlusherOf stage.now self.old.flusher × IsSeatOf stage.now self.old.probe }
+        requires room { HasRoom self.old }
         ensures own { IsFlusherOf stage.now self.new.flusher × IsSeatOf stage.now self.new.probe × (self.new.known ≡ self.old.known) }
+        ensures published { published self.new ≡ published self.old }
         ensures emptied { IfOk result (λ round. Empties self.old round self.new) }
         ensures refused { IfErr result (λ fault. IsUnemptied self.old fault self.new) }
         ensures spent { (result ≡ Err RoundsSpent) ↔ (IsReady self.old × IsSpent self.old) }
@@ -76,6 +82,7 @@ impl<D: Area + Drop> LogSide<D> {
         requires own { IsFlusherOf stage.now self.old.flusher × IsSeatOf stage.now self.old.probe }
         requires ready { IsReady self.old }
         ensures own { IsFlusherOf stage.now self.new.flusher × IsSeatOf stage.now self.new.probe }
+        ensures published { published self.new ≡ published self.old }
         ensures sealed { OnOk result (Seals self.old self.new) }
         ensures lost { IfErr result (λ fault. IsUnsealed self.old fault self.new) }
     {
@@ -91,12 +98,14 @@ impl<D: Area + Drop> LogSide<D> {
         }
     }
 
-    // Closes the sealed log, and begins the next round.
+    // Closes the sealed log, and begins the next round. What was stable goes behind the words of the rounds before.
     fn begin_round(&mut self, stage: &Stage) -> Result<u64, NodeFault>
         requires own { IsFlusherOf stage.now self.old.flusher × IsSeatOf stage.now self.old.probe }
         requires can { CanReset self.old }
         requires sealed { IsSealed self.old }
+        requires room { HasRoom self.old }
         ensures own { IsFlusherOf stage.now self.new.flusher × IsSeatOf stage.now self.new.probe × (self.new.known ≡ self.old.known) }
+        ensures published { published self.new ≡ published self.old }
         ensures begins { IfOk result (λ round. Begins self.old round self.new) }
         ensures fails { IfErr result (λ fault. FailsToBegin self.old fault self.new) }
     {
@@ -119,6 +128,7 @@ impl<D: Area + Drop> LogSide<D> {
                     Err(_) => unreachable!(),
                 }
                 stage.clear(&mut self.flusher);
+                extend(&mut self.ended, self.stable.as_slice());
                 self.stable.clear();
                 self.round += 1;
                 Ok(self.round)

@@ -3,8 +3,9 @@ ghost use Rattle.std.specs.Prelude.{◌≡◌, ◌≤◌, [], All, IfErr, IfOk};
 ghost use Rattle.std.specs.VecDeque.{deque_capacity};
 ghost use Rattle.lc_stage.specs.Seats.{IsFlusherOf, IsSeatOf};
 ghost use Rattle.lc_node.specs.Each.{Each};
+ghost use Rattle.lc_node.specs.Ended.{HasRoom};
 ghost use Rattle.lc_node.specs.Held.{IsHeldOf};
-ghost use Rattle.lc_node.specs.Truncates.{HasPagesIn, IsOfTruncation, IsSameHeld, IsUntruncated, Truncates};
+ghost use Rattle.lc_node.specs.Truncates.{HasPagesIn, IsOfTruncation, IsSameHeld, IsUntruncated, IsUntruncatedInRoom, Truncates, TruncatesInRoom};
 
 use crate::cleaning::{most_pages, write_all};
 use crate::held::{Held, HeldSide};
@@ -24,7 +25,7 @@ const SEGMENTS: [u32; MAX_SEGMENT as usize] = [
 ];
 
 impl<D: Area + Drop> LogSide<D> {
-    // Flushes the log, writes the dirty pages of these segments, and empties the log.
+    // Makes room for the words of the log's round, flushes it, writes the dirty pages of these segments, and empties the log.
     fn truncate(
         &mut self,
         stage: &Stage,
@@ -34,6 +35,28 @@ impl<D: Area + Drop> LogSide<D> {
         requires own { IsFlusherOf stage.now self.old.flusher × IsSeatOf stage.now self.old.probe }
         requires none { writes.old.items ≡ [] }
         requires room { All (HasPagesIn (deque_capacity writes.old)) sides.old.items }
+        ensures own { IsFlusherOf stage.now self.new.flusher × IsSeatOf stage.now self.new.probe }
+        ensures same { Each IsSameHeld sides.old.items sides.new.items }
+        ensures truncated { IfOk result (λ round. TruncatesInRoom D.Area stage.now.room self.old sides.old.items round self.new sides.new.items) }
+        ensures refused { IfErr result (λ fault. IsUntruncatedInRoom D.Area stage.now.room self.old sides.old.items fault self.new sides.new.items) }
+    {
+        let Ok(()) = self.make_room(stage) else {
+            return Err(NodeFault::NoMemory);
+        };
+        self.empty(stage, sides, writes)
+    }
+
+    // The same where there is that room.
+    fn empty(
+        &mut self,
+        stage: &Stage,
+        sides: &mut Vec<HeldSide<D>>,
+        writes: &mut VecDeque<Writing>,
+    ) -> Result<u64, NodeFault>
+        requires own { IsFlusherOf stage.now self.old.flusher × IsSeatOf stage.now self.old.probe }
+        requires none { writes.old.items ≡ [] }
+        requires room { All (HasPagesIn (deque_capacity writes.old)) sides.old.items }
+        requires ended { HasRoom self.old }
         ensures own { IsFlusherOf stage.now self.new.flusher × IsSeatOf stage.now self.new.probe }
         ensures same { Each IsSameHeld sides.old.items sides.new.items }
         ensures truncated { IfOk result (λ round. Truncates D.Area stage.now.room self.old sides.old.items round self.new sides.new.items) }
@@ -52,8 +75,8 @@ impl<D: Area + Drop> LogSide<D> {
 impl<D: Area + Drop> Node<D> {
     /// Empties the log: it waits for the locks of all segments, ascending, and then for the log's, flushes, writes the dirty
     /// pages of the segments whose tokens are here, and resets the log. Answers the round that the log is in then: where it
-    /// has no record behind the flush, the present one. What was applied is folded into the segments' bytes. All memory is
-    /// taken before anything is changed.
+    /// has no record behind the flush, the present one. What was applied is folded into the segments' bytes. The records stay
+    /// published. All memory, for their words too, is taken before anything is changed.
     ///
     /// # Errors
     ///

@@ -1,4 +1,5 @@
 use Rattle.std.proofs.Common.{◌≡◌, ◌≤◌, ℕ, List, [], length, sym, ap, subst, ◌∙◌, arith, vec_capacity}
+use Rattle.std.specs.List.{concat}
 use Rattle.lc_stage.specs.declared.view.View.{View}
 use Rattle.lc_stage.specs.Staging.{flusher, open_count, AreRecords}
 use Rattle.lc_stage.specs.Seats.{flush_view}
@@ -24,6 +25,8 @@ invariant_of-fill g c =
       clear = ap (λ (v : View). v.ended_cleared) is ∙ sym (ap (λ (v : View). v.ended) is);
       uncleared = ap (λ (v : View). v.cleared) is;
       records = subst AreRecords (sym self.empty) no_records;
+      ended = self.none_ended ∙ ap (λ (v : View). concat v.past) (sym is);
+      ended_records = subst AreRecords (sym self.none_ended) no_records;
       published = (let p : (flush_view self.flusher).published ≡ 0 = ap (λ (v : View). v.published) is in omega (arith, p));
       clean = none_ended (λ (words : List ℕ). AreKnown words (known c.new-2.result)) (flush_view self.flusher).past (ap (λ (v : View). v.past) is);
       holds = (

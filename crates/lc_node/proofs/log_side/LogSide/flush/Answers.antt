@@ -1,4 +1,5 @@
-use Rattle.std.proofs.Common.{rules, ◌≡◌, ◌<◌, ◌++◌, ℕ, List, [], length, All, inr, refl, sym, ap, ◌∙◌, subst, arith}
+use Rattle.std.proofs.Common.{rules, ◌≡◌, ◌-◌, ◌<◌, ◌++◌, ℕ, List, take, drop, [], length, All, inr, refl, sym, ap, ◌∙◌, subst, arith}
+use Rattle.std.specs.List.{concat}
 use Rattle.lc_stage.specs.declared.view.View.{View}
 use Rattle.lc_stage.specs.Seats.{flush_view}
 use Rattle.lc_stage.specs.Staging.{AreRecords}
@@ -7,7 +8,13 @@ use Rattle.lc_stage.proofs.Flushed.{flush_holds}
 use Rattle.lc_trunc.specs.KnownClean.{known}
 use Rattle.lc_trunc.specs.Reset.{AreKnown}
 use Rattle.std.proofs.lemmas.List.{append-nil}
+use Rattle.lc_node.specs.Among.{AreInFront}
+use Rattle.lc_node.specs.Flushes.{Flushes}
+use Rattle.lc_node.specs.LogSide.{area_of, log_view}
+use Rattle.lc_node.specs.LogView.{LogView}
+use Rattle.lc_node.specs.declared.log_state.LogState.TheVariants.{Idle}
 use Rattle.lc_node.proofs.Fronts.{no_words}
+use Rattle.lc_node.proofs.Published.{flush_publishes, no_record_in_front, tail_is}
 use Rattle.lc_node.proofs.SideKeeps.{goes, steps_publishes, steps_takes, steps_twice}
 use Rattle.lc_node.proofs.FlushKeeps.{at_rest, takes_and_publishes, records_append}
 use Rattle.lc_node.proofs.log_side.LogSide.flush.Goals as goal
@@ -34,6 +41,8 @@ invariant_of-self-in-Ok g c = let v : View = flush_view c.self.inside.flusher in
       uncleared = same.same_cleared ∙ inv.uncleared;
       clean = subst (All (λ (words : List ℕ). AreKnown words (known c.self.inside.known))) (sym same.same_past) inv.clean;
       records = subst AreRecords (sym c.keep.ensures.words) (records_append _ _ inv.records c.take-words.ensures.records);
+      ended = inv.ended ∙ ap concat (sym same.same_past);
+      ended_records = inv.ended_records;
       published = (let a = same.published in let b = inv.at_round in let d : length c.keep.new.stable.items ≡ length z.taken = ap (λ (l : List ℕ). length l) all in omega arith);
       holds = (all, subst (λ (l : List ℕ). HoldsTaken g.D.Area c.in-Ok.log.area c.in-Ok.log.end l) (sym taken) (subst (λ (l : List ℕ). HoldsTaken g.D.Area c.in-Ok.log.area c.in-Ok.log.end l) (sym c.take-words.ensures.words) (flush_holds g.D.Area c.in-Idle.log.area c.in-Ok.log.area c.in-Idle.log.end c.in-Ok.log.end v.taken c.take-words.new.group.words held.1 c.take-words.ensures.records (omega (arith, c.take-words.ensures.len, c.if-words-eq0.false)) c.in-Ok.ensures.device c.in-Ok.ensures.end c.in-Ok.ensures.flushed)), (let fits = held.2 in let long = (c.in-Ok.ensures.device).same_length in let b = same.same_room in omega arith));
     }
@@ -50,6 +59,7 @@ invariant_of-self-then-words-eq0 g c = let v : View = flush_view c.self.inside.f
       idle_probe = inv.idle_probe;
       same_group = c.take-words.ensures.same.1;
       same_stable = refl;
+      same_ended = refl;
       same_round = refl;
       same_known = refl;
       steps = steps_twice v w z (steps_takes v w c.take-words.ensures.takes) (steps_publishes w z c.publish.ensures.published);
@@ -69,6 +79,7 @@ invariant_of-self-in-Err g c = let v : View = flush_view c.self.inside.flusher i
       idle_probe = inv.idle_probe;
       same_group = c.take-words.ensures.same.1;
       same_stable = refl;
+      same_ended = refl;
       same_round = refl;
       same_known = refl;
       steps = steps_takes v w c.take-words.ensures.takes;
@@ -78,3 +89,31 @@ invariant_of-self-in-Err g c = let v : View = flush_view c.self.inside.flusher i
 
 pub returns-in-Err-clause-refused : goal.returns-in-Err-clause-refused
 returns-in-Err-clause-refused g c = inr (refl, search rules)
+
+pub returns-in-Ok-clause-published : goal.returns-in-Ok-clause-published
+returns-in-Ok-clause-published g c = let words : List ℕ = c.take-words.new.group.words in
+    let behind : take (length c.deref.result.now - c.len-start.result) (drop c.len-start.result c.deref.result.now) ≡ words = tail_is c.deref.result.now c.self.inside.stable.items words c.len-start.result (c.deref.ensures.value ∙ c.keep.ensures.words) (search rules) in
+    let front : AreInFront words (length words) c.count_in_front-count.result = subst (λ (z : List ℕ × ℕ). AreInFront z.0 z.1 c.count_in_front-count.result) (λ k. (behind k, c.take-words.ensures.len k)) c.count_in_front-count.ensures in
+    flush_publishes (log_view g.D.Area c.self.inside) _ c.keep.new.stable.items words c.count_in_front-count.result c.self.view_is c.self.invariant.ended_records c.self.invariant.records front c.keep.ensures.words
+
+pub returns-then-words-eq0-clause-published : goal.returns-then-words-eq0-clause-published
+returns-then-words-eq0-clause-published g c =
+    flush_publishes (log_view g.D.Area c.self.inside) _ c.self.inside.stable.items [] 0 c.self.view_is c.self.invariant.ended_records c.self.invariant.records no_record_in_front (sym (append-nil c.self.inside.stable.items))
+
+pub returns-then-words-eq0-clause-flushed : goal.returns-then-words-eq0-clause-flushed
+returns-then-words-eq0-clause-flushed g c = let words : List ℕ = c.take-words.new.group.words in
+    let none : words ≡ [] = no_words words (sym c.take-words.ensures.len ∙ c.if-words-eq0.true) in
+    subst (λ (x : LogView g.row.D.Denot). Flushes c.args.stage.now.room x 0 (log_view g.D.Area (record c.self.inside { flusher = c.publish.new.flusher; log = Idle c.in-Idle.log; group = c.take-words.new.group }))) c.self.view_is (record {
+      words = words;
+      taking = flush_view c.take-words.new.flusher;
+      takes = c.take-words.ensures.takes;
+      taken = c.take-words.ensures.words;
+      ends = c.take-words.ensures.ends;
+      publishes = c.publish.ensures.published;
+      stable = sym (ap (λ (l : List ℕ). c.self.inside.stable.items ++ l) none ∙ append-nil c.self.inside.stable.items);
+      ended = refl;
+      ended_room = refl;
+      records = subst (λ (l : List ℕ). AreInFront l (length l) 0) (sym none) no_record_in_front;
+      serves = refl;
+      nothing = λ _. ap (area_of g.D.Area) (sym c.in-Idle.is ∙ c.replace.ensures.value);
+    })

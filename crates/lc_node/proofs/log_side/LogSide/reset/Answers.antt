@@ -1,7 +1,7 @@
 use Rattle.std.proofs.Common.{rules, ◌≡◌, Err, sym, ap, subst, ◌∙◌}
 use Rattle.std.specs.Prelude.{IfErr}
 use Rattle.lc_node.specs.Resets.{CanReset, FailsToBegin}
-use Rattle.lc_node.proofs.Unfit.{can_still, err_same, none_unclean, unclean_if, unclean_not_fault, unclean_not_lost}
+use Rattle.lc_node.proofs.Unfit.{can_still, room_still, err_same, none_unclean, unclean_if, unclean_not_fault, unclean_not_lost}
 use Rattle.lc_node.proofs.log_side.LogSide.reset.Goals as goal
 
 pub returns-in_err-is_due-clause-unclean : goal.returns-in_err-is_due-clause-unclean
@@ -25,6 +25,12 @@ pub begin_round-requires-clause-can : goal.begin_round-requires-clause-can
 begin_round-requires-clause-can g c =
     let can : CanReset c.args.self.now = search rules in
     can_still c.args.self.now c.seal.new.self can c.in_ok-seal.ensures.sealed
+
+pub begin_round-requires-clause-room : goal.begin_round-requires-clause-room
+begin_round-requires-clause-room g c = room_still c.args.self.now c.seal.new.self c.requires.room c.in_ok-seal.ensures.sealed
+
+pub returns-clause-published : goal.returns-clause-published
+returns-clause-published g c = c.begin_round.ensures.published ∙ c.seal.ensures.published
 
 pub returns-clause-unclean : goal.returns-clause-unclean
 returns-clause-unclean g c = λ segment seq.

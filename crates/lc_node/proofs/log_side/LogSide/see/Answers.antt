@@ -14,5 +14,7 @@ invariant_of-self g c = let inv = c.self.invariant in record {
   records = inv.records;
   published = inv.published;
   holds = inv.holds;
+  ended = inv.ended;
+  ended_records = inv.ended_records;
   clean = all-seen c.self.inside.known _ c.args.token.now _ c.see.ensures inv.clean;
 }

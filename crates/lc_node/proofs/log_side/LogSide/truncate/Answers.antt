@@ -1,46 +1,19 @@
-use Rattle.std.proofs.Common.{rules, ◌≡◌, List, refl, sym, subst, inl, inr}
-use Rattle.std.specs.Prelude.{Err, IfErr}
-use Rattle.lc_node.specs.LogView.{LogView}
-use Rattle.lc_node.specs.Resets.{Empties, IsUnemptied}
-use Rattle.lc_node.specs.Truncates.{IsUntruncated, SeesSides, Truncates}
-use Rattle.lc_node.specs.declared.held.HeldSide.{HeldSide}
+use Rattle.std.proofs.Common.{inr}
+use Rattle.lc_node.specs.Truncates.{IsUntruncated, IsUntruncatedInRoom, Truncates, TruncatesInRoom}
 use Rattle.lc_node.proofs.PagesWritten.{if_ok, if_err}
 use Rattle.lc_node.proofs.log_side.LogSide.truncate.Goals as goal
 
-pub returns-in_err-write_all-clause-refused : goal.returns-in_err-write_all-clause-refused
-returns-in_err-write_all-clause-refused g c =
-    let is : c.from_residual-in_err-write_all.result ≡ Err c.in_err-write_all.field-0.0 = search rules in
-    subst (λ r. IfErr r (λ fault. IsUntruncated g.D.Area c.args.stage.now.room c.args.self.now c.args.sides.now.items fault c.flush.new.self c.write_all.new.sides.items)) (sym is)
-    (inr (inr (c.in_ok-flush.field-0, c.flush.new.self, c.in_ok-flush.ensures.flushed, inl (c.in_err-write_all.ensures.failed, refl))))
-
 pub returns-clause-truncated : goal.returns-clause-truncated
 returns-clause-truncated g c =
-    let sees : SeesSides c.flush.new.self.known c.write_all.new.sides.items c.see_all.new.self.known = subst (λ (l : List (HeldSide _)). SeesSides c.flush.new.self.known l c.see_all.new.self.known) c.as_slice.ensures.value c.see_all.ensures.sees in
-    if_ok c.reset.result (λ round. Empties c.see_all.new.self round c.reset.new.self)
-    (λ round. Truncates g.D.Area c.args.stage.now.room c.args.self.now c.args.sides.now.items round c.reset.new.self c.write_all.new.sides.items)
-    (λ round empties. record {
-      count = c.in_ok-flush.field-0;
-      flushed = c.flush.new.self;
-      flushes = c.in_ok-flush.ensures.flushed;
-      written = c.in_ok-write_all.ensures.written;
-      known = c.see_all.new.self.known;
-      sees = sees;
-      empties = subst (λ (v : LogView _). Empties v round c.reset.new.self) c.see_all.ensures.same empties;
-    }) c.reset.ensures.emptied
+    if_ok c.empty.result (λ round. Truncates g.D.Area c.args.stage.now.room c.make_room.new.self c.args.sides.now.items round c.empty.new.self c.empty.new.sides.items)
+    (λ round. TruncatesInRoom g.D.Area c.args.stage.now.room c.args.self.now c.args.sides.now.items round c.empty.new.self c.empty.new.sides.items)
+    (λ round truncates. (c.make_room.new.self, c.in-Ok.ensures.made, truncates)) c.empty.ensures.truncated
 
 pub returns-clause-refused : goal.returns-clause-refused
 returns-clause-refused g c =
-    let sees : SeesSides c.flush.new.self.known c.write_all.new.sides.items c.see_all.new.self.known = subst (λ (l : List (HeldSide _)). SeesSides c.flush.new.self.known l c.see_all.new.self.known) c.as_slice.ensures.value c.see_all.ensures.sees in
-    if_err c.reset.result (λ fault. IsUnemptied c.see_all.new.self fault c.reset.new.self)
-    (λ fault. IsUntruncated g.D.Area c.args.stage.now.room c.args.self.now c.args.sides.now.items fault c.reset.new.self c.write_all.new.sides.items)
-    (λ fault why. inr (inr (
-      c.in_ok-flush.field-0,
-      c.flush.new.self,
-      c.in_ok-flush.ensures.flushed,
-      inr (
-        c.see_all.new.self.known,
-        c.in_ok-write_all.ensures.written,
-        sees,
-        subst (λ (v : LogView _). IsUnemptied v fault c.reset.new.self) c.see_all.ensures.same why,
-      ),
-    ))) c.reset.ensures.refused
+    if_err c.empty.result (λ fault. IsUntruncated g.D.Area c.args.stage.now.room c.make_room.new.self c.args.sides.now.items fault c.empty.new.self c.empty.new.sides.items)
+    (λ fault. IsUntruncatedInRoom g.D.Area c.args.stage.now.room c.args.self.now c.args.sides.now.items fault c.empty.new.self c.empty.new.sides.items)
+    (λ fault why. inr (c.make_room.new.self, c.in-Ok.ensures.made, why)) c.empty.ensures.refused
+
+pub empty-requires-clause-ended : goal.empty-requires-clause-ended
+empty-requires-clause-ended g c = c.in-Ok.ensures.made.0

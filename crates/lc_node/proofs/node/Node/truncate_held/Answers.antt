@@ -1,6 +1,6 @@
 use Rattle.std.proofs.Common.{All, subst, arith}
 use Rattle.std.specs.VecDeque.{deque_capacity}
-use Rattle.lc_node.specs.Truncates.{HasPagesIn, IsOfTruncation, IsUntruncated}
+use Rattle.lc_node.specs.Truncates.{HasPagesIn, IsOfTruncation, IsUntruncatedInRoom}
 use Rattle.lc_node.proofs.PagesWritten.{if_err, of_truncation, still_held, more_places}
 use Rattle.lc_node.proofs.node.Node.truncate_held.Goals as goal
 
@@ -12,5 +12,5 @@ pub returns-clause-held : goal.returns-clause-held
 returns-clause-held g c = still_held c.args.self.now c.args.held.now.sides.items c.truncate-truncated.new.sides.items c.truncate-truncated.ensures.same c.requires.held
 
 pub returns-clause-refused : goal.returns-clause-refused
-returns-clause-refused g c = if_err c.truncate-truncated.result (λ fault. IsUntruncated g.D.Area c.args.self.now.stage.room c.lock-log.result.0 c.args.held.now.sides.items fault c.truncate-truncated.new.self c.truncate-truncated.new.sides.items) IsOfTruncation
+returns-clause-refused g c = if_err c.truncate-truncated.result (λ fault. IsUntruncatedInRoom g.D.Area c.args.self.now.stage.room c.lock-log.result.0 c.args.held.now.sides.items fault c.truncate-truncated.new.self c.truncate-truncated.new.sides.items) IsOfTruncation
     (λ fault why. of_truncation g.D.Area c.args.self.now.stage.room c.lock-log.result.0 c.truncate-truncated.new.self c.args.held.now.sides.items c.truncate-truncated.new.sides.items fault why) c.truncate-truncated.ensures.refused

@@ -1,0 +1,42 @@
+//! The words of the rounds that have ended.
+ghost use Rattle.std.specs.Prelude.{◌≡◌, ◌+◌, ◌≤◌, ◌++◌, length, vec_len, vec_capacity, OnOk, OnErr};
+ghost use Rattle.lc_stage.specs.Seats.{IsFlusherOf};
+ghost use Rattle.lc_node.specs.Ended.{LacksRoom, MakesRoom};
+
+use crate::LogSide;
+use lc_disk::Area;
+use lc_stage::Stage;
+use std::alloc::AllocError;
+
+impl<D: Area + Drop> LogSide<D> {
+    /// Makes room for the words of the log's round behind those of the rounds before, so that a reset can move them there:
+    /// for as many as the log has, since a flush may still add some. It asks for memory exactly where there is less room, and
+    /// then for more the more there is already, so that over many rounds each word is moved a few times at most. The stage is
+    /// that of the log.
+    ///
+    /// # Errors
+    ///
+    /// `AllocError` where memory is wanted. Nothing has changed.
+    pub fn make_room(&mut self, stage: &Stage) -> Result<(), AllocError>
+        requires own { IsFlusherOf stage.now self.old.flusher }
+        ensures made { OnOk result (MakesRoom self.old self.new) }
+        ensures refused { OnErr result (LacksRoom self.old self.new) }
+    {
+        let words = stage.words() as usize;
+        if words <= self.ended.capacity() - self.ended.len() {
+            return Ok(());
+        }
+        self.ended.reserve(words)
+    }
+}
+
+// Adds words at the end, for which there is room.
+pub(crate) fn extend(ended: &mut Vec<u64>, words: &[u64])
+    requires { vec_len ended.old + length words.now ≤ vec_capacity ended.old }
+    ensures words { ended.new.items ≡ ended.old.items ++ words.now }
+    ensures room { vec_capacity ended.new ≡ vec_capacity ended.old }
+{
+    for index in 0..words.len() {
+        ended.push_reserved(words[index]);
+    }
+}
