@@ -6,7 +6,7 @@ ghost use Rattle.lc_stage.specs.Staging.{IsOneRecord, newcomer};
 ghost use Rattle.lc_stage.specs.Seats.{commit_view, IsSeatOf, IsIdle};
 ghost use Rattle.lc_node.specs.Receipts.{HasReceipt};
 
-use crate::{Confirmed, Gate, Node, NodeFault, stage_record};
+use crate::{Confirmed, Gate, LogSide, Node, NodeFault, stage_record};
 use lc_disk::{Area, MemArea};
 use lc_page::{PageText, PageVector};
 use lc_record::{Geometry, Items, Lock, RangeData, Record, encode};
@@ -102,13 +102,37 @@ fn ask<D: Area + Drop, R: Wait>(
     (seat, confirmed)
 }
 
-// The log is reset.
+// The log is reset, behind room for the words of its round.
 fn reset<D: Area + Drop, R: Wait>(rt: &R, node: &Node<D>) -> Result<u64, NodeFault> {
     let lock = node.log_lock();
     let (mut log, loan) = lock.lock(rt);
-    let round = log.reset(&node.stage);
+    let round = match log.make_room(&node.stage) {
+        Ok(()) => log.reset(&node.stage),
+        Err(_) => Err(NodeFault::NoMemory),
+    };
     lock.unlock(log, loan);
     round
+}
+
+// How many words the first two published records have.
+fn first_two<D: Area + Drop>(log: &LogSide<D>) -> (usize, usize) {
+    let first = match log.record_at(0) {
+        Some(words) => words.len(),
+        None => return (0, 0),
+    };
+    match log.record_at(first) {
+        Some(words) => (first, words.len()),
+        None => (first, 0),
+    }
+}
+
+// The same of a node.
+fn published<D: Area + Drop, R: Wait>(rt: &R, node: &Node<D>) -> (usize, usize) {
+    let lock = node.log_lock();
+    let (log, loan) = lock.lock(rt);
+    let lengths = first_two(&log);
+    lock.unlock(log, loan);
+    lengths
 }
 
 // The log is told of a token of segment 1 whose pages have all up to this number.
@@ -165,6 +189,7 @@ fn here_and_then_earlier(rt: HostRuntime) -> Result<(), Fail> {
     let (node, mut seat) = opened(alloc)?;
     let words = words_of(alloc, 1)?.expect(&rt, "a record");
     assert!(rt; reset(&rt, &node) == Ok(0), "nothing is stable");
+    assert!(rt; published(&rt, &node) == (0, 0));
     let receipt = commit(&rt, &node, &mut seat, words.as_slice()).expect(&rt, "a receipt");
     assert!(rt; receipt.round() == 0 && receipt.place() == 0 && receipt.words() == 8);
     let (seat, confirmed) = ask(&rt, &node, seat, receipt);
@@ -186,6 +211,10 @@ fn here_and_then_earlier(rt: HostRuntime) -> Result<(), Fail> {
     assert!(rt;
         confirmed == Confirmed::Here(0),
         "it stands in the other row"
+    );
+    assert!(rt;
+        published(&rt, &node) == (8, 8),
+        "one stands in front of the reset"
     );
 
     let words = words_of(alloc, 3)?.expect(&rt, "a record");
