@@ -48,7 +48,9 @@ pub use confirming::Confirmed;
 pub use gate::Gate;
 pub use get::Get;
 pub use held::Held;
-pub use laws::{work_is_laid_over, works_nothing, works_range, works_then, works_write};
+pub use laws::{
+    starts_stay, work_is_laid_over, works_nothing, works_range, works_then, works_write,
+};
 pub use log_side::LogSide;
 pub use node::Node;
 pub use node_fault::NodeFault;
