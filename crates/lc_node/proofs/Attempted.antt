@@ -19,7 +19,7 @@ none_in n [] ys e f = f
 none_in n (x ∷ xs) ys e f = or_from (eqb x n) (is_member n (xs ++ ys)) (false_from_ne_true (eqb x n) (λ is. false≢true (sym e ∙ ap (λ (b : Bool). b || is_member n xs) is)))
     (none_in n xs ys (false_from_ne_true (is_member n xs) (λ is. false≢true (sym e ∙ (elim (cases_Bool (eqb x n)) [ inl y ↦ ap (λ (b : Bool). b || is_member n xs) y | inr z ↦ ap (λ (b : Bool). b || is_member n xs) z ∙ is ])))) f)
 
-in_front : (n : ℕ) (xs ys : List ℕ) → is_member n xs ≡ true → is_member n (xs ++ ys) ≡ true
+pub in_front : (n : ℕ) (xs ys : List ℕ) → is_member n xs ≡ true → is_member n (xs ++ ys) ≡ true
 in_front n [] ys e = absurd (false≢true e)
 in_front n (x ∷ xs) ys e = elim (cases_Bool (eqb x n)) [
   | inl y ↦ ap (λ (b : Bool). b || is_member n (xs ++ ys)) y

@@ -1,22 +1,29 @@
 -- The ways of a commit: its images go out of sides with more room, and come back.
-use Rattle.std.proofs.Common.{◌≡◌, ◌∙◌, ℕ, ◌<◌, List, map, All, sym, subst}
-use Rattle.std.specs.Prelude.{Option}
+use Rattle.std.proofs.Common.{◌≡◌, ◌∙◌, ℕ, ◌<◌, List, map, All, inr, sym, subst}
+use Rattle.std.specs.Prelude.{Option, Result}
 use Rattle.lc_record.specs.Record.{Chain, IsRecord}
 use Rattle.lc_record.specs.declared.part.Part.{Part}
 use Rattle.lc_record.specs.declared.record.Record.{Record}
 use Rattle.lc_stage.specs.declared.view.View.{View}
+use Rattle.lc_tx.specs.declared.tx_fault.TxFault.{TxFault}
+use Rattle.lc_tx.specs.Images.{bytes_of}
 use Rattle.lc_tx.specs.Prepared.{AreSmall}
-use Rattle.lc_node.specs.Attempts.{IsUndone}
-use Rattle.lc_node.specs.Commits.{IsAsBefore, IsKept, IsKeptTidy, StagesWork, TakesOf}
+use Rattle.lc_node.specs.Attempts.{IsUnbegun, IsUndone}
+use Rattle.lc_node.specs.Commits.{IsAsBefore, IsKept, IsKeptTidy, IsUnbegunOn, IsUncommitted, IsUnstaged, StagesWork, TakesOf, bytes_at}
 use Rattle.lc_node.specs.Each.{Each, EachThree}
 use Rattle.lc_node.specs.Held.{lent_side}
 use Rattle.lc_node.specs.Lent.{the_images}
+use Rattle.lc_node.specs.Ran.{AgreeOn, Ran, Tells}
 use Rattle.lc_node.specs.Stages.{Closes}
 use Rattle.lc_node.specs.Sides.{IsOut, IsReady, IsBack, CanCount, IsCounted, IsRoomier, HasFewParts, HasRoomFor}
 use Rattle.lc_node.specs.declared.held.HeldSide.{HeldSide}
 use Rattle.lc_node.specs.declared.lent.Lent.{Lent}
+use Rattle.lc_node.specs.declared.lent.LentSlot.{LentSlot}
+use Rattle.lc_node.specs.declared.node_fault.NodeFault.{NodeFault}
 use Rattle.lc_node.proofs.CommitKeeps.{are_small, ready_undone, back_undone, can_count, ready_counted, takes_parts}
-use Rattle.lc_node.proofs.Slots.{AscendFrom, ascend_from}
+use Rattle.lc_node.proofs.Runs.{ran_as, unstaged_as}
+use Rattle.lc_node.proofs.SideBytes.{back_bytes, out_bytes, out_unbegun}
+use Rattle.lc_node.proofs.Slots.{AscendFrom, ascend_from, each_map, segments_in}
 use Rattle.lc_node.proofs.Standing.{kept_of_roomier, tidy_of_roomier, takes_of_roomier, segments_roomier}
 
 module _ {D : Type 0} (xs ys zs : List (HeldSide D)) (lent : Lent) (segments : List ℕ)
@@ -30,6 +37,30 @@ module _ {D : Type 0} (xs ys zs : List (HeldSide D)) (lent : Lent) (segments : L
 
   pub small : AreSmall the_images lent segments
   small = subst (λ (l : List ℕ). AreSmall the_images lent l) (sym again) (are_small ys lent out ascend)
+
+  -- What is out shows what the sides showed, and what comes back is what they show then
+
+  old_agree : AgreeOn segments (bytes_of the_images lent) (bytes_at xs)
+  old_agree = subst (λ (l : List ℕ). AgreeOn l (bytes_of the_images lent) (bytes_at xs)) (sym again) (out_bytes xs ys lent more out ascend)
+
+  slots_are : map (λ (h : HeldSide D). h.side.segment) xs ≡ segments_in lent.slots.items
+  slots_are = sym (segments_roomier xs ys more) ∙ sym (each_map IsOut (λ (h : HeldSide D). h.side.segment) (λ (s : LentSlot). s.segment) ys lent.slots.items out (λ h s is. is.segment))
+
+  pub ran_of : {tells : Tells} (answer : Result (Unit {0}) TxFault) (new : Lent) → the_images.IsSameBeside lent new → (cs last : List (HeldSide D)) → EachThree IsBack cs new.slots.items last
+      → map (λ (h : HeldSide D). h.side.segment) last ≡ map (λ (h : HeldSide D). h.side.segment) xs → Ran tells segments (bytes_of the_images lent) answer (bytes_of the_images new)
+      → Ran tells (map (λ (h : HeldSide D). h.side.segment) xs) (bytes_at xs) answer (bytes_at last)
+  ran_of {tells} answer new beside cs last back of ran =
+      let up_last : AscendFrom 0 (map (λ (h : HeldSide D). h.side.segment) last) = subst (AscendFrom 0) (sym of) (ascend_from (map (λ (h : HeldSide D). h.side.segment) xs) up) in
+      let new_agree : AgreeOn segments (bytes_of the_images new) (bytes_at last) = subst (λ (l : List ℕ). AgreeOn l (bytes_of the_images new) (bytes_at last)) (of ∙ sym same) (back_bytes cs last lent new beside back (of ∙ slots_are) up_last) in
+      subst (λ (l : List ℕ). Ran tells l (bytes_at xs) answer (bytes_at last)) same (ran_as tells segments answer (bytes_of the_images lent) (bytes_of the_images new) (bytes_at xs) (bytes_at last) old_agree new_agree ran)
+
+  pub why_of : {tells : Tells} (room seen : ℕ) (fault : NodeFault) → IsUnstaged tells (IsUnbegun the_images lent segments) segments (bytes_of the_images lent) room seen fault
+      → IsUncommitted tells (IsUnbegunOn (map (λ (h : HeldSide D). h.side.segment) xs) xs) (map (λ (h : HeldSide D). h.side.segment) xs) (bytes_at xs) room seen fault
+  why_of {tells} room seen fault why =
+      let unbegun : (f : TxFault) → IsUnbegun the_images lent segments f → IsUnbegunOn segments xs f =
+      λ f u. subst (λ (l : List ℕ). IsUnbegunOn l xs f) (sym again) (out_unbegun xs ys lent more out ascend f (subst (λ (l : List ℕ). IsUnbegun the_images lent l f) again u)) in
+      inr (subst (λ (l : List ℕ). IsUnstaged tells (IsUnbegunOn l xs) l (bytes_at xs) room seen fault) same
+      (unstaged_as tells (IsUnbegun the_images lent segments) (IsUnbegunOn segments xs) segments (bytes_of the_images lent) (bytes_at xs) room seen fault unbegun old_agree why))
 
   -- The work was undone, or set nothing
 

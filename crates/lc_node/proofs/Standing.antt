@@ -20,7 +20,7 @@ use Rattle.lc_node.proofs.Backwards.{some_same}
 module _ {D : Type 0} where
   -- Parts are folded, and there is more room
 
-  roomier_segment : (h x : HeldSide D) → IsRoomier h x → x.side.segment ≡ h.side.segment
+  pub roomier_segment : (h x : HeldSide D) → IsRoomier h x → x.side.segment ≡ h.side.segment
   roomier_segment h x (inl is) = ap (λ (y : HeldSide D). y.side.segment) is
   roomier_segment h x (inr is) = ap (λ (y : HeldSide D). y.side.segment) is.1
 
@@ -28,7 +28,7 @@ module _ {D : Type 0} where
   roomier_loan h x (inl is) = ap (λ (y : HeldSide D). y.loan) is
   roomier_loan h x (inr is) = ap (λ (y : HeldSide D). y.loan) is.1
 
-  roomier_image : (h x : HeldSide D) → IsRoomier h x → x.side.image ≡ h.side.image
+  pub roomier_image : (h x : HeldSide D) → IsRoomier h x → x.side.image ≡ h.side.image
   roomier_image h x (inl is) = ap (λ (y : HeldSide D). y.side.image) is
   roomier_image h x (inr is) = ap (λ (y : HeldSide D). y.side.image) is.1
 
@@ -108,7 +108,7 @@ module _ {D : Type 0} where
   pub segments_kept : (xs ys : List (HeldSide D)) → Each IsKept xs ys → map (λ (h : HeldSide D). h.side.segment) ys ≡ map (λ (h : HeldSide D). h.side.segment) xs
   segments_kept xs ys e = each_map IsKept (λ (h : HeldSide D). h.side.segment) (λ (h : HeldSide D). h.side.segment) xs ys e (λ h g b. ap (λ (y : HeldSide D). y.side.segment) b.2.same ∙ roomier_segment h b.0 b.1)
 
-  takes_segment : (o : Option Part) (h g : HeldSide D) → TakesPart o h g → g.side.segment ≡ h.side.segment
+  pub takes_segment : (o : Option Part) (h g : HeldSide D) → TakesPart o h g → g.side.segment ≡ h.side.segment
   takes_segment None h g b = ap (λ (y : HeldSide D). y.side.segment) b.same
   takes_segment (Some part) h g t = ap (λ (y : HeldSide D). y.side.segment) t.is
 

@@ -21,7 +21,7 @@ none_is_none o none some = true≢false (sym (subst (λ (x : Option ℕ). IsSome
 
 module _ {I : Type 0} (m : Ghosts I) where
   -- where all images are the same, only the transaction may have changed
-  image_same : (old new : I) (tx : Tx) → RunsOn m old tx → IsSame m old new → (s : ℕ) → Locked tx s → m.image_of new s ≡ m.image_of old s
+  pub image_same : (old new : I) (tx : Tx) → RunsOn m old tx → IsSame m old new → (s : ℕ) → Locked tx s → m.image_of new s ≡ m.image_of old s
   image_same old new tx on same s lock = same.others s (on.here s lock) refl
 
   -- fewer segments have changed than these

@@ -6,6 +6,7 @@ pub mod Ended
 pub mod Fault
 pub mod Flushes
 pub mod Fresh
+pub mod Get
 pub mod Growing
 pub mod Held
 pub mod Laid
@@ -14,6 +15,8 @@ pub mod LogSide
 pub mod LogView
 pub mod Pages
 pub mod Published
+pub mod Put
+pub mod Ran
 pub mod Receipts
 pub mod Resets
 pub mod Rooms

@@ -1,5 +1,5 @@
 //! A work that gets bytes of a segment.
-ghost use Rattle.std.specs.Prelude.{◌≡◌, length, OnOk, OnErr};
+ghost use Rattle.lc_node.specs.Get.{Gets};
 
 use crate::Work;
 use lc_tx::{Images, Tx, TxFault};
@@ -15,7 +15,7 @@ pub struct Get {
 }
 
 impl Work for Get {
-    ghost ran = { λ old answer new. (new ≡ record old { found = new.found }) × OnOk answer (length new.found.items ≡ old.len) × OnErr answer (new ≡ old) };
+    ghost ran = { Gets };
 
     /// # Errors
     ///

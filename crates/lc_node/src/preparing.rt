@@ -1,14 +1,16 @@
 //! What a commit makes ready before its record is reserved.
-ghost use Rattle.std.specs.Prelude.{◌≡◌, ◌≤◌, ◌<◌, ℕ, map, length, None, Some, Ok, IfOk, IfErr, IfSome, OnOk};
+ghost use Rattle.std.specs.Prelude.{◌≡◌, ◌≤◌, ◌<◌, ℕ, map, length, None, Some, Ok, IfOk, IfErr, IfSome, OnErr, OnOk};
 ghost use Rattle.lc_record.specs.declared.record.Record.{Record as Spelled};
 ghost use Rattle.lc_record.specs.Record.{IsRecord};
 ghost use Rattle.lc_record.specs.Part.{part_of};
 ghost use Rattle.lc_stage.specs.Staging.{IsOneRecord};
 ghost use Rattle.lc_stage.specs.Seats.{commit_view, IsSeatOf, IsIdle};
+ghost use Rattle.lc_tx.specs.Images.{bytes_of};
 ghost use Rattle.lc_tx.specs.Prepared.{AreSmall};
 ghost use Rattle.lc_node.specs.Lent.{the_images};
-ghost use Rattle.lc_node.specs.Attempts.{IsUndone};
-ghost use Rattle.lc_node.specs.Commits.{IsUncommitted, StagesWork};
+ghost use Rattle.lc_node.specs.Attempts.{IsUnbegun, IsUndone};
+ghost use Rattle.lc_node.specs.Commits.{IsUnstaged, StagesWork};
+ghost use Rattle.lc_node.specs.Ran.{Ran};
 ghost use Rattle.lc_node.specs.Stages.{Sees};
 
 use crate::attempting::attempt;
@@ -26,7 +28,8 @@ pub(crate) fn segments_in<D: Area + Drop>(
     alloc: Global,
     sides: &[HeldSide<D>],
 ) -> Result<Vec<u32>, AllocError>
-    ensures { IfOk result (λ segments. segments.items ≡ map (λ h. h.side.segment) sides.now) }
+    ensures segments { IfOk result (λ segments. segments.items ≡ map (λ h. h.side.segment) sides.now) }
+    ensures no_memory { OnErr result (0 < length sides.now) }
 {
     let mut segments = Vec::with_capacity(alloc, sides.len())?;
     for held in sides {
@@ -70,9 +73,10 @@ pub(crate) fn stage_work<W: Work, G: Gate>(
     ensures own { IsSeatOf stage.now seat.new }
     ensures idle { IsIdle (commit_view seat.new) }
     ensures staged { IfOk result (λ done. IfSome done (λ parts. StagesWork segments.now lent.old parts.items lent.new (commit_view seat.old) (commit_view seat.new))) }
-    ensures ran { OnOk result (W.ran work.old (Ok tt) work.new) }
+    ensures ran { OnOk result (Ran (W.ran work.old work.new) segments.now (bytes_of the_images lent.old) (Ok tt) (bytes_of the_images lent.new)) }
     ensures nothing { result ≡ Ok None → (commit_view seat.new ≡ commit_view seat.old) × IsUndone the_images segments.now lent.old lent.new }
-    ensures why { IfErr result (λ fault. IsUncommitted (λ answer. W.ran work.old answer work.new) stage.now.room (commit_view seat.new).seen fault) }
+    ensures why { IfErr result (λ fault. IsUnstaged (W.ran work.old work.new) (IsUnbegun the_images lent.old segments.now) segments.now
+        (bytes_of the_images lent.old) stage.now.room (commit_view seat.new).seen fault) }
     ensures refused { IfErr result (λ _. Sees (commit_view seat.old) (commit_view seat.new) × IsUndone the_images segments.now lent.old lent.new) }
 {
     let (tx, prepared) = match attempt(alloc, lent, segments, work) {

@@ -1,5 +1,6 @@
 //! A work that puts bytes into a segment.
 ghost use Rattle.std.specs.Prelude.{◌≡◌};
+ghost use Rattle.lc_node.specs.Put.{Puts};
 
 use crate::Work;
 use lc_tx::{Images, Tx, TxFault};
@@ -14,7 +15,7 @@ pub struct Put<'a> {
 }
 
 impl Work for Put<'_> {
-    ghost ran = { λ old answer new. new ≡ old };
+    ghost ran = { λ old new locked before answer after. (new ≡ old) × Puts old locked before answer after };
 
     /// # Errors
     ///

@@ -1,13 +1,14 @@
 //! A whole transaction on a running node.
-ghost use Rattle.std.specs.Prelude.{◌≡◌, ◌⊎◌, ◌<◌, ℕ, Ok, IfErr, OnOk};
+ghost use Rattle.std.specs.Prelude.{◌≡◌, ◌⊎◌, ◌<◌, ℕ, length, Ok, IfErr};
 ghost use Rattle.lc_stage.specs.declared.receipt.Receipt.{Receipt as Given};
 ghost use Rattle.lc_stage.specs.declared.view.View.{View};
 ghost use Rattle.lc_stage.specs.Seats.{commit_view, IsSeatOf, IsIdle};
 ghost use Rattle.lc_node.specs.Receipts.{HasReceipt, IsOfDevice, Learns, Receives};
-ghost use Rattle.lc_node.specs.Stages.{ClosesOne, Sees};
-ghost use Rattle.lc_node.specs.Commits.{IsUncommitted};
+ghost use Rattle.lc_node.specs.Stages.{Sees};
+ghost use Rattle.lc_node.specs.Commits.{ClosesWork, IsUnbegunAmong, IsUncommitted};
+ghost use Rattle.lc_node.specs.Ran.{Bytes, Ran};
 ghost use Rattle.lc_node.specs.Held.{IsFirstOutside};
-ghost use Rattle.lc_node.specs.declared.node_fault.NodeFault.TheVariants.{NotHere};
+ghost use Rattle.lc_node.specs.declared.node_fault.NodeFault.TheVariants.{NotHere, NoMemory};
 ghost use Rattle.lc_node.specs.declared.commit_kind.Commit.TheVariants.{Empty, Lazy, Flushed};
 
 use crate::{Commit, Gate, Mode, Node, NodeFault, Work};
@@ -24,8 +25,7 @@ impl<D: Area + Drop> Node<D> {
     ///
     /// # Errors
     ///
-    /// Those of `hold` and of the work, and those of the record's end: then the work is undone, and the seat has at most
-    /// seen a tail. `DeviceFault` and `Halted` where the flush fails: the record stays closed, and what becomes of it a
+    /// Those of `hold`, of the work, and of the record's end: then the work is undone, and the seat has at most seen a tail. `DeviceFault` and `Halted` where the flush fails: the record stays closed, and what becomes of it a
     /// recovery decides.
     pub fn transact<R: Wait, W: Work, G: Gate>(
         &self,
@@ -43,16 +43,17 @@ impl<D: Area + Drop> Node<D> {
         requires tries { 0 < tries }
         ensures own { IsSeatOf self.now.stage result.0 }
         ensures idle { IsIdle (commit_view result.0) }
-        ensures ran { OnOk result.1 (W.ran work.old (Ok tt) work.new) }
-        ensures empty { result.1 ≡ Ok Empty → commit_view result.0 ≡ commit_view seat }
-        ensures lazy { result.1 ≡ Ok Lazy → ClosesOne (commit_view seat) (commit_view result.0) }
+        ensures empty { result.1 ≡ Ok Empty → (commit_view result.0 ≡ commit_view seat)
+            × ((same : Bytes) × Ran (W.ran work.old work.new) segments.now same (Ok tt) same) }
+        ensures lazy { result.1 ≡ Ok Lazy → ClosesWork (W.ran work.old work.new) segments.now (commit_view seat) (commit_view result.0) }
         ensures flushed { (receipt : Given) → result.1 ≡ Ok (Flushed receipt)
-            → (w : View) × ClosesOne (commit_view seat) w × Receives w receipt (commit_view result.0) }
+            → (w : View) × ClosesWork (W.ran work.old work.new) segments.now (commit_view seat) w × Receives w receipt (commit_view result.0) }
         ensures received { (receipt : Given) → result.1 ≡ Ok (Flushed receipt) → HasReceipt (commit_view result.0) receipt }
         ensures refused { IfErr result.1 (λ fault. (Sees (commit_view seat) (commit_view result.0)
             × (((s : ℕ) × (fault ≡ NotHere s) × IsFirstOutside self.now segments.now s)
-            ⊎ IsUncommitted (λ answer. W.ran work.old answer work.new) self.now.stage.room (commit_view result.0).seen fault))
-            ⊎ (IsOfDevice fault × ((w : View) × ClosesOne (commit_view seat) w × Learns w (commit_view result.0)))) }
+            ⊎ (((fault ≡ NoMemory) × (0 < length self.now.segments.items))
+            ⊎ ((old : Bytes) × IsUncommitted (W.ran work.old work.new) (IsUnbegunAmong segments.now) segments.now old self.now.stage.room (commit_view result.0).seen fault))))
+            ⊎ (IsOfDevice fault × ((w : View) × ClosesWork (W.ran work.old work.new) segments.now (commit_view seat) w × Learns w (commit_view result.0)))) }
     {
         let mut seat = seat;
         let mut held = match self.hold(rt, alloc, segments) {
