@@ -1,8 +1,8 @@
 -- What becomes of a transaction that is to get its place in the log.
-use Rattle.std.specs.Prelude.{◌≡◌, ℕ, ◌+◌, ◌≤◌, false, nat_lt, List, length, Some}
+use Rattle.std.specs.Prelude.{◌≡◌, ℕ, ◌+◌, ◌<◌, ◌≤◌, false, nat_lt, List, length, slice_get, vec_capacity, Some}
 use Rattle.std.specs.Option.{ForSome}
 use Rattle.lc_record.specs.Marks.{is_empty}
-use Rattle.lc_record.specs.Record.{IsRecord}
+use Rattle.lc_record.specs.Record.{record_len, IsRecord}
 use Rattle.lc_record.specs.Transaction.{Transaction}
 use Rattle.lc_model.specs.Machine.{Row, dropped}
 use Rattle.lc_model.specs.Sound.{Sound}
@@ -10,10 +10,13 @@ use Rattle.lc_model.specs.State.{Setting, State, running_of}
 use Rattle.lc_model.specs.declared.event.Event.TheVariants.{Reserve}
 use Rattle.lc_model.specs.declared.reply.Reply.TheVariants.{Reserved, Ended, Refused}
 use Rattle.lc_tx.specs.Images.{IsHere}
+use Rattle.lc_tx.specs.Prepared.{final_record}
+use Rattle.lc_tx.specs.declared.tx.Tx.{Tx}
 use Rattle.lc_core.specs.Desk.{FitsDesk}
 use Rattle.lc_core.specs.FollowsDesk.{StillFits}
 use Rattle.lc_core.specs.Here.{the_images}
 use Rattle.lc_core.specs.Numbers.{Numbers, token_number, next_record, log_end}
+use Rattle.lc_core.specs.Seat.{Open}
 use Rattle.lc_core.specs.Settled.{reserve_answer, reserve_open}
 use Rattle.lc_core.specs.declared.desk.Desk.{Desk}
 use Rattle.lc_core.specs.declared.ending.Ending.{Ending}
@@ -84,3 +87,8 @@ abbrev pub WantsRecord : ℕ → ℕ → LogEnd → Desk → Type 0
 WantsRecord node thread log old =
     (m : Setting) (s : State) (x : Numbers) → Sound m.geometry s → FitsDesk m node old.here old.seats.items s → FitsNumbers old.here s x
     → EndsAt m node s x log → GetsPlace m node thread s x log.end
+
+-- the desk's memory has no room for the record of the thread's open transaction
+abbrev pub IsShort : ℕ → ℕ → Desk → Type 0
+IsShort node thread old =
+    (tx : Tx) → slice_get old.seats.items thread ≡ Some (Open tx) → vec_capacity old.memory < record_len (final_record the_images old.here tx node)

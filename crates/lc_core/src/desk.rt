@@ -17,6 +17,8 @@ use std::alloc::{AllocError, Global};
 pub(crate) struct Desk {
     pub(crate) here: Here,
     pub(crate) seats: Vec<Seat>,
+    // Where the words of the next record are spelled: the memory of one before.
+    pub(crate) memory: Vec<u64>,
     ghost runs: { AllRun here seats.items },
     ghost few: { vec_len seats ≤ 16 },
     ghost few_slots: { vec_len here.slots ≤ 16 },
@@ -42,7 +44,11 @@ impl Desk {
         for _ in 0..threads {
             seats.push(Seat::new(alloc))?;
         }
-        Ok(Desk { here, seats })
+        Ok(Desk {
+            here,
+            seats,
+            memory: Vec::new(alloc),
+        })
     }
 
     /// A thread drops its open transaction: the images have the bytes that they had, and its locks are free.

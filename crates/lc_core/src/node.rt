@@ -54,10 +54,12 @@ impl<D: Area + Drop> Node<D> {
             Ending::Empty => Ok(Reply::Ended),
             Ending::Record(words) => {
                 let number = self.journal.reserve(words.as_slice())?;
+                let len = words.as_slice().len() as u32;
                 self.desk.reserve(thread, number);
+                self.desk.memory = words.into_vec();
                 Ok(Reply::Reserved {
                     place: log.end,
-                    words: words.as_slice().len() as u32,
+                    words: len,
                 })
             }
         }

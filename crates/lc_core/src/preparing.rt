@@ -2,7 +2,7 @@
 ghost use Rattle.std.specs.Prelude.{◌≡◌, ◌<◌, ◌≤◌, vec_len, IfOk, OnErr, true};
 ghost use Rattle.lc_core.specs.FollowsDesk.{StillFits};
 ghost use Rattle.lc_core.specs.Here.{the_images};
-ghost use Rattle.lc_core.specs.Prepares.{HasRoom, IsUnsealed, Keeps, Prepares, WantsRecord};
+ghost use Rattle.lc_core.specs.Prepares.{HasRoom, IsShort, IsUnsealed, Keeps, Prepares, WantsRecord};
 ghost use Rattle.lc_core.specs.FaultReplies.{ends_own};
 
 use crate::Refusal;
@@ -11,10 +11,11 @@ use crate::ending::Ending;
 use crate::log_end::LogEnd;
 use crate::refused::refusal_of;
 use std::alloc::{AllocError, Global};
+use std::mem;
 
 impl Desk {
     /// The record of a thread's open transaction at the end of the node's log, if there is room for it. It takes memory only
-    /// for the record's words.
+    /// for the record's words, and only where that of the desk, which it uses up, has no room for them.
     pub(crate) fn prepare(
         &mut self,
         alloc: Global,
@@ -31,6 +32,7 @@ impl Desk {
         ensures unsealed { IfOk result (λ ending. IsUnsealed log ending) }
         ensures beside { the_images.IsSameBeside self.old.here self.new.here }
         ensures memory { OnErr result (WantsRecord node thread log self.old) }
+        ensures kept { OnErr result (IsShort node thread self.old) }
         ensures err { OnErr result (StillFits self.old self.new) }
         ensures seats { vec_len self.new.seats ≡ vec_len self.old.seats }
         ensures answer { IfOk result (λ ending. ends_own ending ≡ true) }
@@ -56,7 +58,8 @@ impl Desk {
                 need,
             }));
         }
-        let words = tx.spell_end(alloc, &mut self.here, node, &layout)?;
+        let memory = mem::replace(&mut self.memory, Vec::new(alloc));
+        let words = tx.spell_end(memory, &mut self.here, node, &layout)?;
         Ok(Ending::Record(words))
     }
 }

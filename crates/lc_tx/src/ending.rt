@@ -1,5 +1,5 @@
 //! The end of a transaction.
-ghost use Rattle.std.specs.Prelude.{◌≡◌, ◌↔◌, ◌<◌, ◌≤◌, ℕ, [], None, List, length, IfOk, IfErr, IfSome, IsTrue, MatchResult, Some};
+ghost use Rattle.std.specs.Prelude.{◌≡◌, ◌↔◌, ◌<◌, ◌≤◌, ℕ, [], None, List, length, vec_capacity, IfOk, IfErr, OnErr, IfSome, IsTrue, MatchResult, Some};
 ghost use Rattle.lc_record.specs.Record.{record_layout, record_len, IsRecord};
 ghost use Rattle.lc_record.specs.declared.layout.Layout.{Layout as Laid};
 ghost use Rattle.lc_tx.specs.Images.{AreReleased, AreRestored, IsSame};
@@ -126,7 +126,7 @@ impl Tx {
         let Some(layout) = self.layout(images)? else {
             return Ok(Prepared::Empty);
         };
-        let Ok(words) = self.spell_end(alloc, images, node, &layout) else {
+        let Ok(words) = self.spell_end(Vec::new(alloc), images, node, &layout) else {
             return Err(TxFault::NoMemory);
         };
         Ok(Prepared::Record(words))
@@ -134,15 +134,15 @@ impl Tx {
 
     /// The words of the record of the transaction, as a node, numbered up to 7, is about to log it, of which `layout` has
     /// told that it is laid out so: the next number of each segment that has a set position, and the final bytes of all that
-    /// was set. They are written straight from the images into memory that is taken at once. Idea: RVM's new values
-    /// (Satyanarayanan et al., TOCS 1994).
+    /// was set. They are written straight from the images into the memory of a list whose own words go, such as those of a
+    /// record before. Idea: RVM's new values (Satyanarayanan et al., TOCS 1994).
     ///
     /// # Errors
     ///
-    /// Where there is no memory.
+    /// Where that memory has no room for all words of the record, and there is no other.
     pub fn spell_end<I: Images>(
         &self,
-        alloc: Global,
+        memory: Vec<u64>,
         images: &mut I,
         node: u16,
         layout: &Layout,
@@ -156,9 +156,10 @@ impl Tx {
         ensures len { IfOk result (λ words. length words ≡ record_len (final_record I.Images images.old self.now node)) }
         ensures images { IsSame I.Images images.old images.new }
         ensures runs { RunsOn I.Images images.new self.now }
+        ensures memory { OnErr result (vec_capacity memory < record_len (final_record I.Images images.old self.now node)) }
     {
         let runs = self.set.ranges();
-        let words = spell(alloc, images, runs, node, layout)?;
+        let words = spell(memory, images, runs, node, layout)?;
         Ok(Items::new(words))
     }
 

@@ -1,5 +1,5 @@
 //! The record of a transaction's runs.
-ghost use Rattle.std.specs.Prelude.{◌≡◌, ◌+◌, ◌*◌, ◌<◌, ◌≤◌, ◌^◌, ◌++◌, length, map, take, drop, unwrap_or, IfOk};
+ghost use Rattle.std.specs.Prelude.{◌≡◌, ◌+◌, ◌*◌, ◌<◌, ◌≤◌, ◌^◌, ◌++◌, length, map, take, drop, unwrap_or, vec_capacity, IfOk, OnErr};
 ghost use Rattle.std.specs.List.{AllByRecursion, flat_map};
 ghost use Rattle.lc_record.specs.Words.{AreBytes};
 ghost use Rattle.lc_record.specs.Layout.{layout_len};
@@ -12,7 +12,7 @@ ghost use Rattle.lc_tx.specs.Walk.{locks_of, runs_layout, spent_in, AreFromOne, 
 use crate::Images;
 use lc_range::Range;
 use lc_record::{Layout, Lock, MAX_SEQ, Spelling};
-use std::alloc::{AllocError, Global};
+use std::alloc::AllocError;
 
 // The number of a segment's token.
 fn number<I: Images>(images: &I, segment: u32) -> u64
@@ -56,9 +56,9 @@ pub fn layout_of(runs: &[Range]) -> Layout
 }
 
 /// The words of the record of these runs: the next number of each segment, and the bytes of each run, straight from the
-/// images.
+/// images, in the memory of a list whose own words go. It takes memory only where that has no room for all of them.
 pub fn spell<I: Images>(
-    alloc: Global,
+    memory: Vec<u64>,
     images: &mut I,
     runs: &[Range],
     node: u16,
@@ -72,8 +72,9 @@ pub fn spell<I: Images>(
     ensures words { IfOk result (λ words. words.items ≡ spelling_of (runs_record I.Images images.old runs.now node)) }
     ensures fit { IfOk result (λ words. AllByRecursion (λ it. AreBytes it.bytes) (map (run_data I.Images images.old) runs.now)) }
     ensures same { IsSame I.Images images.old images.new }
+    ensures memory { OnErr result (vec_capacity memory < layout_len layout.now) }
 {
-    let mut spelling = Spelling::new(alloc, node, layout)?;
+    let mut spelling = Spelling::in_memory_of(memory, node, layout)?;
     add_locks(&mut spelling, images, runs);
     add_ranges(&mut spelling, images, runs);
     Ok(spelling.finish())

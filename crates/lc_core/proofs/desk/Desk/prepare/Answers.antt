@@ -1,5 +1,5 @@
-use Rattle.std.proofs.Common.{◌≡◌, ◌≤◌, ◌+◌, None, Some, length, sym, ap, subst, ◌∙◌, arith}
-use Rattle.std.specs.Prelude.{Ok}
+use Rattle.std.proofs.Common.{◌≡◌, ◌<◌, ◌≤◌, ◌+◌, None, Some, length, sym, ap, subst, ◌∙◌, arith}
+use Rattle.std.specs.Prelude.{Ok, vec_capacity}
 use Rattle.std.proofs.lemmas.Option.{slice_get_read}
 use Rattle.lc_record.specs.Record.{record_len, IsRecord}
 use Rattle.lc_model.specs.declared.reply.Reply.TheVariants.{Reserved}
@@ -149,3 +149,13 @@ returns-in_err-words-clause-memory c = on_err c.from_residual.result _ (λ m s x
       answer = answered its ends c.words-need.result laid.loggable laid.count c.if-log.false
           (omega (arith, c.if-need-log.false, c.requires.end));
     })
+
+pub returns-in_err-words-clause-kept : goal.returns-in_err-words-clause-kept
+returns-in_err-words-clause-kept c = on_err c.from_residual.result _ (λ tx sits.
+    let w = c.args.self.now in
+    let mine = c.in-Some.tx.now in
+    let at = seated c.args.self.now c.args.thread c.index.result.now c.in-Some.tx.now c.requires.seat c.index.ensures c.in-Some.ensures in
+    let same = same_open tx c.in-Some.tx.now (same_some (Open tx) (Open c.in-Some.tx.now) (sym sits ∙ at.at)) in
+    let short : vec_capacity w.memory < record_len (final_record the_images w.here mine c.args.node) =
+    subst (λ l. vec_capacity l < record_len (final_record the_images w.here mine c.args.node)) c.replace-memory.ensures.value c.in_err-words.ensures.memory in
+    subst (λ (y : Tx). vec_capacity w.memory < record_len (final_record the_images w.here y c.args.node)) (sym same) short)
