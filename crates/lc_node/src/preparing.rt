@@ -18,7 +18,7 @@ use crate::held::HeldSide;
 use crate::lent::Lent;
 use crate::{Gate, NodeFault, Work, stage_record};
 use lc_disk::Area;
-use lc_record::{Part, decode};
+use lc_record::{Part, View};
 use lc_stage::{CommitSeat, Stage};
 use lc_tx::Prepared;
 use std::alloc::{AllocError, Global};
@@ -43,12 +43,12 @@ fn parts_in(alloc: Global, words: &[u64], segments: &[u32]) -> Result<Vec<Option
     requires one { IsOneRecord words.now }
     ensures { IfOk result (λ parts. (r : Spelled) → IsRecord r words.now → parts.items ≡ map (λ s. part_of s r) segments.now) }
 {
-    let Some((record, _)) = decode(alloc, words)? else {
+    let Some(record) = View::at(words, 0) else {
         unreachable!();
     };
     let mut parts = Vec::with_capacity(alloc, segments.len())?;
     for segment in segments {
-        let part = Part::of(alloc, &record, *segment)?;
+        let part = record.part(alloc, *segment)?;
         parts.push_reserved(part);
     }
     Ok(parts)

@@ -1,7 +1,8 @@
 //! Reading a record from words.
-ghost use Rattle.std.specs.Prelude.{IfOk, OnErr, IfSome, IfNone, Some, ◌≡◌, List, ℕ};
+ghost use Rattle.std.specs.Prelude.{IfOk, OnErr, OnOk, IfSome, IfNone, Some, ◌≡◌, ◌==◌, ◌++◌, [], ◌∷◌, List, ℕ, filter};
 ghost use Rattle.lc_record.specs.Codec.{BeginsWith, BeginsNoRecord};
-ghost use Rattle.lc_record.specs.Reading.{Gives, items_at, range_of, record_at};
+ghost use Rattle.lc_record.specs.Reading.{Gives, items_at, range_of, ranges_at, record_at};
+ghost use Rattle.lc_record.specs.declared.record.RangeData.{RangeData as Written};
 ghost use Rattle.lc_record.specs.declared.record.Record.{Record as Spelled};
 
 use crate::data::read_data;
@@ -69,6 +70,44 @@ fn read_ranges(
         rest = behind;
     }
     Ok(Some(ranges))
+}
+
+/// Of the ranges that stand here, those of a segment.
+pub fn read_ranges_of(
+    alloc: Global,
+    head: Head,
+    words: &[u64],
+    segment: u32,
+) -> Result<Vec<RangeData>, AllocError>
+    ensures { IfOk result (λ copies. (ranges : List Written) (rest : List ℕ) → ranges_at head.version head.ranges words.now ≡ Some (ranges, rest) →
+        copies.items ≡ filter (λ range. range.segment == segment) ranges) }
+{
+    let mut copies = Vec::new(alloc);
+    let mut rest = words;
+    for _ in 0..head.ranges {
+        let Some((range, behind)) = range_of(head.version, rest) else {
+            return Ok(copies);
+        };
+        add_where_of(alloc, range, segment, &mut copies)?;
+        rest = behind;
+    }
+    Ok(copies)
+}
+
+// Adds a range where it is of the segment.
+fn add_where_of(
+    alloc: Global,
+    range: RangeWords<'_>,
+    segment: u32,
+    copies: &mut Vec<RangeData>,
+) -> Result<(), AllocError>
+    ensures { OnOk result (copies.new.items
+        ≡ copies.old.items ++ filter (λ its. its.segment == segment) (range_of range.entry.span range.entry.data.now ∷ [])) }
+{
+    if range.span.segment == segment {
+        copies.push(read_range(alloc, range)?)?;
+    }
+    Ok(())
 }
 
 fn read_range(alloc: Global, range: RangeWords<'_>) -> Result<RangeData, AllocError>

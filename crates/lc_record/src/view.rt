@@ -1,15 +1,16 @@
 //! A record that is read where its words stand.
-ghost use Rattle.std.specs.Prelude.{◌≡◌, ◌+◌, ◌*◌, ◌<◌, ◌≤◌, ℕ, List, Some, length, drop, option_map, slice_get, IfSome, IfNone};
+ghost use Rattle.std.specs.Prelude.{◌≡◌, ◌+◌, ◌*◌, ◌<◌, ◌≤◌, ◌↔◌, ℕ, List, None, Some, Ok, length, drop, option_map, slice_get, IfOk, OnErr, IfSome, IfNone, IsSome};
 ghost use Rattle.std.specs.Option.{option_or};
 ghost use Rattle.lc_record.specs.Newest.{byte_of};
 ghost use Rattle.lc_record.specs.Codec.{BeginsWith, BeginsNoRecord};
+ghost use Rattle.lc_record.specs.Part.{number_in, part_of};
 ghost use Rattle.lc_record.specs.Record.{record_len, span_of, version_of, IsRecord};
 ghost use Rattle.lc_record.specs.Reading.{Gives, range_of, ranges_at};
 ghost use Rattle.lc_record.specs.Spans.{left_of, placed_spans};
 ghost use Rattle.lc_record.specs.View.{byte_at};
 
-use crate::Lock;
 use crate::data::read_byte;
+use crate::decoding::read_ranges_of;
 use crate::fields::{node, range_count};
 use crate::kept_locks::{kept_lock, kept_lock_count};
 use crate::limits::{HEAD_WORDS, LOCK_WORDS};
@@ -17,10 +18,12 @@ use crate::parts::{Head, RangeWords, head_of, len_of, nth_range};
 use crate::putting::put_ranges;
 use crate::span::Span;
 use crate::spans::Spans;
+use crate::{Items, Lock, Part};
+use std::alloc::{AllocError, Global};
 use std::marker::Model;
 
-/// The words of one record, which stay where they are: it is read without memory, and no word is copied. This project's
-/// own.
+/// The words of one record, which stay where they are: it is read without memory and without a copy, but for `part`. This
+/// project's own.
 #[derive(Drop)]
 pub struct View<'a> {
     words: &'a [u64],
@@ -128,6 +131,37 @@ impl<'a> View<'a> {
             slice_get bytes.new k ≡ option_or (byte_of segment (offset + k) self.now.ranges) (slice_get bytes.old k) }
     {
         put_ranges(self.head(), self.ranges(), segment, offset, bytes);
+    }
+
+    /// A copy of the record's part that is of this segment; None exactly where the record has no lock on it. It goes over the
+    /// ranges once, and takes memory for that part alone. Idea: log-based coherency (Feeley et al., OSDI 1994).
+    pub fn part(&self, alloc: Global, segment: u32) -> Result<Option<Part>, AllocError>
+        ensures part { IfOk result (λ part. part ≡ part_of segment self.now) }
+        ensures none { (result ≡ Ok None) ↔ (number_in segment self.now.locks ≡ None) }
+        ensures memory { OnErr result (IsSome (number_in segment self.now.locks)) }
+    {
+        let Some(seq) = self.number_in(segment) else {
+            return Ok(None);
+        };
+        let ranges = read_ranges_of(alloc, self.head(), self.ranges(), segment)?;
+        Ok(Some(Part {
+            segment,
+            seq,
+            ranges: Items::new(ranges),
+        }))
+    }
+
+    // The number of the record among those of this segment, if it has a lock on it.
+    fn number_in(&self, segment: u32) -> Option<u64>
+        ensures { result ≡ number_in segment self.now.locks }
+    {
+        for index in 0..self.lock_count() {
+            let lock = self.lock(index)?;
+            if lock.segment == segment {
+                return Some(lock.seq);
+            }
+        }
+        None
     }
 
     fn range_words(&self, index: usize) -> Option<RangeWords<'a>>
