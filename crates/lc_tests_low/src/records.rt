@@ -1,6 +1,6 @@
 //! Records: words and what they say.
 use lc_record::{
-    Geometry, Items, Lock, RangeData, Record, RecordFault, View, check, decode, encode, gate,
+    Geometry, Items, Lock, Part, RangeData, Record, RecordFault, View, check, decode, encode, gate,
     length, lock_count, node, range_count, version,
 };
 use std::alloc::{AllocError, Global};
@@ -514,5 +514,30 @@ fn a_record_is_put_on_bytes(rt: HostRuntime) -> Result<(), Fail> {
         letters.put_on(*segment, *offset, &mut bytes);
         assert!(rt; bytes == **want, "at {offset} of segment {segment}");
     }
+    Ok(())
+}
+
+// Whether this is the part of the record of letters that is of segment 1.
+fn is_first_part(part: &Part) -> bool {
+    let [first, second] = part.ranges.as_slice() else {
+        return false;
+    };
+    part.segment == 1
+        && part.seq == 2
+        && first.offset == 0
+        && first.bytes.as_slice() == b"abcdefgh".as_slice()
+        && second.offset == 9
+        && second.bytes.as_slice() == b"i".as_slice()
+}
+
+#[test]
+fn a_part_is_read_in_place(rt: HostRuntime) -> Result<(), Fail> {
+    let alloc = rt.alloc();
+    let letters = View::at(&LETTERS, 0).ok_or("a record begins here")?;
+    let first = letters.part(alloc, 1)?.ok_or("it has this lock")?;
+    assert!(rt; is_first_part(&first));
+    let last = letters.part(alloc, 3)?.ok_or("it has this lock")?;
+    assert!(rt; last.seq == 1 && last.ranges.as_slice().len() == 1);
+    assert!(rt; letters.part(alloc, 2)?.is_none());
     Ok(())
 }
