@@ -5,7 +5,7 @@ use Rattle.std.proofs.lemmas.Bool.{cond-true, cond-false, or_parts, leb-false, l
 use Rattle.std.proofs.lemmas.Bool.Decides.{nat_tests}
 use Rattle.lc_record.specs.declared.part.Part.{Part}
 use Rattle.lc_token.specs.declared.received.Received.TheVariants.{Applied}
-use Rattle.lc_token.specs.Backlog.{Backlog, Ascends, AreDue, IsNext, PassesOn, TakesNext, above, advanced, counted, due_behind, due_of, is_known, is_next, led_by, numbered, put, rest_of, run_of}
+use Rattle.lc_token.specs.Backlog.{Backlog, Ascends, AreDue, HandsOutKept, IsNext, PassesOn, TakesNext, above, advanced, counted, due_behind, due_of, forgetting, is_known, is_next, keeping, led_by, numbered, put, rest_of, run_of, without}
 
 -- The part with a number
 
@@ -245,6 +245,43 @@ put_others n p (q ∷ qs) ne = elim (cases_lt p.seq q.seq) [
   ]
 ]
 
+-- A part taken out again
+
+without_here : (n : ℕ) (p : Part) (ps : List Part) → p.seq ≡ n → without n (p ∷ ps) ≡ ps
+without_here n p ps e = cond-true (eqb p.seq n) ps (p ∷ without n ps) (eq-eqb p.seq n e)
+
+without_later : (n : ℕ) (p : Part) (ps : List Part) → p.seq ≢ n → without n (p ∷ ps) ≡ p ∷ without n ps
+without_later n p ps ne = cond-false (eqb p.seq n) ps (p ∷ without n ps) (ne_eqb p.seq n ne)
+
+pub put_without : (p : Part) (qs : List Part) → numbered p.seq qs ≡ None → without p.seq (put p qs) ≡ qs
+put_without p [] none = without_here p.seq p [] refl
+put_without p (q ∷ qs) none = elim (cases_eq q.seq p.seq) [
+  | inl same ↦ absurd (let e : Some q ≡ None = sym (numbered_here p.seq q qs same) ∙ none in cc)
+  | inr other ↦ elim (cases_lt p.seq q.seq) [
+    | inl before ↦ ap (without p.seq) (put_first p q qs before) ∙ without_here p.seq p (q ∷ qs) refl
+    | inr behind ↦ ap (without p.seq) (put_later p q qs behind) ∙ (without_later p.seq q (put p qs) other ∙ ap (λ (xs : List Part). q ∷ xs) (put_without p qs (sym (numbered_later p.seq q qs other) ∙ none)))
+  ]
+]
+
+ascends_lower : (low high : ℕ) (ps : List Part) → low ≤ high → Ascends high ps → Ascends low ps
+ascends_lower low high [] le up = tt
+ascends_lower low high (p ∷ ps) le up = (omega (arith, le, up.0), up.1)
+
+pub ascends_without : (low n : ℕ) (ps : List Part) → Ascends low ps → Ascends low (without n ps)
+ascends_without low n [] up = tt
+ascends_without low n (p ∷ ps) up = elim (cases_eq p.seq n) [
+  | inl same ↦ subst (Ascends low) (sym (without_here n p ps same)) (ascends_lower low p.seq ps (omega (arith, up.0)) up.1)
+  | inr other ↦ subst (Ascends low) (sym (without_later n p ps other)) (up.0, ascends_without p.seq n ps up.1)
+]
+
+-- no part has the next number, where the first has not
+pub none_next : (a : ℕ) (ps : List Part) → Ascends a ps → is_next a ps ≡ false → numbered (a + 1) ps ≡ None
+none_next a [] up not = refl
+none_next a (p ∷ ps) up not = elim (cases_eq p.seq (a + 1)) [
+  | inl same ↦ absurd (let e : true ≡ false = sym (eq-eqb p.seq (a + 1) same) ∙ not in cc)
+  | inr other ↦ numbered_later (a + 1) p ps other ∙ none_below p.seq (a + 1) ps up.1 (omega (arith, up.0))
+]
+
 -- What is known
 
 none_is : {A : Type 0} (o : Option A) → is_some o ≡ false → o ≡ None
@@ -297,3 +334,14 @@ passes_on old number h part same =
       (unknown_is, next, sym (ap (λ (b : Backlog). b.applied) between), refl),
       between,
     )
+
+-- a part that was not known, kept and forgotten again
+pub keeping_forgotten : (old : Backlog) (part : Part) → is_known old part.seq ≡ false → forgetting (keeping old part) part.seq ≡ old
+keeping_forgotten old part not =
+    let same : without part.seq (put part old.kept) ≡ old.kept = put_without part old.kept (unknown old part.seq not).1 in
+    ap (λ (ps : List Part). record old { kept = ps }) same
+
+-- nothing is taken, where no kept part has the next number
+pub none_taken : (b : Backlog) (taken : Option Part) (new : List Part) → Ascends b.applied b.kept → taken ≡ None → TakesNext b.applied b.kept taken new → HandsOutKept b None (record b { kept = new })
+none_taken b None new up is takes = (none_next b.applied b.kept up takes.0, ap (λ (ps : List Part). record b { kept = ps }) takes.1)
+none_taken b (Some p) new up is takes = absurd (cc)

@@ -3,11 +3,11 @@ use Rattle.std.proofs.Common.{◌≡◌, ◌≢◌, ℕ, ◌+◌, ◌-◌, ◌�
 use Rattle.std.specs.Ordering.{nat_cmp, is_eq}
 use Rattle.std.specs.List.{slice_get}
 use Rattle.std.specs.Option.{SomeIff, option_eq}
-use Rattle.std.specs.Map.{lookup, values_of}
-use Rattle.std.specs.BTreeMap.{insert_entry}
+use Rattle.std.specs.Map.{lookup, remove_entry, values_of}
+use Rattle.std.specs.BTreeMap.{insert_entry, is_at}
 use Rattle.std.proofs.lemmas.Bool.{cases_eq, cases_lt, eq-eqb, ne_eqb, lt-ltb, le-ltb}
 use Rattle.lc_record.specs.declared.part.Part.{Part}
-use Rattle.lc_token.specs.Backlog.{StandAtNumbers, is_next, numbered, put}
+use Rattle.lc_token.specs.Backlog.{StandAtNumbers, is_next, numbered, put, without}
 use Rattle.lc_token.proofs.BacklogLemmas.{numbered_here, numbered_later, put_first, put_later}
 
 -- a look-up finds the part with the number
@@ -40,6 +40,27 @@ stand_insert p (e ∷ es) at = elim (cases_lt p.seq e.0) [
   | inr behind ↦ elim (cases_eq p.seq e.0) [
     | inl same ↦ rw (le-ltb p.seq e.0 behind, eq-eqb p.seq e.0 same) (sym same, at.1)
     | inr other ↦ rw (le-ltb p.seq e.0 behind, ne_eqb p.seq e.0 other) (at.0, stand_insert p es at.1)
+  ]
+]
+
+-- a part is taken out of the map too
+pub values_remove : (n : ℕ) (es : List (ℕ × Part)) → StandAtNumbers es → values_of (remove_entry (is_at (nat_cmp n)) es) ≡ without n (values_of es)
+values_remove n [] at = refl
+values_remove n (e ∷ es) at = elim (cases_eq e.1.seq n) [
+  | inl same ↦ rw (le-ltb n e.0 (omega (arith, same, at.0)), eq-eqb n e.0 (sym (at.0 ∙ same)), eq-eqb e.1.seq n same) refl
+  | inr other ↦ elim (cases_lt n e.0) [
+    | inl below ↦ rw (lt-ltb n e.0 below, ne_eqb e.1.seq n other) (ap (λ (xs : List Part). e.1 ∷ xs) (values_remove n es at.1))
+    | inr over ↦ rw (le-ltb n e.0 over, ne_eqb n e.0 (λ s. other (sym (s ∙ at.0))), ne_eqb e.1.seq n other) (ap (λ (xs : List Part). e.1 ∷ xs) (values_remove n es at.1))
+  ]
+]
+
+pub stand_remove : (n : ℕ) (es : List (ℕ × Part)) → StandAtNumbers es → StandAtNumbers (remove_entry (is_at (nat_cmp n)) es)
+stand_remove n [] at = tt
+stand_remove n (e ∷ es) at = elim (cases_eq n e.0) [
+  | inl same ↦ rw (le-ltb n e.0 (omega (arith, same)), eq-eqb n e.0 same) at.1
+  | inr other ↦ elim (cases_lt n e.0) [
+    | inl below ↦ rw (lt-ltb n e.0 below) (at.0, stand_remove n es at.1)
+    | inr over ↦ rw (le-ltb n e.0 over, ne_eqb n e.0 other) (at.0, stand_remove n es at.1)
   ]
 ]
 

@@ -55,6 +55,11 @@ abbrev pub put : Part → List Part → List Part
 put part [] = part ∷ []
 put part (other ∷ others) = if nat_lt part.seq other.seq then part ∷ other ∷ others else other ∷ put part others
 
+-- without the one that has this number
+abbrev pub without : ℕ → List Part → List Part
+without number [] = []
+without number (part ∷ parts) = if part.seq == number then parts else part ∷ without number parts
+
 -- each part stands at its number
 abbrev pub StandAtNumbers : List (ℕ × Part) → Type 0
 StandAtNumbers [] = Unit {0}
@@ -96,6 +101,10 @@ advanced old run = record old {
 abbrev pub keeping : Backlog → Part → Backlog
 keeping old part = record old { kept = put part old.kept }
 
+-- the part with this number is kept no more
+abbrev pub forgetting : Backlog → ℕ → Backlog
+forgetting old number = record old { kept = without number old.kept }
+
 -- all up to this number are applied, the last of them by the node itself
 abbrev pub counted : Backlog → ℕ → Backlog
 counted old number = record old { applied = number; kept = above number old.kept }
@@ -113,6 +122,12 @@ Receives part old Ignored new = (is_known old part.seq ≡ true) × (new ≡ old
 abbrev pub HandsOut : Backlog → Option Part → Backlog → Type 0
 HandsOut old None new = (old.due ≡ []) × (new ≡ old)
 HandsOut old (Some part) new = old ≡ record new { due = part ∷ new.due }
+
+-- the kept part with the next number is handed out, if there is one, and is applied
+abbrev pub HandsOutKept : Backlog → Option Part → Backlog → Type 0
+HandsOutKept old None new = (numbered (old.applied + 1) old.kept ≡ None) × (new ≡ old)
+HandsOutKept old (Some part) new =
+    (old.kept ≡ part ∷ new.kept) × (part.seq ≡ old.applied + 1) × (new ≡ record old { applied = part.seq; kept = new.kept })
 
 -- the number is the next, and no part is due or kept
 pub record IsNext (backlog : Backlog) (number : ℕ) : Type 0 where

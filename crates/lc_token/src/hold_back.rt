@@ -1,8 +1,8 @@
 //! What a peer has of a segment's records that are not handed out yet.
-ghost use Rattle.std.specs.Prelude.{◌≡◌, ◌+◌, ◌<◌, ◌≤◌, ◌↔◌, [], ◌∷◌, ◌++◌, false, true, length, IfOk, IfErr, IsSome, IsTrue, OnOk, OnErr};
+ghost use Rattle.std.specs.Prelude.{◌≡◌, ◌+◌, ◌<◌, ◌≤◌, ◌^◌, ◌↔◌, [], ◌∷◌, ◌++◌, false, true, length, IfOk, IfErr, IsSome, IsTrue, OnOk, OnErr};
 ghost use Rattle.std.specs.Option.{ForSome};
 ghost use Rattle.lc_record.specs.Part.{part_of};
-ghost use Rattle.lc_token.specs.Backlog.{Ascends, HandsOut, IsNext, PassesOn, Receives, advanced, counted, due_behind, fresh, is_known, keeping};
+ghost use Rattle.lc_token.specs.Backlog.{Ascends, HandsOut, HandsOutKept, IsNext, PassesOn, Receives, advanced, counted, due_behind, forgetting, fresh, is_known, keeping};
 
 use crate::kept::Kept;
 use crate::{Received, TokenFault};
@@ -131,6 +131,42 @@ impl HoldBack {
         self.due.pop_front()
     }
 
+    /// How many parts are kept.
+    pub fn kept_len(&self) -> usize
+        ensures len { result ≡ length self.now.kept }
+        ensures small { result < 2 ^ 63 }
+    {
+        self.kept.len()
+    }
+
+    /// Keeps a part that is not known, until the numbers before it have come. Fails for want of memory alone, and then
+    /// changes nothing.
+    pub fn keep(&mut self, part: Part) -> Result<(), AllocError>
+        requires { is_known self.old part.seq ≡ false }
+        ensures kept { OnOk result (self.new ≡ keeping self.old part) }
+        ensures err { OnErr result (self.new ≡ self.old) }
+    {
+        self.kept.put(part)
+    }
+
+    /// Forgets the kept part with this number, if there is one: behind a `keep` of it all is as it was before, as
+    /// `forgets_what_it_kept` says. It takes no memory.
+    pub fn forget(&mut self, seq: u64)
+        ensures { self.new ≡ forgetting self.old seq }
+    {
+        self.kept.remove(seq);
+    }
+
+    /// Hands out the kept part with the next number, and counts it as applied; None exactly where no part with that number
+    /// is kept. What is due stays. It takes no memory.
+    pub fn take_next(&mut self) -> Option<Part>
+        ensures { HandsOutKept self.old result self.new }
+    {
+        let part = self.kept.take_next(self.applied)?;
+        self.applied = part.seq;
+        Some(part)
+    }
+
     /// Counts a record of the node's own, with the next number, as applied. What is due and what is kept stay, but for
     /// a kept part of that very number. It takes no memory.
     pub fn own(&mut self, seq: u64)
@@ -152,15 +188,6 @@ impl HoldBack {
     {
         self.own(seq);
         Received::Applied(seq)
-    }
-
-    // Keeps a part behind a hole.
-    fn keep(&mut self, part: Part) -> Result<(), AllocError>
-        requires { is_known self.old part.seq ≡ false }
-        ensures kept { OnOk result (self.new ≡ keeping self.old part) }
-        ensures err { OnErr result (self.new ≡ self.old) }
-    {
-        self.kept.put(part)
     }
 
     // Applies a part with the next number, and the kept ones that follow on. All room is made first.

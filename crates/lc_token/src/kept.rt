@@ -1,7 +1,7 @@
 //! The parts behind a hole.
 ghost use Rattle.std.specs.Prelude.{◌≡◌, ◌+◌, ◌^◌, ◌<◌, ◌≤◌, [], ◌++◌, false, is_some, length, IfOk, OnOk, OnErr};
 ghost use Rattle.std.specs.VecDeque.{deque_capacity, deque_len};
-ghost use Rattle.lc_token.specs.Backlog.{TakesNext, numbered, put, rest_of, run_of};
+ghost use Rattle.lc_token.specs.Backlog.{TakesNext, numbered, put, rest_of, run_of, without};
 
 use lc_record::Part;
 use std::alloc::{AllocError, Global};
@@ -61,6 +61,13 @@ impl Kept {
     {
         self.parts.insert(part.seq, part)?;
         Ok(())
+    }
+
+    /// Takes out the part with this number, if there is one.
+    pub fn remove(&mut self, seq: u64)
+        ensures { self.new ≡ without seq self.old }
+    {
+        let _ = self.parts.remove(&seq);
     }
 
     /// Takes the first part, if it has the number behind this one.

@@ -1,7 +1,7 @@
 //! Laws of receipts.
-ghost use Rattle.std.specs.Prelude.{◌≡◌, ◌+◌, ◌++◌, ℕ, List, length};
+ghost use Rattle.std.specs.Prelude.{◌≡◌, ◌+◌, ◌++◌, ℕ, List, false, length};
 ghost use Rattle.lc_record.specs.declared.part.Part.{Part};
-ghost use Rattle.lc_token.specs.Backlog.{AreDue, Backlog, due_behind, fresh};
+ghost use Rattle.lc_token.specs.Backlog.{AreDue, Backlog, due_behind, forgetting, fresh, is_known, keeping};
 ghost use Rattle.lc_token.specs.Calls.{AreSame, Call, Follows, NumbersName, handed, received};
 
 /// What parts make due has the next numbers, one after another, up to the first number that no part has.
@@ -25,4 +25,9 @@ pub fn same_records()
         → Follows (fresh segment applied) calls new → Follows (fresh segment applied) others other
         → NumbersName (received calls) → AreSame (received calls) (received others)
         → (handed calls ++ new.due ≡ handed others ++ other.due) × (new.applied ≡ other.applied) }
+{}
+
+/// A part that was not known, and is kept and forgotten again, leaves a backlog as it was.
+pub fn forgets_what_it_kept()
+    ensures { (old : Backlog) (part : Part) → is_known old part.seq ≡ false → forgetting (keeping old part) part.seq ≡ old }
 {}

@@ -11,7 +11,7 @@ mod token_place;
 
 pub use fault::TokenFault;
 pub use hold_back::HoldBack;
-pub use laws::{any_order, next_numbers, same_records};
+pub use laws::{any_order, forgets_what_it_kept, next_numbers, same_records};
 pub use received::Received;
 pub use token::Token;
 pub use token_place::TokenPlace;
