@@ -3,6 +3,7 @@ pub mod Asking
 pub mod Attempted
 pub mod Backwards
 pub mod Bringing
+pub mod CatchingUp
 pub mod CommitKeeps
 pub mod CommitPaths
 pub mod Confirms

@@ -1,4 +1,5 @@
 pub mod Among
+pub mod Applying
 pub mod Attempts
 pub mod Commits
 pub mod Each

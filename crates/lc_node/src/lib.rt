@@ -1,6 +1,7 @@
 //! A running node: the record of a receipt stands in its log.
 #![tactic(auto)]
 
+mod applying;
 mod attempting;
 mod cleaning;
 mod commit_kind;

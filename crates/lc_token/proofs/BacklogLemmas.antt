@@ -129,6 +129,13 @@ pub above_all : (low n : ℕ) (ps : List Part) → Ascends low ps → n ≤ low 
 above_all low n [] up le = refl
 above_all low n (p ∷ ps) up le = above_here n p ps (omega (arith, up.0)) ∙ ap (λ (xs : List Part). p ∷ xs) (above_all p.seq n ps up.1 (omega (arith, up.0)))
 
+pub length_above : (n : ℕ) (ps : List Part) → length (above n ps) ≤ length ps
+length_above n [] = omega arith
+length_above n (p ∷ ps) = elim (cases_lt n p.seq) [
+  | inl over ↦ let e = ap length (above_here n p ps over) in let few = length_above n ps in omega arith
+  | inr under ↦ let e = ap length (above_later n p ps under) in let few = length_above n ps in omega arith
+]
+
 -- the parts above a number are found as before
 pub numbered_above : (m n : ℕ) (ps : List Part) → m < n → numbered n (above m ps) ≡ numbered n ps
 numbered_above m n [] lt = refl
@@ -140,17 +147,32 @@ numbered_above m n (p ∷ ps) lt = elim (cases_lt m p.seq) [
   | inr under ↦ ap (numbered n) (above_later m p ps under) ∙ (numbered_above m n ps lt ∙ sym (numbered_later n p ps (λ e. omega (arith, e, under, lt))))
 ]
 
-run_here : (a : ℕ) (p : Part) (ps : List Part) → p.seq ≡ a + 1 → run_of a (p ∷ ps) ≡ p ∷ run_of (a + 1) ps
+pub run_here : (a : ℕ) (p : Part) (ps : List Part) → p.seq ≡ a + 1 → run_of a (p ∷ ps) ≡ p ∷ run_of (a + 1) ps
 run_here a p ps e = cond-true (eqb p.seq (a + 1)) (p ∷ run_of (a + 1) ps) [] (eq-eqb p.seq (a + 1) e)
 
 run_ends : (a : ℕ) (p : Part) (ps : List Part) → p.seq ≢ a + 1 → run_of a (p ∷ ps) ≡ []
 run_ends a p ps ne = cond-false (eqb p.seq (a + 1)) (p ∷ run_of (a + 1) ps) [] (ne_eqb p.seq (a + 1) ne)
 
-rest_here : (a : ℕ) (p : Part) (ps : List Part) → p.seq ≡ a + 1 → rest_of a (p ∷ ps) ≡ rest_of (a + 1) ps
+pub rest_here : (a : ℕ) (p : Part) (ps : List Part) → p.seq ≡ a + 1 → rest_of a (p ∷ ps) ≡ rest_of (a + 1) ps
 rest_here a p ps e = cond-true (eqb p.seq (a + 1)) (rest_of (a + 1) ps) (p ∷ ps) (eq-eqb p.seq (a + 1) e)
 
 rest_ends : (a : ℕ) (p : Part) (ps : List Part) → p.seq ≢ a + 1 → rest_of a (p ∷ ps) ≡ p ∷ ps
 rest_ends a p ps ne = cond-false (eqb p.seq (a + 1)) (rest_of (a + 1) ps) (p ∷ ps) (ne_eqb p.seq (a + 1) ne)
+
+-- where no part has the next number, none follows
+pub run_none : (a : ℕ) (ps : List Part) → numbered (a + 1) ps ≡ None → run_of a ps ≡ []
+run_none a [] none = refl
+run_none a (p ∷ ps) none = elim (cases_eq p.seq (a + 1)) [
+  | inl same ↦ absurd (let e : Some p ≡ None = sym (numbered_here (a + 1) p ps same) ∙ none in cc)
+  | inr other ↦ run_ends a p ps other
+]
+
+pub rest_all : (a : ℕ) (ps : List Part) → numbered (a + 1) ps ≡ None → rest_of a ps ≡ ps
+rest_all a [] none = refl
+rest_all a (p ∷ ps) none = elim (cases_eq p.seq (a + 1)) [
+  | inl same ↦ absurd (let e : Some p ≡ None = sym (numbered_here (a + 1) p ps same) ∙ none in cc)
+  | inr other ↦ rest_ends a p ps other
+]
 
 -- a part with the next number, in front of what is due behind it
 due_with : (a : ℕ) (p : Part) (ps xs : List Part) → p.seq ≡ a + 1 → AreDue (a + 1) ps xs → AreDue a (p ∷ ps) (p ∷ xs)

@@ -160,7 +160,8 @@ impl HoldBack {
     /// Hands out the kept part with the next number, and counts it as applied; None exactly where no part with that number
     /// is kept. What is due stays. It takes no memory.
     pub fn take_next(&mut self) -> Option<Part>
-        ensures { HandsOutKept self.old result self.new }
+        ensures handed { HandsOutKept self.old result self.new }
+        ensures segment { self.new.segment ≡ self.old.segment }
     {
         let part = self.kept.take_next(self.applied)?;
         self.applied = part.seq;
