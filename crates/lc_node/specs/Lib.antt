@@ -11,6 +11,7 @@ pub mod Get
 pub mod Growing
 pub mod Held
 pub mod Laid
+pub mod Leaving
 pub mod Lent
 pub mod LogSide
 pub mod LogView
@@ -26,6 +27,7 @@ pub mod SegView
 pub mod Sides
 pub mod Stages
 pub mod Touched
+pub mod Travelling
 pub mod Truncates
 pub mod Works
 pub mod Writes

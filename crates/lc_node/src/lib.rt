@@ -16,6 +16,7 @@ mod growing;
 mod held;
 mod holding;
 mod laws;
+mod leaving;
 mod lending;
 mod lent;
 mod log_room;
@@ -40,6 +41,7 @@ mod staging;
 mod taking_out;
 mod touching;
 mod transacting;
+mod travelling;
 mod truncating;
 mod vacant;
 mod work;
@@ -58,6 +60,7 @@ pub use node_fault::NodeFault;
 pub use put::Put;
 pub use seg_side::SegSide;
 pub use staging::stage_record;
+pub use travelling::Travelling;
 pub use work::Work;
 
 #[cfg(test)]

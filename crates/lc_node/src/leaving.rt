@@ -1,0 +1,68 @@
+//! The token of a segment leaves a node, with the area of its pages.
+ghost use Rattle.std.specs.Prelude.{◌≡◌, ◌↔◌, ◌^◌, ◌≤◌, true, false, None, IfOk, IsOk, OnOk, OnErr};
+ghost use Rattle.lc_node.specs.Leaving.{HasFailed, IsJourneyFrom, IsServing, without_token};
+ghost use Rattle.lc_node.specs.Pages.{FitsToken};
+ghost use Rattle.lc_node.specs.SegView.{laid_parts};
+
+use crate::page_area::PageArea;
+use crate::{NodeFault, SegSide, Travelling};
+use lc_disk::Area;
+use lc_token::TokenFault;
+use std::mem;
+
+impl<D: Area + Drop> SegSide<D> {
+    /// Takes the token away, to be sent, and with it the area of the pages. It is told whether all that the node reserved is
+    /// stable. It takes no memory.
+    ///
+    /// # Errors
+    ///
+    /// `NotHere` where the token is elsewhere; `Halted` where a call of the area failed, so that the token stays until a recovery;
+    /// else `Unflushed` where not all is stable. Nothing has changed then.
+    pub fn leave(&mut self, flushed: bool) -> Result<Travelling<D>, NodeFault>
+        ensures not_here { (result ≡ Err (NodeFault.NotHere self.old.segment)) ↔ (self.old.standing.token ≡ None) }
+        ensures halted { (result ≡ Err NodeFault.Halted) ↔ HasFailed self.old.pages }
+        ensures unflushed { (result ≡ Err (NodeFault.Token TokenFault.Unflushed)) ↔ (IsServing self.old.pages × (flushed ≡ false)) }
+        ensures done { IsOk result ↔ (IsServing self.old.pages × (flushed ≡ true)) }
+        ensures left { IfOk result (IsJourneyFrom self.old) }
+        ensures fits { IfOk result (λ journey. FitsToken D.Area journey.area journey.token (laid_parts self.old.applied self.old.base)) }
+        ensures gone { OnOk result (self.new ≡ without_token self.old) }
+        ensures err { OnErr result (self.new ≡ self.old) }
+    {
+        match mem::replace(&mut self.pages, PageArea::Elsewhere) {
+            PageArea::Elsewhere => Err(NodeFault::NotHere {
+                segment: self.segment,
+            }),
+            PageArea::Failed(area) => {
+                self.pages = PageArea::Failed(area);
+                Err(NodeFault::Halted)
+            }
+            PageArea::Serves(area) => {
+                if !flushed {
+                    self.pages = PageArea::Serves(area);
+                    return Err(NodeFault::Token {
+                        fault: TokenFault::Unflushed,
+                    });
+                }
+                let token = self.token.leave(false, false, 0, 0).unwrap();
+                Ok(Travelling { token, area })
+            }
+        }
+    }
+}
+
+impl<D: Area + Drop> Travelling<D> {
+    /// The segment whose token this is, from 1.
+    pub fn segment(&self) -> u32
+        ensures { result ≡ self.now.token.segment }
+    {
+        self.token.segment
+    }
+
+    /// The token's number.
+    pub fn number(&self) -> u64
+        ensures number { result ≡ self.now.token.seq }
+        ensures small { result ≤ 2 ^ 60 }
+    {
+        self.token.seq
+    }
+}
