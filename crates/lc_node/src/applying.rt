@@ -1,6 +1,6 @@
 //! Records that peers published are put on the image of a segment whose token is elsewhere.
-ghost use Rattle.std.specs.Prelude.{◌≡◌, ◌+◌, ◌++◌, ◌∷◌, [], ◌≤◌, ◌<◌, OnOk, None, IsSome, IsSomeAnd, length};
-ghost use Rattle.lc_token.specs.Backlog.{counted, HandsOutKept};
+ghost use Rattle.std.specs.Prelude.{◌≡◌, ◌+◌, ◌++◌, ◌∷◌, [], ◌≤◌, ◌<◌, false, OnErr, OnOk, None, IsSome, IsSomeAnd, length};
+ghost use Rattle.lc_token.specs.Backlog.{counted, forgetting, is_known, keeping, HandsOutKept};
 ghost use Rattle.lc_tx.specs.Image.{laid_over};
 ghost use Rattle.lc_tx.specs.declared.holders.Holders.TheVariants.{Free};
 ghost use Rattle.lc_node.specs.Applying.{applying, caught_up, ready_in};
@@ -14,6 +14,38 @@ use lc_tx::Image;
 use std::alloc::AllocError;
 
 impl<D: Area + Drop> SegSide<D> {
+    /// Whether a number was applied here, or is held back. It takes no memory.
+    pub(crate) fn knows(&self, seq: u64) -> bool
+        ensures { result ≡ is_known self.now.backlog seq }
+    {
+        self.hold_back.knows(seq)
+    }
+
+    /// The number up to which all are applied.
+    pub(crate) fn applied_number(&self) -> u64
+        ensures { result ≡ self.now.backlog.applied }
+    {
+        self.hold_back.applied()
+    }
+
+    /// Holds back a part that is not known, until the numbers before it have come. Fails for want of memory alone, and then
+    /// changes nothing.
+    pub(crate) fn keep(&mut self, part: Part) -> Result<(), AllocError>
+        requires { is_known self.old.backlog part.seq ≡ false }
+        ensures kept { OnOk result (self.new ≡ record self.old { backlog = keeping self.old.backlog part }) }
+        ensures err { OnErr result (self.new ≡ self.old) }
+    {
+        self.hold_back.keep(part)
+    }
+
+    /// Holds back the part with this number no more, if there is one: behind a `keep` of it all is as it was. It takes no
+    /// memory.
+    pub(crate) fn forget(&mut self, seq: u64)
+        ensures { self.new ≡ record self.old { backlog = forgetting self.old.backlog seq } }
+    {
+        self.hold_back.forget(seq);
+    }
+
     /// Makes room for one more applied part, and for all that are held back.
     pub(crate) fn make_room_for(&mut self) -> Result<(), AllocError>
         ensures same { self.new ≡ record self.old { room = self.new.room } }
