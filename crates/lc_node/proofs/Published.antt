@@ -87,7 +87,7 @@ ends ended stable taken new past next is was all more =
 
 -- Where records begin
 
-got_behind : {X : Type 0} (front behind : List X) (n : ℕ) → n ≡ length front → slice_get (front ++ behind) n ≡ slice_get behind 0
+pub got_behind : {X : Type 0} (front behind : List X) (n : ℕ) → n ≡ length front → slice_get (front ++ behind) n ≡ slice_get behind 0
 got_behind [] behind n is = ap (slice_get behind) is
 got_behind (x ∷ front) behind zero is = absurd (omega arith)
 got_behind (x ∷ front) behind (suc n) is = got_behind front behind n (omega arith)
@@ -224,15 +224,16 @@ next_behind shown (Some x) records count place start got = next_start records co
 pub first_none : (words : List ℕ) → words ≡ [] → slice_get (records_of words) 0 ≡ None
 first_none words none = ap (λ (l : List ℕ). slice_get (records_of l) 0) none ∙ ap (λ (l : List (List ℕ)). slice_get l 0) no_record
 
-first_taken : (rs : List (List ℕ)) (words : List ℕ) → All IsOneRecord rs → words ≡ concat rs → 0 < length words → (n : ℕ) → n ≡ get_or words 0 0 / 2 ^ 32 → (n ≤ length words) × (slice_get rs 0 ≡ Some (take n words))
+first_taken : (rs : List (List ℕ)) (words : List ℕ) → All IsOneRecord rs → words ≡ concat rs → 0 < length words → (n : ℕ) → n ≡ get_or words 0 0 / 2 ^ 32 → (0 < n) × (n ≤ length words) × (slice_get rs 0 ≡ Some (take n words))
 first_taken [] words all text some n is = absurd (let none : length words ≡ 0 = ap (λ (l : List ℕ). length l) text in omega arith)
 first_taken (r ∷ rs) words all text some n is = let one = All-head IsOneRecord r rs all in let filled = some_record r one in
     let header : get_or words 0 0 ≡ get_or r 0 0 = ap (λ (l : List ℕ). get_or l 0 0) text ∙ get_or-append r (concat rs) 0 0 filled in
     let tells : n ≡ length r = is ∙ (ap (λ (k : ℕ). k / 2 ^ 32) header ∙ header_tells r one) in
     let long : length words ≡ length (r ++ concat rs) = ap (λ (l : List ℕ). length l) text in let parts = length-append r (concat rs) in (
       omega arith,
+      omega arith,
       ap (λ (l : List ℕ). Some l) (sym (ap (take n) text ∙ take_at r (concat rs) n (sym tells))),
     )
 
-pub first_there : (words : List ℕ) → AreRecords words → 0 < length words → (n : ℕ) → n ≡ get_or words 0 0 / 2 ^ 32 → (n ≤ length words) × (slice_get (records_of words) 0 ≡ Some (take n words))
-first_there words h some n is = let t = first_taken h.0 words h.1 h.2 some n is in (t.0, ap (λ (l : List (List ℕ)). slice_get l 0) (of_records words h) ∙ t.1)
+pub first_there : (words : List ℕ) → AreRecords words → 0 < length words → (n : ℕ) → n ≡ get_or words 0 0 / 2 ^ 32 → (0 < n) × (n ≤ length words) × (slice_get (records_of words) 0 ≡ Some (take n words))
+first_there words h some n is = let t = first_taken h.0 words h.1 h.2 some n is in (t.0, t.1, ap (λ (l : List (List ℕ)). slice_get l 0) (of_records words h) ∙ t.2)

@@ -1,5 +1,5 @@
 //! The records that a log has made stable since it was opened, read one after another.
-ghost use Rattle.std.specs.Prelude.{◌≡◌, ◌+◌, ◌≤◌, ℕ, length, drop, option_map, slice_get, IfSome};
+ghost use Rattle.std.specs.Prelude.{◌≡◌, ◌+◌, ◌^◌, ◌<◌, ◌≤◌, ℕ, length, drop, option_map, slice_get, IfSome};
 ghost use Rattle.lc_stage.specs.Staging.{AreRecords};
 ghost use Rattle.lc_node.specs.Published.{published, records_of, IsStart, IsWhole};
 
@@ -11,13 +11,15 @@ impl<D: Area + Drop> LogSide<D> {
     /// The words of the published record that begins behind so many words of the published records, those of the rounds that
     /// have ended first; None exactly behind the last. A record begins behind no word, and then behind the words of each
     /// record: who counts them on goes over the records in their order, in the time of those that it reads, also where
-    /// others are published or the log is reset in between. It takes no memory. Log-based coherency: Feeley et al., OSDI
-    /// 1994; that a log keeps its records' words over its resets is this project's own.
+    /// others are published or the log is reset in between. At a place where no record begins it gives some words that are
+    /// published, or None: which, no clause says. It takes no memory. Log-based coherency: Feeley et al., OSDI 1994; that a
+    /// log keeps its records' words over its resets is this project's own.
     pub fn record_at(&self, place: usize) -> Option<&[u64]>
-        requires start { (count : ℕ) × IsStart (published self.now) count place }
         ensures whole { IsWhole self.now }
         ensures found { (count : ℕ) → IsStart (published self.now) count place → option_map (λ words. words.now) result ≡ slice_get (published self.now) count }
         ensures next { (count : ℕ) → IsStart (published self.now) count place → IfSome result (λ words. IsStart (published self.now) (count + 1) (place + length words.now)) }
+        ensures some { IfSome result (λ words. 0 < length words.now) }
+        ensures within { IfSome result (λ words. place + length words.now < 2 ^ 64) }
     {
         let ended = self.ended.as_slice();
         if place < ended.len() {
@@ -27,16 +29,20 @@ impl<D: Area + Drop> LogSide<D> {
     }
 }
 
-// The words of the first of the records behind a place.
+// The words behind a place that are as many as the first of them tells; None where they are not there.
 fn first_behind(words: &[u64], place: usize) -> Option<&[u64]>
-    requires within { place ≤ length words.now }
-    requires records { AreRecords (drop place words.now) }
-    ensures { option_map (λ words. words.now) result ≡ slice_get (records_of (drop place words.now)) 0 }
+    ensures found { place ≤ length words.now → AreRecords (drop place words.now) → option_map (λ words. words.now) result ≡ slice_get (records_of (drop place words.now)) 0 }
+    ensures some { IfSome result (λ first. 0 < length first.now) }
+    ensures within { IfSome result (λ first. place + length first.now ≤ length words.now) }
 {
-    let (_, behind) = words.split_at(place);
-    if behind.is_empty() {
+    if place >= words.len() {
         return None;
     }
-    let (first, _) = behind.split_at(length(behind[0]) as usize);
+    let (_, behind) = words.split_at(place);
+    let count = length(behind[0]) as usize;
+    if count == 0 || count > behind.len() {
+        return None;
+    }
+    let (first, _) = behind.split_at(count);
     Some(first)
 }

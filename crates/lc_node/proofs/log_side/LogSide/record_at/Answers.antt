@@ -4,33 +4,28 @@ use Rattle.lc_node.specs.Published.{published}
 use Rattle.lc_node.proofs.Published.{found_ended, behind_stable, is_whole, next_behind}
 use Rattle.lc_node.proofs.log_side.LogSide.record_at.Goals as goal
 
-pub first_behind-requires-clause-records : goal.first_behind-requires-clause-records
-first_behind-requires-clause-records g c = (found_ended (log_view g.D.Area c.self.inside) c.args.self.now c.self.view_is c.self.invariant.ended_records c.self.invariant.records c.as_slice-ended.result.now c.args.place c.requires.start.0 c.as_slice-ended.ensures.value c.if-place-ended.true c.requires.start.1).are
-
 pub returns-then-place-ended-clause-whole : goal.returns-then-place-ended-clause-whole
 returns-then-place-ended-clause-whole g c = is_whole (log_view g.D.Area c.self.inside) c.args.self.now c.self.view_is c.self.invariant.ended_records c.self.invariant.records c.self.invariant.ended
 
 pub returns-then-place-ended-clause-found : goal.returns-then-place-ended-clause-found
-returns-then-place-ended-clause-found g c = λ count start. c.first_behind.ensures
-    ∙ (found_ended (log_view g.D.Area c.self.inside) c.args.self.now c.self.view_is c.self.invariant.ended_records c.self.invariant.records c.as_slice-ended.result.now c.args.place count c.as_slice-ended.ensures.value c.if-place-ended.true start).first
+returns-then-place-ended-clause-found g c = λ count start.
+    let first = found_ended (log_view g.D.Area c.self.inside) c.args.self.now c.self.view_is c.self.invariant.ended_records c.self.invariant.records c.as_slice-ended.result.now c.args.place count c.as_slice-ended.ensures.value c.if-place-ended.true start in
+    c.first_behind.ensures.found first.within first.are ∙ first.first
 
 pub returns-then-place-ended-clause-next : goal.returns-then-place-ended-clause-next
-returns-then-place-ended-clause-next g c = λ count start. next_behind (λ words. words.now) c.first_behind.result (published c.args.self.now) count c.args.place start (c.first_behind.ensures
-    ∙ (found_ended (log_view g.D.Area c.self.inside) c.args.self.now c.self.view_is c.self.invariant.ended_records c.self.invariant.records c.as_slice-ended.result.now c.args.place count c.as_slice-ended.ensures.value c.if-place-ended.true start).first)
-
-pub first_behind-requires-2-clause-within : goal.first_behind-requires-2-clause-within
-first_behind-requires-2-clause-within g c = (behind_stable (log_view g.D.Area c.self.inside) c.args.self.now c.self.view_is c.self.invariant.ended_records c.self.invariant.records c.as_slice-ended.result.now c.as_slice.result.now c.args.place c.requires.start.0 c.as_slice-ended.ensures.value c.as_slice.ensures.value c.if-place-ended.false c.requires.start.1).within
-
-pub first_behind-requires-2-clause-records : goal.first_behind-requires-2-clause-records
-first_behind-requires-2-clause-records g c = (behind_stable (log_view g.D.Area c.self.inside) c.args.self.now c.self.view_is c.self.invariant.ended_records c.self.invariant.records c.as_slice-ended.result.now c.as_slice.result.now c.args.place c.requires.start.0 c.as_slice-ended.ensures.value c.as_slice.ensures.value c.if-place-ended.false c.requires.start.1).are
+returns-then-place-ended-clause-next g c = λ count start.
+    let first = found_ended (log_view g.D.Area c.self.inside) c.args.self.now c.self.view_is c.self.invariant.ended_records c.self.invariant.records c.as_slice-ended.result.now c.args.place count c.as_slice-ended.ensures.value c.if-place-ended.true start in
+    next_behind (λ words. words.now) c.first_behind.result (published c.args.self.now) count c.args.place start (c.first_behind.ensures.found first.within first.are ∙ first.first)
 
 pub returns-clause-whole : goal.returns-clause-whole
 returns-clause-whole g c = is_whole (log_view g.D.Area c.self.inside) c.args.self.now c.self.view_is c.self.invariant.ended_records c.self.invariant.records c.self.invariant.ended
 
 pub returns-clause-found : goal.returns-clause-found
-returns-clause-found g c = λ count start. c.first_behind-2.ensures
-    ∙ (behind_stable (log_view g.D.Area c.self.inside) c.args.self.now c.self.view_is c.self.invariant.ended_records c.self.invariant.records c.as_slice-ended.result.now c.as_slice.result.now c.args.place count c.as_slice-ended.ensures.value c.as_slice.ensures.value c.if-place-ended.false start).first
+returns-clause-found g c = λ count start.
+    let first = behind_stable (log_view g.D.Area c.self.inside) c.args.self.now c.self.view_is c.self.invariant.ended_records c.self.invariant.records c.as_slice-ended.result.now c.as_slice.result.now c.args.place count c.as_slice-ended.ensures.value c.as_slice.ensures.value c.if-place-ended.false start in
+    c.first_behind-2.ensures.found first.within first.are ∙ first.first
 
 pub returns-clause-next : goal.returns-clause-next
-returns-clause-next g c = λ count start. next_behind (λ words. words.now) c.first_behind-2.result (published c.args.self.now) count c.args.place start (c.first_behind-2.ensures
-    ∙ (behind_stable (log_view g.D.Area c.self.inside) c.args.self.now c.self.view_is c.self.invariant.ended_records c.self.invariant.records c.as_slice-ended.result.now c.as_slice.result.now c.args.place count c.as_slice-ended.ensures.value c.as_slice.ensures.value c.if-place-ended.false start).first)
+returns-clause-next g c = λ count start.
+    let first = behind_stable (log_view g.D.Area c.self.inside) c.args.self.now c.self.view_is c.self.invariant.ended_records c.self.invariant.records c.as_slice-ended.result.now c.as_slice.result.now c.args.place count c.as_slice-ended.ensures.value c.as_slice.ensures.value c.if-place-ended.false start in
+    next_behind (λ words. words.now) c.first_behind-2.result (published c.args.self.now) count c.args.place start (c.first_behind-2.ensures.found first.within first.are ∙ first.first)
