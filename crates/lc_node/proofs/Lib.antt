@@ -30,6 +30,7 @@ pub mod SideBytes
 pub mod SideKeeps
 pub mod Slots
 pub mod StageKeeps
+pub mod Spreading
 pub mod Standing
 pub mod Stored
 pub mod TouchedPages

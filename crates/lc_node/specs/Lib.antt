@@ -15,6 +15,7 @@ pub mod Leaving
 pub mod Lent
 pub mod LogSide
 pub mod LogView
+pub mod Messages
 pub mod Pages
 pub mod Published
 pub mod Put
@@ -25,6 +26,7 @@ pub mod Rooms
 pub mod SegSide
 pub mod SegView
 pub mod Sides
+pub mod Spread
 pub mod Stages
 pub mod Touched
 pub mod Travelling

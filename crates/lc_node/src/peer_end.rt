@@ -1,0 +1,19 @@
+//! The sending end to a peer.
+ghost use Rattle.std.specs.Prelude.{◌≡◌, ◌≤◌, length};
+ghost use Rattle.lc_line.specs.Ends.{sent_on};
+ghost use Rattle.lc_node.specs.Messages.{records_in, words_of};
+
+use crate::Message;
+use lc_line::SendEnd;
+
+/// The sending end to a peer, how many published records were sent on it, and how many words they have: the next begins
+/// behind so many words of what is published. This project's own.
+#[derive(Drop)]
+pub struct PeerEnd<P: Drop> {
+    pub(crate) end: SendEnd<Message<P>>,
+    pub(crate) count: u64,
+    pub(crate) place: usize,
+    ghost counted: { count ≡ length (records_in (sent_on end)) },
+    ghost placed: { place ≡ words_of (records_in (sent_on end)) },
+    ghost filled: { count ≤ place },
+}
