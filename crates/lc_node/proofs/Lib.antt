@@ -7,6 +7,7 @@ pub mod CatchingUp
 pub mod CommitKeeps
 pub mod CommitPaths
 pub mod Confirms
+pub mod Copied
 pub mod Counted
 pub mod CountedFits
 pub mod EachPlace
@@ -17,6 +18,7 @@ pub mod FreshPages
 pub mod Fronts
 pub mod Knowing
 pub mod Laying
+pub mod NextSent
 pub mod Noted
 pub mod Outside
 pub mod PagesWritten
@@ -26,11 +28,11 @@ pub mod PutBytes
 pub mod Rounds
 pub mod Runs
 pub mod SegmentLocks
+pub mod SentToAll
 pub mod SideBytes
 pub mod SideKeeps
 pub mod Slots
 pub mod StageKeeps
-pub mod Spreading
 pub mod Standing
 pub mod Stored
 pub mod TouchedPages

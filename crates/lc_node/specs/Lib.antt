@@ -2,6 +2,7 @@ pub mod Among
 pub mod Applying
 pub mod Attempts
 pub mod Commits
+pub mod Copies
 pub mod Each
 pub mod Ended
 pub mod Fault

@@ -1,11 +1,11 @@
 -- What of a node's published records was sent to its peers.
-use Rattle.std.specs.Prelude.{◌≡◌, ℕ, ◌+◌, List, [], ◌∷◌, ◌++◌, length, Some, None, slice_get}
+use Rattle.std.specs.Prelude.{◌≡◌, ℕ, ◌+◌, ◌-◌, List, [], ◌∷◌, ◌++◌, length, Some, None, slice_get, map, sum_by}
 use Rattle.std.specs.Global.{Vec}
 use Rattle.atomic_table.specs.Seated.{TableId}
 use Rattle.atomic_table.specs.declared.badge.Badge.{Badge}
 use Rattle.crossbeam_channel.specs.declared.flavors.array.Key.{Key}
 use Rattle.lc_line.specs.Ends.{sent_on, line_to}
-use Rattle.lc_node.specs.Messages.{records_in, record_message, numbered}
+use Rattle.lc_node.specs.Messages.{records_in, tokens_among, record_message, numbered}
 use Rattle.lc_node.specs.declared.message.Message.{Message}
 use Rattle.lc_node.specs.declared.peer_end.PeerEnd.{PeerEnd}
 use Rattle.lc_node.specs.declared.sending.Next.{Next}
@@ -40,3 +40,22 @@ module _ {P : Type 0} where
   IsThere Sent published old = (words : List ℕ) × (slice_get published (count_of old) ≡ Some words)
   IsThere NoRoom published old = (words : List ℕ) × (slice_get published (count_of old) ≡ Some words)
   IsThere NoneLeft published old = slice_get published (count_of old) ≡ None
+
+  -- what holds of each peer
+  abbrev pub ArePrefixes : List (List ℕ) → List (PeerEnd P) → Type 0
+  ArePrefixes published peers = (k : ℕ) (peer : PeerEnd P) → slice_get peers k ≡ Some peer → IsPrefix published peer
+
+  -- how many records were sent to all peers, and how many of those that are published were not, those of each peer counted
+  abbrev pub sent_in : List (PeerEnd P) → ℕ
+  sent_in peers = sum_by count_of peers
+
+  abbrev pub missing_in : List (List ℕ) → List (PeerEnd P) → ℕ
+  missing_in published peers = sum_by (λ (peer : PeerEnd P). length published - count_of peer) peers
+
+  -- the tokens that were sent to each peer
+  abbrev pub tokens_in : List (PeerEnd P) → List (List P)
+  tokens_in peers = map (λ (peer : PeerEnd P). tokens_among (sent_to peer)) peers
+
+  -- the same peers, each on its line
+  abbrev pub SameLines : List (PeerEnd P) → List (PeerEnd P) → Type 0
+  SameLines old new = map line_of new ≡ map line_of old

@@ -2,7 +2,7 @@ use Rattle.std.proofs.Common.{◌+◌, ℕ, List, Some, refl, sym, ap, ◌∙◌
 use Rattle.std.specs.Prelude.{slice_get}
 use Rattle.lc_node.specs.Published.{published, IsStart}
 use Rattle.lc_node.specs.Spread.{sent_to, count_of}
-use Rattle.lc_node.proofs.Spreading.{next_begins, next_prefix}
+use Rattle.lc_node.proofs.NextSent.{next_begins, next_prefix}
 use Rattle.lc_node.proofs.peer_end.PeerEnd.send_next.Goals as goal
 
 pub returns-in_default-clause-there : goal.returns-in_default-clause-there

@@ -1,7 +1,7 @@
 use Rattle.std.proofs.Common.{rules, ◌≡◌, ◌+◌, ◌++◌, ◌∷◌, [], arith}
 use Rattle.lc_line.specs.Ends.{sent_on}
 use Rattle.lc_node.specs.Messages.{record_message}
-use Rattle.lc_node.proofs.Spreading.{count_grows, words_grow}
+use Rattle.lc_node.proofs.NextSent.{count_grows, words_grow}
 use Rattle.lc_node.proofs.peer_end.PeerEnd.send_record.Goals as goal
 
 pub invariant_of-self-2 : goal.invariant_of-self-2

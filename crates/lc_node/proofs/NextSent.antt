@@ -57,7 +57,7 @@ next_begins published sent count place counted placed p = (
   sym (placed ∙ (ap words_of p.3 ∙ words_numbered 1 p.0)),
 )
 
-one_further : (published front behind : List (List ℕ)) (words : List ℕ) → published ≡ front ++ behind → slice_get behind 0 ≡ Some words → (rest : List (List ℕ)) × (published ≡ (front ++ words ∷ []) ++ rest)
+pub one_further : (published front behind : List (List ℕ)) (words : List ℕ) → published ≡ front ++ behind → slice_get behind 0 ≡ Some words → (rest : List (List ℕ)) × (published ≡ (front ++ words ∷ []) ++ rest)
 one_further published front [] words is got = absurd cc
 one_further published front (r ∷ behind) words is got = let same : r ≡ words = cc in (behind, is ∙ (ap (λ x. front ++ x ∷ behind) same ∙ sym (append_assoc front (words ∷ []) behind)))
 

@@ -1,0 +1,31 @@
+-- What is sent to all peers, one after another.
+use Rattle.std.proofs.Common.{◌≡◌, ℕ, zero, suc, ◌<◌, List, [], ◌∷◌, Some, length, map, get_or, set, refl, ap, ◌∙◌, arith}
+use Rattle.std.specs.Prelude.{slice_get}
+use Rattle.std.specs.Global.{Vec, Global}
+use Rattle.std.specs.declared.collections.VecDeque.{VecDeque}
+use Rattle.std.proofs.lemmas.Option.{slice_get_within}
+use Rattle.lc_node.specs.Copies.{AreNext}
+use Rattle.lc_node.specs.Each.{Each, EachThree}
+use Rattle.lc_node.specs.Spread.{ArePrefixes}
+use Rattle.lc_node.specs.declared.peer_end.PeerEnd.{PeerEnd}
+use Rattle.lc_node.proofs.Copied.{IsSentFirst, prefix_after}
+
+-- an element is changed, and what is seen of it stays
+pub same_map : {A B : Type 0} (f : A → B) (xs : List A) (n : ℕ) (x z : A) → x ≡ get_or xs n x → n < length xs → f z ≡ f x → map f (set xs n z) ≡ map f xs
+same_map f [] n x z is within same = absurd (omega arith)
+same_map f (y ∷ xs) zero x z is within same = ap (λ b. b ∷ map f xs) (same ∙ ap f is)
+same_map f (y ∷ xs) (suc n) x z is within same = ap (λ l. f y ∷ l) (same_map f xs n x z is (omega arith) same)
+
+got_some : {A : Type 0} (xs : List A) (k : ℕ) → k < length xs → (x : A) × (slice_get xs k ≡ Some x)
+got_some [] k within = absurd (omega arith)
+got_some (x ∷ xs) zero within = (x, refl)
+got_some (x ∷ xs) (suc k) within = got_some xs k (omega arith)
+
+pub prefixes_after : {P : Type 0} (published : List (List ℕ)) (xs now : List (PeerEnd P)) (ys : List (VecDeque (Vec ℕ) Global)) → EachThree IsSentFirst xs ys now → Each (λ peer lacks. AreNext published peer lacks.items) xs ys
+    → ArePrefixes published xs → ArePrefixes published now
+prefixes_after published xs now ys sent next before k peer at =
+    let within = slice_get_within now k peer at in
+    let x = got_some xs k (let a = sent.long_too in omega arith) in
+    let y = got_some ys k (let a = sent.long_too in let b = sent.long in omega arith) in
+    let s = sent.each k x.0 y.0 peer x.1 y.1 at in
+    prefix_after published y.0.items s.0 x.0 peer (next.each k x.0 y.0 x.1 y.1) s.1 (before k x.0 x.1)

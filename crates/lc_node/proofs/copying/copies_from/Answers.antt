@@ -1,0 +1,33 @@
+use Rattle.std.proofs.Common.{rules, ◌≡◌, ◌∷◌, [], ◌++◌, Some, ℕ, List, length, sym, ap, subst, ◌∙◌, arith}
+use Rattle.std.specs.Global.{Vec}
+use Rattle.std.specs.List.{concat}
+use Rattle.lc_node.specs.Copies.{texts, FitBehind, AreBehind}
+use Rattle.lc_node.specs.Published.{published}
+use Rattle.lc_node.proofs.Copied.{words_more, fit_none, fit_more, behind_none, behind_more}
+use Rattle.lc_node.proofs.copying.copies_from.Goals as goal
+
+pub loop-init : goal.loop-init
+loop-init g c = let none : c.in_ok-copies.copies.items ≡ [] = search rules in
+    let all = published c.args.log.now in record {
+      few = (let long : length c.in_ok-copies.copies.items ≡ 0 = ap (λ (l : List (Vec ℕ)). length l) none in omega arith);
+      room = search rules;
+      here = (let long : length (concat (texts c.in_ok-copies.copies.items)) ≡ 0 = ap (λ (l : List (Vec ℕ)). length (concat (texts l))) none in omega arith);
+      fit = subst (FitBehind c.args.place) (sym none) (fit_none c.args.place (search rules));
+      behind = subst (AreBehind all c.args.place) (sym none) (behind_none all c.args.place);
+    }
+
+pub loop-preserved : goal.loop-preserved
+loop-preserved g c = let inv = c.loop.invariant in let copy = c.in_ok-copy.copy in let old = c.loop.copies.items in let all = published c.args.log.now in
+    let is : c.push_back_reserved.new.self.items ≡ old ++ copy ∷ [] = c.push_back_reserved.ensures.items in
+    let same : copy.items ≡ c.in-Some.words.now = c.in_ok-copy.ensures.items in
+    let long : length copy.items ≡ length c.in-Some.words.now = ap (λ (l : List ℕ). length l) same in
+    let at : c.len-at.result ≡ length copy.items = search rules in
+    let more = words_more old copy in record {
+      few = search rules;
+      room = search rules;
+      here = (let longer : length (concat (texts c.push_back_reserved.new.self.items)) ≡ length (concat (texts (old ++ copy ∷ []))) = ap (λ (l : List (Vec ℕ)). length (concat (texts l))) is in let before = inv.here in omega arith);
+      fit = subst (FitBehind c.args.place) (sym {A = List (Vec ℕ)} is)
+          (fit_more c.args.place old copy inv.fit (let some = c.in-Some.ensures.some in omega arith) (let within = c.in-Some.ensures.within in let before = inv.here in omega arith));
+      behind = subst (AreBehind all c.args.place) (sym {A = List (Vec ℕ)} is)
+          (behind_more all c.args.place c.loop.at old copy inv.behind inv.here (λ count start. ap (λ (l : List ℕ). Some l) same ∙ c.in-Some.ensures.found count start));
+    }

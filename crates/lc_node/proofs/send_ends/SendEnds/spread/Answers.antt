@@ -1,0 +1,15 @@
+use Rattle.std.proofs.Common.{sym, ap, subst, ◌∙◌}
+use Rattle.lc_node.specs.Copies.{AreNext}
+use Rattle.lc_node.specs.Each.{Each}
+use Rattle.lc_node.specs.Published.{published}
+use Rattle.lc_node.specs.Spread.{ArePrefixes, missing_in}
+use Rattle.lc_node.proofs.send_ends.SendEnds.spread.Goals as goal
+
+pub returns-clause-prefix : goal.returns-clause-prefix
+returns-clause-prefix g c = λ before. let all = published c.args.log.now in
+    c.send_copies-sent.ensures.prefix all (subst (λ l. Each (λ peer lacks. AreNext all peer lacks.items) l c.in-Ok.copies.items) c.as_slice.ensures.value c.in-Ok.ensures.next) before
+
+pub returns-clause-left : goal.returns-clause-left
+returns-clause-left g c = λ before. let all = published c.args.log.now in
+    let after : ArePrefixes all c.send_copies-sent.new.peers.items = c.send_copies-sent.ensures.prefix all (subst (λ l. Each (λ peer lacks. AreNext all peer lacks.items) l c.in-Ok.copies.items) c.as_slice.ensures.value c.in-Ok.ensures.next) before in
+    c.missing-left.ensures (subst (ArePrefixes all) (sym c.as_slice-2.ensures.value) after) ∙ ap (missing_in all) c.as_slice-2.ensures.value

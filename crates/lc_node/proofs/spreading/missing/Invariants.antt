@@ -1,0 +1,10 @@
+use Rattle.std.proofs.Common.{◌≡◌, ◌*◌, ◌^◌, ◌≤◌, take}
+use Rattle.lc_node.specs.Published.{published}
+use Rattle.lc_node.specs.Spread.{ArePrefixes, missing_in}
+use Rattle.lc_node.proofs.spreading.missing.Given as goal
+
+abbrev pub invariant-loop-peer : goal.invariant-loop-peer
+invariant-loop-peer g l = record {
+  few : l.left ≤ l.peer-index * 2 ^ 64;
+  so_far : ArePrefixes (published l.log) l.peers → l.left ≡ missing_in (published l.log) (take l.peer-index l.peers);
+}

@@ -1,0 +1,64 @@
+//! Copies of the records that peers lack.
+ghost use Rattle.std.specs.Prelude.{◌≡◌, ◌-◌, ◌≤◌, ℕ, length, IfOk};
+ghost use Rattle.lc_node.specs.Copies.{FitBehind, AreBehind, CanBeSent, AreNext};
+ghost use Rattle.lc_node.specs.Each.{Each};
+ghost use Rattle.lc_node.specs.Published.{published, IsStart};
+
+use crate::{LogSide, PeerEnd};
+use lc_disk::Area;
+use lc_line::ROOM;
+use std::alloc::{AllocError, Global};
+use std::collections::VecDeque;
+
+// For each peer copies of the records that it is to be sent next.
+pub(crate) fn copies_for<P: Drop, D: Area + Drop>(
+    alloc: Global,
+    log: &LogSide<D>,
+    peers: &[PeerEnd<P>],
+) -> Result<Vec<VecDeque<Vec<u64>>>, AllocError>
+    ensures fit { IfOk result (λ copies. Each (λ peer lacks. CanBeSent peer lacks.items) peers.now copies.items) }
+    ensures next { IfOk result (λ copies. Each (λ peer lacks. AreNext (published log.now) peer lacks.items) peers.now copies.items) }
+{
+    let mut copies = Vec::with_capacity(alloc, peers.len())?;
+    for peer in peers {
+        let lacks = copies_from(alloc, log, peer.place)?;
+        copies.push_reserved(lacks);
+    }
+    Ok(copies)
+}
+
+// Copies of the records from a place on, as many as a line has room for.
+fn copies_from<D: Area + Drop>(
+    alloc: Global,
+    log: &LogSide<D>,
+    place: usize,
+) -> Result<VecDeque<Vec<u64>>, AllocError>
+    ensures few { IfOk result (λ copies. length copies.items ≤ 64) }
+    ensures fit { IfOk result (λ copies. FitBehind place copies.items) }
+    ensures behind { IfOk result (λ copies. AreBehind (published log.now) place copies.items) }
+{
+    let mut copies = VecDeque::with_capacity(alloc, ROOM)?;
+    let mut at = place;
+    for _ in 0..ROOM {
+        let Some(words) = log.record_at(at) else {
+            break;
+        };
+        let copy = Vec::from_slice(alloc, words)?;
+        at += copy.len();
+        copies.push_back_reserved(copy);
+    }
+    Ok(copies)
+}
+
+// How many records are published from a place on.
+pub(crate) fn count_behind<D: Area + Drop>(log: &LogSide<D>, place: usize) -> u64
+    ensures { (count : ℕ) → IsStart (published log.now) count place → result ≡ length (published log.now) - count }
+{
+    let mut at = place;
+    let mut count = 0;
+    while let Some(words) = log.record_at(at) {
+        at += words.len();
+        count += 1;
+    }
+    count
+}

@@ -1,0 +1,99 @@
+//! How published records are sent to all peers.
+ghost use Rattle.std.specs.Prelude.{◌≡◌, ◌+◌, ◌≤◌, ℕ, List, IfOk, IfErr, OnErr};
+ghost use Rattle.lc_node.specs.Copies.{CanBeSent, AreNext, SendsFirst};
+ghost use Rattle.lc_node.specs.Each.{Each};
+ghost use Rattle.lc_node.specs.Published.{published};
+ghost use Rattle.lc_node.specs.Spread.{ArePrefixes, SameLines, sent_in, missing_in, tokens_in};
+ghost use Rattle.lc_node.specs.declared.node_fault.NodeFault.TheVariants.{NoMemory};
+
+use crate::copying::{copies_for, count_behind};
+use crate::{LogSide, NodeFault, PeerEnd, SendEnds};
+use lc_disk::Area;
+use std::alloc::Global;
+use std::collections::VecDeque;
+use std::sync::Wait;
+
+/// How many records were sent, and how many are still missing, those of each peer counted.
+#[derive(Clone, Copy, Debug, PartialEq, Eq)]
+pub struct Spread {
+    pub sent: u128,
+    pub left: u128,
+}
+
+impl<P: Drop> SendEnds<P> {
+    /// Sends each peer the published records that it lacks, in the order of their numbers, at most 64 in a call and until its
+    /// line has no room. All that may be sent is copied before the first is sent: NoMemory, the one fault, changes nothing.
+    /// Log-based coherency: Feeley et al., OSDI 1994.
+    pub fn spread<D: Area + Drop, R: Wait>(
+        &mut self,
+        rt: &R,
+        alloc: Global,
+        log: &LogSide<D>,
+    ) -> Result<Spread, NodeFault>
+        ensures prefix { ArePrefixes (published log.now) self.old.ends.items → ArePrefixes (published log.now) self.new.ends.items }
+        ensures sent { IfOk result (λ s. sent_in self.new.ends.items ≡ sent_in self.old.ends.items + s.sent) }
+        ensures left { IfOk result (λ s. ArePrefixes (published log.now) self.old.ends.items → s.left ≡ missing_in (published log.now) self.new.ends.items) }
+        ensures tokens { tokens_in self.new.ends.items ≡ tokens_in self.old.ends.items }
+        ensures lines { SameLines self.old.ends.items self.new.ends.items }
+        ensures err { OnErr result (self.new ≡ self.old) }
+        ensures which { IfErr result (λ fault. fault ≡ NoMemory) }
+    {
+        let Ok(copies) = copies_for(alloc, log, self.ends.as_slice()) else {
+            return Err(NodeFault::NoMemory);
+        };
+        let sent = send_copies(rt, &mut self.ends, copies);
+        let left = missing(log, self.ends.as_slice());
+        Ok(Spread { sent, left })
+    }
+}
+
+// Sends each peer the copies for it. It answers how many were sent.
+fn send_copies<P: Drop, R: Wait>(
+    rt: &R,
+    peers: &mut Vec<PeerEnd<P>>,
+    copies: Vec<VecDeque<Vec<u64>>>,
+) -> u128
+    requires fit { Each (λ peer lacks. CanBeSent peer lacks.items) peers.old.items copies.items }
+    ensures prefix { (published : List (List ℕ)) → Each (λ peer lacks. AreNext published peer lacks.items) peers.old.items copies.items → ArePrefixes published peers.old.items → ArePrefixes published peers.new.items }
+    ensures sent { sent_in peers.new.items ≡ sent_in peers.old.items + result }
+    ensures tokens { tokens_in peers.new.items ≡ tokens_in peers.old.items }
+    ensures lines { SameLines peers.old.items peers.new.items }
+{
+    let mut copies = copies;
+    let mut sent = 0;
+    while let Some(lacks) = copies.pop() {
+        let peer = &mut peers[copies.len()];
+        sent += u128::from(peer.send_all(rt, lacks));
+    }
+    sent
+}
+
+impl<P: Drop> PeerEnd<P> {
+    // Sends records as the next, until one is refused; that and those behind it are dropped. It answers how many were sent.
+    fn send_all<R: Wait>(&mut self, rt: &R, records: VecDeque<Vec<u64>>) -> u64
+        requires fit { CanBeSent self.old records.items }
+        ensures sent { SendsFirst records.items result self.old self.new }
+        ensures few { result ≤ 64 }
+    {
+        let mut records = records;
+        let mut sent = 0;
+        while let Some(words) = records.pop_front() {
+            if !self.send_record(rt, words) {
+                break;
+            }
+            sent += 1;
+        }
+        sent
+    }
+}
+
+// How many of the published records were not sent, those of each peer counted.
+fn missing<P: Drop, D: Area + Drop>(log: &LogSide<D>, peers: &[PeerEnd<P>]) -> u128
+    ensures { ArePrefixes (published log.now) peers.now → result ≡ missing_in (published log.now) peers.now }
+{
+    let mut left = 0;
+    for peer in peers {
+        left += u128::from(count_behind(log, peer.place));
+    }
+    left
+}
