@@ -1,12 +1,12 @@
 -- What is sent to all peers, one after another.
-use Rattle.std.proofs.Common.{◌≡◌, ℕ, zero, suc, ◌<◌, List, [], ◌∷◌, Some, length, map, get_or, set, refl, ap, ◌∙◌, arith}
+use Rattle.std.proofs.Common.{◌≡◌, ℕ, zero, suc, ◌<◌, List, [], ◌∷◌, ◌++◌, Some, length, map, get_or, set, refl, ap, ◌∙◌, arith, length-append}
 use Rattle.std.specs.Prelude.{slice_get}
 use Rattle.std.specs.Global.{Vec, Global}
 use Rattle.std.specs.declared.collections.VecDeque.{VecDeque}
 use Rattle.std.proofs.lemmas.Option.{slice_get_within}
-use Rattle.lc_node.specs.Copies.{AreNext}
+use Rattle.lc_node.specs.Copies.{texts, CanBeSent, AreNext}
 use Rattle.lc_node.specs.Each.{Each, EachThree}
-use Rattle.lc_node.specs.Spread.{ArePrefixes}
+use Rattle.lc_node.specs.Spread.{ArePrefixes, SendsFew}
 use Rattle.lc_node.specs.declared.peer_end.PeerEnd.{PeerEnd}
 use Rattle.lc_node.proofs.Copied.{IsSentFirst, prefix_after}
 
@@ -29,3 +29,19 @@ prefixes_after published xs now ys sent next before k peer at =
     let y = got_some ys k (let a = sent.long_too in let b = sent.long in omega arith) in
     let s = sent.each k x.0 y.0 peer x.1 y.1 at in
     prefix_after published y.0.items s.0 x.0 peer (next.each k x.0 y.0 x.1 y.1) s.1 (before k x.0 x.1)
+
+pub few_sent : {P : Type 0} (xs now : List (PeerEnd P)) (ys : List (VecDeque (Vec ℕ) Global)) → EachThree IsSentFirst xs ys now → Each (λ peer lacks. CanBeSent peer lacks.items) xs ys → Each SendsFew xs now
+few_sent xs now ys sent fit = record {
+  long = sent.long_too;
+  each = λ k x z x_at z_at.
+      let within = slice_get_within xs k x x_at in
+      let y = got_some ys k (let a = sent.long in omega arith) in
+      let s = (sent.each k x y.0 z x_at y.1 z_at).1 in
+      let most = (fit.each k x y.0 x_at y.1).0 in
+      let whole : length y.0.items ≡ length (s.0 ++ s.1) = ap (λ l. length l) s.2 in let both = length-append s.0 s.1 in let long = length_texts s.0 in
+      (texts s.0, omega arith, s.4.records);
+}
+  where
+    length_texts : (copies : List (Vec ℕ)) → length (texts copies) ≡ length copies
+    length_texts [] = refl
+    length_texts (x ∷ xs) = ap suc (length_texts xs)

@@ -1,5 +1,5 @@
 -- What of a node's published records was sent to its peers.
-use Rattle.std.specs.Prelude.{◌≡◌, ℕ, ◌+◌, ◌-◌, List, [], ◌∷◌, ◌++◌, length, Some, None, slice_get, map, sum_by}
+use Rattle.std.specs.Prelude.{◌≡◌, ◌≤◌, ℕ, ◌+◌, ◌-◌, List, [], ◌∷◌, ◌++◌, length, Some, None, slice_get, map, sum_by}
 use Rattle.std.specs.Global.{Vec}
 use Rattle.atomic_table.specs.Seated.{TableId}
 use Rattle.atomic_table.specs.declared.badge.Badge.{Badge}
@@ -40,6 +40,11 @@ module _ {P : Type 0} where
   IsThere Sent published old = (words : List ℕ) × (slice_get published (count_of old) ≡ Some words)
   IsThere NoRoom published old = (words : List ℕ) × (slice_get published (count_of old) ≡ Some words)
   IsThere NoneLeft published old = slice_get published (count_of old) ≡ None
+
+  -- the next records were sent to a peer with the next numbers, 64 at most
+  abbrev pub SendsFew : PeerEnd P → PeerEnd P → Type 0
+  SendsFew old new =
+      (records : List (List ℕ)) × (length records ≤ 64) × (records_in (sent_to new) ≡ records_in (sent_to old) ++ numbered (count_of old + 1) records)
 
   -- what holds of each peer
   abbrev pub ArePrefixes : List (List ℕ) → List (PeerEnd P) → Type 0

@@ -1,9 +1,9 @@
 //! How published records are sent to all peers.
-ghost use Rattle.std.specs.Prelude.{◌≡◌, ◌+◌, ◌≤◌, ℕ, List, IfOk, IfErr, OnErr};
+ghost use Rattle.std.specs.Prelude.{◌≡◌, ◌+◌, ◌≤◌, ℕ, List, IfOk, IfErr, OnOk, OnErr};
 ghost use Rattle.lc_node.specs.Copies.{CanBeSent, AreNext, SendsFirst};
 ghost use Rattle.lc_node.specs.Each.{Each};
 ghost use Rattle.lc_node.specs.Published.{published};
-ghost use Rattle.lc_node.specs.Spread.{ArePrefixes, SameLines, sent_in, missing_in, tokens_in};
+ghost use Rattle.lc_node.specs.Spread.{ArePrefixes, SameLines, SendsFew, sent_in, missing_in, tokens_in};
 ghost use Rattle.lc_node.specs.declared.node_fault.NodeFault.TheVariants.{NoMemory};
 
 use crate::copying::{copies_for, count_behind};
@@ -31,6 +31,7 @@ impl<P: Drop> SendEnds<P> {
         log: &LogSide<D>,
     ) -> Result<Spread, NodeFault>
         ensures prefix { ArePrefixes (published log.now) self.old.ends.items → ArePrefixes (published log.now) self.new.ends.items }
+        ensures each { OnOk result (Each SendsFew self.old.ends.items self.new.ends.items) }
         ensures sent { IfOk result (λ s. sent_in self.new.ends.items ≡ sent_in self.old.ends.items + s.sent) }
         ensures left { IfOk result (λ s. ArePrefixes (published log.now) self.old.ends.items → s.left ≡ missing_in (published log.now) self.new.ends.items) }
         ensures tokens { tokens_in self.new.ends.items ≡ tokens_in self.old.ends.items }
@@ -55,6 +56,7 @@ fn send_copies<P: Drop, R: Wait>(
 ) -> u128
     requires fit { Each (λ peer lacks. CanBeSent peer lacks.items) peers.old.items copies.items }
     ensures prefix { (published : List (List ℕ)) → Each (λ peer lacks. AreNext published peer lacks.items) peers.old.items copies.items → ArePrefixes published peers.old.items → ArePrefixes published peers.new.items }
+    ensures each { Each SendsFew peers.old.items peers.new.items }
     ensures sent { sent_in peers.new.items ≡ sent_in peers.old.items + result }
     ensures tokens { tokens_in peers.new.items ≡ tokens_in peers.old.items }
     ensures lines { SameLines peers.old.items peers.new.items }

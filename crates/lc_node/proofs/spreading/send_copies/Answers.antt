@@ -4,7 +4,7 @@ use Rattle.lc_node.specs.Spread.{sent_to, line_of, count_of}
 use Rattle.lc_node.specs.Messages.{tokens_among}
 use Rattle.lc_node.proofs.Backwards.{Backwards, step, finish}
 use Rattle.lc_node.proofs.Copied.{IsSentFirst, count_after}
-use Rattle.lc_node.proofs.SentToAll.{same_map, prefixes_after}
+use Rattle.lc_node.proofs.SentToAll.{same_map, prefixes_after, few_sent}
 use Rattle.lc_node.proofs.spreading.send_copies.Goals as goal
 
 pub send_all-requires : goal.send_all-requires
@@ -32,3 +32,8 @@ pub returns-clause-prefix : goal.returns-clause-prefix
 returns-clause-prefix g c = λ published next before.
     let none : c.loop-lacks.copies.items ≡ [] = search rules in
     prefixes_after published c.args.peers.now.items c.loop-lacks.peers.items c.args.copies.items (finish IsSentFirst c.args.peers.now.items c.loop-lacks.peers.items c.args.copies.items c.loop-lacks.copies.items c.loop-lacks.invariant.sends none) next before
+
+pub returns-clause-each : goal.returns-clause-each
+returns-clause-each g c =
+    let none : c.loop-lacks.copies.items ≡ [] = search rules in
+    few_sent c.args.peers.now.items c.loop-lacks.peers.items c.args.copies.items (finish IsSentFirst c.args.peers.now.items c.loop-lacks.peers.items c.args.copies.items c.loop-lacks.copies.items c.loop-lacks.invariant.sends none) c.requires.fit
