@@ -13,7 +13,8 @@ use std::alloc::Global;
 use std::collections::VecDeque;
 use std::sync::Wait;
 
-/// How many records were sent, and how many are still missing, those of each peer counted.
+/// How many records were sent, and how many are still missing, those of each peer counted. A `u128` holds either for any
+/// number of peers.
 #[derive(Clone, Copy, Debug, PartialEq, Eq)]
 pub struct Spread {
     pub sent: u128,
