@@ -6,8 +6,11 @@ ghost use Rattle.lc_stage.specs.Staging.{IsOneRecord, newcomer};
 ghost use Rattle.lc_stage.specs.Seats.{commit_view, IsSeatOf, IsIdle};
 ghost use Rattle.lc_node.specs.Receipts.{HasReceipt};
 
-use crate::{Confirmed, Gate, LogSide, Node, NodeFault, stage_record};
+use crate::{
+    Confirmed, Gate, LogSide, Message, Node, NodeFault, PeerEnd, SendEnds, Spread, stage_record,
+};
 use lc_disk::{Area, MemArea};
+use lc_line::{RecvEnd, open_line};
 use lc_page::{PageText, PageVector};
 use lc_record::{Geometry, Items, Lock, RangeData, Record, encode};
 use lc_recover::{Progress, Recovered, Recovery};
@@ -222,5 +225,57 @@ fn here_and_then_earlier(rt: HostRuntime) -> Result<(), Fail> {
     assert!(rt; staged == Ok(()));
     assert!(rt; node.flush(&rt) == Ok(1), "it was staged");
     assert!(rt; node.flush(&rt) == Ok(0), "nothing is staged any more");
+    Ok(())
+}
+
+// How many records the peers of a node are sent, and how many they lack then.
+fn spread<D: Area + Drop, R: Wait>(
+    rt: &R,
+    alloc: Global,
+    node: &Node<D>,
+    ends: &mut SendEnds<u64>,
+) -> Option<(u128, u128)> {
+    let lock = node.log_lock();
+    let (log, loan) = lock.lock(rt);
+    let spread = ends.spread(rt, alloc, &log);
+    lock.unlock(log, loan);
+    match spread {
+        Ok(Spread { sent, left }) => Some((sent, left)),
+        Err(_) => None,
+    }
+}
+
+// The number and the length of the record that a peer takes.
+fn taken<R: Wait>(rt: &R, from: &mut RecvEnd<Message<u64>>) -> Option<(u64, usize)> {
+    match from.take(rt) {
+        Some(Message::Record { number, words }) => Some((number, words.len())),
+        _ => None,
+    }
+}
+
+#[test]
+fn records_are_sent_over_a_reset(rt: HostRuntime) -> Result<(), Fail> {
+    let alloc = rt.alloc();
+    let (node, mut seat) = opened(alloc)?;
+    let (to, mut from) = open_line::<Message<u64>>(alloc)?;
+    let mut peers = Vec::with_capacity(alloc, 1)?;
+    peers.push_reserved(PeerEnd::new(to));
+    let mut ends = SendEnds::new(peers);
+    assert!(rt; spread(&rt, alloc, &node, &mut ends) == Some((0, 0)));
+    let words = words_of(alloc, 1)?.expect(&rt, "a record");
+    commit(&rt, &node, &mut seat, words.as_slice()).expect(&rt, "a receipt");
+    assert!(rt; spread(&rt, alloc, &node, &mut ends) == Some((1, 0)));
+    see(&rt, alloc, &node, 1)?;
+    assert!(rt; reset(&rt, &node) == Ok(1), "the page has it");
+    let words = words_of(alloc, 2)?.expect(&rt, "a record");
+    commit(&rt, &node, &mut seat, words.as_slice()).expect(&rt, "a receipt");
+    assert!(rt;
+        spread(&rt, alloc, &node, &mut ends) == Some((1, 0)),
+        "the second"
+    );
+    assert!(rt; spread(&rt, alloc, &node, &mut ends) == Some((0, 0)));
+    assert!(rt; taken(&rt, &mut from) == Some((1, 8)));
+    assert!(rt; taken(&rt, &mut from) == Some((2, 8)));
+    assert!(rt; taken(&rt, &mut from).is_none());
     Ok(())
 }
