@@ -20,6 +20,8 @@ module _ {D : Type 0} where
     pub stable : new.stable ≡ old.stable ++ words
     pub ended : new.ended ≡ old.ended
     pub ended_room : new.ended_room ≡ old.ended_room
+    pub round : new.round ≡ old.round
+    pub known : new.known ≡ old.known
     pub records : AreInFront words (length words) count
     pub serves : new.is_halted ≡ false
     pub nothing : words ≡ [] → new.area ≡ old.area

@@ -113,6 +113,8 @@ returns-then-words-eq0-clause-flushed g c = let words : List ℕ = c.take-words.
       stable = sym (ap (λ (l : List ℕ). c.self.inside.stable.items ++ l) none ∙ append-nil c.self.inside.stable.items);
       ended = refl;
       ended_room = refl;
+      round = refl;
+      known = refl;
       records = subst (λ (l : List ℕ). AreInFront l (length l) 0) (sym none) no_record_in_front;
       serves = refl;
       nothing = λ _. ap (area_of g.D.Area) (sym c.in-Idle.is ∙ c.replace.ensures.value);
