@@ -1,5 +1,5 @@
 //! Copies of the records that peers lack.
-ghost use Rattle.std.specs.Prelude.{◌≡◌, ◌-◌, ◌≤◌, ℕ, length, IfOk};
+ghost use Rattle.std.specs.Prelude.{◌≡◌, ◌-◌, ◌<◌, ◌≤◌, ℕ, length, IfOk, OnErr};
 ghost use Rattle.lc_node.specs.Copies.{FitBehind, AreBehind, CanBeSent, AreNext};
 ghost use Rattle.lc_node.specs.Each.{Each};
 ghost use Rattle.lc_node.specs.Published.{published, IsStart};
@@ -18,6 +18,7 @@ pub(crate) fn copies_for<P: Drop, D: Area + Drop>(
 ) -> Result<Vec<VecDeque<Vec<u64>>>, AllocError>
     ensures fit { IfOk result (λ copies. Each (λ peer lacks. CanBeSent peer lacks.items) peers.now copies.items) }
     ensures next { IfOk result (λ copies. Each (λ peer lacks. AreNext (published log.now) peer lacks.items) peers.now copies.items) }
+    ensures memory { OnErr result (0 < length peers.now) }
 {
     let mut copies = Vec::with_capacity(alloc, peers.len())?;
     for peer in peers {

@@ -48,6 +48,7 @@ impl<P: Drop> PeerEnd<P> {
         ensures sent { IfOk result (λ next. SendsNext next self.old self.new) }
         ensures prefix { IsPrefix (published log.now) self.old → IsPrefix (published log.now) self.new }
         ensures there { IsPrefix (published log.now) self.old → IfOk result (λ next. IsThere next (published log.now) self.old) }
+        ensures memory { IsPrefix (published log.now) self.old → OnErr result (IsThere Next.Sent (published log.now) self.old) }
         ensures line { line_of self.new ≡ line_of self.old }
         ensures err { OnErr result (self.new ≡ self.old) }
         ensures which { IfErr result (λ fault. fault ≡ NoMemory) }

@@ -1,5 +1,5 @@
 //! How published records are sent to all peers.
-ghost use Rattle.std.specs.Prelude.{◌≡◌, ◌+◌, ◌≤◌, ℕ, List, IfOk, IfErr, OnOk, OnErr};
+ghost use Rattle.std.specs.Prelude.{◌≡◌, ◌+◌, ◌<◌, ◌≤◌, ℕ, List, length, IfOk, IfErr, OnOk, OnErr};
 ghost use Rattle.lc_node.specs.Copies.{CanBeSent, AreNext, SendsFirst};
 ghost use Rattle.lc_node.specs.Each.{Each};
 ghost use Rattle.lc_node.specs.Published.{published};
@@ -39,6 +39,7 @@ impl<P: Drop> SendEnds<P> {
         ensures lines { SameLines self.old.ends.items self.new.ends.items }
         ensures err { OnErr result (self.new ≡ self.old) }
         ensures which { IfErr result (λ fault. fault ≡ NoMemory) }
+        ensures memory { OnErr result (0 < length self.old.ends.items) }
     {
         let Ok(copies) = copies_for(alloc, log, self.ends.as_slice()) else {
             return Err(NodeFault::NoMemory);

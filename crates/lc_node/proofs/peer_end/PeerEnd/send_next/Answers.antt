@@ -25,3 +25,8 @@ pub returns-else-send_record-clause-there : goal.returns-else-send_record-clause
 returns-else-send_record-clause-there g c = λ prefix. let peer = c.args.self.now in let all = published c.args.log.now in
     let start : IsStart all peer.count peer.place = next_begins all (sent_to peer) peer.count peer.place peer.counted peer.placed prefix in
     (c.in-Some.words.now, ap (slice_get all) (sym peer.counted) ∙ sym (c.in-Some.ensures.found peer.count start))
+
+pub returns-in_default-from_slice-clause-memory : goal.returns-in_default-from_slice-clause-memory
+returns-in_default-from_slice-clause-memory g c = λ prefix. let peer = c.args.self.now in let all = published c.args.log.now in
+    let start : IsStart all peer.count peer.place = next_begins all (sent_to peer) peer.count peer.place peer.counted peer.placed prefix in
+    (c.in-Some.words.now, ap (slice_get all) (sym peer.counted) ∙ sym (c.in-Some.ensures.found peer.count start))
