@@ -21,19 +21,20 @@ use lc_disk::Area;
 use lc_record::{Part, View};
 use lc_stage::{CommitSeat, Stage};
 use lc_tx::Prepared;
+use smallvec::SmallVec;
 use std::alloc::{AllocError, Global};
 
-// The segments of the sides, in order.
+// The segments of the sides, in order. It takes memory for more than 16 alone.
 pub(crate) fn segments_in<D: Area + Drop>(
     alloc: Global,
     sides: &[HeldSide<D>],
-) -> Result<Vec<u32>, AllocError>
+) -> Result<SmallVec<u32, 16>, AllocError>
     ensures segments { IfOk result (λ segments. segments.items ≡ map (λ h. h.side.segment) sides.now) }
-    ensures no_memory { OnErr result (0 < length sides.now) }
+    ensures no_memory { OnErr result (16 < length sides.now) }
 {
-    let mut segments = Vec::with_capacity(alloc, sides.len())?;
+    let mut segments = SmallVec::new(alloc);
     for held in sides {
-        segments.push_reserved(held.side.segment());
+        segments.push(held.side.segment())?;
     }
     Ok(segments)
 }
