@@ -34,6 +34,7 @@ mod places;
 mod preparing;
 mod publishing;
 mod put;
+mod reserved;
 mod resetting;
 mod running;
 mod seeing;

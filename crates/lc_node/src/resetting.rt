@@ -20,9 +20,6 @@ use std::mem;
 // No round comes after it.
 pub(crate) const LAST_ROUND: u64 = (1 << 48) - 1;
 
-// A tail is so many times its round, and its offset.
-const ROUND_TAIL: u64 = 65536;
-
 impl<D: Area + Drop> LogSide<D> {
     /// Empties the log and begins the next round, and answers which round the log is in then. Where the log has no
     /// stable record nothing is done, and the present round is answered. The stage is sealed while the device is called,
@@ -87,7 +84,7 @@ impl<D: Area + Drop> LogSide<D> {
         ensures lost { IfErr result (λ fault. IsUnsealed self.old fault self.new) }
     {
         let at = stage.tail(&mut self.probe);
-        if at != self.round * ROUND_TAIL + self.stable.len() as u64 {
+        if at != self.stable_tail() {
             return Err(NodeFault::Lost { seen: at });
         }
         stage.note(&mut self.flusher, &mut self.probe);
