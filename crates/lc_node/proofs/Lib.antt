@@ -23,6 +23,7 @@ pub mod Noted
 pub mod Outside
 pub mod PagesWritten
 pub mod PartsOf
+pub mod PeerPlaces
 pub mod Published
 pub mod PutBytes
 pub mod Rounds

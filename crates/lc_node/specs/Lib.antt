@@ -18,6 +18,7 @@ pub mod LogSide
 pub mod LogView
 pub mod Messages
 pub mod Pages
+pub mod Peers
 pub mod Published
 pub mod Put
 pub mod Ran

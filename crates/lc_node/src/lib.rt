@@ -30,6 +30,7 @@ mod opening;
 mod page_area;
 mod page_writes;
 mod peer_end;
+mod peers;
 mod places;
 mod preparing;
 mod publishing;
