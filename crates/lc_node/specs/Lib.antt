@@ -23,6 +23,7 @@ pub mod Published
 pub mod Put
 pub mod Ran
 pub mod Receipts
+pub mod Receiving
 pub mod Resets
 pub mod Rooms
 pub mod SegSide
