@@ -31,6 +31,7 @@ pub mod SegView
 pub mod Sides
 pub mod Spread
 pub mod Stages
+pub mod Tokens
 pub mod Touched
 pub mod Travelling
 pub mod Truncates

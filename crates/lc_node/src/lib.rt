@@ -46,6 +46,7 @@ mod seg_room;
 mod seg_side;
 mod send_ends;
 mod sending;
+mod sending_tokens;
 mod settling;
 mod spreading;
 mod staging;
