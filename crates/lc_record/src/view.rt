@@ -151,8 +151,8 @@ impl<'a> View<'a> {
         }))
     }
 
-    // The number of the record among those of this segment, if it has a lock on it.
-    fn number_in(&self, segment: u32) -> Option<u64>
+    /// The number of the record among those of this segment, if it has a lock on it.
+    pub fn number_in(&self, segment: u32) -> Option<u64>
         ensures { result ≡ number_in segment self.now.locks }
     {
         for index in 0..self.lock_count() {
