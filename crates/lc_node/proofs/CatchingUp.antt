@@ -14,11 +14,11 @@ use Rattle.lc_node.specs.declared.page_area.PageArea.{PageArea}
 use Rattle.lc_node.specs.declared.page_area.PageArea.TheVariants.{Elsewhere, Serves, Failed}
 
 -- where no token is, nothing is said of the bytes
-pub fits_elsewhere : {D : Type 0} (a : Ghosts D) (pages : PageArea D) (token : Option Token) (bytes others : List ℕ) → token ≡ None → FitsArea a pages token bytes → FitsArea a pages token others
-fits_elsewhere a Elsewhere token bytes others none fits = fits
-fits_elsewhere a (Serves area) None bytes others none fits = absurd fits
-fits_elsewhere a (Serves area) (Some t) bytes others none fits = absurd cc
-fits_elsewhere a (Failed area) token bytes others none fits = fits
+pub fits_elsewhere : {D : Type 0} (a : Ghosts D) (since : ℕ) (pages : PageArea D) (token : Option Token) (bytes others : List ℕ) → token ≡ None → FitsArea a since pages token bytes → FitsArea a since pages token others
+fits_elsewhere a since Elsewhere token bytes others none fits = fits
+fits_elsewhere a since (Serves area) None bytes others none fits = absurd fits
+fits_elsewhere a since (Serves area) (Some t) bytes others none fits = absurd cc
+fits_elsewhere a since (Failed area) token bytes others none fits = fits
 
 -- the next one is taken
 module _ (old new : Backlog) (part : Part) (taken : HandsOutKept old (Some part) new) where

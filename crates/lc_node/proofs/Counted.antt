@@ -45,12 +45,12 @@ token_counted part old mid new t is counts touches =
     ∙ ap (λ (o : Option Token). record old { token = next_token part o }) (sym is))
 
 -- the area stands as the token says, with the part on the bytes
-pub area_counted : {D : Type 0} (a : Ghosts D) (pages : PageArea D) (token : Option Token) (part : Part) (bytes : List ℕ) → IsNext part token
-    → FitsArea a pages token bytes → FitsArea a pages (next_token part token) (laid_over part.ranges bytes)
-area_counted a pages None part bytes next fits = absurd next
-area_counted a Elsewhere (Some t) part bytes next fits = absurd cc
-area_counted a (Serves area) (Some t) part bytes next fits = counted_fits a area t bytes part.ranges fits next.1
-area_counted a (Failed area) (Some t) part bytes next fits = refl
+pub area_counted : {D : Type 0} (a : Ghosts D) (since : ℕ) (pages : PageArea D) (token : Option Token) (part : Part) (bytes : List ℕ) → IsNext part token
+    → FitsArea a since pages token bytes → FitsArea a since pages (next_token part token) (laid_over part.ranges bytes)
+area_counted a since pages None part bytes next fits = absurd next
+area_counted a since Elsewhere (Some t) part bytes next fits = absurd cc
+area_counted a since (Serves area) (Some t) part bytes next fits = counted_fits a since area t bytes part.ranges fits next.1
+area_counted a since (Failed area) (Some t) part bytes next fits = refl
 
 -- it has as many pages
 pub few_behind : (part : Part) (o : Option Token) (n : ℕ) → ForSome o (λ t. length t.pages ≤ n) → ForSome (next_token part o) (λ t. length t.pages ≤ n)

@@ -68,24 +68,24 @@ is_touched : (b : Bool) (seq : ℕ) (entry : Entry) → entry.touched ≤ seq �
 is_touched true seq entry is = omega arith
 is_touched false seq entry is = omega arith
 
-module _ {D : Type 0} (a : Ghosts D) (area : D) where
+module _ {D : Type 0} (a : Ghosts D) (since : ℕ) (area : D) where
   page_fits : (b : Bool) (seq page : ℕ) (old new : List ℕ) (entry : Entry) → entry.stable ≤ seq → (b ≡ false → page_bytes new page ≡ page_bytes old page)
-      → FitsPage a area old page entry → FitsPage a area new page (cond b (touched_at entry (seq + 1)) entry)
+      → FitsPage a since area old page entry → FitsPage a since area new page (cond b (touched_at entry (seq + 1)) entry)
   page_fits true seq page old new entry stable same h = record {
     settled_in = h.settled_in;
-    same = λ clean honest. let dirty = lt-ltb entry.stable (max entry.touched (seq + 1)) (omega arith) in let both : true ≡ false = sym dirty ∙ clean in absurd cc;
+    same = λ clean late honest. let dirty = lt-ltb entry.stable (max entry.touched (seq + 1)) (omega arith) in let both : true ≡ false = sym dirty ∙ clean in absurd cc;
   }
   page_fits false seq page old new entry stable same h = record {
     settled_in = h.settled_in;
-    same = λ clean honest. h.same clean honest ∙ sym (same refl);
+    same = λ clean late honest. h.same clean late honest ∙ sym (same refl);
   }
 
 -- the token's number rises by one, the record's ranges are laid over the segment's bytes, and the pages on which they have a
 -- byte are touched
-pub counted_fits : {D : Type 0} (a : Ghosts D) (area : D) (token : Token) (bytes : List ℕ) (ranges : List RangeData)
-    → FitsToken a area token bytes → token.seq < 2 ^ 60
-    → FitsToken a area (record token { seq = token.seq + 1; pages = touched_pages ranges (token.seq + 1) token.pages }) (laid_over ranges bytes)
-counted_fits {D} a area token bytes ranges h next =
+pub counted_fits : {D : Type 0} (a : Ghosts D) (since : ℕ) (area : D) (token : Token) (bytes : List ℕ) (ranges : List RangeData)
+    → FitsToken a since area token bytes → token.seq < 2 ^ 60
+    → FitsToken a since area (record token { seq = token.seq + 1; pages = touched_pages ranges (token.seq + 1) token.pages }) (laid_over ranges bytes)
+counted_fits {D} a since area token bytes ranges h next =
     let new : List Entry = touched_pages ranges (token.seq + 1) token.pages in
     let count : length new ≡ length token.pages = length-touched_pages ranges (token.seq + 1) token.pages in
     let laid : length (laid_over ranges bytes) ≡ length bytes = length-laid_over ranges bytes in
@@ -99,6 +99,6 @@ counted_fits {D} a area token bytes ranges h next =
       free = λ page l. subst (λ (e : Entry). e.uncommitted ≡ 0) (sym (at page l)) (is_free (any page) (token.seq + 1) (entry_at token.pages page) (h.free page (among page l)));
       stable = λ page l. subst (λ (e : Entry). e.stable ≤ token.seq + 1) (sym (at page l)) (is_stable (any page) token.seq (entry_at token.pages page) (h.stable page (among page l)));
       touched = λ page l. subst (λ (e : Entry). e.touched ≤ token.seq + 1) (sym (at page l)) (is_touched (any page) token.seq (entry_at token.pages page) (h.touched page (among page l)));
-      each = λ page l. subst (FitsPage a area (laid_over ranges bytes) page) (sym (at page l))
-          (page_fits a area (any page) token.seq page bytes (laid_over ranges bytes) (entry_at token.pages page) (h.stable page (among page l)) (other_pages ranges bytes page) (h.each page (among page l)));
+      each = λ page l. subst (FitsPage a since area (laid_over ranges bytes) page) (sym (at page l))
+          (page_fits a since area (any page) token.seq page bytes (laid_over ranges bytes) (entry_at token.pages page) (h.stable page (among page l)) (other_pages ranges bytes page) (h.each page (among page l)));
     }

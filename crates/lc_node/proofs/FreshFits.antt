@@ -58,13 +58,13 @@ module _ {D : Type 0} (a : Ghosts D) (r : RecoveredStore D) (lengths : HaveLengt
       entry_is : (page : ℕ) → page < r.geometry.pages → entry_at (fresh_token r (s + 1)).pages page ≡ new_entry (page_of r (s + 1) page).text
       entry_is page within = entry_there (λ p. (page_of r (s + 1) p).text) r.geometry.pages page within
 
-      fits_page : (page : ℕ) → page < r.geometry.pages → FitsPage a area (segment_bytes r (s + 1)) page (new_entry (page_of r (s + 1) page).text)
+      fits_page : (page : ℕ) → page < r.geometry.pages → FitsPage a 0 area (segment_bytes r (s + 1)) page (new_entry (page_of r (s + 1) page).text)
       fits_page page within = record {
         settled_in = λ honest.
             (let its = each (r.geometry.nodes + s) area got honest in
             subst (IsSettled (a.now area) (a.dirty area) page) (its.texts s page refl within)
             (clean_settled (a.now area) (a.dirty area) page (λ slot k _. its.clean (slot_at page slot + k))));
-        same = λ _ honest.
+        same = λ _ _ honest.
             (let its = each (r.geometry.nodes + s) area got honest in
             ap (λ (p : Page). p.content) (its.reads s page refl within)
             ∙ sym (page_there (λ p. (page_of r (s + 1) p).bytes) r.geometry.pages page whole.long within));
@@ -76,7 +76,7 @@ module _ {D : Type 0} (a : Ghosts D) (r : RecoveredStore D) (lengths : HaveLengt
       known : (page : ℕ) → page < length (fresh_token r (s + 1)).pages → page < r.geometry.pages
       known page within = omega (arith, count, within)
 
-      fits_token : FitsToken a area (fresh_token r (s + 1)) (segment_bytes r (s + 1))
+      fits_token : FitsToken a 0 area (fresh_token r (s + 1)) (segment_bytes r (s + 1))
       fits_token = record {
         long =
             (let bytes : length (segment_bytes r (s + 1)) ≡ r.geometry.pages * 256 =
@@ -88,7 +88,7 @@ module _ {D : Type 0} (a : Ghosts D) (r : RecoveredStore D) (lengths : HaveLengt
         free = λ page within. ap (λ (e : Entry). e.uncommitted) (entry_is page (known page within));
         stable = λ page within. omega (arith, ap (λ (e : Entry). e.stable) (entry_is page (known page within)), whole.within page (known page within));
         touched = λ page within. omega (arith, ap (λ (e : Entry). e.touched) (entry_is page (known page within)), whole.within page (known page within));
-        each = λ page within. subst (FitsPage a area (segment_bytes r (s + 1)) page) (sym (entry_is page (known page within))) (fits_page page (known page within));
+        each = λ page within. subst (FitsPage a 0 area (segment_bytes r (s + 1)) page) (sym (entry_is page (known page within))) (fits_page page (known page within));
       }
 
       pub fits_room : (room : SegRoom D) → IsRoomOf r (s + 1) room → FitsRoom a (s + 1) room area
@@ -96,6 +96,6 @@ module _ {D : Type 0} (a : Ghosts D) (r : RecoveredStore D) (lengths : HaveLengt
         key = its.key;
         of_token = ap (λ (t : Token). t.segment) its.fresh.token;
         same = its.fresh.image ∙ sym its.fresh.base;
-        fits = subst (λ (t : Token). FitsToken a area t room.fresh.base.items) (sym its.fresh.token)
-            (subst (FitsToken a area (fresh_token r (s + 1))) (sym its.fresh.base) fits_token);
+        fits = subst (λ (t : Token). FitsToken a 0 area t room.fresh.base.items) (sym its.fresh.token)
+            (subst (FitsToken a 0 area (fresh_token r (s + 1))) (sym its.fresh.base) fits_token);
       }

@@ -203,8 +203,8 @@ module _ (old new : Token) (h : AreNoted old new (length old.pages)) (few : leng
   }
 
 -- so the token fits the area with the written pages
-pub written_fits : {D : Type 0} (a : Ghosts D) (area later : D) (old new : Token) (bytes : List ℕ) → FitsToken a area old bytes → AreOver a later old bytes → AreWritten old new → FitsToken a later new bytes
-written_fits a area later old new bytes h over is =
+pub written_fits : {D : Type 0} (a : Ghosts D) (since : ℕ) (area later : D) (old new : Token) (bytes : List ℕ) → FitsToken a since area old bytes → AreOver a since later old bytes → AreWritten old new → FitsToken a since later new bytes
+written_fits a since area later old new bytes h over is =
     let count = is.same_count in
     let inside : (page : ℕ) → page < length new.pages → page < length old.pages = λ page within. omega (arith, within, count) in
     record {
@@ -221,5 +221,5 @@ written_fits a area later old new bytes h over is =
           (let known = inside page within in
           subst (λ (n : ℕ). (entry_at new.pages page).touched ≤ n) (sym is.same_seq)
           (subst (λ (n : ℕ). n ≤ old.seq) (sym (ap (λ (e : Entry). e.touched) (is.each page known) ∙ after_touched old page)) (h.touched page known)));
-      each = λ page within. (let known = inside page within in subst (λ (e : Entry). FitsPage a later bytes page e) (sym (is.each page known)) (over.each page known));
+      each = λ page within. (let known = inside page within in subst (λ (e : Entry). FitsPage a since later bytes page e) (sym (is.each page known)) (over.each page known));
     }

@@ -35,14 +35,14 @@ use Rattle.lc_node.proofs.CommitKeeps.{some_at, all_at}
 use Rattle.lc_node.proofs.Knowing.{all_alone}
 
 -- where an area serves the token is here, and the area stands as it says
-pub here_serves : {D : Type 0} (a : Ghosts D) (pages : PageArea D) (area : D) (token : Option Token) (bytes : List ℕ) → pages ≡ Serves area → FitsArea a pages token bytes
-    → (t : Token) × (token ≡ Some t) × FitsToken a area t bytes
-here_serves a pages area None bytes is fits = absurd (subst (λ p. FitsArea a p None bytes) is fits)
-here_serves a pages area (Some t) bytes is fits = (t, refl, subst (λ p. FitsArea a p (Some t) bytes) is fits)
+pub here_serves : {D : Type 0} (a : Ghosts D) (since : ℕ) (pages : PageArea D) (area : D) (token : Option Token) (bytes : List ℕ) → pages ≡ Serves area → FitsArea a since pages token bytes
+    → (t : Token) × (token ≡ Some t) × FitsToken a since area t bytes
+here_serves a since pages area None bytes is fits = absurd (subst (λ p. FitsArea a since p None bytes) is fits)
+here_serves a since pages area (Some t) bytes is fits = (t, refl, subst (λ p. FitsArea a since p (Some t) bytes) is fits)
 
-pub serves : {D : Type 0} (a : Ghosts D) (area : D) (token : Option Token) (bytes : List ℕ) → IsSomeAnd token (λ t. FitsToken a area t bytes) → FitsArea a (Serves area) token bytes
-serves a area None bytes is = absurd is
-serves a area (Some t) bytes is = is
+pub serves : {D : Type 0} (a : Ghosts D) (since : ℕ) (area : D) (token : Option Token) (bytes : List ℕ) → IsSomeAnd token (λ t. FitsToken a since area t bytes) → FitsArea a since (Serves area) token bytes
+serves a since area None bytes is = absurd is
+serves a since area (Some t) bytes is = is
 
 -- the token behind its pages' writes
 pub written_token : (old new : Option Token) (t : Token) → old ≡ Some t → ForSome old (λ x. IsSomeAnd new (AreWritten x)) → (u : Token) × (new ≡ Some u) × AreWritten t u

@@ -118,12 +118,12 @@ module _ {D : Type 0} (a : Ghosts D) where
     writes_before area token bytes front ws each.1,
   )
 
-  fits_kept : (old new : D) (bytes : List ℕ) (page : ℕ) (e : Entry) → KeepsPage a page old new → FitsPage a old bytes page e → FitsPage a new bytes page e
-  fits_kept old new bytes page e keeps fits = record {
+  fits_kept : (since : ℕ) (old new : D) (bytes : List ℕ) (page : ℕ) (e : Entry) → KeepsPage a page old new → FitsPage a since old bytes page e → FitsPage a since new bytes page e
+  fits_kept since old new bytes page e keeps fits = record {
     settled_in = λ honest. (let was : a.honest old ≡ true = sym keeps.honest ∙ honest in
         kept_settled (a.now old) (a.now new) (a.dirty old) (a.dirty new) page (entry_text e) (keeps.inside was) (fits.settled_in was));
-    same = λ clean honest. (let was : a.honest old ≡ true = sym keeps.honest ∙ honest in
-        ap (λ (p : Page). p.content) (kept_page page (a.now old) (a.now new) (a.dirty old) (a.dirty new) (keeps.inside was)).0 ∙ fits.same clean was);
+    same = λ clean late honest. (let was : a.honest old ≡ true = sym keeps.honest ∙ honest in
+        ap (λ (p : Page). p.content) (kept_page page (a.now old) (a.now new) (a.dirty old) (a.dirty new) (keeps.inside was)).0 ∙ fits.same clean late was);
   }
 
   -- a write of a dirty page that has made its first call
@@ -145,12 +145,12 @@ module _ {D : Type 0} (a : Ghosts D) where
       }
 
   -- a page that was dirty stands as it is to once its write is over
-  over_fits : (area : D) (token : Token) (bytes : List ℕ) (front : ℕ) (write : Writing) (draft : Draft) → IsOver a area draft (entry_text (entry_at token.pages draft.page)) → is_dirty (entry_at token.pages draft.page) ≡ true
-      → draft.seq ≡ token.seq → draft.bytes ≡ page_bytes bytes draft.page → FitsPage a area bytes draft.page (entry_after token draft.page)
-  over_fits area token bytes front write draft over dirty seq content =
-      subst (λ (e : Entry). FitsPage a area bytes draft.page e) (sym (after_dirty token draft.page dirty)) (record {
+  over_fits : (since : ℕ) (area : D) (token : Token) (bytes : List ℕ) (front : ℕ) (write : Writing) (draft : Draft) → IsOver a area draft (entry_text (entry_at token.pages draft.page)) → is_dirty (entry_at token.pages draft.page) ≡ true
+      → draft.seq ≡ token.seq → draft.bytes ≡ page_bytes bytes draft.page → FitsPage a since area bytes draft.page (entry_after token draft.page)
+  over_fits since area token bytes front write draft over dirty seq content =
+      subst (λ (e : Entry). FitsPage a since area bytes draft.page e) (sym (after_dirty token draft.page dirty)) (record {
         settled_in = subst (λ (n : ℕ). SettledIn a area draft.page (settled_text (entry_text (entry_at token.pages draft.page)) n)) seq over.settled;
-        same = λ clean honest. ap (λ (p : Page). p.content) (over.page honest).reads ∙ content;
+        same = λ clean late honest. ap (λ (p : Page). p.content) (over.page honest).reads ∙ content;
       })
 
   module _ (old new : D) (own : ℕ) (token : Token) (bytes : List ℕ) (keeps : (page : ℕ) → page ≢ own → KeepsPage a page old new) (same : length (a.now new) ≡ length (a.now old)) where
@@ -173,8 +173,8 @@ module _ {D : Type 0} (a : Ghosts D) where
     room_now room = omega (arith, room, same)
 
     -- the first call of a dirty page's write
-    pub begins : (writes : List Writing) (write : Writing) → AreUnderWay a old token bytes own writes → (draft_of write).page ≡ own → IsWriteOf a new token bytes (own + 1) write → AreUnderWay a new token bytes (own + 1) (writes ++ write ∷ [])
-    begins writes write h is its =
+    pub begins : (since : ℕ) (writes : List Writing) (write : Writing) → AreUnderWay a since old token bytes own writes → (draft_of write).page ≡ own → IsWriteOf a new token bytes (own + 1) write → AreUnderWay a since new token bytes (own + 1) (writes ++ write ∷ [])
+    begins since writes write h is its =
         let none = none_at old token bytes own writes h.each in
         record {
           room = room_now h.room;
@@ -183,46 +183,46 @@ module _ {D : Type 0} (a : Ghosts D) where
           others = λ page before within of_none.
               let apart = none_pushed page writes write of_none in
               let differ : page ≢ own = λ equal. apart.1 (is ∙ sym equal) in
-              fits_kept old new bytes page (entry_after token page) (keeps page differ) (h.others page (omega (arith, before, differ)) within apart.0);
-          behind = λ page after within. fits_kept old new bytes page (entry_at token.pages page) (keeps page (λ equal. absurd (omega (arith, after, equal)))) (h.behind page (omega (arith, after)) within);
+              fits_kept since old new bytes page (entry_after token page) (keeps page differ) (h.others page (omega (arith, before, differ)) within apart.0);
+          behind = λ page after within. fits_kept since old new bytes page (entry_at token.pages page) (keeps page (λ equal. absurd (omega (arith, after, equal)))) (h.behind page (omega (arith, after)) within);
         }
 
   -- nothing is to be written of a page that is not dirty
-  pub passes : (area : D) (token : Token) (bytes : List ℕ) (front : ℕ) (writes : List Writing) → is_dirty (entry_at token.pages front) ≡ false → AreUnderWay a area token bytes front writes → AreUnderWay a area token bytes (front + 1) writes
-  passes area token bytes front writes clean h = record {
+  pub passes : (since : ℕ) (area : D) (token : Token) (bytes : List ℕ) (front : ℕ) (writes : List Writing) → is_dirty (entry_at token.pages front) ≡ false → AreUnderWay a since area token bytes front writes → AreUnderWay a since area token bytes (front + 1) writes
+  passes since area token bytes front writes clean h = record {
     room = h.room;
     apart = h.apart;
     each = writes_before area token bytes front writes h.each;
     others = λ page before within none. elim (cases_eq page front) [
       | inl equal ↦
-          subst (λ (n : ℕ). FitsPage a area bytes n (entry_after token n)) (sym equal)
-          (subst (λ (e : Entry). FitsPage a area bytes front e) (sym (after_clean token front clean)) (h.behind front (omega arith) (omega (arith, within, equal))))
+          subst (λ (n : ℕ). FitsPage a since area bytes n (entry_after token n)) (sym equal)
+          (subst (λ (e : Entry). FitsPage a since area bytes front e) (sym (after_clean token front clean)) (h.behind front (omega arith) (omega (arith, within, equal))))
       | inr differ ↦ h.others page (omega (arith, before, differ)) within none
     ];
     behind = λ page after within. h.behind page (omega (arith, after)) within;
   }
 
   -- where it ends
-  pub ends : (area : D) (token : Token) (bytes : List ℕ) (writes : List Writing) → writes ≡ [] → AreUnderWay a area token bytes (length token.pages) writes → AreOver a area token bytes
-  ends area token bytes writes none h =
+  pub ends : (since : ℕ) (area : D) (token : Token) (bytes : List ℕ) (writes : List Writing) → writes ≡ [] → AreUnderWay a since area token bytes (length token.pages) writes → AreOver a since area token bytes
+  ends since area token bytes writes none h =
       record { room = h.room; each = λ page within. h.others page within within (subst (λ (ws : List Writing). IsOfNone page ws) (sym none) tt) }
 
   module _ (old new : D) (write : Writing) (writes : List Writing) (keeps : (page : ℕ) → page ≢ (draft_of write).page → KeepsPage a page old new) (same : length (a.now new) ≡ length (a.now old))
-      (token : Token) (bytes : List ℕ) (front : ℕ) (h : AreUnderWay a old token bytes front (write ∷ writes)) where
+      (since : ℕ) (token : Token) (bytes : List ℕ) (front : ℕ) (h : AreUnderWay a since old token bytes front (write ∷ writes)) where
     abbrev own : ℕ
     own = (draft_of write).page
 
-    others_now : (page : ℕ) → page ≢ own → page < front → page < length token.pages → IsOfNone page writes → FitsPage a new bytes page (entry_after token page)
-    others_now page differ before within none = fits_kept old new bytes page (entry_after token page) (keeps page differ) (h.others page before within (λ equal. differ (sym equal), none))
+    others_now : (page : ℕ) → page ≢ own → page < front → page < length token.pages → IsOfNone page writes → FitsPage a since new bytes page (entry_after token page)
+    others_now page differ before within none = fits_kept since old new bytes page (entry_after token page) (keeps page differ) (h.others page before within (λ equal. differ (sym equal), none))
 
-    behind_now : (page : ℕ) → front ≤ page → page < length token.pages → FitsPage a new bytes page (entry_at token.pages page)
+    behind_now : (page : ℕ) → front ≤ page → page < length token.pages → FitsPage a since new bytes page (entry_at token.pages page)
     behind_now page after within =
         let before = h.each.0.in_front in
-        fits_kept old new bytes page (entry_at token.pages page) (keeps page (λ equal. absurd (omega (arith, after, equal, before)))) (h.behind page after within)
+        fits_kept since old new bytes page (entry_at token.pages page) (keeps page (λ equal. absurd (omega (arith, after, equal, before)))) (h.behind page after within)
 
     -- a later call of the write
     pub goes_on : (next : Writing) → draft_of next ≡ draft_of write → ((text : PageText) (page : Page) → IsUnderWay a old write text page → IsUnderWay a new next text page)
-        → AreUnderWay a new token bytes front (writes ++ next ∷ [])
+        → AreUnderWay a since new token bytes front (writes ++ next ∷ [])
     goes_on next draft goes =
         let its = h.each.0 in
         let now : IsWriteOf a new token bytes front next = record {
@@ -245,7 +245,7 @@ module _ {D : Type 0} (a : Ghosts D) where
         }
 
     -- its last call
-    pub is_over : ((text : PageText) (page : Page) → IsUnderWay a old write text page → IsOver a new (draft_of write) text) → AreUnderWay a new token bytes front writes
+    pub is_over : ((text : PageText) (page : Page) → IsUnderWay a old write text page → IsOver a new (draft_of write) text) → AreUnderWay a since new token bytes front writes
     is_over over = record {
       room = room_now old new own token bytes keeps same h.room;
       apart = h.apart.1;
@@ -253,8 +253,8 @@ module _ {D : Type 0} (a : Ghosts D) where
       others = λ page before within none. elim (cases_eq page own) [
         | inl equal ↦
             (let its = h.each.0 in
-            subst (λ (n : ℕ). FitsPage a new bytes n (entry_after token n)) (sym equal)
-            (over_fits new token bytes front write (draft_of write) (over (entry_text (entry_at token.pages own)) its.old its.under_way) its.dirty its.seq its.content))
+            subst (λ (n : ℕ). FitsPage a since new bytes n (entry_after token n)) (sym equal)
+            (over_fits since new token bytes front write (draft_of write) (over (entry_text (entry_at token.pages own)) its.old its.under_way) its.dirty its.seq its.content))
         | inr differ ↦ others_now page differ before within none
       ];
       behind = behind_now;

@@ -1,5 +1,5 @@
 -- What a segment of a recovered store is, as it comes up at a node.
-use Rattle.std.specs.Prelude.{◌≡◌, ℕ, ◌<◌, ◌≤◌, ◌^◌, List, [], length, map, Some}
+use Rattle.std.specs.Prelude.{◌≡◌, ℕ, ◌<◌, ◌≤◌, ◌^◌, List, [], length, map, None, Some}
 use Rattle.std.specs.List.{flat_map}
 use Rattle.lc_record.specs.Marks.{counting}
 use Rattle.lc_page.specs.PageVector.{new_entry}
@@ -42,7 +42,8 @@ module _ {D : Type 0} where
     pub long : (page : ℕ) → page < r.geometry.pages → length (page_of r segment page).bytes ≡ 256
     pub within : (page : ℕ) → page < r.geometry.pages → (page_of r segment page).text.seq ≤ sequence_of r segment
 
-  -- the segment at a node, whose token is there: nothing is applied, nothing is held back, and its area serves
+  -- the segment at a node, whose token is there: nothing is applied, nothing is held back, no token waits, and
+  -- its area serves, each page of which was written here
   abbrev pub fresh_side : FreshSegment → D → ℕ → SegView D
   fresh_side s area room = record {
     segment = s.token.segment;
@@ -53,4 +54,6 @@ module _ {D : Type 0} where
     backlog = fresh s.token.segment s.token.seq;
     standing = record { segment = s.token.segment; token = Some s.token };
     pages = Serves area;
+    since = 0;
+    waiting = None;
   }

@@ -1,14 +1,9 @@
 -- The token of a segment leaves a node.
 use Rattle.std.specs.Prelude.{◌≡◌, None, Some}
-use Rattle.lc_token.specs.declared.token.Token.{Token}
+use Rattle.lc_node.specs.Journey.{Journey}
 use Rattle.lc_node.specs.SegView.{SegView}
 use Rattle.lc_node.specs.declared.page_area.PageArea.{PageArea}
 use Rattle.lc_node.specs.declared.page_area.PageArea.TheVariants.{Elsewhere, Serves, Failed}
-
--- what contracts see of a token on its way: with it goes the area of the segment's pages
-pub record Journey (D : Type 0) : Type 0 where
-  pub token : Token
-  pub area : D
 
 module _ {D : Type 0} where
   -- a call of the area failed

@@ -11,6 +11,7 @@ pub mod Fresh
 pub mod Get
 pub mod Growing
 pub mod Held
+pub mod Journey
 pub mod Laid
 pub mod Leaving
 pub mod Lent

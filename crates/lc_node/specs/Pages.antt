@@ -13,14 +13,15 @@ abbrev pub page_bytes : List ℕ → ℕ → List ℕ
 page_bytes bytes page = take 256 (drop (page * 256) bytes)
 
 module _ {D : Type 0} (a : Ghosts D) where
-  -- in every image the area says of the page what its entry does, and where the page is not dirty it has the segment's bytes
-  pub record FitsPage (area : D) (bytes : List ℕ) (page : ℕ) (entry : Entry) : Type 0 where
+  -- in every image the area says of the page what its entry does, and where the page is not dirty, and was written under this
+  -- number or a later one, it has the segment's bytes
+  pub record FitsPage (since : ℕ) (area : D) (bytes : List ℕ) (page : ℕ) (entry : Entry) : Type 0 where
     pub settled_in : SettledIn a area page (entry_text entry)
-    pub same : is_dirty entry ≡ false → a.honest area ≡ true → (page_in (a.now area) page).content ≡ page_bytes bytes page
+    pub same : is_dirty entry ≡ false → since ≤ entry.stable → a.honest area ≡ true → (page_in (a.now area) page).content ≡ page_bytes bytes page
 
   -- so it does of each page of a segment with these bytes, whose token this is; nobody refers to a page, and no entry is ahead
   -- of the token
-  pub record FitsToken (area : D) (token : Token) (bytes : List ℕ) : Type 0 where
+  pub record FitsToken (since : ℕ) (area : D) (token : Token) (bytes : List ℕ) : Type 0 where
     pub long : length bytes ≡ length token.pages * 256
     pub few : length token.pages ≤ 1024
     pub room : length token.pages * 544 ≤ length (a.now area)
@@ -28,7 +29,7 @@ module _ {D : Type 0} (a : Ghosts D) where
     pub free : (page : ℕ) → page < length token.pages → (entry_at token.pages page).uncommitted ≡ 0
     pub stable : (page : ℕ) → page < length token.pages → (entry_at token.pages page).stable ≤ token.seq
     pub touched : (page : ℕ) → page < length token.pages → (entry_at token.pages page).touched ≤ token.seq
-    pub each : (page : ℕ) → page < length token.pages → FitsPage area bytes page (entry_at token.pages page)
+    pub each : (page : ℕ) → page < length token.pages → FitsPage since area bytes page (entry_at token.pages page)
 
 -- what is clean up to now: where no page was dirty it is as it was, and else it is the token's number, if that is more
 abbrev pub IsCleanNow : Token → ℕ → Type 0

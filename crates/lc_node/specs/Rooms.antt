@@ -32,4 +32,4 @@ module _ {D : Type 0} (a : Ghosts D) where
     pub key : key_of room.lock.lock ≡ segment
     pub of_token : room.fresh.token.segment ≡ segment
     pub same : room.fresh.image.items ≡ room.fresh.base.items
-    pub fits : FitsToken a area room.fresh.token room.fresh.base.items
+    pub fits : FitsToken a 0 area room.fresh.token room.fresh.base.items

@@ -3,7 +3,7 @@ use Rattle.std.specs.Prelude.{◌≡◌, ℕ, ◌*◌, ◌^◌, ◌<◌, ◌≤�
 use Rattle.lc_disk.specs.declared.area.Area.{Ghosts}
 use Rattle.lc_page.specs.PageVector.{entry_at, entry_text}
 use Rattle.lc_page.specs.PageWrite.{SettledIn}
-use Rattle.lc_node.specs.Leaving.{Journey}
+use Rattle.lc_node.specs.Journey.{Journey}
 use Rattle.lc_node.specs.declared.travelling.Travelling.TheInside.{Inside}
 
 module _ {D : Type 0} where

@@ -40,14 +40,15 @@ module _ {D : Type 0} (a : Ghosts D) where
   AreWritesOf area token bytes front (write ∷ writes) = IsWriteOf area token bytes front write × AreWritesOf area token bytes front writes
 
   -- of the pages in front of this one the dirty ones are being written, or are written; the others stand as they did
-  pub record AreUnderWay (area : D) (token : Token) (bytes : List ℕ) (front : ℕ) (writes : List Writing) : Type 0 where
+  pub record AreUnderWay (since : ℕ) (area : D) (token : Token) (bytes : List ℕ) (front : ℕ) (writes : List Writing) : Type 0 where
     pub room : length token.pages * 544 ≤ length (a.now area)
     pub apart : AreApart writes
     pub each : AreWritesOf area token bytes front writes
-    pub others : (page : ℕ) → page < front → page < length token.pages → IsOfNone page writes → FitsPage a area bytes page (entry_after token page)
-    pub behind : (page : ℕ) → front ≤ page → page < length token.pages → FitsPage a area bytes page (entry_at token.pages page)
+    pub others : (page : ℕ) → page < front → page < length token.pages → IsOfNone page writes → FitsPage a since area bytes page (entry_after token page)
+    pub behind : (page : ℕ) → front ≤ page → page < length token.pages → FitsPage a since area bytes page (entry_at token.pages page)
 
-  -- each page has the segment's bytes, under the token's number where it was dirty
-  pub record AreOver (area : D) (token : Token) (bytes : List ℕ) : Type 0 where
+  -- each page has the segment's bytes, under the token's number where it was dirty, and else where it was written under
+  -- this number or a later one
+  pub record AreOver (since : ℕ) (area : D) (token : Token) (bytes : List ℕ) : Type 0 where
     pub room : length token.pages * 544 ≤ length (a.now area)
-    pub each : (page : ℕ) → page < length token.pages → FitsPage a area bytes page (entry_after token page)
+    pub each : (page : ℕ) → page < length token.pages → FitsPage a since area bytes page (entry_after token page)

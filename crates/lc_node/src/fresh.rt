@@ -54,7 +54,7 @@ impl FreshSegment {
         requires same { self.image.items ≡ self.base.items }
         requires first { 1 ≤ self.token.segment }
         requires last { self.token.segment ≤ 16 }
-        requires fits { FitsToken D.Area area self.token self.base.items }
+        requires fits { FitsToken D.Area 0 area self.token self.base.items }
         ensures { result ≡ fresh_side self area result.room }
     {
         let FreshSegment { image, base, token } = self;
@@ -68,6 +68,8 @@ impl FreshSegment {
             hold_back: HoldBack::new(alloc, segment, token.seq),
             token: TokenPlace::new(segment, Some(token)),
             pages: PageArea::Serves(area),
+            since: 0,
+            waiting: None,
         }
     }
 }

@@ -24,7 +24,7 @@ impl<D: Area + Drop> SegSide<D> {
         ensures unflushed { (result ≡ Err (NodeFault.Token TokenFault.Unflushed)) ↔ (IsServing self.old.pages × (flushed ≡ false)) }
         ensures done { IsOk result ↔ (IsServing self.old.pages × (flushed ≡ true)) }
         ensures left { IfOk result (IsJourneyFrom self.old) }
-        ensures fits { IfOk result (λ journey. FitsToken D.Area journey.area journey.token (laid_parts self.old.applied self.old.base)) }
+        ensures fits { IfOk result (λ journey. FitsToken D.Area self.old.since journey.area journey.token (laid_parts self.old.applied self.old.base)) }
         ensures gone { OnOk result (self.new ≡ without_token self.old) }
         ensures err { OnErr result (self.new ≡ self.old) }
     {

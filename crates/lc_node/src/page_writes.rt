@@ -16,19 +16,21 @@ use lc_token::{Token, TokenPlace};
 use std::collections::VecDeque;
 
 /// Writes each dirty page of a segment, whose bytes these are and whose token stands here, under the token's number, and the
-/// token notes it. Each page makes its call number i before any makes the next, so that of the syncs with one number the
-/// first makes all pages stable. `writes` is empty, with room for a write of each page. It takes no memory.
+/// token notes it; the other pages stay as they are. Each page makes its call number i before any makes the next, so that of
+/// the syncs with one number the first makes all pages stable. `writes` is empty, with room for a write of each page. It
+/// takes no memory.
 pub(crate) fn write_dirty<D: Area>(
     area: &mut D,
     place: &mut TokenPlace,
     bytes: &[u8],
     writes: &mut VecDeque<Writing>,
 ) -> Result<(), PageFault>
-    requires fits { IsSomeAnd place.old.token (λ t. FitsToken D.Area area.old t bytes.now) }
+    requires fits { IsSomeAnd place.old.token (λ t. (since : ℕ) × FitsToken D.Area since area.old t bytes.now) }
     requires none { writes.old.items ≡ [] }
     requires room { ForSome place.old.token (λ t. length t.pages ≤ deque_capacity writes.old) }
     ensures written { OnOk result (ForSome place.old.token (λ t. IsSomeAnd place.new.token (AreWritten t))) }
-    ensures fits { OnOk result (IsSomeAnd place.new.token (λ t. FitsToken D.Area area.new t bytes.now)) }
+    ensures fits { OnOk result ((since : ℕ) → IsSomeAnd place.old.token (λ t. FitsToken D.Area since area.old t bytes.now)
+        → IsSomeAnd place.new.token (λ t. FitsToken D.Area since area.new t bytes.now)) }
     ensures segment { place.new.segment ≡ place.old.segment }
     ensures none { writes.new.items ≡ [] }
     ensures room { deque_capacity writes.old ≤ deque_capacity writes.new }
@@ -52,10 +54,10 @@ fn write_pages<D: Area>(
     bytes: &[u8],
     writes: &mut VecDeque<Writing>,
 ) -> Result<(), PageFault>
-    requires fits { FitsToken D.Area area.old token.now bytes.now }
+    requires fits { (since : ℕ) × FitsToken D.Area since area.old token.now bytes.now }
     requires none { writes.old.items ≡ [] }
     requires room { length token.now.pages ≤ deque_capacity writes.old }
-    ensures over { OnOk result (AreOver D.Area area.new token.now bytes.now) }
+    ensures over { OnOk result ((since : ℕ) → FitsToken D.Area since area.old token.now bytes.now → AreOver D.Area since area.new token.now bytes.now) }
     ensures room { deque_capacity writes.new ≡ deque_capacity writes.old }
     ensures fault { IfErr result (λ fault. (fault ≡ DeviceFault) × (D.failures area.new ≡ D.failures area.old + 1)) }
 {
@@ -70,10 +72,11 @@ fn begin_all<D: Area>(
     bytes: &[u8],
     writes: &mut VecDeque<Writing>,
 ) -> Result<(), PageFault>
-    requires fits { FitsToken D.Area area.old token.now bytes.now }
+    requires fits { (since : ℕ) × FitsToken D.Area since area.old token.now bytes.now }
     requires none { writes.old.items ≡ [] }
     requires room { length token.now.pages ≤ deque_capacity writes.old }
-    ensures under_way { OnOk result (AreUnderWay D.Area area.new token.now bytes.now (length token.now.pages) writes.new.items) }
+    ensures under_way { OnOk result ((since : ℕ) → FitsToken D.Area since area.old token.now bytes.now
+        → AreUnderWay D.Area since area.new token.now bytes.now (length token.now.pages) writes.new.items) }
     ensures room { deque_capacity writes.new ≡ deque_capacity writes.old }
     ensures counted { OnOk result (D.failures area.new ≡ D.failures area.old) }
     ensures fault { IfErr result (λ fault. (fault ≡ DeviceFault) × (D.failures area.new ≡ D.failures area.old + 1)) }
@@ -120,8 +123,8 @@ fn begin_page<D: Area>(
 // They make their other calls, in turn. After a fault some writes may be left.
 fn finish_all<D: Area>(area: &mut D, writes: &mut VecDeque<Writing>) -> Result<(), PageFault>
     requires { HaveRoom D.Area area.old writes.old.items }
-    ensures over { OnOk result ((token : TheToken) (bytes : List ℕ)
-        → AreUnderWay D.Area area.old token bytes (length token.pages) writes.old.items → AreOver D.Area area.new token bytes) }
+    ensures over { OnOk result ((since : ℕ) (token : TheToken) (bytes : List ℕ)
+        → AreUnderWay D.Area since area.old token bytes (length token.pages) writes.old.items → AreOver D.Area since area.new token bytes) }
     ensures room { deque_capacity writes.new ≡ deque_capacity writes.old }
     ensures fault { IfErr result (λ fault. (fault ≡ DeviceFault) × (D.failures area.new ≡ D.failures area.old + 1)) }
 {

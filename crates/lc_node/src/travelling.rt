@@ -12,7 +12,7 @@ pub struct Travelling<D: Area> {
 }
 
 impl<D: Area> Model for Travelling<D> {
-    ghost use Rattle.lc_node.specs.Leaving.{Journey};
+    ghost use Rattle.lc_node.specs.Journey.{Journey};
     ghost use Rattle.lc_node.specs.Travelling.{journey_of, IsTravelling};
 
     ghost Value = { Journey D };

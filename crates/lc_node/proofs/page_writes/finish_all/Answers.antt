@@ -31,10 +31,10 @@ loop-write-preserved-in-Some-2 g c =
           (room_next a old new write next rest next_is.0 device.same_length (subst (HaveRoom a old) c.in-Some.ensures.items so_far.room));
       same_capacity = c.push_back_reserved.ensures.capacity ∙ c.pop_front.ensures.capacity ∙ so_far.same_capacity;
       no_failure = ◌∙◌ {b = a.failures old} device.counted so_far.no_failure;
-      under_way = λ token bytes begun.
-          subst (λ (ws : List Writing). AreUnderWay a new token bytes (length token.pages) ws) (sym {A = List Writing} c.push_back_reserved.ensures.items)
-          (goes_on a old new write rest c.in_ok-next.ensures.others device.same_length token bytes (length token.pages)
-          (subst (λ (ws : List Writing). AreUnderWay a old token bytes (length token.pages) ws) c.in-Some.ensures.items (so_far.under_way token bytes begun))
+      under_way = λ since token bytes begun.
+          subst (λ (ws : List Writing). AreUnderWay a since new token bytes (length token.pages) ws) (sym {A = List Writing} c.push_back_reserved.ensures.items)
+          (goes_on a old new write rest c.in_ok-next.ensures.others device.same_length since token bytes (length token.pages)
+          (subst (λ (ws : List Writing). AreUnderWay a since old token bytes (length token.pages) ws) c.in-Some.ensures.items (so_far.under_way since token bytes begun))
           next next_is.0 (λ text page under. subst (GoesOn a new (draft_of write) text page) c.in-Some-2.is (c.in_ok-next.ensures.goes_on text page under)));
     }
 
@@ -52,13 +52,13 @@ loop-write-preserved g c =
       room = room_over a old new write rest device.same_length (subst (HaveRoom a old) c.in-Some.ensures.items so_far.room);
       same_capacity = c.pop_front.ensures.capacity ∙ so_far.same_capacity;
       no_failure = ◌∙◌ {b = a.failures old} device.counted so_far.no_failure;
-      under_way = λ token bytes begun.
-          is_over a old new write rest c.in_ok-next.ensures.others device.same_length token bytes (length token.pages)
-          (subst (λ (ws : List Writing). AreUnderWay a old token bytes (length token.pages) ws) c.in-Some.ensures.items (so_far.under_way token bytes begun))
+      under_way = λ since token bytes begun.
+          is_over a old new write rest c.in_ok-next.ensures.others device.same_length since token bytes (length token.pages)
+          (subst (λ (ws : List Writing). AreUnderWay a since old token bytes (length token.pages) ws) c.in-Some.ensures.items (so_far.under_way since token bytes begun))
           (λ text page under. subst (GoesOn a new (draft_of write) text page) none (c.in_ok-next.ensures.goes_on text page under));
     }
 
 pub returns-clause-over : goal.returns-clause-over
 returns-clause-over g c =
     let none : c.loop-write.writes.items ≡ [] = nil_from_length c.loop-write.writes.items (omega (arith, c.loop-write.writes.ok.0, c.in_default.ensures.cases.0)) in
-    λ token bytes begun. ends g.D.Area c.loop-write.area token bytes c.loop-write.writes.items none (c.loop-write.invariant.under_way token bytes begun)
+    λ since token bytes begun. ends g.D.Area since c.loop-write.area token bytes c.loop-write.writes.items none (c.loop-write.invariant.under_way since token bytes begun)

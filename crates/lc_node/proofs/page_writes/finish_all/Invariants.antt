@@ -10,8 +10,8 @@ invariant-loop-write g l = record {
   room : HaveRoom g.D.Area l.area l.writes.items;
   same_capacity : deque_capacity l.writes ≡ deque_capacity l.fn.writes;
   no_failure : g.D.Area.failures l.area ≡ g.D.Area.failures l.fn.area;
-  under_way : (token : Token) (bytes : List ℕ) → AreUnderWay g.D.Area l.fn.area token bytes (length token.pages) l.fn.writes.items
-      → AreUnderWay g.D.Area l.area token bytes (length token.pages) l.writes.items;
+  under_way : (since : ℕ) (token : Token) (bytes : List ℕ) → AreUnderWay g.D.Area since l.fn.area token bytes (length token.pages) l.fn.writes.items
+      → AreUnderWay g.D.Area since l.area token bytes (length token.pages) l.writes.items;
 }
 
 abbrev pub decreases-loop-write : goal.decreases-loop-write

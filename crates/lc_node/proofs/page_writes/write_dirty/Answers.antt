@@ -12,6 +12,7 @@ returns-clause-fits g c =
     let bytes = c.args.bytes.now in
     let area = c.write_pages-written.new.area in
     let at : c.args.place.now.token ≡ Some token = sym c.in-Some.ensures.token in
-    let fits : FitsToken a c.args.area.now token bytes = subst (λ (o : Option Token). IsSomeAnd o (λ t. FitsToken a c.args.area.now t bytes)) at c.requires.fits in
-    with_token c.note_written.new.place.token (AreWritten token) (λ new. FitsToken a area new bytes)
-    (λ new is. written_fits a c.args.area.now area token new bytes fits c.in_ok-written.ensures.over is) (c.note_written.ensures.written token at)
+    λ since some.
+    let fits : FitsToken a since c.args.area.now token bytes = subst (λ (o : Option Token). IsSomeAnd o (λ t. FitsToken a since c.args.area.now t bytes)) at some in
+    with_token c.note_written.new.place.token (AreWritten token) (λ new. FitsToken a since area new bytes)
+    (λ new is. written_fits a since c.args.area.now area token new bytes fits (c.in_ok-written.ensures.over since fits) is) (c.note_written.ensures.written token at)

@@ -43,10 +43,10 @@ invariant_of-self g c = let inv = c.self.invariant in let old = c.self.inside in
           let applied : c.own.new.self.applied ≡ part.seq = search rules in
           counted ∙ (sym before.2 ∙ sym applied);
       few_pages = subst (λ (o : Option Token). ForSome o (λ t. length t.pages ≤ 1024)) (sym token) (few_behind part old.token.token 1024 inv.few_pages);
-      fits_area = subst (λ (o : Option Token). FitsArea g.D.Area old.pages o (laid_parts c.push.new.self.items old.base.bytes.items)) (sym token)
-          (subst (λ (l : List ℕ). FitsArea g.D.Area old.pages (next_token part old.token.token) l)
+      fits_area = subst (λ (o : Option Token). FitsArea g.D.Area old.since old.pages o (laid_parts c.push.new.self.items old.base.bytes.items)) (sym token)
+          (subst (λ (l : List ℕ). FitsArea g.D.Area old.since old.pages (next_token part old.token.token) l)
           (sym (ap (λ (l : List Part). laid_parts l old.base.bytes.items) items ∙ laid_more old.applied.items part old.base.bytes.items))
-          (area_counted g.D.Area old.pages old.token.token part (laid_parts old.applied.items old.base.bytes.items) next inv.fits_area));
+          (area_counted g.D.Area old.since old.pages old.token.token part (laid_parts old.applied.items old.base.bytes.items) next inv.fits_area));
     }
 
 pub touch_ranges-requires-clause-few : goal.touch_ranges-requires-clause-few

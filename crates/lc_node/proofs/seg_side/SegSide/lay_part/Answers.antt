@@ -22,5 +22,5 @@ invariant_of-self g c = let inv = c.self.invariant in let old = c.self.inside in
       short = inv.short;
       all_applied = inv.all_applied;
       few_pages = inv.few_pages;
-      fits_area = fits_elsewhere g.D.Area old.pages old.token.token (laid_parts old.applied.items old.base.bytes.items) (laid_parts c.push_reserved.new.self.items old.base.bytes.items) none inv.fits_area;
+      fits_area = fits_elsewhere g.D.Area old.since old.pages old.token.token (laid_parts old.applied.items old.base.bytes.items) (laid_parts c.push_reserved.new.self.items old.base.bytes.items) none inv.fits_area;
     }

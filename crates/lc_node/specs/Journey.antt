@@ -1,0 +1,7 @@
+-- A segment's token on its way from one node to another.
+use Rattle.lc_token.specs.declared.token.Token.{Token}
+
+-- what contracts see of it: with it goes the area of the segment's pages
+pub record Journey (D : Type 0) : Type 0 where
+  pub token : Token
+  pub area : D
