@@ -42,5 +42,6 @@ pub mod Unbegun
 pub mod UnderWay
 pub mod Unfit
 pub mod Walking
+pub mod Wired
 pub mod WorkClosed
 pub mod WorkSteps

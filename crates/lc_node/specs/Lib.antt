@@ -36,5 +36,6 @@ pub mod Tokens
 pub mod Touched
 pub mod Travelling
 pub mod Truncates
+pub mod Wiring
 pub mod Works
 pub mod Writes

@@ -57,6 +57,7 @@ mod transacting;
 mod travelling;
 mod truncating;
 mod vacant;
+mod wiring;
 mod work;
 
 pub use commit_kind::{Commit, Mode};

@@ -1,6 +1,5 @@
 //! The receiving end from a peer.
 ghost use Rattle.std.specs.Prelude.{◌≡◌, ◌++◌, ◌∷◌, [], MatchOption, IsSome, Some, None};
-ghost use Rattle.lc_line.specs.Ends.{taken_from};
 ghost use Rattle.lc_node.specs.Receiving.{taken_of, origin_of};
 
 use crate::Message;
@@ -16,7 +15,7 @@ pub struct PeerInbox<P: Drop> {
 }
 
 impl<P: Drop> PeerInbox<P> {
-    /// The end from a peer of which nothing was taken.
+    /// The end from a peer, with no message that is to be gone on with.
     pub fn new(end: RecvEnd<Message<P>>) -> PeerInbox<P>
         ensures end { result.end ≡ end }
         ensures kept { result.kept ≡ None }

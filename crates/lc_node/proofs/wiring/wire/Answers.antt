@@ -1,0 +1,11 @@
+use Rattle.std.proofs.Common.{arith}
+use Rattle.lc_node.proofs.Wired.{all_wired, have_peers, are_lines}
+use Rattle.lc_node.proofs.wiring.wire.Goals as goal
+
+pub returns-clause-each : goal.returns-clause-each
+returns-clause-each g c = let nodes = c.args.nodes in let all = c.loop-from.all.items in
+    have_peers nodes all (all_wired nodes c.from-nodes.result c.loop-from.from all c.from-nodes.ensures (omega arith) c.loop-from.invariant)
+
+pub returns-clause-lines : goal.returns-clause-lines
+returns-clause-lines g c = let nodes = c.args.nodes in let all = c.loop-from.all.items in
+    are_lines nodes all (all_wired nodes c.from-nodes.result c.loop-from.from all c.from-nodes.ensures (omega arith) c.loop-from.invariant)
