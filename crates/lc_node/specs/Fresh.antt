@@ -10,7 +10,7 @@ use Rattle.lc_token.specs.declared.token.Token.{Token}
 use Rattle.lc_tx.specs.declared.holders.Holders.TheVariants.{Free}
 use Rattle.lc_node.specs.SegView.{SegView}
 use Rattle.lc_node.specs.declared.fresh.FreshSegment.{FreshSegment}
-use Rattle.lc_node.specs.declared.page_area.PageArea.TheVariants.{Serves}
+use Rattle.lc_node.specs.declared.page_area.PageArea.TheVariants.{Elsewhere, Serves}
 
 module _ {D : Type 0} where
   -- the pages of a segment, one after another
@@ -56,4 +56,17 @@ module _ {D : Type 0} where
     pages = Serves area;
     since = 0;
     waiting = None;
+  }
+
+  -- the segment at any other node: it has the same bytes and counts on from the same number, and its pages are elsewhere
+  abbrev pub elsewhere_side : FreshSegment → ℕ → SegView D
+  elsewhere_side s room = record {
+    segment = s.token.segment;
+    image = Some (record { bytes = s.image; holders = Free });
+    base = s.base.items;
+    applied = [];
+    room = room;
+    backlog = fresh s.token.segment s.token.seq;
+    standing = record { segment = s.token.segment; token = None };
+    pages = Elsewhere;
   }

@@ -2,7 +2,7 @@
 ghost use Rattle.std.specs.Prelude.{◌≡◌, ℕ, ◌<◌, ◌≤◌, length, map, IfOk, OnOk};
 ghost use Rattle.lc_page.specs.PageVector.{new_entry};
 ghost use Rattle.lc_recover.specs.Recovered.{page_of, sequence_of};
-ghost use Rattle.lc_node.specs.Fresh.{HasWholePages, IsFresh, fresh_side, segment_bytes, segment_texts};
+ghost use Rattle.lc_node.specs.Fresh.{HasWholePages, IsFresh, elsewhere_side, fresh_side, segment_bytes, segment_texts};
 ghost use Rattle.lc_node.specs.Pages.{FitsToken};
 
 use crate::SegSide;
@@ -70,6 +70,28 @@ impl FreshSegment {
             pages: PageArea::Serves(area),
             since: 0,
             waiting: None,
+        }
+    }
+
+    /// The segment at a node where its token is not. It takes no memory.
+    pub(crate) fn elsewhere<D: Area>(self, alloc: Global) -> SegSide<D>
+        requires same { self.image.items ≡ self.base.items }
+        requires first { 1 ≤ self.token.segment }
+        requires last { self.token.segment ≤ 16 }
+        requires short { length self.base.items ≤ 262144 }
+        ensures { result ≡ elsewhere_side self result.room }
+    {
+        let FreshSegment { image, base, token } = self;
+        let segment = token.segment;
+        SegSide {
+            segment,
+            image: Some(Image::new(image)),
+            base: Image::new(base),
+            applied: Vec::new(alloc),
+            stored: 0,
+            hold_back: HoldBack::new(alloc, segment, token.seq),
+            token: TokenPlace::new(segment, None),
+            pages: PageArea::Elsewhere,
         }
     }
 }
