@@ -1,6 +1,6 @@
 -- The areas of a recovered store fit the log and the segments that come up on them.
-use Rattle.std.proofs.Common.{◌≡◌, ◌≢◌, ℕ, ◌+◌, ◌*◌, ◌%◌, ◌<◌, true, false, List, length, drop, Some, refl, sym, ap, subst, ◌∙◌, arith}
-use Rattle.std.specs.Prelude.{slice_get, slice_index, slice_index_or, option_map}
+use Rattle.std.proofs.Common.{◌≡◌, ℕ, ◌+◌, ◌*◌, ◌<◌, length, Some, refl, sym, ap, subst, ◌∙◌, arith}
+use Rattle.std.specs.Prelude.{slice_get, option_map}
 use Rattle.std.proofs.lemmas.Option.{slice_get-map, slice_get_within}
 use Rattle.lc_disk.specs.declared.area.Area.{Ghosts}
 use Rattle.lc_page.specs.Page.{Page, slot_at}
@@ -15,10 +15,24 @@ use Rattle.lc_recover.proofs.Images.{count-areas, len-log, len-segment}
 use Rattle.lc_token.specs.declared.token.Token.{Token}
 use Rattle.lc_node.specs.Fresh.{HasWholePages, fresh_token, segment_bytes}
 use Rattle.lc_node.specs.Pages.{FitsPage, FitsToken}
-use Rattle.lc_node.specs.Rooms.{FitsRoom, IsRoomOf}
+use Rattle.lc_node.specs.Rooms.{FitsLog, FitsRoom, IsOfSegment, IsRoomOf}
 use Rattle.lc_node.specs.declared.seg_room.SegRoom.{SegRoom}
-use Rattle.lc_node.proofs.EachPlace.{first_is, left_is}
 use Rattle.lc_node.proofs.FreshPages.{bytes_long, entries_count, entry_there, page_there}
+
+module _ {D : Type 0} (r : RecoveredStore D) where
+  whole_long : (segment : ℕ) → HasWholePages r segment → length (segment_bytes r segment) ≡ r.geometry.pages * 256
+  whole_long segment whole =
+      bytes_long (λ p. (page_of r segment p).bytes) 0 r.geometry.pages
+      (λ k within. (let same : 0 + k ≡ k = omega arith in ap (λ (p : ℕ). length (page_of r segment p).bytes) same ∙ whole.long k within))
+
+  -- the room of a segment of the store
+  pub of_segment : (segment : ℕ) (room : SegRoom D) → IsRoomOf r segment room → IsOfSegment segment room
+  of_segment segment room its = record {
+    key = its.key;
+    of_token = ap (λ (t : Token). t.segment) its.fresh.token;
+    same = its.fresh.image ∙ sym its.fresh.base;
+    short = (let few = r.geometry.few_pages in omega (arith, few, whole_long segment its.whole, ap length its.fresh.base));
+  }
 
 module _ {D : Type 0} (a : Ghosts D) (r : RecoveredStore D) (lengths : HaveLengths a r.geometry r.areas) where
   area_long : (k n : ℕ) (area : D) → slice_get r.areas k ≡ Some area → area_len r.geometry k ≡ Some n → length (a.now area) ≡ n
@@ -28,18 +42,8 @@ module _ {D : Type 0} (a : Ghosts D) (r : RecoveredStore D) (lengths : HaveLengt
   pub areas_count : length r.areas ≡ r.geometry.nodes + r.geometry.segments
   areas_count = count-areas a r.geometry r.areas lengths
 
-  -- the first area is the log's, and behind it are those of the segments
-  pub first_area : (areas : List D) (area : D) → areas ≡ r.areas → 0 < r.geometry.nodes → area ≡ slice_index_or areas 0 area → slice_get r.areas 0 ≡ Some area
-  first_area areas area all some is =
-      let within : 0 < length areas = omega (arith, ap length all, areas_count, some) in
-      ap (λ (l : List D). slice_get l 0) (sym all) ∙ first_is areas area within is
-
-  pub next_area : (areas left : List D) (s : ℕ) (area : D) → areas ≡ r.areas → r.geometry.nodes ≡ 1 → left ≡ drop 1 areas → slice_get left s ≡ Some area → slice_get r.areas (r.geometry.nodes + s) ≡ Some area
-  next_area areas left s area all one behind got =
-      ap (λ (n : ℕ). slice_get r.areas (n + s)) one ∙ ap (λ (l : List D). slice_get l (1 + s)) (sym all) ∙ left_is areas left s area behind got
-
-  pub log_long : (area : D) → 0 < r.geometry.nodes → slice_get r.areas 0 ≡ Some area → length (a.now area) ≡ 8 * (r.geometry.words + 1)
-  log_long area some got = area_long 0 (8 * (r.geometry.words + 1)) area got (len-log r.geometry 0 some)
+  log_long : (node : ℕ) (area : D) → node < r.geometry.nodes → slice_get r.areas node ≡ Some area → length (a.now area) ≡ 8 * (r.geometry.words + 1)
+  log_long node area within got = area_long node (8 * (r.geometry.words + 1)) area got (len-log r.geometry node within)
 
   segment_long : (s : ℕ) (area : D) → slice_get r.areas (r.geometry.nodes + s) ≡ Some area → length (a.now area) ≡ 2 * 272 * r.geometry.pages
   segment_long s area got =
@@ -47,11 +51,12 @@ module _ {D : Type 0} (a : Ghosts D) (r : RecoveredStore D) (lengths : HaveLengt
       area_long (r.geometry.nodes + s) (2 * 272 * r.geometry.pages) area got (len-segment r.geometry (r.geometry.nodes + s) (omega arith) within)
 
   module _ (each : AreFinished a r) where
-    pub log_closed : (area : D) → 0 < r.geometry.nodes → slice_get r.areas 0 ≡ Some area → a.honest area ≡ true → slice_index (a.now area) 0 % 256 ≢ 165
-    log_closed area some got honest = (each 0 area got honest).closed some
-
-    pub log_clean : (area : D) → slice_get r.areas 0 ≡ Some area → a.honest area ≡ true → a.dirty area 0 ≡ false
-    log_clean area got honest = (each 0 area got honest).clean 0
+    pub fits_log : (node words : ℕ) (area : D) → node < r.geometry.nodes → words ≡ r.geometry.words → slice_get r.areas node ≡ Some area → FitsLog a words area
+    fits_log node words area within room got = record {
+      long = omega (arith, log_long node area within got, room);
+      closed = λ honest. (each node area got honest).closed within;
+      clean = λ honest. (each node area got honest).clean 0;
+    }
 
     -- a segment, counted from 0, and its area
     module _ (s : ℕ) (area : D) (got : slice_get r.areas (r.geometry.nodes + s) ≡ Some area) (whole : HasWholePages r (s + 1)) where
@@ -79,8 +84,7 @@ module _ {D : Type 0} (a : Ghosts D) (r : RecoveredStore D) (lengths : HaveLengt
       fits_token : FitsToken a 0 area (fresh_token r (s + 1)) (segment_bytes r (s + 1))
       fits_token = record {
         long =
-            (let bytes : length (segment_bytes r (s + 1)) ≡ r.geometry.pages * 256 =
-            bytes_long (λ p. (page_of r (s + 1) p).bytes) 0 r.geometry.pages (λ k within. (let same : 0 + k ≡ k = omega arith in ap (λ (p : ℕ). length (page_of r (s + 1) p).bytes) same ∙ whole.long k within)) in
+            (let bytes = whole_long r (s + 1) whole in
             omega (arith, count, bytes));
         few = (let few = r.geometry.few_pages in omega (arith, count, few));
         room = omega (arith, count, segment_long s area got);

@@ -36,6 +36,7 @@ pub mod Slots
 pub mod StageKeeps
 pub mod Standing
 pub mod Stored
+pub mod Taking
 pub mod TokenSent
 pub mod TouchedPages
 pub mod Unbegun

@@ -18,6 +18,7 @@ pub mod Lent
 pub mod LogSide
 pub mod LogView
 pub mod Messages
+pub mod Opened
 pub mod Pages
 pub mod Peers
 pub mod Published
@@ -29,6 +30,7 @@ pub mod Resets
 pub mod Rooms
 pub mod SegSide
 pub mod SegView
+pub mod Shares
 pub mod Sides
 pub mod Spread
 pub mod Stages

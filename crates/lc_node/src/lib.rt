@@ -2,6 +2,7 @@
 #![tactic(auto)]
 
 mod applying;
+mod areas;
 mod attempting;
 mod cleaning;
 mod commit_kind;
@@ -40,6 +41,7 @@ mod receiving;
 mod recv_ends;
 mod reserved;
 mod resetting;
+mod room;
 mod running;
 mod seeing;
 mod seg_room;
@@ -48,9 +50,11 @@ mod send_ends;
 mod sending;
 mod sending_tokens;
 mod settling;
+mod share;
 mod snapshot;
 mod spreading;
 mod staging;
+mod store_room;
 mod taking_out;
 mod touching;
 mod transacting;

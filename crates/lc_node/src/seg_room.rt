@@ -1,20 +1,22 @@
 //! The memory of the segments of a recovered store, taken before its areas are.
-ghost use Rattle.std.specs.Prelude.{◌≡◌, ◌+◌, ◌≤◌, ℕ, [], Some, length, slice_get, vec_capacity, vec_len, IfOk};
+ghost use Rattle.std.specs.Prelude.{◌≡◌, ◌+◌, ◌≤◌, ℕ, [], Some, length, slice_get, vec_capacity, vec_len, IfOk, IfSome};
 ghost use Rattle.lc_lock.specs.declared.lock.Lock.{Lock as Keeps};
 ghost use Rattle.lc_lock.specs.Loans.{key_of};
-ghost use Rattle.lc_node.specs.Rooms.{FitsRoom, IsRoomOf};
+ghost use Rattle.lc_node.specs.Rooms.{AreOfSegments, FitsRoom, FitRooms, IsOfSegment, IsRoomOf};
 ghost use Rattle.lc_node.specs.SegView.{SegView};
+ghost use Rattle.lc_node.specs.Shares.{AreLeft};
 ghost use Rattle.lc_node.specs.declared.seg_room.SegRoom.{SegRoom as Room};
 
 use crate::SegSide;
 use crate::fresh::FreshSegment;
+use crate::share::Share;
 use crate::vacant::Vacant;
 use lc_disk::Area;
 use lc_lock::Lock;
 use lc_recover::Recovered;
 use std::alloc::{AllocError, Global};
 
-/// A segment of a recovered store, and the lock that waits for it. It is never dropped: it ends in `fill` or in `end`.
+/// A segment of a recovered store, and the lock that waits for it. It is never dropped: it ends in `fill_all` or in `end`.
 pub(crate) struct SegRoom<D: Area + Drop> {
     pub(crate) fresh: FreshSegment,
     pub(crate) lock: Vacant<SegSide<D>, u32>,
@@ -32,7 +34,22 @@ impl<D: Area + Drop> SegRoom<D> {
         Ok(SegRoom { fresh, lock })
     }
 
-    // The lock with the segment, on the area of its pages. It takes no memory.
+    // The lock with the segment: on the area of its pages, or without one where another node has the token. It takes no
+    // memory.
+    fn come_up(self, alloc: Global, segment: u32, area: Option<D>) -> Lock<SegSide<D>, u32>
+        requires first { 1 ≤ segment }
+        requires last { segment ≤ 16 }
+        requires room { IsOfSegment segment self }
+        requires fits { IfSome area (FitsRoom D.Area segment self) }
+        ensures { key_of result ≡ segment }
+    {
+        match area {
+            Some(area) => self.fill(alloc, segment, area),
+            None => self.fill_elsewhere(alloc, segment),
+        }
+    }
+
+    // The lock with the segment, on the area of its pages.
     fn fill(self, alloc: Global, segment: u32, area: D) -> Lock<SegSide<D>, u32>
         requires first { 1 ≤ segment }
         requires last { segment ≤ 16 }
@@ -41,6 +58,17 @@ impl<D: Area + Drop> SegRoom<D> {
     {
         let SegRoom { fresh, lock } = self;
         lock.fill(fresh.with_area(alloc, area))
+    }
+
+    // The lock with the segment, whose token is at another node.
+    fn fill_elsewhere(self, alloc: Global, segment: u32) -> Lock<SegSide<D>, u32>
+        requires first { 1 ≤ segment }
+        requires last { segment ≤ 16 }
+        requires room { IsOfSegment segment self }
+        ensures { key_of result ≡ segment }
+    {
+        let SegRoom { fresh, lock } = self;
+        lock.fill(fresh.elsewhere(alloc))
     }
 
     // The segment does not come up.
@@ -75,27 +103,32 @@ pub(crate) fn rooms_of<D: Area + Drop>(
     Ok(rooms)
 }
 
-/// The segments come up, each on its area, in the room that is there for their locks.
+/// The segments come up at a node, in the room that is there for their locks. Those whose tokens are its share have the areas
+/// at their places, which are taken.
 pub(crate) fn fill_all<D: Area + Drop>(
     alloc: Global,
+    share: Share,
     rooms: Vec<SegRoom<D>>,
-    areas: Vec<D>,
+    pages: &mut [Option<D>],
     locks: Vec<Lock<SegSide<D>, u32>>,
 ) -> Vec<Lock<SegSide<D>, u32>>
-    requires count { vec_len rooms ≡ vec_len areas }
+    requires count { vec_len rooms ≡ length pages.old }
     requires few { vec_len rooms ≤ 16 }
-    requires each { (place : ℕ) (room : Room D) (area : D) → slice_get rooms.items place ≡ Some room → slice_get areas.items place ≡ Some area
-        → FitsRoom D.Area (place + 1) room area }
+    requires rooms { AreOfSegments rooms.items }
+    requires fits { FitRooms D.Area rooms.items pages.old }
     requires empty { locks.items ≡ [] }
-    requires place { vec_len rooms ≤ vec_capacity locks }
+    requires space { vec_len rooms ≤ vec_capacity locks }
     ensures count { vec_len result ≡ vec_len rooms }
     ensures in_order { (place : ℕ) (lock : Keeps (SegView D) ℕ) → slice_get result.items place ≡ Some lock → key_of lock ≡ place + 1 }
+    ensures places { length pages.new ≡ length pages.old }
+    ensures left { AreLeft pages.old pages.new }
 {
-    let (mut rooms, mut areas, mut locks) = (rooms, areas, locks);
-    for place in 0..areas.len() {
+    let (mut rooms, mut locks) = (rooms, locks);
+    for place in 0..pages.len() {
+        let segment = place as u32 + 1;
         let room = rooms.remove(0);
-        let area = areas.remove(0);
-        locks.push_reserved(room.fill(alloc, place as u32 + 1, area));
+        let area = share.take(segment, &mut pages[place]);
+        locks.push_reserved(room.come_up(alloc, segment, area));
     }
     rooms.destroy_empty();
     locks

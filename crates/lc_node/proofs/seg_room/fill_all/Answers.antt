@@ -1,62 +1,75 @@
-use Rattle.std.proofs.Common.{◌≡◌, ℕ, ◌+◌, ◌<◌, length, refl, ap, subst, arith}
+use Rattle.std.proofs.Common.{rules, ◌≡◌, ℕ, ◌+◌, ◌<◌, Option, Some, length, refl, sym, ap, subst, ◌∙◌, arith}
+use Rattle.std.specs.Prelude.{slice_get, slice_index_or}
+use Rattle.std.proofs.lemmas.Option.{slice_get-get_or}
 use Rattle.lc_lock.specs.declared.lock.Lock.{Lock}
 use Rattle.lc_lock.specs.Loans.{key_of}
-use Rattle.lc_node.specs.Rooms.{FitsRoom}
+use Rattle.lc_node.specs.Rooms.{FitsRoom, IsOfSegment}
 use Rattle.lc_node.specs.SegView.{SegView}
+use Rattle.lc_node.specs.Shares.{has_token}
 use Rattle.lc_node.proofs.EachPlace.{each_more, each_none, first_is, left_is}
+use Rattle.lc_node.proofs.Taking.{left_over, taken_is}
 use Rattle.lc_node.proofs.seg_room.fill_all.Goals as goal
 
 pub loop-place-init : goal.loop-place-init
 loop-place-init g c = record {
   rooms_left = omega arith;
-  areas_left = omega arith;
+  all_places = refl;
   filled = omega (arith, ap length c.requires.empty, c.args.locks.ok.0);
   space = refl;
-  each = λ k room area room_is area_is. (let here : k + 1 ≡ (0 + k) + 1 = omega arith in subst (λ (n : ℕ). FitsRoom g.D.Area n room area) here (c.requires.each k room area room_is area_is));
+  rooms = λ k room room_is. (let here : k + 1 ≡ (0 + k) + 1 = omega arith in subst (λ (n : ℕ). IsOfSegment n room) here (c.requires.rooms k room room_is));
+  fits = λ k room area room_is area_is.
+      (let same : 0 + k ≡ k = omega arith in
+      let here : k + 1 ≡ (0 + k) + 1 = omega arith in
+      subst (λ (n : ℕ). FitsRoom g.D.Area n room area) here (c.requires.fits k room area room_is (ap (slice_get c.args.pages.now) (sym same) ∙ area_is)));
+  left = λ place area got. got;
   in_order = each_none (λ k (lock : Lock (SegView g.row.D.Denot) ℕ). key_of lock ≡ k + 1) c.args.locks.items c.requires.empty;
 }
 
-pub remove-room-requires : goal.remove-room-requires
-remove-room-requires g c = omega (arith, c.loop-place.invariant.rooms_left, c.loop-place-test.true, c.len-place-end.ensures, c.requires.count)
-
-pub remove-area-requires : goal.remove-area-requires
-remove-area-requires g c = omega (arith, c.loop-place.invariant.areas_left, c.loop-place-test.true, c.len-place-end.ensures)
-
-pub fill-requires-clause-fits : goal.fill-requires-clause-fits
-fill-requires-clause-fits g c =
+pub come_up-requires-clause-room : goal.come_up-requires-clause-room
+come_up-requires-clause-room g c =
     let inv = c.loop-place.invariant in
-    let some_room : 0 < length c.loop-place.rooms.items = omega (arith, inv.rooms_left, c.loop-place-test.true, c.len-place-end.ensures, c.requires.count, c.loop-place.rooms.ok.0) in
-    let some_area : 0 < length c.loop-place.areas.items = omega (arith, inv.areas_left, c.loop-place-test.true, c.len-place-end.ensures, c.loop-place.areas.ok.0) in
+    let some : 0 < length c.loop-place.rooms.items = omega (arith, inv.rooms_left, c.loop-place-test.true, c.requires.count, c.loop-place.rooms.ok.0) in
     let here : (c.loop-place.place + 0) + 1 ≡ c.loop-place.place + 1 = omega arith in
-    subst (λ (n : ℕ). FitsRoom g.D.Area n c.remove-room.result c.remove-area.result) here
-    (inv.each 0 c.remove-room.result c.remove-area.result (first_is c.loop-place.rooms.items c.remove-room.result some_room c.remove-room.ensures.value)
-    (first_is c.loop-place.areas.items c.remove-area.result some_area c.remove-area.ensures.value))
+    subst (λ (n : ℕ). IsOfSegment n c.remove-room.result) here
+    (inv.rooms 0 c.remove-room.result (first_is c.loop-place.rooms.items c.remove-room.result some c.remove-room.ensures.value))
 
-pub push_reserved-requires : goal.push_reserved-requires
-push_reserved-requires g c = omega (arith, c.loop-place.invariant.filled, c.loop-place.invariant.space, c.loop-place-test.true, c.len-place-end.ensures, c.requires.count, c.requires.place)
+pub come_up-requires-clause-fits : goal.come_up-requires-clause-fits
+come_up-requires-clause-fits g c =
+    let inv = c.loop-place.invariant in
+    let some : 0 < length c.loop-place.rooms.items = omega (arith, inv.rooms_left, c.loop-place-test.true, c.requires.count, c.loop-place.rooms.ok.0) in
+    let first = first_is c.loop-place.rooms.items c.remove-room.result some c.remove-room.ensures.value in
+    let place = c.loop-place.place in
+    let here : place ≡ place + 0 = omega arith in
+    let number : (place + 0) + 1 ≡ place + 1 = omega arith in
+    let within : place < length c.loop-place.pages = omega (arith, inv.all_places, c.loop-place-test.true) in
+    let stood = slice_index_or c.loop-place.pages place c.index-pages-place.result in
+    let there = slice_get-get_or c.loop-place.pages place c.index-pages-place.result within in
+    taken_is (FitsRoom g.D.Area (place + 1) c.remove-room.result) (has_token c.args.share.number c.args.share.nodes (place + 1)) stood c.take-area.result c.take-area.ensures.taken
+    (λ area is. subst (λ (n : ℕ). FitsRoom g.D.Area n c.remove-room.result area) number
+    (inv.fits 0 c.remove-room.result area first (ap (slice_get c.args.pages.now) (sym here) ∙ inv.left place area (there ∙ ap (λ (o : Option g.row.D.Denot). Some o) is))))
 
 pub loop-place-preserved : goal.loop-place-preserved
 loop-place-preserved g c =
     let inv = c.loop-place.invariant in
+    let place = c.loop-place.place in
+    let within : place < length c.loop-place.pages = omega (arith, inv.all_places, c.loop-place-test.true) in
+    let stood = slice_index_or c.loop-place.pages place c.index-pages-place.result in
+    let there = slice_get-get_or c.loop-place.pages place c.index-pages-place.result within in
     record {
       rooms_left = omega (arith, c.remove-room.ensures.len, inv.rooms_left);
-      areas_left = omega (arith, c.remove-area.ensures.len, inv.areas_left);
+      all_places = search rules;
       filled = omega (arith, c.push_reserved.ensures.len, inv.filled);
       space = omega (arith, c.push_reserved.ensures.capacity, inv.space);
-      each = λ k room area room_is area_is.
-          (let next : (c.loop-place.place + (1 + k)) + 1 ≡ ((c.loop-place.place + 1) + k) + 1 = omega arith in
+      rooms = λ k room room_is.
+          (let next : (place + (1 + k)) + 1 ≡ ((place + 1) + k) + 1 = omega arith in
+          subst (λ (n : ℕ). IsOfSegment n room) next (inv.rooms (1 + k) room (left_is c.loop-place.rooms.items c.remove-room.new.self.items k room c.remove-room.ensures.items room_is)));
+      fits = λ k room area room_is area_is.
+          (let next : (place + (1 + k)) + 1 ≡ ((place + 1) + k) + 1 = omega arith in
+          let at : place + (1 + k) ≡ (place + 1) + k = omega arith in
           subst (λ (n : ℕ). FitsRoom g.D.Area n room area) next
-          (inv.each (1 + k) room area (left_is c.loop-place.rooms.items c.remove-room.new.self.items k room c.remove-room.ensures.items room_is)
-          (left_is c.loop-place.areas.items c.remove-area.new.self.items k area c.remove-area.ensures.items area_is)));
-      in_order = each_more (λ k (lock : Lock (SegView g.row.D.Denot) ℕ). key_of lock ≡ k + 1) c.push_reserved.new.self.items c.loop-place.locks.items c.fill.result c.loop-place.place
-          c.push_reserved.ensures.items (omega (arith, inv.filled, c.loop-place.locks.ok.0)) inv.in_order c.fill.ensures;
+          (inv.fits (1 + k) room area (left_is c.loop-place.rooms.items c.remove-room.new.self.items k room c.remove-room.ensures.items room_is)
+          (ap (slice_get c.args.pages.now) at ∙ area_is)));
+      left = λ k area got. inv.left k area (left_over (has_token c.args.share.number c.args.share.nodes (place + 1)) c.loop-place.pages place stood c.take-area.new.place there c.take-area.ensures.left k area got);
+      in_order = each_more (λ k (lock : Lock (SegView g.row.D.Denot) ℕ). key_of lock ≡ k + 1) c.push_reserved.new.self.items c.loop-place.locks.items c.come_up.result place
+          c.push_reserved.ensures.items (omega (arith, inv.filled, c.loop-place.locks.ok.0)) inv.in_order c.come_up.ensures;
     }
-
-pub destroy_empty-requires : goal.destroy_empty-requires
-destroy_empty-requires g c = omega (arith, c.loop-place.invariant.rooms_left, c.loop-place-test.false, c.len-place-end.ensures, c.requires.count)
-
-pub returns-clause-count : goal.returns-clause-count
-returns-clause-count g c = omega (arith, c.loop-place.invariant.filled, c.loop-place.auto.place-end, c.loop-place-test.false, c.len-place-end.ensures, c.requires.count)
-
-pub returns-clause-in_order : goal.returns-clause-in_order
-returns-clause-in_order g c = c.loop-place.invariant.in_order

@@ -1,19 +1,22 @@
-use Rattle.std.proofs.Common.{◌≡◌, ℕ, ◌+◌, Some, vec_len, vec_capacity}
+use Rattle.std.proofs.Common.{◌≡◌, ℕ, ◌+◌, length, Some, vec_len, vec_capacity}
 use Rattle.std.specs.Prelude.{slice_get}
 use Rattle.lc_lock.specs.declared.lock.Lock.{Lock}
 use Rattle.lc_lock.specs.Loans.{key_of}
-use Rattle.lc_node.specs.Rooms.{FitsRoom}
+use Rattle.lc_node.specs.Rooms.{IsOfSegment, FitsRoom}
 use Rattle.lc_node.specs.SegView.{SegView}
+use Rattle.lc_node.specs.Shares.{AreLeft}
 use Rattle.lc_node.specs.declared.seg_room.SegRoom.{SegRoom}
 use Rattle.lc_node.proofs.seg_room.fill_all.Given as goal
 
 abbrev pub invariant-loop-place : goal.invariant-loop-place
 invariant-loop-place g l = record {
   rooms_left : vec_len l.rooms + l.place ≡ vec_len l.initial.rooms;
-  areas_left : vec_len l.areas + l.place ≡ vec_len l.initial.areas;
+  all_places : length l.pages ≡ length l.initial.pages;
   filled : vec_len l.locks ≡ l.place;
   space : vec_capacity l.locks ≡ vec_capacity l.initial.locks;
-  each : (k : ℕ) (room : SegRoom g.row.D.Denot) (area : g.row.D.Denot) → slice_get l.rooms.items k ≡ Some room → slice_get l.areas.items k ≡ Some area
+  rooms : (k : ℕ) (room : SegRoom g.row.D.Denot) → slice_get l.rooms.items k ≡ Some room → IsOfSegment ((l.place + k) + 1) room;
+  fits : (k : ℕ) (room : SegRoom g.row.D.Denot) (area : g.row.D.Denot) → slice_get l.rooms.items k ≡ Some room → slice_get l.initial.pages (l.place + k) ≡ Some (Some area)
       → FitsRoom g.D.Area ((l.place + k) + 1) room area;
+  left : AreLeft l.initial.pages l.pages;
   in_order : (k : ℕ) (lock : Lock (SegView g.row.D.Denot) ℕ) → slice_get l.locks.items k ≡ Some lock → key_of lock ≡ k + 1;
 }

@@ -1,6 +1,6 @@
 use Rattle.std.proofs.Common.{ap, ◌∙◌, arith}
 use Rattle.lc_stage.specs.Staging.{newcomer}
-use Rattle.lc_node.proofs.opening.Room.new.Goals as goal
+use Rattle.lc_node.proofs.room.Room.new.Goals as goal
 
 pub returns-in-Ok : goal.returns-in-Ok
 returns-in-Ok g c =

@@ -1,0 +1,11 @@
+-- What a node of a recovered store is, as it comes up.
+use Rattle.std.specs.Prelude.{◌≡◌, length}
+use Rattle.lc_recover.specs.Recovered.{RecoveredStore}
+use Rattle.lc_stage.specs.Seats.{commit_view, IsSeatOf}
+use Rattle.lc_stage.specs.Staging.{newcomer}
+use Rattle.lc_node.specs.declared.opening.Opened.{Opened}
+
+module _ {D : Type 0} where
+  -- its stage has the room of the store's logs, its committer begins, and it has each segment
+  abbrev pub IsOpened : RecoveredStore D → Opened D → Type 0
+  IsOpened r made = IsSeatOf made.node.stage made.seat × (commit_view made.seat ≡ newcomer r.geometry.words) × (made.node.stage.room ≡ r.geometry.words) × (length made.node.segments.items ≡ r.geometry.segments)

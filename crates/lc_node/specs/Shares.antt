@@ -1,0 +1,20 @@
+-- Which tokens stand at a node as a store comes up, and the areas that go with them.
+use Rattle.std.specs.Prelude.{◌≡◌, ℕ, ◌+◌, ◌%◌, ◌==◌, Bool, List, Option, Some, slice_get}
+use Rattle.lc_recover.specs.Recovered.{RecoveredStore}
+
+-- of so many nodes, the one of this number has the token of the segment
+abbrev pub has_token : ℕ → ℕ → ℕ → Bool
+has_token number nodes segment = segment % nodes == number
+
+module _ {D : Type 0} where
+  -- each of these is the area of the log that has its number
+  abbrev pub AreLogs : RecoveredStore D → List D → Type 0
+  AreLogs r logs = (node : ℕ) (area : D) → slice_get logs node ≡ Some area → slice_get r.areas node ≡ Some area
+
+  -- each that stands here is the area of the segment at its place
+  abbrev pub ArePages : RecoveredStore D → List (Option D) → Type 0
+  ArePages r pages = (place : ℕ) (area : D) → slice_get pages place ≡ Some (Some area) → slice_get r.areas (r.geometry.nodes + place) ≡ Some area
+
+  -- whatever still stands stood at its place before
+  abbrev pub AreLeft : List (Option D) → List (Option D) → Type 0
+  AreLeft old new = (place : ℕ) (area : D) → slice_get new place ≡ Some (Some area) → slice_get old place ≡ Some (Some area)

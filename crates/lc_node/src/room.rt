@@ -1,0 +1,87 @@
+//! The memory of a node of a recovered store, taken before its areas are.
+ghost use Rattle.std.specs.Prelude.{◌≡◌, ◌≤◌, [], length, vec_capacity, vec_len, IfOk};
+ghost use Rattle.lc_stage.specs.Seats.{IsSeatOf};
+ghost use Rattle.lc_node.specs.Rooms.{AreOfSegments, FitsLog, FitRooms, IsRoomFor};
+ghost use Rattle.lc_node.specs.Shares.{AreLeft};
+
+use crate::SegSide;
+use crate::log_room::LogRoom;
+use crate::opening::Opened;
+use crate::seg_room::{SegRoom, end_all, fill_all, rooms_of};
+use crate::share::Share;
+use lc_disk::Area;
+use lc_lock::Lock;
+use lc_recover::Recovered;
+use std::alloc::{AllocError, Global};
+
+/// All memory of a node. It is never dropped: it ends in `open` or in `end`.
+pub(crate) struct Room<D: Area + Drop> {
+    pub(crate) log: LogRoom<D>,
+    pub(crate) segments: Vec<SegRoom<D>>,
+    pub(crate) locks: Vec<Lock<SegSide<D>, u32>>,
+}
+
+impl<D: Area + Drop> Room<D> {
+    /// That of a node of a store.
+    pub(crate) fn new(alloc: Global, recovered: &Recovered<D>) -> Result<Room<D>, AllocError>
+        ensures { IfOk result (IsRoomFor recovered.now) }
+    {
+        let geometry = recovered.geometry();
+        let locks = Vec::with_capacity(alloc, geometry.segments as usize)?;
+        let log = LogRoom::new(alloc, geometry.words)?;
+        match rooms_of(alloc, recovered) {
+            Ok(segments) => Ok(Room {
+                log,
+                segments,
+                locks,
+            }),
+            Err(fault) => {
+                log.end();
+                Err(fault)
+            }
+        }
+    }
+
+    /// The node comes up, with its log on this area. The segments whose tokens are its share have the areas at their places,
+    /// which are taken. It takes no memory.
+    pub(crate) fn open(
+        self,
+        alloc: Global,
+        share: Share,
+        log: D,
+        pages: &mut [Option<D>],
+    ) -> Opened<D>
+        requires log { FitsLog D.Area self.log.stage.room log }
+        requires count { vec_len self.segments ≡ length pages.old }
+        requires few { vec_len self.segments ≤ 16 }
+        requires rooms { AreOfSegments self.segments.items }
+        requires fits { FitRooms D.Area self.segments.items pages.old }
+        requires empty { self.locks.items ≡ [] }
+        requires space { vec_len self.segments ≤ vec_capacity self.locks }
+        ensures seat { IsSeatOf result.node.stage result.seat × (result.seat ≡ self.log.seat) }
+        ensures room { result.node.stage.room ≡ self.log.stage.room }
+        ensures segments { length result.node.segments.items ≡ vec_len self.segments }
+        ensures places { length pages.new ≡ length pages.old }
+        ensures left { AreLeft pages.old pages.new }
+    {
+        let Room {
+            log: log_room,
+            segments,
+            locks,
+        } = self;
+        let locks = fill_all(alloc, share, segments, pages, locks);
+        let (node, seat) = log_room.open(log, locks);
+        Opened { node, seat }
+    }
+
+    /// The node does not come up.
+    pub(crate) fn end(self) {
+        let Room {
+            log,
+            segments,
+            locks: _locks,
+        } = self;
+        log.end();
+        end_all(segments);
+    }
+}
