@@ -69,4 +69,6 @@ module _ {D : Type 0} where
     backlog = fresh s.token.segment s.token.seq;
     standing = record { segment = s.token.segment; token = None };
     pages = Elsewhere;
+    since = 0;
+    waiting = None;
   }

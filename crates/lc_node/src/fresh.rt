@@ -92,6 +92,8 @@ impl FreshSegment {
             hold_back: HoldBack::new(alloc, segment, token.seq),
             token: TokenPlace::new(segment, None),
             pages: PageArea::Elsewhere,
+            since: 0,
+            waiting: None,
         }
     }
 }
