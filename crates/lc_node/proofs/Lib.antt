@@ -1,4 +1,5 @@
 pub mod Applied
+pub mod Arrived
 pub mod Asking
 pub mod Attempted
 pub mod Backwards

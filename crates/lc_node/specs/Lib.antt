@@ -1,5 +1,6 @@
 pub mod Among
 pub mod Applying
+pub mod Arriving
 pub mod Attempts
 pub mod Commits
 pub mod Copies

@@ -8,7 +8,7 @@ use Rattle.lc_node.specs.declared.travelling.Travelling.TheInside.{Inside}
 
 module _ {D : Type 0} where
   abbrev pub journey_of : Inside D → Journey D
-  journey_of t = record { token = t.token; area = t.area }
+  journey_of t = record { token = t.token; area = t.area; left = t.left }
 
 module _ {D : Type 0} (a : Ghosts D) where
   -- in every image the area says of each page what its entry does; nobody refers to a page, and no entry is ahead of the token

@@ -12,25 +12,29 @@ use std::mem;
 
 impl<D: Area + Drop> SegSide<D> {
     /// Takes the token away, to be sent, and with it the area of the pages. It is told whether all that the node reserved is
-    /// stable. It takes no memory.
+    /// stable, and the node's number. It takes no memory.
     ///
     /// # Errors
     ///
-    /// `NotHere` where the token is elsewhere; `Halted` where a call of the area failed, so that the token stays until a recovery;
-    /// else `Unflushed` where not all is stable. Nothing has changed then.
-    pub fn leave(&mut self, flushed: bool) -> Result<Travelling<D>, NodeFault>
-        ensures not_here { (result ≡ Err (NodeFault.NotHere self.old.segment)) ↔ (self.old.standing.token ≡ None) }
+    /// The token's fault `NotHere` where it is elsewhere; `Halted` where a call of the area failed, so that the token stays
+    /// until a recovery; else the token's fault `Unflushed` where not all is stable. Nothing has changed then.
+    pub fn leave(&mut self, flushed: bool, node: u16) -> Result<Travelling<D>, NodeFault>
+        ensures not_here { (result ≡ Err (NodeFault.Token (TokenFault.NotHere self.old.segment))) ↔ (self.old.standing.token ≡ None) }
         ensures halted { (result ≡ Err NodeFault.Halted) ↔ HasFailed self.old.pages }
         ensures unflushed { (result ≡ Err (NodeFault.Token TokenFault.Unflushed)) ↔ (IsServing self.old.pages × (flushed ≡ false)) }
         ensures done { IsOk result ↔ (IsServing self.old.pages × (flushed ≡ true)) }
         ensures left { IfOk result (IsJourneyFrom self.old) }
+        ensures node { IfOk result (λ journey. journey.left ≡ node) }
+        ensures number { IfOk result (λ journey. journey.token.seq ≡ self.old.backlog.applied) }
         ensures fits { IfOk result (λ journey. FitsToken D.Area self.old.since journey.area journey.token (laid_parts self.old.applied self.old.base)) }
         ensures gone { OnOk result (self.new ≡ without_token self.old) }
         ensures err { OnErr result (self.new ≡ self.old) }
     {
         match mem::replace(&mut self.pages, PageArea::Elsewhere) {
-            PageArea::Elsewhere => Err(NodeFault::NotHere {
-                segment: self.segment,
+            PageArea::Elsewhere => Err(NodeFault::Token {
+                fault: TokenFault::NotHere {
+                    segment: self.segment,
+                },
             }),
             PageArea::Failed(area) => {
                 self.pages = PageArea::Failed(area);
@@ -44,7 +48,11 @@ impl<D: Area + Drop> SegSide<D> {
                     });
                 }
                 let token = self.token.leave(false, false, 0, 0).unwrap();
-                Ok(Travelling { token, area })
+                Ok(Travelling {
+                    token,
+                    area,
+                    left: node,
+                })
             }
         }
     }
@@ -64,5 +72,12 @@ impl<D: Area + Drop> Travelling<D> {
         ensures small { result ≤ 2 ^ 60 }
     {
         self.token.seq
+    }
+
+    /// The number of the node that the token left.
+    pub fn left(&self) -> u16
+        ensures { result ≡ self.now.left }
+    {
+        self.left
     }
 }

@@ -3,6 +3,7 @@
 
 mod applying;
 mod areas;
+mod arriving;
 mod attempting;
 mod cleaning;
 mod commit_kind;

@@ -1,5 +1,5 @@
 //! A committed record is confirmed where it is, and after a reset as an earlier one.
-ghost use Rattle.std.specs.Prelude.{◌≡◌, ◌<◌, ◌≤◌, length, IfSome, IfOk};
+ghost use Rattle.std.specs.Prelude.{◌≡◌, ◌<◌, ◌≤◌, length, IfSome, IfOk, IsSome};
 ghost use Rattle.lc_recover.specs.Recovered.{AreFinished};
 ghost use Rattle.lc_recover.specs.Reads.{HaveLengths};
 ghost use Rattle.lc_stage.specs.Staging.{IsOneRecord, newcomer};
@@ -7,12 +7,13 @@ ghost use Rattle.lc_stage.specs.Seats.{commit_view, IsSeatOf, IsIdle};
 ghost use Rattle.lc_node.specs.Receipts.{HasReceipt};
 
 use crate::{
-    Confirmed, Gate, LogSide, Message, Node, NodeFault, PeerEnd, SendEnds, Spread, stage_record,
+    Commit, Confirmed, Gate, LogSide, Message, Mode, Node, NodeFault, PeerEnd, Put, SegSide,
+    SendEnds, Spread, Travelling, stage_record,
 };
 use lc_disk::{Area, MemArea};
 use lc_line::{RecvEnd, open_line};
 use lc_page::{PageText, PageVector};
-use lc_record::{Geometry, Items, Lock, RangeData, Record, encode};
+use lc_record::{Geometry, Items, Lock, Part, RangeData, Record, encode};
 use lc_recover::{Progress, Recovered, Recovery};
 use lc_stage::{CommitSeat, Receipt};
 use lc_token::Token;
@@ -163,22 +164,27 @@ fn see<D: Area + Drop, R: Wait>(
     Ok(())
 }
 
-// The words of a record of node 0 under this number of segment 1, with "hello" at 3.
-fn words_of(alloc: Global, seq: u64) -> Result<Option<Vec<u64>>, AllocError>
-    ensures { IfOk result (λ words. IfSome words (λ ws. IsOneRecord ws.items × (0 < length ws.items) × (length ws.items ≤ 4096))) }
-{
-    let mut locks = Vec::new(alloc);
-    locks.push(Lock { segment: 1, seq })?;
+// "hello" at 3 of segment 1.
+fn hello(alloc: Global) -> Result<Vec<RangeData>, AllocError> {
     let mut ranges = Vec::new(alloc);
     ranges.push(RangeData {
         segment: 1,
         offset: 3,
         bytes: Items::new(Vec::from_slice(alloc, b"hello")?),
     })?;
+    Ok(ranges)
+}
+
+// The words of a record of node 0 under this number of segment 1, with "hello" at 3.
+fn words_of(alloc: Global, seq: u64) -> Result<Option<Vec<u64>>, AllocError>
+    ensures { IfOk result (λ words. IfSome words (λ ws. IsOneRecord ws.items × (0 < length ws.items) × (length ws.items ≤ 4096))) }
+{
+    let mut locks = Vec::new(alloc);
+    locks.push(Lock { segment: 1, seq })?;
     let record = Record {
         node: 0,
         locks: Items::new(locks),
-        ranges: Items::new(ranges),
+        ranges: Items::new(hello(alloc)?),
     };
     match encode(alloc, &record) {
         Ok(words) => Ok(Some(words)),
@@ -277,5 +283,100 @@ fn records_are_sent_over_a_reset(rt: HostRuntime) -> Result<(), Fail> {
     assert!(rt; taken(&rt, &mut from) == Some((1, 8)));
     assert!(rt; taken(&rt, &mut from) == Some((2, 8)));
     assert!(rt; taken(&rt, &mut from).is_none());
+    Ok(())
+}
+
+// The token of segment 1 leaves a node with this number.
+fn take_token<D: Area + Drop, R: Wait>(
+    rt: &R,
+    node: &Node<D>,
+    number: u16,
+) -> Result<Travelling<D>, NodeFault> {
+    let Some(lock) = node.segments.get(0) else {
+        return Err(NodeFault::NotHere { segment: 1 });
+    };
+    let (mut side, loan) = lock.lock(rt);
+    let left = side.leave(true, number);
+    lock.unlock(side, loan);
+    left
+}
+
+// It comes to a node: whether it has arrived, or waits.
+fn admit<D: Area + Drop, R: Wait>(rt: &R, node: &Node<D>, journey: Travelling<D>) -> Option<bool> {
+    let lock = node.segments.get(0)?;
+    let (mut side, loan) = lock.lock(rt);
+    let admitted = side.admit(journey).ok();
+    lock.unlock(side, loan);
+    admitted
+}
+
+// A peer's part is applied, if it is the next; whether the token that waits has arrived then.
+fn apply_next<D: Area + Drop>(side: &mut SegSide<D>, part: Part) -> bool
+    requires here { IsSome side.old.image }
+    ensures here { IsSome side.new.image }
+    ensures segment { side.new.segment ≡ side.old.segment }
+{
+    if side.number().is_some() || side.applied_number().checked_add(1) != Some(part.seq) {
+        return false;
+    }
+    if side.make_room_for().is_err() {
+        return false;
+    }
+    side.apply(part);
+    side.admit_waiting()
+}
+
+// The same at a node.
+fn apply<D: Area + Drop, R: Wait>(rt: &R, node: &Node<D>, part: Part) -> Option<bool> {
+    let lock = node.segments.get(0)?;
+    let (mut side, loan) = lock.lock(rt);
+    let arrived = apply_next(&mut side, part);
+    lock.unlock(side, loan);
+    Some(arrived)
+}
+
+#[test]
+fn a_token_leaves_and_arrives(rt: HostRuntime) -> Result<(), Fail> {
+    let alloc = rt.alloc();
+    let (from, _seat) = opened(alloc)?;
+    let (to, _seat) = opened(alloc)?;
+    assert!(rt; take_token(&rt, &to, 1).is_ok(), "its own goes away");
+    let token = take_token(&rt, &from, 0).expect(&rt, "it leaves");
+    assert!(rt; token.segment() == 1 && token.number() == 0 && token.left() == 0);
+    assert!(rt; take_token(&rt, &from, 0).is_err(), "none is here any more");
+    assert!(rt; admit(&rt, &to, token) == Some(true));
+    let token = take_token(&rt, &to, 1).expect(&rt, "it leaves again");
+    assert!(rt; token.left() == 1);
+    assert!(rt; admit(&rt, &from, token) == Some(true));
+    Ok(())
+}
+
+#[test]
+fn a_token_waits_for_its_record(rt: HostRuntime) -> Result<(), Fail> {
+    let alloc = rt.alloc();
+    let (from, seat) = opened(alloc)?;
+    let (to, _seat) = opened(alloc)?;
+    assert!(rt; take_token(&rt, &to, 1).is_ok(), "its own goes away");
+    let mut work = Put {
+        segment: 1,
+        offset: 3,
+        bytes: b"hello",
+    };
+    let (_seat, committed) = from.transact(&rt, alloc, seat, &[1], &mut work, Mode::Lazy, 3, &Open);
+    assert!(rt; matches!(committed, Ok(Commit::Lazy)));
+    let token = take_token(&rt, &from, 0).expect(&rt, "it leaves");
+    assert!(rt; token.number() == 1);
+    assert!(rt;
+        admit(&rt, &to, token) == Some(false),
+        "a record is missing"
+    );
+    let part = Part {
+        segment: 1,
+        seq: 1,
+        ranges: Items::new(hello(alloc)?),
+    };
+    assert!(rt; apply(&rt, &to, part) == Some(true), "it has come");
+    let token = take_token(&rt, &to, 1).expect(&rt, "it leaves again");
+    assert!(rt; token.number() == 1 && token.left() == 1);
     Ok(())
 }

@@ -4,11 +4,12 @@ use lc_token::Token;
 use std::marker::Model;
 
 /// A segment's token on its way to another node, with the area of the segment's pages, no call of which failed: each of its
-/// pages reads in every image as the token says. This project's own.
+/// pages reads in every image as the token says. It knows the number of the node that it left. This project's own.
 #[derive(Drop)]
 pub struct Travelling<D: Area> {
     pub(crate) token: Token,
     pub(crate) area: D,
+    pub(crate) left: u16,
 }
 
 impl<D: Area> Model for Travelling<D> {

@@ -1,4 +1,4 @@
-use Rattle.std.proofs.Common.{ℕ, ◌≤◌, length, sym, subst}
+use Rattle.std.proofs.Common.{ℕ, ◌≤◌, sym, subst}
 use Rattle.lc_record.proofs.RecordLemmas.{record_length}
 use Rattle.lc_stage.proofs.Records.{some_record}
 use Rattle.lc_node.proofs.tests.words_of.Goals as goal
