@@ -1,31 +1,61 @@
 -- What stands at each place of a list from which one thing is taken.
-use Rattle.std.proofs.Common.{◌≡◌, ℕ, zero, suc, ◌+◌, ◌<◌, Bool, true, false, if◌then◌else◌, List, [], ◌∷◌, ◌++◌, Option, None, Some, IfSome, drop, length, set, take, refl, sym, ap, subst, ◌∙◌, arith}
-use Rattle.std.specs.Prelude.{slice_get}
+use Rattle.std.proofs.Common.{◌≡◌, ℕ, zero, suc, ◌+◌, ◌<◌, ◌≤◌, Bool, true, false, if◌then◌else◌, List, [], ◌∷◌, ◌++◌, Option, None, Some, IfSome, drop, length, set, take, refl, sym, ap, subst, ◌∙◌, arith, inl, inr}
+use Rattle.std.specs.Prelude.{option_map, slice_get}
+use Rattle.std.proofs.lemmas.Bool.{cases_eq, cases_lt}
+use Rattle.std.proofs.lemmas.Option.{slice_get_past}
 use Rattle.std.proofs.lemmas.List.{take-append-le, take_all}
 use Rattle.lc_recover.proofs.AreaLemmas.{one_item}
 use Rattle.lc_recover.proofs.Images.{get-drop}
 use Rattle.lc_node.proofs.EachPlace.{each_more}
 
 module _ {A : Type 0} where
-  -- what stands beside a place that was emptied
-  pub beside_is : (xs : List (Option A)) (i k : ℕ) (x : A) → slice_get (set xs i None) k ≡ Some (Some x) → slice_get xs k ≡ Some (Some x)
-  beside_is [] i k x got = got
-  beside_is (y ∷ xs) zero zero x got = absurd cc
-  beside_is (y ∷ xs) zero (suc k) x got = got
-  beside_is (y ∷ xs) (suc i) zero x got = got
-  beside_is (y ∷ xs) (suc i) (suc k) x got = beside_is xs i k x got
+  set_here : (xs : List A) (i : ℕ) (old new : A) → slice_get xs i ≡ Some old → slice_get (set xs i new) i ≡ Some new
+  set_here [] zero old new got = absurd cc
+  set_here [] (suc i) old new got = absurd cc
+  set_here (x ∷ xs) zero old new got = refl
+  set_here (x ∷ xs) (suc i) old new got = set_here xs i old new got
 
-  same_set : (xs : List (Option A)) (i : ℕ) (y : Option A) → slice_get xs i ≡ Some y → set xs i y ≡ xs
-  same_set [] i y got = refl
-  same_set (x ∷ xs) zero y got = ap (λ (o : Option A). o ∷ xs) (sym (one_item x y got))
-  same_set (x ∷ xs) (suc i) y got = ap (λ (l : List (Option A)). x ∷ l) (same_set xs i y got)
+  set_beside : (xs : List A) (i k : ℕ) (new : A) → (k ≡ i → ⊥) → slice_get (set xs i new) k ≡ slice_get xs k
+  set_beside [] i k new other = refl
+  set_beside (x ∷ xs) zero zero new other = absurd (other refl)
+  set_beside (x ∷ xs) zero (suc k) new other = refl
+  set_beside (x ∷ xs) (suc i) zero new other = refl
+  set_beside (x ∷ xs) (suc i) (suc k) new other = set_beside xs i k new (λ same. other (ap suc same))
 
-  -- what stands once a place was emptied, or was not
-  pub left_over : (has : Bool) (xs : List (Option A)) (i : ℕ) (old new : Option A) → slice_get xs i ≡ Some old → new ≡ (if has then None else old)
-      → (k : ℕ) (x : A) → slice_get (set xs i new) k ≡ Some (Some x) → slice_get xs k ≡ Some (Some x)
-  left_over true xs i old new there is k x got = beside_is xs i k x (ap (λ (o : Option A). slice_get (set xs i o) k) (sym is) ∙ got)
-  left_over false xs i old new there is k x got =
-      ap (λ (l : List (Option A)). slice_get l k) (sym (ap (set xs i) is ∙ same_set xs i old there)) ∙ got
+  -- a list that is changed place by place: up to a place it is changed
+  pub changed_more : (f : ℕ → A → A) (all xs : List A) (i : ℕ) (old new : A) → slice_get xs i ≡ Some old → new ≡ f i old
+      → ((k : ℕ) → k < i → slice_get xs k ≡ option_map (f k) (slice_get all k)) → ((k : ℕ) → i ≤ k → slice_get xs k ≡ slice_get all k)
+      → (k : ℕ) → k < i + 1 → slice_get (set xs i new) k ≡ option_map (f k) (slice_get all k)
+  changed_more f all xs i old new there is changed rest k within = elim (cases_eq k i) [
+    | inl same ↦
+        (let here : slice_get (set xs i new) i ≡ option_map (f i) (slice_get all i) =
+        set_here xs i old new there ∙ ap (λ (x : A). Some x) is ∙ ap (option_map (f i)) (sym there ∙ rest i (omega arith)) in
+        subst (λ (n : ℕ). slice_get (set xs i new) n ≡ option_map (f n) (slice_get all n)) (sym same) here)
+    | inr other ↦ set_beside xs i k new other ∙ changed k (omega (arith, within, other))
+  ]
+
+  -- and from there on it is not
+  pub unchanged_behind : (all xs : List A) (i : ℕ) (new : A) → ((k : ℕ) → i ≤ k → slice_get xs k ≡ slice_get all k) → (k : ℕ) → i + 1 ≤ k → slice_get (set xs i new) k ≡ slice_get all k
+  unchanged_behind all xs i new rest k behind = set_beside xs i k new (λ same. omega (arith, behind, same)) ∙ rest k (omega (arith, behind))
+
+  pub changed_all : (f : ℕ → A → A) (all xs : List A) (n : ℕ) → length all ≤ n → ((k : ℕ) → k < n → slice_get xs k ≡ option_map (f k) (slice_get all k))
+      → ((k : ℕ) → n ≤ k → slice_get xs k ≡ slice_get all k) → (k : ℕ) → slice_get xs k ≡ option_map (f k) (slice_get all k)
+  changed_all f all xs n long changed rest k = elim (cases_lt k n) [
+    | inl within ↦ changed k within
+    | inr behind ↦
+        (let none : slice_get all k ≡ None = slice_get_past all k (omega (arith, long, behind)) in
+        rest k behind ∙ none ∙ ap (option_map (f k)) (sym none))
+  ]
+
+  -- what stands in a place that may have been emptied stood there before
+  emptied : (has : Bool) (old : Option (Option A)) (x : A) → option_map (λ (o : Option A). if has then None else o) old ≡ Some (Some x) → old ≡ Some (Some x)
+  emptied true None x got = absurd cc
+  emptied true (Some o) x got = absurd cc
+  emptied false None x got = got
+  emptied false (Some o) x got = got
+
+  pub stood : (has : Bool) (old new : Option (Option A)) (x : A) → new ≡ option_map (λ (o : Option A). if has then None else o) old → new ≡ Some (Some x) → old ≡ Some (Some x)
+  stood has old new x is got = emptied has old x (sym is ∙ got)
 
   -- what was taken from it, if it was
   pub taken_is : (P : A → Type 0) (has : Bool) (old taken : Option A) → taken ≡ (if has then old else None) → ((x : A) → old ≡ Some x → P x) → IfSome taken P

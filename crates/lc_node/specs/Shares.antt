@@ -1,5 +1,5 @@
 -- Which tokens stand at a node as a store comes up, and the areas that go with them.
-use Rattle.std.specs.Prelude.{◌≡◌, ℕ, ◌+◌, ◌%◌, ◌==◌, Bool, List, Option, Some, slice_get}
+use Rattle.std.specs.Prelude.{◌≡◌, ℕ, ◌+◌, ◌%◌, ◌==◌, Bool, if◌then◌else◌, List, Option, None, Some, option_map, slice_get}
 use Rattle.lc_recover.specs.Recovered.{RecoveredStore}
 
 -- of so many nodes, the one of this number has the token of the segment
@@ -15,6 +15,10 @@ module _ {D : Type 0} where
   abbrev pub ArePages : RecoveredStore D → List (Option D) → Type 0
   ArePages r pages = (place : ℕ) (area : D) → slice_get pages place ≡ Some (Some area) → slice_get r.areas (r.geometry.nodes + place) ≡ Some area
 
-  -- whatever still stands stood at its place before
-  abbrev pub AreLeft : List (Option D) → List (Option D) → Type 0
-  AreLeft old new = (place : ℕ) (area : D) → slice_get new place ≡ Some (Some area) → slice_get old place ≡ Some (Some area)
+  -- what this node leaves at the place of a segment's area: nothing, if it has the segment's token
+  abbrev pub left_at : ℕ → ℕ → ℕ → Option D → Option D
+  left_at number nodes place area = if has_token number nodes (place + 1) then None else area
+
+  -- so it does at each place
+  abbrev pub AreShared : ℕ → ℕ → List (Option D) → List (Option D) → Type 0
+  AreShared number nodes old new = (place : ℕ) → slice_get new place ≡ option_map (left_at number nodes place) (slice_get old place)

@@ -2,7 +2,7 @@
 ghost use Rattle.std.specs.Prelude.{◌≡◌, ◌≤◌, [], length, vec_capacity, vec_len, IfOk};
 ghost use Rattle.lc_stage.specs.Seats.{IsSeatOf};
 ghost use Rattle.lc_node.specs.Rooms.{AreOfSegments, FitsLog, FitRooms, IsRoomFor};
-ghost use Rattle.lc_node.specs.Shares.{AreLeft};
+ghost use Rattle.lc_node.specs.Shares.{AreShared};
 
 use crate::SegSide;
 use crate::log_room::LogRoom;
@@ -62,7 +62,7 @@ impl<D: Area + Drop> Room<D> {
         ensures room { result.node.stage.room ≡ self.log.stage.room }
         ensures segments { length result.node.segments.items ≡ vec_len self.segments }
         ensures places { length pages.new ≡ length pages.old }
-        ensures left { AreLeft pages.old pages.new }
+        ensures shared { AreShared share.number share.nodes pages.old pages.new }
     {
         let Room {
             log: log_room,

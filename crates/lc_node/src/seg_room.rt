@@ -4,7 +4,7 @@ ghost use Rattle.lc_lock.specs.declared.lock.Lock.{Lock as Keeps};
 ghost use Rattle.lc_lock.specs.Loans.{key_of};
 ghost use Rattle.lc_node.specs.Rooms.{AreOfSegments, FitsRoom, FitRooms, IsOfSegment, IsRoomOf};
 ghost use Rattle.lc_node.specs.SegView.{SegView};
-ghost use Rattle.lc_node.specs.Shares.{AreLeft};
+ghost use Rattle.lc_node.specs.Shares.{AreShared};
 ghost use Rattle.lc_node.specs.declared.seg_room.SegRoom.{SegRoom as Room};
 
 use crate::SegSide;
@@ -121,7 +121,7 @@ pub(crate) fn fill_all<D: Area + Drop>(
     ensures count { vec_len result ≡ vec_len rooms }
     ensures in_order { (place : ℕ) (lock : Keeps (SegView D) ℕ) → slice_get result.items place ≡ Some lock → key_of lock ≡ place + 1 }
     ensures places { length pages.new ≡ length pages.old }
-    ensures left { AreLeft pages.old pages.new }
+    ensures shared { AreShared share.number share.nodes pages.old pages.new }
 {
     let (mut rooms, mut locks) = (rooms, locks);
     for place in 0..pages.len() {

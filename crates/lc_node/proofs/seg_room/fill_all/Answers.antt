@@ -5,9 +5,9 @@ use Rattle.lc_lock.specs.declared.lock.Lock.{Lock}
 use Rattle.lc_lock.specs.Loans.{key_of}
 use Rattle.lc_node.specs.Rooms.{FitsRoom, IsOfSegment}
 use Rattle.lc_node.specs.SegView.{SegView}
-use Rattle.lc_node.specs.Shares.{has_token}
+use Rattle.lc_node.specs.Shares.{has_token, left_at}
 use Rattle.lc_node.proofs.EachPlace.{each_more, each_none, first_is, left_is}
-use Rattle.lc_node.proofs.Taking.{left_over, taken_is}
+use Rattle.lc_node.proofs.Taking.{changed_all, changed_more, taken_is, unchanged_behind}
 use Rattle.lc_node.proofs.seg_room.fill_all.Goals as goal
 
 pub loop-place-init : goal.loop-place-init
@@ -21,7 +21,8 @@ loop-place-init g c = record {
       (let same : 0 + k ≡ k = omega arith in
       let here : k + 1 ≡ (0 + k) + 1 = omega arith in
       subst (λ (n : ℕ). FitsRoom g.D.Area n room area) here (c.requires.fits k room area room_is (ap (slice_get c.args.pages.now) (sym same) ∙ area_is)));
-  left = λ place area got. got;
+  taken = λ k within. absurd (omega (arith, within));
+  rest = λ k behind. refl;
   in_order = each_none (λ k (lock : Lock (SegView g.row.D.Denot) ℕ). key_of lock ≡ k + 1) c.args.locks.items c.requires.empty;
 }
 
@@ -46,7 +47,7 @@ come_up-requires-clause-fits g c =
     let there = slice_get-get_or c.loop-place.pages place c.index-pages-place.result within in
     taken_is (FitsRoom g.D.Area (place + 1) c.remove-room.result) (has_token c.args.share.number c.args.share.nodes (place + 1)) stood c.take-area.result c.take-area.ensures.taken
     (λ area is. subst (λ (n : ℕ). FitsRoom g.D.Area n c.remove-room.result area) number
-    (inv.fits 0 c.remove-room.result area first (ap (slice_get c.args.pages.now) (sym here) ∙ inv.left place area (there ∙ ap (λ (o : Option g.row.D.Denot). Some o) is))))
+    (inv.fits 0 c.remove-room.result area first (ap (slice_get c.args.pages.now) (sym here) ∙ sym (inv.rest place (omega arith)) ∙ there ∙ ap (λ (o : Option g.row.D.Denot). Some o) is)))
 
 pub loop-place-preserved : goal.loop-place-preserved
 loop-place-preserved g c =
@@ -69,7 +70,13 @@ loop-place-preserved g c =
           subst (λ (n : ℕ). FitsRoom g.D.Area n room area) next
           (inv.fits (1 + k) room area (left_is c.loop-place.rooms.items c.remove-room.new.self.items k room c.remove-room.ensures.items room_is)
           (ap (slice_get c.args.pages.now) at ∙ area_is)));
-      left = λ k area got. inv.left k area (left_over (has_token c.args.share.number c.args.share.nodes (place + 1)) c.loop-place.pages place stood c.take-area.new.place there c.take-area.ensures.left k area got);
+      taken = changed_more (left_at c.args.share.number c.args.share.nodes) c.args.pages.now c.loop-place.pages place stood c.take-area.new.place there c.take-area.ensures.left inv.taken inv.rest;
+      rest = unchanged_behind c.args.pages.now c.loop-place.pages place c.take-area.new.place inv.rest;
       in_order = each_more (λ k (lock : Lock (SegView g.row.D.Denot) ℕ). key_of lock ≡ k + 1) c.push_reserved.new.self.items c.loop-place.locks.items c.come_up.result place
           c.push_reserved.ensures.items (omega (arith, inv.filled, c.loop-place.locks.ok.0)) inv.in_order c.come_up.ensures;
     }
+
+pub returns-clause-shared : goal.returns-clause-shared
+returns-clause-shared g c =
+    let inv = c.loop-place.invariant in
+    changed_all (left_at c.args.share.number c.args.share.nodes) c.args.pages.now c.loop-place.pages c.loop-place.place (omega (arith, c.loop-place-test.false)) inv.taken inv.rest

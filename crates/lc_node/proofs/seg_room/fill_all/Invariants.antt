@@ -1,10 +1,10 @@
-use Rattle.std.proofs.Common.{◌≡◌, ℕ, ◌+◌, length, Some, vec_len, vec_capacity}
-use Rattle.std.specs.Prelude.{slice_get}
+use Rattle.std.proofs.Common.{◌≡◌, ℕ, ◌+◌, ◌<◌, ◌≤◌, length, Some, vec_len, vec_capacity}
+use Rattle.std.specs.Prelude.{option_map, slice_get}
 use Rattle.lc_lock.specs.declared.lock.Lock.{Lock}
 use Rattle.lc_lock.specs.Loans.{key_of}
 use Rattle.lc_node.specs.Rooms.{IsOfSegment, FitsRoom}
 use Rattle.lc_node.specs.SegView.{SegView}
-use Rattle.lc_node.specs.Shares.{AreLeft}
+use Rattle.lc_node.specs.Shares.{left_at}
 use Rattle.lc_node.specs.declared.seg_room.SegRoom.{SegRoom}
 use Rattle.lc_node.proofs.seg_room.fill_all.Given as goal
 
@@ -17,6 +17,7 @@ invariant-loop-place g l = record {
   rooms : (k : ℕ) (room : SegRoom g.row.D.Denot) → slice_get l.rooms.items k ≡ Some room → IsOfSegment ((l.place + k) + 1) room;
   fits : (k : ℕ) (room : SegRoom g.row.D.Denot) (area : g.row.D.Denot) → slice_get l.rooms.items k ≡ Some room → slice_get l.initial.pages (l.place + k) ≡ Some (Some area)
       → FitsRoom g.D.Area ((l.place + k) + 1) room area;
-  left : AreLeft l.initial.pages l.pages;
+  taken : (k : ℕ) → k < l.place → slice_get l.pages k ≡ option_map (left_at l.share.number l.share.nodes k) (slice_get l.initial.pages k);
+  rest : (k : ℕ) → l.place ≤ k → slice_get l.pages k ≡ slice_get l.initial.pages k;
   in_order : (k : ℕ) (lock : Lock (SegView g.row.D.Denot) ℕ) → slice_get l.locks.items k ≡ Some lock → key_of lock ≡ k + 1;
 }

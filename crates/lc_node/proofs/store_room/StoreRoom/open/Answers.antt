@@ -3,10 +3,11 @@ use Rattle.std.specs.Prelude.{slice_get}
 use Rattle.std.proofs.lemmas.List.Elements.{All-push}
 use Rattle.lc_stage.specs.Seats.{commit_view}
 use Rattle.lc_node.specs.Opened.{IsOpened}
+use Rattle.lc_node.specs.Shares.{has_token}
 use Rattle.lc_node.specs.declared.opening.Opened.{Opened}
 use Rattle.lc_node.proofs.EachPlace.{first_is, left_is}
 use Rattle.lc_node.proofs.FreshFits.{fits_log, fits_room, of_segment}
-use Rattle.lc_node.proofs.Taking.{all_back}
+use Rattle.lc_node.proofs.Taking.{all_back, stood}
 use Rattle.lc_node.proofs.store_room.StoreRoom.open.Goals as goal
 
 pub open-requires-clause-log : goal.open-requires-clause-log
@@ -94,6 +95,10 @@ loop-number-preserved g c =
           ap (slice_get r.areas) (sym next) ∙ inv.logs (1 + k) area (left_is c.loop-number.logs.items c.remove-log.new.self.items k area c.remove-log.ensures.items got));
       pages = λ place area got.
           (let left : slice_get c.open.new.pages place ≡ Some (Some area) = ap (λ (l : List (Option g.row.D.Denot)). slice_get l place) (sym {A = List (Option g.row.D.Denot)} back) ∙ got in
-          inv.pages place area (ap (λ (l : List (Option g.row.D.Denot)). slice_get l place) (sym {A = List (Option g.row.D.Denot)} c.as_mut_slice.ensures.value) ∙ c.open.ensures.left place area left));
+          let here : slice_get c.as_mut_slice.result.now place ≡ Some (Some area) =
+          stood (has_token c.new-share.result.number c.new-share.result.nodes (place + 1)) (slice_get c.as_mut_slice.result.now place) (slice_get c.open.new.pages place) area (c.open.ensures.shared place) left in
+          let there : slice_get c.loop-number.pages.items place ≡ Some (Some area) =
+          ap (λ (l : List (Option g.row.D.Denot)). slice_get l place) (sym {A = List (Option g.row.D.Denot)} c.as_mut_slice.ensures.value) ∙ here in
+          inv.pages place area there);
       each = subst (All (IsOpened r)) (sym {A = List (Opened g.row.D.Denot)} c.push_reserved.ensures.items) (All-push (IsOpened r) c.loop-number.opened.items c.open.result inv.each made);
     }
