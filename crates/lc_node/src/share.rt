@@ -4,7 +4,7 @@ ghost use Rattle.lc_node.specs.Shares.{has_token};
 
 /// The share of a node in the tokens of a store: those of the segments whose numbers are the node's modulo the number of
 /// nodes. This project's own.
-#[derive(Clone, Copy, Drop)]
+#[derive(Clone, Copy)]
 pub(crate) struct Share {
     pub(crate) number: u32,
     pub(crate) nodes: u32,
