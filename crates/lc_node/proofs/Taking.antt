@@ -57,6 +57,15 @@ module _ {A : Type 0} where
   pub stood : (has : Bool) (old new : Option (Option A)) (x : A) → new ≡ option_map (λ (o : Option A). if has then None else o) old → new ≡ Some (Some x) → old ≡ Some (Some x)
   stood has old new x is got = emptied has old x (sym is ∙ got)
 
+  never : (old : Option (Option A)) (x : A) → option_map (λ (o : Option A). None) old ≡ Some (Some x) → ⊥
+  never None x got = cc
+  never (Some o) x got = cc
+
+  -- and it was not emptied
+  pub not_emptied : (has : Bool) (old new : Option (Option A)) (x : A) → new ≡ option_map (λ (o : Option A). if has then None else o) old → new ≡ Some (Some x) → has ≡ false
+  not_emptied true old new x is got = absurd (never old x (sym is ∙ got))
+  not_emptied false old new x is got = refl
+
   -- what was taken from it, if it was
   pub taken_is : (P : A → Type 0) (has : Bool) (old taken : Option A) → taken ≡ (if has then old else None) → ((x : A) → old ≡ Some x → P x) → IfSome taken P
   taken_is P true None taken is each = subst (λ (o : Option A). IfSome o P) (sym is) cc

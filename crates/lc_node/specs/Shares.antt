@@ -22,3 +22,7 @@ module _ {D : Type 0} where
   -- so it does at each place
   abbrev pub AreShared : ℕ → ℕ → List (Option D) → List (Option D) → Type 0
   AreShared number nodes old new = (place : ℕ) → slice_get new place ≡ option_map (left_at number nodes place) (slice_get old place)
+
+  -- no area stands at a place any more
+  abbrev pub AreAllTaken : List (Option D) → Type 0
+  AreAllTaken places = (place : ℕ) (area : D) → slice_get places place ≡ Some (Some area) → ⊥

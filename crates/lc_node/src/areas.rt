@@ -1,7 +1,7 @@
 //! The areas of a recovered store, those of its logs apart from those of its segments.
 ghost use Rattle.std.specs.Prelude.{◌≡◌, ◌≤◌, [], vec_capacity, vec_len};
 ghost use Rattle.lc_recover.specs.Reads.{HaveLengths};
-ghost use Rattle.lc_node.specs.Shares.{AreLogs, ArePages};
+ghost use Rattle.lc_node.specs.Shares.{AreAllTaken, AreLogs, ArePages};
 
 use lc_disk::Area;
 use lc_recover::Recovered;
@@ -34,4 +34,11 @@ impl<D: Area + Drop> Areas<D> {
         }
         Areas { logs, pages }
     }
+}
+
+/// Ends the places of the areas of segments, each of which a node has taken.
+pub(crate) fn end_places<D: Area + Drop>(places: Vec<Option<D>>)
+    requires { AreAllTaken places.items }
+{
+    let _places = places;
 }

@@ -1,5 +1,5 @@
 //! The nodes of a store at their beginning.
-ghost use Rattle.std.specs.Prelude.{◌≡◌, ◌≤◌, All, length, IfErr, IfOk};
+ghost use Rattle.std.specs.Prelude.{◌≡◌, ◌<◌, ◌≤◌, All, length, IfErr, IfOk};
 ghost use Rattle.lc_recover.specs.Reads.{HaveLengths};
 ghost use Rattle.lc_recover.specs.Recovered.{AreFinished};
 ghost use Rattle.lc_stage.specs.Staging.{newcomer};
@@ -73,6 +73,7 @@ fn open_first<D: Area + Drop>(
     recovered: Recovered<D>,
     nodes: u16,
 ) -> Result<Vec<Opened<D>>, (Recovered<D>, NodeFault)>
+    requires some { 0 < nodes }
     requires within { nodes ≤ recovered.geometry.nodes }
     requires lengths { HaveLengths D.Area recovered.geometry recovered.areas }
     requires finished { AreFinished D.Area recovered }

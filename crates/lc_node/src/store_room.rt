@@ -5,7 +5,7 @@ ghost use Rattle.lc_recover.specs.Recovered.{AreFinished};
 ghost use Rattle.lc_node.specs.Rooms.{AreRoomsFor, IsStoreRoom};
 ghost use Rattle.lc_node.specs.Opened.{IsOpened};
 
-use crate::areas::Areas;
+use crate::areas::{Areas, end_places};
 use crate::opening::Opened;
 use crate::room::Room;
 use crate::share::Share;
@@ -40,9 +40,10 @@ impl<D: Area + Drop> StoreRoom<D> {
     }
 
     /// The nodes come up, from node 0 on, each on the area of its log. They share the tokens, and with them the areas of the
-    /// segments. The areas of other nodes' logs are dropped. It takes no memory.
+    /// segments, so that none is left. The areas of other nodes' logs are dropped. It takes no memory.
     pub(crate) fn open(self, alloc: Global, recovered: Recovered<D>) -> Vec<Opened<D>>
         requires room { IsStoreRoom recovered (vec_len self.nodes) self }
+        requires some { 0 < vec_len self.nodes }
         requires within { vec_len self.nodes ≤ recovered.geometry.nodes }
         requires lengths { HaveLengths D.Area recovered.geometry recovered.areas }
         requires finished { AreFinished D.Area recovered }
@@ -66,6 +67,7 @@ impl<D: Area + Drop> StoreRoom<D> {
             opened.push_reserved(room.open(alloc, share, log, pages.as_mut_slice()));
         }
         rooms.destroy_empty();
+        end_places(pages);
         opened
     }
 }

@@ -1,5 +1,7 @@
-use Rattle.std.proofs.Common.{◌≡◌, ◌+◌, ◌<◌, List, drop, length, Option, Some, All, sym, ap, subst, ◌∙◌, arith}
+use Rattle.std.proofs.Common.{◌≡◌, ℕ, ◌+◌, ◌%◌, ◌<◌, ◌++◌, List, take, drop, length, Option, Some, All, sym, ap, subst, vec_len, ◌∙◌, arith}
 use Rattle.std.specs.Prelude.{slice_get}
+use Rattle.std.proofs.lemmas.Bool.{eqb-false}
+use Rattle.std.proofs.lemmas.Nat.{mod_below}
 use Rattle.std.proofs.lemmas.List.Elements.{All-push}
 use Rattle.lc_stage.specs.Seats.{commit_view}
 use Rattle.lc_node.specs.Opened.{IsOpened}
@@ -7,7 +9,7 @@ use Rattle.lc_node.specs.Shares.{has_token}
 use Rattle.lc_node.specs.declared.opening.Opened.{Opened}
 use Rattle.lc_node.proofs.EachPlace.{first_is, left_is}
 use Rattle.lc_node.proofs.FreshFits.{fits_log, fits_room, of_segment}
-use Rattle.lc_node.proofs.Taking.{all_back, stood}
+use Rattle.lc_node.proofs.Taking.{all_back, not_emptied, stood}
 use Rattle.lc_node.proofs.store_room.StoreRoom.open.Goals as goal
 
 pub open-requires-clause-log : goal.open-requires-clause-log
@@ -77,6 +79,12 @@ loop-number-preserved g c =
     let its = inv.rooms 0 c.remove-room.result (first_is c.loop-number.rooms.items c.remove-room.result some c.remove-room.ensures.value) in
     let r = c.args.recovered in
     let back = all_back c.loop-number.pages.len c.open.new.pages (drop (length c.open.new.pages) c.loop-number.pages.items) (omega (arith, c.open.ensures.places, c.as_mut_slice.ensures.len)) in
+    let share = c.new-share.result in
+    let left : (place : ℕ) (area : g.row.D.Denot) → slice_get (take c.loop-number.pages.len (c.open.new.pages ++ drop (length c.open.new.pages) c.loop-number.pages.items)) place ≡ Some (Some area) → slice_get c.open.new.pages place ≡ Some (Some area) =
+    λ place area got. ap (λ (l : List (Option g.row.D.Denot)). slice_get l place) (sym {A = List (Option g.row.D.Denot)} back) ∙ got in
+    let before : (place : ℕ) (area : g.row.D.Denot) → slice_get c.open.new.pages place ≡ Some (Some area) → slice_get c.loop-number.pages.items place ≡ Some (Some area) =
+    λ place area got. ap (λ (l : List (Option g.row.D.Denot)). slice_get l place) (sym {A = List (Option g.row.D.Denot)} c.as_mut_slice.ensures.value)
+    ∙ stood (has_token share.number share.nodes (place + 1)) (slice_get c.as_mut_slice.result.now place) (slice_get c.open.new.pages place) area (c.open.ensures.shared place) got in
     let made : IsOpened r c.open.result = (
       c.open.ensures.seat.0,
       ap commit_view c.open.ensures.seat.1 ∙ its.seat,
@@ -93,12 +101,18 @@ loop-number-preserved g c =
       logs = λ k area got.
           (let next : c.loop-number.number + (1 + k) ≡ (c.loop-number.number + 1) + k = omega arith in
           ap (slice_get r.areas) (sym next) ∙ inv.logs (1 + k) area (left_is c.loop-number.logs.items c.remove-log.new.self.items k area c.remove-log.ensures.items got));
-      pages = λ place area got.
-          (let left : slice_get c.open.new.pages place ≡ Some (Some area) = ap (λ (l : List (Option g.row.D.Denot)). slice_get l place) (sym {A = List (Option g.row.D.Denot)} back) ∙ got in
-          let here : slice_get c.as_mut_slice.result.now place ≡ Some (Some area) =
-          stood (has_token c.new-share.result.number c.new-share.result.nodes (place + 1)) (slice_get c.as_mut_slice.result.now place) (slice_get c.open.new.pages place) area (c.open.ensures.shared place) left in
-          let there : slice_get c.loop-number.pages.items place ≡ Some (Some area) =
-          ap (λ (l : List (Option g.row.D.Denot)). slice_get l place) (sym {A = List (Option g.row.D.Denot)} c.as_mut_slice.ensures.value) ∙ here in
-          inv.pages place area there);
+      pages = λ place area got. inv.pages place area (before place area (left place area got));
+      shared = λ place area got.
+          (let other : (place + 1) % share.nodes ≡ share.number → ⊥ =
+          eqb-false ((place + 1) % share.nodes) share.number (not_emptied (has_token share.number share.nodes (place + 1)) (slice_get c.as_mut_slice.result.now place)
+          (slice_get c.open.new.pages place) area (c.open.ensures.shared place) (left place area got)) in
+          let count : share.nodes ≡ vec_len c.args.self.nodes = omega (arith, c.new-share.ensures.nodes, c.len-count.ensures) in
+          let same = ap (λ (n : ℕ). (place + 1) % n) count in
+          omega (arith, inv.shared place area (before place area (left place area got)), same, other, c.new-share.ensures.number));
       each = subst (All (IsOpened r)) (sym {A = List (Opened g.row.D.Denot)} c.push_reserved.ensures.items) (All-push (IsOpened r) c.loop-number.opened.items c.open.result inv.each made);
     }
+
+pub end_places-requires : goal.end_places-requires
+end_places-requires g c = λ place area got.
+    let inv = c.loop-number.invariant in
+    omega (arith, inv.shared place area got, mod_below (place + 1) (vec_len c.args.self.nodes) c.requires.some, c.loop-number-test.false, c.loop-number.auto.number-end, c.len-count.ensures)

@@ -1,4 +1,4 @@
-use Rattle.std.proofs.Common.{◌≡◌, ◌≤◌, ℕ, ◌+◌, Some, All, vec_len, vec_capacity}
+use Rattle.std.proofs.Common.{◌≡◌, ◌≤◌, ℕ, ◌+◌, ◌%◌, Some, All, vec_len, vec_capacity}
 use Rattle.std.specs.Prelude.{slice_get}
 use Rattle.lc_node.specs.Opened.{IsOpened}
 use Rattle.lc_node.specs.Rooms.{AreRoomsFor}
@@ -15,5 +15,6 @@ invariant-loop-number g l = record {
   rooms : AreRoomsFor l.fn.recovered l.rooms.items;
   logs : (k : ℕ) (area : g.row.D.Denot) → slice_get l.logs.items k ≡ Some area → slice_get l.fn.recovered.areas (l.number + k) ≡ Some area;
   pages : ArePages l.fn.recovered l.pages.items;
+  shared : (place : ℕ) (area : g.row.D.Denot) → slice_get l.pages.items place ≡ Some (Some area) → l.number ≤ (place + 1) % vec_len l.fn.self.nodes;
   each : All (IsOpened l.fn.recovered) l.opened.items;
 }
