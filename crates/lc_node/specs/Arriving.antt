@@ -10,6 +10,6 @@ module _ {D : Type 0} where
   abbrev pub MayArrive : SegView D → Journey D → Type 0
   MayArrive s j = (s.standing.token ≡ None) × (j.token.segment ≡ s.segment) × (j.token.seq ≡ s.backlog.applied) × (length s.base ≡ length j.token.pages * 256)
 
-  -- it is here with its area, and no page of that was written here
+  -- it is here with its area, no page of which was written under a later number
   abbrev pub with_token : Journey D → SegView D → SegView D
   with_token j s = record s { standing = record s.standing { token = Some j.token }; pages = Serves j.area; since = j.token.seq + 1 }
