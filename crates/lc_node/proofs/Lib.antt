@@ -27,6 +27,7 @@ pub mod PartsOf
 pub mod PeerPlaces
 pub mod Published
 pub mod PutBytes
+pub mod Received
 pub mod Rounds
 pub mod Runs
 pub mod SegmentLocks

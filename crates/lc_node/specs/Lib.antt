@@ -4,6 +4,7 @@ pub mod Arriving
 pub mod Attempts
 pub mod Commits
 pub mod Copies
+pub mod Delivering
 pub mod Each
 pub mod Ended
 pub mod Fault
@@ -27,6 +28,7 @@ pub mod Put
 pub mod Ran
 pub mod Receipts
 pub mod Receiving
+pub mod Receptions
 pub mod Resets
 pub mod Rooms
 pub mod SegSide

@@ -10,6 +10,8 @@ mod commit_kind;
 mod committing;
 mod confirming;
 mod copying;
+mod delivered;
+mod delivering;
 mod ending;
 mod flushing;
 mod fresh;
@@ -39,6 +41,8 @@ mod preparing;
 mod publishing;
 mod put;
 mod receiving;
+mod receiving_records;
+mod reception;
 mod recv_ends;
 mod reserved;
 mod resetting;
@@ -89,6 +93,3 @@ pub use spreading::Spread;
 pub use staging::stage_record;
 pub use travelling::Travelling;
 pub use work::Work;
-
-#[cfg(test)]
-mod tests;
