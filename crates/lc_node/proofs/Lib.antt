@@ -11,6 +11,7 @@ pub mod Confirms
 pub mod Copied
 pub mod Counted
 pub mod CountedFits
+pub mod Deliveries
 pub mod EachPlace
 pub mod FlushKeeps
 pub mod Forwards
@@ -26,6 +27,7 @@ pub mod PagesWritten
 pub mod PartsOf
 pub mod PeerPlaces
 pub mod Published
+pub mod Pushing
 pub mod PutBytes
 pub mod Received
 pub mod Rounds

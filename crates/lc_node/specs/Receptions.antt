@@ -1,10 +1,11 @@
 -- What is made ready for a record at a segment, before any is applied.
-use Rattle.std.specs.Prelude.{◌≡◌, ℕ, ◌+◌, ◌≤◌, true, false, Option, None, Some, length}
+use Rattle.std.specs.Prelude.{◌≡◌, ◌+◌, ◌≤◌, true, false, Option, None, Some, length}
 use Rattle.lc_record.specs.declared.part.Part.{Part}
 use Rattle.lc_record.specs.declared.record.Record.{Record}
 use Rattle.lc_record.specs.Part.{part_of}
 use Rattle.lc_token.specs.Backlog.{is_known, keeping}
-use Rattle.lc_node.specs.Delivering.{IsAwaited, IsReadied, IsTidy}
+use Rattle.lc_token.specs.declared.received.Received.{Received}
+use Rattle.lc_node.specs.Delivering.{IsAwaited, IsReadied, IsTidy, Admits, TakesIn}
 use Rattle.lc_node.specs.SegView.{SegView}
 use Rattle.lc_node.specs.declared.held.HeldSide.{HeldSide}
 use Rattle.lc_node.specs.declared.reception.Reception.{Reception}
@@ -38,6 +39,20 @@ module _ {D : Type 0} where
   CanFinish s (HeldBack seq) = Unit {0}
   CanFinish s (Next next) = (s.standing.token ≡ None) × (next.seq ≡ s.backlog.applied + 1) × HasRoomForAll s
   CanFinish s NoMemory = ⊥
+
+  -- whatever it was made ready for, it is taken back
+  abbrev pub IsForgone : HeldSide D → Reception → HeldSide D → Type 0
+  IsForgone h reception g =
+      (g ≡ record h { side = g.side })
+      × ((part : Option Part) (before : SegView D) → Prepares part before reception h.side → IsReadied before g.side)
+
+  -- whatever it was made ready for, that is taken in and answered so, and then the token that waits there arrives, if it may
+  abbrev pub IsFinished : HeldSide D → Reception → Received → HeldSide D → Type 0
+  IsFinished h reception answer g =
+      (g ≡ record h { side = g.side })
+      × ((between : SegView D)
+      × ((part : Option Part) (before : SegView D) → Prepares part before reception h.side → TakesIn part before answer between)
+      × Admits between g.side)
 
 -- there was memory
 abbrev pub IsReceived : Reception → Type 0

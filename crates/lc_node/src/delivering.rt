@@ -67,7 +67,9 @@ impl<D: Area + Drop> SegSide<D> {
     pub(crate) fn finish(&mut self, reception: Reception) -> Received
         requires here { IsSome self.old.image }
         requires ready { CanFinish self.old reception }
-        ensures { (part : Option ThePart) (before : SegView D) → Prepares part before reception self.old → TakesIn part before result self.new }
+        ensures takes { (part : Option ThePart) (before : SegView D) → Prepares part before reception self.old → TakesIn part before result self.new }
+        ensures same { self.new.standing ≡ self.old.standing }
+        ensures here { IsSome self.new.image }
     {
         match reception {
             Reception::Next(part) => {

@@ -1,10 +1,10 @@
 //! A record that a peer published comes to the segments of a node.
-ghost use Rattle.std.specs.Prelude.{◌≡◌, ◌≤◌, ◌<◌, ◌↔◌, ℕ, List, [], All, Some, IsSome, IsTrue, IfOk, IfErr, OnOk, OnErr, length, slice_get, vec_capacity, IsFalse, MatchBool};
+ghost use Rattle.std.specs.Prelude.{◌≡◌, ◌≤◌, ◌<◌, ◌↔◌, ℕ, List, [], All, Some, IsSome, IsTrue, IfOk, IfErr, OnOk, OnErr, length, slice_get, vec_capacity, true, false};
 ghost use Rattle.lc_record.specs.declared.record.Record.{Record as Spelled};
 ghost use Rattle.lc_node.specs.Delivering.{Answers, HasArrived, IsDelivered, IsReadiedSide};
 ghost use Rattle.lc_node.specs.Each.{Each, EachThree};
 ghost use Rattle.lc_node.specs.Held.{IsHeldOf};
-ghost use Rattle.lc_node.specs.Receptions.{CanFinish, IsPrepared, IsReceived};
+ghost use Rattle.lc_node.specs.Receptions.{CanFinish, IsFinished, IsPrepared, IsReceived};
 ghost use Rattle.lc_node.specs.declared.held.HeldSide.{HeldSide as Side};
 ghost use Rattle.lc_node.specs.declared.node.Node.{Node as TheNode};
 ghost use Rattle.lc_node.specs.declared.node_fault.NodeFault.TheVariants.{NoMemory};
@@ -97,10 +97,24 @@ fn finish_all<D: Area + Drop>(sides: &mut Vec<HeldSide<D>>, receptions: Vec<Rece
     };
     while let Some(reception) = receptions.pop() {
         let held = &mut sides[receptions.len()];
-        done.first = held.side.finish(reception);
-        done.arrived = held.side.admit_waiting() || done.arrived;
+        let here = finish_side(held, reception);
+        done.first = here.first;
+        done.arrived = here.arrived || done.arrived;
     }
     done
+}
+
+// Goes on with what was made ready at a segment, and lets the token arrive that waits there.
+fn finish_side<D: Area + Drop>(held: &mut HeldSide<D>, reception: Reception) -> Delivered
+    requires here { IsSome held.old.side.image }
+    requires ready { CanFinish held.old.side reception }
+    ensures finished { IsFinished held.old reception result.first held.new }
+    ensures arrived { IsTrue result.arrived ↔ HasArrived held.old held.new }
+    ensures here { IsSome held.new.side.image }
+{
+    let first = held.side.finish(reception);
+    let arrived = held.side.admit_waiting();
+    Delivered { first, arrived }
 }
 
 impl Reception {
