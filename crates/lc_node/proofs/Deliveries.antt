@@ -17,7 +17,7 @@ use Rattle.lc_node.specs.Receptions.{IsFinished, IsForgone, IsPrepared}
 use Rattle.lc_node.specs.SegView.{SegView}
 use Rattle.lc_node.specs.declared.held.HeldSide.{HeldSide}
 use Rattle.lc_node.specs.declared.reception.Reception.{Reception}
-use Rattle.lc_node.proofs.Backwards.{Backwards, start, step, finish, some_same, get_same, get_other}
+use Rattle.lc_node.proofs.Backwards.{Backwards, step, finish, some_same, get_same, get_other}
 use Rattle.lc_node.proofs.CommitKeeps.{some_at}
 
 module _ {A B : Type 0} where

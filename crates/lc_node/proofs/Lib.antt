@@ -12,6 +12,7 @@ pub mod Copied
 pub mod Counted
 pub mod CountedFits
 pub mod Deliveries
+pub mod DeliveryKeeps
 pub mod EachPlace
 pub mod FlushKeeps
 pub mod Forwards

@@ -5,7 +5,6 @@ use native.Mathlib.Decide.{dec_le}
 use Rattle.std.specs.Prelude.{slice_get}
 use Rattle.std.proofs.lemmas.List.Elements.{All-append}
 use Rattle.std.proofs.lemmas.Option.{slice_get_within}
-use Rattle.lc_node.specs.Each.{EachThree}
 use Rattle.lc_node.proofs.Backwards.{some_same, get_same, get_other, length_set, get_front, get_last, got_at}
 use Rattle.lc_node.proofs.Knowing.{all_alone}
 
@@ -43,8 +42,6 @@ module _ {A B : Type 0} (R : A → B → A → Type 0) where
             (λ less. p.done k a b c a_at (sym (ap (λ (l : List B). slice_get l k) pushed ∙ get_front ys (y ∷ []) k (omega arith)) ∙ b_at) (sym (get_other now n k z (λ e. absurd (omega arith))) ∙ c_at));
       }
 
-  pub finish : (xs now : List A) (ys : List B) (n : ℕ) → Pushing xs now ys n → length xs ≡ n → EachThree R xs ys now
-  finish xs now ys n p whole = record { long = p.count ∙ sym whole; long_too = p.long; each = p.done }
-
+-- a fact of all, where one more is put behind
 pub all_more : {B : Type 0} (P : B → Type 0) (ys more : List B) (y : B) → more ≡ ys ++ y ∷ [] → All P ys → P y → All P more
 all_more {B = B} P ys more y pushed all one = subst (λ (l : List B). All P l) (sym pushed) (All-append P ys (y ∷ []) all (all_alone P y one))

@@ -1,5 +1,5 @@
 -- What was made ready for a record at a segment is gone on with, or taken back.
-use Rattle.std.proofs.Common.{◌≡◌, ℕ, ◌+◌, ◌≤◌, true, false, Option, Some, None, List, length, refl, sym, ap, subst, ◌∙◌, inl, inr, arith}
+use Rattle.std.proofs.Common.{◌≡◌, ℕ, ◌+◌, Option, Some, None, refl, sym, ap, ◌∙◌, inl, inr}
 use Rattle.lc_record.specs.declared.part.Part.{Part}
 use Rattle.lc_token.specs.Backlog.{Backlog, forgetting, keeping}
 use Rattle.lc_token.proofs.BacklogLemmas.{keeping_forgotten}
