@@ -19,6 +19,7 @@ pub mod Forwards
 pub mod FreshFits
 pub mod FreshPages
 pub mod Fronts
+pub mod Joined
 pub mod Knowing
 pub mod Laying
 pub mod NextSent

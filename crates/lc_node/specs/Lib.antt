@@ -2,6 +2,7 @@ pub mod Among
 pub mod Applying
 pub mod Arriving
 pub mod Attempts
+pub mod Cluster
 pub mod Commits
 pub mod Copies
 pub mod Delivering
@@ -13,6 +14,7 @@ pub mod Fresh
 pub mod Get
 pub mod Growing
 pub mod Held
+pub mod Joining
 pub mod Journey
 pub mod Laid
 pub mod Leaving

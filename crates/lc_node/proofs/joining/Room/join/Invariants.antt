@@ -1,0 +1,24 @@
+use Rattle.std.proofs.Common.{◌≡◌, ◌≤◌, ◌+◌, ℕ, All, Some, vec_len, vec_capacity}
+use Rattle.std.specs.Prelude.{slice_get}
+use Rattle.lc_lock.specs.Loans.{key_of}
+use Rattle.lc_stage.specs.declared.seats.CommitSeat.{CommitSeat as Seat}
+use Rattle.lc_node.specs.Joining.{IsLocked}
+use Rattle.lc_node.specs.declared.member.Member.{Member}
+use Rattle.lc_node.specs.declared.opening.Opened.{Opened}
+use Rattle.lc_node.proofs.joining.Room.join.Given as goal
+
+abbrev pub invariant-loop : goal.invariant-loop
+invariant-loop g l = record {
+  nodes_left : vec_len l.nodes + l.counter ≡ vec_len l.fn.nodes;
+  posts_left : vec_len l.posts + l.counter ≡ vec_len l.fn.nodes;
+  member_count : vec_len l.members ≡ l.counter;
+  seat_count : vec_len l.seats ≡ l.counter;
+  members_fit : vec_len l.fn.nodes ≤ vec_capacity l.members;
+  seats_fit : vec_len l.fn.nodes ≤ vec_capacity l.seats;
+  locked : All (IsLocked (vec_len l.fn.nodes)) l.posts.items;
+  nodes : (k : ℕ) (opened : Opened g.row.D.Denot) → slice_get l.nodes.items k ≡ Some opened → slice_get l.fn.nodes.items (l.counter + k) ≡ Some opened;
+  wired : (place : ℕ) (member : Member g.row.D.Denot) → slice_get l.members.items place ≡ Some member
+      → (key_of member.to ≡ vec_len l.fn.nodes) × (key_of member.from ≡ vec_len l.fn.nodes);
+  each : (place : ℕ) (member : Member g.row.D.Denot) (seat : Seat) → slice_get l.members.items place ≡ Some member → slice_get l.seats.items place ≡ Some seat
+      → slice_get l.fn.nodes.items place ≡ Some (record { node = member.node; seat = seat });
+}

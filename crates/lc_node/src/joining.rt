@@ -1,0 +1,125 @@
+//! The cluster of a recovered store.
+ghost use Rattle.std.specs.Prelude.{◌≡◌, ◌≤◌, ℕ, All, Some, length, slice_get, vec_len, IfErr, IfOk, IfSome};
+ghost use Rattle.lc_recover.specs.Reads.{HaveLengths};
+ghost use Rattle.lc_recover.specs.Recovered.{AreFinished};
+ghost use Rattle.lc_stage.specs.Staging.{newcomer};
+ghost use Rattle.lc_stage.specs.Seats.{commit_view};
+ghost use Rattle.lc_stage.specs.declared.seats.CommitSeat.{CommitSeat as Seat};
+ghost use Rattle.lc_node.specs.Cluster.{IsSeatAt};
+ghost use Rattle.lc_node.specs.Joining.{IsLocked, IsRoomFor};
+ghost use Rattle.lc_node.specs.Wiring.{HasPeers};
+ghost use Rattle.lc_node.specs.declared.member.Member.{Member as TheMember};
+ghost use Rattle.lc_node.specs.declared.node_fault.NodeFault.TheVariants.{NoMemory};
+
+use crate::cluster::Cluster;
+use crate::member::Member;
+use crate::opening::{Opened, open_nodes};
+use crate::wiring::{Ends, wire};
+use crate::{NodeFault, RecvEnds, SendEnds, Travelling};
+use lc_disk::Area;
+use lc_lock::Lock;
+use lc_recover::Recovered;
+use lc_stage::CommitSeat;
+use std::alloc::Global;
+
+impl<D: Area + Drop> Cluster<D> {
+    /// The nodes of a recovered store, and the first committer's seat of each, in the order of their numbers. The token of a segment
+    /// is at the node whose number is the segment's modulo the number of nodes. All memory is taken before the store is
+    /// taken apart.
+    ///
+    /// # Errors
+    ///
+    /// `NoMemory`, which alone it may lack. The store comes back as it was.
+    pub fn open(
+        alloc: Global,
+        recovered: Recovered<D>,
+    ) -> Result<(Cluster<D>, Vec<CommitSeat>), (Recovered<D>, NodeFault)>
+        requires lengths { HaveLengths D.Area recovered.geometry recovered.areas }
+        requires finished { AreFinished D.Area recovered }
+        ensures nodes { IfOk result (λ made. length made.0.members.items ≡ recovered.geometry.nodes) }
+        ensures count { IfOk result (λ made. length made.1.items ≡ recovered.geometry.nodes) }
+        ensures seats { IfOk result (λ made. (node : ℕ) (seat : Seat) → slice_get made.1.items node ≡ Some seat
+            → IsSeatAt made.0 node seat × (commit_view seat ≡ newcomer recovered.geometry.words)) }
+        ensures segments { IfOk result (λ made. All (λ member. length member.node.segments.items ≡ recovered.geometry.segments) made.0.members.items) }
+        ensures back { IfErr result (λ back. (back.0 ≡ recovered) × (back.1 ≡ NoMemory)) }
+    {
+        let nodes = recovered.geometry().nodes;
+        let Some(room) = Room::new(alloc, nodes) else {
+            return Err((recovered, NodeFault::NoMemory));
+        };
+        let opened = open_nodes(alloc, recovered)?;
+        Ok(room.join(opened))
+    }
+}
+
+// A node's ends, each behind its lock.
+#[derive(Drop)]
+struct Post<P: Drop> {
+    to: Lock<SendEnds<P>, u16>,
+    from: Lock<RecvEnds<P>, u16>,
+}
+
+impl<P: Drop> Post<P> {
+    // These ends, of a node of a cluster of so many.
+    fn new(alloc: Global, ends: Ends<P>, nodes: u16) -> Option<Post<P>>
+        requires { HasPeers nodes ends }
+        ensures { IfSome result (IsLocked nodes) }
+    {
+        let to = Lock::new(alloc, ends.to, &nodes).ok()?;
+        let from = Lock::new(alloc, ends.from, &nodes).ok()?;
+        Some(Post { to, from })
+    }
+}
+
+// What a cluster takes of memory beside its nodes.
+#[derive(Drop)]
+struct Room<D: Area + Drop> {
+    posts: Vec<Post<Travelling<D>>>,
+    members: Vec<Member<D>>,
+    seats: Vec<CommitSeat>,
+}
+
+impl<D: Area + Drop> Room<D> {
+    // That of a cluster of so many nodes.
+    fn new(alloc: Global, nodes: u16) -> Option<Room<D>>
+        requires { 1 ≤ nodes }
+        ensures { IfSome result (IsRoomFor nodes) }
+    {
+        let count = usize::from(nodes);
+        let members = Vec::with_capacity(alloc, count).ok()?;
+        let seats = Vec::with_capacity(alloc, count).ok()?;
+        let mut posts = Vec::with_capacity(alloc, count).ok()?;
+        let mut ends = wire(alloc, nodes).ok()?;
+        for _ in 0..count {
+            posts.push_reserved(Post::new(alloc, ends.remove(0), nodes)?);
+        }
+        Some(Room {
+            posts,
+            members,
+            seats,
+        })
+    }
+
+    // The cluster of these nodes. It takes no memory.
+    fn join(self, nodes: Vec<Opened<D>>) -> (Cluster<D>, Vec<CommitSeat>)
+        requires room { IsRoomFor (vec_len nodes) self }
+        ensures members { length result.0.members.items ≡ vec_len nodes }
+        ensures seats { length result.1.items ≡ vec_len nodes }
+        ensures each { (place : ℕ) (member : TheMember D) (seat : Seat) → slice_get result.0.members.items place ≡ Some member
+            → slice_get result.1.items place ≡ Some seat → slice_get nodes.items place ≡ Some (record { node = member.node; seat = seat }) }
+    {
+        let Room {
+            mut posts,
+            mut members,
+            mut seats,
+        } = self;
+        let mut nodes = nodes;
+        for _ in 0..nodes.len() {
+            let Opened { node, seat } = nodes.remove(0);
+            let Post { to, from } = posts.remove(0);
+            members.push_reserved(Member { node, to, from });
+            seats.push_reserved(seat);
+        }
+        (Cluster { members }, seats)
+    }
+}
