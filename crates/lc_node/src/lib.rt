@@ -7,6 +7,7 @@ mod arriving;
 mod attempting;
 mod cleaning;
 mod cluster;
+mod clustering;
 mod commit_kind;
 mod committing;
 mod confirming;

@@ -1,0 +1,55 @@
+//! The calls of a cluster.
+ghost use Rattle.std.specs.Prelude.{◌≡◌, Some, length, slice_get, IfErr};
+ghost use Rattle.lc_node.specs.Cluster.{HasNode, node_at};
+ghost use Rattle.lc_node.specs.declared.node_fault.NodeFault.TheVariants.{NoMemory};
+
+use crate::cluster::Cluster;
+use crate::member::Member;
+use crate::{Node, NodeFault, Spread};
+use lc_disk::Area;
+use std::alloc::Global;
+use std::sync::Wait;
+
+impl<D: Area + Drop> Cluster<D> {
+    /// How many nodes there are.
+    pub fn nodes(&self) -> u16
+        ensures { result ≡ length self.now.members.items }
+    {
+        self.members.len() as u16
+    }
+
+    /// The node with this number, from 0.
+    pub fn node(&self, node: u16) -> &Node<D>
+        requires { HasNode self.now node }
+        ensures { node_at self.now node ≡ Some result.now }
+    {
+        &self.member(node).node
+    }
+
+    /// Sends the peers of a node the records that it has published and they lack: see `SendEnds::spread`. It waits for the lock
+    /// of the log, and then for that of the sending ends.
+    ///
+    /// # Errors
+    ///
+    /// `NoMemory`, and nothing was sent.
+    pub fn spread<R: Wait>(&self, rt: &R, alloc: Global, node: u16) -> Result<Spread, NodeFault>
+        requires { HasNode self.now node }
+        ensures { IfErr result (λ fault. fault ≡ NoMemory) }
+    {
+        let member = self.member(node);
+        let (log, log_loan) = member.node.log.lock(rt);
+        let (mut ends, ends_loan) = member.to.lock(rt);
+        let spread = ends.spread(rt, alloc, &log);
+        member.to.unlock(ends, ends_loan);
+        member.node.log.unlock(log, log_loan);
+        spread
+    }
+
+    // The node with this number, with its ends of the lines.
+    fn member(&self, node: u16) -> &Member<D>
+        requires { HasNode self.now node }
+        ensures { slice_get self.now.members.items node ≡ Some result.now }
+    {
+        &self.members[node as usize]
+    }
+}
