@@ -22,6 +22,7 @@ pub mod Fronts
 pub mod Joined
 pub mod Knowing
 pub mod Laying
+pub mod MessagesGone
 pub mod NextSent
 pub mod Noted
 pub mod Outside

@@ -1,5 +1,5 @@
 -- The places of a node's peers.
-use Rattle.std.proofs.Common.{◌≡◌, ◌≢◌, ℕ, ◌-◌, ◌<◌, cond, ap, arith}
+use Rattle.std.proofs.Common.{◌≡◌, ◌≢◌, ℕ, ◌+◌, ◌-◌, ◌<◌, cond, ap, arith}
 use mathlib.Core.Logic.{dite}
 use native.Mathlib.Decide.{dec_le}
 use Rattle.std.proofs.lemmas.Bool.{lt-ltb, le-ltb}
@@ -20,3 +20,9 @@ places_differ node a b not_a not_b same = dite (dec_le node a)
     (λ a_low. let at_a = place_below node a (omega arith) in dite (dec_le node b)
     (λ b_high. let at_b = place_above node b (omega arith) in omega arith)
     (λ b_low. let at_b = place_below node b (omega arith) in omega arith))
+
+-- they are as many as there are other nodes
+pub place_within : (node peer nodes : ℕ) → node ≢ peer → node < nodes → peer < nodes → place_of node peer + 1 < nodes
+place_within node peer nodes apart node_in peer_in = dite (dec_le node peer)
+    (λ high. let at = place_above node peer (omega arith) in omega arith)
+    (λ low. let at = place_below node peer (omega arith) in omega arith)

@@ -1,12 +1,9 @@
 -- The nodes of a cluster.
-use Rattle.std.specs.Prelude.{◌≡◌, ◌<◌, ◌⊎◌, ℕ, Option, option_map, Some, length, slice_get}
+use Rattle.std.specs.Prelude.{◌≡◌, ◌<◌, ℕ, Option, option_map, Some, length, slice_get}
 use Rattle.lc_stage.specs.Seats.{commit_view, IsSeatOf, IsIdle}
 use Rattle.lc_stage.specs.declared.seats.CommitSeat.{CommitSeat}
 use Rattle.lc_node.specs.declared.cluster.Cluster.{Cluster}
 use Rattle.lc_node.specs.declared.node.Node.{Node}
-use Rattle.lc_node.specs.declared.node_fault.NodeFault.{NodeFault}
-use Rattle.lc_node.specs.declared.node_fault.NodeFault.TheVariants.{ChannelFull, Halted, Token}
-use Rattle.lc_token.specs.declared.fault.TokenFault.TheVariants.{NotHere, Unflushed}
 
 module _ {D : Type 0} where
   abbrev pub node_at : Cluster D → ℕ → Option (Node D)
@@ -19,7 +16,3 @@ module _ {D : Type 0} where
   -- it is a committer's seat of the node with this number, with nothing open
   abbrev pub IsSeatAt : Cluster D → ℕ → CommitSeat → Type 0
   IsSeatAt cluster number seat = (node : Node D) × (node_at cluster number ≡ Some node) × IsSeatOf node.stage seat × IsIdle (commit_view seat)
-
--- why the token of this segment does not go to this node
-abbrev pub IsUngiven : ℕ → ℕ → NodeFault → Type 0
-IsUngiven segment to fault = (fault ≡ Halted) ⊎ ((fault ≡ Token (NotHere segment)) ⊎ ((fault ≡ Token Unflushed) ⊎ (fault ≡ ChannelFull to)))

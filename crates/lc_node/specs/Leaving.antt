@@ -1,9 +1,12 @@
 -- The token of a segment leaves a node.
-use Rattle.std.specs.Prelude.{◌≡◌, None, Some}
+use Rattle.std.specs.Prelude.{◌≡◌, ◌⊎◌, ℕ, None, Some}
 use Rattle.lc_node.specs.Journey.{Journey}
 use Rattle.lc_node.specs.SegView.{SegView}
 use Rattle.lc_node.specs.declared.page_area.PageArea.{PageArea}
 use Rattle.lc_node.specs.declared.page_area.PageArea.TheVariants.{Elsewhere, Serves, Failed}
+use Rattle.lc_node.specs.declared.node_fault.NodeFault.{NodeFault}
+use Rattle.lc_node.specs.declared.node_fault.NodeFault.TheVariants.{Halted, Token as OfToken}
+use Rattle.lc_token.specs.declared.fault.TokenFault.TheVariants.{NotHere, Unflushed}
 
 module _ {D : Type 0} where
   -- a call of the area failed
@@ -23,3 +26,7 @@ module _ {D : Type 0} where
   -- both are elsewhere
   abbrev pub without_token : SegView D → SegView D
   without_token s = record s { standing = record s.standing { token = None }; pages = Elsewhere }
+
+-- why the token of this segment does not leave
+abbrev pub IsUnleft : ℕ → NodeFault → Type 0
+IsUnleft segment fault = (fault ≡ Halted) ⊎ ((fault ≡ OfToken (NotHere segment)) ⊎ (fault ≡ OfToken Unflushed))

@@ -12,6 +12,7 @@ pub mod Fault
 pub mod Flushes
 pub mod Fresh
 pub mod Get
+pub mod Giving
 pub mod Growing
 pub mod Held
 pub mod Joining
@@ -26,6 +27,7 @@ pub mod Opened
 pub mod Pages
 pub mod Peers
 pub mod Published
+pub mod Pumping
 pub mod Put
 pub mod Ran
 pub mod Receipts

@@ -51,6 +51,7 @@ impl<D: Area + Drop> SegSide<D> {
         ensures waits { (result ≡ Ok false) ↔ ((MayArrive self.old journey → ⊥) × (self.old.waiting ≡ None)) }
         ensures arrives { result ≡ Ok true → self.new ≡ with_token journey self.old }
         ensures kept { result ≡ Ok false → self.new ≡ record self.old { waiting = Some journey } }
+        ensures same { (self.new.segment ≡ self.old.segment) × (self.new.image ≡ self.old.image) }
         ensures back { IfErr result (λ given. given ≡ journey) }
         ensures err { OnErr result (self.new ≡ self.old) }
     {

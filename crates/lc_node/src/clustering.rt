@@ -1,5 +1,6 @@
 //! The calls of a cluster.
 ghost use Rattle.std.specs.Prelude.{◌≡◌, Some, length, slice_get, IfErr};
+ghost use Rattle.lc_lock.specs.Loans.{key_of};
 ghost use Rattle.lc_node.specs.Cluster.{HasNode, node_at};
 ghost use Rattle.lc_node.specs.declared.node_fault.NodeFault.TheVariants.{NoMemory};
 
@@ -46,9 +47,11 @@ impl<D: Area + Drop> Cluster<D> {
     }
 
     // The node with this number, with its ends of the lines.
-    fn member(&self, node: u16) -> &Member<D>
+    pub(crate) fn member(&self, node: u16) -> &Member<D>
         requires { HasNode self.now node }
-        ensures { slice_get self.now.members.items node ≡ Some result.now }
+        ensures member { slice_get self.now.members.items node ≡ Some result.now }
+        ensures to { key_of result.now.to ≡ length self.now.members.items }
+        ensures from { key_of result.now.from ≡ length self.now.members.items }
     {
         &self.members[node as usize]
     }

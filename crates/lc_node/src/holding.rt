@@ -1,5 +1,6 @@
 //! The locks of segments, got in ascending order and given back.
 ghost use Rattle.std.specs.Prelude.{◌≡◌, ◌+◌, ◌-◌, ◌<◌, ◌≤◌, ◌↔◌, ℕ, All, Err, Some, length, IfOk, IfErr, IfNone, IsSome, IsTrue};
+ghost use Rattle.lc_lock.specs.Loans.{key_of};
 ghost use Rattle.lc_record.specs.Transaction.{is_member};
 ghost use Rattle.lc_tx.specs.Tx.{IsSetOf};
 ghost use Rattle.lc_node.specs.Held.{HasSegment, IsFirstOutside, IsHeldOf, IsUnheld, segments_of};
@@ -8,7 +9,7 @@ ghost use Rattle.lc_node.specs.declared.node_fault.NodeFault.TheVariants.{NotHer
 use crate::held::{Held, HeldSide};
 use crate::{Node, NodeFault, SegSide};
 use lc_disk::Area;
-use lc_lock::Keyed;
+use lc_lock::{Keyed, Lock};
 use std::alloc::Global;
 use std::sync::Wait;
 
@@ -22,6 +23,14 @@ impl<D: Area + Drop> Node<D> {
         ensures { IsTrue result ↔ HasSegment self.now segment }
     {
         segment > 0 && segment as usize <= self.segments.len()
+    }
+
+    // The lock of a segment.
+    pub(crate) fn lock_of(&self, segment: u32) -> &Lock<SegSide<D>, u32>
+        requires { HasSegment self.now segment }
+        ensures { key_of result.now ≡ segment }
+    {
+        &self.segments[segment as usize - 1]
     }
 
     /// Gets the locks of these segments, each once, however often it is asked for, and in ascending order, so that callers

@@ -1,6 +1,6 @@
 //! The token of a segment leaves a node, with the area of its pages.
-ghost use Rattle.std.specs.Prelude.{◌≡◌, ◌↔◌, ◌^◌, ◌≤◌, true, false, None, IfOk, IsOk, OnOk, OnErr};
-ghost use Rattle.lc_node.specs.Leaving.{HasFailed, IsJourneyFrom, IsServing, without_token};
+ghost use Rattle.std.specs.Prelude.{◌≡◌, ◌↔◌, ◌^◌, ◌≤◌, true, false, None, IfErr, IfOk, IsOk, OnOk, OnErr};
+ghost use Rattle.lc_node.specs.Leaving.{HasFailed, IsUnleft, IsJourneyFrom, IsServing, without_token};
 ghost use Rattle.lc_node.specs.Pages.{FitsToken};
 ghost use Rattle.lc_node.specs.SegView.{laid_parts};
 
@@ -22,6 +22,7 @@ impl<D: Area + Drop> SegSide<D> {
         ensures not_here { (result ≡ Err (NodeFault.Token (TokenFault.NotHere self.old.segment))) ↔ (self.old.standing.token ≡ None) }
         ensures halted { (result ≡ Err NodeFault.Halted) ↔ HasFailed self.old.pages }
         ensures unflushed { (result ≡ Err (NodeFault.Token TokenFault.Unflushed)) ↔ (IsServing self.old.pages × (flushed ≡ false)) }
+        ensures which { IfErr result (IsUnleft self.old.segment) }
         ensures done { IsOk result ↔ (IsServing self.old.pages × (flushed ≡ true)) }
         ensures left { IfOk result (IsJourneyFrom self.old) }
         ensures node { IfOk result (λ journey. journey.left ≡ node) }

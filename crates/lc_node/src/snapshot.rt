@@ -53,7 +53,7 @@ impl<D: Area + Drop> Node<D> {
         if !self.has(segment) {
             return Err(NodeFault::NotHere { segment });
         }
-        let lock = &self.segments[segment as usize - 1];
+        let lock = self.lock_of(segment);
         let (side, loan) = lock.lock(rt);
         let copied = side.snapshot(alloc);
         lock.unlock(side, loan);

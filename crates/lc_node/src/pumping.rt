@@ -1,0 +1,157 @@
+//! A message from a peer is gone on with.
+ghost use Rattle.std.specs.Prelude.{◌≡◌, ◌≢◌, ◌<◌, ℕ, List, Ok, length, slice_get, map, IfOk, IfErr, IsSome, OnErr};
+ghost use Rattle.std.specs.Option.{ForSome};
+ghost use Rattle.lc_node.specs.Held.{IsUnheld};
+ghost use Rattle.lc_node.specs.Receiving.{SameOrigins};
+ghost use Rattle.lc_node.specs.Journey.{Journey};
+ghost use Rattle.lc_node.specs.Pumping.{GoesOn, IsGoneOn, IsOfMessage, IsOfRecord, IsOfToken, pumped_of};
+ghost use Rattle.lc_node.specs.declared.message.Message.{Message as Sent};
+ghost use Rattle.lc_node.specs.declared.pumped.Pumped.TheVariants.{Waiting};
+
+use crate::delivered::Delivered;
+use crate::{Message, Node, NodeFault, Pumped, RecvEnds, Travelling};
+use lc_disk::Area;
+use lc_record::View;
+use lc_token::Received;
+use smallvec::SmallVec;
+use std::alloc::{AllocError, Global};
+use std::sync::Wait;
+
+// The segments on which a record has locks, in their order. More than 16 alone take memory.
+fn segments_locked(alloc: Global, record: &View) -> Result<SmallVec<u32, 16>, AllocError>
+    ensures { IfOk result (λ segments. segments.items ≡ map (λ lock. lock.segment) «record».now.locks) }
+{
+    let mut segments = SmallVec::new(alloc);
+    for index in 0..record.lock_count() {
+        let Some(lock) = record.lock(index) else {
+            unreachable!();
+        };
+        segments.push(lock.segment)?;
+    }
+    Ok(segments)
+}
+
+impl<D: Area + Drop> Node<D> {
+    /// Takes a record that a peer published in, at all segments on which it has locks: it waits for their locks, ascending.
+    ///
+    /// # Errors
+    ///
+    /// `NoMemory`, and `NotHere` of a segment that the node does not have. Nothing has changed then, but that applied parts may be
+    /// folded.
+    pub(crate) fn deliver<R: Wait>(
+        &self,
+        rt: &R,
+        alloc: Global,
+        words: &[u64],
+    ) -> Result<Pumped, NodeFault>
+        ensures record { IfOk result IsOfRecord }
+        ensures refused { IfErr result IsUnheld }
+    {
+        let Some(record) = View::at(words, 0) else {
+            return Ok(Pumped::Ignored);
+        };
+        let Ok(segments) = segments_locked(alloc, &record) else {
+            return Err(NodeFault::NoMemory);
+        };
+        let mut held = self.hold(rt, alloc, segments.as_slice())?;
+        let delivered = held.deliver(alloc, &record);
+        self.release(held);
+        Ok(delivered?.pumped())
+    }
+
+    /// A token came: it arrives, or waits. It comes back where the node does not have its segment, or another waits there.
+    pub(crate) fn admit<R: Wait>(
+        &self,
+        rt: &R,
+        journey: Travelling<D>,
+    ) -> Result<Pumped, Travelling<D>>
+        ensures token { IfOk result IsOfToken }
+        ensures back { IfErr result (λ given. given ≡ journey) }
+    {
+        let segment = journey.segment();
+        if !self.has(segment) {
+            return Err(journey);
+        }
+        let lock = self.lock_of(segment);
+        let (mut side, loan) = lock.lock(rt);
+        let admitted = side.admit(journey);
+        lock.unlock(side, loan);
+        Ok(if admitted? {
+            Pumped::Arrived
+        } else {
+            Pumped::Waiting
+        })
+    }
+}
+
+impl Delivered {
+    fn pumped(self) -> Pumped
+        ensures { result ≡ pumped_of self }
+    {
+        match self.first {
+            Received::Applied(applied) => Pumped::Applied {
+                applied,
+                arrived: self.arrived,
+            },
+            Received::HeldBack => Pumped::HeldBack,
+            Received::Ignored => Pumped::Ignored,
+        }
+    }
+}
+
+impl<D: Area + Drop> Node<D> {
+    /// Goes on with a message: a record is taken in at all its segments, a token arrives or waits. The message comes back where it
+    /// is refused, and where a token cannot wait.
+    pub(crate) fn receive<R: Wait>(
+        &self,
+        rt: &R,
+        alloc: Global,
+        message: Message<Travelling<D>>,
+    ) -> (Result<Pumped, NodeFault>, Option<Message<Travelling<D>>>)
+        ensures answer { IfOk result.0 (IsOfMessage message) }
+        ensures back { ForSome result.1 (λ given. given ≡ message) }
+        ensures refused { IfErr result.0 (λ fault. IsUnheld fault × IsSome result.1) }
+        ensures waits { IsSome result.1 → IfOk result.0 (λ pumped. pumped ≡ Waiting) }
+    {
+        match message {
+            Message::Record { number, words } => match self.deliver(rt, alloc, words.as_slice()) {
+                Ok(pumped) => (Ok(pumped), None),
+                Err(fault) => (Err(fault), Some(Message::Record { number, words })),
+            },
+            Message::Token(journey) => match self.admit(rt, journey) {
+                Ok(pumped) => (Ok(pumped), None),
+                Err(journey) => (Ok(Pumped::Waiting), Some(Message::Token(journey))),
+            },
+        }
+    }
+}
+
+impl<D: Area + Drop> RecvEnds<Travelling<D>> {
+    /// Goes on with the next message of a peer, by its place among the peers: the one that is kept, and else the next that is
+    /// taken. A record is taken in at all its segments, a token arrives or waits. A message that is refused is kept for the
+    /// next call.
+    pub(crate) fn pump<R: Wait>(
+        &mut self,
+        rt: &R,
+        alloc: Global,
+        node: &Node<D>,
+        peer: usize,
+    ) -> Result<Pumped, NodeFault>
+        requires peer { peer < length self.old.ends.items }
+        ensures gone_on { (gone : List (Sent (Journey D))) → IsGoneOn self.old.ends.items peer gone → IfOk result (λ pumped. GoesOn pumped gone self.new.ends.items peer) }
+        ensures kept { (gone : List (Sent (Journey D))) → IsGoneOn self.old.ends.items peer gone → OnErr result (IsGoneOn self.new.ends.items peer gone) }
+        ensures refused { IfErr result IsUnheld }
+        ensures others { (other : ℕ) → other ≢ peer → slice_get self.new.ends.items other ≡ slice_get self.old.ends.items other }
+        ensures count { length self.new.ends.items ≡ length self.old.ends.items }
+        ensures lines { SameOrigins self.old.ends.items self.new.ends.items }
+    {
+        let Some(message) = self.next(rt, peer) else {
+            return Ok(Pumped::Empty);
+        };
+        let (pumped, back) = node.receive(rt, alloc, message);
+        if let Some(message) = back {
+            self.keep(peer, message);
+        }
+        pumped
+    }
+}
