@@ -1,6 +1,13 @@
 use Rattle.std.proofs.Common.{rules, ◌≡◌, ℕ, get_or, length, set, sym, ap, subst, ◌∙◌, arith}
-use Rattle.lc_node.proofs.Deliveries.{Finishing, by_first, by_second, next_finished, all_delivered, first_answered}
+use Rattle.lc_node.proofs.Backwards.{step}
+use Rattle.lc_node.proofs.Deliveries.{Finishing, IsFinishedSo, by_first, by_second, next_finished, all_delivered, first_answered}
 use Rattle.lc_node.proofs.receiving_records.finish_all.Goals as goal
+
+pub finish_side-here-requires-clause-ready : goal.finish_side-here-requires-clause-ready
+finish_side-here-requires-clause-ready g c = let h = c.index_mut-held.result.now in
+    let e : c.len.result ≡ length c.pop.new.self.items = (let a = c.len.ensures in let b = c.pop.new.self.ok.0 in omega arith) in
+    let at = step IsFinishedSo _ _ _ _ c.pop.new.self.items c.in-Some.reception h c.loop-reception.invariant.finished c.in-Some.ensures.items (c.index_mut-held.ensures.value ∙ ap (λ (n : ℕ). get_or c.loop-reception.sides.items n h) e) in
+    c.requires.ready.each _ _ _ at.0 at.1
 
 pub loop-reception-preserved-then-here : goal.loop-reception-preserved-then-here
 loop-reception-preserved-then-here g c = let h = c.index_mut-held.result.now in let one = c.finish_side-here in
