@@ -1,6 +1,6 @@
 -- Held sides through the steps of a commit.
-use Rattle.std.proofs.Common.{◌≡◌, ℕ, zero, suc, ◌<◌, false, true≢false, Ok, Err, List, [], ◌∷◌, Some, None, length, map, refl, sym, ap, subst, ◌∙◌, inl, inr, arith, All, get_or}
-use Rattle.std.specs.Prelude.{slice_get, Option, IsSome, Result, OnOk}
+use Rattle.std.proofs.Common.{◌≡◌, ℕ, zero, suc, ◌<◌, true, false, true≢false, Ok, Err, List, [], ◌∷◌, Some, None, length, map, refl, sym, ap, subst, ◌∙◌, inl, inr, arith, All, get_or}
+use Rattle.std.specs.Prelude.{slice_get, Option, IsSome, Result, OnErr, OnOk}
 use Rattle.std.specs.Result.{is_err}
 use Rattle.std.proofs.lemmas.Option.{slice_get_within, get_or_from_slice_get}
 use Rattle.lc_lock.specs.Loans.{IsLoanOf}
@@ -122,3 +122,7 @@ module _ {D : Type 0} where
 pub on_ok : {T E : Type 0} (r : Result T E) (P : Type 0) → is_err r ≡ false → OnOk r P → P
 on_ok (Ok x) P fine p = p
 on_ok (Err e) P fine p = absurd (true≢false fine)
+
+pub on_err : {T E : Type 0} (r : Result T E) (P : Type 0) → is_err r ≡ true → OnErr r P → P
+on_err (Ok x) P fault p = absurd (true≢false (sym fault))
+on_err (Err e) P fault p = p

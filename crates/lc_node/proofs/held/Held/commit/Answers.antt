@@ -1,4 +1,5 @@
-use Rattle.std.proofs.Common.{ℕ, List, All, Ok, map, refl, sym, ap, subst, ◌∙◌}
+use Rattle.std.proofs.Common.{◌≡◌, ◌<◌, ℕ, List, All, Ok, length, map, refl, sym, ap, subst, ◌∙◌, arith, inl}
+use Rattle.std.proofs.lemmas.List.{length-map}
 use Rattle.std.specs.Prelude.{IfSome}
 use Rattle.lc_tx.specs.Images.{bytes_of}
 use Rattle.lc_stage.specs.Seats.{commit_view}
@@ -10,7 +11,7 @@ use Rattle.lc_node.specs.Ran.{Ran}
 use Rattle.lc_node.specs.Sides.{HasFewParts, HasRoomFor}
 use Rattle.lc_node.specs.declared.held.HeldSide.{HeldSide}
 use Rattle.lc_node.proofs.CommitPaths.{small, may_return, returned, returned_tidy, may_count, may_go_back, all_of_it, ran_of, why_of}
-use Rattle.lc_node.proofs.Standing.{kept_of_roomier, held_kept, held_here, held_roomier, held_takes, on_ok, same_before, same_kept, segments_kept, segments_roomier, segments_takes}
+use Rattle.lc_node.proofs.Standing.{kept_of_roomier, held_kept, held_here, held_roomier, held_takes, on_err, on_ok, same_before, same_kept, segments_kept, segments_roomier, segments_takes}
 use Rattle.lc_node.proofs.held.Held.commit.Goals as goal
 
 pub returns-in_default-clause-refused : goal.returns-in_default-clause-refused
@@ -88,3 +89,15 @@ returns-in-Ok-None-clause-ran g c = let undone = subst (λ (l : List ℕ). IsUnd
 pub returns-clause-why : goal.returns-clause-why
 returns-clause-why g c = why_of c.args.self.now.sides.items c.make_room_in.new.sides.items c.take_images.new.sides.items (record { slots = c.take_images.new.slots; spare = c.new-spare.result }) c.in-Ok.segments.items (c.in-Ok.ensures.segments ∙ ap (λ (l : List (HeldSide g.row.D.Denot)). map (λ h. h.side.segment) l) c.as_slice.ensures.value) c.requires.ascends c.make_room_in.ensures.same c.take_images.ensures.out c.take_images.ensures.lent c.args.node.now.stage.room (commit_view c.stage_work-done.new.seat).seen c.in-Err.fault
     (subst (λ (l : List ℕ). IsUnstaged (g.W.Work.ran c.args.work.now c.stage_work-done.new.work) (IsUnbegun the_images (record { slots = c.take_images.new.slots; spare = c.new-spare.result }) l) l (bytes_of the_images (record { slots = c.take_images.new.slots; spare = c.new-spare.result })) c.args.node.now.stage.room (commit_view c.stage_work-done.new.seat).seen c.in-Err.fault) c.as_slice-2.ensures c.in-Err.ensures.why)
+
+pub returns-then-is_err-clause-why : goal.returns-then-is_err-clause-why
+returns-then-is_err-clause-why g c =
+    let sides : List (HeldSide g.row.D.Denot) = c.args.self.now.sides.items in
+    let some : 0 < length sides = on_err c.make_room_in.result (0 < length sides) (sym c.is_err.ensures.value ∙ c.if-is_err.true) c.make_room_in.ensures.no_memory in
+    inl (
+      refl,
+      λ none.
+          let as_many : length (map (λ (h : HeldSide g.row.D.Denot). h.side.segment) sides) ≡ length sides = length-map sides (λ (h : HeldSide g.row.D.Denot). h.side.segment) in
+          let no_segment : length (map (λ (h : HeldSide g.row.D.Denot). h.side.segment) sides) ≡ 0 = ap (λ (l : List ℕ). length l) none in
+          omega (arith, some, as_many, no_segment),
+    )
