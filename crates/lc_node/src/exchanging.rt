@@ -20,13 +20,7 @@ impl<D: Area + Drop> Cluster<D> {
     /// `Halted` where a call of the device of the log or of the segment's pages has failed; then, as `Token`, `NotHere` where
     /// the token is elsewhere or there is no such segment, and `Unflushed` where not all that the node reserved is stable;
     /// `ChannelFull` where the line to the other node has no room. The token stands where it was then.
-    pub fn give<R: Wait>(
-        &self,
-        rt: &R,
-        from: u16,
-        to: u16,
-        segment: u32,
-    ) -> Result<(), NodeFault>
+    pub fn give<R: Wait>(&self, rt: &R, from: u16, to: u16, segment: u32) -> Result<(), NodeFault>
         requires apart { from ≢ to }
         requires within { HasNode self.now from × HasNode self.now to }
         ensures { IfErr result (IsUngiven segment to) }
