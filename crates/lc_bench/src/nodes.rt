@@ -1,5 +1,5 @@
-//! Running nodes over new stores.
-ghost use Rattle.std.specs.Prelude.{◌≡◌, IfOk};
+//! New stores, and running nodes over them.
+ghost use Rattle.std.specs.Prelude.{IfOk};
 ghost use Rattle.lc_recover.specs.Recovered.{AreFinished};
 ghost use Rattle.lc_recover.specs.Reads.{HaveLengths};
 ghost use Rattle.lc_stage.specs.Seats.{commit_view, IsSeatOf, IsIdle};
@@ -25,7 +25,7 @@ pub(crate) struct Running<D: Area + Drop> {
 }
 
 impl<D: Area + Drop> Running<D> {
-    /// The node of a store of one node, which comes up on these areas.
+    /// The node of a store, which comes up on these areas as one.
     pub(crate) fn new(alloc: Global, geometry: Geometry, areas: Vec<D>) -> io::Result<Running<D>> {
         match Node::open(alloc, recovered(alloc, geometry, areas)?) {
             Ok((node, seat)) => Ok(Running { node, seat }),
@@ -34,19 +34,15 @@ impl<D: Area + Drop> Running<D> {
     }
 }
 
-// The store of one node on these areas, which is recovered.
-fn recovered<D: Area + Drop>(
+/// The store on these areas, which is recovered.
+pub(crate) fn recovered<D: Area + Drop>(
     alloc: Global,
     geometry: Geometry,
     areas: Vec<D>,
 ) -> io::Result<Recovered<D>>
-    ensures one { IfOk result (λ r. r.geometry.nodes ≡ 1) }
     ensures lengths { IfOk result (λ r. HaveLengths D.Area r.geometry r.areas) }
     ensures finished { IfOk result (AreFinished D.Area) }
 {
-    if geometry.nodes != 1 {
-        return Err(Error::from(ErrorKind::InvalidInput));
-    }
     let Ok(mut recovery) = Recovery::new(geometry, areas) else {
         return Err(Error::from(ErrorKind::InvalidInput));
     };
