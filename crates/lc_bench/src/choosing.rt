@@ -4,7 +4,7 @@ use crate::measurement::{Measurement, Subject};
 use crate::measurements::ALL;
 use crate::rounds::{Found, Rounds};
 use crate::transactions::Transactions;
-use crate::{files, growth, harness, memory, running, staging};
+use crate::{clusters, files, growth, harness, memory, running, staging};
 use lc_disk::HeldFile;
 use std::io;
 use std::rt::{Clock, Files};
@@ -78,6 +78,7 @@ where
         Subject::Stage => staging::measure(rt, measurement.threads)?,
         Subject::Node => running::in_memory(rt, measurement)?,
         Subject::NodeFiles => running::in_files(rt, measurement, folder)?,
+        Subject::Cluster(sent) => clusters::measure(rt, measurement, sent)?,
         Subject::Events => {
             growth::measure(rt)?;
             return Ok(None);

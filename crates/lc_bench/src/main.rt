@@ -4,6 +4,7 @@
 
 mod by_hand;
 mod choosing;
+mod clusters;
 mod committing;
 mod copies;
 mod counted;

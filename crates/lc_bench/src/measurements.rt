@@ -1,5 +1,5 @@
 //! All measurements.
-use crate::measurement::{End, Measurement, Subject, Timed};
+use crate::measurement::{End, Measurement, Sent, Subject, Timed};
 
 // A transaction of one range on one segment of 64 pages.
 const ONE: Measurement = Measurement {
@@ -25,7 +25,7 @@ const NODE: Measurement = Measurement {
 };
 
 /// All that there are, in the order in which their names are printed.
-pub(crate) static ALL: [Measurement; 28] = [
+pub(crate) static ALL: [Measurement; 30] = [
     ONE,
     Measurement {
         name: "32-ranges",
@@ -208,5 +208,18 @@ pub(crate) static ALL: [Measurement; 28] = [
         segments: 16,
         group: 16,
         ..NODE
+    },
+    Measurement {
+        name: "cluster-token",
+        subject: Subject::Cluster(Sent::Token),
+        nodes: 2,
+        ..ONE
+    },
+    Measurement {
+        name: "cluster-records",
+        subject: Subject::Cluster(Sent::Records),
+        nodes: 4,
+        group: 256,
+        ..ONE
     },
 ];

@@ -258,8 +258,11 @@ fn committers<'a, D: Area + Drop>(
     Ok(committers)
 }
 
-// Zeros in memory, as many as the areas of the store have.
-fn areas_in_memory(alloc: Global, measurement: &Measurement) -> io::Result<Vec<MemArea>> {
+/// Zeros in memory, as many as the areas of the store have.
+pub(crate) fn areas_in_memory(
+    alloc: Global,
+    measurement: &Measurement,
+) -> io::Result<Vec<MemArea>> {
     let geometry = measurement.geometry()?;
     let mut areas = Vec::new(alloc);
     for area in 0..measurement.areas() {
