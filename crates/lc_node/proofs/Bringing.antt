@@ -44,14 +44,14 @@ module _ {I : Type 0} (m : Ghosts I) where
   agree_released segments old new last u left r = λ s is. sym (r.same_bytes s (left.locked s ∙ is))
 
   -- the ranges of the record give the bytes that the work left
-  module _ (segments : List ℕ) (old at : I) (u : Tx) (left : Leaves m segments old at u) (on : RunsOn m at u) (canonical : IsCanonical u.set) (words : List ℕ) (is : IsRecord (final_record m at u 0) words) where
-    at_part : (s : ℕ) → IsTrue (is_member s segments) → (o : Option Part) → part_of s (final_record m at u 0) ≡ o → laid_over (ranges_in o) (bytes_of m old s) ≡ bytes_of m at s
+  module _ {node : ℕ} (segments : List ℕ) (old at : I) (u : Tx) (left : Leaves m segments old at u) (on : RunsOn m at u) (canonical : IsCanonical u.set) (words : List ℕ) (is : IsRecord (final_record m at u node) words) where
+    at_part : (s : ℕ) → IsTrue (is_member s segments) → (o : Option Part) → part_of s (final_record m at u node) ≡ o → laid_over (ranges_in o) (bytes_of m old s) ≡ bytes_of m at s
     at_part s member None none = sym (ext_get_or 0 (bytes_of m at s) (bytes_of m old s) (left.same_length s member)
-        (λ k within. left.unset s k member (none_set m at s (final_record m at u 0) words u.set is refl none k)))
+        (λ k within. left.unset s k member (none_set m at s (final_record m at u node) words u.set is refl none k)))
     at_part s member (Some part) some =
         let inside = lie_inside m at s u.set (inside_from m at u.set canonical (λ x k has. (on.here x (on.set_locked x k has), on.set_inside x k has))) in
-        ap (λ rs. laid_over rs (bytes_of m old s)) (part_is s (final_record m at u 0) part some).1
+        ap (λ rs. laid_over rs (bytes_of m old s)) (part_is s (final_record m at u node) part some).1
         ∙ laid_is_left s (bytes_of m at) u.set (bytes_of m old s) (sym (left.same_length s member)) inside (λ k none. sym (left.unset s k member none))
 
-    pub brings : Brings (final_record m at u 0) segments (bytes_of m old) (bytes_of m at)
-    brings s member = at_part s member (part_of s (final_record m at u 0)) refl
+    pub brings : Brings (final_record m at u node) segments (bytes_of m old) (bytes_of m at)
+    brings s member = at_part s member (part_of s (final_record m at u node)) refl

@@ -145,7 +145,7 @@ module _ {D : Type 0} where
 
     -- The record was staged
 
-    module _ (parts : List (Option Part)) (new : Lent) (before after : View) (w : StagesWork (segments sides) lent parts new before after) where
+    module _ {node : ℕ} (parts : List (Option Part)) (new : Lent) (before after : View) (w : StagesWork node (segments sides) lent parts new before after) where
       part_at : (k : ℕ) (h : HeldSide D) (p : Option Part) → slice_get sides k ≡ Some h → slice_get parts k ≡ Some p → p ≡ part_of h.side.segment w.whole
       part_at k h p h_at p_at =
           some_same p (part_of h.side.segment w.whole) (sym p_at ∙ (ap (λ (l : List (Option Part)). slice_get l k) w.parts_are ∙ got_map (λ (s : ℕ). part_of s w.whole) (segments sides) k h.side.segment (got_map (λ (x : HeldSide D). x.side.segment) sides k h h_at)))

@@ -82,9 +82,9 @@ module _ {D : Type 0} (xs ys zs : List (HeldSide D)) (lent : Lent) (segments : L
 
   -- The record was staged
 
-  module _ (parts : List (Option Part)) (new : Lent) (before after : View) (w : StagesWork segments lent parts new before after) where
-    pub staged : StagesWork (map (λ (h : HeldSide D). h.side.segment) ys) lent parts new before after
-    staged = subst (λ (l : List ℕ). StagesWork l lent parts new before after) again w
+  module _ {node : ℕ} (parts : List (Option Part)) (new : Lent) (before after : View) (w : StagesWork node segments lent parts new before after) where
+    pub staged : StagesWork node (map (λ (h : HeldSide D). h.side.segment) ys) lent parts new before after
+    staged = subst (λ (l : List ℕ). StagesWork node l lent parts new before after) again w
 
     pub may_count : All HasRoomFor ys → Each CanCount zs parts
     may_count room = subst (λ (l : List (HeldSide D)). Each CanCount l parts) (sym gone) (can_count ys lent out ascend parts new before after staged room)

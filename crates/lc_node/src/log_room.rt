@@ -65,14 +65,21 @@ impl<D: Area + Drop> LogRoom<D> {
         })
     }
 
-    /// The node with these segments, whose log is on this area, which begins with no open gate. It takes no memory.
-    pub(crate) fn open(self, area: D, segments: Vec<Lock<SegSide<D>, u32>>) -> (Node<D>, CommitSeat)
+    /// The node of this number with these segments, whose log is on this area, which begins with no open gate. It takes no memory.
+    pub(crate) fn open(
+        self,
+        number: u16,
+        area: D,
+        segments: Vec<Lock<SegSide<D>, u32>>,
+    ) -> (Node<D>, CommitSeat)
+        requires number { number ≤ 7 }
         requires room { 8 * self.stage.room + 8 ≤ length (D.now area) }
         requires closed { D.honest area ≡ true → slice_index (D.now area) 0 % 256 ≢ 165 }
         requires clean { D.honest area ≡ true → D.dirty area 0 ≡ false }
         requires in_order { (place : ℕ) (lock : Keeps (SegView D) ℕ) → slice_get segments.items place ≡ Some lock → key_of lock ≡ place + 1 }
         requires few { vec_len segments ≤ 16 }
         ensures seat { IsSeatOf result.0.stage result.1 × (result.1 ≡ self.seat) }
+        ensures number { result.0.number ≡ number }
         ensures room { result.0.stage.room ≡ self.stage.room }
         ensures segments { result.0.segments ≡ segments }
     {
@@ -97,6 +104,7 @@ impl<D: Area + Drop> LogRoom<D> {
             known: KnownClean::new(),
         });
         let node = Node {
+            number,
             stage,
             log,
             segments,

@@ -9,13 +9,15 @@ use lc_disk::Area;
 use lc_lock::Lock;
 use lc_stage::Stage;
 
-/// A running node: its stage, a lock round its log, and one round each of its segments, at most 16, from segment 1 on. This
+/// A running node: its number, from 0, which its records name, its stage, a lock round its log, and one round each of its segments, at most 16, from segment 1 on. This
 /// project's own.
 #[derive(Drop)]
 pub struct Node<D: Area + Drop> {
+    pub(crate) number: u16,
     pub(crate) stage: Stage,
     pub(crate) log: Lock<LogSide<D>, Stage>,
     pub(crate) segments: Vec<Lock<SegSide<D>, u32>>,
+    ghost numbered: { number ≤ 7 },
     ghost one_stage: { (key_of log).table.shared.table_id ≡ stage.table.shared.table_id },
     ghost in_order: { (place : ℕ) (lock : Keeps (SegView D) ℕ) → slice_get segments.items place ≡ Some lock → key_of lock ≡ place + 1 },
     ghost few: { vec_len segments ≤ 16 },

@@ -75,6 +75,7 @@ fn open_first<D: Area + Drop>(
 ) -> Result<Vec<Opened<D>>, (Recovered<D>, NodeFault)>
     requires some { 0 < nodes }
     requires within { nodes ≤ recovered.geometry.nodes }
+    requires few { nodes ≤ 8 }
     requires lengths { HaveLengths D.Area recovered.geometry recovered.areas }
     requires finished { AreFinished D.Area recovered }
     ensures count { IfOk result (λ made. length made.items ≡ nodes) }

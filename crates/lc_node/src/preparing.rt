@@ -62,6 +62,7 @@ pub(crate) fn stage_work<W: Work, G: Gate>(
     lent: &mut Lent,
     segments: &[u32],
     work: &mut W,
+    node: u16,
     stage: &Stage,
     seat: &mut CommitSeat,
     tries: u32,
@@ -70,17 +71,18 @@ pub(crate) fn stage_work<W: Work, G: Gate>(
     requires own { IsSeatOf stage.now seat.old }
     requires idle { IsIdle (commit_view seat.old) }
     requires tries { 0 < tries }
+    requires node { node ≤ 7 }
     requires small { AreSmall the_images lent.old segments.now }
     ensures own { IsSeatOf stage.now seat.new }
     ensures idle { IsIdle (commit_view seat.new) }
-    ensures staged { IfOk result (λ done. IfSome done (λ parts. StagesWork segments.now lent.old parts.items lent.new (commit_view seat.old) (commit_view seat.new))) }
+    ensures staged { IfOk result (λ done. IfSome done (λ parts. StagesWork node segments.now lent.old parts.items lent.new (commit_view seat.old) (commit_view seat.new))) }
     ensures ran { OnOk result (Ran (W.ran work.old work.new) segments.now (bytes_of the_images lent.old) (Ok tt) (bytes_of the_images lent.new)) }
     ensures nothing { result ≡ Ok None → (commit_view seat.new ≡ commit_view seat.old) × IsUndone the_images segments.now lent.old lent.new }
     ensures why { IfErr result (λ fault. IsUnstaged (W.ran work.old work.new) (IsUnbegun the_images lent.old segments.now) segments.now
         (bytes_of the_images lent.old) stage.now.room (commit_view seat.new).seen fault) }
     ensures refused { IfErr result (λ _. Sees (commit_view seat.old) (commit_view seat.new) × IsUndone the_images segments.now lent.old lent.new) }
 {
-    let (tx, prepared) = match attempt(alloc, lent, segments, work) {
+    let (tx, prepared) = match attempt(alloc, lent, segments, work, node) {
         Ok(made) => made,
         Err(fault) => return Err(fault.into()),
     };

@@ -59,6 +59,7 @@ impl<D: Area + Drop> Room<D> {
         requires empty { self.locks.items ≡ [] }
         requires space { vec_len self.segments ≤ vec_capacity self.locks }
         ensures seat { IsSeatOf result.node.stage result.seat × (result.seat ≡ self.log.seat) }
+        ensures number { result.node.number ≡ share.number }
         ensures room { result.node.stage.room ≡ self.log.stage.room }
         ensures segments { length result.node.segments.items ≡ vec_len self.segments }
         ensures places { length pages.new ≡ length pages.old }
@@ -70,7 +71,7 @@ impl<D: Area + Drop> Room<D> {
             locks,
         } = self;
         let locks = fill_all(alloc, share, segments, pages, locks);
-        let (node, seat) = log_room.open(log, locks);
+        let (node, seat) = log_room.open(share.number as u16, log, locks);
         Opened { node, seat }
     }
 

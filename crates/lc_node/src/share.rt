@@ -1,5 +1,5 @@
 //! Which tokens stand at a node as a store comes up.
-ghost use Rattle.std.specs.Prelude.{◌≡◌, ◌<◌, None, if◌then◌else◌};
+ghost use Rattle.std.specs.Prelude.{◌≡◌, ◌<◌, ◌≤◌, None, if◌then◌else◌};
 ghost use Rattle.lc_node.specs.Shares.{has_token};
 
 /// The share of a node in the tokens of a store: those of the segments whose numbers are the node's modulo the number of
@@ -9,12 +9,14 @@ pub(crate) struct Share {
     pub(crate) number: u32,
     pub(crate) nodes: u32,
     ghost one_of: { number < nodes },
+    ghost few: { nodes ≤ 8 },
 }
 
 impl Share {
     /// That of a node, from 0, of so many.
     pub(crate) fn new(number: u32, nodes: u32) -> Share
-        requires { number < nodes }
+        requires one_of { number < nodes }
+        requires few { nodes ≤ 8 }
         ensures number { result.number ≡ number }
         ensures nodes { result.nodes ≡ nodes }
     {

@@ -45,6 +45,7 @@ impl<D: Area + Drop> StoreRoom<D> {
         requires room { IsStoreRoom recovered (vec_len self.nodes) self }
         requires some { 0 < vec_len self.nodes }
         requires within { vec_len self.nodes ≤ recovered.geometry.nodes }
+        requires few { vec_len self.nodes ≤ 8 }
         requires lengths { HaveLengths D.Area recovered.geometry recovered.areas }
         requires finished { AreFinished D.Area recovered }
         ensures count { length result.items ≡ vec_len self.nodes }

@@ -2,6 +2,10 @@
 #![tactic(auto)]
 
 #[cfg(test)]
+mod both;
+#[cfg(test)]
+mod clusters;
+#[cfg(test)]
 mod commits;
 #[cfg(test)]
 mod crowds;
@@ -13,6 +17,8 @@ mod folders;
 mod gates;
 #[cfg(test)]
 mod restarts;
+#[cfg(test)]
+mod rings;
 #[cfg(test)]
 mod seats;
 #[cfg(test)]

@@ -40,15 +40,14 @@ impl Shelf {
     pub(crate) fn areas(&self, alloc: Global) -> Result<Vec<SharedArea<'_>>, AllocError> {
         let mut areas = Vec::with_capacity(alloc, 3)?;
         for bytes in [&self.log, &self.first, &self.second] {
-            areas.push(SharedArea {
-                bytes: bytes.as_slice(),
-            })?;
+            areas.push(area_of(bytes))?;
         }
         Ok(areas)
     }
 }
 
-fn zeros(alloc: Global, len: usize) -> Result<Vec<AtomicU8>, AllocError> {
+/// So many bytes, all zeros.
+pub(crate) fn zeros(alloc: Global, len: usize) -> Result<Vec<AtomicU8>, AllocError> {
     let mut bytes = Vec::with_capacity(alloc, len)?;
     for _ in 0..len {
         bytes.push(AtomicU8::new(0))?;
@@ -60,6 +59,13 @@ fn zeros(alloc: Global, len: usize) -> Result<Vec<AtomicU8>, AllocError> {
 #[derive(Clone, Copy)]
 pub(crate) struct SharedArea<'a> {
     bytes: &'a [AtomicU8],
+}
+
+/// The area of these bytes.
+pub(crate) fn area_of(bytes: &Vec<AtomicU8>) -> SharedArea<'_> {
+    SharedArea {
+        bytes: bytes.as_slice(),
+    }
 }
 
 impl SharedArea<'_> {
@@ -126,9 +132,7 @@ impl<'a> Mirror<'a> {
     {
         Ok(Mirror {
             fuse: Fuse::new(MemArea::new(alloc, bytes.len())?, when),
-            copy: SharedArea {
-                bytes: bytes.as_slice(),
-            },
+            copy: area_of(bytes),
         })
     }
 }

@@ -36,19 +36,19 @@ pub stage_work-done-requires-clause-small : goal.stage_work-done-requires-clause
 stage_work-done-requires-clause-small g c = subst (λ (l : List ℕ). AreSmall the_images (record { slots = c.take_images.new.slots; spare = c.new-spare.result }) l) (sym c.as_slice-2.ensures) (small c.args.self.now.sides.items c.make_room_in.new.sides.items c.take_images.new.sides.items (record { slots = c.take_images.new.slots; spare = c.new-spare.result }) c.in-Ok.segments.items (c.in-Ok.ensures.segments ∙ ap (λ (l : List (HeldSide g.row.D.Denot)). map (λ h. h.side.segment) l) c.as_slice.ensures.value) c.requires.ascends c.make_room_in.ensures.same c.take_images.ensures.out c.take_images.ensures.lent)
 
 pub count_parts-requires : goal.count_parts-requires
-count_parts-requires g c = record { next = may_count c.args.self.now.sides.items c.make_room_in.new.sides.items c.take_images.new.sides.items (record { slots = c.take_images.new.slots; spare = c.new-spare.result }) c.in-Ok.segments.items (c.in-Ok.ensures.segments ∙ ap (λ (l : List (HeldSide g.row.D.Denot)). map (λ h. h.side.segment) l) c.as_slice.ensures.value) c.requires.ascends c.make_room_in.ensures.same c.take_images.ensures.out c.take_images.ensures.lent c.in-Ok-Some.parts.items c.stage_work-done.new.lent (commit_view c.args.seat.now) (commit_view c.stage_work-done.new.seat) (subst (λ (l : List ℕ). StagesWork l (record { slots = c.take_images.new.slots; spare = c.new-spare.result }) c.in-Ok-Some.parts.items c.stage_work-done.new.lent (commit_view c.args.seat.now) (commit_view c.stage_work-done.new.seat)) c.as_slice-2.ensures (subst (λ o. IfSome o (λ ps. StagesWork c.as_slice-2.result.now (record { slots = c.take_images.new.slots; spare = c.new-spare.result }) ps.items c.stage_work-done.new.lent (commit_view c.args.seat.now) (commit_view c.stage_work-done.new.seat))) c.in-Ok-Some.field-0-is c.in-Ok-Some.ensures.staged)) (on_ok c.make_room_in.result (All HasRoomFor c.make_room_in.new.sides.items) (sym c.is_err.ensures.value ∙ c.if-is_err.false) c.make_room_in.ensures.room) }
+count_parts-requires g c = record { next = may_count c.args.self.now.sides.items c.make_room_in.new.sides.items c.take_images.new.sides.items (record { slots = c.take_images.new.slots; spare = c.new-spare.result }) c.in-Ok.segments.items (c.in-Ok.ensures.segments ∙ ap (λ (l : List (HeldSide g.row.D.Denot)). map (λ h. h.side.segment) l) c.as_slice.ensures.value) c.requires.ascends c.make_room_in.ensures.same c.take_images.ensures.out c.take_images.ensures.lent c.in-Ok-Some.parts.items c.stage_work-done.new.lent (commit_view c.args.seat.now) (commit_view c.stage_work-done.new.seat) (subst (λ (l : List ℕ). StagesWork c.args.node.now.number l (record { slots = c.take_images.new.slots; spare = c.new-spare.result }) c.in-Ok-Some.parts.items c.stage_work-done.new.lent (commit_view c.args.seat.now) (commit_view c.stage_work-done.new.seat)) c.as_slice-2.ensures (subst (λ o. IfSome o (λ ps. StagesWork c.args.node.now.number c.as_slice-2.result.now (record { slots = c.take_images.new.slots; spare = c.new-spare.result }) ps.items c.stage_work-done.new.lent (commit_view c.args.seat.now) (commit_view c.stage_work-done.new.seat))) c.in-Ok-Some.field-0-is c.in-Ok-Some.ensures.staged)) (on_ok c.make_room_in.result (All HasRoomFor c.make_room_in.new.sides.items) (sym c.is_err.ensures.value ∙ c.if-is_err.false) c.make_room_in.ensures.room) }
 
 pub put_images-requires : goal.put_images-requires
-put_images-requires g c = record { ready = may_go_back c.args.self.now.sides.items c.make_room_in.new.sides.items c.take_images.new.sides.items (record { slots = c.take_images.new.slots; spare = c.new-spare.result }) c.in-Ok.segments.items (c.in-Ok.ensures.segments ∙ ap (λ (l : List (HeldSide g.row.D.Denot)). map (λ h. h.side.segment) l) c.as_slice.ensures.value) c.requires.ascends c.make_room_in.ensures.same c.take_images.ensures.out c.take_images.ensures.lent c.in-Ok-Some.parts.items c.stage_work-done.new.lent (commit_view c.args.seat.now) (commit_view c.stage_work-done.new.seat) (subst (λ (l : List ℕ). StagesWork l (record { slots = c.take_images.new.slots; spare = c.new-spare.result }) c.in-Ok-Some.parts.items c.stage_work-done.new.lent (commit_view c.args.seat.now) (commit_view c.stage_work-done.new.seat)) c.as_slice-2.ensures (subst (λ o. IfSome o (λ ps. StagesWork c.as_slice-2.result.now (record { slots = c.take_images.new.slots; spare = c.new-spare.result }) ps.items c.stage_work-done.new.lent (commit_view c.args.seat.now) (commit_view c.stage_work-done.new.seat))) c.in-Ok-Some.field-0-is c.in-Ok-Some.ensures.staged)) c.count_parts.new.sides.items c.count_parts.ensures.counted }
+put_images-requires g c = record { ready = may_go_back c.args.self.now.sides.items c.make_room_in.new.sides.items c.take_images.new.sides.items (record { slots = c.take_images.new.slots; spare = c.new-spare.result }) c.in-Ok.segments.items (c.in-Ok.ensures.segments ∙ ap (λ (l : List (HeldSide g.row.D.Denot)). map (λ h. h.side.segment) l) c.as_slice.ensures.value) c.requires.ascends c.make_room_in.ensures.same c.take_images.ensures.out c.take_images.ensures.lent c.in-Ok-Some.parts.items c.stage_work-done.new.lent (commit_view c.args.seat.now) (commit_view c.stage_work-done.new.seat) (subst (λ (l : List ℕ). StagesWork c.args.node.now.number l (record { slots = c.take_images.new.slots; spare = c.new-spare.result }) c.in-Ok-Some.parts.items c.stage_work-done.new.lent (commit_view c.args.seat.now) (commit_view c.stage_work-done.new.seat)) c.as_slice-2.ensures (subst (λ o. IfSome o (λ ps. StagesWork c.args.node.now.number c.as_slice-2.result.now (record { slots = c.take_images.new.slots; spare = c.new-spare.result }) ps.items c.stage_work-done.new.lent (commit_view c.args.seat.now) (commit_view c.stage_work-done.new.seat))) c.in-Ok-Some.field-0-is c.in-Ok-Some.ensures.staged)) c.count_parts.new.sides.items c.count_parts.ensures.counted }
 
 pub returns-in-Ok-Some-clause-held : goal.returns-in-Ok-Some-clause-held
-returns-in-Ok-Some-clause-held g c = let all = all_of_it c.args.self.now.sides.items c.make_room_in.new.sides.items c.take_images.new.sides.items (record { slots = c.take_images.new.slots; spare = c.new-spare.result }) c.in-Ok.segments.items (c.in-Ok.ensures.segments ∙ ap (λ (l : List (HeldSide g.row.D.Denot)). map (λ h. h.side.segment) l) c.as_slice.ensures.value) c.requires.ascends c.make_room_in.ensures.same c.take_images.ensures.out c.take_images.ensures.lent c.in-Ok-Some.parts.items c.stage_work-done.new.lent (commit_view c.args.seat.now) (commit_view c.stage_work-done.new.seat) (subst (λ (l : List ℕ). StagesWork l (record { slots = c.take_images.new.slots; spare = c.new-spare.result }) c.in-Ok-Some.parts.items c.stage_work-done.new.lent (commit_view c.args.seat.now) (commit_view c.stage_work-done.new.seat)) c.as_slice-2.ensures (subst (λ o. IfSome o (λ ps. StagesWork c.as_slice-2.result.now (record { slots = c.take_images.new.slots; spare = c.new-spare.result }) ps.items c.stage_work-done.new.lent (commit_view c.args.seat.now) (commit_view c.stage_work-done.new.seat))) c.in-Ok-Some.field-0-is c.in-Ok-Some.ensures.staged)) c.count_parts.new.sides.items c.count_parts.ensures.counted (on_ok c.make_room_in.result (All HasFewParts c.make_room_in.new.sides.items) (sym c.is_err.ensures.value ∙ c.if-is_err.false) c.make_room_in.ensures.few) c.put_images.new.sides.items c.put_images.ensures.back in held_takes c.args.node.now all.0 c.args.self.now.sides.items c.put_images.new.sides.items all.4 c.requires.held
+returns-in-Ok-Some-clause-held g c = let all = all_of_it c.args.self.now.sides.items c.make_room_in.new.sides.items c.take_images.new.sides.items (record { slots = c.take_images.new.slots; spare = c.new-spare.result }) c.in-Ok.segments.items (c.in-Ok.ensures.segments ∙ ap (λ (l : List (HeldSide g.row.D.Denot)). map (λ h. h.side.segment) l) c.as_slice.ensures.value) c.requires.ascends c.make_room_in.ensures.same c.take_images.ensures.out c.take_images.ensures.lent c.in-Ok-Some.parts.items c.stage_work-done.new.lent (commit_view c.args.seat.now) (commit_view c.stage_work-done.new.seat) (subst (λ (l : List ℕ). StagesWork c.args.node.now.number l (record { slots = c.take_images.new.slots; spare = c.new-spare.result }) c.in-Ok-Some.parts.items c.stage_work-done.new.lent (commit_view c.args.seat.now) (commit_view c.stage_work-done.new.seat)) c.as_slice-2.ensures (subst (λ o. IfSome o (λ ps. StagesWork c.args.node.now.number c.as_slice-2.result.now (record { slots = c.take_images.new.slots; spare = c.new-spare.result }) ps.items c.stage_work-done.new.lent (commit_view c.args.seat.now) (commit_view c.stage_work-done.new.seat))) c.in-Ok-Some.field-0-is c.in-Ok-Some.ensures.staged)) c.count_parts.new.sides.items c.count_parts.ensures.counted (on_ok c.make_room_in.result (All HasFewParts c.make_room_in.new.sides.items) (sym c.is_err.ensures.value ∙ c.if-is_err.false) c.make_room_in.ensures.few) c.put_images.new.sides.items c.put_images.ensures.back in held_takes c.args.node.now all.0 c.args.self.now.sides.items c.put_images.new.sides.items all.4 c.requires.held
 
 pub returns-in-Ok-Some-clause-segments : goal.returns-in-Ok-Some-clause-segments
-returns-in-Ok-Some-clause-segments g c = let all = all_of_it c.args.self.now.sides.items c.make_room_in.new.sides.items c.take_images.new.sides.items (record { slots = c.take_images.new.slots; spare = c.new-spare.result }) c.in-Ok.segments.items (c.in-Ok.ensures.segments ∙ ap (λ (l : List (HeldSide g.row.D.Denot)). map (λ h. h.side.segment) l) c.as_slice.ensures.value) c.requires.ascends c.make_room_in.ensures.same c.take_images.ensures.out c.take_images.ensures.lent c.in-Ok-Some.parts.items c.stage_work-done.new.lent (commit_view c.args.seat.now) (commit_view c.stage_work-done.new.seat) (subst (λ (l : List ℕ). StagesWork l (record { slots = c.take_images.new.slots; spare = c.new-spare.result }) c.in-Ok-Some.parts.items c.stage_work-done.new.lent (commit_view c.args.seat.now) (commit_view c.stage_work-done.new.seat)) c.as_slice-2.ensures (subst (λ o. IfSome o (λ ps. StagesWork c.as_slice-2.result.now (record { slots = c.take_images.new.slots; spare = c.new-spare.result }) ps.items c.stage_work-done.new.lent (commit_view c.args.seat.now) (commit_view c.stage_work-done.new.seat))) c.in-Ok-Some.field-0-is c.in-Ok-Some.ensures.staged)) c.count_parts.new.sides.items c.count_parts.ensures.counted (on_ok c.make_room_in.result (All HasFewParts c.make_room_in.new.sides.items) (sym c.is_err.ensures.value ∙ c.if-is_err.false) c.make_room_in.ensures.few) c.put_images.new.sides.items c.put_images.ensures.back in segments_takes all.0 c.args.self.now.sides.items c.put_images.new.sides.items all.4
+returns-in-Ok-Some-clause-segments g c = let all = all_of_it c.args.self.now.sides.items c.make_room_in.new.sides.items c.take_images.new.sides.items (record { slots = c.take_images.new.slots; spare = c.new-spare.result }) c.in-Ok.segments.items (c.in-Ok.ensures.segments ∙ ap (λ (l : List (HeldSide g.row.D.Denot)). map (λ h. h.side.segment) l) c.as_slice.ensures.value) c.requires.ascends c.make_room_in.ensures.same c.take_images.ensures.out c.take_images.ensures.lent c.in-Ok-Some.parts.items c.stage_work-done.new.lent (commit_view c.args.seat.now) (commit_view c.stage_work-done.new.seat) (subst (λ (l : List ℕ). StagesWork c.args.node.now.number l (record { slots = c.take_images.new.slots; spare = c.new-spare.result }) c.in-Ok-Some.parts.items c.stage_work-done.new.lent (commit_view c.args.seat.now) (commit_view c.stage_work-done.new.seat)) c.as_slice-2.ensures (subst (λ o. IfSome o (λ ps. StagesWork c.args.node.now.number c.as_slice-2.result.now (record { slots = c.take_images.new.slots; spare = c.new-spare.result }) ps.items c.stage_work-done.new.lent (commit_view c.args.seat.now) (commit_view c.stage_work-done.new.seat))) c.in-Ok-Some.field-0-is c.in-Ok-Some.ensures.staged)) c.count_parts.new.sides.items c.count_parts.ensures.counted (on_ok c.make_room_in.result (All HasFewParts c.make_room_in.new.sides.items) (sym c.is_err.ensures.value ∙ c.if-is_err.false) c.make_room_in.ensures.few) c.put_images.new.sides.items c.put_images.ensures.back in segments_takes all.0 c.args.self.now.sides.items c.put_images.new.sides.items all.4
 
 pub returns-in-Ok-Some-clause-committed : goal.returns-in-Ok-Some-clause-committed
-returns-in-Ok-Some-clause-committed g c = λ is. all_of_it c.args.self.now.sides.items c.make_room_in.new.sides.items c.take_images.new.sides.items (record { slots = c.take_images.new.slots; spare = c.new-spare.result }) c.in-Ok.segments.items (c.in-Ok.ensures.segments ∙ ap (λ (l : List (HeldSide g.row.D.Denot)). map (λ h. h.side.segment) l) c.as_slice.ensures.value) c.requires.ascends c.make_room_in.ensures.same c.take_images.ensures.out c.take_images.ensures.lent c.in-Ok-Some.parts.items c.stage_work-done.new.lent (commit_view c.args.seat.now) (commit_view c.stage_work-done.new.seat) (subst (λ (l : List ℕ). StagesWork l (record { slots = c.take_images.new.slots; spare = c.new-spare.result }) c.in-Ok-Some.parts.items c.stage_work-done.new.lent (commit_view c.args.seat.now) (commit_view c.stage_work-done.new.seat)) c.as_slice-2.ensures (subst (λ o. IfSome o (λ ps. StagesWork c.as_slice-2.result.now (record { slots = c.take_images.new.slots; spare = c.new-spare.result }) ps.items c.stage_work-done.new.lent (commit_view c.args.seat.now) (commit_view c.stage_work-done.new.seat))) c.in-Ok-Some.field-0-is c.in-Ok-Some.ensures.staged)) c.count_parts.new.sides.items c.count_parts.ensures.counted (on_ok c.make_room_in.result (All HasFewParts c.make_room_in.new.sides.items) (sym c.is_err.ensures.value ∙ c.if-is_err.false) c.make_room_in.ensures.few) c.put_images.new.sides.items c.put_images.ensures.back
+returns-in-Ok-Some-clause-committed g c = λ is. all_of_it c.args.self.now.sides.items c.make_room_in.new.sides.items c.take_images.new.sides.items (record { slots = c.take_images.new.slots; spare = c.new-spare.result }) c.in-Ok.segments.items (c.in-Ok.ensures.segments ∙ ap (λ (l : List (HeldSide g.row.D.Denot)). map (λ h. h.side.segment) l) c.as_slice.ensures.value) c.requires.ascends c.make_room_in.ensures.same c.take_images.ensures.out c.take_images.ensures.lent c.in-Ok-Some.parts.items c.stage_work-done.new.lent (commit_view c.args.seat.now) (commit_view c.stage_work-done.new.seat) (subst (λ (l : List ℕ). StagesWork c.args.node.now.number l (record { slots = c.take_images.new.slots; spare = c.new-spare.result }) c.in-Ok-Some.parts.items c.stage_work-done.new.lent (commit_view c.args.seat.now) (commit_view c.stage_work-done.new.seat)) c.as_slice-2.ensures (subst (λ o. IfSome o (λ ps. StagesWork c.args.node.now.number c.as_slice-2.result.now (record { slots = c.take_images.new.slots; spare = c.new-spare.result }) ps.items c.stage_work-done.new.lent (commit_view c.args.seat.now) (commit_view c.stage_work-done.new.seat))) c.in-Ok-Some.field-0-is c.in-Ok-Some.ensures.staged)) c.count_parts.new.sides.items c.count_parts.ensures.counted (on_ok c.make_room_in.result (All HasFewParts c.make_room_in.new.sides.items) (sym c.is_err.ensures.value ∙ c.if-is_err.false) c.make_room_in.ensures.few) c.put_images.new.sides.items c.put_images.ensures.back
 
 pub put_images-requires-in-Ok-None : goal.put_images-requires-in-Ok-None
 put_images-requires-in-Ok-None g c = record { ready = may_return c.args.self.now.sides.items c.make_room_in.new.sides.items c.take_images.new.sides.items (record { slots = c.take_images.new.slots; spare = c.new-spare.result }) c.in-Ok.segments.items (c.in-Ok.ensures.segments ∙ ap (λ (l : List (HeldSide g.row.D.Denot)). map (λ h. h.side.segment) l) c.as_slice.ensures.value) c.requires.ascends c.make_room_in.ensures.same c.take_images.ensures.out c.take_images.ensures.lent c.stage_work-done.new.lent (subst (λ (l : List ℕ). IsUndone the_images l (record { slots = c.take_images.new.slots; spare = c.new-spare.result }) c.stage_work-done.new.lent) c.as_slice-2.ensures (c.in-Ok-None.ensures.nothing (ap (λ o. Ok o) c.in-Ok-None.field-0-is)).1) }
@@ -75,7 +75,7 @@ pub returns-clause-refused : goal.returns-clause-refused
 returns-clause-refused g c = (c.in-Err.ensures.refused.0, (returned c.args.self.now.sides.items c.make_room_in.new.sides.items c.take_images.new.sides.items (record { slots = c.take_images.new.slots; spare = c.new-spare.result }) c.in-Ok.segments.items (c.in-Ok.ensures.segments ∙ ap (λ (l : List (HeldSide g.row.D.Denot)). map (λ h. h.side.segment) l) c.as_slice.ensures.value) c.requires.ascends c.make_room_in.ensures.same c.take_images.ensures.out c.take_images.ensures.lent c.stage_work-done.new.lent (subst (λ (l : List ℕ). IsUndone the_images l (record { slots = c.take_images.new.slots; spare = c.new-spare.result }) c.stage_work-done.new.lent) c.as_slice-2.ensures c.in-Err.ensures.refused.1) c.put_images-in-Err.new.sides.items c.put_images-in-Err.ensures.back))
 
 pub returns-in-Ok-Some-clause-ran : goal.returns-in-Ok-Some-clause-ran
-returns-in-Ok-Some-clause-ran g c = let staged = (subst (λ (l : List ℕ). StagesWork l (record { slots = c.take_images.new.slots; spare = c.new-spare.result }) c.in-Ok-Some.parts.items c.stage_work-done.new.lent (commit_view c.args.seat.now) (commit_view c.stage_work-done.new.seat)) c.as_slice-2.ensures (subst (λ o. IfSome o (λ ps. StagesWork c.as_slice-2.result.now (record { slots = c.take_images.new.slots; spare = c.new-spare.result }) ps.items c.stage_work-done.new.lent (commit_view c.args.seat.now) (commit_view c.stage_work-done.new.seat))) c.in-Ok-Some.field-0-is c.in-Ok-Some.ensures.staged)) in let all = all_of_it c.args.self.now.sides.items c.make_room_in.new.sides.items c.take_images.new.sides.items (record { slots = c.take_images.new.slots; spare = c.new-spare.result }) c.in-Ok.segments.items (c.in-Ok.ensures.segments ∙ ap (λ (l : List (HeldSide g.row.D.Denot)). map (λ h. h.side.segment) l) c.as_slice.ensures.value) c.requires.ascends c.make_room_in.ensures.same c.take_images.ensures.out c.take_images.ensures.lent c.in-Ok-Some.parts.items c.stage_work-done.new.lent (commit_view c.args.seat.now) (commit_view c.stage_work-done.new.seat) (subst (λ (l : List ℕ). StagesWork l (record { slots = c.take_images.new.slots; spare = c.new-spare.result }) c.in-Ok-Some.parts.items c.stage_work-done.new.lent (commit_view c.args.seat.now) (commit_view c.stage_work-done.new.seat)) c.as_slice-2.ensures (subst (λ o. IfSome o (λ ps. StagesWork c.as_slice-2.result.now (record { slots = c.take_images.new.slots; spare = c.new-spare.result }) ps.items c.stage_work-done.new.lent (commit_view c.args.seat.now) (commit_view c.stage_work-done.new.seat))) c.in-Ok-Some.field-0-is c.in-Ok-Some.ensures.staged)) c.count_parts.new.sides.items c.count_parts.ensures.counted (on_ok c.make_room_in.result (All HasFewParts c.make_room_in.new.sides.items) (sym c.is_err.ensures.value ∙ c.if-is_err.false) c.make_room_in.ensures.few) c.put_images.new.sides.items c.put_images.ensures.back in
+returns-in-Ok-Some-clause-ran g c = let staged = (subst (λ (l : List ℕ). StagesWork c.args.node.now.number l (record { slots = c.take_images.new.slots; spare = c.new-spare.result }) c.in-Ok-Some.parts.items c.stage_work-done.new.lent (commit_view c.args.seat.now) (commit_view c.stage_work-done.new.seat)) c.as_slice-2.ensures (subst (λ o. IfSome o (λ ps. StagesWork c.args.node.now.number c.as_slice-2.result.now (record { slots = c.take_images.new.slots; spare = c.new-spare.result }) ps.items c.stage_work-done.new.lent (commit_view c.args.seat.now) (commit_view c.stage_work-done.new.seat))) c.in-Ok-Some.field-0-is c.in-Ok-Some.ensures.staged)) in let all = all_of_it c.args.self.now.sides.items c.make_room_in.new.sides.items c.take_images.new.sides.items (record { slots = c.take_images.new.slots; spare = c.new-spare.result }) c.in-Ok.segments.items (c.in-Ok.ensures.segments ∙ ap (λ (l : List (HeldSide g.row.D.Denot)). map (λ h. h.side.segment) l) c.as_slice.ensures.value) c.requires.ascends c.make_room_in.ensures.same c.take_images.ensures.out c.take_images.ensures.lent c.in-Ok-Some.parts.items c.stage_work-done.new.lent (commit_view c.args.seat.now) (commit_view c.stage_work-done.new.seat) (subst (λ (l : List ℕ). StagesWork c.args.node.now.number l (record { slots = c.take_images.new.slots; spare = c.new-spare.result }) c.in-Ok-Some.parts.items c.stage_work-done.new.lent (commit_view c.args.seat.now) (commit_view c.stage_work-done.new.seat)) c.as_slice-2.ensures (subst (λ o. IfSome o (λ ps. StagesWork c.args.node.now.number c.as_slice-2.result.now (record { slots = c.take_images.new.slots; spare = c.new-spare.result }) ps.items c.stage_work-done.new.lent (commit_view c.args.seat.now) (commit_view c.stage_work-done.new.seat))) c.in-Ok-Some.field-0-is c.in-Ok-Some.ensures.staged)) c.count_parts.new.sides.items c.count_parts.ensures.counted (on_ok c.make_room_in.result (All HasFewParts c.make_room_in.new.sides.items) (sym c.is_err.ensures.value ∙ c.if-is_err.false) c.make_room_in.ensures.few) c.put_images.new.sides.items c.put_images.ensures.back in
     ran_of c.args.self.now.sides.items c.make_room_in.new.sides.items c.take_images.new.sides.items (record { slots = c.take_images.new.slots; spare = c.new-spare.result }) c.in-Ok.segments.items (c.in-Ok.ensures.segments ∙ ap (λ (l : List (HeldSide g.row.D.Denot)). map (λ h. h.side.segment) l) c.as_slice.ensures.value) c.requires.ascends c.make_room_in.ensures.same c.take_images.ensures.out c.take_images.ensures.lent (Ok tt) c.stage_work-done.new.lent staged.same.beside c.count_parts.new.sides.items c.put_images.new.sides.items c.put_images.ensures.back
     (segments_takes all.0 c.args.self.now.sides.items c.put_images.new.sides.items all.4)
     (subst (λ (l : List ℕ). Ran (g.W.Work.ran c.args.work.now c.stage_work-done.new.work) l (bytes_of the_images (record { slots = c.take_images.new.slots; spare = c.new-spare.result })) (Ok tt) (bytes_of the_images c.stage_work-done.new.lent)) c.as_slice-2.ensures c.in-Ok-Some.ensures.ran)
