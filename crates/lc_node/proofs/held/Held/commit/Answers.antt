@@ -1,6 +1,7 @@
 use Rattle.std.proofs.Common.{◌≡◌, ◌<◌, ℕ, List, All, Ok, length, map, refl, sym, ap, subst, ◌∙◌, arith, inl}
 use Rattle.std.proofs.lemmas.List.{length-map}
 use Rattle.std.specs.Prelude.{IfSome}
+use Rattle.lc_record.specs.declared.record.Record.{Record}
 use Rattle.lc_tx.specs.Images.{bytes_of}
 use Rattle.lc_stage.specs.Seats.{commit_view}
 use Rattle.lc_tx.specs.Prepared.{AreSmall}
@@ -101,3 +102,6 @@ returns-then-is_err-clause-why g c =
           let no_segment : length (map (λ (h : HeldSide g.row.D.Denot). h.side.segment) sides) ≡ 0 = ap (λ (l : List ℕ). length l) none in
           omega (arith, some, as_many, no_segment),
     )
+
+pub returns-in-Ok-Some-clause-named : goal.returns-in-Ok-Some-clause-named
+returns-in-Ok-Some-clause-named g c = λ is. let staged = (subst (λ (l : List ℕ). StagesWork c.args.node.now.number l (record { slots = c.take_images.new.slots; spare = c.new-spare.result }) c.in-Ok-Some.parts.items c.stage_work-done.new.lent (commit_view c.args.seat.now) (commit_view c.stage_work-done.new.seat)) c.as_slice-2.ensures (subst (λ o. IfSome o (λ ps. StagesWork c.args.node.now.number c.as_slice-2.result.now (record { slots = c.take_images.new.slots; spare = c.new-spare.result }) ps.items c.stage_work-done.new.lent (commit_view c.args.seat.now) (commit_view c.stage_work-done.new.seat))) c.in-Ok-Some.field-0-is c.in-Ok-Some.ensures.staged)) in (staged.whole, staged.words, staged.is_record, ap (λ (r : Record). r.node) staged.whole_is, staged.closes)

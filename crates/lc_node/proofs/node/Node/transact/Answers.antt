@@ -62,3 +62,8 @@ returns-in-Ok-settled-clause-received g c = λ receipt is.
     let got : Receives (commit_view c.commit-committed.new.seat) c.in-Ok-settled.receipt (commit_view c.settle-seat.result.0) =
     subst (λ r. IfOk r (λ x. Receives (commit_view c.commit-committed.new.seat) x (commit_view c.settle-seat.result.0))) c.in-Ok-settled.is c.settle-seat.ensures.settled in
     subst (λ (x : Receipt). HasReceipt (commit_view c.settle-seat.result.0) x) same (has_received (commit_view c.commit-committed.new.seat) (commit_view c.settle-seat.result.0) c.in-Ok-settled.receipt got)
+
+pub returns-in-Lazy-clause-named : goal.returns-in-Lazy-clause-named
+returns-in-Lazy-clause-named g c = λ lazy.
+    let done : c.commit-committed.result ≡ Ok true = search rules in
+    c.commit-committed.ensures.named done
