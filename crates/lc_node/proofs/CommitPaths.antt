@@ -1,5 +1,5 @@
 -- The ways of a commit: its images go out of sides with more room, and come back.
-use Rattle.std.proofs.Common.{◌≡◌, ◌∙◌, ℕ, ◌<◌, List, map, All, inr, sym, subst}
+use Rattle.std.proofs.Common.{◌≡◌, ◌∙◌, ℕ, ◌<◌, List, map, All, inr, sym, ap, subst}
 use Rattle.std.specs.Prelude.{Option, Result}
 use Rattle.lc_record.specs.Record.{Chain, IsRecord}
 use Rattle.lc_record.specs.declared.part.Part.{Part}
@@ -101,5 +101,5 @@ module _ {D : Type 0} (xs ys zs : List (HeldSide D)) (lent : Lent) (segments : L
 
       -- the record, its words, and what each side took of it
       pub all_of_it : All HasFewParts ys → (last : List (HeldSide D)) → EachThree IsBack counted new.slots.items last
-          → (r : Record) × (words : List ℕ) × IsRecord r words × Closes words before after × Each (TakesOf r) xs last
-      all_of_it few last back = (staged.whole, staged.words, staged.is_record, staged.closes, taken few last back)
+          → (r : Record) × (words : List ℕ) × IsRecord r words × (r.node ≡ node) × Closes words before after × Each (TakesOf r) xs last
+      all_of_it few last back = (staged.whole, staged.words, staged.is_record, ap (λ (r : Record). r.node) staged.whole_is, staged.closes, taken few last back)

@@ -1,5 +1,5 @@
 -- A record of what a work did is closed.
-use Rattle.std.proofs.Common.{ℕ, List, refl}
+use Rattle.std.proofs.Common.{◌≡◌, ℕ, List, refl}
 use Rattle.std.specs.Prelude.{Ok}
 use Rattle.lc_record.specs.Record.{IsRecord}
 use Rattle.lc_record.specs.declared.record.Record.{Record}
@@ -13,8 +13,8 @@ use Rattle.lc_node.specs.declared.held.Held.{Held}
 use Rattle.lc_node.proofs.Runs.{brings_among, ran_among, ran_as}
 use Rattle.lc_node.proofs.SideBytes.{taken_bytes, tidy_bytes}
 
-module _ {D : Type 0} {tells : Tells} (asked : List ℕ) (old new : Held D) (set : IsSetOf asked (segments_of old)) (ran : Ran tells (segments_of old) (bytes_at old.sides.items) (Ok tt) (bytes_at new.sides.items)) where
-  pub closes_work : (v w : View) → (r : Record) × (words : List ℕ) × IsRecord r words × Closes words v w × Commits r old new → ClosesWork tells asked v w
+module _ {D : Type 0} {tells : Tells} (node : ℕ) (asked : List ℕ) (old new : Held D) (set : IsSetOf asked (segments_of old)) (ran : Ran tells (segments_of old) (bytes_at old.sides.items) (Ok tt) (bytes_at new.sides.items)) where
+  pub closes_work : (v w : View) → (r : Record) × (words : List ℕ) × IsRecord r words × (r.node ≡ node) × Closes words v w × Commits r old new → ClosesWork node tells asked v w
   closes_work v w c = record {
     old = bytes_at old.sides.items;
     new = bytes_at new.sides.items;
@@ -22,8 +22,9 @@ module _ {D : Type 0} {tells : Tells} (asked : List ℕ) (old new : Held D) (set
     whole = c.0;
     words = c.1;
     is_record = c.2;
-    closes = c.3;
-    brings = brings_among asked (segments_of old) set c.0 (bytes_at old.sides.items) (bytes_at new.sides.items) (taken_bytes c.0 old.sides.items new.sides.items c.4);
+    named = c.3;
+    closes = c.4;
+    brings = brings_among asked (segments_of old) set c.0 (bytes_at old.sides.items) (bytes_at new.sides.items) (taken_bytes c.0 old.sides.items new.sides.items c.5);
   }
 
   -- what set nothing left the bytes as they were

@@ -1,5 +1,5 @@
 -- What a node of a recovered store is, as it comes up.
-use Rattle.std.specs.Prelude.{◌≡◌, length}
+use Rattle.std.specs.Prelude.{◌≡◌, ℕ, List, Some, length, slice_get}
 use Rattle.lc_recover.specs.Recovered.{RecoveredStore}
 use Rattle.lc_stage.specs.Seats.{commit_view, IsSeatOf}
 use Rattle.lc_stage.specs.Staging.{newcomer}
@@ -9,3 +9,7 @@ module _ {D : Type 0} where
   -- its stage has the room of the store's logs, its committer begins, and it has each segment
   abbrev pub IsOpened : RecoveredStore D → Opened D → Type 0
   IsOpened r made = IsSeatOf made.node.stage made.seat × (commit_view made.seat ≡ newcomer r.geometry.words) × (made.node.stage.room ≡ r.geometry.words) × (length made.node.segments.items ≡ r.geometry.segments)
+
+  -- each stands at the place of its number
+  abbrev pub StandByNumber : List (Opened D) → Type 0
+  StandByNumber nodes = (place : ℕ) (made : Opened D) → slice_get nodes place ≡ Some made → made.node.number ≡ place

@@ -14,5 +14,6 @@ pub struct Cluster<D: Area + Drop> {
     pub(crate) members: Vec<Member<D>>,
     ghost wired: { (place : ℕ) (member : TheMember D) → slice_get members.items place ≡ Some member
         → (key_of member.to ≡ vec_len members) × (key_of member.from ≡ vec_len members) },
+    ghost numbered: { (place : ℕ) (member : TheMember D) → slice_get members.items place ≡ Some member → member.node.number ≡ place },
     ghost few: { vec_len members ≤ 65535 },
 }

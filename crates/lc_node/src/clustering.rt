@@ -22,7 +22,8 @@ impl<D: Area + Drop> Cluster<D> {
     /// The node with this number, from 0.
     pub fn node(&self, node: u16) -> &Node<D>
         requires { HasNode self.now node }
-        ensures { node_at self.now node ≡ Some result.now }
+        ensures node { node_at self.now node ≡ Some result.now }
+        ensures number { result.now.number ≡ node }
     {
         &self.member(node).node
     }
@@ -50,6 +51,7 @@ impl<D: Area + Drop> Cluster<D> {
     pub(crate) fn member(&self, node: u16) -> &Member<D>
         requires { HasNode self.now node }
         ensures member { slice_get self.now.members.items node ≡ Some result.now }
+        ensures number { result.now.node.number ≡ node }
         ensures to { key_of result.now.to ≡ length self.now.members.items }
         ensures from { key_of result.now.from ≡ length self.now.members.items }
     {

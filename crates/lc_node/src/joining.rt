@@ -7,6 +7,7 @@ ghost use Rattle.lc_stage.specs.Seats.{commit_view};
 ghost use Rattle.lc_stage.specs.declared.seats.CommitSeat.{CommitSeat as Seat};
 ghost use Rattle.lc_node.specs.Cluster.{IsSeatAt};
 ghost use Rattle.lc_node.specs.Joining.{IsLocked, IsRoomFor};
+ghost use Rattle.lc_node.specs.Opened.{StandByNumber};
 ghost use Rattle.lc_node.specs.Wiring.{HasPeers};
 ghost use Rattle.lc_node.specs.declared.member.Member.{Member as TheMember};
 ghost use Rattle.lc_node.specs.declared.node_fault.NodeFault.TheVariants.{NoMemory};
@@ -103,6 +104,7 @@ impl<D: Area + Drop> Room<D> {
     // The cluster of these nodes. It takes no memory.
     fn join(self, nodes: Vec<Opened<D>>) -> (Cluster<D>, Vec<CommitSeat>)
         requires room { IsRoomFor (vec_len nodes) self }
+        requires numbered { StandByNumber nodes.items }
         ensures members { length result.0.members.items ≡ vec_len nodes }
         ensures seats { length result.1.items ≡ vec_len nodes }
         ensures each { (place : ℕ) (member : TheMember D) (seat : Seat) → slice_get result.0.members.items place ≡ Some member

@@ -4,7 +4,7 @@ ghost use Rattle.lc_recover.specs.Reads.{HaveLengths};
 ghost use Rattle.lc_recover.specs.Recovered.{AreFinished};
 ghost use Rattle.lc_stage.specs.Staging.{newcomer};
 ghost use Rattle.lc_stage.specs.Seats.{commit_view, IsSeatOf};
-ghost use Rattle.lc_node.specs.Opened.{IsOpened};
+ghost use Rattle.lc_node.specs.Opened.{IsOpened, StandByNumber};
 ghost use Rattle.lc_node.specs.declared.node_fault.NodeFault.TheVariants.{NoMemory};
 
 use crate::store_room::StoreRoom;
@@ -36,6 +36,7 @@ impl<D: Area + Drop> Node<D> {
         requires lengths { HaveLengths D.Area recovered.geometry recovered.areas }
         requires finished { AreFinished D.Area recovered }
         ensures seat { IfOk result (λ made. IsSeatOf made.0.stage made.1 × (commit_view made.1 ≡ newcomer recovered.geometry.words)) }
+        ensures number { IfOk result (λ made. made.0.number ≡ 0) }
         ensures room { IfOk result (λ made. made.0.stage.room ≡ recovered.geometry.words) }
         ensures segments { IfOk result (λ made. length made.0.segments.items ≡ recovered.geometry.segments) }
         ensures back { IfErr result (λ back. (back.0 ≡ recovered) × (back.1 ≡ NoMemory)) }
@@ -61,6 +62,7 @@ pub(crate) fn open_nodes<D: Area + Drop>(
     requires finished { AreFinished D.Area recovered }
     ensures count { IfOk result (λ nodes. length nodes.items ≡ recovered.geometry.nodes) }
     ensures each { IfOk result (λ nodes. All (IsOpened recovered) nodes.items) }
+    ensures numbered { IfOk result (λ nodes. StandByNumber nodes.items) }
     ensures back { IfErr result (λ back. (back.0 ≡ recovered) × (back.1 ≡ NoMemory)) }
 {
     let nodes = recovered.geometry().nodes;
@@ -80,6 +82,7 @@ fn open_first<D: Area + Drop>(
     requires finished { AreFinished D.Area recovered }
     ensures count { IfOk result (λ made. length made.items ≡ nodes) }
     ensures each { IfOk result (λ made. All (IsOpened recovered) made.items) }
+    ensures numbered { IfOk result (λ made. StandByNumber made.items) }
     ensures back { IfErr result (λ back. (back.0 ≡ recovered) × (back.1 ≡ NoMemory)) }
 {
     match StoreRoom::new(alloc, &recovered, nodes) {

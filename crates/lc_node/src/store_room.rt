@@ -3,7 +3,7 @@ ghost use Rattle.std.specs.Prelude.{◌≡◌, ◌≤◌, ◌<◌, ℕ, [], Some
 ghost use Rattle.lc_recover.specs.Reads.{HaveLengths};
 ghost use Rattle.lc_recover.specs.Recovered.{AreFinished};
 ghost use Rattle.lc_node.specs.Rooms.{AreRoomsFor, IsStoreRoom};
-ghost use Rattle.lc_node.specs.Opened.{IsOpened};
+ghost use Rattle.lc_node.specs.Opened.{IsOpened, StandByNumber};
 
 use crate::areas::{Areas, end_places};
 use crate::opening::Opened;
@@ -50,6 +50,7 @@ impl<D: Area + Drop> StoreRoom<D> {
         requires finished { AreFinished D.Area recovered }
         ensures count { length result.items ≡ vec_len self.nodes }
         ensures each { All (IsOpened recovered) result.items }
+        ensures numbered { StandByNumber result.items }
     {
         let StoreRoom {
             nodes: mut rooms,

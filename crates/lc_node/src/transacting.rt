@@ -5,7 +5,7 @@ ghost use Rattle.lc_stage.specs.declared.view.View.{View};
 ghost use Rattle.lc_stage.specs.Seats.{commit_view, IsSeatOf, IsIdle};
 ghost use Rattle.lc_node.specs.Receipts.{HasReceipt, IsOfDevice, Learns, Receives};
 ghost use Rattle.lc_node.specs.Stages.{Sees};
-ghost use Rattle.lc_node.specs.Commits.{ClosesNamed, ClosesWork, IsUnbegunAmong, IsUncommitted};
+ghost use Rattle.lc_node.specs.Commits.{ClosesWork, IsUnbegunAmong, IsUncommitted};
 ghost use Rattle.lc_node.specs.Ran.{Bytes, Ran};
 ghost use Rattle.lc_node.specs.Held.{IsFirstOutside};
 ghost use Rattle.lc_node.specs.declared.node_fault.NodeFault.TheVariants.{NotHere, NoMemory};
@@ -45,16 +45,15 @@ impl<D: Area + Drop> Node<D> {
         ensures idle { IsIdle (commit_view result.0) }
         ensures empty { result.1 ≡ Ok Empty → (commit_view result.0 ≡ commit_view seat)
             × ((same : Bytes) × Ran (W.ran work.old work.new) segments.now same (Ok tt) same) }
-        ensures named { result.1 ≡ Ok Lazy → ClosesNamed self.now.number (commit_view seat) (commit_view result.0) }
-        ensures lazy { result.1 ≡ Ok Lazy → ClosesWork (W.ran work.old work.new) segments.now (commit_view seat) (commit_view result.0) }
+        ensures lazy { result.1 ≡ Ok Lazy → ClosesWork self.now.number (W.ran work.old work.new) segments.now (commit_view seat) (commit_view result.0) }
         ensures flushed { (receipt : Given) → result.1 ≡ Ok (Flushed receipt)
-            → (w : View) × ClosesWork (W.ran work.old work.new) segments.now (commit_view seat) w × Receives w receipt (commit_view result.0) }
+            → (w : View) × ClosesWork self.now.number (W.ran work.old work.new) segments.now (commit_view seat) w × Receives w receipt (commit_view result.0) }
         ensures received { (receipt : Given) → result.1 ≡ Ok (Flushed receipt) → HasReceipt (commit_view result.0) receipt }
         ensures refused { IfErr result.1 (λ fault. (Sees (commit_view seat) (commit_view result.0)
             × (((s : ℕ) × (fault ≡ NotHere s) × IsFirstOutside self.now segments.now s)
             ⊎ (((fault ≡ NoMemory) × (0 < length self.now.segments.items))
             ⊎ ((old : Bytes) × IsUncommitted (W.ran work.old work.new) (IsUnbegunAmong segments.now) segments.now old self.now.stage.room (commit_view result.0).seen fault))))
-            ⊎ (IsOfDevice fault × ((w : View) × ClosesWork (W.ran work.old work.new) segments.now (commit_view seat) w × Learns w (commit_view result.0)))) }
+            ⊎ (IsOfDevice fault × ((w : View) × ClosesWork self.now.number (W.ran work.old work.new) segments.now (commit_view seat) w × Learns w (commit_view result.0)))) }
     {
         let mut seat = seat;
         let mut held = match self.hold(rt, alloc, segments) {

@@ -30,6 +30,15 @@ const BYE: Put<'static> = Put {
 // As many messages as a line has room for.
 const ROOM: u32 = 64;
 
+// One record is sent, and none is missing.
+const ONE_SENT: Spread = Spread { sent: 1, left: 0 };
+
+// The first record of segment 2 is applied.
+const FIRST_APPLIED: Pumped = Pumped::Applied {
+    applied: 1,
+    arrived: false,
+};
+
 /// Two nodes, two segments of two pages: segment 2 begins at the first node, segment 1 at the second.
 fn two_nodes() -> Result<Geometry, Fail>
     ensures { IfOk result (λ g. HasNumbers g 2 1 2 2 4096) }
@@ -81,6 +90,23 @@ fn put_at<D: Area + Drop, R: Wait>(
     ensures own { IsSeatAt cluster.now node result.0 }
 {
     put(rt, alloc, cluster.node(node), seat, &[2], work, mode)
+}
+
+// Two nodes over areas of zeros, and a seat of each, behind one stable record of the first.
+fn begun<R: Wait>(
+    rt: &R,
+    alloc: Global,
+) -> Result<(Cluster<MemArea>, CommitSeat, CommitSeat), Fail>
+    ensures nodes { IfOk result (λ made. length made.0.members.items ≡ 2) }
+    ensures first { IfOk result (λ made. IsSeatAt made.0 0 made.1) }
+    ensures second { IfOk result (λ made. IsSeatAt made.0 1 made.2) }
+{
+    let (cluster, first, second) = opened(alloc, areas(alloc)?)?;
+    let (first, done) = put_at(rt, alloc, &cluster, 0, first, HELLO, Mode::Flush);
+    match done {
+        Ok(_) => Ok((cluster, first, second)),
+        Err(_) => Err(Fail::from("there is room for a record")),
+    }
 }
 
 // Commits so many times and waits each time until it is stable; whether each did.
@@ -139,13 +165,10 @@ fn finds<D: Area + Drop, R: Wait>(
 #[test]
 fn a_token_waits_for_the_record_that_it_has_seen(rt: HostRuntime) -> Result<(), Fail> {
     let alloc = rt.alloc();
-    let (cluster, first, second) = opened(alloc, areas(alloc)?)?;
-    let (_first, done) = put_at(&rt, alloc, &cluster, 0, first, HELLO, Mode::Flush);
-    assert!(rt; done.is_ok());
+    let (cluster, _first, second) = begun(&rt, alloc)?;
     assert!(rt; cluster.give(&rt, 0, 1, 2) == Ok(()));
     assert!(rt; cluster.pump(&rt, alloc, 1, 0) == Ok(Pumped::Waiting));
-    let one = Spread { sent: 1, left: 0 };
-    assert!(rt; cluster.spread(&rt, alloc, 0) == Ok(one));
+    assert!(rt; cluster.spread(&rt, alloc, 0) == Ok(ONE_SENT));
     let applied = Pumped::Applied {
         applied: 1,
         arrived: true,
@@ -162,17 +185,10 @@ fn a_token_waits_for_the_record_that_it_has_seen(rt: HostRuntime) -> Result<(), 
 #[test]
 fn a_token_comes_behind_its_record(rt: HostRuntime) -> Result<(), Fail> {
     let alloc = rt.alloc();
-    let (cluster, first, _second) = opened(alloc, areas(alloc)?)?;
-    let (_first, done) = put_at(&rt, alloc, &cluster, 0, first, HELLO, Mode::Flush);
-    assert!(rt; done.is_ok());
-    let one = Spread { sent: 1, left: 0 };
-    assert!(rt; cluster.spread(&rt, alloc, 0) == Ok(one));
+    let (cluster, _first, _second) = begun(&rt, alloc)?;
+    assert!(rt; cluster.spread(&rt, alloc, 0) == Ok(ONE_SENT));
     assert!(rt; cluster.give(&rt, 0, 1, 2) == Ok(()));
-    let applied = Pumped::Applied {
-        applied: 1,
-        arrived: false,
-    };
-    assert!(rt; cluster.pump(&rt, alloc, 1, 0) == Ok(applied));
+    assert!(rt; cluster.pump(&rt, alloc, 1, 0) == Ok(FIRST_APPLIED));
     assert!(rt; cluster.pump(&rt, alloc, 1, 0) == Ok(Pumped::Arrived));
     let here = cluster.node(1).snapshot(&rt, alloc, 2);
     let there = cluster.node(0).snapshot(&rt, alloc, 2);
@@ -204,11 +220,7 @@ fn a_token_that_is_not_given_stands_where_it_was(rt: HostRuntime) -> Result<(), 
     assert!(rt; cluster.give(&rt, 0, 1, 2) == Err(NodeFault::ChannelFull { to: 1 }));
     let (_first, all) = put_often(&rt, alloc, &cluster, 0, first, 1);
     assert!(rt; all, "the token stands where it was");
-    let applied = Pumped::Applied {
-        applied: 1,
-        arrived: false,
-    };
-    assert!(rt; cluster.pump(&rt, alloc, 1, 0) == Ok(applied));
+    assert!(rt; cluster.pump(&rt, alloc, 1, 0) == Ok(FIRST_APPLIED));
     assert!(rt; cluster.give(&rt, 0, 1, 2) == Ok(()));
     Ok(())
 }
@@ -217,9 +229,7 @@ fn a_token_that_is_not_given_stands_where_it_was(rt: HostRuntime) -> Result<(), 
 #[test]
 fn records_are_sent_over_a_truncation(rt: HostRuntime) -> Result<(), Fail> {
     let alloc = rt.alloc();
-    let (cluster, first, _second) = opened(alloc, areas(alloc)?)?;
-    let (first, done) = put_at(&rt, alloc, &cluster, 0, first, HELLO, Mode::Flush);
-    assert!(rt; done.is_ok());
+    let (cluster, first, _second) = begun(&rt, alloc)?;
     assert!(rt; cluster.node(0).truncate(&rt, alloc) == Ok(1));
     let (_first, done) = put_at(&rt, alloc, &cluster, 0, first, BYE, Mode::Flush);
     assert!(rt; done.is_ok());
@@ -265,13 +275,8 @@ fn a_record_comes_to_each_of_its_segments(rt: HostRuntime) -> Result<(), Fail> {
         &Open,
     );
     assert!(rt; done.is_ok(), "both tokens are here");
-    let one = Spread { sent: 1, left: 0 };
-    assert!(rt; cluster.spread(&rt, alloc, 0) == Ok(one));
-    let applied = Pumped::Applied {
-        applied: 1,
-        arrived: false,
-    };
-    assert!(rt; cluster.pump(&rt, alloc, 1, 0) == Ok(applied));
+    assert!(rt; cluster.spread(&rt, alloc, 0) == Ok(ONE_SENT));
+    assert!(rt; cluster.pump(&rt, alloc, 1, 0) == Ok(FIRST_APPLIED));
     for segment in 1..3 {
         let copy = cluster.node(1).snapshot(&rt, alloc, segment);
         let copy = copy.ok().expect(&rt, "there is memory");
@@ -285,17 +290,10 @@ fn a_record_comes_to_each_of_its_segments(rt: HostRuntime) -> Result<(), Fail> {
 #[test]
 fn a_truncation_waits_for_pages_that_are_elsewhere(rt: HostRuntime) -> Result<(), Fail> {
     let alloc = rt.alloc();
-    let (cluster, first, _second) = opened(alloc, areas(alloc)?)?;
-    let (_first, done) = put_at(&rt, alloc, &cluster, 0, first, HELLO, Mode::Flush);
-    assert!(rt; done.is_ok());
-    let one = Spread { sent: 1, left: 0 };
-    assert!(rt; cluster.spread(&rt, alloc, 0) == Ok(one));
+    let (cluster, _first, _second) = begun(&rt, alloc)?;
+    assert!(rt; cluster.spread(&rt, alloc, 0) == Ok(ONE_SENT));
     assert!(rt; cluster.give(&rt, 0, 1, 2) == Ok(()));
-    let applied = Pumped::Applied {
-        applied: 1,
-        arrived: false,
-    };
-    assert!(rt; cluster.pump(&rt, alloc, 1, 0) == Ok(applied));
+    assert!(rt; cluster.pump(&rt, alloc, 1, 0) == Ok(FIRST_APPLIED));
     assert!(rt; cluster.pump(&rt, alloc, 1, 0) == Ok(Pumped::Arrived));
     let unclean = NodeFault::Unclean { segment: 2, seq: 1 };
     assert!(rt; cluster.node(0).truncate(&rt, alloc) == Err(unclean));
@@ -313,22 +311,16 @@ fn a_truncation_waits_for_pages_that_are_elsewhere(rt: HostRuntime) -> Result<()
 #[test]
 fn a_pump_without_memory_goes_on_later(rt: HostRuntime) -> Result<(), Fail> {
     let alloc = rt.alloc();
-    let (cluster, first, _second) = opened(alloc, areas(alloc)?)?;
-    let (_first, done) = put_at(&rt, alloc, &cluster, 0, first, HELLO, Mode::Flush);
-    assert!(rt; done.is_ok());
+    let (cluster, _first, _second) = begun(&rt, alloc)?;
     let spread = match cluster.spread(&rt, alloc, 0) {
         Err(NodeFault::NoMemory) => cluster.spread(&rt, alloc, 0),
         done => done,
     };
-    assert!(rt; spread == Ok(Spread { sent: 1, left: 0 }));
+    assert!(rt; spread == Ok(ONE_SENT));
     let pumped = match cluster.pump(&rt, alloc, 1, 0) {
         Err(NodeFault::NoMemory) => cluster.pump(&rt, alloc, 1, 0),
         done => done,
     };
-    let applied = Pumped::Applied {
-        applied: 1,
-        arrived: false,
-    };
-    assert!(rt; pumped == Ok(applied));
+    assert!(rt; pumped == Ok(FIRST_APPLIED));
     Ok(())
 }

@@ -43,10 +43,10 @@ pub put_images-requires : goal.put_images-requires
 put_images-requires g c = record { ready = may_go_back c.args.self.now.sides.items c.make_room_in.new.sides.items c.take_images.new.sides.items (record { slots = c.take_images.new.slots; spare = c.new-spare.result }) c.in-Ok.segments.items (c.in-Ok.ensures.segments ∙ ap (λ (l : List (HeldSide g.row.D.Denot)). map (λ h. h.side.segment) l) c.as_slice.ensures.value) c.requires.ascends c.make_room_in.ensures.same c.take_images.ensures.out c.take_images.ensures.lent c.in-Ok-Some.parts.items c.stage_work-done.new.lent (commit_view c.args.seat.now) (commit_view c.stage_work-done.new.seat) (subst (λ (l : List ℕ). StagesWork c.args.node.now.number l (record { slots = c.take_images.new.slots; spare = c.new-spare.result }) c.in-Ok-Some.parts.items c.stage_work-done.new.lent (commit_view c.args.seat.now) (commit_view c.stage_work-done.new.seat)) c.as_slice-2.ensures (subst (λ o. IfSome o (λ ps. StagesWork c.args.node.now.number c.as_slice-2.result.now (record { slots = c.take_images.new.slots; spare = c.new-spare.result }) ps.items c.stage_work-done.new.lent (commit_view c.args.seat.now) (commit_view c.stage_work-done.new.seat))) c.in-Ok-Some.field-0-is c.in-Ok-Some.ensures.staged)) c.count_parts.new.sides.items c.count_parts.ensures.counted }
 
 pub returns-in-Ok-Some-clause-held : goal.returns-in-Ok-Some-clause-held
-returns-in-Ok-Some-clause-held g c = let all = all_of_it c.args.self.now.sides.items c.make_room_in.new.sides.items c.take_images.new.sides.items (record { slots = c.take_images.new.slots; spare = c.new-spare.result }) c.in-Ok.segments.items (c.in-Ok.ensures.segments ∙ ap (λ (l : List (HeldSide g.row.D.Denot)). map (λ h. h.side.segment) l) c.as_slice.ensures.value) c.requires.ascends c.make_room_in.ensures.same c.take_images.ensures.out c.take_images.ensures.lent c.in-Ok-Some.parts.items c.stage_work-done.new.lent (commit_view c.args.seat.now) (commit_view c.stage_work-done.new.seat) (subst (λ (l : List ℕ). StagesWork c.args.node.now.number l (record { slots = c.take_images.new.slots; spare = c.new-spare.result }) c.in-Ok-Some.parts.items c.stage_work-done.new.lent (commit_view c.args.seat.now) (commit_view c.stage_work-done.new.seat)) c.as_slice-2.ensures (subst (λ o. IfSome o (λ ps. StagesWork c.args.node.now.number c.as_slice-2.result.now (record { slots = c.take_images.new.slots; spare = c.new-spare.result }) ps.items c.stage_work-done.new.lent (commit_view c.args.seat.now) (commit_view c.stage_work-done.new.seat))) c.in-Ok-Some.field-0-is c.in-Ok-Some.ensures.staged)) c.count_parts.new.sides.items c.count_parts.ensures.counted (on_ok c.make_room_in.result (All HasFewParts c.make_room_in.new.sides.items) (sym c.is_err.ensures.value ∙ c.if-is_err.false) c.make_room_in.ensures.few) c.put_images.new.sides.items c.put_images.ensures.back in held_takes c.args.node.now all.0 c.args.self.now.sides.items c.put_images.new.sides.items all.4 c.requires.held
+returns-in-Ok-Some-clause-held g c = let all = all_of_it c.args.self.now.sides.items c.make_room_in.new.sides.items c.take_images.new.sides.items (record { slots = c.take_images.new.slots; spare = c.new-spare.result }) c.in-Ok.segments.items (c.in-Ok.ensures.segments ∙ ap (λ (l : List (HeldSide g.row.D.Denot)). map (λ h. h.side.segment) l) c.as_slice.ensures.value) c.requires.ascends c.make_room_in.ensures.same c.take_images.ensures.out c.take_images.ensures.lent c.in-Ok-Some.parts.items c.stage_work-done.new.lent (commit_view c.args.seat.now) (commit_view c.stage_work-done.new.seat) (subst (λ (l : List ℕ). StagesWork c.args.node.now.number l (record { slots = c.take_images.new.slots; spare = c.new-spare.result }) c.in-Ok-Some.parts.items c.stage_work-done.new.lent (commit_view c.args.seat.now) (commit_view c.stage_work-done.new.seat)) c.as_slice-2.ensures (subst (λ o. IfSome o (λ ps. StagesWork c.args.node.now.number c.as_slice-2.result.now (record { slots = c.take_images.new.slots; spare = c.new-spare.result }) ps.items c.stage_work-done.new.lent (commit_view c.args.seat.now) (commit_view c.stage_work-done.new.seat))) c.in-Ok-Some.field-0-is c.in-Ok-Some.ensures.staged)) c.count_parts.new.sides.items c.count_parts.ensures.counted (on_ok c.make_room_in.result (All HasFewParts c.make_room_in.new.sides.items) (sym c.is_err.ensures.value ∙ c.if-is_err.false) c.make_room_in.ensures.few) c.put_images.new.sides.items c.put_images.ensures.back in held_takes c.args.node.now all.0 c.args.self.now.sides.items c.put_images.new.sides.items all.5 c.requires.held
 
 pub returns-in-Ok-Some-clause-segments : goal.returns-in-Ok-Some-clause-segments
-returns-in-Ok-Some-clause-segments g c = let all = all_of_it c.args.self.now.sides.items c.make_room_in.new.sides.items c.take_images.new.sides.items (record { slots = c.take_images.new.slots; spare = c.new-spare.result }) c.in-Ok.segments.items (c.in-Ok.ensures.segments ∙ ap (λ (l : List (HeldSide g.row.D.Denot)). map (λ h. h.side.segment) l) c.as_slice.ensures.value) c.requires.ascends c.make_room_in.ensures.same c.take_images.ensures.out c.take_images.ensures.lent c.in-Ok-Some.parts.items c.stage_work-done.new.lent (commit_view c.args.seat.now) (commit_view c.stage_work-done.new.seat) (subst (λ (l : List ℕ). StagesWork c.args.node.now.number l (record { slots = c.take_images.new.slots; spare = c.new-spare.result }) c.in-Ok-Some.parts.items c.stage_work-done.new.lent (commit_view c.args.seat.now) (commit_view c.stage_work-done.new.seat)) c.as_slice-2.ensures (subst (λ o. IfSome o (λ ps. StagesWork c.args.node.now.number c.as_slice-2.result.now (record { slots = c.take_images.new.slots; spare = c.new-spare.result }) ps.items c.stage_work-done.new.lent (commit_view c.args.seat.now) (commit_view c.stage_work-done.new.seat))) c.in-Ok-Some.field-0-is c.in-Ok-Some.ensures.staged)) c.count_parts.new.sides.items c.count_parts.ensures.counted (on_ok c.make_room_in.result (All HasFewParts c.make_room_in.new.sides.items) (sym c.is_err.ensures.value ∙ c.if-is_err.false) c.make_room_in.ensures.few) c.put_images.new.sides.items c.put_images.ensures.back in segments_takes all.0 c.args.self.now.sides.items c.put_images.new.sides.items all.4
+returns-in-Ok-Some-clause-segments g c = let all = all_of_it c.args.self.now.sides.items c.make_room_in.new.sides.items c.take_images.new.sides.items (record { slots = c.take_images.new.slots; spare = c.new-spare.result }) c.in-Ok.segments.items (c.in-Ok.ensures.segments ∙ ap (λ (l : List (HeldSide g.row.D.Denot)). map (λ h. h.side.segment) l) c.as_slice.ensures.value) c.requires.ascends c.make_room_in.ensures.same c.take_images.ensures.out c.take_images.ensures.lent c.in-Ok-Some.parts.items c.stage_work-done.new.lent (commit_view c.args.seat.now) (commit_view c.stage_work-done.new.seat) (subst (λ (l : List ℕ). StagesWork c.args.node.now.number l (record { slots = c.take_images.new.slots; spare = c.new-spare.result }) c.in-Ok-Some.parts.items c.stage_work-done.new.lent (commit_view c.args.seat.now) (commit_view c.stage_work-done.new.seat)) c.as_slice-2.ensures (subst (λ o. IfSome o (λ ps. StagesWork c.args.node.now.number c.as_slice-2.result.now (record { slots = c.take_images.new.slots; spare = c.new-spare.result }) ps.items c.stage_work-done.new.lent (commit_view c.args.seat.now) (commit_view c.stage_work-done.new.seat))) c.in-Ok-Some.field-0-is c.in-Ok-Some.ensures.staged)) c.count_parts.new.sides.items c.count_parts.ensures.counted (on_ok c.make_room_in.result (All HasFewParts c.make_room_in.new.sides.items) (sym c.is_err.ensures.value ∙ c.if-is_err.false) c.make_room_in.ensures.few) c.put_images.new.sides.items c.put_images.ensures.back in segments_takes all.0 c.args.self.now.sides.items c.put_images.new.sides.items all.5
 
 pub returns-in-Ok-Some-clause-committed : goal.returns-in-Ok-Some-clause-committed
 returns-in-Ok-Some-clause-committed g c = λ is. all_of_it c.args.self.now.sides.items c.make_room_in.new.sides.items c.take_images.new.sides.items (record { slots = c.take_images.new.slots; spare = c.new-spare.result }) c.in-Ok.segments.items (c.in-Ok.ensures.segments ∙ ap (λ (l : List (HeldSide g.row.D.Denot)). map (λ h. h.side.segment) l) c.as_slice.ensures.value) c.requires.ascends c.make_room_in.ensures.same c.take_images.ensures.out c.take_images.ensures.lent c.in-Ok-Some.parts.items c.stage_work-done.new.lent (commit_view c.args.seat.now) (commit_view c.stage_work-done.new.seat) (subst (λ (l : List ℕ). StagesWork c.args.node.now.number l (record { slots = c.take_images.new.slots; spare = c.new-spare.result }) c.in-Ok-Some.parts.items c.stage_work-done.new.lent (commit_view c.args.seat.now) (commit_view c.stage_work-done.new.seat)) c.as_slice-2.ensures (subst (λ o. IfSome o (λ ps. StagesWork c.args.node.now.number c.as_slice-2.result.now (record { slots = c.take_images.new.slots; spare = c.new-spare.result }) ps.items c.stage_work-done.new.lent (commit_view c.args.seat.now) (commit_view c.stage_work-done.new.seat))) c.in-Ok-Some.field-0-is c.in-Ok-Some.ensures.staged)) c.count_parts.new.sides.items c.count_parts.ensures.counted (on_ok c.make_room_in.result (All HasFewParts c.make_room_in.new.sides.items) (sym c.is_err.ensures.value ∙ c.if-is_err.false) c.make_room_in.ensures.few) c.put_images.new.sides.items c.put_images.ensures.back
@@ -78,7 +78,7 @@ returns-clause-refused g c = (c.in-Err.ensures.refused.0, (returned c.args.self.
 pub returns-in-Ok-Some-clause-ran : goal.returns-in-Ok-Some-clause-ran
 returns-in-Ok-Some-clause-ran g c = let staged = (subst (λ (l : List ℕ). StagesWork c.args.node.now.number l (record { slots = c.take_images.new.slots; spare = c.new-spare.result }) c.in-Ok-Some.parts.items c.stage_work-done.new.lent (commit_view c.args.seat.now) (commit_view c.stage_work-done.new.seat)) c.as_slice-2.ensures (subst (λ o. IfSome o (λ ps. StagesWork c.args.node.now.number c.as_slice-2.result.now (record { slots = c.take_images.new.slots; spare = c.new-spare.result }) ps.items c.stage_work-done.new.lent (commit_view c.args.seat.now) (commit_view c.stage_work-done.new.seat))) c.in-Ok-Some.field-0-is c.in-Ok-Some.ensures.staged)) in let all = all_of_it c.args.self.now.sides.items c.make_room_in.new.sides.items c.take_images.new.sides.items (record { slots = c.take_images.new.slots; spare = c.new-spare.result }) c.in-Ok.segments.items (c.in-Ok.ensures.segments ∙ ap (λ (l : List (HeldSide g.row.D.Denot)). map (λ h. h.side.segment) l) c.as_slice.ensures.value) c.requires.ascends c.make_room_in.ensures.same c.take_images.ensures.out c.take_images.ensures.lent c.in-Ok-Some.parts.items c.stage_work-done.new.lent (commit_view c.args.seat.now) (commit_view c.stage_work-done.new.seat) (subst (λ (l : List ℕ). StagesWork c.args.node.now.number l (record { slots = c.take_images.new.slots; spare = c.new-spare.result }) c.in-Ok-Some.parts.items c.stage_work-done.new.lent (commit_view c.args.seat.now) (commit_view c.stage_work-done.new.seat)) c.as_slice-2.ensures (subst (λ o. IfSome o (λ ps. StagesWork c.args.node.now.number c.as_slice-2.result.now (record { slots = c.take_images.new.slots; spare = c.new-spare.result }) ps.items c.stage_work-done.new.lent (commit_view c.args.seat.now) (commit_view c.stage_work-done.new.seat))) c.in-Ok-Some.field-0-is c.in-Ok-Some.ensures.staged)) c.count_parts.new.sides.items c.count_parts.ensures.counted (on_ok c.make_room_in.result (All HasFewParts c.make_room_in.new.sides.items) (sym c.is_err.ensures.value ∙ c.if-is_err.false) c.make_room_in.ensures.few) c.put_images.new.sides.items c.put_images.ensures.back in
     ran_of c.args.self.now.sides.items c.make_room_in.new.sides.items c.take_images.new.sides.items (record { slots = c.take_images.new.slots; spare = c.new-spare.result }) c.in-Ok.segments.items (c.in-Ok.ensures.segments ∙ ap (λ (l : List (HeldSide g.row.D.Denot)). map (λ h. h.side.segment) l) c.as_slice.ensures.value) c.requires.ascends c.make_room_in.ensures.same c.take_images.ensures.out c.take_images.ensures.lent (Ok tt) c.stage_work-done.new.lent staged.same.beside c.count_parts.new.sides.items c.put_images.new.sides.items c.put_images.ensures.back
-    (segments_takes all.0 c.args.self.now.sides.items c.put_images.new.sides.items all.4)
+    (segments_takes all.0 c.args.self.now.sides.items c.put_images.new.sides.items all.5)
     (subst (λ (l : List ℕ). Ran (g.W.Work.ran c.args.work.now c.stage_work-done.new.work) l (bytes_of the_images (record { slots = c.take_images.new.slots; spare = c.new-spare.result })) (Ok tt) (bytes_of the_images c.stage_work-done.new.lent)) c.as_slice-2.ensures c.in-Ok-Some.ensures.ran)
 
 pub returns-in-Ok-None-clause-ran : goal.returns-in-Ok-None-clause-ran
@@ -102,6 +102,3 @@ returns-then-is_err-clause-why g c =
           let no_segment : length (map (λ (h : HeldSide g.row.D.Denot). h.side.segment) sides) ≡ 0 = ap (λ (l : List ℕ). length l) none in
           omega (arith, some, as_many, no_segment),
     )
-
-pub returns-in-Ok-Some-clause-named : goal.returns-in-Ok-Some-clause-named
-returns-in-Ok-Some-clause-named g c = λ is. let staged = (subst (λ (l : List ℕ). StagesWork c.args.node.now.number l (record { slots = c.take_images.new.slots; spare = c.new-spare.result }) c.in-Ok-Some.parts.items c.stage_work-done.new.lent (commit_view c.args.seat.now) (commit_view c.stage_work-done.new.seat)) c.as_slice-2.ensures (subst (λ o. IfSome o (λ ps. StagesWork c.args.node.now.number c.as_slice-2.result.now (record { slots = c.take_images.new.slots; spare = c.new-spare.result }) ps.items c.stage_work-done.new.lent (commit_view c.args.seat.now) (commit_view c.stage_work-done.new.seat))) c.in-Ok-Some.field-0-is c.in-Ok-Some.ensures.staged)) in (staged.whole, staged.words, staged.is_record, ap (λ (r : Record). r.node) staged.whole_is, staged.closes)

@@ -36,6 +36,8 @@ loop-preserved g c =
           ap (slice_get all.items) (sym next) ∙ inv.nodes (1 + k) opened (left_is c.loop.nodes.items c.remove-node.new.self.items k opened c.remove-node.ensures.items got));
       wired = each_more (λ _ (m : Member g.row.D.Denot). (key_of m.to ≡ vec_len all) × (key_of m.from ≡ vec_len all)) c.push_reserved.new.self.items c.loop.members.items member c.loop.counter
           c.push_reserved.ensures.items member_count inv.wired of_all;
+      numbered = each_more (λ place (m : Member g.row.D.Denot). m.node.number ≡ place) c.push_reserved.new.self.items c.loop.members.items member c.loop.counter
+          c.push_reserved.ensures.items member_count inv.numbered (c.requires.numbered c.loop.counter node here);
       each = both_more (λ place (m : Member g.row.D.Denot) (s : Seat). slice_get all.items place ≡ Some (record { node = m.node; seat = s }))
           c.push_reserved.new.self.items c.loop.members.items c.push_reserved-in-loop.new.self.items c.loop.seats.items member node.seat c.loop.counter
           c.push_reserved.ensures.items c.push_reserved-in-loop.ensures.items member_count seat_count inv.each here;

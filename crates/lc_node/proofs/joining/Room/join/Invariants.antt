@@ -19,6 +19,7 @@ invariant-loop g l = record {
   nodes : (k : ℕ) (opened : Opened g.row.D.Denot) → slice_get l.nodes.items k ≡ Some opened → slice_get l.fn.nodes.items (l.counter + k) ≡ Some opened;
   wired : (place : ℕ) (member : Member g.row.D.Denot) → slice_get l.members.items place ≡ Some member
       → (key_of member.to ≡ vec_len l.fn.nodes) × (key_of member.from ≡ vec_len l.fn.nodes);
+  numbered : (place : ℕ) (member : Member g.row.D.Denot) → slice_get l.members.items place ≡ Some member → member.node.number ≡ place;
   each : (place : ℕ) (member : Member g.row.D.Denot) (seat : Seat) → slice_get l.members.items place ≡ Some member → slice_get l.seats.items place ≡ Some seat
       → slice_get l.fn.nodes.items place ≡ Some (record { node = member.node; seat = seat });
 }

@@ -18,8 +18,8 @@ returns-in-Ok-settled-clause-flushed g c = λ receipt is.
     let same : c.in-Ok-settled.receipt ≡ receipt = cc in
     let done : c.commit-committed.result ≡ Ok true = search rules in
     let ran : Ran (g.W.Work.ran c.args.work.now c.commit-committed.new.work) (segments_of c.in-Ok.held) (bytes_at c.in-Ok.held.sides.items) (Ok tt) (bytes_at c.commit-committed.new.self.sides.items) = search rules in
-    let one : ClosesWork (g.W.Work.ran c.args.work.now c.commit-committed.new.work) c.args.segments.now (commit_view c.args.seat) (commit_view c.commit-committed.new.seat) =
-    closes_work c.args.segments.now c.in-Ok.held c.commit-committed.new.self c.in-Ok.ensures.segments ran (commit_view c.args.seat) (commit_view c.commit-committed.new.seat) (c.commit-committed.ensures.committed done) in
+    let one : ClosesWork c.args.self.now.number (g.W.Work.ran c.args.work.now c.commit-committed.new.work) c.args.segments.now (commit_view c.args.seat) (commit_view c.commit-committed.new.seat) =
+    closes_work c.args.self.now.number c.args.segments.now c.in-Ok.held c.commit-committed.new.self c.in-Ok.ensures.segments ran (commit_view c.args.seat) (commit_view c.commit-committed.new.seat) (c.commit-committed.ensures.committed done) in
     let got : Receives (commit_view c.commit-committed.new.seat) c.in-Ok-settled.receipt (commit_view c.settle-seat.result.0) =
     subst (λ r. IfOk r (λ x. Receives (commit_view c.commit-committed.new.seat) x (commit_view c.settle-seat.result.0))) c.in-Ok-settled.is c.settle-seat.ensures.settled in
     (commit_view c.commit-committed.new.seat, one, subst (λ (x : Receipt). Receives (commit_view c.commit-committed.new.seat) x (commit_view c.settle-seat.result.0)) same got)
@@ -28,8 +28,8 @@ pub returns-in-Lazy-clause-lazy : goal.returns-in-Lazy-clause-lazy
 returns-in-Lazy-clause-lazy g c = λ is.
     let done : c.commit-committed.result ≡ Ok true = search rules in
     let ran : Ran (g.W.Work.ran c.args.work.now c.commit-committed.new.work) (segments_of c.in-Ok.held) (bytes_at c.in-Ok.held.sides.items) (Ok tt) (bytes_at c.commit-committed.new.self.sides.items) = search rules in
-    let one : ClosesWork (g.W.Work.ran c.args.work.now c.commit-committed.new.work) c.args.segments.now (commit_view c.args.seat) (commit_view c.commit-committed.new.seat) =
-    closes_work c.args.segments.now c.in-Ok.held c.commit-committed.new.self c.in-Ok.ensures.segments ran (commit_view c.args.seat) (commit_view c.commit-committed.new.seat) (c.commit-committed.ensures.committed done) in
+    let one : ClosesWork c.args.self.now.number (g.W.Work.ran c.args.work.now c.commit-committed.new.work) c.args.segments.now (commit_view c.args.seat) (commit_view c.commit-committed.new.seat) =
+    closes_work c.args.self.now.number c.args.segments.now c.in-Ok.held c.commit-committed.new.self c.in-Ok.ensures.segments ran (commit_view c.args.seat) (commit_view c.commit-committed.new.seat) (c.commit-committed.ensures.committed done) in
     one
 
 pub returns-in-Ok-false-clause-empty : goal.returns-in-Ok-false-clause-empty
@@ -37,14 +37,14 @@ returns-in-Ok-false-clause-empty g c = λ is.
     let done : c.commit-committed.result ≡ Ok false = search rules in
     let ran : Ran (g.W.Work.ran c.args.work.now c.commit-committed.new.work) (segments_of c.in-Ok.held) (bytes_at c.in-Ok.held.sides.items) (Ok tt) (bytes_at c.commit-committed.new.self.sides.items) = search rules in
     let nothing = c.commit-committed.ensures.nothing done in
-    (nothing.0, ran_empty c.args.segments.now c.in-Ok.held c.commit-committed.new.self c.in-Ok.ensures.segments ran nothing.1)
+    (nothing.0, ran_empty c.args.self.now.number c.args.segments.now c.in-Ok.held c.commit-committed.new.self c.in-Ok.ensures.segments ran nothing.1)
 
 pub returns-in-Err-settled-clause-refused : goal.returns-in-Err-settled-clause-refused
 returns-in-Err-settled-clause-refused g c =
     let done : c.commit-committed.result ≡ Ok true = search rules in
     let ran : Ran (g.W.Work.ran c.args.work.now c.commit-committed.new.work) (segments_of c.in-Ok.held) (bytes_at c.in-Ok.held.sides.items) (Ok tt) (bytes_at c.commit-committed.new.self.sides.items) = search rules in
-    let one : ClosesWork (g.W.Work.ran c.args.work.now c.commit-committed.new.work) c.args.segments.now (commit_view c.args.seat) (commit_view c.commit-committed.new.seat) =
-    closes_work c.args.segments.now c.in-Ok.held c.commit-committed.new.self c.in-Ok.ensures.segments ran (commit_view c.args.seat) (commit_view c.commit-committed.new.seat) (c.commit-committed.ensures.committed done) in
+    let one : ClosesWork c.args.self.now.number (g.W.Work.ran c.args.work.now c.commit-committed.new.work) c.args.segments.now (commit_view c.args.seat) (commit_view c.commit-committed.new.seat) =
+    closes_work c.args.self.now.number c.args.segments.now c.in-Ok.held c.commit-committed.new.self c.in-Ok.ensures.segments ran (commit_view c.args.seat) (commit_view c.commit-committed.new.seat) (c.commit-committed.ensures.committed done) in
     let got : IsOfDevice c.in-Err-settled.fault × Learns (commit_view c.commit-committed.new.seat) (commit_view c.settle-seat.result.0) =
     subst (λ r. IfErr r (λ f. IsOfDevice f × Learns (commit_view c.commit-committed.new.seat) (commit_view c.settle-seat.result.0))) c.in-Err-settled.is c.settle-seat.ensures.refused in
     inr (got.0, (commit_view c.commit-committed.new.seat, one, got.1))
@@ -62,8 +62,3 @@ returns-in-Ok-settled-clause-received g c = λ receipt is.
     let got : Receives (commit_view c.commit-committed.new.seat) c.in-Ok-settled.receipt (commit_view c.settle-seat.result.0) =
     subst (λ r. IfOk r (λ x. Receives (commit_view c.commit-committed.new.seat) x (commit_view c.settle-seat.result.0))) c.in-Ok-settled.is c.settle-seat.ensures.settled in
     subst (λ (x : Receipt). HasReceipt (commit_view c.settle-seat.result.0) x) same (has_received (commit_view c.commit-committed.new.seat) (commit_view c.settle-seat.result.0) c.in-Ok-settled.receipt got)
-
-pub returns-in-Lazy-clause-named : goal.returns-in-Lazy-clause-named
-returns-in-Lazy-clause-named g c = λ lazy.
-    let done : c.commit-committed.result ≡ Ok true = search rules in
-    c.commit-committed.ensures.named done

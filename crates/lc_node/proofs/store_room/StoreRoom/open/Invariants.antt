@@ -1,6 +1,6 @@
 use Rattle.std.proofs.Common.{◌≡◌, ◌≤◌, ℕ, ◌+◌, ◌%◌, Some, All, vec_len, vec_capacity}
 use Rattle.std.specs.Prelude.{slice_get}
-use Rattle.lc_node.specs.Opened.{IsOpened}
+use Rattle.lc_node.specs.Opened.{IsOpened, StandByNumber}
 use Rattle.lc_node.specs.Rooms.{AreRoomsFor}
 use Rattle.lc_node.specs.Shares.{ArePages}
 use Rattle.lc_node.proofs.store_room.StoreRoom.open.Given as goal
@@ -17,4 +17,5 @@ invariant-loop-number g l = record {
   pages : ArePages l.fn.recovered l.pages.items;
   shared : (place : ℕ) (area : g.row.D.Denot) → slice_get l.pages.items place ≡ Some (Some area) → l.number ≤ (place + 1) % vec_len l.fn.self.nodes;
   each : All (IsOpened l.fn.recovered) l.opened.items;
+  numbered : StandByNumber l.opened.items;
 }
