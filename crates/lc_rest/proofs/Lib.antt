@@ -1,0 +1,17 @@
+pub mod OneRecord
+pub mod OneLock
+pub mod Standing
+pub mod SoundState
+pub mod DisksFit
+pub mod Values
+pub mod Turned
+pub mod Within
+pub mod Testing
+pub mod Merges
+pub mod Following
+pub mod Replays
+pub mod Played
+pub mod TokenTests
+pub mod Tokens
+pub mod Passes
+pub mod Orders

@@ -1,0 +1,75 @@
+-- One item more of a test.
+use Rattle.std.proofs.Common.{rules, ◌≡◌, ◌⊎◌, ℕ, zero, suc, ◌+◌, ◌<◌, ◌≤◌, Bool, true, false, ◌==◌, List, [], ◌∷◌, length, take, All, refl, sym, ◌∙◌, ap, subst, arith, inl, inr, add-one}
+use Rattle.std.specs.Prelude.{Option, Some, None, slice_index_or, if◌then◌else◌}
+use Rattle.std.proofs.lemmas.List.Elements.{All-nil, All-cons, All-head, All-tail}
+use Rattle.std.specs.Global.{Vec}
+use Rattle.std.proofs.lemmas.List.{get_or-map}
+use Rattle.lc_record.specs.declared.record.Record.{Record}
+use Rattle.lc_rest.specs.Merge.{logs_of}
+use Rattle.lc_rest.specs.TokenTest.{count_log, count_on}
+use Rattle.lc_record.specs.Part.{number_in}
+use Rattle.lc_record.specs.declared.record.Lock.{Lock}
+
+all-next : {X : Type 0} (P : X → Type 0) (xs : List X) (i : ℕ) (d : X) → i < length xs → All P (take i xs) → P (slice_index_or xs i d) → All P (take (suc i) xs)
+all-next P [] i d less are one = absurd (omega (arith, less))
+all-next P (x ∷ xs) zero d less are one = All-cons P x [] one (All-nil P)
+all-next P (x ∷ xs) (suc i) d less are one = All-cons P x (take (suc i) xs) (All-head P x (take i xs) are) (all-next P xs i d (omega (arith, less)) (All-tail P x (take i xs) are) one)
+
+-- one more passes
+pub all-more : {X : Type 0} (P : X → Type 0) (xs : List X) (i : ℕ) (d : X) → i < length xs → All P (take i xs) → P (slice_index_or xs i d) → All P (take (i + 1) xs)
+all-more P xs i d less are one = subst (λ n. All P (take n xs)) (sym (add-one i)) (all-next P xs i d less are one)
+
+pub one-more : (P : ℕ → Type 0) (n : ℕ) → ((k : ℕ) → k < n → P k) → P n → (k : ℕ) → k < n + 1 → P k
+one-more P n all last k less = elim (split k n (omega (arith, less))) [
+  | inl before ↦ all k before
+  | inr same ↦ subst P (sym same) last
+]
+  where
+    split : (i n : ℕ) → i ≤ n → (i < n) ⊎ (i ≡ n)
+    split i n most = search (rules, arith)
+
+-- the number under a lock that is found
+abbrev or_number : Bool → ℕ → Option ℕ → Option ℕ
+or_number b seq rest = if b then Some seq else rest
+
+none-head : (b : Bool) (seq : ℕ) (rest : Option ℕ) → or_number b seq rest ≡ None → (b ≡ false) × (rest ≡ None)
+none-head true seq rest is = absurd cc
+none-head false seq rest is = (refl, is)
+
+pub number-found : (segment : ℕ) (locks : List Lock) (i : ℕ) (d : Lock) → i < length locks → number_in segment (take i locks) ≡ None → ((slice_index_or locks i d).segment == segment) ≡ true
+    → number_in segment locks ≡ Some (slice_index_or locks i d).seq
+number-found segment [] i d less none is = absurd (omega (arith, less))
+number-found segment (lock ∷ locks) zero d less none is = ap (λ b. or_number b lock.seq (number_in segment locks)) is
+number-found segment (lock ∷ locks) (suc i) d less none is =
+    let both = none-head (lock.segment == segment) lock.seq (number_in segment (take i locks)) none in
+    ap (λ b. or_number b lock.seq (number_in segment locks)) both.0 ∙ number-found segment locks i d (omega (arith, less)) both.1 is
+
+number-none : (segment : ℕ) (locks : List Lock) (i : ℕ) (d : Lock) → i < length locks → number_in segment (take i locks) ≡ None → ((slice_index_or locks i d).segment == segment) ≡ false
+    → number_in segment (take (suc i) locks) ≡ None
+number-none segment [] i d less none is = absurd (omega (arith, less))
+number-none segment (lock ∷ locks) zero d less none is = ap (λ b. or_number b lock.seq None) is
+number-none segment (lock ∷ locks) (suc i) d less none is =
+    let both = none-head (lock.segment == segment) lock.seq (number_in segment (take i locks)) none in
+    ap (λ b. or_number b lock.seq (number_in segment (take (suc i) locks))) both.0 ∙ number-none segment locks i d (omega (arith, less)) both.1 is
+
+pub number-more : (segment : ℕ) (locks : List Lock) (i : ℕ) (d : Lock) → i < length locks → number_in segment (take i locks) ≡ None → ((slice_index_or locks i d).segment == segment) ≡ false
+    → number_in segment (take (i + 1) locks) ≡ None
+number-more segment locks i d less none is = ap (λ n. number_in segment (take n locks)) (add-one i) ∙ number-none segment locks i d less none is
+
+-- The logs, one more
+
+count-next : (segment : ℕ) (logs : List (Vec Record)) (i : ℕ) (d : Vec Record) → i < length logs
+    → count_on segment (logs_of (take (suc i) logs)) ≡ count_on segment (logs_of (take i logs)) + count_log segment (slice_index_or logs i d).items
+count-next segment [] i d less = absurd (omega (arith, less))
+count-next segment (log ∷ logs) zero d less = omega arith
+count-next segment (log ∷ logs) (suc i) d less =
+    let later = count-next segment logs i d (omega (arith, less)) in omega (arith, later)
+
+pub count-more : (segment : ℕ) (logs : List (Vec Record)) (count i : ℕ) (d : Vec Record) → i < length logs → count ≡ count_on segment (logs_of (take i logs))
+    → count + count_log segment (slice_index_or logs i d).items ≡ count_on segment (logs_of (take (i + 1) logs))
+count-more segment logs count i d less is =
+    ap (λ n. n + count_log segment (slice_index_or logs i d).items) is ∙ sym (count-next segment logs i d less) ∙ ap (λ n. count_on segment (logs_of (take n logs))) (sym (add-one i))
+
+pub log-items : (logs : List (Vec Record)) (node : ℕ) (log : Vec Record) → node < length logs → log ≡ slice_index_or logs node log → log.items ≡ slice_index_or (logs_of logs) node []
+log-items logs node log less is =
+    sym (get_or-map (λ (l : Vec Record). l.items) logs node log [] less ∙ ap (λ (l : Vec Record). l.items) (sym is))

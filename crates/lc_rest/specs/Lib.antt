@@ -1,0 +1,10 @@
+pub mod Holder
+pub mod Adopted
+pub mod Found
+pub mod Turns
+pub mod Tested
+pub mod Merge
+pub mod Pages
+pub mod Replay
+pub mod TokenTest
+pub mod Passed

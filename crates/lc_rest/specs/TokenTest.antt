@@ -1,0 +1,60 @@
+-- What is tested of a segment's token, its records and its pages, before the records are merged.
+use Rattle.std.specs.Prelude.{◌≡◌, ℕ, ◌+◌, ◌-◌, ◌*◌, ◌^◌, ◌<◌, ◌≤◌, Bool, true, false, nat_lt, List, [], ◌∷◌, length, filter, All, Some, slice_index_or}
+use Rattle.lc_page.specs.Page.{page_in}
+use Rattle.lc_page.specs.PageVector.{entry_at}
+use Rattle.lc_page.specs.declared.entry.Entry.{Entry}
+use Rattle.lc_record.specs.Part.{number_in}
+use Rattle.lc_record.specs.declared.record.RangeData.{RangeData}
+use Rattle.lc_record.specs.declared.record.Record.{Record}
+use Rattle.lc_token.specs.declared.token.Token.{Token}
+use Rattle.lc_rest.specs.Turns.{has_lock}
+use Rattle.lc_rest.specs.Merge.{record_at}
+use Rattle.lc_rest.specs.declared.holder.Holder.{Holder}
+use Rattle.lc_rest.specs.declared.holder.Holder.TheVariants.{Here}
+
+-- the range has a byte on the page
+abbrev pub ReachesPage : RangeData → ℕ → Type 0
+ReachesPage range page = (range.offset < page * 256 + 256) × (page * 256 < range.offset + length range.bytes)
+
+-- under this number the page is touched, and where the number is clean it is on the page
+abbrev pub IsKeptPage : ℕ → ℕ → List ℕ → List Entry → ℕ → Type 0
+IsKeptPage number clean area entries page = (number ≤ (entry_at entries page).touched) × (number ≤ clean → number ≤ (page_in area page).sequence)
+
+-- so it is with each page on which the range has a byte
+abbrev pub IsKeptRange : ℕ → ℕ → ℕ → List ℕ → List Entry → RangeData → Type 0
+IsKeptRange number clean pages area entries range = (page : ℕ) → page < pages → ReachesPage range page → IsKeptPage number clean area entries page
+
+-- a number of a record of this node, stable or not, against the least that is not stable
+pub record IsOnItsSide (least : ℕ) (holder : Holder) (stable : Bool) (node number : ℕ) : Type 0 where
+  pub below : stable ≡ true → number < least
+  pub above : stable ≡ false → least ≤ number
+  pub home : stable ≡ false → holder ≡ Here node
+
+-- a record, if it is of the segment
+abbrev pub IsKeptRecord : ℕ → ℕ → ℕ → ℕ → Holder → List ℕ → List Entry → Bool → Record → Type 0
+IsKeptRecord segment least clean pages holder area entries stable r =
+    (number : ℕ) → number_in segment r.locks ≡ Some number →
+    IsOnItsSide least holder stable r.node number × All (λ (range : RangeData). range.segment ≡ segment → IsKeptRange number clean pages area entries range) r.ranges
+
+-- how many of these are of the segment
+abbrev pub count_log : ℕ → List Record → ℕ
+count_log segment rs = length (filter (has_lock segment) rs)
+
+-- and of all logs
+abbrev pub count_on : ℕ → List (List Record) → ℕ
+count_on segment [] = 0
+count_on segment (log ∷ logs) = count_log segment log + count_on segment logs
+
+-- the token is small, and as its pages are read; its records end at its number, above which no page is; those that are not stable
+-- are at home, above all that are and all pages
+pub record IsKeptToken (segment pages : ℕ) (token : Token) (holder : Holder) (logs : List (List Record)) (counts : List ℕ) (area : List ℕ) : Type 0 where
+  pub small : token.seq ≤ 2 ^ 60
+  pub clean_within : token.clean ≤ token.seq
+  pub few : count_on segment logs ≤ token.seq
+  pub reached : (page : ℕ) × (page < pages) × (token.seq - count_on segment logs ≤ (page_in area page).sequence)
+  pub least : ℕ
+  pub most : least ≤ token.seq + 1
+  pub below : (page : ℕ) → page < pages → (page_in area page).sequence < least
+  pub stable : (page : ℕ) → page < pages → (entry_at token.pages page).stable ≡ (page_in area page).sequence
+  pub records : (n k : ℕ) → n < length logs → k < length (slice_index_or logs n [])
+      → IsKeptRecord segment least token.clean pages holder area token.pages (nat_lt k (slice_index_or counts n 0)) (record_at logs n k)

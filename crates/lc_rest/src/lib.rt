@@ -1,0 +1,23 @@
+//! A cluster at rest: its records merge into one order, and where what it left passes each test, it stands for one sound state
+//! of the machine, whose value is what all records make of the pages.
+#![tactic(auto)]
+
+mod holder;
+mod image_test;
+mod laws;
+mod log_test;
+mod merge;
+mod order;
+mod reading;
+mod replay;
+mod token_test;
+
+pub use holder::Holder;
+pub use image_test::comes_up;
+pub use laws::{merged_in_order, own_records, passed, played_pages, stands_for};
+pub use log_test::{keeps_known, keeps_own};
+pub use merge::merge_records;
+pub use order::in_order;
+pub use reading::read_bytes;
+pub use replay::replay_segment;
+pub use token_test::keeps_token;

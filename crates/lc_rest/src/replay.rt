@@ -1,0 +1,136 @@
+//! The replay of a segment: all records, in their order, on the bytes that its pages hold, each page at its moment.
+ghost use Rattle.std.specs.Prelude.{◌≡◌, ◌+◌, ◌*◌, ◌<◌, ◌==◌, ◌≤◌, ◌^◌, ℕ, true, length, map};
+ghost use Rattle.lc_page.specs.Page.{page_in};
+ghost use Rattle.lc_record.specs.Content.{put};
+ghost use Rattle.lc_rest.specs.Turns.{has_lock};
+ghost use Rattle.lc_rest.specs.Replay.{AreBytes, AreMet, IsDue, IsPlayed, bytes_after, laid_on, lesser, number_after, part_at, range_on};
+
+use lc_page::{PAGE_BYTES, page_bytes, read_page};
+use lc_record::{RangeData, Record};
+
+// Lays bytes over others from an offset on, as far as these reach.
+fn lay(image: &mut [u8], offset: u32, bytes: &[u8])
+    ensures { image.new ≡ put offset bytes.now image.old }
+{
+    let start = image.len().min(offset as usize);
+    let len = bytes.len().min(image.len() - start);
+    image[start..start + len].copy_from_slice(&bytes[..len]);
+}
+
+// Lays a range over the bytes of a segment, where it is of that segment.
+fn lay_range(segment: u32, range: &RangeData, bytes: &mut [u8])
+    ensures { bytes.new ≡ range_on segment range.now bytes.old }
+{
+    if range.segment == segment {
+        lay(bytes, range.offset, range.bytes.as_slice());
+    }
+}
+
+/// Lays the record's ranges of the segment over its bytes.
+pub(crate) fn lay_on(segment: u32, whole: &Record, bytes: &mut [u8])
+    ensures { bytes.new ≡ laid_on segment whole.now.ranges bytes.old }
+{
+    for range in whole.ranges.as_slice() {
+        lay_range(segment, range, bytes);
+    }
+}
+
+/// Whether the record has a lock on the segment.
+pub(crate) fn has_lock(segment: u32, whole: &Record) -> bool
+    ensures { result ≡ has_lock segment whole.now }
+{
+    let mut found = false;
+    for lock in whole.locks.as_slice() {
+        found = found || lock.segment == segment;
+    }
+    found
+}
+
+// The lesser of a sequence above a number and one that was found.
+fn lesser(due: Option<u64>, number: u64, seq: u64) -> Option<u64>
+    ensures { result ≡ lesser due number seq }
+{
+    if seq <= number {
+        return due;
+    }
+    match due {
+        Some(least) => Some(least.min(seq)),
+        None => Some(seq),
+    }
+}
+
+// The least sequence above a number that a page has.
+fn next_due(area: &[u8], pages: u32, number: u64) -> Option<u64>
+    requires { 2 * 272 * pages ≤ length area.now }
+    ensures { IsDue area.now pages number result }
+{
+    let mut due: Option<u64> = None;
+    for page in 0..pages {
+        due = lesser(due, number, read_page(area, page).seq);
+    }
+    due
+}
+
+// Whether the page, if it has this sequence, is its part of the bytes.
+fn is_met(area: &[u8], page: u32, number: u64, bytes: &[u8]) -> bool
+    requires area { 2 * 272 * (page + 1) ≤ length area.now }
+    requires bytes { page * 256 + 256 ≤ length bytes.now }
+    ensures { result ≡ true → (page_in area.now page).sequence ≡ number → (page_in area.now page).content ≡ part_at page bytes.now }
+{
+    if read_page(area, page).seq != number {
+        return true;
+    }
+    let start = page as usize * PAGE_BYTES;
+    page_bytes(area, page) == &bytes[start..start + PAGE_BYTES]
+}
+
+// Whether each page with this sequence is its part of the bytes.
+fn are_met(area: &[u8], pages: u32, number: u64, bytes: &[u8]) -> bool
+    requires area { 2 * 272 * pages ≤ length area.now }
+    requires bytes { length bytes.now ≡ pages * 256 }
+    ensures { result ≡ true → AreMet area.now pages number bytes.now }
+{
+    for page in 0..pages {
+        if !is_met(area, page, number, bytes) {
+            return false;
+        }
+    }
+    true
+}
+
+/// Puts all records, in their order, on the bytes that the pages of a segment hold, whose number was `first` before them,
+/// and whether each page is what those up to its sequence make of them, and the number behind them is `last`. It takes no
+/// memory.
+pub fn replay_segment(
+    segment: u32,
+    first: u64,
+    last: u64,
+    records: &[&Record],
+    area: &[u8],
+    pages: u32,
+    bytes: &mut [u8],
+) -> bool
+    requires area { 2 * 272 * pages ≤ length area.now }
+    requires bytes { AreBytes area.now pages bytes.old }
+    requires small { first + length records.now < 2 ^ 64 }
+    ensures bytes { result ≡ true → bytes.new ≡ bytes_after segment (map (λ r. r.now) records.now) bytes.old }
+    ensures played { result ≡ true → (page : ℕ) → page < pages → IsPlayed segment first (map (λ r. r.now) records.now) bytes.old page (page_in area.now page) }
+    ensures within { result ≡ true → (page : ℕ) → page < pages → (page_in area.now page).sequence ≤ last }
+    ensures ends { result ≡ true → number_after segment (map (λ r. r.now) records.now) first ≡ last }
+{
+    let mut number = first;
+    let mut due = next_due(area, pages, number);
+    for whole in records {
+        lay_on(segment, whole, bytes);
+        if has_lock(segment, whole) {
+            number += 1;
+            if due == Some(number) {
+                if !are_met(area, pages, number, bytes) {
+                    return false;
+                }
+                due = next_due(area, pages, number);
+            }
+        }
+    }
+    due.is_none() && number == last
+}
