@@ -6,5 +6,6 @@ pub mod Tested
 pub mod Merge
 pub mod Pages
 pub mod Replay
+pub mod LogTest
 pub mod TokenTest
 pub mod Passed

@@ -1,9 +1,9 @@
 //! The tests of a node's records.
-ghost use Rattle.std.specs.Prelude.{◌≡◌, ◌≤◌, ◌+◌, ◌<◌, ℕ, true, All, Some, length, slice_get};
-ghost use Rattle.lc_record.specs.declared.record.Record.{Record as TheRecord};
+ghost use Rattle.std.specs.Prelude.{◌≡◌, ◌≤◌, ◌↔◌, ◌+◌, ℕ, IsTrue, All, Some, length, slice_get};
 ghost use Rattle.lc_token.specs.declared.token.Token.{Token as TheToken};
 ghost use Rattle.lc_trunc.specs.KnownClean.{known as known_of};
 ghost use Rattle.lc_rest.specs.Adopted.{IsInside};
+ghost use Rattle.lc_rest.specs.LogTest.{IsOwn};
 
 use lc_record::{Geometry, RangeData, Record};
 use lc_token::Token;
@@ -11,7 +11,7 @@ use lc_trunc::KnownClean;
 
 // Whether the range lies in a segment of the geometry.
 fn is_inside(geometry: &Geometry, range: &RangeData) -> bool
-    ensures { result ≡ true → IsInside geometry.now range.now }
+    ensures { IsTrue result ↔ IsInside geometry.now range.now }
 {
     range.segment >= 1
         && range.segment <= geometry.segments
@@ -21,7 +21,7 @@ fn is_inside(geometry: &Geometry, range: &RangeData) -> bool
 
 // Whether all ranges of the record do.
 fn are_inside(geometry: &Geometry, whole: &Record) -> bool
-    ensures { result ≡ true → All (IsInside geometry.now) whole.now.ranges }
+    ensures { IsTrue result ↔ All (IsInside geometry.now) whole.now.ranges }
 {
     for range in whole.ranges.as_slice() {
         if !is_inside(geometry, range) {
@@ -31,23 +31,31 @@ fn are_inside(geometry: &Geometry, whole: &Record) -> bool
     true
 }
 
-/// Whether each record of a log names its node, and lies in the segments.
+// Whether the record names its node, and lies in the segments.
+fn is_own(geometry: &Geometry, node: u16, whole: &Record) -> bool
+    ensures { IsTrue result ↔ IsOwn geometry.now node whole.now }
+{
+    whole.node == node && are_inside(geometry, whole)
+}
+
+/// Whether each record of a log names its node, and lies in the segments of the geometry. It takes no memory.
+/// This project's own.
 pub fn keeps_own(geometry: &Geometry, node: u16, log: &[Record]) -> bool
-    ensures own { result ≡ true → All (λ (r : TheRecord). r.node ≡ node) log.now }
-    ensures inside { result ≡ true → All (λ (r : TheRecord). All (IsInside geometry.now) r.ranges) log.now }
+    ensures { IsTrue result ↔ All (IsOwn geometry.now node) log.now }
 {
     for whole in log {
-        if whole.node != node || !are_inside(geometry, whole) {
+        if !is_own(geometry, node, whole) {
             return false;
         }
     }
     true
 }
 
-/// Whether what a node knows to be clean is at most what the token of each segment says.
+/// Whether what a node knows to be clean is at most what the token of each segment says. The tokens are those of the segments
+/// from 1 on, at most 16. It takes no memory. This project's own.
 pub fn keeps_known(known: &KnownClean, tokens: &[Token]) -> bool
     requires { length tokens.now ≤ 16 }
-    ensures { result ≡ true → (k : ℕ) (token : TheToken) → slice_get tokens.now k ≡ Some token → known_of known.now (k + 1) ≤ token.clean }
+    ensures { IsTrue result ↔ ((k : ℕ) (token : TheToken) → slice_get tokens.now k ≡ Some token → known_of known.now (k + 1) ≤ token.clean) }
 {
     for (place, token) in tokens.iter().enumerate() {
         if known.known_clean(place as u32 + 1) > token.clean {
