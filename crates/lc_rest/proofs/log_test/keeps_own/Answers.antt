@@ -1,4 +1,4 @@
-use Rattle.std.proofs.Common.{◌≡◌, ap, subst, take, sym, refl, ◌∙◌, All, List, true≢false}
+use Rattle.std.proofs.Common.{subst, sym, refl, ◌∙◌, All, List, true≢false}
 use Rattle.std.proofs.lemmas.List.{take_all}
 use Rattle.std.proofs.lemmas.List.Elements.{All-more}
 use Rattle.lc_record.specs.declared.record.Record.{Record}
