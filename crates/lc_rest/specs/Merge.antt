@@ -58,6 +58,15 @@ abbrev pub after_turns : List (List Record) → List ℕ → List ℕ → List �
 after_turns logs numbers before [] = numbers
 after_turns logs numbers before (n ∷ ns) = after_turns logs (counted_by (record_at logs n (times n before)).locks numbers) (before ++ n ∷ []) ns
 
+-- behind these turns no node's next record has the next numbers, and this is the least node that has a record left
+pub record IsStuck (logs : List (List Record)) (numbers turns : List ℕ) (node : ℕ) : Type 0 where
+  pub turned : AreTurns logs numbers [] turns
+  pub within : (n : ℕ) → times n turns ≤ length (slice_index_or logs n [])
+  pub left : times node turns < length (slice_index_or logs node [])
+  pub least : (n : ℕ) → times n turns < length (slice_index_or logs n []) → node ≤ n
+  pub none : (n : ℕ) → times n turns < length (slice_index_or logs n []) →
+      IsNext (number_at (after_turns logs numbers [] turns)) (record_at logs n (times n turns)) → ⊥
+
 -- so many records of each node have had their turn
 abbrev pub AreDone : List (List Record) → List ℕ → List ℕ → Type 0
 AreDone logs done turns = (node : ℕ) → node < length logs → (slice_index_or done node 0 ≡ times node turns) × (times node turns ≤ length (slice_index_or logs node []))

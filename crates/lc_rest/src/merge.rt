@@ -1,8 +1,9 @@
 //! The order in which the records of all nodes follow one another.
-ghost use Rattle.std.specs.Prelude.{◌≡◌, ◌+◌, ◌<◌, ◌≤◌, ℕ, true, IfOk, IfNone, IfSome, [], length, All, slice_index_or};
+ghost use Rattle.std.specs.Prelude.{◌≡◌, ◌↔◌, ◌+◌, ◌<◌, ◌≤◌, ℕ, IsTrue, IfErr, IfNone, IfOk, IfSome, [], List, length, All, slice_index_or};
+ghost use Rattle.std.specs.List.{list_all};
 ghost use Rattle.lc_record.specs.declared.record.Lock.{Lock as TheLock};
 ghost use Rattle.lc_rest.specs.Adopted.{IsNext};
-ghost use Rattle.lc_rest.specs.Merge.{AreKnown, AreTurns, after_turns, counted_by, is_next_lock, logs_of, MayTurn, number_at, times};
+ghost use Rattle.lc_rest.specs.Merge.{AreKnown, AreTurns, IsStuck, after_turns, counted_by, is_next_lock, logs_of, MayTurn, no_record, number_at, times};
 
 use lc_record::{Lock, Record};
 use std::alloc::{AllocError, Global};
@@ -17,15 +18,22 @@ fn number_at(numbers: &[u64], segment: u32) -> u64
     numbers.get(segment as usize - 1).copied().unwrap_or(0)
 }
 
-// Whether each lock of the record has the next number.
-fn is_next(numbers: &[u64], whole: &Record) -> bool
-    ensures { result ≡ true → IsNext (number_at numbers.now) whole.now }
+// Whether each of the locks has the next number.
+fn are_next(numbers: &[u64], locks: &[Lock]) -> bool
+    ensures { result ≡ list_all (is_next_lock (number_at numbers.now)) locks.now }
 {
-    whole.locks.as_slice().iter().all(
+    locks.iter().all(
         |lock: &Lock| -> bool
             ensures { result ≡ is_next_lock (number_at numbers.entry.now) lock.now }
         { lock.seq > 0 && lock.seq - 1 == number_at(numbers, lock.segment) },
     )
+}
+
+// Whether a record of the log is left behind so many, and has the next numbers.
+fn may_turn(log: &[Record], done: usize, numbers: &[u64]) -> bool
+    ensures { IsTrue result ↔ ((done < length log.now) × IsNext (number_at numbers.now) (slice_index_or log.now done no_record)) }
+{
+    done < log.len() && are_next(numbers, log[done].locks.as_slice())
 }
 
 // Counts the locks of a record.
@@ -38,35 +46,26 @@ fn count(numbers: &mut [u64], whole: &Record)
     }
 }
 
-// A node whose next record has the next numbers.
+// The least node whose next record has the next numbers.
 fn find_turn(logs: &[Vec<Record>], done: &[usize], numbers: &[u64]) -> Option<usize>
     requires { length done.now ≡ length logs.now }
-    ensures { IfSome result (MayTurn (logs_of logs.now) done.now numbers.now) }
+    ensures some { IfSome result (MayTurn (logs_of logs.now) done.now numbers.now) }
+    ensures none { IfNone result ((node : ℕ) → MayTurn (logs_of logs.now) done.now numbers.now node → ⊥) }
 {
     for node in 0..logs.len() {
-        let Some(whole) = logs[node].get(done[node]) else {
-            continue;
-        };
-        if is_next(numbers, whole) {
+        if may_turn(logs[node].as_slice(), done[node], numbers) {
             return Some(node);
         }
     }
     None
 }
 
-// How many records there are.
-fn total(logs: &[Vec<Record>]) -> usize {
-    let mut total: usize = 0;
-    for log in logs {
-        total = total.saturating_add(log.len());
-    }
-    total
-}
-
 // The least node that has a record left.
-fn find_stuck(logs: &[Vec<Record>], done: &[usize]) -> Option<usize>
+fn find_left(logs: &[Vec<Record>], done: &[usize]) -> Option<usize>
     requires { length done.now ≡ length logs.now }
-    ensures { IfNone result ((node : ℕ) → node < length logs.now → length (slice_index_or (logs_of logs.now) node []) ≤ slice_index_or done.now node 0) }
+    ensures left { IfSome result (λ node. slice_index_or done.now node 0 < length (slice_index_or (logs_of logs.now) node [])) }
+    ensures least { IfSome result (λ node. (other : ℕ) → other < node → length (slice_index_or (logs_of logs.now) other []) ≤ slice_index_or done.now other 0) }
+    ensures none { IfNone result ((node : ℕ) → node < length logs.now → length (slice_index_or (logs_of logs.now) node []) ≤ slice_index_or done.now node 0) }
 {
     for node in 0..logs.len() {
         if done[node] < logs[node].len() {
@@ -76,8 +75,10 @@ fn find_stuck(logs: &[Vec<Record>], done: &[usize]) -> Option<usize>
     None
 }
 
-/// The order in which the records of all nodes follow one another from these numbers on, as the nodes whose turn it is; or
-/// the least node that is stuck, where at some turn no node's next record has the next numbers.
+/// The order in which the records of all nodes follow one another, each with the next numbers of its segments, from the numbers
+/// that these have before them on: the nodes, each as often as its turn comes. Where at some turn no node's next record has the
+/// next numbers, the least node that has a record left. Segment 1 stands first among the numbers, node 0 among the logs.
+/// The numbers become those behind the last turn. It takes memory for a count of each node and for the order. This project's own.
 pub fn merge_records(
     alloc: Global,
     numbers: &mut [u64],
@@ -88,19 +89,17 @@ pub fn merge_records(
     ensures last { IfOk result (λ merged. IfOk merged (λ order. numbers.new ≡ after_turns (logs_of logs.now) numbers.old [] order.items)) }
     ensures all { IfOk result (λ merged. IfOk merged (λ order. (node : ℕ) → node < length logs.now → times node order.items ≡ length (slice_index_or (logs_of logs.now) node []))) }
     ensures none { IfOk result (λ merged. IfOk merged (λ order. (node : ℕ) → length logs.now ≤ node → times node order.items ≡ 0)) }
+    ensures stuck { IfOk result (λ merged. IfErr merged (λ node. (turns : List ℕ) × IsStuck (logs_of logs.now) numbers.old turns node × (numbers.new ≡ after_turns (logs_of logs.now) numbers.old [] turns))) }
 {
     let mut done = Vec::from_elem(alloc, 0, logs.len())?;
     let mut order = Vec::new(alloc);
-    for _ in 0..total(logs) {
-        let Some(node) = find_turn(logs, done.as_slice(), numbers) else {
-            break;
-        };
+    while let Some(node) = find_turn(logs, done.as_slice(), numbers) {
         count(numbers, &logs[node][done[node]]);
         done[node] += 1;
         order.push(node)?;
     }
-    if let Some(node) = find_stuck(logs, done.as_slice()) {
-        return Ok(Err(node));
+    match find_left(logs, done.as_slice()) {
+        Some(node) => Ok(Err(node)),
+        None => Ok(Ok(order)),
     }
-    Ok(Ok(order))
 }
