@@ -10,6 +10,7 @@ pub mod Testing
 pub mod Merges
 pub mod Following
 pub mod Replays
+pub mod Unplayed
 pub mod Played
 pub mod TokenTests
 pub mod Tokens

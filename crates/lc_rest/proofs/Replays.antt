@@ -36,7 +36,7 @@ pub bytes-more : (segment : ℕ) (rs : List Record) (now bytes : List ℕ) (i : 
     → laid_on segment (slice_index_or rs i d).ranges now ≡ bytes_after segment (take (i + 1) rs) bytes
 bytes-more segment rs now bytes i d less is = ap (laid_on segment (slice_index_or rs i d).ranges) is ∙ bytes-next segment rs bytes i d less ∙ ap (λ n. bytes_after segment (take n rs) bytes) (sym (add-one i))
 
-abbrev number_on : ℕ → Record → ℕ → ℕ
+abbrev pub number_on : ℕ → Record → ℕ → ℕ
 number_on segment r number = if has_lock segment r then number + 1 else number
 
 number-next : (segment : ℕ) (rs : List Record) (number i : ℕ) (d : Record) → i < length rs
@@ -48,6 +48,26 @@ number-next segment (r ∷ rs) number (suc i) d less = number-next segment rs (n
 pub number-more : (segment : ℕ) (rs : List Record) (now number i : ℕ) (d : Record) → i < length rs → now ≡ number_after segment (take i rs) number
     → (if has_lock segment (slice_index_or rs i d) then now + 1 else now) ≡ number_after segment (take (i + 1) rs) number
 number-more segment rs now number i d less is = ap (number_on segment (slice_index_or rs i d)) is ∙ number-next segment rs number i d less ∙ ap (λ n. number_after segment (take n rs) number) (sym (add-one i))
+
+on-rises : (b : Bool) (n : ℕ) → n ≤ (if b then n + 1 else n)
+on-rises true n = omega arith
+on-rises false n = omega arith
+
+number-rises : (segment : ℕ) (rs : List Record) (number : ℕ) → number ≤ number_after segment rs number
+number-rises segment [] number = omega arith
+number-rises segment (r ∷ rs) number = (let here = on-rises (has_lock segment r) number in let later = number-rises segment rs (number_on segment r number) in omega (arith, here, later))
+
+-- more records count no less
+pub number-grows : (segment : ℕ) (rs : List Record) (number few many : ℕ) → few ≤ many → number_after segment (take few rs) number ≤ number_after segment (take many rs) number
+number-grows segment rs number zero many less = number-rises segment (take many rs) number
+number-grows segment rs number (suc few) zero less = absurd (omega (arith, less))
+number-grows segment [] number (suc few) (suc many) less = omega arith
+number-grows segment (r ∷ rs) number (suc few) (suc many) less = number-grows segment rs (number_on segment r number) few many (omega (arith, less))
+
+pub number-most : (segment : ℕ) (rs : List Record) (number few : ℕ) → number_after segment (take few rs) number ≤ number_after segment rs number
+number-most segment rs number zero = number-rises segment rs number
+number-most segment [] number (suc few) = omega arith
+number-most segment (r ∷ rs) number (suc few) = number-most segment rs (number_on segment r number) few
 
 len-range : (segment : ℕ) (range : RangeData) (bytes : List ℕ) → length (range_on segment range bytes) ≡ length bytes
 len-range segment range bytes = elim (range.segment == segment) as (λ b. length (if b then put range.offset range.bytes bytes else bytes) ≡ length bytes) [
@@ -78,11 +98,21 @@ met-more area page number bytes are last = one-more (λ p. (page_in area p).sequ
 
 -- The least sequence above a number
 
+abbrev HasSequence : List ℕ → ℕ → ℕ → Type 0
+HasSequence area pages seq = (page : ℕ) × (page < pages) × ((page_in area page).sequence ≡ seq)
+
+one-wider : (area : List ℕ) (pages seq : ℕ) → HasSequence area pages seq → HasSequence area (pages + 1) seq
+one-wider area pages seq its = (let less = its.1 in (its.0, omega (arith, less), its.2))
+
+min-cases : (a b : ℕ) → (min a b ≡ a) ⊎ (min a b ≡ b)
+min-cases a b = grind arith
+
 due-one : (area : List ℕ) (page number : ℕ) (due : Option ℕ) → IsDue area page number due → IsDue area (page + 1) number (lesser due number (page_in area page).sequence)
 due-one area page number None are = elim (nat_le (page_in area page).sequence number) as (λ b. nat_le (page_in area page).sequence number ≡ b → IsDue area (page + 1) number (if b then None else Some (page_in area page).sequence)) [
   | true ↦ λ e. one-more (λ p. (page_in area p).sequence ≤ number) page are (leb-true (page_in area page).sequence number e)
   | false ↦ λ e. (
     above e,
+    (page, omega arith, refl),
     one-more (λ p. number < (page_in area p).sequence → (page_in area page).sequence ≤ (page_in area p).sequence) page (λ p less over. absurd (let most = are p less in omega (arith, most, over))) (λ over. omega arith),
   )
 ] refl
@@ -90,12 +120,19 @@ due-one area page number None are = elim (nat_le (page_in area page).sequence nu
     above : nat_le (page_in area page).sequence number ≡ false → number < (page_in area page).sequence
     above e = leb-false (page_in area page).sequence number e
 due-one area page number (Some least) are = elim (nat_le (page_in area page).sequence number) as (λ b. nat_le (page_in area page).sequence number ≡ b → IsDue area (page + 1) number (if b then Some least else Some (min least (page_in area page).sequence))) [
-  | true ↦ λ e. (are.0, one-more (λ p. number < (page_in area p).sequence → least ≤ (page_in area p).sequence) page are.1 (λ over. absurd (let most = leb-true (page_in area page).sequence number e in omega (arith, most, over))))
+  | true ↦ λ e. (are.0, one-wider area page least are.1, one-more (λ p. number < (page_in area p).sequence → least ≤ (page_in area p).sequence) page are.2 (λ over. absurd (let most = leb-true (page_in area page).sequence number e in omega (arith, most, over))))
   | false ↦ λ e. (let over = leb-false (page_in area page).sequence number e in let first = are.0 in (
     grind (arith, over, first),
-    one-more (λ p. number < (page_in area p).sequence → min least (page_in area page).sequence ≤ (page_in area p).sequence) page (λ p less above. let its = are.1 p less above in grind (arith, its)) (λ above. grind arith),
+    found,
+    one-more (λ p. number < (page_in area p).sequence → min least (page_in area page).sequence ≤ (page_in area p).sequence) page (λ p less above. let its = are.2 p less above in grind (arith, its)) (λ above. grind arith),
   ))
 ] refl
+  where
+    found : HasSequence area (page + 1) (min least (page_in area page).sequence)
+    found = elim (min-cases least (page_in area page).sequence) [
+      | inl is ↦ subst (HasSequence area (page + 1)) (sym is) (one-wider area page least are.1)
+      | inr is ↦ (page, omega arith, sym is)
+    ]
 
 pub due-more : (area : List ℕ) (page number seq : ℕ) (due : Option ℕ) → seq ≡ (page_in area page).sequence → IsDue area page number due → IsDue area (page + 1) number (lesser due number seq)
 due-more area page number seq due is are = subst (λ s. IsDue area (page + 1) number (lesser due number s)) (sym is) (due-one area page number due are)
@@ -123,14 +160,15 @@ member-more n locks found i d less is = ap (λ b. b || ((slice_index_or locks i 
 -- One record more, of each page that has come to its moment
 
 pub played-locked : (segment first : ℕ) (rs : List Record) (start area : List ℕ) (pages number later i : ℕ) (now : List ℕ) → later ≡ number + 1 → first ≤ number
-    → later ≡ number_after segment (take (i + 1) rs) first → now ≡ bytes_after segment (take (i + 1) rs) start
+    → number ≡ number_after segment (take i rs) first → later ≡ number_after segment (take (i + 1) rs) first → now ≡ bytes_after segment (take (i + 1) rs) start
     → ((page : ℕ) → page < pages → (page_in area page).sequence ≤ number → IsPlayed segment first rs start page (page_in area page)) → AreMet area pages later now
     → (page : ℕ) → page < pages → (page_in area page).sequence ≤ later → IsPlayed segment first rs start page (page_in area page)
-played-locked segment first rs start area pages number later i now next least count is before met page less most = elim (split (page_in area page).sequence number later next most) [
+played-locked segment first rs start area pages number later i now next least was count is before met page less most = elim (split (page_in area page).sequence number later next most) [
   | inl old ↦ before page less old
   | inr same ↦ record {
     turns = i + 1;
     count = sym count ∙ greatest first number later (page_in area page).sequence next least same;
+    fewest = λ fewer few. (let grows = number-grows segment rs first fewer i (omega (arith, few)) in omega (arith, grows, was, next, same));
     bytes = met page less same ∙ ap (part_at page) is;
   }
 ]
@@ -144,7 +182,7 @@ played-locked segment first rs start area pages number later i now next least co
 pub met-none : (area : List ℕ) (pages number : ℕ) (due : Option ℕ) (now : List ℕ) → IsDue area pages number due → (due ≡ Some (number + 1) → ⊥) → AreMet area pages (number + 1) now
 met-none area pages number None now are not = λ page less same. absurd (let most = are page less in omega (arith, most, same))
 met-none area pages number (Some due) now are not = λ page less same.
-    absurd (let above = are.0 in let its = are.1 page less (omega (arith, same)) in let is : due ≡ number + 1 = omega (arith, above, its, same) in not (ap Some is))
+    absurd (let above = are.0 in let its = are.2 page less (omega (arith, same)) in let is : due ≡ number + 1 = omega (arith, above, its, same) in not (ap Some is))
 
 pub due-none : (area : List ℕ) (pages number : ℕ) (due : Option ℕ) → IsDue area pages number due → (due ≡ Some (number + 1) → ⊥) → IsDue area pages (number + 1) due
 due-none area pages number None are not = λ page less. (let most = are page less in omega (arith, most))
@@ -152,7 +190,8 @@ due-none area pages number (Some due) are not =
     let above = are.0 in
     let differ : due ≢ number + 1 = λ is. not (ap Some is) in (
       omega (arith, above, differ),
-      λ page less over. are.1 page less (omega (arith, over)),
+      are.1,
+      λ page less over. are.2 page less (omega (arith, over)),
     )
 
 above-next : (segment number : ℕ) (rs : List Record) (bytes : List ℕ) (i : ℕ) (d : Record) → i < length rs

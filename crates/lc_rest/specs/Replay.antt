@@ -30,11 +30,17 @@ number_after segment (r ∷ rs) number = number_after segment rs (if has_lock se
 abbrev pub part_at : ℕ → List ℕ → List ℕ
 part_at page bytes = take 256 (drop (page * 256) bytes)
 
--- the page is what the first so many records, up to its sequence, make of the bytes
+-- the page is what the first so many records, as many as the number needs to come to its sequence, make of the bytes
 pub record IsPlayed (segment first : ℕ) (rs : List Record) (start : List ℕ) (page : ℕ) (text : Page) : Type 0 where
   pub turns : ℕ
   pub count : number_after segment (take turns rs) first ≡ max first text.sequence
+  pub fewest : (fewer : ℕ) → fewer < turns → number_after segment (take fewer rs) first < max first text.sequence
   pub bytes : text.content ≡ part_at page (bytes_after segment (take turns rs) start)
+
+-- each page of the area is what the records up to its sequence make of the bytes, and the number behind all of them is the last
+pub record IsReplay (segment first last : ℕ) (rs : List Record) (start area : List ℕ) (pages : ℕ) : Type 0 where
+  pub played : (page : ℕ) → page < pages → IsPlayed segment first rs start page (page_in area page)
+  pub ends : number_after segment rs first ≡ last
 
 -- the bytes are those of the pages of the area
 pub record AreBytes (area : List ℕ) (pages : ℕ) (bytes : List ℕ) : Type 0 where
@@ -44,12 +50,21 @@ pub record AreBytes (area : List ℕ) (pages : ℕ) (bytes : List ℕ) : Type 0 
 -- the least sequence above a number that a page of the area has
 abbrev pub IsDue : List ℕ → ℕ → ℕ → Option ℕ → Type 0
 IsDue area pages number None = (page : ℕ) → page < pages → (page_in area page).sequence ≤ number
-IsDue area pages number (Some due) = (number < due) × ((page : ℕ) → page < pages → number < (page_in area page).sequence → due ≤ (page_in area page).sequence)
+IsDue area pages number (Some due) =
+    (number < due) × ((page : ℕ) × (page < pages) × ((page_in area page).sequence ≡ due))
+    × ((page : ℕ) → page < pages → number < (page_in area page).sequence → due ≤ (page_in area page).sequence)
 
 -- the lesser of a sequence above the number and what was found
 abbrev pub lesser : Option ℕ → ℕ → ℕ → Option ℕ
 lesser None number seq = if nat_le seq number then None else Some seq
 lesser (Some least) number seq = if nat_le seq number then Some least else Some (min least seq)
+
+-- some page with this sequence is not its part of the bytes
+pub record IsUnmet (area : List ℕ) (pages number : ℕ) (bytes : List ℕ) : Type 0 where
+  pub page : ℕ
+  pub known : page < pages
+  pub here : (page_in area page).sequence ≡ number
+  pub differs : (page_in area page).content ≡ part_at page bytes → ⊥
 
 -- each page with this sequence is its part of the bytes
 abbrev pub AreMet : List ℕ → ℕ → ℕ → List ℕ → Type 0

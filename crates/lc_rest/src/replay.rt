@@ -1,9 +1,9 @@
 //! The replay of a segment: all records, in their order, on the bytes that its pages hold, each page at its moment.
-ghost use Rattle.std.specs.Prelude.{◌≡◌, ◌+◌, ◌*◌, ◌<◌, ◌==◌, ◌≤◌, ◌^◌, ℕ, true, length, map};
+ghost use Rattle.std.specs.Prelude.{◌≡◌, ◌↔◌, ◌+◌, ◌*◌, ◌<◌, ◌≤◌, ◌^◌, ℕ, IsTrue, false, length, map};
 ghost use Rattle.lc_page.specs.Page.{page_in};
 ghost use Rattle.lc_record.specs.Content.{put};
 ghost use Rattle.lc_rest.specs.Turns.{has_lock};
-ghost use Rattle.lc_rest.specs.Replay.{AreBytes, AreMet, IsDue, IsPlayed, bytes_after, laid_on, lesser, number_after, part_at, range_on};
+ghost use Rattle.lc_rest.specs.Replay.{AreBytes, AreMet, IsDue, IsReplay, IsUnmet, bytes_after, laid_on, lesser, part_at, range_on};
 
 use lc_page::{PAGE_BYTES, page_bytes, read_page};
 use lc_record::{RangeData, Record};
@@ -75,7 +75,7 @@ fn next_due(area: &[u8], pages: u32, number: u64) -> Option<u64>
 fn is_met(area: &[u8], page: u32, number: u64, bytes: &[u8]) -> bool
     requires area { 2 * 272 * (page + 1) ≤ length area.now }
     requires bytes { page * 256 + 256 ≤ length bytes.now }
-    ensures { result ≡ true → (page_in area.now page).sequence ≡ number → (page_in area.now page).content ≡ part_at page bytes.now }
+    ensures { IsTrue result ↔ ((page_in area.now page).sequence ≡ number → (page_in area.now page).content ≡ part_at page bytes.now) }
 {
     if read_page(area, page).seq != number {
         return true;
@@ -88,7 +88,8 @@ fn is_met(area: &[u8], page: u32, number: u64, bytes: &[u8]) -> bool
 fn are_met(area: &[u8], pages: u32, number: u64, bytes: &[u8]) -> bool
     requires area { 2 * 272 * pages ≤ length area.now }
     requires bytes { length bytes.now ≡ pages * 256 }
-    ensures { result ≡ true → AreMet area.now pages number bytes.now }
+    ensures met { IsTrue result → AreMet area.now pages number bytes.now }
+    ensures unmet { result ≡ false → IsUnmet area.now pages number bytes.now }
 {
     for page in 0..pages {
         if !is_met(area, page, number, bytes) {
@@ -98,9 +99,10 @@ fn are_met(area: &[u8], pages: u32, number: u64, bytes: &[u8]) -> bool
     true
 }
 
-/// Puts all records, in their order, on the bytes that the pages of a segment hold, whose number was `first` before them,
-/// and whether each page is what those up to its sequence make of them, and the number behind them is `last`. It takes no
-/// memory.
+/// Puts all records, in their order, on the bytes that the pages of a segment hold, whose number was `first` before them, and
+/// says whether each page is what the records up to its sequence make of these bytes, and the number behind all of them is
+/// `last`. Each record with a lock on the segment counts one. The area has two slots of 272 bytes a page. It takes no memory. This
+/// project's own.
 pub fn replay_segment(
     segment: u32,
     first: u64,
@@ -113,24 +115,22 @@ pub fn replay_segment(
     requires area { 2 * 272 * pages ≤ length area.now }
     requires bytes { AreBytes area.now pages bytes.old }
     requires small { first + length records.now < 2 ^ 64 }
-    ensures bytes { result ≡ true → bytes.new ≡ bytes_after segment (map (λ r. r.now) records.now) bytes.old }
-    ensures played { result ≡ true → (page : ℕ) → page < pages → IsPlayed segment first (map (λ r. r.now) records.now) bytes.old page (page_in area.now page) }
-    ensures within { result ≡ true → (page : ℕ) → page < pages → (page_in area.now page).sequence ≤ last }
-    ensures ends { result ≡ true → number_after segment (map (λ r. r.now) records.now) first ≡ last }
+    ensures bytes { bytes.new ≡ bytes_after segment (map (λ r. r.now) records.now) bytes.old }
+    ensures replay { IsTrue result ↔ IsReplay segment first last (map (λ r. r.now) records.now) bytes.old area.now pages }
+    ensures within { IsTrue result → (page : ℕ) → page < pages → (page_in area.now page).sequence ≤ last }
 {
     let mut number = first;
     let mut due = next_due(area, pages, number);
+    let mut agrees = true;
     for whole in records {
         lay_on(segment, whole, bytes);
         if has_lock(segment, whole) {
             number += 1;
             if due == Some(number) {
-                if !are_met(area, pages, number, bytes) {
-                    return false;
-                }
+                agrees = agrees && are_met(area, pages, number, bytes);
                 due = next_due(area, pages, number);
             }
         }
     }
-    due.is_none() && number == last
+    agrees && due.is_none() && number == last
 }
