@@ -13,6 +13,7 @@ pub mod Replays
 pub mod Unplayed
 pub mod Played
 pub mod TokenTests
+pub mod KeptTokens
 pub mod Tokens
 pub mod Passes
 pub mod Orders

@@ -149,12 +149,12 @@ module _ (h : Read) (is : Passes h) where
         (let token = is.tokens segment first last in
         let most = token.most in
         let same = last-is segment first last in
-        stable-above h.geometry (λ node. slice_index_or h.counts node 0) least segment (page_in (h.area segment) page).sequence first last (token.below page in_pages) [] (merged h) (number_at h.numbers) taken follows parts
+        stable-above h.geometry (λ node. slice_index_or h.counts node 0) least segment (page_in (h.area segment) page).sequence first last ((token.read page in_pages).below) [] (merged h) (number_at h.numbers) taken follows parts
         (omega (arith, most, same)));
     pages_within = λ segment page first last in_pages.
         (let token = is.tokens segment first last in
         let most = token.most in
-        let below = token.below page in_pages in
+        let below = (token.read page in_pages).below in
         let same = last-is segment first last in
         omega (arith, most, below, same));
     reached = λ segment first last.

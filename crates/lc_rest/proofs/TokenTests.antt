@@ -70,6 +70,11 @@ pub count-more : (segment : ℕ) (logs : List (Vec Record)) (count i : ℕ) (d :
 count-more segment logs count i d less is =
     ap (λ n. n + count_log segment (slice_index_or logs i d).items) is ∙ sym (count-next segment logs i d less) ∙ ap (λ n. count_on segment (logs_of (take n logs))) (sym (add-one i))
 
+pub count-most : (segment n : ℕ) (logs : List (Vec Record)) → count_on segment (logs_of (take n logs)) ≤ count_on segment (logs_of logs)
+count-most segment zero logs = omega arith
+count-most segment (suc n) [] = omega arith
+count-most segment (suc n) (log ∷ logs) = (let rest = count-most segment n logs in omega (arith, rest))
+
 pub log-items : (logs : List (Vec Record)) (node : ℕ) (log : Vec Record) → node < length logs → log ≡ slice_index_or logs node log → log.items ≡ slice_index_or (logs_of logs) node []
 log-items logs node log less is =
     sym (get_or-map (λ (l : Vec Record). l.items) logs node log [] less ∙ ap (λ (l : Vec Record). l.items) (sym is))

@@ -10,6 +10,7 @@ mod merge;
 mod order;
 mod reading;
 mod replay;
+mod segment_read;
 mod token_test;
 
 pub use holder::Holder;
@@ -20,4 +21,5 @@ pub use merge::merge_records;
 pub use order::in_order;
 pub use reading::read_bytes;
 pub use replay::replay_segment;
-pub use token_test::keeps_token;
+pub use segment_read::SegmentRead;
+pub use token_test::{first_number, keeps_token};

@@ -5,4 +5,6 @@ use Rattle.lc_rest.specs.TokenTest.{IsKeptRecord}
 use Rattle.lc_rest.proofs.token_test.keeps_log.Given as goal
 
 abbrev pub invariant-loop-k : goal.invariant-loop-k
-invariant-loop-k l = (k : ℕ) → k < l.k → IsKeptRecord l.segment l.least l.token.clean l.pages l.holder l.area l.token.pages (nat_lt k l.stable) (slice_index_or l.log k no_record)
+invariant-loop-k l =
+    (k : ℕ) → k < l.k
+    → IsKeptRecord l.read.segment l.least l.read.token.now.clean l.read.pages l.read.holder l.read.area.now l.read.token.now.pages (nat_lt k l.stable) (slice_index_or l.log k no_record)

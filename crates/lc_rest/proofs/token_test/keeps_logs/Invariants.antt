@@ -6,4 +6,4 @@ use Rattle.lc_rest.proofs.token_test.keeps_logs.Given as goal
 
 abbrev pub invariant-loop-node : goal.invariant-loop-node
 invariant-loop-node l = (n : ℕ) → n < l.node → (k : ℕ) → k < length (slice_index_or (logs_of l.logs) n [])
-    → IsKeptRecord l.segment l.least l.token.clean l.pages l.holder l.area l.token.pages (nat_lt k (slice_index_or l.stable n 0)) (record_at (logs_of l.logs) n k)
+    → IsKeptRecord l.read.segment l.least l.read.token.now.clean l.read.pages l.read.holder l.read.area.now l.read.token.now.pages (nat_lt k (slice_index_or l.stable n 0)) (record_at (logs_of l.logs) n k)

@@ -4,4 +4,5 @@ use Rattle.lc_rest.specs.TokenTest.{IsKeptRange}
 use Rattle.lc_rest.proofs.token_test.keeps_ranges.Given as goal
 
 abbrev pub invariant-loop-range : goal.invariant-loop-range
-invariant-loop-range l = All (λ (range : RangeData). range.segment ≡ l.segment → IsKeptRange l.number l.token.clean l.pages l.area l.token.pages range) (take l.range-index l.whole.ranges)
+invariant-loop-range l =
+    All (λ (range : RangeData). range.segment ≡ l.read.segment → IsKeptRange l.number l.read.token.now.clean l.read.pages l.read.area.now l.read.token.now.pages range) (take l.range-index l.whole.ranges)
