@@ -15,7 +15,7 @@ use Rattle.lc_rest.specs.Merge.{AreTurns, counted_by, merged_after, no_record, n
 use Rattle.lc_rest.proofs.Merges.{times-own, times-other}
 use Rattle.lc_rest.proofs.Within.{sets-lock}
 
-abbrev Known : ℕ → Lock → Type 0
+abbrev pub Known : ℕ → Lock → Type 0
 Known n lock = (1 ≤ lock.segment) × (lock.segment ≤ n)
 
 -- one number that is set
@@ -33,12 +33,12 @@ set-number numbers (suc n) seq (suc k) first last =
           ap (λ i. slice_index_or (slice_set numbers i seq) k 0) place ∙ get_or-set_other numbers n k seq 0 apart ∙ sym (ap (λ (b : Bool). if b then seq else slice_index_or numbers k 0) (ne_eqb (suc n) (suc k) differ))
     ]
 
-length-counted : (locks : List Lock) (numbers : List ℕ) → length (counted_by locks numbers) ≡ length numbers
+pub length-counted : (locks : List Lock) (numbers : List ℕ) → length (counted_by locks numbers) ≡ length numbers
 length-counted [] numbers = refl
 length-counted (lock ∷ locks) numbers = length-counted locks (slice_set numbers (lock.segment - 1) lock.seq) ∙ length-set numbers (lock.segment - 1) lock.seq
 
 -- of locks that have the next numbers each is counted
-counted-at : (f : ℕ → ℕ) (locks : List Lock) (numbers : List ℕ) (segment : ℕ) → All (Known (length numbers)) locks → All (λ (lock : Lock). lock.seq ≡ f lock.segment + 1) locks
+pub counted-at : (f : ℕ → ℕ) (locks : List Lock) (numbers : List ℕ) (segment : ℕ) → All (Known (length numbers)) locks → All (λ (lock : Lock). lock.seq ≡ f lock.segment + 1) locks
     → number_at (counted_by locks numbers) segment ≡ (if is_member segment (map (λ (l : Lock). l.segment) locks) then f segment + 1 else number_at numbers segment)
 counted-at f [] numbers segment known next = refl
 counted-at f (lock ∷ locks) numbers segment known next =

@@ -17,3 +17,4 @@ pub mod KeptTokens
 pub mod Tokens
 pub mod Passes
 pub mod Orders
+pub mod Stuck

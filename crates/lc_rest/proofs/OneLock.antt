@@ -1,7 +1,7 @@
 -- The locks of the transaction that a record stands for are the record's.
 use Rattle.std.proofs.Common.{◌≡◌, ◌≢◌, ◌⊎◌, ℕ, ◌+◌, ◌<◌, ◌≤◌, Bool, true, false, ◌||◌, ◌==◌, List, [], ◌∷◌, map, All, refl, sym, ◌∙◌, ap, arith, inl, inr, true≢false, eqb-true, eq-eqb}
 use Rattle.std.specs.Prelude.{if◌then◌else◌}
-use Rattle.std.proofs.lemmas.List.Elements.{All-head, All-tail}
+use Rattle.std.proofs.lemmas.List.Elements.{All-nil, All-cons, All-head, All-tail}
 use Rattle.lc_record.specs.Record.{Chain, Locks, Writes, IsCanonical}
 use Rattle.lc_record.specs.Transaction.{is_member}
 use Rattle.lc_record.specs.declared.geometry.Geometry.{Geometry}
@@ -130,3 +130,11 @@ locks-next numbers [] all = refl
 locks-next numbers (l ∷ locks) all =
     ap (λ n. record { segment = l.segment; seq = n } ∷ map (λ (s : ℕ). record { segment = s; seq = numbers s + 1 }) (map (λ (l : Lock). l.segment) locks)) (sym (All-head (λ (lock : Lock). lock.seq ≡ numbers lock.segment + 1) l locks all))
     ∙ ap (λ rest. l ∷ rest) (locks-next numbers locks (All-tail (λ (lock : Lock). lock.seq ≡ numbers lock.segment + 1) l locks all))
+
+-- the segment of each lock is one of theirs
+pub self-member : (locks : List Lock) → All (λ (lock : Lock). is_member lock.segment (map (λ (l : Lock). l.segment) locks) ≡ true) locks
+self-member [] = All-nil (λ (lock : Lock). is_member lock.segment [] ≡ true)
+self-member (l ∷ locks) =
+    All-cons (λ (lock : Lock). is_member lock.segment (map (λ (m : Lock). m.segment) (l ∷ locks)) ≡ true) l locks
+    (ap (λ b. b || is_member l.segment (map (λ (m : Lock). m.segment) locks)) (eq-eqb l.segment l.segment refl))
+    (λ k d less. or-right _ _ (self-member locks k d less))

@@ -27,7 +27,7 @@ use Rattle.lc_rest.specs.TokenTest.{IsKeptPage, IsKeptRecord}
 use Rattle.lc_rest.specs.Turns.{IsAtHome, Turn, turns_of}
 use Rattle.lc_rest.specs.declared.holder.Holder.{Holder}
 use Rattle.lc_rest.proofs.Following.{node-part, turns-follow}
-use Rattle.lc_rest.proofs.OneLock.{or-right}
+use Rattle.lc_rest.proofs.OneLock.{self-member}
 use Rattle.lc_rest.proofs.OneRecord.{part-counted}
 use Rattle.lc_rest.proofs.Played.{number-counted, replayed-own}
 use Rattle.lc_rest.proofs.Tokens.{Least, Parts, all-turns, behind, known-lock, lock-number, number-lock, page-kept, stable-above, turned}
@@ -41,13 +41,6 @@ rows-within : (f : ℕ → List ℕ) (k from n : ℕ) → ((i : ℕ) → from �
 rows-within f k from zero each = refl
 rows-within f k from (suc n) each =
     ap (λ l. l ∷ map length (map f (counting (from + 1) n))) (each from (omega arith) (omega arith)) ∙ ap (λ ls. k ∷ ls) (rows-within f k (from + 1) n (λ i low high. each i (omega (arith, low)) (omega (arith, high))))
-
-self-member : (locks : List Lock) → All (λ (lock : Lock). is_member lock.segment (map (λ (l : Lock). l.segment) locks) ≡ true) locks
-self-member [] = All-nil (λ (lock : Lock). is_member lock.segment [] ≡ true)
-self-member (l ∷ locks) =
-    All-cons (λ (lock : Lock). is_member lock.segment (map (λ (m : Lock). m.segment) (l ∷ locks)) ≡ true) l locks
-    (ap (λ b. b || is_member l.segment (map (λ (m : Lock). m.segment) locks)) (eq-eqb l.segment l.segment refl))
-    (λ k d less. or-right _ _ (self-member locks k d less))
 
 module _ (h : Read) (is : Passes h) where
   known_node : (node k : ℕ) → k < length (log_of h node) → node < length h.logs

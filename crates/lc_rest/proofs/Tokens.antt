@@ -82,7 +82,7 @@ number-lock segment (lock ∷ locks) n is = go (lock.segment == segment) is (λ 
     go true held later = refl
     go false held later = later held
 
-next-number : (numbers : ℕ → ℕ) (segment : ℕ) (locks : List Lock) (n : ℕ) → All (λ (lock : Lock). lock.seq ≡ numbers lock.segment + 1) locks → number_in segment locks ≡ Some n → n ≡ numbers segment + 1
+pub next-number : (numbers : ℕ → ℕ) (segment : ℕ) (locks : List Lock) (n : ℕ) → All (λ (lock : Lock). lock.seq ≡ numbers lock.segment + 1) locks → number_in segment locks ≡ Some n → n ≡ numbers segment + 1
 next-number numbers segment [] n next is = absurd cc
 next-number numbers segment (lock ∷ locks) n next is = go (lock.segment == segment) refl is (λ held. next-number numbers segment locks n (All-tail (λ (l : Lock). l.seq ≡ numbers l.segment + 1) lock locks next) held)
   where

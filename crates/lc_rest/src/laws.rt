@@ -13,7 +13,7 @@ ghost use Rattle.lc_model.specs.Sound.{Sound};
 ghost use Rattle.lc_model.specs.Stored.{Fits};
 ghost use Rattle.lc_rest.specs.Adopted.{Follow, IsNext, IsReplayed, IsTaken, transaction_of};
 ghost use Rattle.lc_rest.specs.Found.{Found, IsConsistent, machine_disks, machine_setting, machine_state};
-ghost use Rattle.lc_rest.specs.Merge.{AreTurns, merged_after, number_at, times};
+ghost use Rattle.lc_rest.specs.Merge.{AreKnown, AreTurns, IsStuck, merged_after, number_at, times};
 ghost use Rattle.lc_rest.specs.Pages.{as_read};
 ghost use Rattle.lc_rest.specs.Passed.{Passes, Read, found_of};
 ghost use Rattle.lc_rest.specs.Replay.{IsPlayed, bytes_after, number_after};
@@ -35,6 +35,12 @@ pub fn merged_in_order()
     ensures each { (logs : List (List Record)) (n : ℕ) (turns : List ℕ) → ((k : ℕ) → All (λ (r : Record). r.node ≡ k) (slice_index_or logs k [])) →
         ((k : ℕ) → times k turns ≤ length (slice_index_or logs k [])) →
         filter (is_from n) (merged_after logs [] turns) ≡ take (times n turns) (slice_index_or logs n []) }
+{}
+
+/// Where a merge is stuck there is no order of all records in which each has the next numbers.
+pub fn no_order()
+    ensures { (logs : List (List Record)) (numbers turns others : List ℕ) (node : ℕ) → AreKnown (length numbers) logs → IsStuck logs numbers turns node →
+        AreTurns logs numbers [] others → ((n : ℕ) → times n others ≡ length (slice_index_or logs n [])) → ⊥ }
 {}
 
 /// A page that is played is replayed; the bytes and the number behind a replay are those that all records make.

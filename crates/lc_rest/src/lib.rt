@@ -15,7 +15,7 @@ mod token_test;
 
 pub use holder::Holder;
 pub use image_test::comes_up;
-pub use laws::{merged_in_order, own_records, passed, played_pages, stands_for};
+pub use laws::{merged_in_order, own_records, no_order, passed, played_pages, stands_for};
 pub use log_test::{keeps_known, keeps_own};
 pub use merge::merge_records;
 pub use order::in_order;
