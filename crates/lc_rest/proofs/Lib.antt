@@ -14,6 +14,7 @@ pub mod Unplayed
 pub mod Played
 pub mod TokenTests
 pub mod KeptTokens
+pub mod Marking
 pub mod Tokens
 pub mod Passes
 pub mod Orders

@@ -7,5 +7,6 @@ pub mod Merge
 pub mod Pages
 pub mod Replay
 pub mod LogTest
+pub mod NumbersTest
 pub mod TokenTest
 pub mod Passed
