@@ -1,8 +1,7 @@
 -- The disks behind a cluster at rest fit the state behind it.
 use Rattle.std.proofs.Common.{◌≡◌, ℕ, ◌+◌, ◌-◌, ◌*◌, ◌≤◌, List, [], ◌∷◌, ◌++◌, map, filter, length, take, drop, replicate, All, refl, sym, ◌∙◌, ap, subst, arith, inl, inr, true≢false}
 use Rattle.std.specs.Prelude.{max, slice_index_or}
-use Rattle.std.proofs.lemmas.List.{map-append}
-use Rattle.std.proofs.Math.Seq.{take-append_seam}
+use Rattle.std.proofs.lemmas.List.{map-append, take_at}
 use Rattle.lc_model.proofs.Lists.{All-left}
 use Rattle.std.proofs.lemmas.List.Elements.{All-nil, All-cons, All-head, All-tail, All-take, All-filter, filter-append}
 use Rattle.lc_record.specs.Content.{Content, segment_of}
@@ -42,9 +41,6 @@ put-effects g (r ∷ rs) content = ap (put_on rs) (sym (writes-laid r.ranges con
 all-left : (g : Geometry) (xs ys : List Record) → All (IsTaken g) (xs ++ ys) → All (IsTaken g) xs
 all-left g xs ys taken = All-left (IsTaken g) xs ys taken
 
-take-first : {A : Type 0} (n : ℕ) (xs ys : List A) → length xs ≡ n → take n (xs ++ ys) ≡ xs
-take-first n xs ys long = ap (λ k. take k (xs ++ ys)) (sym long) ∙ take-append_seam xs ys
-
 count-behind : (numbers q count all : ℕ) → all ≡ max numbers q → all ≡ numbers + count → count ≡ q - numbers
 count-behind numbers q count all one two = grind arith
 
@@ -60,7 +56,7 @@ stands g rs numbers base segment page text taken is =
     let count : length (filter (sets segment) us) ≡ text.sequence - numbers segment =
     count-behind (numbers segment) text.sequence (length (filter (sets segment) us)) (counted_all numbers us segment) is.count (counted-length numbers us segment) in
     let those : take (text.sequence - numbers segment) (filter (sets segment) (transactions_of g rs)) ≡ filter (sets segment) us =
-    ap (take (text.sequence - numbers segment)) whole ∙ take-first (text.sequence - numbers segment) (filter (sets segment) us) (filter (sets segment) vs) count in
+    ap (take (text.sequence - numbers segment)) whole ∙ take_at (filter (sets segment) us) (filter (sets segment) vs) (text.sequence - numbers segment) count in
     let same : segment_of segment (put_on is.before base) ≡ segment_of segment (effects (take (text.sequence - numbers segment) (filter (sets segment) (transactions_of g rs))) base) =
     ap (segment_of segment) (put-effects g is.before base) ∙ of_a_segment base us segment (all-well g is.before known) ∙ ap (λ (ts : List Transaction). segment_of segment (effects ts base)) (sym those) in
     is.bytes ∙ ap (λ (l : List ℕ). take 256 (drop (page * 256) l)) same

@@ -1,5 +1,6 @@
 -- The least number that is not stable, and what is tested against it.
-use Rattle.std.proofs.Common.{◌≡◌, ◌⊎◌, ℕ, ◌+◌, ◌<◌, ◌≤◌, List, [], length, refl, sym, ◌∙◌, ap, subst, arith, inl, inr}
+use Rattle.std.proofs.Common.{◌≡◌, ◌⊎◌, ℕ, ◌+◌, ◌<◌, ◌≤◌, List, [], length, sym, ◌∙◌, ap, subst, arith, inl, inr}
+use Rattle.lc_rest.proofs.Replays.{min-cases}
 use Rattle.std.specs.Prelude.{Option, Some, None, min, nat_lt, slice_index_or}
 use Rattle.std.proofs.lemmas.Bool.{le-ltb, ltb-false}
 use Rattle.lc_record.specs.Part.{number_in}
@@ -9,18 +10,8 @@ use Rattle.lc_rest.specs.Merge.{no_record, record_at}
 use Rattle.lc_rest.specs.TokenTest.{IsKeptRecord, IsKeptToken, IsLeastWaiting, IsLowered, IsReadPage, IsWaiting}
 use Rattle.lc_rest.specs.declared.holder.Holder.{Holder}
 
-min-cases : (a b : ℕ) → (min a b ≡ a) ⊎ (min a b ≡ b)
-min-cases a b = grind arith
-
 abbrev number_at_place : ℕ → List Record → ℕ → Option ℕ
 number_at_place segment log place = number_in segment (slice_index_or log place no_record).locks
-
-pub lowered-first : (segment : ℕ) (log : List Record) (from old : ℕ) → IsLowered segment log from from old old
-lowered-first segment log from old = record {
-  most = omega arith;
-  below = λ place number low high has. absurd (omega (arith, low, high));
-  is = inl refl;
-}
 
 cases-last : (place at : ℕ) → place < at + 1 → (place < at) ⊎ (place ≡ at)
 cases-last place at less = grind arith
@@ -53,26 +44,11 @@ lowered-some segment log from at old new number first within here is = record {
   ];
 }
 
--- behind the last record
-pub lowered-last : (segment : ℕ) (log : List Record) (from at old new : ℕ) → length log ≤ at → IsLowered segment log from at old new → IsLowered segment log from (length log) old new
-lowered-last segment log from at old new last is = record {
-  most = is.most;
-  below = λ place number low high has. is.below place number low (omega (arith, high, last)) has;
-  is = is.is;
-}
-
 -- the least of the first so many logs
 pub record IsLeastOf (segment seq : ℕ) (logs : List (List Record)) (counts : List ℕ) (nodes least : ℕ) : Type 0 where
   pub most : least ≤ seq + 1
   pub below : (number : ℕ) (waits : IsWaiting segment logs counts number) → waits.node < nodes → least ≤ number
   pub is : (least ≡ seq + 1) ⊎ IsWaiting segment logs counts least
-
-pub least-first : (segment seq : ℕ) (logs : List (List Record)) (counts : List ℕ) (least : ℕ) → least ≡ seq + 1 → IsLeastOf segment seq logs counts 0 least
-least-first segment seq logs counts least is = record {
-  most = omega (arith, is);
-  below = λ number waits less. absurd (omega (arith, less));
-  is = inl is;
-}
 
 pub least-more : (segment seq : ℕ) (logs : List (List Record)) (counts : List ℕ) (node least new : ℕ) → node < length logs
     → IsLowered segment (slice_index_or logs node []) (slice_index_or counts node 0) (length (slice_index_or logs node [])) least new

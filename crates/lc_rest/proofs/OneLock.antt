@@ -1,5 +1,6 @@
 -- The locks of the transaction that a record stands for are the record's.
-use Rattle.std.proofs.Common.{◌≡◌, ◌≢◌, ◌⊎◌, ℕ, ◌+◌, ◌<◌, ◌≤◌, Bool, true, false, ◌||◌, ◌==◌, List, [], ◌∷◌, map, All, refl, sym, ◌∙◌, ap, arith, inl, inr, true≢false, eqb-true, eq-eqb}
+use Rattle.std.proofs.Common.{◌≡◌, ◌≢◌, ℕ, ◌+◌, ◌<◌, ◌≤◌, Bool, true, false, ◌||◌, ◌==◌, List, [], ◌∷◌, map, All, refl, sym, ◌∙◌, ap, arith, inl, inr, true≢false, eqb-true, eq-eqb}
+use Rattle.std.proofs.lemmas.Bool.{or_cases, or_right}
 use Rattle.std.specs.Prelude.{if◌then◌else◌}
 use Rattle.std.proofs.lemmas.List.Elements.{All-nil, All-cons, All-head, All-tail}
 use Rattle.lc_record.specs.Record.{Chain, Locks, Writes, IsCanonical}
@@ -35,17 +36,9 @@ member-segments : (k : ℕ) (ranges : List RangeData) → is_member k (segments_
 member-segments k [] = refl
 member-segments k (r ∷ ranges) = member-with k r.segment (segments_of (map run_of ranges)) ∙ ap (λ b. (r.segment == k) || b) (member-segments k ranges)
 
-or-cases : (a b : Bool) → (a || b) ≡ true → (a ≡ true) ⊎ (b ≡ true)
-or-cases true b is = inl refl
-or-cases false b is = inr is
-
-pub or-right : (a b : Bool) → b ≡ true → (a || b) ≡ true
-or-right true b is = refl
-or-right false b is = is
-
 least : (run : Range) (runs : List Range) → LiesBefore run runs → (k : ℕ) → is_member k (segments_of runs) ≡ true → run.segment ≤ k
 least run [] before k member = absurd (true≢false (sym member))
-least run (next ∷ runs) before k member = elim (or-cases (next.segment == k) (is_member k (segments_of runs)) (sym (member-with k next.segment (segments_of runs)) ∙ member)) [
+least run (next ∷ runs) before k member = elim (or_cases (next.segment == k) (is_member k (segments_of runs)) (sym (member-with k next.segment (segments_of runs)) ∙ member)) [
   | inl here ↦ let same : next.segment ≡ k = eqb-true next.segment k here in elim before.0 [
     | inl less ↦ omega (arith, less, same)
     | inr gap ↦ omega (arith, gap.0, same)
@@ -79,12 +72,12 @@ pub lock-member : (s : ℕ) (locks : List Lock) → Locks s locks → is_member 
 lock-member s [] is = absurd is
 lock-member s (l ∷ locks) is = elim is [
   | inl same ↦ ap (λ b. b || is_member s (map (λ (l : Lock). l.segment) locks)) (eq-eqb l.segment s same)
-  | inr later ↦ or-right (l.segment == s) _ (lock-member s locks later)
+  | inr later ↦ or_right (l.segment == s) _ (lock-member s locks later)
 ]
 
 pub member-lock : (s : ℕ) (locks : List Lock) → is_member s (map (λ (l : Lock). l.segment) locks) ≡ true → Locks s locks
 member-lock s [] is = absurd (true≢false (sym is))
-member-lock s (l ∷ locks) is = elim (or-cases (l.segment == s) (is_member s (map (λ (l : Lock). l.segment) locks)) is) [
+member-lock s (l ∷ locks) is = elim (or_cases (l.segment == s) (is_member s (map (λ (l : Lock). l.segment) locks)) is) [
   | inl same ↦ inl (eqb-true l.segment s same)
   | inr later ↦ inr (member-lock s locks later)
 ]
@@ -93,17 +86,17 @@ pub write-member : (s : ℕ) (ranges : List RangeData) → Writes s ranges → i
 write-member s [] is = absurd is
 write-member s (l ∷ ranges) is = elim is [
   | inl same ↦ ap (λ b. b || is_member s (map (λ (l : RangeData). l.segment) ranges)) (eq-eqb l.segment s same)
-  | inr later ↦ or-right (l.segment == s) _ (write-member s ranges later)
+  | inr later ↦ or_right (l.segment == s) _ (write-member s ranges later)
 ]
 
 pub member-write : (s : ℕ) (ranges : List RangeData) → is_member s (map (λ (l : RangeData). l.segment) ranges) ≡ true → Writes s ranges
 member-write s [] is = absurd (true≢false (sym is))
-member-write s (l ∷ ranges) is = elim (or-cases (l.segment == s) (is_member s (map (λ (l : RangeData). l.segment) ranges)) is) [
+member-write s (l ∷ ranges) is = elim (or_cases (l.segment == s) (is_member s (map (λ (l : RangeData). l.segment) ranges)) is) [
   | inl same ↦ inl (eqb-true l.segment s same)
   | inr later ↦ inr (member-write s ranges later)
 ]
 
-same-bool : (a b : Bool) → (a ≡ true → b ≡ true) → (b ≡ true → a ≡ true) → a ≡ b
+pub same-bool : (a b : Bool) → (a ≡ true → b ≡ true) → (b ≡ true → a ≡ true) → a ≡ b
 same-bool true true one two = refl
 same-bool true false one two = sym (one refl)
 same-bool false true one two = two refl
@@ -111,7 +104,7 @@ same-bool false false one two = refl
 
 pub member-inside : (g : Geometry) (ranges : List RangeData) → All (IsInside g) ranges → (s : ℕ) → is_member s (map (λ (l : RangeData). l.segment) ranges) ≡ true → (1 ≤ s) × (s ≤ g.segments)
 member-inside g [] all s is = absurd (true≢false (sym is))
-member-inside g (r ∷ ranges) all s is = elim (or-cases (r.segment == s) (is_member s (map (λ (l : RangeData). l.segment) ranges)) is) [
+member-inside g (r ∷ ranges) all s is = elim (or_cases (r.segment == s) (is_member s (map (λ (l : RangeData). l.segment) ranges)) is) [
   | inl here ↦ let inside : IsInside g r = All-head (IsInside g) r ranges all in let same : r.segment ≡ s = eqb-true r.segment s here in let first = inside.first in let last = inside.last in (omega (arith, same, first), omega (arith, same, last))
   | inr later ↦ member-inside g ranges (All-tail (IsInside g) r ranges all) s later
 ]
@@ -137,4 +130,4 @@ self-member [] = All-nil (λ (lock : Lock). is_member lock.segment [] ≡ true)
 self-member (l ∷ locks) =
     All-cons (λ (lock : Lock). is_member lock.segment (map (λ (m : Lock). m.segment) (l ∷ locks)) ≡ true) l locks
     (ap (λ b. b || is_member l.segment (map (λ (m : Lock). m.segment) locks)) (eq-eqb l.segment l.segment refl))
-    (λ k d less. or-right _ _ (self-member locks k d less))
+    (λ k d less. or_right _ _ (self-member locks k d less))

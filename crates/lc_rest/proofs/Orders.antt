@@ -1,26 +1,17 @@
 -- The records in the order of their turns.
-use Rattle.std.proofs.Common.{◌≡◌, ℕ, zero, suc, ◌+◌, ◌<◌, ◌≤◌, List, [], ◌∷◌, ◌++◌, length, take, drop, refl, sym, ◌∙◌, ap, subst, arith, inl, inr, add-one, append_assoc}
+use Rattle.std.proofs.Common.{◌≡◌, ℕ, zero, suc, ◌+◌, ◌<◌, ◌≤◌, List, [], ◌∷◌, ◌++◌, length, take, drop, refl, sym, ◌∙◌, ap, subst, arith, inl, inr, append_assoc}
 use Rattle.std.specs.Prelude.{slice_index_or}
 use Rattle.std.proofs.lemmas.Bool.{cases_lt}
-use Rattle.std.proofs.lemmas.List.{append-nil}
+use Rattle.std.proofs.lemmas.List.{append-nil, get_or_past}
 use Rattle.lc_record.specs.declared.record.Record.{Record}
 use Rattle.lc_rest.specs.Merge.{merged_after, record_at, times}
 use Rattle.lc_rest.proofs.Following.{times-front}
-use Rattle.lc_rest.proofs.Passes.{none-past}
 
 pub merged-more : (logs : List (List Record)) (before ns : List ℕ) (n : ℕ) → merged_after logs before (ns ++ n ∷ []) ≡ merged_after logs before ns ++ record_at logs n (times n (before ++ ns)) ∷ []
 merged-more logs before [] n = ap (λ (b : List ℕ). record_at logs n (times n b) ∷ []) (sym (append-nil before))
 merged-more logs before (k ∷ ns) n =
     ap (λ (rs : List Record). record_at logs k (times k before) ∷ rs) (merged-more logs (before ++ k ∷ []) ns n
     ∙ ap (λ (b : List ℕ). merged_after logs (before ++ k ∷ []) ns ++ record_at logs n (times n b) ∷ []) (append_assoc before (k ∷ []) ns))
-
-take-next : (order : List ℕ) (i d : ℕ) → i < length order → take (suc i) order ≡ take i order ++ slice_index_or order i d ∷ []
-take-next [] i d less = absurd (omega (arith, less))
-take-next (n ∷ order) zero d less = refl
-take-next (n ∷ order) (suc i) d less = ap (λ (l : List ℕ). n ∷ l) (take-next order i d (omega (arith, less)))
-
-pub take-more : (order : List ℕ) (i d : ℕ) → i < length order → take (i + 1) order ≡ take i order ++ slice_index_or order i d ∷ []
-take-more order i d less = ap (λ k. take k order) (add-one i) ∙ take-next order i d less
 
 split-at : (order : List ℕ) (i d : ℕ) → i < length order → order ≡ take i order ++ slice_index_or order i d ∷ drop (suc i) order
 split-at [] i d less = absurd (omega (arith, less))
@@ -36,7 +27,7 @@ turn-fits logs order i d less fits =
     let some : times n (take i order) < length (slice_index_or logs n []) = omega (arith, front, most) in (
       elim (cases_lt n (length logs)) [
         | inl within ↦ within
-        | inr past ↦ absurd (let none : length (slice_index_or logs n []) ≡ 0 = ap length (none-past logs n (omega (arith, past))) in omega (arith, some, none))
+        | inr past ↦ absurd (let none : length (slice_index_or logs n []) ≡ 0 = ap length (get_or_past logs n [] (omega (arith, past))) in omega (arith, some, none))
       ],
       some,
     )

@@ -1,17 +1,15 @@
 -- A cluster that passes the code's tests is tested.
-use Rattle.std.proofs.Common.{◌≡◌, ℕ, zero, suc, ◌+◌, ◌*◌, ◌<◌, ◌≤◌, true, ◌||◌, List, [], ◌∷◌, map, filter, length, replicate, take, All, refl, sym, ◌∙◌, ap, subst, arith, inl, inr, eq-eqb}
+use Rattle.std.proofs.Common.{◌≡◌, ℕ, zero, suc, ◌+◌, ◌*◌, ◌<◌, ◌≤◌, List, [], ◌∷◌, map, filter, length, replicate, take, All, refl, sym, ◌∙◌, ap, subst, arith, inl, inr}
 use Rattle.std.specs.Prelude.{Option, Some, None, nat_lt, slice_index_or}
 use Rattle.std.specs.Option.{unwrap_or}
 use Rattle.std.proofs.lemmas.Bool.{cases_lt}
-use Rattle.std.proofs.lemmas.List.{take_all}
-use Rattle.std.proofs.lemmas.List.Elements.{All-nil, All-cons}
+use Rattle.std.proofs.lemmas.List.{take_all, get_or_past}
 use Rattle.lc_log.specs.LogText.{IsWhole}
 use Rattle.lc_page.specs.Page.{page_in}
 use Rattle.lc_record.specs.Content.{segment_of}
 use Rattle.lc_record.specs.Marks.{counting}
 use Rattle.lc_record.specs.Newest.{number_or_zero}
 use Rattle.lc_record.specs.Part.{number_in}
-use Rattle.lc_record.specs.Transaction.{is_member}
 use Rattle.lc_record.specs.declared.record.Lock.{Lock}
 use Rattle.lc_record.specs.declared.record.Record.{Record}
 use Rattle.lc_trunc.specs.Clean.{HasByteOn}
@@ -32,11 +30,6 @@ use Rattle.lc_rest.proofs.OneRecord.{part-counted}
 use Rattle.lc_rest.proofs.Played.{number-counted, replayed-own}
 use Rattle.lc_rest.proofs.Tokens.{Least, Parts, all-turns, behind, known-lock, lock-number, number-lock, page-kept, stable-above, turned}
 
-pub none-past : (logs : List (List Record)) (n : ℕ) → length logs ≤ n → slice_index_or logs n [] ≡ []
-none-past [] n past = refl
-none-past (log ∷ logs) zero past = absurd (omega (arith, past))
-none-past (log ∷ logs) (suc n) past = none-past logs n (omega (arith, past))
-
 rows-within : (f : ℕ → List ℕ) (k from n : ℕ) → ((i : ℕ) → from ≤ i → i < from + n → length (f i) ≡ k) → map length (map f (counting from n)) ≡ replicate n k
 rows-within f k from zero each = refl
 rows-within f k from (suc n) each =
@@ -46,7 +39,7 @@ module _ (h : Read) (is : Passes h) where
   known_node : (node k : ℕ) → k < length (log_of h node) → node < length h.logs
   known_node node k less = elim (cases_lt node (length h.logs)) [
     | inl within ↦ within
-    | inr past ↦ absurd (let none : length (log_of h node) ≡ 0 = ap length (none-past h.logs node (omega (arith, past))) in omega (arith, less, none))
+    | inr past ↦ absurd (let none : length (log_of h node) ≡ 0 = ap length (get_or_past h.logs node [] (omega (arith, past))) in omega (arith, less, none))
   ]
 
   fits : (node : ℕ) → times node h.turns ≤ length (log_of h node)
@@ -58,7 +51,7 @@ module _ (h : Read) (is : Passes h) where
   reaches : (node : ℕ) → length (log_of h node) ≤ times node h.turns
   reaches node = elim (cases_lt node (length h.logs)) [
     | inl within ↦ (let all = is.all node within in omega (arith, all))
-    | inr past ↦ (let none : length (log_of h node) ≡ 0 = ap length (none-past h.logs node (omega (arith, past))) in omega (arith, none))
+    | inr past ↦ (let none : length (log_of h node) ≡ 0 = ap length (get_or_past h.logs node [] (omega (arith, past))) in omega (arith, none))
   ]
 
   each-turn : (P : Turn → Type 0) → ((node k : ℕ) → k < length (log_of h node) → P (record { whole = record_at h.logs node k; stable = nat_lt k (slice_index_or h.counts node 0) })) → All P (turns_of (λ node. slice_index_or h.counts node 0) [] (merged h))

@@ -1,8 +1,8 @@
 -- What a replay plays is what the records make of the pages.
-use Rattle.std.proofs.Common.{◌≡◌, ℕ, zero, suc, ◌+◌, ◌*◌, ◌≤◌, Bool, true, false, ◌==◌, List, [], ◌∷◌, ◌++◌, map, length, take, drop, All, refl, sym, ◌∙◌, ap, subst, arith, inl, inr, eqb-true}
+use Rattle.std.proofs.Common.{◌≡◌, ℕ, ◌+◌, ◌*◌, ◌≤◌, Bool, true, false, ◌==◌, List, [], ◌∷◌, ◌++◌, map, length, take, drop, All, refl, sym, ◌∙◌, ap, subst, arith, inl, inr, eqb-true}
 use Rattle.std.specs.Prelude.{if◌then◌else◌}
 use Rattle.std.proofs.lemmas.Bool.{eqb-false, cases_lt}
-use Rattle.std.proofs.lemmas.List.{drop-append-le, take-append-le, take_all, length-drop, length-append}
+use Rattle.std.proofs.lemmas.List.{drop-append-le, take-append-le, take_all, length-drop, length-append, take-append-drop}
 use Rattle.std.proofs.Math.Seq.{drop-append_seam}
 use Rattle.lc_page.specs.Page.{page_in}
 use Rattle.std.proofs.lemmas.List.Elements.{All-head, All-tail, All-take}
@@ -41,17 +41,12 @@ number-counted g segment (r ∷ rs) numbers taken =
     ap (λ (b : Bool). number_after segment rs (if b then numbers segment + 1 else numbers segment)) (sym (sets-lock g r segment (All-head (IsTaken g) r rs taken)))
     ∙ number-counted g segment rs (counted numbers (transaction_of g r)) (All-tail (IsTaken g) r rs taken)
 
-both-parts : {A : Type 0} (n : ℕ) (xs : List A) → take n xs ++ drop n xs ≡ xs
-both-parts zero xs = refl
-both-parts (suc n) [] = refl
-both-parts (suc n) (x ∷ xs) = ap (λ l. x ∷ l) (both-parts n xs)
-
 pub replayed-own : (g : Geometry) (rs : List Record) (numbers : ℕ → ℕ) (base : Content) (segment page : ℕ) (text : Page) → All (IsTaken g) rs → IsPlayed segment (numbers segment) rs (segment_of segment base) page (as_read text)
     → IsReplayed g rs numbers base segment page text
 replayed-own g rs numbers base segment page text taken is = record {
   before = take is.turns rs;
   behind = drop is.turns rs;
-  parts = sym (both-parts is.turns rs);
+  parts = sym (take-append-drop is.turns rs);
   count = sym (number-counted g segment (take is.turns rs) numbers (All-take (IsTaken g) is.turns rs taken)) ∙ is.count;
   bytes = is.bytes ∙ ap (part_at page) (bytes-put segment (take is.turns rs) base);
 }

@@ -1,5 +1,5 @@
 -- One range, one record, one page more of a replay.
-use Rattle.std.proofs.Common.{rules, ◌≡◌, ◌≢◌, ◌⊎◌, ℕ, zero, suc, ◌+◌, ◌<◌, ◌≤◌, Bool, true, false, ◌==◌, ◌||◌, List, [], ◌∷◌, map, length, take, refl, sym, ◌∙◌, ap, subst, arith, inl, inr, add-one}
+use Rattle.std.proofs.Common.{rules, ◌≡◌, ◌≢◌, ◌⊎◌, ℕ, zero, suc, ◌+◌, ◌<◌, ◌≤◌, Bool, true, false, ◌==◌, ◌||◌, List, [], ◌∷◌, map, length, take, refl, sym, ◌∙◌, ap, subst, arith, inl, inr, add-one, below_more}
 use Rattle.std.proofs.lemmas.Bool.{leb-true, leb-false}
 use Rattle.std.specs.Prelude.{Option, Some, None, max, min, nat_le, slice_index_or, if◌then◌else◌}
 use Rattle.lc_page.specs.Page.{page_in}
@@ -49,7 +49,7 @@ pub number-more : (segment : ℕ) (rs : List Record) (now number i : ℕ) (d : R
     → (if has_lock segment (slice_index_or rs i d) then now + 1 else now) ≡ number_after segment (take (i + 1) rs) number
 number-more segment rs now number i d less is = ap (number_on segment (slice_index_or rs i d)) is ∙ number-next segment rs number i d less ∙ ap (λ n. number_after segment (take n rs) number) (sym (add-one i))
 
-on-rises : (b : Bool) (n : ℕ) → n ≤ (if b then n + 1 else n)
+pub on-rises : (b : Bool) (n : ℕ) → n ≤ (if b then n + 1 else n)
 on-rises true n = omega arith
 on-rises false n = omega arith
 
@@ -81,20 +81,8 @@ length-laid segment (range ∷ ranges) bytes = length-laid segment ranges (range
 
 -- Pages
 
-abbrev Pages : ℕ → (ℕ → Type 0) → Type 0
-Pages pages P = (page : ℕ) → page < pages → P page
-
-one-more : (P : ℕ → Type 0) (n : ℕ) → Pages n P → P n → Pages (n + 1) P
-one-more P n all last page less = elim (split page n (omega (arith, less))) [
-  | inl before ↦ all page before
-  | inr same ↦ subst P (sym same) last
-]
-  where
-    split : (i n : ℕ) → i ≤ n → (i < n) ⊎ (i ≡ n)
-    split i n most = search (rules, arith)
-
 pub met-more : (area : List ℕ) (page number : ℕ) (bytes : List ℕ) → AreMet area page number bytes → ((page_in area page).sequence ≡ number → (page_in area page).content ≡ part_at page bytes) → AreMet area (page + 1) number bytes
-met-more area page number bytes are last = one-more (λ p. (page_in area p).sequence ≡ number → (page_in area p).content ≡ part_at p bytes) page are last
+met-more area page number bytes are last = below_more (λ p. (page_in area p).sequence ≡ number → (page_in area p).content ≡ part_at p bytes) page are last
 
 -- The least sequence above a number
 
@@ -104,27 +92,27 @@ HasSequence area pages seq = (page : ℕ) × (page < pages) × ((page_in area pa
 one-wider : (area : List ℕ) (pages seq : ℕ) → HasSequence area pages seq → HasSequence area (pages + 1) seq
 one-wider area pages seq its = (let less = its.1 in (its.0, omega (arith, less), its.2))
 
-min-cases : (a b : ℕ) → (min a b ≡ a) ⊎ (min a b ≡ b)
+pub min-cases : (a b : ℕ) → (min a b ≡ a) ⊎ (min a b ≡ b)
 min-cases a b = grind arith
 
 due-one : (area : List ℕ) (page number : ℕ) (due : Option ℕ) → IsDue area page number due → IsDue area (page + 1) number (lesser due number (page_in area page).sequence)
 due-one area page number None are = elim (nat_le (page_in area page).sequence number) as (λ b. nat_le (page_in area page).sequence number ≡ b → IsDue area (page + 1) number (if b then None else Some (page_in area page).sequence)) [
-  | true ↦ λ e. one-more (λ p. (page_in area p).sequence ≤ number) page are (leb-true (page_in area page).sequence number e)
+  | true ↦ λ e. below_more (λ p. (page_in area p).sequence ≤ number) page are (leb-true (page_in area page).sequence number e)
   | false ↦ λ e. (
     above e,
     (page, omega arith, refl),
-    one-more (λ p. number < (page_in area p).sequence → (page_in area page).sequence ≤ (page_in area p).sequence) page (λ p less over. absurd (let most = are p less in omega (arith, most, over))) (λ over. omega arith),
+    below_more (λ p. number < (page_in area p).sequence → (page_in area page).sequence ≤ (page_in area p).sequence) page (λ p less over. absurd (let most = are p less in omega (arith, most, over))) (λ over. omega arith),
   )
 ] refl
   where
     above : nat_le (page_in area page).sequence number ≡ false → number < (page_in area page).sequence
     above e = leb-false (page_in area page).sequence number e
 due-one area page number (Some least) are = elim (nat_le (page_in area page).sequence number) as (λ b. nat_le (page_in area page).sequence number ≡ b → IsDue area (page + 1) number (if b then Some least else Some (min least (page_in area page).sequence))) [
-  | true ↦ λ e. (are.0, one-wider area page least are.1, one-more (λ p. number < (page_in area p).sequence → least ≤ (page_in area p).sequence) page are.2 (λ over. absurd (let most = leb-true (page_in area page).sequence number e in omega (arith, most, over))))
+  | true ↦ λ e. (are.0, one-wider area page least are.1, below_more (λ p. number < (page_in area p).sequence → least ≤ (page_in area p).sequence) page are.2 (λ over. absurd (let most = leb-true (page_in area page).sequence number e in omega (arith, most, over))))
   | false ↦ λ e. (let over = leb-false (page_in area page).sequence number e in let first = are.0 in (
     grind (arith, over, first),
     found,
-    one-more (λ p. number < (page_in area p).sequence → min least (page_in area page).sequence ≤ (page_in area p).sequence) page (λ p less above. let its = are.2 p less above in grind (arith, its)) (λ above. grind arith),
+    below_more (λ p. number < (page_in area p).sequence → min least (page_in area page).sequence ≤ (page_in area p).sequence) page (λ p less above. let its = are.2 p less above in grind (arith, its)) (λ above. grind arith),
   ))
 ] refl
   where

@@ -1,5 +1,6 @@
 -- The transaction that a record stands for is proper, and its record is that record.
 use Rattle.std.proofs.Common.{◌≡◌, ℕ, zero, suc, ◌+◌, ◌<◌, ◌≤◌, Bool, true, false, ◌||◌, ◌==◌, List, [], ◌∷◌, map, length, All, replicate, refl, sym, ◌∙◌, ap, subst, arith, inl, inr, true≢false, eq-eqb, ne_eqb}
+use Rattle.std.proofs.lemmas.Bool.{or_right}
 use Rattle.std.specs.Prelude.{IsTrue, is_some}
 use Rattle.std.specs.List.{AllByRecursion}
 use Rattle.std.proofs.lemmas.List.{length-map}
@@ -26,7 +27,7 @@ use Rattle.lc_tx.proofs.StandsLemmas.{each-set}
 use Rattle.lc_tx.specs.Prepared.{segments_of}
 use Rattle.lc_rest.specs.Adopted.{marks_of, write_of, transaction_of, IsInside, IsTaken, IsNext, Follow}
 use Rattle.lc_rest.proofs.OneRecord.{run_of, writes-laid, runs-canonical, marks-has, data-own, shows-all, Fits}
-use Rattle.lc_rest.proofs.OneLock.{locks-segments, locks-next, member-lock, lock-member, write-member, member-write, member-inside, or-right}
+use Rattle.lc_rest.proofs.OneLock.{locks-segments, locks-next, member-lock, lock-member, write-member, member-write, member-inside}
 
 pub some-bytes : (ranges : List RangeData) → AllByRecursion IsRange ranges → All (λ (r : RangeData). 1 ≤ length r.bytes) ranges
 some-bytes [] all = All-nil (λ (r : RangeData). 1 ≤ length r.bytes)
@@ -97,7 +98,7 @@ pub has-writes : (ranges : List RangeData) (segment place : ℕ) → Has (map ru
 has-writes [] segment place has = absurd has
 has-writes (r ∷ ranges) segment place has = elim has [
   | inl here ↦ ap (λ b. b || is_member segment (map (λ (l : RangeData). l.segment) ranges)) (eq-eqb r.segment segment (sym here.0))
-  | inr later ↦ or-right (r.segment == segment) (is_member segment (map (λ (l : RangeData). l.segment) ranges)) (has-writes ranges segment place later)
+  | inr later ↦ or_right (r.segment == segment) (is_member segment (map (λ (l : RangeData). l.segment) ranges)) (has-writes ranges segment place later)
 ]
 
 pub range-locks : (r : Record) → IsCanonical r → (segment : ℕ) → is_member segment (map (λ (l : RangeData). l.segment) r.ranges) ≡ true → is_member segment (locked r) ≡ true
@@ -122,7 +123,7 @@ range-locked r canonical [] among = All-nil (λ (w : Written). IsTrue (is_member
 range-locked r canonical (a ∷ ranges) among =
     All-cons (λ (w : Written). IsTrue (is_member w.segment (locked r))) (write_of a) (map write_of ranges)
     (range-locks r canonical a.segment (among a.segment (ap (λ b. b || is_member a.segment (map (λ (l : RangeData). l.segment) ranges)) (eq-eqb a.segment a.segment refl))))
-    (range-locked r canonical ranges (λ s is. among s (or-right (a.segment == s) (is_member s (map (λ (l : RangeData). l.segment) ranges)) is)))
+    (range-locked r canonical ranges (λ s is. among s (or_right (a.segment == s) (is_member s (map (λ (l : RangeData). l.segment) ranges)) is)))
 
 pub well-own : (g : Geometry) (r : Record) → IsTaken g r → IsWellFormed (transaction_of g r)
 well-own g r taken = record {

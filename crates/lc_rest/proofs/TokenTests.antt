@@ -1,7 +1,6 @@
 -- One item more of a test.
-use Rattle.std.proofs.Common.{rules, ◌≡◌, ◌⊎◌, ℕ, zero, suc, ◌+◌, ◌<◌, ◌≤◌, Bool, true, false, ◌==◌, List, [], ◌∷◌, length, take, All, refl, sym, ◌∙◌, ap, subst, arith, inl, inr, add-one}
+use Rattle.std.proofs.Common.{◌≡◌, ℕ, zero, suc, ◌+◌, ◌<◌, ◌≤◌, Bool, true, false, ◌==◌, List, [], ◌∷◌, length, take, refl, sym, ◌∙◌, ap, arith, add-one}
 use Rattle.std.specs.Prelude.{Option, Some, None, slice_index_or, if◌then◌else◌}
-use Rattle.std.proofs.lemmas.List.Elements.{All-nil, All-cons, All-head, All-tail}
 use Rattle.std.specs.Global.{Vec}
 use Rattle.std.proofs.lemmas.List.{get_or-map}
 use Rattle.lc_record.specs.declared.record.Record.{Record}
@@ -9,24 +8,6 @@ use Rattle.lc_rest.specs.Merge.{logs_of}
 use Rattle.lc_rest.specs.TokenTest.{count_log, count_on}
 use Rattle.lc_record.specs.Part.{number_in}
 use Rattle.lc_record.specs.declared.record.Lock.{Lock}
-
-all-next : {X : Type 0} (P : X → Type 0) (xs : List X) (i : ℕ) (d : X) → i < length xs → All P (take i xs) → P (slice_index_or xs i d) → All P (take (suc i) xs)
-all-next P [] i d less are one = absurd (omega (arith, less))
-all-next P (x ∷ xs) zero d less are one = All-cons P x [] one (All-nil P)
-all-next P (x ∷ xs) (suc i) d less are one = All-cons P x (take (suc i) xs) (All-head P x (take i xs) are) (all-next P xs i d (omega (arith, less)) (All-tail P x (take i xs) are) one)
-
--- one more passes
-pub all-more : {X : Type 0} (P : X → Type 0) (xs : List X) (i : ℕ) (d : X) → i < length xs → All P (take i xs) → P (slice_index_or xs i d) → All P (take (i + 1) xs)
-all-more P xs i d less are one = subst (λ n. All P (take n xs)) (sym (add-one i)) (all-next P xs i d less are one)
-
-pub one-more : (P : ℕ → Type 0) (n : ℕ) → ((k : ℕ) → k < n → P k) → P n → (k : ℕ) → k < n + 1 → P k
-one-more P n all last k less = elim (split k n (omega (arith, less))) [
-  | inl before ↦ all k before
-  | inr same ↦ subst P (sym same) last
-]
-  where
-    split : (i n : ℕ) → i ≤ n → (i < n) ⊎ (i ≡ n)
-    split i n most = search (rules, arith)
 
 -- the number under a lock that is found
 abbrev or_number : Bool → ℕ → Option ℕ → Option ℕ

@@ -1,5 +1,6 @@
 -- What the tests of the tokens say of the records in the order in which they merge.
 use Rattle.std.proofs.Common.{◌≡◌, ℕ, ◌+◌, ◌*◌, ◌<◌, ◌≤◌, Bool, true, false, ◌&&◌, ◌||◌, ◌==◌, List, [], ◌∷◌, ◌++◌, map, filter, length, All, refl, sym, ◌∙◌, ap, subst, arith, inl, inr, true≢false, eqb-true, append_assoc, length-append}
+use Rattle.lc_rest.proofs.Replays.{on-rises}
 use Rattle.std.specs.Prelude.{Some, nat_lt, slice_index_or, if◌then◌else◌}
 use Rattle.std.proofs.lemmas.List.Elements.{All-nil, All-cons, All-head, All-tail, filter-append}
 use Rattle.lc_range.specs.RangeSet.{Has}
@@ -95,10 +96,6 @@ next-number numbers segment (lock ∷ locks) n next is = go (lock.segment == seg
 counted-lock : (g : Geometry) (r : Record) (numbers : ℕ → ℕ) (segment : ℕ) → IsTaken g r → counted numbers (transaction_of g r) segment ≡ (if has_lock segment r then numbers segment + 1 else numbers segment)
 counted-lock g r numbers segment taken = ap (λ (b : Bool). if b then numbers segment + 1 else numbers segment) (sets-lock g r segment taken)
 
-least-counted : (b : Bool) (n : ℕ) → n ≤ (if b then n + 1 else n)
-least-counted true n = omega arith
-least-counted false n = omega arith
-
 -- the segment's numbers in these records are above
 abbrev IsAbove : ℕ → ℕ → Record → Type 0
 IsAbove segment number r = (n : ℕ) → number_in segment r.locks ≡ Some n → number < n
@@ -108,7 +105,7 @@ above-all g [] numbers segment number taken follow most = All-nil (IsAbove segme
 above-all g (r ∷ rs) numbers segment number taken follow most =
     All-cons (IsAbove segment number) r rs (λ n is. (let own = next-number numbers segment r.locks n follow.0 is in omega (arith, own, most)))
     (above-all g rs (counted numbers (transaction_of g r)) segment number (All-tail (IsTaken g) r rs taken) follow.1
-    (let one = counted-lock g r numbers segment (All-head (IsTaken g) r rs taken) in let two = least-counted (has_lock segment r) (numbers segment) in omega (arith, one, two, most)))
+    (let one = counted-lock g r numbers segment (All-head (IsTaken g) r rs taken) in let two = on-rises (has_lock segment r) (numbers segment) in omega (arith, one, two, most)))
 
 -- Stable and not
 

@@ -1,24 +1,12 @@
 -- What a replay that fails shows, and what one that holds is.
 use Rattle.std.proofs.Common.{◌≡◌, ℕ, ◌+◌, ◌<◌, ◌≤◌, true, false, List, take, refl, sym, ◌∙◌, ap, arith, inl, inr, eq-eqb, eqb, true≢false}
-use Rattle.std.specs.Prelude.{Option, Some, None, is_some, max}
+use Rattle.std.specs.Prelude.{Option, Some, None, is_some}
 use Rattle.std.specs.Option.{option_eq}
 use Rattle.std.proofs.lemmas.Bool.{cases_lt}
 use Rattle.lc_page.specs.Page.{Page, page_in}
 use Rattle.lc_record.specs.declared.record.Record.{Record}
-use Rattle.lc_rest.specs.Replay.{AreBytes, IsDue, IsPlayed, IsReplay, IsUnmet, bytes_after, number_after, part_at}
+use Rattle.lc_rest.specs.Replay.{IsDue, IsPlayed, IsReplay, IsUnmet, bytes_after, number_after, part_at}
 use Rattle.lc_rest.proofs.Replays.{number-grows, number-most}
-
--- before the first record each page up to the first number is played
-pub played-first : (segment first : ℕ) (rs : List Record) (start area : List ℕ) (pages page : ℕ) → AreBytes area pages start → page < pages → (page_in area page).sequence ≤ first → IsPlayed segment first rs start page (page_in area page)
-played-first segment first rs start area pages page are less old = record {
-  turns = 0;
-  count = greatest first (page_in area page).sequence old;
-  fewest = λ fewer few. absurd (omega (arith, few));
-  bytes = sym (are.each page less);
-}
-  where
-    greatest : (a b : ℕ) → b ≤ a → a ≡ max a b
-    greatest a b old = grind arith
 
 -- a page that is not as it should be when the number comes to its sequence is not played
 unplayed : (segment first : ℕ) (rs : List Record) (start : List ℕ) (page number i : ℕ) (now : List ℕ) (text : Page) → first ≤ number
@@ -59,13 +47,6 @@ unmet-unplayed segment first rs start area pages number later i now next least w
 
 -- The end
 
-pub replay-holds : (segment first last : ℕ) (rs : List Record) (start area : List ℕ) (pages number : ℕ) → number ≡ number_after segment rs first → IsDue area pages number None
-    → ((page : ℕ) → page < pages → (page_in area page).sequence ≤ number → IsPlayed segment first rs start page (page_in area page)) → number ≡ last → IsReplay segment first last rs start area pages
-replay-holds segment first last rs start area pages number is due all same = record {
-  played = λ page less. all page less (due page less);
-  ends = sym is ∙ same;
-}
-
 played-within : (segment first : ℕ) (rs : List Record) (start : List ℕ) (page : ℕ) (text : Page) → IsPlayed segment first rs start page text → text.sequence ≤ number_after segment rs first
 played-within segment first rs start page text played = (let count = played.count in let most = number-most segment rs first played.turns in omega (arith, count, most))
 
@@ -86,6 +67,3 @@ due-other due number differs is = true≢false (sym (eq-eqb number number refl) 
 
 pub replay-unplayed : (segment first last : ℕ) (rs : List Record) (start area : List ℕ) (pages : ℕ) → IsUnplayed segment first rs start area pages → IsReplay segment first last rs start area pages → ⊥
 replay-unplayed segment first last rs start area pages un replay = un.not (replay.played un.page un.known)
-
-pub replay-within : (segment first last : ℕ) (rs : List Record) (start area : List ℕ) (pages : ℕ) → IsReplay segment first last rs start area pages → (page : ℕ) → page < pages → (page_in area page).sequence ≤ last
-replay-within segment first last rs start area pages replay page less = (let within = played-within segment first rs start page (page_in area page) (replay.played page less) in let ends = replay.ends in omega (arith, within, ends))

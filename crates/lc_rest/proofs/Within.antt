@@ -21,16 +21,10 @@ use Rattle.lc_model.proofs.Shown.{get-acked}
 use Rattle.lc_rest.specs.Adopted.{transaction_of, marks_of, history_of, state_of, disks_of, count_from, IsTaken}
 use Rattle.lc_rest.specs.Turns.{Turn, turns_of, has_lock, stable_on}
 use Rattle.lc_rest.proofs.OneRecord.{run_of, marks-has}
-use Rattle.lc_rest.proofs.OneLock.{member-lock}
+use Rattle.lc_rest.proofs.OneLock.{member-lock, same-bool}
 use Rattle.lc_rest.proofs.Standing.{transactions_of, has-writes, range-locks, some-bytes}
 use Rattle.lc_rest.proofs.SoundState.{transactions-are}
 use Rattle.lc_rest.proofs.Turned.{count-same}
-
-same-bool : (a b : Bool) → (a ≡ true → b ≡ true) → (b ≡ true → a ≡ true) → a ≡ b
-same-bool true true one two = refl
-same-bool true false one two = sym (one refl)
-same-bool false true one two = two refl
-same-bool false false one two = refl
 
 -- a range of the segment has a place
 written-place : (ranges : List RangeData) (segment : ℕ) → All (λ (r : RangeData). 1 ≤ length r.bytes) ranges → Writes segment ranges → (place : ℕ) × Has (map run_of ranges) segment place

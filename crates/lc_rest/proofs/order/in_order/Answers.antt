@@ -1,11 +1,11 @@
 use Rattle.std.proofs.Common.{rules, ◌≡◌, ◌+◌, ◌<◌, [], ◌∷◌, ◌++◌, List, length, map, take, sym, ◌∙◌, ap, subst, arith, Bor, length-set}
 use Rattle.std.specs.Prelude.{slice_index_or, slice_set}
 use Rattle.std.specs.Global.{Vec}
-use Rattle.std.proofs.lemmas.List.{length-map, map-append, get_or_default}
+use Rattle.std.proofs.lemmas.List.{length-map, map-append, get_or_default, take_more}
 use Rattle.lc_record.specs.declared.record.Record.{Record}
 use Rattle.lc_rest.specs.Merge.{AreDone, logs_of, merged_after, record_at, times}
 use Rattle.lc_rest.proofs.Merges.{done-more, found-record}
-use Rattle.lc_rest.proofs.Orders.{merged-more, take-more, turn-fits}
+use Rattle.lc_rest.proofs.Orders.{merged-more, turn-fits}
 use Rattle.lc_rest.proofs.TokenTests.{log-items}
 use Rattle.lc_rest.proofs.order.in_order.Goals as goal
 
@@ -78,7 +78,7 @@ loop-node-preserved c =
     c.index_mut.ensures.value ∙ get_or_default c.loop-node.done.items n c.index_mut.result.now 0 (subst (λ k. n < k) (sym c.loop-node.invariant.0) within) in
     let own = (c.loop-node.invariant.1 n turn.0).0 in
     let some : slice_index_or c.loop-node.done.items n 0 < length (slice_index_or logs n []) = subst (λ k. k < length (slice_index_or logs n [])) (sym own) turn.1 in
-    let more : take (i + 1) order ≡ take i order ++ n ∷ [] = take-more order i 0 c.loop-node-test.true in
+    let more : take (i + 1) order ≡ take i order ++ n ∷ [] = take_more order i 0 c.loop-node-test.true in
     let done : AreDone logs (slice_set c.loop-node.done.items n (slice_index_or c.loop-node.done.items n 0 + 1)) (take i order ++ n ∷ []) =
     done-more logs c.loop-node.done.items (take i order) n (c.loop-node.invariant.0 ∙ sym (length-map c.args.logs.now (λ (log : Vec Record). log.items))) turn.0 some c.loop-node.invariant.1 in
     let record_is : c.index-in-loop-node.result.now ≡ record_at logs n (times n (take i order)) =
