@@ -1,5 +1,5 @@
 //! The tests of a segment's images.
-ghost use Rattle.std.specs.Prelude.{◌≡◌, ◌↔◌, true, map};
+ghost use Rattle.std.specs.Prelude.{◌≡◌, ◌↔◌, IsTrue, map};
 ghost use Rattle.lc_rest.specs.Replay.{above_on, bytes_above};
 
 use crate::replay::lay_on;
@@ -15,8 +15,8 @@ fn lay_above(segment: u32, applied: u64, whole: &Record, image: &mut [u8])
     }
 }
 
-/// Whether a node's image, with the records above what it has applied put on, is what all records make of the pages. The image is
-/// changed. It takes no memory.
+/// Whether a node's image, with the records above what it has applied put on, is the bytes that all records make of the pages.
+/// The image is then with these put on, whatever the answer. It takes no memory. This project's own.
 pub fn comes_up(
     segment: u32,
     applied: u64,
@@ -24,7 +24,8 @@ pub fn comes_up(
     image: &mut [u8],
     bytes: &[u8],
 ) -> bool
-    ensures { (result ≡ true) ↔ (bytes_above segment applied (map (λ r. r.now) records.now) image.old ≡ bytes.now) }
+    ensures image { image.new ≡ bytes_above segment applied (map (λ r. r.now) records.now) image.old }
+    ensures comes { IsTrue result ↔ (bytes_above segment applied (map (λ r. r.now) records.now) image.old ≡ bytes.now) }
 {
     for whole in records {
         lay_above(segment, applied, whole, image);

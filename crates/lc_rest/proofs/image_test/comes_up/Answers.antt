@@ -16,8 +16,14 @@ loop-whole-preserved c =
     c.lay_above.ensures ∙ ap (λ (r : Record). above_on c.args.segment c.args.applied r c.loop-whole.image) item
     ∙ above-more c.args.segment c.args.applied rs c.loop-whole.image c.args.image.now i d less c.loop-whole.invariant
 
-pub returns : goal.returns
-returns c =
+pub returns-clause-image : goal.returns-clause-image
+returns-clause-image c =
+    let rs : List Record = map (λ (r : Bor Record). r.now) c.args.records.now in
+    let done : length rs ≤ c.loop-whole.whole-index = subst (λ k. k ≤ c.loop-whole.whole-index) (sym (length-map c.args.records.now (λ (r : Bor Record). r.now))) c.loop-whole-test.false in
+    c.loop-whole.invariant ∙ ap (λ (l : List Record). bytes_above c.args.segment c.args.applied l c.args.image.now) (take_all c.loop-whole.whole-index rs done)
+
+pub returns-clause-comes : goal.returns-clause-comes
+returns-clause-comes c =
     let rs : List Record = map (λ (r : Bor Record). r.now) c.args.records.now in
     let done : length rs ≤ c.loop-whole.whole-index = subst (λ k. k ≤ c.loop-whole.whole-index) (sym (length-map c.args.records.now (λ (r : Bor Record). r.now))) c.loop-whole-test.false in
     let all : c.loop-whole.image ≡ bytes_above c.args.segment c.args.applied rs c.args.image.now =
