@@ -1,6 +1,7 @@
 -- One range, one record, one page more of a replay.
 use Rattle.std.proofs.Common.{rules, ◌≡◌, ◌≢◌, ◌⊎◌, ℕ, zero, suc, ◌+◌, ◌<◌, ◌≤◌, Bool, true, false, ◌==◌, ◌||◌, List, [], ◌∷◌, map, length, take, refl, sym, ◌∙◌, ap, subst, arith, inl, inr, add-one, below_more}
 use Rattle.std.proofs.lemmas.Bool.{leb-true, leb-false}
+use Rattle.std.specs.List.{list_any}
 use Rattle.std.specs.Prelude.{Option, Some, None, max, min, nat_le, slice_index_or, if◌then◌else◌}
 use Rattle.lc_page.specs.Page.{page_in}
 use Rattle.lc_record.specs.Content.{put}
@@ -125,25 +126,11 @@ due-one area page number (Some least) are = elim (nat_le (page_in area page).seq
 pub due-more : (area : List ℕ) (page number seq : ℕ) (due : Option ℕ) → seq ≡ (page_in area page).sequence → IsDue area page number due → IsDue area (page + 1) number (lesser due number seq)
 due-more area page number seq due is are = subst (λ s. IsDue area (page + 1) number (lesser due number s)) (sym is) (due-one area page number due are)
 
--- One lock more
+-- Locks
 
-member-next : (n : ℕ) (locks : List Lock) (i : ℕ) (d : Lock) → i < length locks
-    → is_member n (map (λ (x : Lock). x.segment) (take (suc i) locks)) ≡ (is_member n (map (λ (x : Lock). x.segment) (take i locks)) || ((slice_index_or locks i d).segment == n))
-member-next n [] i d less = absurd (omega (arith, less))
-member-next n (lock ∷ locks) zero d less = or-none (lock.segment == n)
-  where
-    or-none : (b : Bool) → (b || false) ≡ b
-    or-none true = refl
-    or-none false = refl
-member-next n (lock ∷ locks) (suc i) d less = ap (λ b. (lock.segment == n) || b) (member-next n locks i d (omega (arith, less))) ∙ or-left (lock.segment == n) (is_member n (map (λ (x : Lock). x.segment) (take i locks))) ((slice_index_or locks i d).segment == n)
-  where
-    or-left : (a b c : Bool) → (a || (b || c)) ≡ ((a || b) || c)
-    or-left true b c = refl
-    or-left false b c = refl
-
-pub member-more : (n : ℕ) (locks : List Lock) (found : Bool) (i : ℕ) (d : Lock) → i < length locks → found ≡ is_member n (map (λ (x : Lock). x.segment) (take i locks))
-    → (found || ((slice_index_or locks i d).segment == n)) ≡ is_member n (map (λ (x : Lock). x.segment) (take (i + 1) locks))
-member-more n locks found i d less is = ap (λ b. b || ((slice_index_or locks i d).segment == n)) is ∙ sym (member-next n locks i d less) ∙ ap (λ k. is_member n (map (λ (x : Lock). x.segment) (take k locks))) (sym (add-one i))
+pub member-any : (n : ℕ) (locks : List Lock) → is_member n (map (λ (lock : Lock). lock.segment) locks) ≡ list_any (λ (lock : Lock). lock.segment == n) locks
+member-any n [] = refl
+member-any n (lock ∷ locks) = ap (λ b. (lock.segment == n) || b) (member-any n locks)
 
 -- One record more, of each page that has come to its moment
 

@@ -1,4 +1,4 @@
--- What the tests of an adoption find, each by one pass over the records, the pages and the tokens.
+-- What the tests of a cluster at rest find, each by one pass over the records, the pages and the tokens.
 use Rattle.std.specs.Prelude.{◌≡◌, ℕ, ◌+◌, ◌^◌, ◌<◌, ◌≤◌, map, length, filter, replicate, take, [], All}
 use Rattle.lc_log.specs.LogText.{IsWhole}
 use Rattle.lc_record.specs.Geometry.{segment_len}

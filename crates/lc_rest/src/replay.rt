@@ -1,12 +1,13 @@
 //! The replay of a segment: all records, in their order, on the bytes that its pages hold, each page at its moment.
-ghost use Rattle.std.specs.Prelude.{◌≡◌, ◌↔◌, ◌+◌, ◌*◌, ◌<◌, ◌≤◌, ◌^◌, ℕ, IsTrue, false, length, map};
+ghost use Rattle.std.specs.List.{list_any};
+ghost use Rattle.std.specs.Prelude.{◌≡◌, ◌↔◌, ◌==◌, ◌+◌, ◌*◌, ◌<◌, ◌≤◌, ◌^◌, ℕ, IsTrue, false, length, map};
 ghost use Rattle.lc_page.specs.Page.{page_in};
 ghost use Rattle.lc_record.specs.Content.{put};
 ghost use Rattle.lc_rest.specs.Turns.{has_lock};
 ghost use Rattle.lc_rest.specs.Replay.{AreBytes, AreMet, IsDue, IsReplay, IsUnmet, bytes_after, laid_on, lesser, part_at, range_on};
 
 use lc_page::{PAGE_BYTES, page_bytes, read_page};
-use lc_record::{RangeData, Record};
+use lc_record::{Lock, RangeData, Record};
 
 // Lays bytes over others from an offset on, as far as these reach.
 fn lay(image: &mut [u8], offset: u32, bytes: &[u8])
@@ -35,15 +36,18 @@ pub(crate) fn lay_on(segment: u32, whole: &Record, bytes: &mut [u8])
     }
 }
 
+// Whether one of the locks is on the segment.
+fn is_locked(segment: u32, locks: &[Lock]) -> bool
+    ensures { result ≡ list_any (λ lock. lock.segment == segment) locks.now }
+{
+    locks.iter().any(|lock| lock.segment == segment)
+}
+
 /// Whether the record has a lock on the segment.
 pub(crate) fn has_lock(segment: u32, whole: &Record) -> bool
     ensures { result ≡ has_lock segment whole.now }
 {
-    let mut found = false;
-    for lock in whole.locks.as_slice() {
-        found = found || lock.segment == segment;
-    }
-    found
+    is_locked(segment, whole.locks.as_slice())
 }
 
 // The lesser of a sequence above a number and one that was found.
