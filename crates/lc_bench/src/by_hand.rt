@@ -1,8 +1,11 @@
 //! Transactions by hand, as a careful programmer would do them without a store.
-use crate::harness::Work;
+use crate::harness::{Work, ended};
 use crate::measurement::{DATA, End, Measurement, Transaction, WORDS};
+use crate::rounds::Round;
 use std::alloc::{AllocError, Global};
 use std::io;
+use std::rt::Clock;
+use std::time::Instant;
 
 // The first word of a record.
 const MARK: u64 = 0xa5;
@@ -34,7 +37,7 @@ impl ByHand {
     ) -> Result<ByHand, AllocError> {
         Ok(ByHand {
             measurement,
-            transactions: measurement.transactions(alloc)?,
+            transactions: measurement.transactions(alloc, 0, 1, measurement.count)?,
             segment: Segment {
                 bytes: vec![in alloc; 0; measurement.segment_bytes() as usize]?,
                 old: Vec::new(alloc),
@@ -46,31 +49,35 @@ impl ByHand {
     }
 }
 
-impl Work for ByHand {
-    fn ready(&mut self) -> io::Result<()> {
+impl<R: Clock> Work<R> for ByHand {
+    fn round(&mut self, rt: &R) -> io::Result<Round> {
         self.segment.log.clear();
         self.segment.flushed.clear();
-        Ok(())
-    }
-
-    fn run(&mut self) -> io::Result<u64> {
+        let start = Instant::now(rt)?;
         let mut seen = 0u64;
         for transaction in self.transactions.as_slice() {
-            self.segment.write(transaction.offsets.as_slice())?;
-            match self.measurement.end {
-                End::Commit => self.segment.append(transaction)?,
-                End::Abort => self.segment.restore(transaction.offsets.as_slice()),
-            }
-            if transaction.is_flushed {
-                self.segment.flush()?;
-            }
+            self.segment.transact(transaction, &self.measurement.end)?;
             seen = seen.wrapping_add(self.segment.log.len() as u64);
         }
-        Ok(seen.wrapping_add(self.segment.log.last().copied().unwrap_or(0)))
+        let last = self.segment.log.last().copied().unwrap_or(0);
+        ended(rt, start, seen.wrapping_add(last))
     }
 }
 
 impl Segment {
+    // A transaction, and the flush behind it.
+    fn transact(&mut self, transaction: &Transaction, end: &End) -> Result<(), AllocError> {
+        self.write(transaction.offsets.as_slice())?;
+        match end {
+            End::Commit => self.append(transaction)?,
+            End::Abort => self.restore(transaction.offsets.as_slice()),
+        }
+        if transaction.is_flushed {
+            self.flush()?;
+        }
+        Ok(())
+    }
+
     // Writes each range, and keeps the old bytes.
     fn write(&mut self, offsets: &[u32]) -> Result<(), AllocError> {
         self.old.clear();

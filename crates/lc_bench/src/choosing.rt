@@ -1,10 +1,8 @@
 //! Which measurements are made.
-use crate::by_hand::ByHand;
 use crate::measurement::{Measurement, Subject};
 use crate::measurements::ALL;
-use crate::rounds::{Found, Rounds};
-use crate::transactions::Transactions;
-use crate::{clusters, files, growth, harness, memory, running, staging};
+use crate::rounds::Found;
+use crate::{clusters, files, growth, memory, running, staging};
 use lc_disk::HeldFile;
 use std::io;
 use std::rt::{Clock, Files};
@@ -72,27 +70,17 @@ where
     R::File: HeldFile + Send,
 {
     let rounds = match measurement.subject {
-        Subject::Image => on_image(rt, measurement)?,
-        Subject::Memory => memory::measure(rt, measurement)?,
-        Subject::Files => files::measure(rt, measurement, folder)?,
-        Subject::Stage => staging::measure(rt, measurement.threads)?,
-        Subject::Node => running::in_memory(rt, measurement)?,
-        Subject::NodeFiles => running::in_files(rt, measurement, folder)?,
-        Subject::Cluster(sent) => clusters::measure(rt, measurement, sent)?,
+        Subject::Image => memory::on_image(rt, measurement),
+        Subject::Memory => memory::on_store(rt, measurement),
+        Subject::Files | Subject::NodeFiles => files::measure(rt, measurement, folder),
+        Subject::Stage => staging::measure(rt, measurement.threads),
+        Subject::Node => running::in_memory(rt, measurement),
+        Subject::Cluster(sent) => clusters::measure(rt, measurement, sent),
         Subject::Events => {
             growth::measure(rt)?;
             return Ok(None);
         }
     };
-    let found = rounds.print(rt, measurement.name, measurement.units())?;
+    let found = rounds?.print(rt, measurement.name, measurement.units())?;
     Ok(Some(found))
-}
-
-fn on_image<R: AllocGlobal + Clock>(
-    rt: &R,
-    measurement: &'static Measurement,
-) -> io::Result<Rounds> {
-    let plain = ByHand::new(rt.alloc(), measurement)?;
-    let work = Transactions::new(rt.alloc(), measurement)?;
-    harness::measure(rt, work, plain)
 }

@@ -7,10 +7,10 @@ ghost use Rattle.lc_node.specs.declared.node.Node.{Node as TheNode};
 
 use crate::by_hand::ByHand;
 use crate::committing::commit_all;
-use crate::harness::{self, Work};
+use crate::harness::{self, ROUNDS, Work, ended};
 use crate::measurement::{Measurement, Sent, Transaction};
 use crate::nodes::recovered;
-use crate::rounds::Rounds;
+use crate::rounds::{Round, Rounds};
 use crate::running::areas_in_memory;
 use lc_disk::MemArea;
 use lc_node::{Cluster, Mode, Pumped};
@@ -19,6 +19,7 @@ use std::alloc::Global;
 use std::io::{self, Error, ErrorKind};
 use std::rt::Clock;
 use std::sync::Wait;
+use std::time::Instant;
 
 // The segment that begins at the second node.
 const SEGMENT: u32 = 1;
@@ -29,23 +30,14 @@ const HOME: u16 = 1;
 // The first node.
 const OTHER: u16 = 0;
 
-// Nodes between which a token goes to and fro.
+// The nodes of a cluster, and the second one's seat and transactions, which it commits before each round of records.
 #[derive(Drop)]
-struct Tokens<'a, R> {
-    rt: &'a R,
+struct Members {
     measurement: &'static Measurement,
-    cluster: Cluster<MemArea>,
-    ghost several: { 2 ≤ length cluster.members.items },
-}
-
-// Nodes of which one commits these transactions in each round, with a seat of that node.
-#[derive(Drop)]
-struct Records<'a, R> {
-    rt: &'a R,
-    measurement: &'static Measurement,
+    sent: Sent,
+    transactions: Vec<Transaction>,
     cluster: Cluster<MemArea>,
     seat: CommitSeat,
-    transactions: Vec<Transaction>,
     ghost several: { 2 ≤ length cluster.members.items },
     ghost own: { (node : TheNode TheArea) → node_at cluster 1 ≡ Some node → IsSeatOf node.stage seat },
     ghost idle: { IsIdle (commit_view seat) },
@@ -58,77 +50,88 @@ pub(crate) fn measure<R: AllocGlobal + Clock + Wait>(
     measurement: &'static Measurement,
     sent: Sent,
 ) -> io::Result<Rounds> {
-    let plain = ByHand::new(rt.alloc(), measurement)?;
-    match sent {
-        Sent::Token => harness::measure(rt, Tokens::new(rt, measurement)?, plain),
-        Sent::Records => harness::measure(rt, Records::new(rt, measurement)?, plain),
-    }
+    let mut plain = ByHand::new(rt.alloc(), measurement)?;
+    measure_beside(rt, measurement, sent, &mut plain)
 }
 
-impl<'a, R: AllocGlobal> Tokens<'a, R> {
-    fn new(rt: &'a R, measurement: &'static Measurement) -> io::Result<Tokens<'a, R>> {
-        let (cluster, _seat) = opened(rt.alloc(), measurement)?;
-        Ok(Tokens {
-            rt,
-            measurement,
-            cluster,
-        })
-    }
+fn measure_beside<R: AllocGlobal + Clock + Wait>(
+    rt: &R,
+    measurement: &'static Measurement,
+    sent: Sent,
+    plain: &mut ByHand,
+) -> io::Result<Rounds> {
+    let mut members = Members::new(rt.alloc(), measurement, sent)?;
+    harness::measure(rt, &mut members, plain, ROUNDS)
 }
 
-impl<'a, R: AllocGlobal> Records<'a, R> {
-    fn new(rt: &'a R, measurement: &'static Measurement) -> io::Result<Records<'a, R>> {
-        let transactions = measurement.transactions(rt.alloc())?;
-        let (cluster, seat) = opened(rt.alloc(), measurement)?;
-        Ok(Records {
-            rt,
+impl Members {
+    fn new(alloc: Global, measurement: &'static Measurement, sent: Sent) -> io::Result<Members> {
+        let transactions = measurement.transactions(alloc, 0, 1, measurement.count)?;
+        let (cluster, seat) = opened(alloc, measurement)?;
+        Ok(Members {
             measurement,
+            sent,
+            transactions,
             cluster,
             seat,
-            transactions,
         })
     }
-}
 
-impl<R: AllocGlobal + Wait> Work for Tokens<'_, R> {
-    fn ready(&mut self) -> io::Result<()> {
-        Ok(())
-    }
-
-    fn run(&mut self) -> io::Result<u64> {
-        for _ in 0..self.measurement.count {
-            hand_on(self.rt, &self.cluster, HOME, OTHER)?;
-            hand_on(self.rt, &self.cluster, OTHER, HOME)?;
-        }
-        Ok(u64::from(self.measurement.count))
-    }
-}
-
-impl<R: AllocGlobal + Wait> Work for Records<'_, R> {
-    fn ready(&mut self) -> io::Result<()> {
+    // Empties the second node's log, and commits its transactions.
+    fn commit<R: AllocGlobal + Wait>(&mut self, rt: &R) -> io::Result<()> {
         let node = self.cluster.node(HOME);
-        if node.truncate(self.rt, self.rt.alloc()).is_err() {
+        if node.truncate(rt, rt.alloc()).is_err() {
             return Err(refused());
         }
         let seat = node.split(&mut self.seat);
         let transactions = self.transactions.as_slice();
-        let count = commit_all(
-            self.rt,
-            self.measurement,
-            node,
-            seat,
-            transactions,
-            Mode::Lazy,
-        );
+        let count = commit_all(rt, self.measurement, node, seat, transactions, Mode::Lazy);
         checked(count, self.measurement.count)?;
         Ok(())
     }
+}
 
-    fn run(&mut self) -> io::Result<u64> {
-        let peers = u32::from(self.cluster.nodes()).wrapping_sub(1);
-        let count = send_all(self.rt, &self.cluster, self.measurement.count)?;
-        checked(count, self.measurement.count.wrapping_mul(peers))
+impl<R: AllocGlobal + Clock + Wait> Work<R> for Members {
+    fn round(&mut self, rt: &R) -> io::Result<Round> {
+        if let Sent::Records = self.sent {
+            self.commit(rt)?;
+        }
+        let start = Instant::now(rt)?;
+        let count = self.measurement.count;
+        let seen = match self.sent {
+            Sent::Token => to_and_fro(rt, &self.cluster, count)?,
+            Sent::Records => send_to_all(rt, &self.cluster, count)?,
+        };
+        ended(rt, start, seen)
     }
+}
+
+// Gives the token from the second node to the first and back, so often.
+fn to_and_fro<R: AllocGlobal + Wait>(
+    rt: &R,
+    cluster: &Cluster<MemArea>,
+    count: u32,
+) -> io::Result<u64>
+    requires { 2 ≤ length cluster.now.members.items }
+{
+    for _ in 0..count {
+        hand_on(rt, cluster, HOME, OTHER)?;
+        hand_on(rt, cluster, OTHER, HOME)?;
+    }
+    Ok(u64::from(count))
+}
+
+// Sends so many records to all peers.
+fn send_to_all<R: AllocGlobal + Wait>(
+    rt: &R,
+    cluster: &Cluster<MemArea>,
+    records: u32,
+) -> io::Result<u64>
+    requires { 2 ≤ length cluster.now.members.items }
+{
+    let peers = u32::from(cluster.nodes()).wrapping_sub(1);
+    let count = send_all(rt, cluster, records)?;
+    checked(count, records.wrapping_mul(peers))
 }
 
 // The cluster of a new store in memory, and a seat of its second node.

@@ -16,49 +16,72 @@ pub(crate) fn events_of_all(
     measurement: &Measurement,
 ) -> Result<Vec<Vec<Event>>, AllocError> {
     let mut all = Vec::new(alloc);
-    for transaction in &measurement.transactions(alloc)? {
-        let mut events = changes(alloc, transaction)?;
-        end(&mut events, transaction.node, &measurement.end)?;
-        if transaction.is_flushed {
-            flush(&mut events, transaction.node)?;
-        }
-        all.push(events)?;
+    for transaction in &measurement.transactions(alloc, 0, 1, measurement.count)? {
+        all.push(events_of(alloc, transaction, &measurement.end)?)?;
     }
     Ok(all)
 }
 
-/// A transaction that sets and writes its ranges, and is open then.
-pub(crate) fn changes(alloc: Global, transaction: &Transaction) -> Result<Vec<Event>, AllocError> {
-    let (node, thread, segment) = (transaction.node, THREAD, transaction.segment);
+// The events of a transaction, with the flush behind it.
+fn events_of(
+    alloc: Global,
+    transaction: &Transaction,
+    end: &End,
+) -> Result<Vec<Event>, AllocError> {
     let mut events = Vec::new(alloc);
-    events.push(Event::Begin {
-        node,
-        thread,
-        segments: Items::new(Vec::from_slice(alloc, &[segment])?),
-        reading: Items::new(Vec::new(alloc)),
-    })?;
-    for offset in transaction.offsets.as_slice() {
-        let offset = *offset;
-        events.push(Event::SetRange {
-            node,
-            thread,
-            segment,
-            offset,
-            len: DATA.len() as u32,
-        })?;
-        events.push(Event::Write {
-            node,
-            thread,
-            segment,
-            offset,
-            bytes: Items::new(Vec::from_slice(alloc, &DATA)?),
-        })?;
+    begin(&mut events, alloc, transaction)?;
+    finish(&mut events, transaction.node, end)?;
+    if transaction.is_flushed {
+        flush(&mut events, transaction.node)?;
     }
     Ok(events)
 }
 
-/// The end of a node's transaction.
-pub(crate) fn end(events: &mut Vec<Event>, node: u16, end: &End) -> Result<(), AllocError> {
+/// Adds a transaction that sets and writes its ranges, and is open then.
+pub(crate) fn begin(
+    events: &mut Vec<Event>,
+    alloc: Global,
+    transaction: &Transaction,
+) -> Result<(), AllocError> {
+    events.push(Event::Begin {
+        node: transaction.node,
+        thread: THREAD,
+        segments: Items::new(Vec::from_slice(alloc, &[transaction.segment])?),
+        reading: Items::new(Vec::new(alloc)),
+    })?;
+    for offset in transaction.offsets.as_slice() {
+        change(events, alloc, transaction, *offset)?;
+    }
+    Ok(())
+}
+
+// Adds a range that is set and written.
+fn change(
+    events: &mut Vec<Event>,
+    alloc: Global,
+    transaction: &Transaction,
+    offset: u32,
+) -> Result<(), AllocError> {
+    let (node, thread, segment) = (transaction.node, THREAD, transaction.segment);
+    events.push(Event::SetRange {
+        node,
+        thread,
+        segment,
+        offset,
+        len: DATA.len() as u32,
+    })?;
+    events.push(Event::Write {
+        node,
+        thread,
+        segment,
+        offset,
+        bytes: Items::new(Vec::from_slice(alloc, &DATA)?),
+    })?;
+    Ok(())
+}
+
+/// Adds the end of a node's transaction.
+pub(crate) fn finish(events: &mut Vec<Event>, node: u16, end: &End) -> Result<(), AllocError> {
     let thread = THREAD;
     match end {
         End::Abort => events.push(Event::Abort { node, thread })?,
@@ -70,7 +93,7 @@ pub(crate) fn end(events: &mut Vec<Event>, node: u16, end: &End) -> Result<(), A
     Ok(())
 }
 
-/// A flush of a node.
+/// Adds a flush of a node.
 pub(crate) fn flush(events: &mut Vec<Event>, node: u16) -> Result<(), AllocError> {
     for _ in 0..FLUSH_STEPS {
         events.push(Event::FlushStep { node })?;

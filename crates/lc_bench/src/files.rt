@@ -1,48 +1,59 @@
 //! Stores in files.
-use crate::harness::{self, ROUNDS, nanoseconds};
-use crate::measurement::{Measurement, Timed};
-use crate::rounds::Rounds;
-use crate::stores::{Store, come_up};
+use crate::harness::{self, ROUNDS, Work, ended};
+use crate::measurement::{Measurement, Subject, Timed};
+use crate::rounds::{Round, Rounds};
+use crate::running;
+use crate::stores::{self, leave_transactions, open, world_of};
 use crate::writes::Writes;
-use lc_core::World;
-use lc_disk::{FileArea, HeldFile};
-use lc_recover::area_len;
+use lc_disk::{FileArea, HeldFile, Stoppable};
 use std::alloc::Global;
-use std::fs;
-use std::io::{self, Error, ErrorKind};
 use std::rt::{Clock, Files};
+use std::sync::Wait;
+use std::thread::Threads;
 use std::time::Instant;
+use std::{fs, io};
 
 // The folder that is made for the files.
 const FOLDER: &str = "lc_bench-files";
 
-// One log and one segment.
-const AREAS: usize = 2;
+// How a store opens whose log has all transactions.
+#[derive(Clone, Copy)]
+struct Opening<'a> {
+    measurement: &'static Measurement,
+    folder: &'a str,
+}
 
-/// Measures a store in files, which stand in a new folder of this one: beside plain writes and data syncs, and how it opens
-/// beside a read of the files.
-pub(crate) fn measure<R: AllocGlobal + Clock + Files>(
+// A read of all files.
+#[derive(Clone, Copy)]
+struct Reads<'a> {
+    measurement: &'static Measurement,
+    folder: &'a str,
+}
+
+/// Measures in files, which stand in a new folder of this one.
+pub(crate) fn measure<R: AllocGlobal + Clock + Files + Print + Threads + Wait + Sync>(
     rt: &R,
     measurement: &'static Measurement,
     folder: &str,
 ) -> io::Result<Rounds>
 where
-    R::File: HeldFile,
+    R::File: HeldFile + Send,
 {
     let folder = format!(in rt.alloc(); "{folder}/{FOLDER}")?;
     let folder = folder.as_str();
     let _ = fs::remove_dir_all(rt, folder);
     fs::create_dir(rt, folder)?;
-    make_store(rt, measurement, folder)?;
-    let rounds = if let Timed::Recovery = measurement.timed {
-        measure_opening(rt, measurement, folder)?
-    } else {
-        measure_work(rt, measurement, folder)?
+    let rounds = match (&measurement.subject, &measurement.timed) {
+        (Subject::NodeFiles, _) => running::in_files(rt, measurement, folder),
+        (_, Timed::Recovery) => measure_opening(rt, measurement, folder),
+        _ => measure_work(rt, measurement, folder),
     };
+    let rounds = rounds?;
     fs::remove_dir_all(rt, folder)?;
     Ok(rounds)
 }
 
+// A store, beside plain writes and data syncs.
 fn measure_work<R: AllocGlobal + Clock + Files>(
     rt: &R,
     measurement: &'static Measurement,
@@ -51,12 +62,21 @@ fn measure_work<R: AllocGlobal + Clock + Files>(
 where
     R::File: HeldFile,
 {
-    let plain = Writes::new(rt, measurement, folder)?;
-    let world = opened(rt, measurement, folder)?;
-    harness::measure(rt, Store::new(rt.alloc(), measurement, world)?, plain)
+    let mut plain = Writes::new(rt, measurement, folder)?;
+    let areas = areas_of(rt, measurement, folder, true)?;
+    measure_store(rt, measurement, areas, &mut plain)
 }
 
-// Each round leaves all transactions in the log, and then opens the store.
+fn measure_store<R: AllocGlobal + Clock, D: Stoppable + Drop, P: Work<R>>(
+    rt: &R,
+    measurement: &'static Measurement,
+    areas: Vec<D>,
+    plain: &mut P,
+) -> io::Result<Rounds> {
+    stores::measure(rt, measurement, world_of(measurement, areas)?, plain)
+}
+
+// How a store opens, beside a read of the files.
 fn measure_opening<R: AllocGlobal + Clock + Files>(
     rt: &R,
     measurement: &'static Measurement,
@@ -65,98 +85,87 @@ fn measure_opening<R: AllocGlobal + Clock + Files>(
 where
     R::File: HeldFile,
 {
-    let mut rounds = Rounds::new(rt.alloc());
-    for _ in 0..ROUNDS {
-        leave_transactions(rt, measurement, folder)?;
-        let before = time_reads(rt, folder, &mut rounds.seen)?;
-        let ours = time_opening(rt, measurement, folder)?;
-        let again = time_reads(rt, folder, &mut rounds.seen)?;
-        rounds.push(before, ours, again)?;
-    }
-    Ok(rounds)
+    areas_of(rt, measurement, folder, true)?;
+    let mut work = Opening {
+        measurement,
+        folder,
+    };
+    let mut plain = Reads {
+        measurement,
+        folder,
+    };
+    harness::measure(rt, &mut work, &mut plain, ROUNDS)
 }
 
-// The store is closed with all transactions in its log.
-fn leave_transactions<R: AllocGlobal + Files>(
-    rt: &R,
-    measurement: &'static Measurement,
-    folder: &str,
-) -> io::Result<()>
+impl<R: AllocGlobal + Clock + Files> Work<R> for Opening<'_>
 where
     R::File: HeldFile,
 {
-    let world = opened(rt, measurement, folder)?;
-    let mut store = Store::new(rt.alloc(), measurement, world)?;
-    store.transact()
-}
-
-// How many nanoseconds the store takes to open, and to come up.
-fn time_opening<R: AllocGlobal + Clock + Files>(
-    rt: &R,
-    measurement: &Measurement,
-    folder: &str,
-) -> io::Result<u64>
-where
-    R::File: HeldFile,
-{
-    let start = Instant::now(rt)?;
-    come_up(rt.alloc(), opened(rt, measurement, folder)?)?;
-    Ok(nanoseconds(start.elapsed(rt)?))
-}
-
-// How many nanoseconds the files take to be read.
-fn time_reads<R: AllocGlobal + Clock + Files>(
-    rt: &R,
-    folder: &str,
-    seen: &mut u64,
-) -> io::Result<u64> {
-    let start = Instant::now(rt)?;
-    for area in 0..AREAS {
-        let bytes = fs::read(rt, &path_of(rt.alloc(), folder, area)?)?;
-        *seen = seen.wrapping_add(bytes.len() as u64);
+    fn round(&mut self, rt: &R) -> io::Result<Round> {
+        let areas = areas_of(rt, self.measurement, self.folder, false)?;
+        leave_transactions(rt.alloc(), self.measurement, areas)?;
+        let start = Instant::now(rt)?;
+        let areas = areas_of(rt, self.measurement, self.folder, false)?;
+        open(rt.alloc(), self.measurement, areas)?;
+        ended(rt, start, 0)
     }
-    Ok(nanoseconds(start.elapsed(rt)?))
 }
 
-/// The file of an area.
-pub(crate) fn path_of(alloc: Global, folder: &str, area: usize) -> io::Result<String> {
-    Ok(format!(in alloc; "{folder}/area{area}")?)
-}
-
-// Makes the files of a store.
-fn make_store<R: AllocGlobal + Files>(
-    rt: &R,
-    measurement: &Measurement,
-    folder: &str,
-) -> io::Result<()>
-where
-    R::File: HeldFile,
-{
-    let geometry = measurement.geometry()?;
-    for area in 0..AREAS {
-        let len = area_len(&geometry, area).unwrap_or(0);
-        let path = path_of(rt.alloc(), folder, area)?;
-        let _area = FileArea::try_make(rt, &path, len)?;
+impl<R: AllocGlobal + Clock + Files> Work<R> for Reads<'_> {
+    fn round(&mut self, rt: &R) -> io::Result<Round> {
+        let start = Instant::now(rt)?;
+        let mut seen = 0u64;
+        for place in 0..self.measurement.areas() {
+            let bytes = read_area(rt, self.folder, place)?;
+            seen = seen.wrapping_add(bytes);
+        }
+        ended(rt, start, seen)
     }
-    Ok(())
 }
 
-// The store of the files that are there, which is down.
-fn opened<R: AllocGlobal + Files>(
+// The areas of a store in files.
+fn areas_of<R: AllocGlobal + Files>(
     rt: &R,
     measurement: &Measurement,
     folder: &str,
-) -> io::Result<World<FileArea<R::File>>>
+    is_new: bool,
+) -> io::Result<Vec<FileArea<R::File>>>
 where
     R::File: HeldFile,
 {
     let mut areas = Vec::new(rt.alloc());
-    for area in 0..AREAS {
-        let path = path_of(rt.alloc(), folder, area)?;
-        areas.push(FileArea::try_open(rt, &path)?)?;
+    for place in 0..measurement.areas() {
+        areas.push(area_of(rt, measurement, folder, place, is_new)?)?;
     }
-    match World::new(measurement.geometry()?, areas) {
-        Ok(world) => Ok(world),
-        Err((_areas, _fault)) => Err(Error::from(ErrorKind::InvalidData)),
+    Ok(areas)
+}
+
+/// An area of a store in files: a new file of zeros, or the one that is there.
+pub(crate) fn area_of<R: AllocGlobal + Files>(
+    rt: &R,
+    measurement: &Measurement,
+    folder: &str,
+    place: usize,
+    is_new: bool,
+) -> io::Result<FileArea<R::File>>
+where
+    R::File: HeldFile,
+{
+    let path = path_of(rt.alloc(), folder, place)?;
+    if is_new {
+        FileArea::try_make(rt, &path, measurement.area_len(place)?)
+    } else {
+        FileArea::try_open(rt, &path)
     }
+}
+
+// How many bytes the file of an area has, all of which are read.
+fn read_area<R: AllocGlobal + Files>(rt: &R, folder: &str, place: usize) -> io::Result<u64> {
+    let path = path_of(rt.alloc(), folder, place)?;
+    Ok(fs::read(rt, &path)?.len() as u64)
+}
+
+// The file of an area.
+fn path_of(alloc: Global, folder: &str, place: usize) -> io::Result<String> {
+    Ok(format!(in alloc; "{folder}/area{place}")?)
 }

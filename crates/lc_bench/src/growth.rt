@@ -1,11 +1,11 @@
 //! How long each kind of event takes in a small store, and in stores that are large in one way.
-use crate::events::{THREAD, changes, end, events_of_all, flush};
-use crate::harness::nanoseconds;
-use crate::measurement::{DATA, End, Measurement, Subject, Timed};
+use crate::events::{THREAD, begin, finish, flush};
+use crate::harness::ended;
+use crate::measurement::{DATA, End, Measurement, Subject, Timed, Transaction};
 use crate::rounds::median;
-use crate::stores::{come_up, empty_log, transact_all};
+use crate::stores::{Act, Store};
 use lc_core::{Event, Reply, World};
-use lc_disk::MemArea;
+use lc_disk::Stoppable;
 use lc_record::PAGE;
 use std::alloc::{AllocError, Global};
 use std::io::{self, Error, ErrorKind};
@@ -84,7 +84,7 @@ static STORES: [Measurement; 7] = [
 ];
 
 // How long an event of a kind took.
-#[derive(Drop)]
+#[derive(Clone, Copy)]
 struct Time {
     kind: &'static str,
     nanoseconds: u64,
@@ -98,44 +98,82 @@ pub(crate) fn measure<R: AllocGlobal + Clock + Print>(rt: &R) -> io::Result<()> 
     }
     rt.println("")?;
     for store in &STORES {
-        print!(rt; "{:<12}", store.name)?;
-        let times = times_of(rt, store)?;
-        for kind in &KINDS {
-            let mut of_kind = all_of(rt.alloc(), &times, kind)?;
-            print!(rt; "{:>9}", median(&mut of_kind))?;
-        }
-        rt.println("")?;
+        print_line(rt, store)?;
     }
     Ok(())
 }
 
-// The times of this kind.
-fn all_of(alloc: Global, times: &[Time], kind: &str) -> Result<Vec<u64>, AllocError> {
+// Prints the line of a store.
+fn print_line<R: AllocGlobal + Clock + Print>(
+    rt: &R,
+    store: &'static Measurement,
+) -> io::Result<()> {
+    print!(rt; "{:<12}", store.name)?;
+    let times = times_of(rt, store)?;
+    for kind in &KINDS {
+        let median = median_of(rt.alloc(), times.as_slice(), kind)?;
+        print!(rt; "{median:>9}")?;
+    }
+    rt.println("")
+}
+
+// The median of the times of this kind.
+fn median_of(alloc: Global, times: &[Time], kind: &str) -> Result<u64, AllocError> {
     let mut of_kind = Vec::new(alloc);
     for time in times {
         if time.kind == kind {
             of_kind.push(time.nanoseconds)?;
         }
     }
-    Ok(of_kind)
+    Ok(median(of_kind.as_mut_slice()))
 }
 
-// How long each event of all cycles takes in a store.
-fn times_of<R: AllocGlobal + Clock>(rt: &R, measurement: &Measurement) -> io::Result<Vec<Time>> {
-    let alloc = rt.alloc();
-    let mut world = kept_in_memory(alloc, measurement)?;
-    let mut times = Vec::new(alloc);
+// How long each event of all cycles takes in a new store.
+fn times_of<R: AllocGlobal + Clock>(
+    rt: &R,
+    measurement: &'static Measurement,
+) -> io::Result<Vec<Time>> {
+    let mut store = Store {
+        alloc: rt.alloc(),
+        measurement,
+        transactions: Vec::new(rt.alloc()),
+        world: World::in_memory(rt.alloc(), measurement.geometry()?)?,
+    };
+    times_in(rt, measurement, &mut store)
+}
+
+// How long each event of all cycles takes in this store, which comes up.
+fn times_in<R: AllocGlobal + Clock, D: Stoppable + Drop>(
+    rt: &R,
+    measurement: &'static Measurement,
+    store: &mut Store<D>,
+) -> io::Result<Vec<Time>> {
+    store.fill()?;
+    store.does(&Act::Empty)?;
+    let mut times = Vec::new(rt.alloc());
     for number in 0..CYCLES {
-        let events = cycle(alloc, measurement, number)?;
-        time_all(rt, &mut world, events.as_slice(), &mut times)?;
+        time_cycle(rt, measurement, number, &mut store.world, &mut times)?;
     }
     Ok(times)
 }
 
-// Adds how long each of these events takes, and how long the clock does.
-fn time_all<R: AllocGlobal + Clock>(
+// Adds how long each event of a cycle takes.
+fn time_cycle<R: AllocGlobal + Clock, D: Stoppable + Drop>(
     rt: &R,
-    world: &mut World<MemArea>,
+    measurement: &Measurement,
+    number: u32,
+    world: &mut World<D>,
+    times: &mut Vec<Time>,
+) -> io::Result<()> {
+    let mut events = Vec::new(rt.alloc());
+    cycle(&mut events, rt.alloc(), measurement, number)?;
+    time_all(rt, world, events.as_slice(), times)
+}
+
+// Adds how long each of these events takes, and how long the clock does.
+fn time_all<R: AllocGlobal + Clock, D: Stoppable + Drop>(
+    rt: &R,
+    world: &mut World<D>,
     events: &[Event],
     times: &mut Vec<Time>,
 ) -> io::Result<()> {
@@ -143,39 +181,29 @@ fn time_all<R: AllocGlobal + Clock>(
         times.push(step(rt, world, event)?)?;
     }
     let start = Instant::now(rt)?;
-    let time = start.elapsed(rt)?;
-    times.push(Time {
-        kind: CLOCK,
-        nanoseconds: nanoseconds(time),
-    })?;
+    times.push(time_of(rt, start, CLOCK)?)?;
     Ok(())
 }
 
-// A store in memory with an empty log, which keeps the records of all its transactions.
-fn kept_in_memory(alloc: Global, measurement: &Measurement) -> io::Result<World<MemArea>> {
-    let before = events_of_all(alloc, measurement)?;
-    let mut world = come_up(alloc, World::in_memory(alloc, measurement.geometry()?)?)?;
-    transact_all(alloc, &mut world, measurement, before.as_slice())?;
-    empty_log(alloc, &mut world, measurement)?;
-    Ok(world)
-}
-
 // How long an event takes.
-fn step<R: AllocGlobal + Clock>(
+fn step<R: AllocGlobal + Clock, D: Stoppable + Drop>(
     rt: &R,
-    world: &mut World<MemArea>,
+    world: &mut World<D>,
     event: &Event,
 ) -> io::Result<Time> {
     let start = Instant::now(rt)?;
     let reply = world.step(rt.alloc(), event)?;
-    let time = start.elapsed(rt)?;
-    if let Reply::Refused(_) = reply {
-        return Err(Error::from(ErrorKind::InvalidData));
+    let time = time_of(rt, start, kind_of(event))?;
+    match reply {
+        Reply::Refused(_) => Err(Error::from(ErrorKind::InvalidData)),
+        _ => Ok(time),
     }
-    Ok(Time {
-        kind: kind_of(event),
-        nanoseconds: nanoseconds(time),
-    })
+}
+
+// How long something of a kind took that began then.
+fn time_of<R: Clock>(rt: &R, start: Instant, kind: &'static str) -> io::Result<Time> {
+    let nanoseconds = ended(rt, start, 0)?.nanoseconds;
+    Ok(Time { kind, nanoseconds })
 }
 
 // What kind of event it is.
@@ -200,24 +228,46 @@ fn kind_of(event: &Event) -> &'static str {
 
 // All kinds of events in a row: a transaction on segment 1 becomes stable, the first record that the other nodes lack is
 // delivered to them, the token goes and comes back, and what the transaction changed is written.
-fn cycle(alloc: Global, measurement: &Measurement, number: u32) -> Result<Vec<Event>, AllocError> {
+fn cycle(
+    events: &mut Vec<Event>,
+    alloc: Global,
+    measurement: &Measurement,
+    number: u32,
+) -> Result<(), AllocError> {
     let transaction = measurement.transaction(alloc, number.wrapping_mul(measurement.segments))?;
-    let (node, thread, segment) = (transaction.node, THREAD, transaction.segment);
-    let mut events = changes(alloc, &transaction)?;
+    begin(events, alloc, &transaction)?;
+    end(events, &transaction)?;
+    deliver(events, measurement, &transaction, u64::from(number) + 1)?;
+    write_pages(events, &transaction)?;
+    reset(events, transaction.node)
+}
+
+// Adds a read of a transaction, and its end, and a flush.
+fn end(events: &mut Vec<Event>, transaction: &Transaction) -> Result<(), AllocError> {
     events.push(Event::Read {
-        node,
-        thread,
-        segment,
+        node: transaction.node,
+        thread: THREAD,
+        segment: transaction.segment,
         offset: 0,
         len: DATA.len() as u32,
     })?;
-    end(&mut events, node, &End::Commit)?;
-    flush(&mut events, node)?;
+    finish(events, transaction.node, &End::Commit)?;
+    flush(events, transaction.node)
+}
+
+// Adds that this record of a transaction is delivered to all other nodes, and that the token goes and comes back.
+fn deliver(
+    events: &mut Vec<Event>,
+    measurement: &Measurement,
+    transaction: &Transaction,
+    number: u64,
+) -> Result<(), AllocError> {
+    let (node, segment) = (transaction.node, transaction.segment);
     for to in 0..measurement.nodes {
         if to != node {
             events.push(Event::Deliver {
                 sender: node,
-                number: u64::from(number) + 1,
+                number,
                 segment,
                 to,
             })?;
@@ -225,18 +275,28 @@ fn cycle(alloc: Global, measurement: &Measurement, number: u32) -> Result<Vec<Ev
     }
     events.push(Event::Leave { node, segment })?;
     events.push(Event::Arrive { node, segment })?;
+    Ok(())
+}
+
+// Adds that the pages of a transaction are written.
+fn write_pages(events: &mut Vec<Event>, transaction: &Transaction) -> Result<(), AllocError> {
     for _ in 0..PAGE_CALLS {
         for offset in transaction.offsets.iter().step_by(RANGES_OF_A_PAGE) {
             events.push(Event::PageStep {
-                node,
-                segment,
+                node: transaction.node,
+                segment: transaction.segment,
                 page: *offset / PAGE,
             })?;
         }
     }
+    Ok(())
+}
+
+// Adds that a node's log is emptied.
+fn reset(events: &mut Vec<Event>, node: u16) -> Result<(), AllocError> {
     for _ in 0..RESET_STEPS {
         events.push(Event::ResetStep { node })?;
     }
     events.push(Event::Trim { node })?;
-    Ok(events)
+    Ok(())
 }

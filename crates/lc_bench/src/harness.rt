@@ -1,5 +1,5 @@
 //! The rounds of a measurement.
-use crate::rounds::Rounds;
+use crate::rounds::{Round, Rounds};
 use std::io;
 use std::rt::Clock;
 use std::time::{Duration, Instant};
@@ -8,38 +8,33 @@ use std::time::{Duration, Instant};
 pub(crate) const ROUNDS: u32 = 25;
 
 /// Work that is done anew in each round.
-pub(crate) trait Work {
-    /// Makes ready for a round. It is not timed.
-    fn ready(&mut self) -> io::Result<()>;
-
-    /// A round, which is timed. Its number depends on what was done, and is printed, so that no part of it can be left out.
-    fn run(&mut self) -> io::Result<u64>;
+pub(crate) trait Work<R> {
+    /// Makes ready for a round, and then times it. Its number depends on what was done, and is printed, so that no part of it
+    /// can be left out.
+    fn round(&mut self, rt: &R) -> io::Result<Round>;
 }
 
-/// The times of all rounds: the plain work, the work, and the plain work again.
-pub(crate) fn measure<R: AllocGlobal + Clock, W: Work + Drop, P: Work + Drop>(
+/// The times of so many rounds, at most `MOST_ROUNDS`: the plain work, the work, and the plain work again.
+pub(crate) fn measure<R, W: Work<R>, P: Work<R>>(
     rt: &R,
-    mut work: W,
-    mut plain: P,
+    work: &mut W,
+    plain: &mut P,
+    count: u32,
 ) -> io::Result<Rounds> {
-    let mut rounds = Rounds::new(rt.alloc());
-    for _ in 0..ROUNDS {
-        let before = time(rt, &mut plain, &mut rounds.seen)?;
-        let ours = time(rt, &mut work, &mut rounds.seen)?;
-        let again = time(rt, &mut plain, &mut rounds.seen)?;
-        rounds.push(before, ours, again)?;
+    let mut rounds = Rounds::NONE;
+    for _ in 0..count {
+        let before = plain.round(rt)?;
+        let ours = work.round(rt)?;
+        let again = plain.round(rt)?;
+        rounds.push(&before, &ours, &again);
     }
     Ok(rounds)
 }
 
-/// How many nanoseconds a round takes.
-pub(crate) fn time<R: Clock, W: Work>(rt: &R, work: &mut W, seen: &mut u64) -> io::Result<u64> {
-    work.ready()?;
-    let start = Instant::now(rt)?;
-    let number = work.run()?;
-    let time = start.elapsed(rt)?;
-    *seen = seen.wrapping_add(number);
-    Ok(nanoseconds(time))
+/// A round that began then and ends now.
+pub(crate) fn ended<R: Clock>(rt: &R, start: Instant, seen: u64) -> io::Result<Round> {
+    let nanoseconds = nanoseconds(start.elapsed(rt)?);
+    Ok(Round { nanoseconds, seen })
 }
 
 /// A time in nanoseconds.

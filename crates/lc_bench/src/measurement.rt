@@ -1,5 +1,6 @@
 //! What is measured, and how large it is.
 use lc_record::{Geometry, PAGE};
+use lc_recover::area_len;
 use std::alloc::{AllocError, Global};
 use std::io::{self, Error, ErrorKind};
 
@@ -98,6 +99,12 @@ impl Measurement {
         self.pages.wrapping_mul(PAGE)
     }
 
+    /// The bytes of an area of its store.
+    pub(crate) fn area_len(&self, place: usize) -> io::Result<usize> {
+        let geometry = self.geometry()?;
+        Ok(area_len(&geometry, place).unwrap_or(0))
+    }
+
     /// How many areas its store has.
     pub(crate) fn areas(&self) -> usize {
         (self.nodes as usize).wrapping_add(self.segments as usize)
@@ -108,23 +115,20 @@ impl Measurement {
         u16::try_from(segment).unwrap_or(0) % self.nodes.max(1)
     }
 
-    /// What all transactions change.
-    pub(crate) fn transactions(&self, alloc: Global) -> Result<Vec<Transaction>, AllocError> {
+    /// What so many transactions change: the one of this number, and each that is `step` behind the last.
+    pub(crate) fn transactions(
+        &self,
+        alloc: Global,
+        first: u32,
+        step: u32,
+        count: u32,
+    ) -> Result<Vec<Transaction>, AllocError> {
         let mut all = Vec::new(alloc);
-        for number in 0..self.count {
+        for turn in 0..count {
+            let number = turn.wrapping_mul(step).wrapping_add(first);
             all.push(self.transaction(alloc, number)?)?;
         }
         Ok(all)
-    }
-
-    /// What one of its threads changes, from 0, where each has as many of the transactions, all on a segment of its own.
-    pub(crate) fn share(&self, alloc: Global, thread: u32) -> Result<Vec<Transaction>, AllocError> {
-        let mut share = Vec::new(alloc);
-        for turn in 0..self.count / u32::from(self.threads).max(1) {
-            let number = turn.wrapping_mul(self.segments).wrapping_add(thread);
-            share.push(self.transaction(alloc, number)?)?;
-        }
-        Ok(share)
     }
 
     /// What a transaction changes. Each segment has its turn, and then each page of a segment.

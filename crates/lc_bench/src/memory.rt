@@ -1,32 +1,51 @@
-//! Stores in memory.
+//! Measurements in memory: transactions on an image, and stores.
 use crate::by_hand::ByHand;
 use crate::copies::Copies;
-use crate::harness;
+use crate::harness::{self, ROUNDS, Work};
 use crate::measurement::{Measurement, Timed};
 use crate::rounds::Rounds;
-use crate::stores::Store;
+use crate::stores;
+use crate::transactions::Transactions;
 use lc_core::World;
-use lc_disk::MemArea;
-use std::alloc::Global;
 use std::io;
 use std::rt::Clock;
 
-/// Measures a store in memory, beside transactions by hand, and its recovery beside plain copies.
-pub(crate) fn measure<R: AllocGlobal + Clock>(
+/// Measures transactions on an image, beside transactions by hand.
+pub(crate) fn on_image<R: AllocGlobal + Clock>(
     rt: &R,
     measurement: &'static Measurement,
 ) -> io::Result<Rounds> {
-    let alloc = rt.alloc();
-    if let Timed::Recovery = measurement.timed {
-        let plain = Copies::new(alloc, measurement, &measurement.geometry()?)?;
-        return harness::measure(rt, store_of(alloc, measurement)?, plain);
-    }
-    let plain = ByHand::new(alloc, measurement)?;
-    harness::measure(rt, store_of(alloc, measurement)?, plain)
+    let mut plain = ByHand::new(rt.alloc(), measurement)?;
+    on_image_beside(rt, measurement, &mut plain)
 }
 
-// A new store, which is up.
-fn store_of(alloc: Global, measurement: &'static Measurement) -> io::Result<Store<MemArea>> {
-    let world = World::in_memory(alloc, measurement.geometry()?)?;
-    Store::new(alloc, measurement, world)
+fn on_image_beside<R: AllocGlobal + Clock>(
+    rt: &R,
+    measurement: &'static Measurement,
+    plain: &mut ByHand,
+) -> io::Result<Rounds> {
+    let mut work = Transactions::new(rt.alloc(), measurement)?;
+    harness::measure(rt, &mut work, plain, ROUNDS)
+}
+
+/// Measures a store in memory, beside transactions by hand, and its recovery beside plain copies.
+pub(crate) fn on_store<R: AllocGlobal + Clock>(
+    rt: &R,
+    measurement: &'static Measurement,
+) -> io::Result<Rounds> {
+    if let Timed::Recovery = measurement.timed {
+        let mut plain = Copies::new(rt.alloc(), measurement)?;
+        return on_store_beside(rt, measurement, &mut plain);
+    }
+    let mut plain = ByHand::new(rt.alloc(), measurement)?;
+    on_store_beside(rt, measurement, &mut plain)
+}
+
+fn on_store_beside<R: AllocGlobal + Clock, P: Work<R>>(
+    rt: &R,
+    measurement: &'static Measurement,
+    plain: &mut P,
+) -> io::Result<Rounds> {
+    let world = World::in_memory(rt.alloc(), measurement.geometry()?)?;
+    stores::measure(rt, measurement, world, plain)
 }

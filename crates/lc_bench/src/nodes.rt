@@ -4,6 +4,7 @@ ghost use Rattle.lc_recover.specs.Recovered.{AreFinished};
 ghost use Rattle.lc_recover.specs.Reads.{HaveLengths};
 ghost use Rattle.lc_stage.specs.Seats.{commit_view, IsSeatOf, IsIdle};
 
+use crate::measurement::Measurement;
 use lc_disk::Area;
 use lc_node::Node;
 use lc_record::Geometry;
@@ -26,8 +27,12 @@ pub(crate) struct Running<D: Area + Drop> {
 
 impl<D: Area + Drop> Running<D> {
     /// The node of a store, which comes up on these areas as one.
-    pub(crate) fn new(alloc: Global, geometry: Geometry, areas: Vec<D>) -> io::Result<Running<D>> {
-        match Node::open(alloc, recovered(alloc, geometry, areas)?) {
+    pub(crate) fn new(
+        alloc: Global,
+        measurement: &Measurement,
+        areas: Vec<D>,
+    ) -> io::Result<Running<D>> {
+        match Node::open(alloc, recovered(alloc, measurement.geometry()?, areas)?) {
             Ok((node, seat)) => Ok(Running { node, seat }),
             Err(_) => Err(Error::from(ErrorKind::OutOfMemory)),
         }

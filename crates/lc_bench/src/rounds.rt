@@ -1,19 +1,29 @@
 //! The times of rounds, and what is printed of them.
-use std::alloc::{AllocError, Global};
 use std::io;
 
-/// How many nanoseconds each round of the work took, of the plain work before it, and of the plain work behind it.
-#[derive(Drop)]
-pub(crate) struct Rounds {
-    plain: Vec<u64>,
-    ours: Vec<u64>,
-    again: Vec<u64>,
-    /// What the numbers of all rounds come to.
+/// More rounds than this no measurement has.
+pub(crate) const MOST_ROUNDS: usize = 101;
+
+/// How many nanoseconds a round took, and a number that depends on what was done.
+#[derive(Clone, Copy)]
+pub(crate) struct Round {
+    pub(crate) nanoseconds: u64,
     pub(crate) seen: u64,
 }
 
+/// How many nanoseconds each round of the work took, of the plain work before it, and of the plain work behind it.
+#[derive(Clone, Copy)]
+pub(crate) struct Rounds {
+    plain: [u64; MOST_ROUNDS],
+    ours: [u64; MOST_ROUNDS],
+    again: [u64; MOST_ROUNDS],
+    count: usize,
+    // What the numbers of all rounds come to.
+    seen: u64,
+}
+
 /// The medians of a measurement, in nanoseconds for so many units.
-#[derive(Drop)]
+#[derive(Clone, Copy)]
 pub(crate) struct Found {
     name: &'static str,
     units: u32,
@@ -23,39 +33,43 @@ pub(crate) struct Found {
 
 impl Rounds {
     /// None yet.
-    pub(crate) fn new(alloc: Global) -> Rounds {
-        Rounds {
-            plain: Vec::new(alloc),
-            ours: Vec::new(alloc),
-            again: Vec::new(alloc),
-            seen: 0,
-        }
-    }
+    pub(crate) const NONE: Rounds = Rounds {
+        plain: [0; MOST_ROUNDS],
+        ours: [0; MOST_ROUNDS],
+        again: [0; MOST_ROUNDS],
+        count: 0,
+        seen: 0,
+    };
 
-    /// A round more.
-    pub(crate) fn push(&mut self, plain: u64, ours: u64, again: u64) -> Result<(), AllocError> {
-        self.plain.push(plain)?;
-        self.ours.push(ours)?;
-        self.again.push(again)?;
-        Ok(())
+    /// A round more, of at most `MOST_ROUNDS`.
+    pub(crate) fn push(&mut self, plain: &Round, ours: &Round, again: &Round) {
+        if self.count < MOST_ROUNDS {
+            self.plain[self.count] = plain.nanoseconds;
+            self.ours[self.count] = ours.nanoseconds;
+            self.again[self.count] = again.nanoseconds;
+            self.count += 1;
+        }
+        let seen = plain.seen.wrapping_add(ours.seen);
+        self.seen = self.seen.wrapping_add(seen.wrapping_add(again.seen));
     }
 
     /// The median of the plain work.
     pub(crate) fn plain(&mut self) -> u64 {
-        median(&mut self.plain)
+        median(first(&mut self.plain, self.count))
     }
 
     /// Prints the median and the least time of each, for one of so many units, and answers the medians.
     pub(crate) fn print<R: Print>(
-        mut self,
+        &mut self,
         rt: &R,
         name: &'static str,
         units: u32,
     ) -> io::Result<Found> {
+        let count = self.count;
         println!(rt; "{name} ({} seen)", self.seen)?;
-        let plain = print_times(rt, "by hand", &mut self.plain, units)?;
-        let ours = print_times(rt, "ours", &mut self.ours, units)?;
-        print_times(rt, "by hand again", &mut self.again, units)?;
+        let plain = print_times(rt, "by hand", first(&mut self.plain, count), units)?;
+        let ours = print_times(rt, "ours", first(&mut self.ours, count), units)?;
+        print_times(rt, "by hand again", first(&mut self.again, count), units)?;
         Ok(Found {
             name,
             units,
@@ -82,7 +96,7 @@ impl Found {
 }
 
 // Prints the median and the least of these times for each of so many units, and answers the median of all.
-fn print_times<R: Print>(rt: &R, whose: &str, times: &mut Vec<u64>, units: u32) -> io::Result<u64> {
+fn print_times<R: Print>(rt: &R, whose: &str, times: &mut [u64], units: u32) -> io::Result<u64> {
     let middle = median(times);
     let least = times.first().copied().unwrap_or(0);
     let units = u64::from(units.max(1));
@@ -94,8 +108,13 @@ fn print_times<R: Print>(rt: &R, whose: &str, times: &mut Vec<u64>, units: u32) 
     Ok(middle)
 }
 
+// The first of these times, so many, where there are as many.
+fn first(times: &mut [u64; MOST_ROUNDS], count: usize) -> &mut [u64] {
+    &mut times[..count.min(MOST_ROUNDS)]
+}
+
 /// The median of these times, which are in order then.
-pub(crate) fn median(times: &mut Vec<u64>) -> u64 {
+pub(crate) fn median(times: &mut [u64]) -> u64 {
     times.sort_unstable();
     times.get(times.len() / 2).copied().unwrap_or(0)
 }

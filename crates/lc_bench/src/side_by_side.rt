@@ -1,11 +1,18 @@
 //! Threads that begin at about the same time, and how long they take together.
 use std::io::{self, Error, ErrorKind};
+use std::rt::Clock;
 use std::sync::atomic::{AtomicU64, Ordering};
-use std::thread;
+use std::thread::{self, Threads, map_vec};
 use std::time::{Duration, Instant};
 
 // More turns than the last thread needs to come to the line.
 const MOST_TURNS: u32 = 10_000_000;
+
+/// What a thread does.
+pub(crate) trait Task<R> {
+    /// Makes ready, passes the line, and does it; from behind the line on.
+    fn run(self, rt: &R, line: &StartingLine) -> io::Result<Span>;
+}
 
 /// Threads that pass it begin at about the same time.
 #[derive(Drop)]
@@ -17,59 +24,75 @@ pub(crate) struct StartingLine {
 /// When a thread began and ended, and a number that depends on what it did.
 #[derive(Clone, Copy)]
 pub(crate) struct Span {
-    pub(crate) from: Instant,
-    pub(crate) to: Instant,
+    from: Instant,
+    to: Instant,
+    seen: u64,
+}
+
+/// What threads took that ran side by side.
+#[derive(Clone, Copy)]
+pub(crate) struct Together {
+    /// From where the first began to where the last ended.
+    pub(crate) whole: Duration,
+    /// What the thread took that took longest.
+    pub(crate) longest: Duration,
+    /// What their numbers come to.
     pub(crate) seen: u64,
 }
 
 impl StartingLine {
-    /// That of so many threads.
-    pub(crate) fn new(threads: u16) -> StartingLine {
-        StartingLine {
-            ready: AtomicU64::new(0),
-            threads: u64::from(threads),
-        }
-    }
-
-    /// Lets a thread on once all are here.
-    pub(crate) fn pass(&self) {
+    /// Lets a thread on once all are here; when that is.
+    pub(crate) fn pass<R: Clock>(&self, rt: &R) -> io::Result<Instant> {
         self.ready.fetch_add(1, Ordering::SeqCst);
         for _ in 0..MOST_TURNS {
             if self.ready.load(Ordering::SeqCst) >= self.threads {
-                return;
+                break;
             }
             thread::yield_now();
         }
+        Instant::now(rt)
     }
 }
 
 impl Span {
-    /// How long it is.
-    pub(crate) fn duration(&self) -> Duration {
-        self.to.duration_since(self.from)
-    }
-
-    // Both: from where the first begins to where the last ends.
-    fn with(self, other: &Span) -> Span {
-        Span {
-            from: self.from.min(other.from),
-            to: self.to.max(other.to),
-            seen: self.seen.wrapping_add(other.seen),
-        }
+    /// From then to now.
+    pub(crate) fn since<R: Clock>(rt: &R, from: Instant, seen: u64) -> io::Result<Span> {
+        let to = Instant::now(rt)?;
+        Ok(Span { from, to, seen })
     }
 }
 
-/// From where the first of these threads began to where the last ended.
-pub(crate) fn whole(spans: &[io::Result<Span>]) -> io::Result<Span> {
+/// Does these tasks, each in a thread.
+pub(crate) fn run_all<R: Threads + Sync, T: Task<R> + Send + Drop>(
+    rt: &R,
+    tasks: Vec<T>,
+) -> io::Result<Together> {
+    let line = StartingLine {
+        ready: AtomicU64::new(0),
+        threads: tasks.len() as u64,
+    };
+    let spans = map_vec(rt, tasks, &|task: T| task.run(rt, &line))?;
+    of_all(spans.as_slice())
+}
+
+fn of_all(spans: &[io::Result<Span>]) -> io::Result<Together> {
     let Some(Ok(first)) = spans.first() else {
         return Err(Error::from(ErrorKind::Other));
     };
     let mut whole = *first;
-    for span in spans.iter().skip(1) {
-        match span {
-            Ok(span) => whole = whole.with(span),
-            Err(_) => return Err(Error::from(ErrorKind::Other)),
-        }
+    let mut longest = Duration::ZERO;
+    for span in spans {
+        let Ok(span) = span else {
+            return Err(Error::from(ErrorKind::Other));
+        };
+        whole.from = whole.from.min(span.from);
+        whole.to = whole.to.max(span.to);
+        whole.seen = whole.seen.wrapping_add(span.seen);
+        longest = longest.max(span.to.duration_since(span.from));
     }
-    Ok(whole)
+    Ok(Together {
+        whole: whole.to.duration_since(whole.from),
+        longest,
+        seen: whole.seen.wrapping_sub(first.seen),
+    })
 }

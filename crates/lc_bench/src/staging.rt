@@ -3,14 +3,14 @@ ghost use Rattle.std.specs.Prelude.{◌≡◌};
 ghost use Rattle.lc_stage.specs.Seats.{commit_view, IsSeatOf, IsIdle, IsFresh};
 
 use crate::harness::nanoseconds;
-use crate::rounds::Rounds;
+use crate::rounds::{Round, Rounds};
+use crate::side_by_side::{Span, StartingLine, Task, run_all};
 use lc_stage::{CommitSeat, Stage, StageFault};
 use std::alloc::Global;
-use std::io::{self, Error, ErrorKind};
+use std::io;
 use std::rt::Clock;
 use std::sync::atomic::{AtomicU64, Ordering};
-use std::thread::{Threads, map_vec};
-use std::time::{Duration, Instant};
+use std::thread::Threads;
 
 // How many stages are filled; a round is short.
 const ROUNDS: u32 = 101;
@@ -26,27 +26,8 @@ const TRIES: u32 = 10_000_000;
 // The header of a record of 8 words: one lock, one range.
 const HEADER: u64 = 0x8_0001_01a5;
 
-// Threads that pass it begin at about the same time.
-#[derive(Drop)]
-struct Gate {
-    ready: AtomicU64,
-    threads: u64,
-}
-
-impl Gate {
-    fn pass(&self) {
-        self.ready.fetch_add(1, Ordering::SeqCst);
-        for _ in 0..TRIES {
-            if self.ready.load(Ordering::SeqCst) >= self.threads {
-                return;
-            }
-        }
-    }
-}
-
 #[derive(Drop)]
 struct Committer<'a> {
-    gate: &'a Gate,
     stage: &'a Stage,
     seat: CommitSeat,
     ghost own: { IsSeatOf stage.now seat },
@@ -55,7 +36,6 @@ struct Committer<'a> {
 
 #[derive(Drop)]
 struct Writer<'a> {
-    gate: &'a Gate,
     tail: &'a AtomicU64,
     words: Vec<u64>,
 }
@@ -68,44 +48,68 @@ pub(crate) fn measure<R: AllocGlobal + Clock + Threads + Sync>(
     threads: u16,
 ) -> io::Result<Rounds> {
     let threads = u32::from(threads);
-    let mut rounds = Rounds::new(rt.alloc());
+    let mut rounds = Rounds::NONE;
     for _ in 0..ROUNDS {
         let before = write_records(rt, threads)?;
         let ours = stage_records(rt, threads)?;
         let again = write_records(rt, threads)?;
-        rounds.push(nanoseconds(before), nanoseconds(ours), nanoseconds(again))?;
+        rounds.push(&before, &ours, &again);
     }
     Ok(rounds)
 }
 
-// How long it takes to fill one stage.
+// Fills one stage.
 fn stage_records<R: AllocGlobal + Clock + Threads + Sync>(
     rt: &R,
     threads: u32,
-) -> io::Result<Duration> {
+) -> io::Result<Round> {
     let (stage, _flusher, mut first) = Stage::new(rt.alloc(), WORDS)?;
-    let gate = Gate {
-        ready: AtomicU64::new(0),
-        threads: u64::from(threads),
-    };
-    let committers = committers(rt.alloc(), &gate, &stage, &mut first, threads)?;
-    let times = map_vec(
-        rt,
-        committers,
-        &|committer: Committer| {
-            let Committer { gate, stage, seat } = committer;
-            gate.pass();
-            let start = Instant::now(rt)?;
-            commit_all(stage, seat);
-            start.elapsed(rt)
-        },
-    )?;
-    longest(times.as_slice())
+    let committers = committers(rt.alloc(), &stage, &mut first, threads)?;
+    longest(rt, committers)
+}
+
+// Writes as many records by hand.
+fn write_records<R: AllocGlobal + Clock + Threads + Sync>(
+    rt: &R,
+    threads: u32,
+) -> io::Result<Round> {
+    let tail = AtomicU64::new(0);
+    let writers = writers(rt.alloc(), &tail, threads)?;
+    longest(rt, writers)
+}
+
+// The time of the thread that takes longest.
+fn longest<R: Threads + Sync, T: Task<R> + Send + Drop>(
+    rt: &R,
+    tasks: Vec<T>,
+) -> io::Result<Round> {
+    let together = run_all(rt, tasks)?;
+    Ok(Round {
+        nanoseconds: nanoseconds(together.longest),
+        seen: together.seen,
+    })
+}
+
+impl<R: Clock> Task<R> for Committer<'_> {
+    fn run(self, rt: &R, line: &StartingLine) -> io::Result<Span> {
+        let Committer { stage, seat } = self;
+        let from = line.pass(rt)?;
+        commit_all(stage, seat);
+        Span::since(rt, from, 0)
+    }
+}
+
+impl<R: Clock> Task<R> for Writer<'_> {
+    fn run(self, rt: &R, line: &StartingLine) -> io::Result<Span> {
+        let Writer { tail, mut words } = self;
+        let from = line.pass(rt)?;
+        write_all(tail, words.as_mut_slice());
+        Span::since(rt, from, 0)
+    }
 }
 
 fn committers<'a>(
     alloc: Global,
-    gate: &'a Gate,
     stage: &'a Stage,
     first: &mut CommitSeat,
     threads: u32,
@@ -116,9 +120,18 @@ fn committers<'a>(
     let mut committers = Vec::new(alloc);
     for _ in 0..threads {
         let seat = stage.split(first);
-        committers.push(Committer { gate, stage, seat })?;
+        committers.push(Committer { stage, seat })?;
     }
     Ok(committers)
+}
+
+fn writers<'a>(alloc: Global, tail: &'a AtomicU64, threads: u32) -> io::Result<Vec<Writer<'a>>> {
+    let mut writers = Vec::new(alloc);
+    for _ in 0..threads {
+        let words = vec![in alloc; 0u64; WORDS as usize]?;
+        writers.push(Writer { tail, words })?;
+    }
+    Ok(writers)
 }
 
 // Reserves, fills and closes records until one does not fit.
@@ -153,42 +166,6 @@ fn close_record(stage: &Stage, seat: &mut CommitSeat)
     stage.close(seat, HEADER);
 }
 
-// How long it takes to write as many records by hand.
-fn write_records<R: AllocGlobal + Clock + Threads + Sync>(
-    rt: &R,
-    threads: u32,
-) -> io::Result<Duration> {
-    let tail = AtomicU64::new(0);
-    let gate = Gate {
-        ready: AtomicU64::new(0),
-        threads: u64::from(threads),
-    };
-    let mut writers = Vec::new(rt.alloc());
-    for _ in 0..threads {
-        writers.push(Writer {
-            gate: &gate,
-            tail: &tail,
-            words: vec![in rt.alloc(); 0u64; WORDS as usize]?,
-        })?;
-    }
-    let times = map_vec(
-        rt,
-        writers,
-        &|writer: Writer| {
-            let Writer {
-                gate,
-                tail,
-                mut words,
-            } = writer;
-            gate.pass();
-            let start = Instant::now(rt)?;
-            write_all(tail, words.as_mut_slice());
-            start.elapsed(rt)
-        },
-    )?;
-    longest(times.as_slice())
-}
-
 // Takes the next 8 words and stores into them until no word is left.
 fn write_all(tail: &AtomicU64, words: &mut [u64]) {
     for _ in 0..TRIES {
@@ -200,16 +177,4 @@ fn write_all(tail: &AtomicU64, words: &mut [u64]) {
             *word = at as u64;
         }
     }
-}
-
-// The longest of these times.
-fn longest(times: &[io::Result<Duration>]) -> io::Result<Duration> {
-    let mut longest = Duration::ZERO;
-    for time in times {
-        match time {
-            Ok(time) => longest = longest.max(*time),
-            Err(_) => return Err(Error::from(ErrorKind::Other)),
-        }
-    }
-    Ok(longest)
 }

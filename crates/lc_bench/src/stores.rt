@@ -1,96 +1,167 @@
 //! What a store is asked to do.
 use crate::events::{THREAD, events_of_all};
-use crate::harness::Work;
+use crate::harness::{self, ROUNDS, Work, ended};
 use crate::measurement::{Measurement, Timed};
+use crate::rounds::{Round, Rounds};
 use lc_core::{Event, Refusal, Reply, World};
 use lc_disk::Stoppable;
 use lc_record::Items;
 use std::alloc::{AllocError, Global};
 use std::io::{self, Error, ErrorKind};
+use std::rt::Clock;
+use std::time::Instant;
 
-/// The segment that a store of one segment has.
-pub(crate) const SEGMENT: u32 = 1;
+// The segment that a store of one segment has.
+const SEGMENT: u32 = 1;
 
 // More steps than any recovery has.
 const MOST_STEPS: u32 = 1_000_000;
 
-/// A store that is up, with the events of its transactions.
+/// What is done with a store.
+pub(crate) enum Act {
+    /// It comes up.
+    Recover,
+    /// All transactions. Where the log has no room for one, it is dropped, the log is emptied, and it is done again.
+    Transact,
+    /// The log of the node that has segment 1 is emptied.
+    Empty,
+    /// That node drops the records that no other one lacks.
+    Trim,
+    /// It goes down.
+    Stop,
+}
+
+/// A store, with the events of its transactions.
 #[derive(Drop)]
 pub(crate) struct Store<D: Stoppable + Drop> {
-    alloc: Global,
+    pub(crate) alloc: Global,
+    pub(crate) measurement: &'static Measurement,
+    pub(crate) transactions: Vec<Vec<Event>>,
+    pub(crate) world: World<D>,
+}
+
+/// Measures a store that is down, and comes up, beside the plain work.
+pub(crate) fn measure<R: AllocGlobal + Clock, D: Stoppable + Drop, P: Work<R>>(
+    rt: &R,
     measurement: &'static Measurement,
     world: World<D>,
-    transactions: Vec<Vec<Event>>,
+    plain: &mut P,
+) -> io::Result<Rounds> {
+    let mut store = Store {
+        alloc: rt.alloc(),
+        measurement,
+        transactions: Vec::new(rt.alloc()),
+        world,
+    };
+    measure_up(rt, &mut store, plain)
+}
+
+fn measure_up<R: AllocGlobal + Clock, D: Stoppable + Drop, P: Work<R>>(
+    rt: &R,
+    store: &mut Store<D>,
+    plain: &mut P,
+) -> io::Result<Rounds> {
+    store.begin()?;
+    harness::measure(rt, store, plain, ROUNDS)
+}
+
+/// A store comes up on these areas, and does all transactions.
+pub(crate) fn leave_transactions<D: Stoppable + Drop>(
+    alloc: Global,
+    measurement: &'static Measurement,
+    areas: Vec<D>,
+) -> io::Result<()> {
+    let mut store = Store {
+        alloc,
+        measurement,
+        transactions: Vec::new(alloc),
+        world: world_of(measurement, areas)?,
+    };
+    store.fill()
+}
+
+/// A store comes up on these areas.
+pub(crate) fn open<D: Stoppable + Drop>(
+    alloc: Global,
+    measurement: &Measurement,
+    areas: Vec<D>,
+) -> io::Result<()> {
+    let mut world = world_of(measurement, areas)?;
+    finish(alloc, &mut world, Event::RecoverStep)
+}
+
+/// The store on these areas, which is down.
+pub(crate) fn world_of<D: Stoppable + Drop>(
+    measurement: &Measurement,
+    areas: Vec<D>,
+) -> io::Result<World<D>> {
+    let geometry = measurement.geometry()?;
+    match World::new(geometry, areas) {
+        Ok(world) => Ok(world),
+        Err(_) => Err(Error::from(ErrorKind::InvalidData)),
+    }
 }
 
 impl<D: Stoppable + Drop> Store<D> {
-    /// This store, which comes up.
-    pub(crate) fn new(
-        alloc: Global,
-        measurement: &'static Measurement,
-        world: World<D>,
-    ) -> io::Result<Store<D>> {
-        let transactions = events_of_all(alloc, measurement)?;
-        Ok(Store {
-            alloc,
-            measurement,
-            world: come_up(alloc, world)?,
-            transactions,
-        })
+    /// It comes up, and has its transactions.
+    pub(crate) fn begin(&mut self) -> io::Result<()> {
+        self.transactions = events_of_all(self.alloc, self.measurement)?;
+        self.does(&Act::Recover)
     }
 
-    /// Does all transactions.
-    pub(crate) fn transact(&mut self) -> io::Result<()> {
-        transact_all(
-            self.alloc,
-            &mut self.world,
-            self.measurement,
-            self.transactions.as_slice(),
-        )
+    /// It comes up, and does its transactions.
+    pub(crate) fn fill(&mut self) -> io::Result<()> {
+        self.begin()?;
+        self.does(&Act::Transact)
     }
 
-    fn empty(&mut self) -> io::Result<()> {
-        empty_log(self.alloc, &mut self.world, self.measurement)
-    }
-}
-
-impl<D: Stoppable + Drop> Work for Store<D> {
-    fn ready(&mut self) -> io::Result<()> {
+    /// Does this.
+    pub(crate) fn does(&mut self, act: &Act) -> io::Result<()> {
         let node = self.measurement.home(SEGMENT);
-        finish(self.alloc, &mut self.world, Event::Trim { node })?;
-        match self.measurement.timed {
-            Timed::Transactions => self.empty(),
-            Timed::Emptying => self.transact(),
-            Timed::Both => Ok(()),
-            Timed::Recovery => {
-                self.transact()?;
-                let choices = Items::new(Vec::new(self.alloc));
-                finish(self.alloc, &mut self.world, Event::Stop { choices })
-            }
-        }
+        let event = match act {
+            Act::Recover => Event::RecoverStep,
+            Act::Trim => Event::Trim { node },
+            Act::Stop => Event::Stop {
+                choices: Items::new(Vec::new(self.alloc)),
+            },
+            Act::Empty => return empty_log(self.alloc, &mut self.world, node),
+            Act::Transact => return self.transact(node),
+        };
+        finish(self.alloc, &mut self.world, event)
     }
 
-    fn run(&mut self) -> io::Result<u64> {
-        match self.measurement.timed {
-            Timed::Transactions | Timed::Both => self.transact()?,
-            Timed::Emptying => self.empty()?,
-            Timed::Recovery => finish(self.alloc, &mut self.world, Event::RecoverStep)?,
+    fn transact(&mut self, node: u16) -> io::Result<()> {
+        for events in self.transactions.as_slice() {
+            transact(self.alloc, &mut self.world, node, events.as_slice())?;
         }
-        Ok(u64::from(self.measurement.count))
+        Ok(())
     }
 }
 
-/// A store that was down comes up.
-pub(crate) fn come_up<D: Stoppable + Drop>(
-    alloc: Global,
-    mut world: World<D>,
-) -> io::Result<World<D>> {
-    finish(alloc, &mut world, Event::RecoverStep)?;
-    Ok(world)
+impl<R: Clock, D: Stoppable + Drop> Work<R> for Store<D> {
+    fn round(&mut self, rt: &R) -> io::Result<Round> {
+        let (before, timed) = acts(&self.measurement.timed);
+        for act in before {
+            self.does(act)?;
+        }
+        let start = Instant::now(rt)?;
+        self.does(timed)?;
+        ended(rt, start, u64::from(self.measurement.count))
+    }
 }
 
-/// Makes the steps of an event until they are over.
-pub(crate) fn finish<D: Stoppable + Drop>(
+// What is done before what is timed, and what is timed.
+fn acts(timed: &Timed) -> (&'static [Act], &'static Act) {
+    match timed {
+        Timed::Transactions => (&[Act::Trim, Act::Empty], &Act::Transact),
+        Timed::Emptying => (&[Act::Trim, Act::Transact], &Act::Empty),
+        Timed::Both => (&[Act::Trim], &Act::Transact),
+        Timed::Recovery => (&[Act::Trim, Act::Transact, Act::Stop], &Act::Recover),
+    }
+}
+
+// Makes the steps of an event until they are over.
+fn finish<D: Stoppable + Drop>(
     alloc: Global,
     world: &mut World<D>,
     event: Event,
@@ -103,6 +174,26 @@ pub(crate) fn finish<D: Stoppable + Drop>(
         }
     }
     Err(Error::from(ErrorKind::InvalidData))
+}
+
+// Does a transaction, on an emptied log where it is full.
+fn transact<D: Stoppable + Drop>(
+    alloc: Global,
+    world: &mut World<D>,
+    node: u16,
+    events: &[Event],
+) -> io::Result<()> {
+    let mut refusal = play(alloc, world, events)?;
+    if let Some(Refusal::Full { .. }) = refusal {
+        let thread = THREAD;
+        finish(alloc, world, Event::Abort { node, thread })?;
+        empty_log(alloc, world, node)?;
+        refusal = play(alloc, world, events)?;
+    }
+    match refusal {
+        Some(_) => Err(Error::from(ErrorKind::InvalidData)),
+        None => Ok(()),
+    }
 }
 
 // What refuses the first of these events that is refused.
@@ -119,36 +210,12 @@ fn play<D: Stoppable + Drop>(
     Ok(None)
 }
 
-/// Does these transactions. Where the log has no room for one, it is dropped, the log is emptied, and it is done again.
-pub(crate) fn transact_all<D: Stoppable + Drop>(
+fn empty_log<D: Stoppable + Drop>(
     alloc: Global,
     world: &mut World<D>,
-    measurement: &Measurement,
-    transactions: &[Vec<Event>],
+    node: u16,
 ) -> io::Result<()> {
-    for events in transactions {
-        let mut refusal = play(alloc, world, events.as_slice())?;
-        if let Some(Refusal::Full { .. }) = refusal {
-            let node = measurement.home(SEGMENT);
-            let thread = THREAD;
-            finish(alloc, world, Event::Abort { node, thread })?;
-            empty_log(alloc, world, measurement)?;
-            refusal = play(alloc, world, events.as_slice())?;
-        }
-        if refusal.is_some() {
-            return Err(Error::from(ErrorKind::InvalidData));
-        }
-    }
-    Ok(())
-}
-
-/// Empties the log of the node that has segment 1.
-pub(crate) fn empty_log<D: Stoppable + Drop>(
-    alloc: Global,
-    world: &mut World<D>,
-    measurement: &Measurement,
-) -> io::Result<()> {
-    match world.truncate(alloc, measurement.home(SEGMENT)) {
+    match world.truncate(alloc, node) {
         Reply::Refused(_) => Err(Error::from(ErrorKind::InvalidData)),
         _ => Ok(()),
     }

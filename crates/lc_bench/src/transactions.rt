@@ -2,11 +2,14 @@
 ghost use Rattle.std.specs.Prelude.{◌≤◌, OnOk};
 ghost use Rattle.lc_tx.specs.Tx.{IsIdle};
 
-use crate::harness::Work;
+use crate::harness::{Work, ended};
 use crate::measurement::{DATA, End, Measurement, Transaction};
+use crate::rounds::Round;
 use lc_tx::{Image, OneSegment, Prepared, Tx, TxFault};
 use std::alloc::{AllocError, Global};
 use std::io::{self, Error, ErrorKind};
+use std::rt::Clock;
+use std::time::Instant;
 
 const SEGMENT: u32 = 1;
 
@@ -31,7 +34,7 @@ impl Transactions {
         Ok(Transactions {
             alloc,
             measurement,
-            transactions: measurement.transactions(alloc)?,
+            transactions: measurement.transactions(alloc, 0, 1, measurement.count)?,
             segment: OneSegment {
                 image: Image::new(bytes),
                 records: 0,
@@ -40,16 +43,13 @@ impl Transactions {
     }
 }
 
-impl Work for Transactions {
-    fn ready(&mut self) -> io::Result<()> {
-        Ok(())
-    }
-
-    fn run(&mut self) -> io::Result<u64> {
+impl<R: Clock> Work<R> for Transactions {
+    fn round(&mut self, rt: &R) -> io::Result<Round> {
         let transactions = self.transactions.as_slice();
         let end = &self.measurement.end;
+        let start = Instant::now(rt)?;
         match transact_all(self.alloc, &mut self.segment, transactions, end) {
-            Ok(words) => Ok(words),
+            Ok(words) => ended(rt, start, words),
             Err(_) => Err(Error::from(ErrorKind::OutOfMemory)),
         }
     }

@@ -1,12 +1,12 @@
 //! Plain writes to a file, and syncs.
-use crate::harness::Work;
+use crate::harness::{Work, ended};
 use crate::measurement::{Measurement, Timed};
+use crate::rounds::Round;
 use lc_disk::HeldFile;
-use std::alloc::{AllocError, Global};
-use std::fs::{OpenFile, OpenOptions};
+use std::fs::OpenOptions;
 use std::io;
-use std::os::unix::fs::FileExt;
-use std::rt::Files;
+use std::rt::{Clock, Files};
+use std::time::Instant;
 
 // The bytes of a record of one range.
 const RECORD_BYTES: usize = 64;
@@ -17,19 +17,21 @@ const SLOT_BYTES: usize = 272;
 // More bytes than all writes of a round have.
 const FILE_BYTES: usize = 65_536;
 
-// So many writes of so many bytes, and then a data sync.
-#[derive(Drop)]
-struct Step {
-    len: usize,
-    writes: u32,
+// What is written in a round.
+#[derive(Clone, Copy)]
+enum Written {
+    // So many pages side by side, and three syncs.
+    Pages(u32),
+    // For each group of so many commits the bytes of its records and one more, each with a sync.
+    Groups { groups: u32, commits: u32 },
 }
 
-/// A file, the bytes that are written, and what is done in a round.
+/// A file, the bytes that are written, and what they are.
 #[derive(Drop)]
 pub(crate) struct Writes<F: HeldFile> {
     file: F,
     bytes: Vec<u8>,
-    steps: Vec<Step>,
+    written: Written,
 }
 
 impl<F: HeldFile> Writes<F> {
@@ -48,46 +50,60 @@ impl<F: HeldFile> Writes<F> {
         Ok(Writes {
             file,
             bytes,
-            steps: steps(rt.alloc(), measurement)?,
+            written: written_of(measurement),
         })
     }
-}
 
-impl<F: HeldFile> Work for Writes<F> {
-    fn ready(&mut self) -> io::Result<()> {
-        Ok(())
+    // So many pages; where the last ends.
+    fn write_pages(&self, pages: u32) -> io::Result<u64> {
+        let at = self.write(SLOT_BYTES, pages, 0)?;
+        self.file.sync_data()?;
+        self.file.sync_data()?;
+        Ok(at)
     }
 
-    fn run(&mut self) -> io::Result<u64> {
+    // So many groups; where the last ends.
+    fn write_groups(&self, groups: u32, commits: u32) -> io::Result<u64> {
+        let len = RECORD_BYTES.wrapping_mul(commits as usize);
         let mut at = 0u64;
-        for step in self.steps.as_slice() {
-            let bytes = self.bytes.get(..step.len).unwrap_or(&[]);
-            for _ in 0..step.writes {
-                self.file.write_all_at(bytes, at)?;
-                at = at.wrapping_add(step.len as u64);
-            }
-            self.file.sync_data()?;
+        for _ in 0..groups {
+            at = self.write(len, 1, at)?;
+            at = self.write(1, 1, at)?;
         }
+        Ok(at)
+    }
+
+    // So many writes of so many bytes from a place on, and a data sync; where the last ends.
+    fn write(&self, len: usize, writes: u32, start: u64) -> io::Result<u64> {
+        let bytes = self.bytes.get(..len).unwrap_or(&[]);
+        let mut at = start;
+        for _ in 0..writes {
+            self.file.write_all_at(bytes, at)?;
+            at = at.wrapping_add(len as u64);
+        }
+        self.file.sync_data()?;
         Ok(at)
     }
 }
 
-// For each group of commits the bytes of its records and one more, each with a sync; for pages that are written side by
-// side one write of each page, and three syncs.
-fn steps(alloc: Global, measurement: &Measurement) -> Result<Vec<Step>, AllocError> {
-    let mut steps = Vec::new(alloc);
+impl<R: Clock, F: HeldFile> Work<R> for Writes<F> {
+    fn round(&mut self, rt: &R) -> io::Result<Round> {
+        let start = Instant::now(rt)?;
+        let at = match self.written {
+            Written::Pages(pages) => self.write_pages(pages),
+            Written::Groups { groups, commits } => self.write_groups(groups, commits),
+        }?;
+        ended(rt, start, at)
+    }
+}
+
+fn written_of(measurement: &Measurement) -> Written {
     if let Timed::Emptying = measurement.timed {
-        let writes = measurement.pages;
-        let len = SLOT_BYTES;
-        steps.push(Step { len, writes })?;
-        steps.push(Step { len, writes: 0 })?;
-        steps.push(Step { len, writes: 0 })?;
-        return Ok(steps);
+        return Written::Pages(measurement.pages);
     }
-    let len = RECORD_BYTES.wrapping_mul(measurement.group as usize);
-    for _ in 0..measurement.count / measurement.group.max(1) {
-        steps.push(Step { len, writes: 1 })?;
-        steps.push(Step { len: 1, writes: 1 })?;
+    let commits = measurement.group;
+    Written::Groups {
+        groups: measurement.count / commits.max(1),
+        commits,
     }
-    Ok(steps)
 }
