@@ -40,7 +40,17 @@ where
     R::File: HeldFile + Send,
 {
     let folder = format!(in rt.alloc(); "{folder}/{FOLDER}")?;
-    let folder = folder.as_str();
+    measure_in(rt, measurement, folder.as_str())
+}
+
+fn measure_in<R: AllocGlobal + Clock + Files + Print + Threads + Wait + Sync>(
+    rt: &R,
+    measurement: &'static Measurement,
+    folder: &str,
+) -> io::Result<Rounds>
+where
+    R::File: HeldFile + Send,
+{
     let _ = fs::remove_dir_all(rt, folder);
     fs::create_dir(rt, folder)?;
     let rounds = match (&measurement.subject, &measurement.timed) {
@@ -48,9 +58,8 @@ where
         (_, Timed::Recovery) => measure_opening(rt, measurement, folder),
         _ => measure_work(rt, measurement, folder),
     };
-    let rounds = rounds?;
     fs::remove_dir_all(rt, folder)?;
-    Ok(rounds)
+    rounds
 }
 
 // A store, beside plain writes and data syncs.

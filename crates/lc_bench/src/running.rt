@@ -44,9 +44,17 @@ pub(crate) fn in_memory<R: AllocGlobal + Clock + Threads + Wait + Sync>(
     measurement: &'static Measurement,
 ) -> io::Result<Rounds> {
     let mut plain = ByHand::new(rt.alloc(), measurement)?;
+    in_memory_beside(rt, measurement, &mut plain)
+}
+
+fn in_memory_beside<R: AllocGlobal + Clock + Threads + Wait + Sync, P: Work<R>>(
+    rt: &R,
+    measurement: &Measurement,
+    plain: &mut P,
+) -> io::Result<Rounds> {
+    let syncs = AtomicU64::new(0);
     let areas = areas_in_memory(rt.alloc(), measurement)?;
-    let syncs = Arc::new(rt.alloc(), AtomicU64::new(0))?;
-    let (rounds, _synced) = measure_on(rt, measurement, Mode::Lazy, areas, &syncs, &mut plain)?;
+    let (rounds, _synced) = measure_on(rt, measurement, Mode::Lazy, areas, &syncs, plain)?;
     Ok(rounds)
 }
 
@@ -63,9 +71,21 @@ where
     R::File: HeldFile + Send,
 {
     let mut plain = Writes::new(rt, measurement, folder)?;
+    in_files_beside(rt, measurement, folder, &mut plain)
+}
+
+fn in_files_beside<R: AllocGlobal + Clock + Files + Print + Threads + Wait + Sync, P: Work<R>>(
+    rt: &R,
+    measurement: &Measurement,
+    folder: &str,
+    plain: &mut P,
+) -> io::Result<Rounds>
+where
+    R::File: HeldFile + Send,
+{
     let syncs = Arc::new(rt.alloc(), AtomicU64::new(0))?;
     let areas = areas_in_files(rt, measurement, folder, &syncs)?;
-    let (mut rounds, synced) = measure_on(rt, measurement, Mode::Flush, areas, &syncs, &mut plain)?;
+    let (mut rounds, synced) = measure_on(rt, measurement, Mode::Flush, areas, &syncs, plain)?;
     print_flushes(rt, measurement, synced, rounds.plain())?;
     Ok(rounds)
 }

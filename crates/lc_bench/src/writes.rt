@@ -41,17 +41,21 @@ impl<F: HeldFile> Writes<F> {
         measurement: &Measurement,
         folder: &str,
     ) -> io::Result<Writes<F>> {
-        let path = format!(in rt.alloc(); "{folder}/plain")?;
-        let mut options = OpenOptions::new();
-        let file = options.write(true).create_new(true).open(rt, &path)?;
+        let file = make_file(rt, folder)?;
         let bytes = vec![in rt.alloc(); 0x5a; FILE_BYTES]?;
-        file.write_all_at(&bytes, 0)?;
-        file.sync_all()?;
-        Ok(Writes {
+        let writes = Writes {
             file,
             bytes,
             written: written_of(measurement),
-        })
+        };
+        writes.begin()?;
+        Ok(writes)
+    }
+
+    // Gives the file its length.
+    fn begin(&self) -> io::Result<()> {
+        self.file.write_all_at(&self.bytes, 0)?;
+        self.file.sync_all()
     }
 
     // So many pages; where the last ends.
@@ -106,4 +110,13 @@ fn written_of(measurement: &Measurement) -> Written {
         groups: measurement.count / commits.max(1),
         commits,
     }
+}
+
+// A new file in this folder.
+fn make_file<R: AllocGlobal + Files>(rt: &R, folder: &str) -> io::Result<R::File> {
+    let path = format!(in rt.alloc(); "{folder}/plain")?;
+    OpenOptions::new()
+        .write(true)
+        .create_new(true)
+        .open(rt, &path)
 }
