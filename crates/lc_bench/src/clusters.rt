@@ -7,7 +7,7 @@ ghost use Rattle.lc_node.specs.declared.node.Node.{Node as TheNode};
 
 use crate::by_hand::ByHand;
 use crate::committing::commit_all;
-use crate::harness::{self, ROUNDS, Work, ended};
+use crate::harness::{self, Work, ended};
 use crate::measurement::{Measurement, Sent, Transaction};
 use crate::nodes::recovered;
 use crate::rounds::{Round, Rounds};
@@ -61,7 +61,7 @@ fn measure_beside<R: AllocGlobal + Clock + Wait>(
     plain: &mut ByHand,
 ) -> io::Result<Rounds> {
     let mut members = Members::new(rt.alloc(), measurement, sent)?;
-    harness::measure(rt, &mut members, plain, ROUNDS)
+    harness::measure(rt, &mut members, plain)
 }
 
 impl Members {

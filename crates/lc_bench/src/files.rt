@@ -1,5 +1,5 @@
 //! Stores in files.
-use crate::harness::{self, ROUNDS, Work, ended};
+use crate::harness::{self, Work, ended};
 use crate::measurement::{Measurement, Subject, Timed};
 use crate::rounds::{Round, Rounds};
 use crate::running;
@@ -103,7 +103,7 @@ where
         measurement,
         folder,
     };
-    harness::measure(rt, &mut work, &mut plain, ROUNDS)
+    harness::measure(rt, &mut work, &mut plain)
 }
 
 impl<R: AllocGlobal + Clock + Files> Work<R> for Opening<'_>

@@ -14,15 +14,14 @@ pub(crate) trait Work<R> {
     fn round(&mut self, rt: &R) -> io::Result<Round>;
 }
 
-/// The times of so many rounds, at most `MOST_ROUNDS`: the plain work, the work, and the plain work again.
+/// The times of all rounds: the plain work, the work, and the plain work again.
 pub(crate) fn measure<R, W: Work<R>, P: Work<R>>(
     rt: &R,
     work: &mut W,
     plain: &mut P,
-    count: u32,
 ) -> io::Result<Rounds> {
     let mut rounds = Rounds::NONE;
-    for _ in 0..count {
+    for _ in 0..ROUNDS {
         let before = plain.round(rt)?;
         let ours = work.round(rt)?;
         let again = plain.round(rt)?;

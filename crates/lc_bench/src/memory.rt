@@ -1,7 +1,7 @@
 //! Measurements in memory: transactions on an image, and stores.
 use crate::by_hand::ByHand;
 use crate::copies::Copies;
-use crate::harness::{self, ROUNDS, Work};
+use crate::harness::{self, Work};
 use crate::measurement::{Measurement, Timed};
 use crate::rounds::Rounds;
 use crate::stores;
@@ -25,7 +25,7 @@ fn on_image_beside<R: AllocGlobal + Clock>(
     plain: &mut ByHand,
 ) -> io::Result<Rounds> {
     let mut work = Transactions::new(rt.alloc(), measurement)?;
-    harness::measure(rt, &mut work, plain, ROUNDS)
+    harness::measure(rt, &mut work, plain)
 }
 
 /// Measures a store in memory, beside transactions by hand, and its recovery beside plain copies.

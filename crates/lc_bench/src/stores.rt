@@ -1,6 +1,6 @@
 //! What a store is asked to do.
 use crate::events::{THREAD, events_of_all};
-use crate::harness::{self, ROUNDS, Work, ended};
+use crate::harness::{self, Work, ended};
 use crate::measurement::{Measurement, Timed};
 use crate::rounds::{Round, Rounds};
 use lc_core::{Event, Refusal, Reply, World};
@@ -62,7 +62,7 @@ fn measure_up<R: AllocGlobal + Clock, D: Stoppable + Drop, P: Work<R>>(
     plain: &mut P,
 ) -> io::Result<Rounds> {
     store.begin()?;
-    harness::measure(rt, store, plain, ROUNDS)
+    harness::measure(rt, store, plain)
 }
 
 /// A store comes up on these areas, and does all transactions.
@@ -103,8 +103,8 @@ pub(crate) fn world_of<D: Stoppable + Drop>(
 }
 
 impl<D: Stoppable + Drop> Store<D> {
-    /// It comes up, and has its transactions.
-    pub(crate) fn begin(&mut self) -> io::Result<()> {
+    // It comes up, and has its transactions.
+    fn begin(&mut self) -> io::Result<()> {
         self.transactions = events_of_all(self.alloc, self.measurement)?;
         self.does(&Act::Recover)
     }
