@@ -28,7 +28,7 @@ pub mod Readied
 pub mod OneOpen
 pub mod Logged
 pub mod ResetSteps
-pub mod Parts
+pub mod JournalParts
 pub mod Reserved
 pub mod Slotted
 pub mod Going
@@ -108,3 +108,5 @@ pub mod Geometries
 pub mod OneArea
 pub mod EachCall
 pub mod BegunCounts
+pub mod Adopts
+pub mod AdoptsUp

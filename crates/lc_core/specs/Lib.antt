@@ -61,3 +61,5 @@ pub mod Calls
 pub mod Uncommitted
 pub mod Resets
 pub mod Areas
+pub mod Adopting
+pub mod Parts

@@ -1,5 +1,5 @@
 //! The laws of the answers that the machine leaves open, each the contract of a function with nothing to do.
-ghost use Rattle.std.specs.Prelude.{◌≡◌, ◌≢◌, ◌⊎◌, ◌+◌, ◌++◌, ◌<◌, ℕ, List, Some, true, slice_get, slice_set};
+ghost use Rattle.std.specs.Prelude.{◌≡◌, ◌≢◌, ◌⊎◌, ◌+◌, ◌++◌, ◌<◌, ℕ, List, [], Some, true, slice_get, slice_set};
 ghost use Rattle.lc_disk.specs.Area.{IsImage};
 ghost use Rattle.lc_page.specs.declared.page_text.PageText.{PageText};
 ghost use Rattle.lc_record.specs.declared.geometry.Geometry.{Geometry as Shape};
@@ -11,11 +11,16 @@ ghost use Rattle.lc_model.specs.Recovered.{recovered_disks};
 ghost use Rattle.lc_model.specs.Sound.{Sound};
 ghost use Rattle.lc_model.specs.State.{Place, At, Travelling, Up, State, Setting, fresh, running_of};
 ghost use Rattle.lc_model.specs.Stored.{Fits as FitsDisks};
-ghost use Rattle.lc_model.specs.History.{Cut, kept};
-ghost use Rattle.lc_model.specs.Merging.{counted_all};
+ghost use Rattle.lc_model.specs.History.{Cut, kept, value};
+ghost use Rattle.lc_model.specs.Merging.{counted_all, put_on};
+ghost use Rattle.lc_rest.specs.Found.{Found, machine_setting, machine_state};
+ghost use Rattle.lc_rest.specs.Tested.{IsTested};
 ghost use Rattle.lc_recover.specs.Reads.{AreHonest, HaveLengths};
+ghost use Rattle.lc_core.specs.Adopting.{IsAdoptedUp, numbers_of};
 ghost use Rattle.lc_core.specs.Areas.{AreStopped};
 ghost use Rattle.lc_core.specs.Headline.{AllMerge, Cuts, Holds};
+ghost use Rattle.lc_core.specs.World.{FitsUp};
+ghost use Rattle.lc_core.specs.declared.up.Up.{Up as ItsUp};
 ghost use Rattle.lc_core.specs.declared.world.World.{World as Store};
 ghost use Rattle.lc_core.specs.Beside.{Beside, BesideLogs};
 ghost use Rattle.lc_core.specs.Coherent.{AreCoherent};
@@ -70,6 +75,14 @@ pub fn next_life<D: Area>()
         (cut : Cut) × Cuts h.after.phase m.geometry h.after cut × HaveLengths D.Area m.geometry news × AreHonest D.Area news
         × AllMerge D.Area m.geometry news (effects (h.after.earlier ++ kept h.after.history cut) m.start)
         (counted_all numbers (h.after.earlier ++ kept h.after.history cut)) }
+{}
+
+/// A store that is built of a cluster at rest that passes the tests fits a state of the machine with nothing open, whose value is
+/// what all records make of the pages.
+pub fn adopted<D: Area>()
+    ensures fits { (f : Found) (up : ItsUp D D.Area) → IsTested f → IsAdoptedUp D.Area f up →
+        FitsUp D.Area (machine_setting f) up (machine_state f) (numbers_of f) }
+    ensures value { (f : Found) → value f.base [] (machine_state f).history ≡ put_on f.records f.base }
 {}
 
 /// What one node does leaves the desks of the others fitting the machine: what becomes of its open transactions and of its

@@ -2,6 +2,7 @@
 //! is a run of it, and the types of the machine are handed on.
 #![tactic(auto)]
 
+mod adopt_fault;
 mod answering;
 mod arriving;
 mod beginning;
@@ -29,12 +30,15 @@ mod logging;
 mod moving;
 mod named;
 mod node;
+mod node_part;
 mod node_step;
 mod page_calls;
 mod page_progress;
 mod page_state;
 mod pages;
 mod paging;
+mod part;
+mod parts;
 mod phase;
 mod place;
 mod preparing;
@@ -52,6 +56,7 @@ mod run;
 mod run_result;
 mod running;
 mod seat;
+mod segment_part;
 mod setting;
 mod show_fault;
 mod showing;
@@ -69,11 +74,16 @@ mod up_step;
 mod world;
 mod writing;
 
+pub use adopt_fault::AdoptFault;
 pub use headline::run_areas;
 pub use in_memory::run_in_memory;
-pub use laws::{next_life, settled_answers, settled_runs};
+pub use laws::{adopted, next_life, settled_answers, settled_runs};
 pub use lc_model::{Event, Refusal, Reply};
+pub use node_part::NodePart;
+pub use part::Part;
+pub use parts::Parts;
 pub use recovered_reply::recovery_refusal;
 pub use run_result::RunResult;
+pub use segment_part::SegmentPart;
 pub use show_fault::ShowFault;
 pub use world::World;

@@ -1,0 +1,21 @@
+//! What is handed over of a node of a cluster at rest.
+use lc_disk::Area;
+use lc_log::Idle;
+use lc_trunc::KnownClean;
+use lc_tx::Image;
+
+/// What is handed over of a node: its log and its round; the words of the records of the rounds that have ended since it was
+/// opened, those of the records that its log has, and those that are staged behind them; how clean it has seen the segments; and
+/// its image of each segment, from segment 1 on, with the number up to which it has applied the segment's records. This
+/// project's own.
+#[derive(Drop)]
+pub struct NodePart<D: Area> {
+    pub log: Idle<D>,
+    pub round: u64,
+    pub ended: Vec<u64>,
+    pub stable: Vec<u64>,
+    pub staged: Vec<u64>,
+    pub known: KnownClean,
+    pub images: Vec<Image>,
+    pub applied: Vec<u64>,
+}
