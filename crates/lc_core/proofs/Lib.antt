@@ -110,3 +110,5 @@ pub mod EachCall
 pub mod BegunCounts
 pub mod Adopts
 pub mod AdoptsUp
+pub mod Pieces
+pub mod Adoptions

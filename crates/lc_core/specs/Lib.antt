@@ -63,3 +63,5 @@ pub mod Resets
 pub mod Areas
 pub mod Adopting
 pub mod Parts
+pub mod Pieces
+pub mod Made

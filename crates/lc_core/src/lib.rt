@@ -3,6 +3,7 @@
 #![tactic(auto)]
 
 mod adopt_fault;
+mod adopting;
 mod answering;
 mod arriving;
 mod beginning;
@@ -31,6 +32,7 @@ mod moving;
 mod named;
 mod node;
 mod node_part;
+mod node_piece;
 mod node_step;
 mod page_calls;
 mod page_progress;
@@ -57,6 +59,8 @@ mod run_result;
 mod running;
 mod seat;
 mod segment_part;
+mod segment_piece;
+mod segment_pieces;
 mod setting;
 mod show_fault;
 mod showing;

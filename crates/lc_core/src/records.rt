@@ -50,6 +50,13 @@ impl Records {
         }
     }
 
+    /// How many were dropped.
+    pub(crate) fn before(&self) -> u64
+        ensures { result ≡ self.now.before }
+    {
+        self.first + self.gone as u64
+    }
+
     /// How many were reserved.
     pub(crate) fn count(&self) -> u64
         ensures { result ≡ count_of self.now }

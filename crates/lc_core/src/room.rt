@@ -4,21 +4,28 @@ ghost use Rattle.std.specs.Global.{Vec as TheVec};
 ghost use Rattle.lc_record.specs.declared.geometry.Geometry.{Geometry};
 ghost use Rattle.lc_recover.specs.Reads.{AreHonest, AreOfBytes, HaveLengths};
 ghost use Rattle.lc_recover.specs.Recovered.{IsFinished};
+ghost use Rattle.lc_rest.specs.Found.{Found};
+ghost use Rattle.lc_core.specs.Adopting.{IsAdoptedUp};
 ghost use Rattle.lc_core.specs.Blank.{AreBlankNodes, AreFilledNodes, IsBlankJournal};
 ghost use Rattle.lc_core.specs.Fresh.{IsFresh};
 ghost use Rattle.lc_core.specs.Log.{Stands, area_of, is_idle};
 ghost use Rattle.lc_core.specs.PageState.{AreAtRest, AreNamed};
 ghost use Rattle.lc_core.specs.Pages.{RestsAll, areas_of};
+ghost use Rattle.lc_core.specs.Made.{AreFound, AreSegments, IsMadeUp};
+ghost use Rattle.lc_core.specs.Pieces.{AreNodePieces, AreTokens};
 ghost use Rattle.lc_core.specs.declared.node.Node.{Node};
 ghost use Rattle.lc_core.specs.declared.page_state.PageState.{PageState as TheState};
 ghost use Rattle.lc_core.specs.declared.pages.Pages.{Pages as ThePages};
 
+use crate::adopting::adopt_nodes;
 use crate::journal::Journal;
 use crate::log::Log;
 use crate::node::Node;
+use crate::node_piece::NodePiece;
 use crate::page_state::PageState;
 use crate::pages::Pages;
 use crate::running::Running;
+use crate::segment_pieces::SegmentPieces;
 use crate::up::Up;
 use lc_disk::Area;
 use lc_log::Idle;
@@ -93,6 +100,56 @@ impl<D: Area + Drop> Room<D> {
             geometry,
             nodes,
             travelling,
+        };
+        Up {
+            running,
+            segments,
+            spare,
+        }
+    }
+
+    /// The store that these pieces make: each node with its log and its records, and with the tokens that are at it; the other
+    /// tokens are on their way. There is an area for each segment, in room for those of the logs too, and of no segment is a
+    /// page being written. It takes no memory.
+    pub(crate) fn adopt(
+        self,
+        alloc: Global,
+        pieces: Vec<NodePiece<D>>,
+        contents: &SegmentPieces,
+        mut tokens: Vec<Option<Token>>,
+        areas: Vec<D>,
+    ) -> Up<D>
+        requires geometry { contents.now.geometry ≡ self.geometry }
+        requires all_nodes { vec_len pieces ≡ self.geometry.nodes }
+        requires pieces { AreNodePieces D.Area self.geometry.words pieces.items }
+        requires all_tokens { vec_len tokens ≡ self.geometry.segments }
+        requires tokens { AreTokens self.geometry tokens.items }
+        requires all_segments { vec_len areas ≡ self.geometry.segments }
+        requires lengths { AreSegments D.Area (2 * 272 * self.geometry.pages) areas.items }
+        requires room { self.geometry.nodes + self.geometry.segments ≤ vec_capacity areas }
+        ensures made { IsMadeUp D.Area self.geometry contents.now.pieces.items tokens.items pieces.items areas.items result }
+        ensures adopted { (f : Found) → AreFound D.Area f contents.now tokens.items pieces.items areas.items → IsAdoptedUp D.Area f result }
+    {
+        let Room {
+            geometry,
+            mut nodes,
+            travelling: _,
+            writes,
+            segments,
+        } = self;
+        adopt_nodes(
+            nodes.as_mut_slice(),
+            alloc,
+            pieces,
+            contents,
+            tokens.as_mut_slice(),
+        );
+        ask_lengths(areas.as_slice());
+        let (segments, spare) = with_areas(segments, writes, areas);
+        let running = Running {
+            geometry,
+            nodes,
+            travelling: tokens,
         };
         Up {
             running,

@@ -1,0 +1,39 @@
+//! What a segment of a store is made of.
+ghost use Rattle.std.specs.Prelude.{◌≡◌};
+ghost use Rattle.lc_core.specs.Pieces.{bytes_of, number_of};
+
+use lc_rest::Holder;
+use lc_token::Token;
+
+/// What a segment of a store is made of, beside its token and its area: where the token is, and the bytes that all its records
+/// make, which are those at the node of its token; and the number up to which it is applied elsewhere, with the bytes that the
+/// records up to that number make. This project's own.
+#[derive(Drop)]
+pub(crate) struct SegmentPiece {
+    pub(crate) holder: Holder,
+    pub(crate) bytes: Vec<u8>,
+    pub(crate) stable: u64,
+    pub(crate) stable_bytes: Vec<u8>,
+}
+
+impl SegmentPiece {
+    /// The number up to which the segment is applied where this token stands, or none.
+    pub(crate) fn number(&self, standing: &Option<Token>) -> u64
+        ensures { result ≡ number_of self.now standing.now }
+    {
+        match standing {
+            Some(token) => token.seq,
+            None => self.stable,
+        }
+    }
+
+    /// The bytes of the segment where this token stands, or none.
+    pub(crate) fn bytes(&self, standing: &Option<Token>) -> &[u8]
+        ensures { result.now ≡ bytes_of self.now standing.now }
+    {
+        match standing {
+            Some(_) => self.bytes.as_slice(),
+            None => self.stable_bytes.as_slice(),
+        }
+    }
+}
