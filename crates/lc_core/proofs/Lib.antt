@@ -112,3 +112,4 @@ pub mod Adopts
 pub mod AdoptsUp
 pub mod Pieces
 pub mod Adoptions
+pub mod KeptWords

@@ -22,6 +22,7 @@ mod here;
 mod in_memory;
 mod in_place;
 mod journal;
+mod keeping;
 mod laws;
 mod leaving;
 mod log;

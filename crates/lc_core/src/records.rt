@@ -1,5 +1,5 @@
 //! The records that a node reserved, in the order of their reservations.
-ghost use Rattle.std.specs.Prelude.{◌≡◌, ◌+◌, ◌-◌, ◌<◌, ◌≤◌, ◌^◌, ℕ, List, [], ◌∷◌, ◌++◌, map, length, take, drop, false, Some, IfOk, OnErr, All, slice_get};
+ghost use Rattle.std.specs.Prelude.{◌≡◌, ◌+◌, ◌-◌, ◌<◌, ◌≤◌, ◌^◌, ℕ, List, [], ◌∷◌, ◌++◌, map, length, take, drop, true, false, Some, IfOk, OnErr, All, slice_get};
 ghost use Rattle.lc_model.specs.History.{leading};
 ghost use Rattle.lc_core.specs.Records.{Lie, Spelled, all_words, count_of, front_of, span_of, places_of, shifted, closed_at};
 
@@ -50,6 +50,20 @@ impl Records {
         }
     }
 
+    /// None, behind so many that were dropped: the next has their number. It takes no memory.
+    pub(crate) fn behind(alloc: Global, dropped: u64) -> Records
+        requires { dropped < 2 ^ 63 }
+        ensures { result ≡ record { before = dropped; records = [] } }
+    {
+        Records {
+            words: Vec::new(alloc),
+            places: Vec::new(alloc),
+            first: dropped,
+            gone: 0,
+            leading: 0,
+        }
+    }
+
     /// How many were dropped.
     pub(crate) fn before(&self) -> u64
         ensures { result ≡ self.now.before }
@@ -92,6 +106,19 @@ impl Records {
         };
         self.places.push(place).unwrap();
         Ok(number)
+    }
+
+    /// Adds a record of these words, which is closed. It takes memory for them, and where memory is wanted, as behind the last
+    /// number, 2^63 - 2, nothing has changed.
+    pub(crate) fn keep(&mut self, words: &[u64]) -> Result<(), AllocError>
+        ensures kept { IfOk result (λ _. self.new ≡ record self.old {
+          records = self.old.records ++ record { words = words.now; closed = true } ∷ [];
+        }) }
+        ensures err { OnErr result (self.new ≡ self.old) }
+    {
+        let number = self.reserve(words)?;
+        self.close(number);
+        Ok(())
     }
 
     /// Closes the record of this number, where it is kept.
