@@ -1,7 +1,7 @@
 -- Records that are kept from words: what is found of them so far, and of all.
-use Rattle.std.proofs.Common.{◌≡◌, ℕ, true, List, [], ◌∷◌, ◌++◌, map, take, drop, length, refl, sym, ap, ◌∙◌}
+use Rattle.std.proofs.Common.{◌≡◌, ℕ, ◌+◌, true, List, [], ◌∷◌, ◌++◌, map, take, drop, length, refl, sym, ap, ◌∙◌}
 use Rattle.std.specs.List.{AllByRecursion}
-use Rattle.std.proofs.lemmas.List.{append-nil, append_assoc, map-append, take_at}
+use Rattle.std.proofs.lemmas.List.{append-nil, append_assoc, length-map, map-append, take_at}
 use Rattle.lc_record.specs.Codec.{BeginsNoRecord}
 use Rattle.lc_record.specs.Record.{spelling}
 use Rattle.lc_record.specs.declared.record.Record.{Record}
@@ -10,8 +10,8 @@ use Rattle.lc_log.specs.InPlace.{records_in}
 use Rattle.lc_log.proofs.InPlaceLemmas.{records_text}
 use Rattle.lc_log.proofs.LogLemmas.{joined-append, one_text-by}
 use Rattle.lc_log.proofs.WalkLemmas.{Found, found_all}
-use Rattle.lc_core.specs.Pieces.{closed_record, kept_behind}
-use Rattle.lc_core.specs.Records.{Kept, Spelled}
+use Rattle.lc_core.specs.Kept.{closed_record, kept_behind}
+use Rattle.lc_core.specs.Records.{Kept, Spelled, count_of}
 
 -- none is kept behind what was
 pub none_behind : (k : Kept) → k ≡ kept_behind [] k
@@ -53,3 +53,7 @@ pub with_one_more : (found : List (ℕ × Record)) (place : ℕ) (r : Record) (w
 with_one_more found place r words old now new spelled is next =
     one_behind (map (λ x. x.1) found) r words old now new spelled is next
     ∙ ap (λ (rs : List Record). kept_behind rs old) (sym (map-append (λ (x : ℕ × Record). x.1) found ((place, r) ∷ [])))
+
+-- how many were reserved then, behind so many that were dropped
+pub count_behind : (dropped : ℕ) (front : List Record) → count_of (kept_behind front (record { before = dropped; records = [] })) ≡ dropped + length front
+count_behind dropped front = ap (λ (n : ℕ). dropped + n) (length-map front closed_record)

@@ -65,3 +65,4 @@ pub mod Adopting
 pub mod Parts
 pub mod Pieces
 pub mod Made
+pub mod Kept

@@ -1,17 +1,15 @@
 -- The pieces that a store is made of, and how they stand in it.
-use Rattle.std.specs.Prelude.{◌≡◌, ℕ, ◌+◌, ◌*◌, ◌<◌, ◌≤◌, ◌^◌, ◌==◌, nat_lt, Bool, false, true, List, map, ◌++◌, length, replicate, Option, Some, None, slice_get, if◌then◌else◌}
+use Rattle.std.specs.Prelude.{◌≡◌, ℕ, ◌+◌, ◌*◌, ◌<◌, ◌≤◌, ◌^◌, ◌==◌, nat_lt, Bool, false, List, length, replicate, Option, Some, None, slice_get, if◌then◌else◌}
 use Rattle.std.specs.Option.{ForSome}
 use Rattle.lc_disk.specs.declared.area.Area.{Ghosts}
 use Rattle.lc_record.specs.Geometry.{segment_len}
 use Rattle.lc_record.specs.declared.geometry.Geometry.{Geometry}
-use Rattle.lc_record.specs.Record.{spelling}
-use Rattle.lc_record.specs.declared.record.Record.{Record}
 use Rattle.lc_rest.specs.declared.holder.Holder.{Holder}
 use Rattle.lc_rest.specs.declared.holder.Holder.TheVariants.{Here, Left}
 use Rattle.lc_token.specs.Backlog.{fresh}
 use Rattle.lc_token.specs.declared.token.Token.{Token}
 use Rattle.lc_tx.specs.declared.holders.Holders.TheVariants.{Free as Unheld}
-use Rattle.lc_core.specs.Records.{Kept, Spelled, all_words, front_of, span_of}
+use Rattle.lc_core.specs.Records.{all_words, front_of, span_of}
 use Rattle.lc_core.specs.Seat.{Free}
 use Rattle.lc_core.specs.declared.journal.Journal.{Journal}
 use Rattle.lc_core.specs.declared.log.Log.TheVariants.{Idle}
@@ -89,16 +87,6 @@ AreLeftAt node pieces olds news = (k : ℕ) (piece : SegmentPiece) (token : Opti
 -- and those that the first so many nodes have
 abbrev pub AreLeftBy : ℕ → List SegmentPiece → List (Option Token) → List (Option Token) → Type 0
 AreLeftBy nodes pieces olds news = (k : ℕ) (piece : SegmentPiece) (token : Option Token) → slice_get pieces k ≡ Some piece → slice_get olds k ≡ Some token → slice_get news k ≡ Some (left_by nodes piece.holder token)
-
--- The records
-
--- a record that is closed
-abbrev pub closed_record : Record → Spelled
-closed_record r = record { words = spelling r; closed = true }
-
--- these are kept behind what was
-abbrev pub kept_behind : List Record → Kept → Kept
-kept_behind rs k = record k { records = k.records ++ map closed_record rs }
 
 -- The nodes
 

@@ -2,7 +2,7 @@
 ghost use Rattle.std.specs.Prelude.{◌≡◌, ℕ, List, take, IfOk, OnErr};
 ghost use Rattle.lc_record.specs.declared.record.Record.{Record};
 ghost use Rattle.lc_log.specs.LogText.{IsLogText};
-ghost use Rattle.lc_core.specs.Pieces.{kept_behind};
+ghost use Rattle.lc_core.specs.Kept.{kept_behind};
 
 use crate::records::Records;
 use lc_record::View;

@@ -1,8 +1,14 @@
 //! What a node of a store is made of.
+ghost use Rattle.std.specs.Prelude.{◌≡◌, ◌+◌, ◌<◌, ◌^◌, ◌++◌, List, length, map, IfOk};
+ghost use Rattle.lc_record.specs.declared.record.Record.{Record};
+ghost use Rattle.lc_log.specs.LogText.{IsLogText};
+ghost use Rattle.lc_core.specs.Kept.{closed_record};
+
 use crate::records::Records;
 use lc_disk::Area;
 use lc_log::Idle;
 use lc_trunc::KnownClean;
+use std::alloc::{AllocError, Global};
 
 /// What a node of a store is made of: its log and its round; its records that no reset has dropped, all of them closed, and how
 /// many of all its records are stable; and how clean it has seen the segments. This project's own.
@@ -13,4 +19,39 @@ pub(crate) struct NodePiece<D: Area> {
     pub(crate) records: Records,
     pub(crate) stable: u64,
     pub(crate) known: KnownClean,
+}
+
+impl<D: Area + Drop> NodePiece<D> {
+    /// What a node is made of with this log in its round, which knows so much as clean: behind so many records that resets have
+    /// dropped, fewer than 2^63, those that the log has, and then those that are staged, each as the words that begin with them. It
+    /// takes memory for the words.
+    pub(crate) fn new(
+        alloc: Global,
+        log: Idle<D>,
+        round: u64,
+        known: KnownClean,
+        dropped: u64,
+        stable: &[u64],
+        staged: &[u64],
+    ) -> Result<NodePiece<D>, AllocError>
+        requires few { dropped < 2 ^ 63 }
+        ensures log { IfOk result (λ piece. piece.log ≡ log) }
+        ensures round { IfOk result (λ piece. piece.round ≡ round) }
+        ensures known { IfOk result (λ piece. piece.known ≡ known) }
+        ensures records { IfOk result (λ piece. (front behind : List Record) → IsLogText stable.now front → IsLogText staged.now behind →
+            piece.records ≡ record { before = dropped; records = map closed_record (front ++ behind) }) }
+        ensures stable { IfOk result (λ piece. (front : List Record) → IsLogText stable.now front → piece.stable ≡ dropped + length front) }
+    {
+        let mut records = Records::behind(alloc, dropped);
+        records.keep_all(stable)?;
+        let count = records.count();
+        records.keep_all(staged)?;
+        Ok(NodePiece {
+            log,
+            round,
+            records,
+            stable: count,
+            known,
+        })
+    }
 }

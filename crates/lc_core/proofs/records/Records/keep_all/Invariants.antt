@@ -1,7 +1,7 @@
 use Rattle.std.proofs.Common.{◌≡◌, ℕ, ◌-◌, List, length, map}
 use Rattle.lc_record.specs.declared.record.Record.{Record}
 use Rattle.lc_log.proofs.WalkLemmas.{Found}
-use Rattle.lc_core.specs.Pieces.{kept_behind}
+use Rattle.lc_core.specs.Kept.{kept_behind}
 use Rattle.lc_core.proofs.records.Records.keep_all.Given as goal
 
 abbrev pub invariant-loop-record : goal.invariant-loop-record
