@@ -57,3 +57,7 @@ with_one_more found place r words old now new spelled is next =
 -- how many were reserved then, behind so many that were dropped
 pub count_behind : (dropped : ℕ) (front : List Record) → count_of (kept_behind front (record { before = dropped; records = [] })) ≡ dropped + length front
 count_behind dropped front = ap (λ (n : ℕ). dropped + n) (length-map front closed_record)
+
+-- those of two texts
+pub both_behind : (dropped : ℕ) (front behind : List Record) → kept_behind behind (kept_behind front (record { before = dropped; records = [] })) ≡ record { before = dropped; records = map closed_record (front ++ behind) }
+both_behind dropped front behind = ap (λ (l : List Spelled). record { before = dropped; records = l }) (sym (map-append closed_record front behind))

@@ -113,3 +113,4 @@ pub mod AdoptsUp
 pub mod Pieces
 pub mod Adoptions
 pub mod KeptWords
+pub mod SpelledPieces

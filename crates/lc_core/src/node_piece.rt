@@ -1,8 +1,10 @@
 //! What a node of a store is made of.
-ghost use Rattle.std.specs.Prelude.{◌≡◌, ◌+◌, ◌<◌, ◌^◌, ◌++◌, List, length, map, IfOk};
+ghost use Rattle.std.specs.Prelude.{◌≡◌, ℕ, ◌+◌, ◌*◌, ◌<◌, ◌≤◌, ◌^◌, ◌++◌, List, length, map, IfOk};
 ghost use Rattle.lc_record.specs.declared.record.Record.{Record};
 ghost use Rattle.lc_log.specs.LogText.{IsLogText};
 ghost use Rattle.lc_core.specs.Kept.{closed_record};
+ghost use Rattle.lc_core.specs.Parts.{AreSpelled};
+ghost use Rattle.lc_core.specs.Pieces.{IsNodePiece};
 
 use crate::records::Records;
 use lc_disk::Area;
@@ -41,6 +43,8 @@ impl<D: Area + Drop> NodePiece<D> {
         ensures records { IfOk result (λ piece. (front behind : List Record) → IsLogText stable.now front → IsLogText staged.now behind →
             piece.records ≡ record { before = dropped; records = map closed_record (front ++ behind) }) }
         ensures stable { IfOk result (λ piece. (front : List Record) → IsLogText stable.now front → piece.stable ≡ dropped + length front) }
+        ensures fits { IfOk result (λ piece. (words : ℕ) (front behind : List Record) → AreSpelled stable.now front → AreSpelled staged.now behind →
+            log.end ≡ length stable.now → log.end + length staged.now ≤ words → length (D.now log.area) ≡ 8 * (words + 1) → round < 2 ^ 48 → IsNodePiece D.Area words piece) }
     {
         let mut records = Records::behind(alloc, dropped);
         records.keep_all(stable)?;
