@@ -49,6 +49,8 @@ impl<D: Area + Drop> Node<D> {
         ensures flushed { (receipt : Given) → result.1 ≡ Ok (Flushed receipt)
             → (w : View) × ClosesWork self.now.number (W.ran work.old work.new) segments.now (commit_view seat) w × Receives w receipt (commit_view result.0) }
         ensures received { (receipt : Given) → result.1 ≡ Ok (Flushed receipt) → HasReceipt (commit_view result.0) receipt }
+        ensures unasked { result.1 ≡ Ok Lazy → mode ≡ Mode.Lazy }
+        ensures asked { (receipt : Given) → result.1 ≡ Ok (Flushed receipt) → mode ≡ Mode.Flush }
         ensures refused { IfErr result.1 (λ fault. (Sees (commit_view seat) (commit_view result.0)
             × (((s : ℕ) × (fault ≡ NotHere s) × IsFirstOutside self.now segments.now s)
             ⊎ (((fault ≡ NoMemory) × (0 < length self.now.segments.items))
