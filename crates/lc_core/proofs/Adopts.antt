@@ -57,7 +57,7 @@ use Rattle.lc_core.specs.declared.node.Node.{Node}
 use Rattle.lc_core.specs.Seat.{Seat, Free}
 use Rattle.lc_core.specs.declared.slot.Slot.{Slot}
 use Rattle.lc_core.proofs.Cohering.{entry_is, entries_count}
-use Rattle.lc_core.proofs.Rising.{get-replicate}
+use Rattle.lc_core.proofs.Rising.{HasSlot, get-replicate, idle_works, shown_is, slot_of}
 use Rattle.lc_rest.specs.Adopted.{transaction_of, history_of}
 use Rattle.lc_rest.specs.Found.{Found, IsConsistent, last_number, machine_setting, machine_state, own_records}
 use Rattle.lc_core.specs.Adopting.{numbers_of, IsAdoptedToken, IsAdoptedNode, IsAdopted}
@@ -194,45 +194,6 @@ log-fits a f n log kept dropped trimmed taken acked is known before words marks 
   where
     own : records_of (machine_setting f) (machine_state f) (numbers_of f).disks n ≡ own_records f n
     own = records-are f.geometry f.records f.stable f.dropped f.place f.numbers f.base f.pages n is.tested.taken is.stored.shape is.stored.follow
-
-shown_is : (number : Option ℕ) (picture image : Picture) → hidden number picture ≡ Some image → picture ≡ image
-shown_is None picture image is = same_some picture image is
-shown_is (Some number) picture image is = absurd cc
-
--- the slot of a segment that is here
-record HasSlot (here : Here) (segment : ℕ) : Type 0 where
-  pub place : ℕ
-  pub slot : Slot
-  pub next : segment ≡ place + 1
-  pub at : slice_get here.slots.items place ≡ Some slot
-  pub some : IsSome (number_in slot.token.token)
-  pub image : the_images.image_of here segment ≡ slot.image
-
-slot_of : (here : Here) (segment : ℕ) → IsHere the_images here segment → HasSlot here segment
-slot_of here zero is = absurd cc
-slot_of here (suc k) is = elim (slice_get here.slots.items k) as (λ (o : Option Slot). slice_get here.slots.items k ≡ o → IsSome (number_at o) → HasSlot here (suc k)) [
-  | None ↦ λ at some. absurd cc
-  | Some slot ↦ λ at some. record {
-    place = k;
-    slot = slot;
-    next = omega arith;
-    at = at;
-    some = some;
-    image = ap (image_at here.spare) at;
-  }
-] refl is
-
-idle_works : {D : Type 0} (a : Ghosts D) (log : Log D a) → is_idle a log ≡ true → (is_failed a log ≡ false) × HasReset a log 0
-idle_works a (Idle log) is = (refl, refl)
-idle_works a (Written log) is = absurd cc
-idle_works a (Synced log) is = absurd cc
-idle_works a (Opened log) is = absurd cc
-idle_works a (Sealed log) is = absurd cc
-idle_works a (Closing log) is = absurd cc
-idle_works a (Emptied log) is = absurd cc
-idle_works a (Failed log) is = absurd cc
-idle_works a (Torn log) is = absurd cc
-idle_works a Taken is = absurd cc
 
 -- A node
 

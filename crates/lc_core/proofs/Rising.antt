@@ -93,12 +93,12 @@ token_is : (b : Bool) (token other : Token) → (if b then Some token else None)
 token_is true token other is = same_some token other is
 token_is false token other is = absurd cc
 
-shown_is : (number : Option ℕ) (picture image : Picture) → hidden number picture ≡ Some image → picture ≡ image
+pub shown_is : (number : Option ℕ) (picture image : Picture) → hidden number picture ≡ Some image → picture ≡ image
 shown_is None picture image is = same_some picture image is
 shown_is (Some number) picture image is = absurd cc
 
 -- the slot of a segment that is here
-record HasSlot (here : Here) (segment : ℕ) : Type 0 where
+pub record HasSlot (here : Here) (segment : ℕ) : Type 0 where
   pub place : ℕ
   pub slot : Slot
   pub next : segment ≡ place + 1
@@ -106,7 +106,7 @@ record HasSlot (here : Here) (segment : ℕ) : Type 0 where
   pub some : IsSome (number_in slot.token.token)
   pub image : the_images.image_of here segment ≡ slot.image
 
-slot_of : (here : Here) (segment : ℕ) → IsHere the_images here segment → HasSlot here segment
+pub slot_of : (here : Here) (segment : ℕ) → IsHere the_images here segment → HasSlot here segment
 slot_of here zero is = absurd cc
 slot_of here (suc k) is = elim (slice_get here.slots.items k) as (λ (o : Option Slot). slice_get here.slots.items k ≡ o → IsSome (number_at o) → HasSlot here (suc k)) [
   | None ↦ λ at some. absurd cc
@@ -120,7 +120,7 @@ slot_of here (suc k) is = elim (slice_get here.slots.items k) as (λ (o : Option
   }
 ] refl is
 
-idle_works : {D : Type 0} (a : Ghosts D) (log : Log D a) → is_idle a log ≡ true → (is_failed a log ≡ false) × HasReset a log 0
+pub idle_works : {D : Type 0} (a : Ghosts D) (log : Log D a) → is_idle a log ≡ true → (is_failed a log ≡ false) × HasReset a log 0
 idle_works a (Idle log) is = (refl, refl)
 idle_works a (Written log) is = absurd cc
 idle_works a (Synced log) is = absurd cc
