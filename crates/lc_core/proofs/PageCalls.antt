@@ -20,7 +20,8 @@ use Rattle.lc_page.proofs.WritingLemmas.{kept_under_way, old_either}
 use Rattle.lc_model.specs.Merge.{Page as StorePage}
 use Rattle.lc_core.specs.Numbers.{Numbers}
 use Rattle.lc_core.specs.PageState.{AreNamed}
-use Rattle.lc_core.specs.Pages.{FitsArea, FollowsBegin, FollowsNext, HasBegun, IsAtRest, IsBetween, IsPageAt, StepsIn, TellsNumbers, as_read}
+use Rattle.lc_core.specs.Pages.{FitsArea, FollowsBegin, FollowsNext, HasBegun, IsAtRest, IsBetween, IsPageAt, StepsIn, TellsNumbers}
+use Rattle.lc_rest.specs.Pages.{as_read}
 use Rattle.lc_core.specs.Places.{same_some, get_set_same, get_set_other}
 use Rattle.lc_core.specs.Settled.{begun_number}
 use Rattle.lc_core.specs.Turns.{called, page_settled}

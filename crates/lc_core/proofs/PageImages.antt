@@ -17,7 +17,8 @@ use Rattle.lc_recover.proofs.Images.{get-some}
 use Rattle.lc_model.specs.State.{Setting, State}
 use Rattle.lc_core.specs.Numbers.{Numbers}
 use Rattle.lc_core.specs.PageState.{is_begun}
-use Rattle.lc_core.specs.Pages.{FitsArea, FitsPages, HasBegun, IsPageAt, IsStored, as_read}
+use Rattle.lc_core.specs.Pages.{FitsArea, FitsPages, HasBegun, IsPageAt, IsStored}
+use Rattle.lc_rest.specs.Pages.{as_read}
 use Rattle.lc_core.specs.Places.{same_some, get_set_same, get_set_other}
 use Rattle.lc_core.specs.Settled.{is_writing}
 use Rattle.lc_core.specs.Turns.{called, page_settled}

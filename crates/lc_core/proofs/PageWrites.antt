@@ -14,7 +14,8 @@ use Rattle.lc_core.specs.Numbers.{Numbers}
 use Rattle.lc_core.proofs.Closes.{get-map}
 use Rattle.lc_core.proofs.Rising.{get-replicate}
 use Rattle.lc_core.specs.PageState.{AreAtRest, AreNamed, resting}
-use Rattle.lc_core.specs.Pages.{RestsAll, FitsArea, FitsPages, HasBegun, IsPageAt, as_read}
+use Rattle.lc_core.specs.Pages.{RestsAll, FitsArea, FitsPages, HasBegun, IsPageAt}
+use Rattle.lc_rest.specs.Pages.{as_read}
 use Rattle.lc_core.specs.declared.page_state.PageState.{PageState}
 use Rattle.lc_core.specs.declared.page_state.PageState.TheVariants.{AtRest, UnderWay, Failed}
 use Rattle.lc_core.specs.declared.pages.Pages.{Pages}

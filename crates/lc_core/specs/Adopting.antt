@@ -16,7 +16,7 @@ use Rattle.lc_page.specs.PageWrite.{SettledIn}
 use Rattle.lc_rest.specs.Found.{Found, last_number, machine_disks, machine_setting, machine_state, own_records}
 use Rattle.lc_core.specs.Devices.{HonestLogs}
 use Rattle.lc_core.specs.Log.{Stands, is_idle}
-use Rattle.lc_core.specs.Pages.{as_read}
+use Rattle.lc_rest.specs.Pages.{as_read}
 use Rattle.lc_core.specs.PageState.{resting}
 use Rattle.lc_core.specs.declared.pages.Pages.{Pages}
 use Rattle.lc_core.specs.declared.up.Up.{Up as UpStore}

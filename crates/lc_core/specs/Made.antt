@@ -13,7 +13,8 @@ use Rattle.lc_rest.specs.Holder.{IsPlaced, node_of}
 use Rattle.lc_token.specs.declared.token.Token.{Token}
 use Rattle.lc_trunc.specs.KnownClean.{known as known_of}
 use Rattle.lc_core.specs.Adopting.{IsAdoptedToken}
-use Rattle.lc_core.specs.Pages.{RestsAll, areas_of, as_read}
+use Rattle.lc_core.specs.Pages.{RestsAll, areas_of}
+use Rattle.lc_rest.specs.Pages.{as_read}
 use Rattle.lc_core.specs.Records.{marks_of}
 use Rattle.lc_core.specs.Slots.{segment_to}
 use Rattle.lc_core.specs.declared.node_piece.NodePiece.{NodePiece}

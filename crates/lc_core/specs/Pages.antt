@@ -13,6 +13,7 @@ use Rattle.lc_model.specs.Moves.{page_now}
 use Rattle.lc_model.specs.State.{Setting, State}
 use Rattle.lc_model.specs.Stored.{Shows}
 use Rattle.lc_core.specs.Numbers.{Numbers}
+use Rattle.lc_rest.specs.Pages.{as_read}
 use Rattle.lc_core.specs.PageState.{resting}
 use Rattle.lc_core.specs.Settled.{begun_number}
 use Rattle.lc_core.specs.Turns.{called, page_settled}
@@ -21,10 +22,6 @@ use Rattle.lc_core.specs.declared.page_progress.PageProgress.TheVariants.{Steppe
 use Rattle.lc_core.specs.declared.page_state.PageState.{PageState}
 use Rattle.lc_core.specs.declared.page_state.PageState.TheVariants.{AtRest, UnderWay, Failed}
 use Rattle.lc_core.specs.declared.pages.Pages.{Pages}
-
--- a page of a store, as an area reads it
-abbrev pub as_read : StorePage → Page
-as_read text = record { sequence = text.sequence; content = text.bytes }
 
 -- so many calls of a page write are made, which is to put this page in place; from the fifth on a stop may leave it
 pub record HasBegun (segment page calls : ℕ) (new : Page) (x : Numbers) : Type 0 where
