@@ -26,7 +26,7 @@ use Rattle.lc_token.specs.declared.token.Token.{Token}
 use Rattle.lc_trunc.specs.Clean.{IsCleanTo, IsTouched, all_of, closed_of}
 use Rattle.lc_core.specs.Coherent.{AreCoherent, entries_of as token_entries}
 use Rattle.lc_core.specs.Journal.{FitsLog}
-use Rattle.lc_core.specs.Log.{Stands, HasReset, is_failed, is_idle}
+use Rattle.lc_core.specs.Log.{Stands, HasReset, is_failed}
 use Rattle.lc_core.specs.Numbers.{Numbers, token_number}
 use Rattle.lc_core.specs.Records.{Kept, marks_of}
 use Rattle.lc_core.specs.Running.{FitsRunning, FitsTravelling}
@@ -47,17 +47,15 @@ use Rattle.lc_model.proofs.Numbers.{part-replicate}
 use Rattle.lc_model.proofs.Result.{shape-effects}
 use Rattle.lc_recover.proofs.Images.{from-map, get-some}
 use Rattle.lc_core.specs.Desk.{FitsDesk, FitsSeat}
-use Rattle.lc_core.specs.Here.{beside, hidden, image_at, number_at, number_in, the_images}
+use Rattle.lc_core.specs.Here.{beside, number_at, number_in, the_images}
 use Rattle.lc_core.specs.Node.{FitsNode}
-use Rattle.lc_core.specs.Places.{same_some}
 use Rattle.lc_core.specs.Slots.{Awaits, Besides, FitsSlot, FitsSlots, besides_of, segment_to}
 use Rattle.lc_core.specs.declared.here.Here.{Here}
-use Rattle.lc_core.specs.declared.log.Log.TheVariants.{Idle, Written, Synced, Opened, Sealed, Closing, Emptied, Failed, Torn, Taken}
 use Rattle.lc_core.specs.declared.node.Node.{Node}
 use Rattle.lc_core.specs.Seat.{Seat, Free}
 use Rattle.lc_core.specs.declared.slot.Slot.{Slot}
 use Rattle.lc_core.proofs.Cohering.{entry_is, entries_count}
-use Rattle.lc_core.proofs.Rising.{HasSlot, get-replicate, idle_works, shown_is, slot_of}
+use Rattle.lc_core.proofs.Rising.{get-replicate, idle_works, shown_is, slot_of}
 use Rattle.lc_rest.specs.Adopted.{transaction_of, history_of}
 use Rattle.lc_rest.specs.Found.{Found, IsConsistent, last_number, machine_setting, machine_state, own_records}
 use Rattle.lc_core.specs.Adopting.{numbers_of, IsAdoptedToken, IsAdoptedNode, IsAdopted}

@@ -1,7 +1,6 @@
-use Rattle.std.proofs.Common.{◌≡◌, ◌∙◌, Some, true, sym, ap, subst}
-use Rattle.lc_core.specs.Truncating.{CallsDue, is_due, refusal_in}
+use Rattle.std.proofs.Common.{◌∙◌, Some, sym, ap, subst}
+use Rattle.lc_core.specs.Truncating.{CallsDue, refusal_in}
 use Rattle.lc_core.proofs.Truncations.{called, not_called, not_refused, one_goes_on, one_refuses}
-use Rattle.lc_core.proofs.world.World.call_pages.Given.{Over}
 use Rattle.lc_core.proofs.world.World.call_pages.Goals as goal
 
 pub loop-page-preserved-then-not-is_due : goal.loop-page-preserved-then-not-is_due
