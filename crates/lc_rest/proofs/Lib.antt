@@ -19,3 +19,4 @@ pub mod Tokens
 pub mod Passes
 pub mod Orders
 pub mod Stuck
+pub mod Stables

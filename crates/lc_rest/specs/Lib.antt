@@ -10,3 +10,4 @@ pub mod LogTest
 pub mod NumbersTest
 pub mod TokenTest
 pub mod Passed
+pub mod Stable

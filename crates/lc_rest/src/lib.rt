@@ -12,6 +12,7 @@ mod order;
 mod reading;
 mod replay;
 mod segment_read;
+mod stable;
 mod token_test;
 
 pub use holder::Holder;
@@ -24,4 +25,5 @@ pub use order::in_order;
 pub use reading::read_bytes;
 pub use replay::replay_segment;
 pub use segment_read::SegmentRead;
+pub use stable::{replay_up_to, stable_number};
 pub use token_test::{first_number, keeps_token};

@@ -153,8 +153,8 @@ fn least_waiting(segment: u32, seq: u64, logs: &[Vec<Record>], stable: &[usize])
     least
 }
 
-// How many records of the log are of the segment.
-fn count_log(segment: u32, log: &[Record]) -> usize
+/// How many records of the log are of the segment.
+pub(crate) fn count_log(segment: u32, log: &[Record]) -> usize
     ensures { result ≡ count_log segment log.now }
 {
     log.iter().filter(|whole| has_lock(segment, whole)).count()
