@@ -37,7 +37,7 @@ use Rattle.lc_core.proofs.Seating.{some_at}
 
 -- where a token is, by the machine
 
-at_here : (n : ℕ) (holder : Holder) (place : Place) → IsPlaced holder place → is_at n place ≡ is_here n holder
+pub at_here : (n : ℕ) (holder : Holder) (place : Place) → IsPlaced holder place → is_at n place ≡ is_here n holder
 at_here n (Here other) place placed = ap (is_at n) placed
 at_here n (Left other) place placed = ap (is_at n) placed
 

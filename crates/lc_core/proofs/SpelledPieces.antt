@@ -1,10 +1,10 @@
 -- A node's piece of records whose words are all there is.
 use Rattle.std.proofs.Common.{◌≡◌, ℕ, ◌+◌, ◌-◌, ◌*◌, ◌<◌, ◌≤◌, ◌^◌, List, [], ◌∷◌, ◌++◌, All, map, take, drop, length, refl, sym, ap, ◌∙◌, arith}
 use Rattle.std.specs.List.{AllByRecursion}
-use Rattle.std.proofs.lemmas.List.{append-nil, length-append, length-map, map-append, take_at}
+use Rattle.std.proofs.lemmas.List.{append-nil, length-append, length-map, length-take-le, map-append, take_at}
 use Rattle.std.proofs.lemmas.List.Elements.{All-head, All-tail}
 use Rattle.lc_disk.specs.declared.area.Area.{Ghosts}
-use Rattle.lc_record.specs.Codec.{BeginsNoRecord}
+use Rattle.lc_record.specs.Codec.{BeginsNoRecord, BeginsWith}
 use Rattle.lc_record.specs.Record.{spelling}
 use Rattle.lc_record.specs.declared.record.Record.{Record}
 use Rattle.lc_record.proofs.RecordLemmas.{record_some}
@@ -28,6 +28,10 @@ no_record r (w ∷ front) rest is same = absurd cc
 -- records that are all of the words are those that these begin with
 pub all_text : (words : List ℕ) (rs : List Record) → AreSpelled words rs → IsLogText words rs
 all_text words rs its = record { rest = []; text = its.text ∙ sym (append-nil (joined rs)); whole = each_whole rs its.whole; end = no_record }
+
+-- a record takes some words
+pub spelled_some : (words : List ℕ) (r : Record) (len : ℕ) → BeginsWith words r len → 0 < len
+spelled_some words r len begins = (let some = record_some r (take len words) begins.whole in omega (arith, some, length-take-le len words begins.within))
 
 words_closed : (rs : List Record) → all_words (map closed_record rs) ≡ joined rs
 words_closed [] = refl

@@ -66,3 +66,11 @@ pub mod Parts
 pub mod Pieces
 pub mod Made
 pub mod Kept
+pub mod AtRest
+pub mod Built
+pub mod ReadAreas
+pub mod AsRead
+pub mod ReadNodes
+pub mod Pictures
+pub mod Readings
+pub mod Cluster

@@ -1,6 +1,7 @@
 -- What is handed over of a cluster at rest, what its types keep of it, and what an adoption gives.
-use Rattle.std.specs.Prelude.{◌≡◌, ℕ, ◌+◌, ◌*◌, ◌^◌, ◌<◌, ◌≤◌, true, List, [], ◌++◌, length, All, Some, slice_get}
+use Rattle.std.specs.Prelude.{◌≡◌, ℕ, ◌+◌, ◌*◌, ◌^◌, ◌<◌, ◌≤◌, true, List, [], ◌++◌, length, All, Some, slice_get, if◌then◌else◌}
 use Rattle.lc_disk.specs.declared.area.Area.{Ghosts}
+use Rattle.lc_page.specs.PageVector.{entry_at}
 use Rattle.lc_page.specs.PageWrite.{SettledIn}
 use Rattle.lc_page.specs.declared.page_text.PageText.{PageText}
 use Rattle.lc_record.specs.Content.{segment_of}
@@ -10,7 +11,9 @@ use Rattle.lc_record.specs.declared.record.Record.{Record}
 use Rattle.lc_log.specs.LogText.{IsWhole, joined}
 use Rattle.lc_log.specs.NodeLog.{IsIdle}
 use Rattle.lc_model.specs.History.{Entry, value}
+use Rattle.lc_model.specs.Refusals.{is_at}
 use Rattle.lc_model.specs.State.{Up, Setting, State}
+use Rattle.lc_model.specs.Stored.{stable_number}
 use Rattle.lc_tx.specs.declared.image.Image.{Image as Picture}
 use Rattle.lc_trunc.specs.KnownClean.{known as known_of}
 use Rattle.lc_rest.specs.Holder.{IsPlaced, node_of}
@@ -47,10 +50,11 @@ module _ {D : Type 0} (a : Ghosts D) where
     pub area : length (a.now part.log.area) ≡ 8 * (g.words + 1)
     pub few_rounds : part.round < 2 ^ 48
 
-  -- whatever a stop leaves of a page reads as the area does, from the same slots, and has its gates
+  -- whatever a stop leaves of a page reads as the area does, from the same slots, and has its gates; no byte of it is uncommitted
   pub record KeepsPages (g : Geometry) (part : SegmentPart D) : Type 0 where
     pub area : length (a.now part.area) ≡ 2 * 272 * g.pages
     pub settled : (page : ℕ) → page < g.pages → (text : PageText) × SettledIn a part.area page text
+    pub free : (page : ℕ) → page < length part.token.pages → (entry_at part.token.pages page).uncommitted ≡ 0
 
   -- so it is with all nodes and all segments
   pub record AreKept (parts : Parts D a) : Type 0 where
@@ -84,6 +88,9 @@ module _ {D : Type 0} (a : Ghosts D) where
     -- the stable records are those of the logs, in their rounds, and all that were published are acknowledged
     pub stable : (n : ℕ) (part : NodePart D a) → slice_get parts.nodes.items n ≡ Some part → AreSpelled part.stable.items (stable_records setting state numbers n)
     pub acked : (n : ℕ) (part : NodePart D a) (published : List Record) → slice_get parts.nodes.items n ≡ Some part → AreSpelled (part.ended.items ++ part.stable.items) published → state.ack n ≡ length published
+    -- what a node has applied is all where the token is, and elsewhere what is stable
+    pub applied : (n k : ℕ) (part : SegmentPart D) → n < parts.geometry.nodes → slice_get parts.segments.items k ≡ Some part
+        → numbers.applied n (k + 1) ≡ (if is_at n (state.place (k + 1)) then part.token.seq else stable_number parts.geometry state numbers.disks (k + 1))
     pub round : (n : ℕ) (part : NodePart D a) → slice_get parts.nodes.items n ≡ Some part → numbers.round n ≡ part.round
     pub clean : (k : ℕ) (part : SegmentPart D) → slice_get parts.segments.items k ≡ Some part → numbers.clean (k + 1) ≡ part.token.clean
     pub known : (n segment : ℕ) (part : NodePart D a) → 1 ≤ segment → segment ≤ parts.geometry.segments → slice_get parts.nodes.items n ≡ Some part → known_of part.known segment ≤ numbers.clean segment

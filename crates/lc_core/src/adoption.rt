@@ -1,0 +1,46 @@
+//! How a cluster at rest becomes a store.
+ghost use Rattle.std.specs.Prelude.{◌≡◌, ℕ, Err, IfOk};
+ghost use Rattle.lc_core.specs.AtRest.{AgreeAll, FailsFirst};
+ghost use Rattle.lc_core.specs.Parts.{AreHonest, AreKept, FailsOnce, IsAdoption};
+ghost use Rattle.lc_core.specs.declared.adopt_fault.AdoptFault.TheVariants.{DeviceFault as Failed, Mismatch};
+ghost use Rattle.lc_core.specs.declared.part.Part.{Part as ThePart};
+ghost use Rattle.lc_core.specs.declared.part.Part.TheVariants.{Seat};
+
+use crate::adopt_fault::AdoptFault;
+use crate::adopted_parts::adopted_parts;
+use crate::parts::Parts;
+use crate::phase::Phase;
+use crate::read_cluster::ReadCluster;
+use crate::room::Room;
+use crate::world::World;
+use lc_disk::Area;
+use std::alloc::Global;
+
+impl<D: Area + Drop> World<D> {
+    /// The store that the parts of a cluster at rest make, which is up: its history is all records of all nodes, published and
+    /// staged, each as a transaction that is closed, and those that were published are acknowledged. It reads each page area once,
+    /// and then looks whether the parts agree. It takes memory for all of it. This project's own.
+    ///
+    /// # Errors
+    ///
+    /// `Mismatch` with the part whose test fails first: the records of each node name it and lie in the segments, and it knows as
+    /// clean no more than the tokens say (`Log`); each token has its segment's records and pages (`Token`); all records merge
+    /// (`Log`, the least node that is stuck); the pages and images are what the records make of them (`Image`). `NoMemory`;
+    /// `DeviceFault` where an area could not be read. The parts are gone.
+    pub fn adopt(alloc: Global, parts: Parts<D>) -> Result<World<D>, AdoptFault>
+        requires kept { AreKept D.Area parts }
+        ensures adopted { IfOk result (λ world. IsAdoption D.Area parts world) }
+        ensures agree { IfOk result (λ world. AreHonest D.Area parts → AgreeAll D.Area parts) }
+        ensures mismatch { (part : ThePart) → result ≡ Err (Mismatch part) → AreHonest D.Area parts → FailsFirst D.Area parts part }
+        ensures no_seat { (node : ℕ) → result ≡ Err (Mismatch (Seat node)) → ⊥ }
+        ensures device { result ≡ Err Failed → FailsOnce D.Area parts }
+    {
+        let room = Room::new(alloc, parts.geometry)?;
+        let cluster = ReadCluster::read(alloc, parts)?;
+        let up = cluster.build(alloc, room)?;
+        adopted_parts::<D>();
+        Ok(World {
+            phase: Phase::Up(up),
+        })
+    }
+}
