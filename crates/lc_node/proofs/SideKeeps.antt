@@ -97,6 +97,7 @@ module _ {D : Type 0} (a : Ghosts D) where
     holds = g.holds;
     ended = ap (λ l. l.items) g.same_ended ∙ (inv.ended ∙ ap concat (sym g.steps.same_past));
     ended_records = subst (λ l. AreRecords l.items) (sym g.same_ended) inv.ended_records;
+    past_records = subst (All AreRecords) (sym g.steps.same_past) inv.past_records;
     clean = subst (λ (numbers : List ℕ). All (λ (words : List ℕ). AreKnown words (known numbers)) (flush_view t.flusher).past) (sym g.same_known)
         (subst (λ (past : List (List ℕ)). All (λ (words : List ℕ). AreKnown words (known s.known)) past) (sym g.steps.same_past) inv.clean);
   }

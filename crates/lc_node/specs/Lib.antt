@@ -19,6 +19,7 @@ pub mod Joining
 pub mod Journey
 pub mod Laid
 pub mod Leaving
+pub mod LeftBy
 pub mod Lent
 pub mod LogSide
 pub mod LogView
@@ -48,3 +49,5 @@ pub mod Truncates
 pub mod Wiring
 pub mod Works
 pub mod Writes
+pub mod Keys
+pub mod Closing

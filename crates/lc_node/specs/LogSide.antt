@@ -45,8 +45,9 @@ module _ {D : Type 0} (a : Ghosts D) where
     pub records : AreRecords s.stable.items
     pub published : (flush_view s.flusher).published ≤ s.round * 65536 + length s.stable.items
     pub holds : HasStable s.log (flush_view s.flusher).room (flush_view s.flusher).taken s.stable.items
-    -- the words of the rounds that have ended are all that was taken in them, and they are whole records
+    -- the words of the rounds that have ended are all that was taken in them, and they are whole records, as are those of each round
     pub ended : s.ended.items ≡ concat (flush_view s.flusher).past
     pub ended_records : AreRecords s.ended.items
+    pub past_records : All AreRecords (flush_view s.flusher).past
     -- each lock of a record that was taken in a round that has ended is known clean
     pub clean : All (λ words. AreKnown words (known s.known)) (flush_view s.flusher).past

@@ -2,6 +2,8 @@
 ghost use Rattle.std.specs.Prelude.{◌≡◌, Some, length, slice_get, IfErr};
 ghost use Rattle.lc_lock.specs.Loans.{key_of};
 ghost use Rattle.lc_node.specs.Cluster.{HasNode, node_at};
+ghost use Rattle.lc_node.specs.Keys.{HasOwnKey};
+ghost use Rattle.lc_node.specs.Wiring.{HasPeers};
 ghost use Rattle.lc_node.specs.declared.node_fault.NodeFault.TheVariants.{NoMemory};
 
 use crate::cluster::Cluster;
@@ -52,8 +54,8 @@ impl<D: Area + Drop> Cluster<D> {
         requires { HasNode self.now node }
         ensures member { slice_get self.now.members.items node ≡ Some result.now }
         ensures number { result.now.node.number ≡ node }
-        ensures to { key_of result.now.to ≡ length self.now.members.items }
-        ensures from { key_of result.now.from ≡ length self.now.members.items }
+        ensures peers { HasPeers (length self.now.members.items) (key_of result.now.to) }
+        ensures one_key { HasOwnKey result.now }
     {
         &self.members[node as usize]
     }

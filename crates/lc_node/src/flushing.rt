@@ -14,7 +14,7 @@ use lc_stage::Stage;
 use std::mem;
 
 // Adds the words of the group, for which there is room.
-fn keep(stable: &mut Vec<u64>, group: &Group)
+pub(crate) fn keep(stable: &mut Vec<u64>, group: &Group)
     requires { vec_len stable.old + length group.now.words ≤ vec_capacity stable.old }
     ensures words { stable.new.items ≡ stable.old.items ++ group.now.words }
     ensures room { vec_capacity stable.old ≤ vec_capacity stable.new }

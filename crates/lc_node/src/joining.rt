@@ -6,19 +6,22 @@ ghost use Rattle.lc_stage.specs.Staging.{newcomer};
 ghost use Rattle.lc_stage.specs.Seats.{commit_view};
 ghost use Rattle.lc_stage.specs.declared.seats.CommitSeat.{CommitSeat as Seat};
 ghost use Rattle.lc_node.specs.Cluster.{IsSeatAt};
-ghost use Rattle.lc_node.specs.Joining.{IsLocked, IsRoomFor};
+ghost use Rattle.lc_lock.specs.Loans.{key_of};
+ghost use Rattle.lc_node.specs.Joining.{IsRoomFor};
+ghost use Rattle.lc_node.specs.Keys.{HasOneKey, wired_in};
 ghost use Rattle.lc_node.specs.Opened.{StandByNumber};
-ghost use Rattle.lc_node.specs.Wiring.{HasPeers};
 ghost use Rattle.lc_node.specs.declared.member.Member.{Member as TheMember};
 ghost use Rattle.lc_node.specs.declared.node_fault.NodeFault.TheVariants.{NoMemory};
 
 use crate::cluster::Cluster;
 use crate::member::Member;
 use crate::opening::{Opened, open_nodes};
+use crate::vacant::Vacant;
 use crate::wiring::{Ends, wire};
 use crate::{NodeFault, RecvEnds, SendEnds, Travelling};
 use lc_disk::Area;
 use lc_lock::Lock;
+use lc_record::Geometry;
 use lc_recover::Recovered;
 use lc_stage::CommitSeat;
 use std::alloc::Global;
@@ -37,6 +40,7 @@ impl<D: Area + Drop> Cluster<D> {
     ) -> Result<(Cluster<D>, Vec<CommitSeat>), (Recovered<D>, NodeFault)>
         requires lengths { HaveLengths D.Area recovered.geometry recovered.areas }
         requires finished { AreFinished D.Area recovered }
+        ensures geometry { IfOk result (λ made. made.0.geometry ≡ recovered.geometry) }
         ensures nodes { IfOk result (λ made. length made.0.members.items ≡ recovered.geometry.nodes) }
         ensures count { IfOk result (λ made. length made.1.items ≡ recovered.geometry.nodes) }
         ensures seats { IfOk result (λ made. (node : ℕ) (seat : Seat) → slice_get made.1.items node ≡ Some seat
@@ -44,32 +48,55 @@ impl<D: Area + Drop> Cluster<D> {
         ensures segments { IfOk result (λ made. All (λ member. length member.node.segments.items ≡ recovered.geometry.segments) made.0.members.items) }
         ensures back { IfErr result (λ back. (back.0 ≡ recovered) × (back.1 ≡ NoMemory)) }
     {
-        let nodes = recovered.geometry().nodes;
-        let Some(room) = Room::new(alloc, nodes) else {
+        let geometry = recovered.geometry();
+        let Some(room) = Room::new(alloc, geometry.nodes) else {
             return Err((recovered, NodeFault::NoMemory));
         };
         let opened = open_nodes(alloc, recovered)?;
-        Ok(room.join(opened))
+        Ok(room.join(geometry, opened))
     }
 }
 
-// A node's ends, each behind its lock.
+/// A node's ends, each behind its lock. This project's own.
 #[derive(Drop)]
-struct Post<P: Drop> {
-    to: Lock<SendEnds<P>, u16>,
-    from: Lock<RecvEnds<P>, u16>,
+pub(crate) struct Post<P: Drop> {
+    pub(crate) to: Lock<SendEnds<P>, Ends<P>>,
+    pub(crate) from: Lock<RecvEnds<P>, Ends<P>>,
 }
 
 impl<P: Drop> Post<P> {
-    // These ends, of a node of a cluster of so many.
-    fn new(alloc: Global, ends: Ends<P>, nodes: u16) -> Option<Post<P>>
-        requires { HasPeers nodes ends }
-        ensures { IfSome result (IsLocked nodes) }
+    // These ends.
+    fn new(alloc: Global, ends: Ends<P>) -> Option<Post<P>>
+        ensures key { IfSome result (λ post. key_of post.to ≡ ends) }
+        ensures one_key { IfSome result HasOneKey }
     {
-        let to = Lock::new(alloc, ends.to, &nodes).ok()?;
-        let from = Lock::new(alloc, ends.from, &nodes).ok()?;
-        Some(Post { to, from })
+        let to = Vacant::new(alloc, &ends).ok()?;
+        let Ok(from) = Vacant::new(alloc, &ends) else {
+            to.end();
+            return None;
+        };
+        let Ends {
+            to: sending,
+            from: receiving,
+        } = ends;
+        Some(Post {
+            to: to.fill(sending),
+            from: from.fill(receiving),
+        })
     }
+}
+
+// The ends of all nodes, each behind its lock.
+fn post_all<P: Drop>(alloc: Global, ends: Vec<Ends<P>>) -> Option<Vec<Post<P>>>
+    ensures keys { IfSome result (λ posts. wired_in posts.items ≡ ends.items) }
+    ensures one_key { IfSome result (λ posts. All HasOneKey posts.items) }
+{
+    let mut ends = ends;
+    let mut posts = Vec::with_capacity(alloc, ends.len()).ok()?;
+    for _ in 0..ends.len() {
+        posts.push_reserved(Post::new(alloc, ends.remove(0))?);
+    }
+    Some(posts)
 }
 
 // What a cluster takes of memory beside its nodes.
@@ -89,11 +116,10 @@ impl<D: Area + Drop> Room<D> {
         let count = usize::from(nodes);
         let members = Vec::with_capacity(alloc, count).ok()?;
         let seats = Vec::with_capacity(alloc, count).ok()?;
-        let mut posts = Vec::with_capacity(alloc, count).ok()?;
-        let mut ends = wire(alloc, nodes).ok()?;
-        for _ in 0..count {
-            posts.push_reserved(Post::new(alloc, ends.remove(0), nodes)?);
-        }
+        let Ok(ends) = wire(alloc, nodes) else {
+            return None;
+        };
+        let posts = post_all(alloc, ends)?;
         Some(Room {
             posts,
             members,
@@ -101,10 +127,13 @@ impl<D: Area + Drop> Room<D> {
         })
     }
 
-    // The cluster of these nodes. It takes no memory.
-    fn join(self, nodes: Vec<Opened<D>>) -> (Cluster<D>, Vec<CommitSeat>)
+    // The cluster of these nodes, whose geometry this is. It takes no memory.
+    fn join(self, geometry: Geometry, nodes: Vec<Opened<D>>) -> (Cluster<D>, Vec<CommitSeat>)
         requires room { IsRoomFor (vec_len nodes) self }
         requires numbered { StandByNumber nodes.items }
+        requires all_nodes { vec_len nodes ≡ geometry.nodes }
+        requires all_segments { All (λ opened. vec_len opened.node.segments ≡ geometry.segments) nodes.items }
+        ensures geometry { result.0.geometry ≡ geometry }
         ensures members { length result.0.members.items ≡ vec_len nodes }
         ensures seats { length result.1.items ≡ vec_len nodes }
         ensures each { (place : ℕ) (member : TheMember D) (seat : Seat) → slice_get result.0.members.items place ≡ Some member
@@ -122,6 +151,6 @@ impl<D: Area + Drop> Room<D> {
             members.push_reserved(Member { node, to, from });
             seats.push_reserved(seat);
         }
-        (Cluster { members }, seats)
+        (Cluster { geometry, members }, seats)
     }
 }

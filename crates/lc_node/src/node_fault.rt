@@ -1,9 +1,12 @@
 //! Why a call on a running node is refused.
 ghost use Rattle.std.specs.Prelude.{◌≡◌};
-ghost use Rattle.lc_node.specs.Fault.{of_tx};
+ghost use Rattle.lc_node.specs.Fault.{of_adoption, of_tx};
+ghost use Rattle.lc_node.specs.declared.node_fault.NodeFault.TheVariants.{Mismatch, NoMemory};
 
+use lc_core::{AdoptFault, Part};
 use lc_token::TokenFault;
 use lc_tx::TxFault;
+use std::alloc::AllocError;
 use thiserror::Error;
 
 /// Why a call on a running node is refused. This project's own.
@@ -55,8 +58,8 @@ pub enum NodeFault {
     #[error("the device failed before")]
     Halted,
     /// What the threads left does not fit: this part of it.
-    #[error("part {part} of what the threads left does not fit")]
-    Mismatch { part: u32 },
+    #[error("{part} does not agree with the rest of the cluster")]
+    Mismatch { part: Part },
     /// The token does not leave or arrive.
     #[error("{fault}")]
     Token { fault: TokenFault },
@@ -123,6 +126,34 @@ impl From<TxFault> for NodeFault {
             TxFault::EmptyRange => NodeFault::EmptyRange,
             TxFault::TooManyRanges => NodeFault::TooManyRanges,
             TxFault::ReadOnly { segment } => NodeFault::ReadOnly { segment },
+        }
+    }
+}
+
+impl From<Part> for NodeFault {
+    ghost from_gives = { λ part own. own ≡ Mismatch part };
+
+    fn from(part: Part) -> NodeFault {
+        NodeFault::Mismatch { part }
+    }
+}
+
+impl From<AllocError> for NodeFault {
+    ghost from_gives = { λ _ own. own ≡ NoMemory };
+
+    fn from(_error: AllocError) -> NodeFault {
+        NodeFault::NoMemory
+    }
+}
+
+impl From<AdoptFault> for NodeFault {
+    ghost from_gives = { λ fault own. own ≡ of_adoption fault };
+
+    fn from(fault: AdoptFault) -> NodeFault {
+        match fault {
+            AdoptFault::Mismatch(part) => NodeFault::Mismatch { part },
+            AdoptFault::NoMemory => NodeFault::NoMemory,
+            AdoptFault::DeviceFault => NodeFault::DeviceFault,
         }
     }
 }

@@ -1,7 +1,9 @@
 //! The receiving ends of a node.
-ghost use Rattle.std.specs.Prelude.{◌≡◌, ◌+◌, vec_len};
+ghost use Rattle.std.specs.Prelude.{◌≡◌};
+ghost use Rattle.lc_node.specs.Receiving.{SameOrigins};
 
 use crate::PeerInbox;
+use crate::wiring::Ends;
 use lc_lock::Keyed;
 
 /// The receiving end from each peer of a node. It stands behind a lock of its own. This project's own.
@@ -10,9 +12,9 @@ pub struct RecvEnds<P: Drop> {
     pub(crate) ends: Vec<PeerInbox<P>>,
 }
 
-// One of each other node of a cluster of so many.
-impl<P: Drop> Keyed<u16> for RecvEnds<P> {
-    ghost fits = { λ nodes ends. vec_len ends.ends + 1 ≡ nodes };
+// Each of the line that it had when the nodes were wired.
+impl<P: Drop> Keyed<Ends<P>> for RecvEnds<P> {
+    ghost fits = { λ wired ends. SameOrigins wired.from.ends.items ends.ends.items };
 }
 
 impl<P: Drop> RecvEnds<P> {

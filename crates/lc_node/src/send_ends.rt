@@ -1,7 +1,9 @@
 //! The sending ends of a node.
-ghost use Rattle.std.specs.Prelude.{◌≡◌, ◌+◌, vec_len};
+ghost use Rattle.std.specs.Prelude.{◌≡◌};
+ghost use Rattle.lc_node.specs.Spread.{SameLines};
 
 use crate::PeerEnd;
+use crate::wiring::Ends;
 use lc_lock::Keyed;
 
 /// The sending end to each peer of a node. It stands behind a lock of its own, beside the log's. This project's own.
@@ -10,9 +12,9 @@ pub struct SendEnds<P: Drop> {
     pub(crate) ends: Vec<PeerEnd<P>>,
 }
 
-// One to each other node of a cluster of so many.
-impl<P: Drop> Keyed<u16> for SendEnds<P> {
-    ghost fits = { λ nodes ends. vec_len ends.ends + 1 ≡ nodes };
+// Each on the line that it had when the nodes were wired.
+impl<P: Drop> Keyed<Ends<P>> for SendEnds<P> {
+    ghost fits = { λ wired ends. SameLines wired.to.ends.items ends.ends.items };
 }
 
 impl<P: Drop> SendEnds<P> {

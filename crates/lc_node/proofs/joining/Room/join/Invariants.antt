@@ -1,8 +1,7 @@
-use Rattle.std.proofs.Common.{◌≡◌, ◌≤◌, ◌+◌, ℕ, All, Some, vec_len, vec_capacity}
+use Rattle.std.proofs.Common.{◌≡◌, ◌≤◌, ◌+◌, ◌++◌, ℕ, All, Some, vec_len, vec_capacity}
 use Rattle.std.specs.Prelude.{slice_get}
-use Rattle.lc_lock.specs.Loans.{key_of}
 use Rattle.lc_stage.specs.declared.seats.CommitSeat.{CommitSeat as Seat}
-use Rattle.lc_node.specs.Joining.{IsLocked}
+use Rattle.lc_node.specs.Keys.{HasOneKey, HasOwnKey, wired_by, wired_in}
 use Rattle.lc_node.specs.declared.member.Member.{Member}
 use Rattle.lc_node.specs.declared.opening.Opened.{Opened}
 use Rattle.lc_node.proofs.joining.Room.join.Given as goal
@@ -15,10 +14,11 @@ invariant-loop g l = record {
   seat_count : vec_len l.seats ≡ l.counter;
   members_fit : vec_len l.fn.nodes ≤ vec_capacity l.members;
   seats_fit : vec_len l.fn.nodes ≤ vec_capacity l.seats;
-  locked : All (IsLocked (vec_len l.fn.nodes)) l.posts.items;
+  keys : wired_by l.members.items ++ wired_in l.posts.items ≡ wired_in l.fn.self.posts.items;
+  one_key : All HasOneKey l.posts.items;
+  own_key : All HasOwnKey l.members.items;
   nodes : (k : ℕ) (opened : Opened g.row.D.Denot) → slice_get l.nodes.items k ≡ Some opened → slice_get l.fn.nodes.items (l.counter + k) ≡ Some opened;
-  wired : (place : ℕ) (member : Member g.row.D.Denot) → slice_get l.members.items place ≡ Some member
-      → (key_of member.to ≡ vec_len l.fn.nodes) × (key_of member.from ≡ vec_len l.fn.nodes);
+  sized : (place : ℕ) (member : Member g.row.D.Denot) → slice_get l.members.items place ≡ Some member → vec_len member.node.segments ≡ l.fn.geometry.segments;
   numbered : (place : ℕ) (member : Member g.row.D.Denot) → slice_get l.members.items place ≡ Some member → member.node.number ≡ place;
   each : (place : ℕ) (member : Member g.row.D.Denot) (seat : Seat) → slice_get l.members.items place ≡ Some member → slice_get l.seats.items place ≡ Some seat
       → slice_get l.fn.nodes.items place ≡ Some (record { node = member.node; seat = seat });

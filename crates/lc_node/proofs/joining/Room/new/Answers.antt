@@ -1,33 +1,27 @@
-use Rattle.std.proofs.Common.{rules, ◌<◌, length, arith}
-use Rattle.lc_node.specs.Joining.{IsLocked}
-use Rattle.lc_node.specs.Wiring.{HasPeers}
-use Rattle.lc_node.proofs.Joined.{front_of_all, rest_of_all, all_more}
+use Rattle.std.proofs.Common.{◌≡◌, ◌≤◌, ℕ, List, length, ap, sym, subst, ◌∙◌, arith, rules}
+use Rattle.std.proofs.lemmas.List.{length-map}
+use Rattle.std.specs.Prelude.{All, IfOk, vec_len}
+use Rattle.lc_node.specs.Wiring.{AreLines, HasPeers}
+use Rattle.lc_lock.specs.Loans.{key_of}
+use Rattle.lc_node.specs.Journey.{Journey}
+use Rattle.lc_node.specs.Keys.{AreWiredAs}
+use Rattle.lc_node.specs.declared.joining.Post.{Post}
+use Rattle.lc_node.specs.declared.wiring.Ends.{Ends}
+use Rattle.lc_node.proofs.LinesClosed.{ends_of_lines}
 use Rattle.lc_node.proofs.joining.Room.new.Goals as goal
-
-pub new-requires : goal.new-requires
-new-requires g c =
-    let inv = c.loop.invariant in
-    let some : 0 < length c.loop.ends.items = omega (arith, inv.left, c.loop-test.true, c.from-count.ensures, c.loop.ends.ok.0) in
-    front_of_all (HasPeers c.args.nodes) c.loop.ends.items c.remove.result some c.remove.ensures.value inv.peers
-
-pub loop-preserved : goal.loop-preserved
-loop-preserved g c =
-    let inv = c.loop.invariant in
-    record {
-      count = omega (arith, c.push_reserved.ensures.len, inv.count);
-      space = omega (arith, c.push_reserved.ensures.capacity, inv.space);
-      left = omega (arith, c.remove.ensures.len, inv.left);
-      peers = rest_of_all (HasPeers c.args.nodes) c.loop.ends.items c.remove.new.self.items c.remove.ensures.items inv.peers;
-      locked = all_more (IsLocked c.args.nodes) c.push_reserved.new.self.items c.loop.posts.items c.in_ok-new.field-0 c.push_reserved.ensures.items inv.locked c.in_ok-new.ensures;
-    }
 
 pub returns : goal.returns
 returns g c =
-    let inv = c.loop.invariant in
+    let posts = c.in_ok-posts.posts in let ends = c.in-Ok.ends in
+    let many : length ends.items ≡ c.args.nodes = subst (λ r. IfOk r (λ all. length all.items ≡ c.args.nodes)) c.in-Ok.is c.wire.ensures.count in
+    let each : All (HasPeers c.args.nodes) ends.items = subst (λ r. IfOk r (λ all. All (HasPeers c.args.nodes) all.items)) c.in-Ok.is c.wire.ensures.each in
+    let lines : AreLines c.args.nodes ends.items = subst (λ r. IfOk r (λ all. AreLines c.args.nodes all.items)) c.in-Ok.is c.wire.ensures.lines in
+    let keys = c.in_ok-posts.ensures.keys in
     record {
-      few = omega (arith, c.ranges.nodes.fits);
-      count = omega (arith, inv.count, c.loop-test.false, c.from-count.ensures, c.loop.auto.counter-end);
-      locked = inv.locked;
+      few = (let fits = c.ranges.nodes.fits in omega arith);
+      count = (let long = ap (λ (l : List (Ends (Journey g.row.D.Denot))). length l) keys in let ok = posts.ok.0 in let same = length-map posts.items (λ (p : Post (Journey g.row.D.Denot)). key_of p.to) in omega arith);
+      wired = subst (AreWiredAs c.args.nodes) (sym keys) (ends_of_lines c.args.nodes ends.items each lines);
+      one_key = c.in_ok-posts.ensures.one_key;
       no_member = search rules;
       members = search rules;
       no_seat = search rules;

@@ -27,6 +27,7 @@ invariant_of-fill g c =
       records = subst AreRecords (sym self.empty) no_records;
       ended = self.none_ended ∙ ap (λ (v : View). concat v.past) (sym is);
       ended_records = subst AreRecords (sym self.none_ended) no_records;
+      past_records = none_ended AreRecords (flush_view self.flusher).past (ap (λ (v : View). v.past) is);
       published = (let p : (flush_view self.flusher).published ≡ 0 = ap (λ (v : View). v.published) is in omega (arith, p));
       clean = none_ended (λ (words : List ℕ). AreKnown words (known c.new-2.result)) (flush_view self.flusher).past (ap (λ (v : View). v.past) is);
       holds = (

@@ -42,6 +42,7 @@ invariant_of-self-in-Ok-reset_sync g c = let inv = c.self.invariant in let v : V
       records = subst AreRecords (sym none) no_records;
       ended = ends c.self.inside.ended.items c.self.inside.stable.items v.taken c.extend.new.ended.items v.past w.past more_ended inv.ended held.0 o.past;
       ended_records = subst AreRecords (sym more_ended) (records_append c.self.inside.ended.items c.self.inside.stable.items inv.ended_records inv.records);
+      past_records = subst (All AreRecords) (sym o.past) (All-append AreRecords v.past (v.taken ∷ []) inv.past_records (all_alone AreRecords v.taken (subst AreRecords held.0 inv.records)));
       published = (let a = o.published in let wide = c.args.stage.now.wide in let narrow = c.self.inside.flusher.of_table in let own : c.self.inside.flusher.seat.table_id.words ≡ c.args.stage.now.table.shared.table_id.words = ap (λ l. l.flusher.seat.table_id.words) c.self.view_is ∙ ap (λ t. t.words) c.requires.own.0 in omega arith);
       holds = (
         none ∙ sym o.taken,

@@ -43,6 +43,7 @@ invariant_of-self-in-Ok g c = let v : View = flush_view c.self.inside.flusher in
       records = subst AreRecords (sym c.keep.ensures.words) (records_append _ _ inv.records c.take-words.ensures.records);
       ended = inv.ended ∙ ap concat (sym same.same_past);
       ended_records = inv.ended_records;
+      past_records = subst (All AreRecords) (sym same.same_past) inv.past_records;
       published = (let a = same.published in let b = inv.at_round in let d : length c.keep.new.stable.items ≡ length z.taken = ap (λ (l : List ℕ). length l) all in omega arith);
       holds = (all, subst (λ (l : List ℕ). HoldsTaken g.D.Area c.in-Ok.log.area c.in-Ok.log.end l) (sym taken) (subst (λ (l : List ℕ). HoldsTaken g.D.Area c.in-Ok.log.area c.in-Ok.log.end l) (sym c.take-words.ensures.words) (flush_holds g.D.Area c.in-Idle.log.area c.in-Ok.log.area c.in-Idle.log.end c.in-Ok.log.end v.taken c.take-words.new.group.words held.1 c.take-words.ensures.records (omega (arith, c.take-words.ensures.len, c.if-words-eq0.false)) c.in-Ok.ensures.device c.in-Ok.ensures.end c.in-Ok.ensures.flushed)), (let fits = held.2 in let long = (c.in-Ok.ensures.device).same_length in let b = same.same_room in omega arith));
     }

@@ -16,5 +16,6 @@ invariant_of-self g c = let inv = c.self.invariant in record {
   holds = inv.holds;
   ended = inv.ended;
   ended_records = inv.ended_records;
+  past_records = inv.past_records;
   clean = all-seen c.self.inside.known _ c.args.token.now _ c.see.ensures inv.clean;
 }

@@ -1,0 +1,13 @@
+use Rattle.std.proofs.Common.{◌≡◌, ◌+◌, ◌≤◌, All, vec_len, vec_capacity}
+use Rattle.lc_node.specs.LeftBy.{IsSettledPart}
+use Rattle.lc_node.proofs.leaving_segments.Images.take.Given as goal
+
+abbrev pub invariant-loop : goal.invariant-loop
+invariant-loop g l = record {
+  left : vec_len l.segments + l.counter ≡ vec_len l.fn.segments;
+  images : vec_len l.images ≡ l.counter;
+  applied : vec_len l.applied ≡ l.counter;
+  images_fit : vec_len l.fn.segments ≤ vec_capacity l.images;
+  applied_fit : vec_len l.fn.segments ≤ vec_capacity l.applied;
+  settled : All (IsSettledPart g.D.Area) l.tokens.items;
+}

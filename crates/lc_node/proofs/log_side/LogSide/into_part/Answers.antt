@@ -1,0 +1,81 @@
+use Rattle.std.proofs.Common.{◌≡◌, ◌+◌, ◌*◌, ◌≤◌, ◌++◌, ℕ, List, All, length, get_or, refl, sym, ap, subst, ◌∙◌, arith, length-append}
+use Rattle.lc_stage.specs.Publishing.{HoldsTaken}
+use Rattle.lc_stage.specs.Seats.{commit_view, flush_view}
+use Rattle.lc_stage.specs.Staging.{Agree, AreRecords}
+use Rattle.lc_stage.specs.declared.view.View.{View}
+use Rattle.lc_trunc.specs.KnownClean.{known as known_of}
+use Rattle.lc_trunc.specs.Reset.{AreKnown}
+use Rattle.lc_core.specs.declared.node_part.NodePart.{NodePart}
+use Rattle.lc_node.specs.LeftBy.{LeavesLog}
+use Rattle.lc_node.specs.LogSide.{area_of}
+use Rattle.lc_node.specs.LogView.{LogView}
+use Rattle.lc_node.proofs.FlushKeeps.{at_rest}
+use Rattle.lc_node.proofs.KeptLog.{keeps_log}
+use Rattle.lc_node.proofs.ReceivedRecords.{received}
+use Rattle.lc_node.proofs.log_side.LogSide.into_part.Goals as goal
+
+pub returns-clause-kept : goal.returns-clause-kept
+returns-clause-kept g c =
+    let inv = c.self.invariant in
+    let v : View = flush_view c.self.inside.flusher in
+    let held = at_rest g.D.Area c.self.inside.log c.in-Idle.log _ v.taken _ inv.holds c.in-Idle.is in
+    let words : c.in_ok-staged.staged.items ≡ c.take-taken.new.group.words = c.in_ok-staged.ensures in
+    let count : length c.in_ok-staged.staged.items ≡ c.take-taken.result = ap (λ (l : List ℕ). length l) words ∙ sym c.take-taken.ensures.len in
+    keeps_log g.D.Area c.args.geometry.now _ v.past inv.ended inv.past_records inv.clean inv.records
+    (subst AreRecords (sym words) c.take-taken.ensures.records)
+    (subst (HoldsTaken g.D.Area c.in-Idle.log.area c.in-Idle.log.end) (sym held.0) held.1)
+    (omega (arith, count)) (omega arith) inv.few_rounds
+
+pub returns-clause-left : goal.returns-clause-left
+returns-clause-left g c =
+    let inv = c.self.invariant in
+    let v : View = flush_view c.self.inside.flusher in
+    let w : View = flush_view c.take-taken.new.flusher in
+    let held = at_rest g.D.Area c.self.inside.log c.in-Idle.log _ v.taken _ inv.holds c.in-Idle.is in
+    let words : c.in_ok-staged.staged.items ≡ c.take-taken.new.group.words = c.in_ok-staged.ensures in
+    let past : w.past ≡ v.past = ap (λ (y : View). y.past) c.take-taken.ensures.takes.1 in
+    let at : c.self.inside.round ≡ length w.past = inv.at_round ∙ ap (λ (l : List (List ℕ)). length l) (sym past) in
+    let tail : c.stable_tail-stable_tail.result ≡ c.self.inside.round * 65536 + length c.self.inside.stable.items =
+    subst (λ (x : LogView g.row.D.Denot). c.stable_tail-stable_tail.result ≡ x.round * 65536 + length x.stable) (sym c.self.view_is) c.stable_tail-stable_tail.ensures in
+    let taken : length w.taken ≡ length c.self.inside.stable.items + c.take-taken.result =
+    omega (arith, ap (λ (l : List ℕ). length l) c.take-taken.ensures.words, length-append v.taken c.take-taken.new.group.words, ap (λ (l : List ℕ). length l) held.0, c.take-taken.ensures.len) in
+    let part : NodePart g.row.D.Denot g.D.Area = record {
+      log = c.in-Idle.log;
+      round = c.self.inside.round;
+      ended = c.self.inside.ended;
+      stable = c.self.inside.stable;
+      staged = c.in_ok-staged.staged;
+      known = c.self.inside.known;
+      images = c.new.result;
+      applied = c.new-2.result;
+    } in
+    subst (λ (x : LogView g.row.D.Denot). LeavesLog g.D.Area c.args.stage.now.room x part) c.self.view_is (record {
+      area = ap (area_of g.D.Area) c.in-Idle.is;
+      round = refl;
+      ended = refl;
+      stable = refl;
+      known = refl;
+      taking = w;
+      takes = c.take-taken.ensures.takes;
+      staged = c.take-taken.ensures.words ∙ ap (λ (l : List ℕ). v.taken ++ l) (sym words);
+      ends = c.take-taken.ensures.ends;
+      all = omega (arith, c.tail.ensures.grows, c.if-tail-stable_tail.false, tail, taken, at);
+    })
+
+pub returns-clause-received : goal.returns-clause-received
+returns-clause-received g c = λ k d within r own.
+    let inv = c.self.invariant in
+    let v : View = flush_view c.self.inside.flusher in
+    let w : View = flush_view c.take-taken.new.flusher in
+    let seat : View = commit_view (get_or c.args.seats.items k d) in
+    let held = at_rest g.D.Area c.self.inside.log c.in-Idle.log _ v.taken _ inv.holds c.in-Idle.is in
+    let past : w.past ≡ v.past = ap (λ (y : View). y.past) c.take-taken.ensures.takes.1 in
+    let published : w.published ≡ v.published = ap (λ (y : View). y.published) c.take-taken.ensures.takes.1 in
+    let agree : Agree w seat = subst (λ (z : View). Agree z seat) c.meet_all.ensures.same (c.meet_all.ensures.agree k d within) in
+    let low : w.published ≤ c.self.inside.round * 65536 + length c.self.inside.stable.items = subst (λ (n : ℕ). n ≤ c.self.inside.round * 65536 + length c.self.inside.stable.items) (sym published) inv.published in
+    received w seat c.self.inside.round c.self.inside.stable.items c.take-taken.new.group.words c.self.inside.known agree
+    (inv.at_round ∙ ap (λ (l : List (List ℕ)). length l) (sym past))
+    (c.take-taken.ensures.words ∙ ap (λ (l : List ℕ). l ++ c.take-taken.new.group.words) (sym held.0))
+    low
+    (subst (All (λ (words : List ℕ). AreKnown words (known_of c.self.inside.known))) (sym past) inv.clean)
+    r own

@@ -1,0 +1,16 @@
+use Rattle.std.proofs.Common.{◌≡◌, ◌≤◌, ◌+◌, ℕ, All, Some, vec_len, vec_capacity}
+use Rattle.std.specs.Prelude.{slice_get}
+use Rattle.lc_core.specs.Parts.{KeepsPages}
+use Rattle.lc_core.specs.declared.segment_part.SegmentPart.{SegmentPart}
+use Rattle.lc_node.specs.LeftBy.{IsSettledPart}
+use Rattle.lc_node.proofs.ordering_tokens.in_order.Given as goal
+
+abbrev pub invariant-loop-place : goal.invariant-loop-place
+invariant-loop-place g l = record {
+  count : vec_len l.parts ≡ l.place;
+  fit : l.geometry.segments ≤ vec_capacity l.parts;
+  one_each : vec_len l.tokens + l.place ≡ vec_len l.fn.tokens;
+  order : (place : ℕ) (part : SegmentPart g.row.D.Denot) → slice_get l.parts.items place ≡ Some part → part.token.segment ≡ place + 1;
+  pages : All (KeepsPages g.D.Area l.geometry) l.parts.items;
+  settled : All (IsSettledPart g.D.Area) l.tokens.items;
+}

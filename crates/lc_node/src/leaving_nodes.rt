@@ -1,0 +1,85 @@
+//! What the nodes of a cluster leave once their threads have ended.
+ghost use Rattle.std.specs.Prelude.{◌≡◌, ◌⊎◌, ℕ, All, IfErr, IfOk, OnOk, Some, length, slice_get, vec_len};
+ghost use Rattle.std.specs.Global.{Vec as Several};
+ghost use Rattle.lc_core.specs.declared.node_part.NodePart.{NodePart as ThePart};
+ghost use Rattle.lc_stage.specs.declared.seats.CommitSeat.{CommitSeat as Seat};
+ghost use Rattle.lc_node.specs.Fault.{IsMismatch};
+ghost use Rattle.lc_node.specs.LeftBy.{AreReceived, HaveOwnSeats, IsIdleSeatOf, IsLeftNode, IsSettledPart};
+ghost use Rattle.lc_node.specs.declared.node_fault.NodeFault.TheVariants.{NoMemory};
+
+use crate::leaving_segments::Images;
+use crate::{Node, NodeFault};
+use lc_core::{NodePart, SegmentPart};
+use lc_disk::Area;
+use lc_record::Geometry;
+use lc_stage::CommitSeat;
+use std::alloc::Global;
+use std::sync::Wait;
+
+/// What these nodes leave, whose seats are given beside, those of each in a list of its own. Their tokens go behind these.
+///
+/// # Errors
+///
+/// `Mismatch` of the first node's log or seats that do not fit. `NoMemory`.
+pub(crate) fn take_nodes<R: Wait, D: Area + Drop>(
+    rt: &R,
+    alloc: Global,
+    geometry: &Geometry,
+    nodes: Vec<Node<D>>,
+    seats: Vec<Vec<CommitSeat>>,
+    tokens: &mut Vec<SegmentPart<D>>,
+) -> Result<Vec<NodePart<D>>, NodeFault>
+    requires seats { HaveOwnSeats nodes.items seats.items }
+    requires segments { All (λ node. vec_len node.segments ≡ geometry.now.segments) nodes.items }
+    requires settled { All (IsSettledPart D.Area) tokens.old.items }
+    ensures count { IfOk result (λ parts. length parts.items ≡ length nodes.items) }
+    ensures each { IfOk result (λ parts. All (IsLeftNode D.Area geometry.now) parts.items) }
+    ensures received { IfOk result (λ parts. (place : ℕ) (part : ThePart D D.Area) (mine : Several Seat) → slice_get parts.items place ≡ Some part → slice_get seats.items place ≡ Some mine
+        → AreReceived part.round part.stable.items part.known mine.items) }
+    ensures settled { OnOk result (All (IsSettledPart D.Area) tokens.new.items) }
+    ensures refused { IfErr result (λ fault. IsMismatch fault ⊎ (fault ≡ NoMemory)) }
+{
+    let mut nodes = nodes;
+    let mut seats = seats;
+    let mut parts = Vec::with_capacity(alloc, nodes.len())?;
+    for _ in 0..nodes.len() {
+        let node = nodes.remove(0);
+        let mine = seats.remove(0);
+        parts.push_reserved(node.into_part(rt, alloc, geometry, mine, tokens)?);
+    }
+    Ok(parts)
+}
+
+impl<D: Area + Drop> Node<D> {
+    // What the node leaves. Its tokens go behind these.
+    fn into_part<R: Wait>(
+        self,
+        rt: &R,
+        alloc: Global,
+        geometry: &Geometry,
+        seats: Vec<CommitSeat>,
+        tokens: &mut Vec<SegmentPart<D>>,
+    ) -> Result<NodePart<D>, NodeFault>
+        requires seats { All (IsIdleSeatOf self.stage) seats.items }
+        requires segments { vec_len self.segments ≡ geometry.now.segments }
+        requires settled { All (IsSettledPart D.Area) tokens.old.items }
+        ensures part { IfOk result (λ part. IsLeftNode D.Area geometry.now part) }
+        ensures received { IfOk result (λ part. AreReceived part.round part.stable.items part.known seats.items) }
+        ensures settled { OnOk result (All (IsSettledPart D.Area) tokens.new.items) }
+        ensures refused { IfErr result (λ fault. IsMismatch fault ⊎ (fault ≡ NoMemory)) }
+    {
+        let Node {
+            number,
+            stage,
+            log,
+            segments,
+        } = self;
+        let (side, loan) = log.lock(rt);
+        log.end(loan);
+        let mut part = side.into_part(alloc, &stage, geometry, number, seats)?;
+        let Images { images, applied } = Images::take(rt, alloc, number, segments, tokens)?;
+        part.images = images;
+        part.applied = applied;
+        Ok(part)
+    }
+}

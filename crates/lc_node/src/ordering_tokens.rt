@@ -1,0 +1,67 @@
+//! The tokens of a cluster in the order of their segments.
+ghost use Rattle.std.specs.Prelude.{◌≡◌, ◌⊎◌, ◌+◌, ℕ, All, IfErr, IfOk, OnOk, Some, length, slice_get};
+ghost use Rattle.lc_core.specs.Parts.{KeepsPages};
+ghost use Rattle.lc_core.specs.declared.segment_part.SegmentPart.{SegmentPart as ThePart};
+ghost use Rattle.lc_node.specs.Fault.{IsMismatch};
+ghost use Rattle.lc_node.specs.LeftBy.{IsSettledPart};
+ghost use Rattle.lc_node.specs.declared.node_fault.NodeFault.TheVariants.{NoMemory};
+
+use crate::NodeFault;
+use lc_core::{Part, SegmentPart};
+use lc_disk::Area;
+use lc_page::SLOT_BYTES;
+use lc_record::Geometry;
+use std::alloc::Global;
+
+/// These tokens in the order of their segments, from segment 1 on: there is just one of each.
+///
+/// # Errors
+///
+/// `Mismatch` of the first token that is missing, or has not as many pages as the geometry's segments, in an area of as many; and
+/// else of one that is left over. `NoMemory`.
+pub(crate) fn in_order<D: Area + Drop>(
+    alloc: Global,
+    geometry: &Geometry,
+    tokens: Vec<SegmentPart<D>>,
+) -> Result<Vec<SegmentPart<D>>, NodeFault>
+    requires settled { All (IsSettledPart D.Area) tokens.items }
+    ensures count { IfOk result (λ parts. length parts.items ≡ geometry.now.segments) }
+    ensures one_each { OnOk result (length tokens.items ≡ geometry.now.segments) }
+    ensures order { IfOk result (λ parts. (place : ℕ) (part : ThePart D) → slice_get parts.items place ≡ Some part → part.token.segment ≡ place + 1) }
+    ensures pages { IfOk result (λ parts. All (KeepsPages D.Area geometry.now) parts.items) }
+    ensures refused { IfErr result (λ fault. IsMismatch fault ⊎ (fault ≡ NoMemory)) }
+{
+    let mut tokens = tokens;
+    let mut parts = Vec::with_capacity(alloc, geometry.segments as usize)?;
+    for place in 0..geometry.segments {
+        parts.push_reserved(take_token(&mut tokens, geometry, place + 1)?);
+    }
+    match tokens.first() {
+        None => Ok(parts),
+        Some(part) => Err(Part::Token(part.token.segment).into()),
+    }
+}
+
+// Takes the first token of a segment out.
+fn take_token<D: Area + Drop>(
+    tokens: &mut Vec<SegmentPart<D>>,
+    geometry: &Geometry,
+    segment: u32,
+) -> Result<SegmentPart<D>, NodeFault>
+    requires settled { All (IsSettledPart D.Area) tokens.old.items }
+    ensures segment { IfOk result (λ part. part.token.segment ≡ segment) }
+    ensures pages { IfOk result (KeepsPages D.Area geometry.now) }
+    ensures one_less { OnOk result (length tokens.new.items + 1 ≡ length tokens.old.items) }
+    ensures settled { OnOk result (All (IsSettledPart D.Area) tokens.new.items) }
+    ensures refused { IfErr result IsMismatch }
+{
+    let Some(place) = tokens.iter().position(|part| part.token.segment == segment) else {
+        return Err(Part::Token(segment).into());
+    };
+    let part = tokens.remove(place);
+    let pages = geometry.pages as usize;
+    if part.token.pages.len() != pages || part.area.len() != 2 * SLOT_BYTES * pages {
+        return Err(Part::Token(segment).into());
+    }
+    Ok(part)
+}
