@@ -6,6 +6,8 @@ mod both;
 #[cfg(test)]
 mod clusters;
 #[cfg(test)]
+mod coming_up;
+#[cfg(test)]
 mod commits;
 #[cfg(test)]
 mod crowds;
