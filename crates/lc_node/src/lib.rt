@@ -1,4 +1,5 @@
-//! A running node: the record of a receipt stands in its log.
+//! Running nodes: the record of a receipt stands in its log, and what the threads of a cluster left becomes, where it is not
+//! refused, a store that stands for a state of the machine.
 #![tactic(auto)]
 
 mod applying;
