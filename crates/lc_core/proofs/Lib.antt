@@ -82,6 +82,7 @@ pub mod Recoveries
 pub mod Furnishing
 pub mod Opening
 pub mod Shown
+pub mod DuePages
 pub mod LogReads
 pub mod Faults
 pub mod Failures

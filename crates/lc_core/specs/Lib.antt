@@ -55,6 +55,8 @@ pub mod Fresh
 pub mod Blank
 pub mod Showing
 pub mod LogWords
+pub mod Rounds
+pub mod Due
 pub mod Recovers
 pub mod Geometries
 pub mod Calls

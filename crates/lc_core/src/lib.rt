@@ -69,6 +69,7 @@ mod refused;
 mod reserving;
 mod resetting;
 mod room;
+mod round;
 mod run;
 mod run_result;
 mod running;

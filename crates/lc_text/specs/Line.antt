@@ -5,7 +5,7 @@ use Rattle.lc_disk.specs.declared.choice.Choice.{Choice}
 use Rattle.lc_disk.specs.declared.choice.Choice.TheVariants.{Keep, Stable, Byte}
 use Rattle.lc_model.specs.declared.event.Event.TheVariants.{Begin, SetRange, Write, Read, Abort, Reserve, Close, FlushStep, Leave, Arrive, Deliver, Trim, PageStep, ResetStep, Stop, RecoverStep}
 use Rattle.lc_text.specs.declared.command.Command.{Command}
-use Rattle.lc_text.specs.declared.command.Command.TheVariants.{Step, End, Flush, Recover, Log, Inspect, Show}
+use Rattle.lc_text.specs.declared.command.Command.TheVariants.{Step, End, Flush, Truncate, Recover, Log, Inspect, Show}
 use Rattle.lc_text.specs.declared.command.Line.{Line}
 use Rattle.lc_text.specs.declared.command.Line.TheVariants.{Skipped, Command as Asks, NotUnderstood}
 
@@ -218,6 +218,7 @@ unfoldable pub node_command_of : List ℕ → List (List ℕ) → Option Command
 node_command_of keyword fields =
     if bytes_eq keyword (codes "step") then option_map (λ node. Step (FlushStep node)) (node_of fields)
     else if bytes_eq keyword (codes "flush") then option_map Flush (node_of fields)
+    else if bytes_eq keyword (codes "truncate") then option_map Truncate (node_of fields)
     else if bytes_eq keyword (codes "leave") then option_map (λ token. Step (Leave token.0 token.1)) (segment_alone fields)
     else if bytes_eq keyword (codes "arrive") then option_map (λ token. Step (Arrive token.0 token.1)) (segment_alone fields)
     else if bytes_eq keyword (codes "deliver") then deliver_of fields

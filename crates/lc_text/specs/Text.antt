@@ -109,6 +109,10 @@ reply_text (Refused refusal) = refusal_text refusal
 abbrev pub closed_text : ℕ → ℕ → List ℕ
 closed_text place words = line (codes "closed") (place ∷ words ∷ [])
 
+-- the log of a node is empty, and in this round
+abbrev pub truncated_text : ℕ → List ℕ
+truncated_text round = line (codes "truncated") (round ∷ [])
+
 abbrev pub not_understood_text : ℕ → List ℕ
 not_understood_text line = codes "line " ++ decimal line ++ codes ": not understood\n"
 

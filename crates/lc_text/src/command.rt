@@ -10,6 +10,8 @@ pub enum Command {
     End { node: u16, thread: u16 },
     /// A node is flushed, step by step.
     Flush { node: u16 },
+    /// A node is flushed, its pages are written, and its log is emptied.
+    Truncate { node: u16 },
     /// The store is recovered, step by step.
     Recover,
     /// The words of a node's log are shown.

@@ -19,5 +19,8 @@ pub use inspector::inspect;
 pub use lines::first_line;
 pub use parsing::parse;
 pub use replies::write_reply;
-pub use text::{write_closed, write_exists, write_no_memory, write_not_understood, write_too_long};
+pub use text::{
+    write_closed, write_exists, write_no_memory, write_not_understood, write_too_long,
+    write_truncated,
+};
 pub use tool_fault::ToolFault;

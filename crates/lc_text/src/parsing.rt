@@ -223,6 +223,9 @@ fn node_command(keyword: &[u8], fields: Fields) -> Option<Command>
     if keyword == b"flush".as_slice() {
         return lone_node(fields).map(|node| Command::Flush { node });
     }
+    if keyword == b"truncate".as_slice() {
+        return lone_node(fields).map(|node| Command::Truncate { node });
+    }
     if keyword == b"leave".as_slice() {
         return lone_segment(fields).map(|(node, segment)| {
             Command::Step(Event::Leave { node, segment })

@@ -1,7 +1,7 @@
 //! Lines of words and numbers.
 ghost use Rattle.std.specs.Prelude.{OnOk};
 ghost use Rattle.std.specs.Io.KnownBytes.{Appends};
-ghost use Rattle.lc_text.specs.Text.{line, closed_text, not_understood_text, too_long_text, no_memory_text, exists_text};
+ghost use Rattle.lc_text.specs.Text.{line, closed_text, truncated_text, not_understood_text, too_long_text, no_memory_text, exists_text};
 
 use std::io;
 
@@ -22,6 +22,13 @@ pub fn write_closed<W: io::Write>(writer: &mut W, place: u32, words: u32) -> io:
     ensures { OnOk result (Appends (W.contents writer.old) (W.contents writer.new) (closed_text place words)) }
 {
     write_line(writer, b"closed", &[u64::from(place), u64::from(words)])
+}
+
+/// Writes that a node's log is empty, and its round.
+pub fn write_truncated<W: io::Write>(writer: &mut W, round: u64) -> io::Result<()>
+    ensures { OnOk result (Appends (W.contents writer.old) (W.contents writer.new) (truncated_text round)) }
+{
+    write_line(writer, b"truncated", &[round])
 }
 
 /// Writes that a line of the script is no command.

@@ -1,5 +1,5 @@
 -- What a store prints keeps to its geometry.
-use Rattle.std.proofs.Common.{◌≡◌, ◌≢◌, ◌⊎◌, ◌∙◌, ℕ, Bool, true, false, not, ◌&&◌, List, Option, Some, None, refl, sym, ap, subst, inl, inr, true≢false}
+use Rattle.std.proofs.Common.{◌≡◌, ◌≢◌, ◌⊎◌, ◌∙◌, ℕ, Bool, true, false, ◌&&◌, List, Option, Some, None, refl, sym, ap, subst, inl, inr, true≢false}
 use Rattle.std.specs.Option.{ForSome}
 use Rattle.std.specs.Prelude.{Result, Ok, Err, IfOk, MatchBool, is_some, if◌then◌else◌}
 use Rattle.lc_disk.specs.declared.area.Area.{Ghosts}

@@ -1,6 +1,9 @@
 pub mod NewStore
 mod Again
 mod Performing
+mod Emptied
+mod Truncations
+mod TruncationTold
 mod Fitting
 mod Memory
 mod Logs

@@ -2,6 +2,7 @@ pub use Rattle.lc_recover.specs.Reads
 pub use Rattle.lc_text.specs.Inspector
 pub mod Verdict
 pub mod Answers
+pub mod Truncation
 pub mod Shown
 pub mod Session
 pub mod Memory

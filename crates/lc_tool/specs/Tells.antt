@@ -17,12 +17,12 @@ use Rattle.lc_text.specs.Line.{line_of}
 use Rattle.lc_tool.specs.Outcome.{EndsWith, GoesBehind}
 use Rattle.lc_text.specs.Lines.{script_lines}
 use Rattle.lc_tool.specs.Script.{GoesOn, NoMemory, Rest}
-use Rattle.lc_tool.specs.Session.{Says, end_text}
+use Rattle.lc_tool.specs.Session.{Says, end_text, truncate_text}
 use Rattle.lc_tool.specs.Store.{Adds}
 use Rattle.lc_text.specs.Text.{not_understood_text, page_text, records_text, refusal_text, too_long_text, words_text}
 use Rattle.lc_tool.specs.Verdict.{verdict_of, verdict_on}
 use Rattle.lc_text.specs.declared.command.Command.{Command}
-use Rattle.lc_text.specs.declared.command.Command.TheVariants.{Step as Asks, End, Flush, Recover, Log, Inspect, Show}
+use Rattle.lc_text.specs.declared.command.Command.TheVariants.{Step as Asks, End, Flush, Truncate, Recover, Log, Inspect, Show}
 use Rattle.lc_text.specs.declared.command.Line.{Line}
 use Rattle.lc_text.specs.declared.command.Line.TheVariants.{Skipped, Command as Commanded, NotUnderstood}
 use Rattle.lc_tool.specs.declared.outcome.Outcome.{Outcome}
@@ -62,6 +62,8 @@ abbrev pub TellsCommand : Geometry → Command → List ℕ → Verdict → Type
 TellsCommand g (Asks event) text verdict = (reply : Reply) × KeepsTo g event reply × Says reply text verdict
 TellsCommand g (End node thread) text verdict = (reply : Reply) × KeepsTo g (Reserve node thread) reply × (text ≡ end_text reply) × (verdict ≡ verdict_of reply)
 TellsCommand g (Flush node) text verdict = (reply : Reply) × KeepsTo g (FlushStep node) reply × Says reply text verdict
+TellsCommand g (Truncate node) text verdict =
+    (reply : Reply) × (round : ℕ) × KeepsTo g (FlushStep node) reply × (text ≡ truncate_text round reply) × (verdict ≡ verdict_of reply)
 TellsCommand g Recover text verdict = (reply : Reply) × KeepsTo g RecoverStep reply × Says reply text verdict
 TellsCommand g (Log node) text verdict = TellsLog g node words_text text verdict
 TellsCommand g (Inspect node) text verdict = TellsLog g node (λ (records : List Record). records_text (placed 0 records)) text verdict

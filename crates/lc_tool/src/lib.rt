@@ -22,6 +22,7 @@ mod stop;
 mod store_file;
 mod store_folder;
 mod stores;
+mod truncating;
 mod verdict;
 mod watch;
 mod zeros;

@@ -1,0 +1,27 @@
+-- In which round the log of a node is.
+use Rattle.std.specs.Prelude.{◌≡◌, ℕ, true, Option, None, Some, slice_get}
+use Rattle.lc_disk.specs.declared.area.Area.{Ghosts}
+use Rattle.lc_model.specs.Refusals.{is_node}
+use Rattle.lc_model.specs.State.{Setting, State, Up as IsUp}
+use Rattle.lc_core.specs.Numbers.{Numbers}
+use Rattle.lc_core.specs.World.{FitsWorld}
+use Rattle.lc_core.specs.declared.node.Node.{Node}
+use Rattle.lc_core.specs.declared.phase.Phase.{Phase}
+use Rattle.lc_core.specs.declared.phase.Phase.TheVariants.{Down, Up, Taken}
+use Rattle.lc_core.specs.declared.world.World.{World}
+
+module _ {D : Type 0} (a : Ghosts D) where
+  -- the one that stands in its journal
+  abbrev pub round_at : Option (Node D a) → ℕ
+  round_at None = 0
+  round_at (Some node) = node.journal.round
+
+  abbrev pub round_in : Phase D a → ℕ → ℕ
+  round_in (Up up) node = round_at (slice_get up.running.nodes.items node)
+  round_in (Down recovery) node = 0
+  round_in Taken node = 0
+
+  -- while the store is up, of each of its nodes, whatever it fits
+  abbrev pub ShowsRound : World D a → ℕ → ℕ → Type 0
+  ShowsRound w node round =
+      (m : Setting) (s : State) (x : Numbers) → FitsWorld a m w s x → s.phase ≡ IsUp → is_node m.geometry node ≡ true → round ≡ x.round node
