@@ -1,7 +1,13 @@
 //! What a script prints, beside what is wanted.
 use lc_record::Geometry;
-use lc_tool::{ToolFault, run_script, zero_areas};
+use lc_tool::{Manner, ToolFault, run_script, zero_areas};
 use std::alloc::Global;
+
+// As a whole, without numbers.
+const WHOLE: Manner = Manner {
+    follow: false,
+    number: false,
+};
 
 /// What a script prints on a new store, and its status.
 pub(crate) fn printed(
@@ -14,7 +20,7 @@ pub(crate) fn printed(
     };
     let mut reader = script;
     let mut text = Vec::new(alloc);
-    let status = run_script(alloc, geometry, areas, &mut reader, &mut text)?;
+    let status = run_script(alloc, geometry, WHOLE, areas, &mut reader, &mut text)?;
     Ok((text, status))
 }
 

@@ -135,6 +135,8 @@ fn asked_of(alloc: Global, ask: Ask, folder: String) -> Result<Asked, Fail> {
         Ask::Run(size) => Asked::Run {
             geometry: geometry_of(size)?,
             store: Some(folder),
+            follow: false,
+            number: false,
         },
         Ask::Recover(size) => Asked::Recover {
             folder,
@@ -147,6 +149,8 @@ fn asked_of(alloc: Global, ask: Ask, folder: String) -> Result<Asked, Fail> {
         Ask::RunInMemory(size) => Asked::Run {
             geometry: geometry_of(size)?,
             store: None,
+            follow: false,
+            number: false,
         },
         Ask::Help => Asked::Help(String::from_str(alloc, "help\n")?),
         Ask::NotUnderstood => Asked::NotUnderstood,

@@ -96,6 +96,10 @@ enum Wanted {
     Init(&'static str, [u32; 5]),
     Recover(&'static str, [u32; 5]),
     Inspect(&'static str, bool),
+    // A run in memory of the least size: whether it follows, and whether it numbers.
+    Manner(bool, bool),
+    Lines,
+    Version,
 }
 
 fn is_size(geometry: &Geometry, size: [u32; 5]) -> bool {
@@ -110,9 +114,26 @@ fn is_size(geometry: &Geometry, size: [u32; 5]) -> bool {
 // Whether the words ask for this. No store is the store without a name.
 fn asks(asked: &Asked, wanted: Wanted) -> bool {
     match (asked, wanted) {
-        (Asked::Run { geometry, store }, Wanted::Run(name, size)) => {
-            store.as_ref().map_or("", |store| store.as_str()) == name && is_size(geometry, size)
-        }
+        (
+            Asked::Run {
+                geometry,
+                store,
+                follow: false,
+                number: false,
+            },
+            Wanted::Run(name, size),
+        ) => store.as_ref().map_or("", |store| store.as_str()) == name && is_size(geometry, size),
+        (
+            Asked::Run {
+                geometry,
+                store: None,
+                follow,
+                number,
+            },
+            Wanted::Manner(follows, numbers),
+        ) => is_size(geometry, LEAST) && *follow == follows && *number == numbers,
+        (Asked::Lines, Wanted::Lines) => true,
+        (Asked::Version(text), Wanted::Version) => text.as_str() == "lcrvm 0.1.0\n",
         (Asked::Init { folder, geometry }, Wanted::Init(name, size)) => {
             folder.as_str() == name && is_size(geometry, size)
         }
@@ -130,7 +151,15 @@ const LEAST: [u32; 5] = [1, 1, 1, 1, 64];
 
 const MOST: [u32; 5] = [8, 16, 16, 1024, 4096];
 
-static ASKED: [(&[&str], Wanted); 22] = [
+static ASKED: [(&[&str], Wanted); 27] = [
+    (&["lcrvm", "run", "--follow"], Wanted::Manner(true, false)),
+    (&["lcrvm", "run", "--number"], Wanted::Manner(false, true)),
+    (
+        &["lcrvm", "run", "--number", "--follow"],
+        Wanted::Manner(true, true),
+    ),
+    (&["lcrvm", "lines"], Wanted::Lines),
+    (&["lcrvm", "--version"], Wanted::Version),
     (&["lcrvm", "run"], Wanted::Run("", LEAST)),
     (&["lcrvm", "init", "bank"], Wanted::Init("bank", LEAST)),
     (

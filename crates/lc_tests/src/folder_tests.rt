@@ -1,4 +1,5 @@
 //! Stores in folders of the system.
+use crate::script_tests::WHOLE;
 use lc_record::Geometry;
 use lc_tool::{init_store, inspect_file, recover_store, run_store};
 use std::fs::{self, OpenFile, OpenOptions};
@@ -95,7 +96,15 @@ fn asked(rt: &HostRuntime, folder: &str, ask: Ask) -> Result<(Vec<u8>, u8), Fail
         Ask::Init => init_store(alloc, rt, folder, ONE.geometry()?, &mut text)?,
         Ask::Run(size, script) => {
             let mut reader = script.as_bytes();
-            run_store(alloc, rt, folder, size.geometry()?, &mut reader, &mut text)?
+            run_store(
+                alloc,
+                rt,
+                folder,
+                size.geometry()?,
+                WHOLE,
+                &mut reader,
+                &mut text,
+            )?
         }
         Ask::Recover(size) => recover_store(alloc, rt, folder, size.geometry()?, &mut text)?,
         Ask::Inspect(behind, order) => {

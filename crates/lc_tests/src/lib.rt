@@ -10,6 +10,8 @@ mod events;
 #[cfg(test)]
 mod folder_tests;
 #[cfg(test)]
+mod follow_tests;
+#[cfg(test)]
 mod growth_tests;
 #[cfg(test)]
 mod hostile_tests;

@@ -3,17 +3,23 @@ use crate::stores::{CLOSED, SlotText, hello, log_area, segment_area, store_of};
 use lc_disk::{Fuse, MemArea, Stoppable, When};
 use lc_record::Geometry;
 use lc_text::ToolFault;
-use lc_tool::{Noted, run_script, zero_areas};
+use lc_tool::{Manner, Noted, run_script, zero_areas};
 use std::io::{self, Error, ErrorKind, Read, Write};
 use std::process::Abort;
 use std::test::*;
 
-const ONE: Geometry = Geometry {
+pub(crate) const ONE: Geometry = Geometry {
     nodes: 1,
     threads: 1,
     segments: 1,
     pages: 1,
     words: 64,
+};
+
+// As a whole, without numbers.
+pub(crate) const WHOLE: Manner = Manner {
+    follow: false,
+    number: false,
 };
 
 // What a script prints on these areas, and its status.
@@ -26,7 +32,7 @@ fn check<D: Stoppable + Drop>(
 ) -> Result<(), Fail> {
     let mut reader = script;
     let mut text = Vec::new(rt.alloc());
-    let status = run_script(rt.alloc(), geometry, areas, &mut reader, &mut text)?;
+    let status = run_script(rt.alloc(), geometry, WHOLE, areas, &mut reader, &mut text)?;
     assert!(rt;
         text.as_slice() == want.as_bytes() && status == want_status,
         "{want}"
@@ -345,6 +351,7 @@ fn each_line_is_flushed(rt: HostRuntime) -> Result<(), Fail> {
     run_script(
         alloc,
         ONE,
+        WHOLE,
         zero_areas(alloc, &ONE)?,
         &mut reader,
         &mut writer,
@@ -394,7 +401,8 @@ fn run_failing(
         kind,
     };
     let areas = zero_areas(rt.alloc(), &ONE)?;
-    Ok(run_script(rt.alloc(), ONE, areas, &mut reader, &mut Narrow { room }))
+    let mut writer = Narrow { room };
+    Ok(run_script(rt.alloc(), ONE, WHOLE, areas, &mut reader, &mut writer))
 }
 
 // No read comes with 21 bytes left, and the replies are `ok` and `nothing`.

@@ -292,6 +292,11 @@ abbrev pub asked : Option Command → Line
 asked None = NotUnderstood
 asked (Some command) = Asks command
 
+-- nothing, and what begins with a number sign
+abbrev pub is_skipped : List ℕ → Bool
+is_skipped [] = true
+is_skipped (byte ∷ bytes) = byte == 35
+
 -- the bytes of a line, without what ends it: nothing and what begins with a number sign are skipped
 unfoldable pub line_of : List ℕ → Line
 line_of [] = Skipped

@@ -113,6 +113,10 @@ closed_text place words = line (codes "closed") (place ∷ words ∷ [])
 abbrev pub truncated_text : ℕ → List ℕ
 truncated_text round = line (codes "truncated") (round ∷ [])
 
+-- in front of what a line of a script prints, where that is asked for
+abbrev pub line_number_text : ℕ → List ℕ
+line_number_text number = line (codes "line") (number ∷ [])
+
 abbrev pub not_understood_text : ℕ → List ℕ
 not_understood_text line = codes "line " ++ decimal line ++ codes ": not understood\n"
 

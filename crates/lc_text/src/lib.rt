@@ -17,10 +17,10 @@ pub use command::{Command, Line};
 pub use hex::{write_page, write_words};
 pub use inspector::inspect;
 pub use lines::first_line;
-pub use parsing::parse;
+pub use parsing::{is_skipped, parse};
 pub use replies::write_reply;
 pub use text::{
-    write_closed, write_exists, write_no_memory, write_not_understood, write_too_long,
-    write_truncated,
+    write_closed, write_exists, write_line_number, write_no_memory, write_not_understood,
+    write_too_long, write_truncated,
 };
 pub use tool_fault::ToolFault;

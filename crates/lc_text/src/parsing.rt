@@ -1,6 +1,6 @@
 //! Lines of a script.
 ghost use Rattle.std.specs.Prelude.{◌≡◌, ◌<◌, [], ◌∷◌, length, replicate, option_map, IfOk, OnErr, IsTrue};
-ghost use Rattle.lc_text.specs.Line.{words, Takes, thread_of, spot_of, thread_alone, segment_alone, alone, begin_of, range_of, write_of, read_of, deliver_of, page_alone, choice_of, stop_of, node_of, thread_command_of, node_command_of, store_command_of, shown_of, command_of, is_open_ended, line_of};
+ghost use Rattle.lc_text.specs.Line.{words, Takes, thread_of, spot_of, thread_alone, segment_alone, alone, begin_of, range_of, write_of, read_of, deliver_of, page_alone, choice_of, is_skipped, stop_of, node_of, thread_command_of, node_command_of, store_command_of, shown_of, command_of, is_open_ended, line_of};
 
 use crate::command::{Command, Line};
 use crate::digits::pair;
@@ -374,6 +374,13 @@ fn command(alloc: Global, mut fields: Fields) -> Result<Option<Command>, AllocEr
         return Ok(Some(command));
     }
     Ok(shown(keyword, fields))
+}
+
+/// Whether a line is skipped: it is empty, or a comment.
+pub fn is_skipped(line: &[u8]) -> bool
+    ensures { result ≡ is_skipped line.now }
+{
+    matches!(line, [] | [b'#', ..])
 }
 
 /// What a line asks for, without what ends it. Only a `begin` with segments, a `write` with bytes and a `stop` take memory.

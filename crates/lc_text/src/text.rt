@@ -1,7 +1,7 @@
 //! Lines of words and numbers.
 ghost use Rattle.std.specs.Prelude.{OnOk};
 ghost use Rattle.std.specs.Io.KnownBytes.{Appends};
-ghost use Rattle.lc_text.specs.Text.{line, closed_text, truncated_text, not_understood_text, too_long_text, no_memory_text, exists_text};
+ghost use Rattle.lc_text.specs.Text.{line, closed_text, truncated_text, line_number_text, not_understood_text, too_long_text, no_memory_text, exists_text};
 
 use std::io;
 
@@ -29,6 +29,13 @@ pub fn write_truncated<W: io::Write>(writer: &mut W, round: u64) -> io::Result<(
     ensures { OnOk result (Appends (W.contents writer.old) (W.contents writer.new) (truncated_text round)) }
 {
     write_line(writer, b"truncated", &[round])
+}
+
+/// Writes the number of a line of the script.
+pub fn write_line_number<W: io::Write>(writer: &mut W, number: u64) -> io::Result<()>
+    ensures { OnOk result (Appends (W.contents writer.old) (W.contents writer.new) (line_number_text number)) }
+{
+    write_line(writer, b"line", &[number])
 }
 
 /// Writes that a line of the script is no command.

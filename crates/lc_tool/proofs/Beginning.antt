@@ -14,7 +14,7 @@ use Rattle.lc_core.specs.declared.world.World.{World}
 use Rattle.lc_tool.specs.Files.{Stops}
 use Rattle.lc_tool.specs.Fits.{FollowsAll, IsRefused, RefusesAll}
 use Rattle.lc_tool.specs.Outcome.{EndsWith, IsGivenUp, IsRecovered, OpensStore, RefusesFirst, RunsRecovered}
-use Rattle.lc_tool.specs.Script.{NoMemory, Opens, RunsRead, RunsScript}
+use Rattle.lc_tool.specs.Script.{Given, NoMemory, Opens, RunsRead, RunsScript}
 use Rattle.lc_recover.specs.Reads.{AllMergeTo, AreHonest, HaveLengths}
 use Rattle.lc_recover.specs.Recovery.{begun}
 use Rattle.lc_core.specs.declared.phase.Phase.TheVariants.{Down}
@@ -27,7 +27,7 @@ use Rattle.lc_tool.specs.declared.verdict.Verdict.{Verdict}
 use Rattle.lc_tool.specs.declared.verdict.Verdict.TheVariants.{Done, Refused, Faulted}
 use Rattle.lc_model.specs.declared.event.Event.TheVariants.{RecoverStep}
 
-module _ (m : Setting) (s : State) (x : Numbers) (script : List ℕ) where
+module _ (m : Setting) (s : State) (x : Numbers) (script : Given) where
   ends_so : (after : State) (next : Numbers) (reply : Reply) (verdict : Verdict) (text : List ℕ) (status : ℕ) → EndsWith verdict reply text status → Opens m after next reply verdict script text status
   ends_so after next reply Done text status ends = absurd ends
   ends_so after next reply Refused text status ends = ends
@@ -107,7 +107,7 @@ module _ {D : Type 0} (a : Ghosts D) (g : Geometry) (areas : List D) (world : Wo
   start_fits fits m x same known = fits m x same known.honest (subst (λ (h : Geometry). AllMergeTo a h areas m.start x.disks.numbers) same known.merges) known.first
 
   -- the recovery did not come to its end
-  pub stopped_runs : (new : World D a) (script : List ℕ) → FitsFirst → OpensStore a world held holds (Some status) new → RunsStore a g areas script held holds status
+  pub stopped_runs : (new : World D a) (script : Given) → FitsFirst → OpensStore a world held holds (Some status) new → RunsStore a g areas script held holds status
   stopped_runs new script fits opens m x same known =
       let ends = opens m (first_state g) x (start_fits fits m x same known) in
       (ends.0, given_up m (first_state g) x script ends.0 status ends.1, ends.2)
@@ -126,7 +126,7 @@ module _ {D : Type 0} (a : Ghosts D) (g : Geometry) (areas : List D) (world : Wo
   pub never_wrong : HaveLengths a g areas → RefusesLengths a g areas held holds status
   never_wrong right area wrong = absurd (wrong.is (right area))
 
-  pub recovered_runs : (mid : Option (List ℕ)) (new : World D a) (script : List ℕ) → FitsFirst → OpensStore a world held mid None new → RunsRecovered a new script mid holds status
+  pub recovered_runs : (mid : Option (List ℕ)) (new : World D a) (script : Given) → FitsFirst → OpensStore a world held mid None new → RunsRecovered a new script mid holds status
       → RunsStore a g areas script held holds status
   recovered_runs mid new script fits opens runs m x same known =
       let up = opens.0 m (first_state g) x (start_fits fits m x same known) in
@@ -134,7 +134,7 @@ module _ {D : Type 0} (a : Ghosts D) (g : Geometry) (areas : List D) (world : Wo
       (run.0, recovered m (first_state g) x script up.0 up.1 run.0 status up.2 run.1, keeps_then held mid holds run.0 opens.1 run.2)
 
 -- The same of any areas
-module _ (g : Geometry) (held holds : Option (List ℕ)) (status : ℕ) (script : List ℕ) where
+module _ (g : Geometry) (held holds : Option (List ℕ)) (status : ℕ) (script : Given) where
   pub stopped_tells : Adds TellsStop held holds status → Adds (TellsScript g script) held holds status
   stopped_tells stop = (stop.0, inl stop.1, stop.2)
 

@@ -10,6 +10,9 @@ mod Logs
 mod LogShown
 mod Shows
 mod ScriptLemmas
+mod Manners
+mod Comings
+mod Follows
 mod Opening
 mod Recovering
 mod Beginning

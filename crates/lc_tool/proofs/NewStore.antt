@@ -10,10 +10,11 @@ use Rattle.lc_recover.specs.Reads.{AllMergeTo, AreZeros, HaveLengths}
 use Rattle.lc_recover.proofs.Blank.{zeros_all_merge}
 use Rattle.lc_text.specs.Text.{no_memory_text}
 use Rattle.lc_tool.specs.Asked.{RunsNew}
+use Rattle.lc_tool.specs.Script.{Given}
 use Rattle.lc_tool.specs.Store.{RunsStore}
 
 -- what is promised of any areas, of zeros
-pub new_runs : (g : Geometry) (areas : List MemArea) (script : List ℕ) (held holds : Option (List ℕ)) (status : ℕ) → HaveLengths ghosts g areas → AreZeros ghosts areas
+pub new_runs : (g : Geometry) (areas : List MemArea) (script : Given) (held holds : Option (List ℕ)) (status : ℕ) → HaveLengths ghosts g areas → AreZeros ghosts areas
     → RunsStore ghosts g areas script held holds status → RunsNew g script held holds status
 new_runs g areas script held holds status lengths zeros runs = λ x numbers none.
     let m : Setting = record { geometry = g; start = zero_content g } in
@@ -25,5 +26,5 @@ new_runs g areas script held holds status lengths zeros runs = λ x numbers none
     })
 
 -- there was no memory for the areas
-pub none_runs : (g : Geometry) (script : List ℕ) (held holds : Option (List ℕ)) (status : ℕ) → (status ≡ 1) × Appends held holds no_memory_text → RunsNew g script held holds status
+pub none_runs : (g : Geometry) (script : Given) (held holds : Option (List ℕ)) (status : ℕ) → (status ≡ 1) × Appends held holds no_memory_text → RunsNew g script held holds status
 none_runs g script held holds status shown = λ x numbers none. (no_memory_text, inl (refl, shown.0), shown.1)

@@ -1,5 +1,5 @@
 -- What the program prints, and the status that it ends with, by what was asked of it.
-use Rattle.std.specs.Prelude.{◌≡◌, ℕ, List, Option, None, Some, IfSome, string_bytes}
+use Rattle.std.specs.Prelude.{◌≡◌, ℕ, Bool, List, Option, None, Some, IfSome, string_bytes}
 use Rattle.std.specs.Io.KnownBytes.{Appends, Keeps}
 use Rattle.lc_record.specs.declared.geometry.Geometry.{Geometry}
 use Rattle.lc_model.specs.Recovered.{zero_content}
@@ -7,14 +7,15 @@ use Rattle.lc_model.specs.State.{first_state}
 use Rattle.lc_core.specs.Numbers.{Numbers}
 use Rattle.lc_tool.specs.Files.{TellsInit, TellsInspection}
 use Rattle.lc_tool.specs.Recovers.{TellsRecovery}
-use Rattle.lc_tool.specs.Script.{RunsScript}
+use Rattle.lc_tool.specs.Script.{Given, RunsScript, given_as}
 use Rattle.lc_tool.specs.Store.{Adds}
 use Rattle.lc_tool.specs.Tells.{TellsScript}
+use Rattle.lc_tool.specs.declared.line_list.TheConstants.{LINE_LIST}
 use Rattle.lc_words.specs.declared.asked.Asked.{Asked}
-use Rattle.lc_words.specs.declared.asked.Asked.TheVariants.{Run, Init, Recover, Inspect, Help, NotUnderstood}
+use Rattle.lc_words.specs.declared.asked.Asked.TheVariants.{Run, Init, Recover, Inspect, Lines, Help, Version, NotUnderstood}
 
 -- a script on a new store of zeros: what the plain machine allows from its first state on, with no numbers used
-abbrev pub RunsNew : Geometry → List ℕ → Option (List ℕ) → Option (List ℕ) → ℕ → Type 0
+abbrev pub RunsNew : Geometry → Given → Option (List ℕ) → Option (List ℕ) → ℕ → Type 0
 RunsNew g script held holds status = (x : Numbers) → x.disks.numbers ≡ (λ segment. 0) → x.steps ≡ 0
     → Adds (RunsScript (record { geometry = g; start = zero_content g }) (first_state g) x script) held holds status
 
@@ -22,12 +23,18 @@ RunsNew g script held holds status = (x : Numbers) → x.disks.numbers ≡ (λ s
 abbrev pub PrintsHelp : List ℕ → Option (List ℕ) → Option (List ℕ) → ℕ → Type 0
 PrintsHelp text held holds status = (status ≡ 0) × Appends held holds text
 
+-- a script with these bytes, by the flags
+abbrev pub given : Bool → Bool → List ℕ → Given
+given follow number = given_as (record { follow = follow; number = number })
+
 -- with what is to be read, and what a writer held and holds
 abbrev pub AnswersAsked : Asked → Option (List ℕ) → Option (List ℕ) → Option (List ℕ) → ℕ → Type 0
-AnswersAsked (Run g None) input held holds status = IfSome input (λ script. RunsNew g script held holds status)
-AnswersAsked (Run g (Some folder)) input held holds status = IfSome input (λ script. Adds (TellsScript g script) held holds status)
+AnswersAsked (Run g None follow number) input held holds status = IfSome input (λ bytes. RunsNew g (given follow number bytes) held holds status)
+AnswersAsked (Run g (Some folder) follow number) input held holds status = IfSome input (λ bytes. Adds (TellsScript g (given follow number bytes)) held holds status)
 AnswersAsked (Init folder g) input held holds status = Adds TellsInit held holds status
 AnswersAsked (Recover folder g) input held holds status = Adds (TellsRecovery g) held holds status
 AnswersAsked (Inspect file reverse) input held holds status = TellsInspection reverse held holds status
+AnswersAsked Lines input held holds status = PrintsHelp LINE_LIST.now held holds status
 AnswersAsked (Help text) input held holds status = PrintsHelp (string_bytes text) held holds status
+AnswersAsked (Version text) input held holds status = PrintsHelp (string_bytes text) held holds status
 AnswersAsked NotUnderstood input held holds status = (status ≡ 2) × Keeps held holds

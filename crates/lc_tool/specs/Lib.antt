@@ -6,6 +6,8 @@ pub mod Truncation
 pub mod Shown
 pub mod Session
 pub mod Memory
+pub mod Following
+pub mod Coming
 pub mod Script
 pub mod Store
 pub mod Fits

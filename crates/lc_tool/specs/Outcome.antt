@@ -1,5 +1,5 @@
 -- What a line did, and what it printed.
-use Rattle.std.specs.Prelude.{◌≡◌, ◌⊎◌, ℕ, Bool, true, false, List, [], Option, None, Some}
+use Rattle.std.specs.Prelude.{◌≡◌, ◌⊎◌, ℕ, Bool, true, false, List, [], ◌++◌, Option, None, Some, if◌then◌else◌}
 use Rattle.std.specs.Io.KnownBytes.{Appends, Keeps}
 use Rattle.lc_disk.specs.declared.area.Area.{Ghosts}
 use Rattle.lc_model.specs.Merge.{MergeFault}
@@ -12,9 +12,10 @@ use Rattle.lc_core.specs.declared.world.World.{World}
 use Rattle.lc_tool.specs.Memory.{LineAsksMemory}
 use Rattle.lc_tool.specs.Answers.{Finishes}
 use Rattle.lc_tool.specs.Fits.{Leads, IsRefused}
-use Rattle.lc_text.specs.Line.{line_of}
+use Rattle.lc_text.specs.Line.{is_skipped, line_of}
 use Rattle.lc_text.specs.Lines.{script_lines}
-use Rattle.lc_tool.specs.Script.{NoMemory, Runs, RunsRead}
+use Rattle.lc_tool.specs.Following.{lines_within}
+use Rattle.lc_tool.specs.Script.{Follows, Front, Given, NoMemory, Runs, RunsRead, RunsWhole}
 use Rattle.lc_tool.specs.Session.{Does}
 use Rattle.lc_tool.specs.Store.{Adds, RefusesStore}
 use Rattle.lc_text.specs.Text.{not_understood_text, reply_text}
@@ -43,6 +44,10 @@ abbrev pub Passes : Setting → State → Numbers → List ℕ → List ℕ → 
 Passes m s x line shown was after next =
     ((line_of line ≡ Skipped) × (shown ≡ []) × (was ≡ false) × (after ≡ s) × (next ≡ x))
     ⊎ ((verdict : Verdict) × IsDone m s x line shown verdict after next × GoesBehind verdict was)
+
+-- what a line prints behind what stands in front of it; a line that is skipped prints nothing
+abbrev pub fronted : Front → ℕ → List ℕ → List ℕ
+fronted front number line = if is_skipped line then [] else front number
 
 -- there was no memory for a line that asks for some, the line was not understood, or a device failed at its command
 abbrev pub Breaks : Setting → State → Numbers → List ℕ → ℕ → List ℕ → ℕ → Type 0
@@ -75,14 +80,31 @@ module _ {D : Type 0} (a : Ghosts D) where
   LeavesLine old line number held holds (Ends status) new =
       (m : Setting) (s : State) (x : Numbers) → FitsWorld a m old s x → (shown : List ℕ) × Breaks m s x line number shown status × Appends held holds shown
 
+  -- so does a line in front of which that stands
+  abbrev pub LeavesFronted : Front → World D a → List ℕ → ℕ → Option (List ℕ) → Option (List ℕ) → Outcome → World D a → Type 0
+  LeavesFronted front old line number held holds (Goes was) new =
+      Leads a (λ m s x after next. (shown : List ℕ) × Passes m s x line shown was after next × Appends held holds (fronted front number line ++ shown)) old new
+  LeavesFronted front old line number held holds (Ends status) new =
+      (is_skipped line ≡ false)
+      × ((m : Setting) (s : State) (x : Numbers) → FitsWorld a m old s x → (shown : List ℕ) × Breaks m s x line number shown status × Appends held holds (front number ++ shown))
+
   -- all lines, from this store on
-  abbrev pub RunsLines : World D a → List ℕ → Option (List ℕ) → Option (List ℕ) → ℕ → Type 0
-  RunsLines old script held holds status =
+  abbrev pub RunsLines : Front → World D a → List ℕ → Option (List ℕ) → Option (List ℕ) → ℕ → Type 0
+  RunsLines front old script held holds status =
       (m : Setting) (s : State) (x : Numbers) → FitsWorld a m old s x →
-      (text : List ℕ) × Runs m s x 1 false (script_lines script) text status × Appends held holds text
+      (text : List ℕ) × Runs front m s x 1 false (script_lines script) text status × Appends held holds text
+
+  -- read as a whole, or one by one
+  abbrev pub RunsAll : Front → World D a → List ℕ → Option (List ℕ) → Option (List ℕ) → ℕ → Type 0
+  RunsAll front old script held holds status =
+      (m : Setting) (s : State) (x : Numbers) → FitsWorld a m old s x → Adds (λ text end. NoMemory text end ⊎ RunsWhole front m s x script text end) held holds status
+
+  abbrev pub FollowsLines : Front → World D a → ℕ → List ℕ → Option (List ℕ) → Option (List ℕ) → ℕ → Type 0
+  FollowsLines front old left script held holds status =
+      (m : Setting) (s : State) (x : Numbers) → FitsWorld a m old s x → Adds (Follows front m s x 1 false (lines_within left script)) held holds status
 
   -- the script, on a store that is recovered; there may be no memory for it
-  abbrev pub RunsRecovered : World D a → List ℕ → Option (List ℕ) → Option (List ℕ) → ℕ → Type 0
+  abbrev pub RunsRecovered : World D a → Given → Option (List ℕ) → Option (List ℕ) → ℕ → Type 0
   RunsRecovered old script held holds status =
       (m : Setting) (s : State) (x : Numbers) → FitsWorld a m old s x →
       Adds (λ text end. NoMemory text end ⊎ RunsRead m s x script text end) held holds status

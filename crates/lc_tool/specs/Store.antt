@@ -9,7 +9,7 @@ use Rattle.lc_model.specs.declared.refusal.Refusal.{Refusal}
 use Rattle.lc_model.specs.declared.refusal.Refusal.TheVariants.{BadGeometry, OutOfSegment, Twice, Gap, DeviceFault}
 use Rattle.lc_recover.specs.Reads.{area_len, AllMergeTo, AreHonest, HaveLengths, ReadsRefused}
 use Rattle.lc_core.specs.Numbers.{Numbers}
-use Rattle.lc_tool.specs.Script.{NoMemory, RunsScript}
+use Rattle.lc_tool.specs.Script.{Given, NoMemory, RunsScript}
 use Rattle.lc_text.specs.Text.{refusal_text}
 
 -- the refusal of a merge
@@ -52,7 +52,7 @@ module _ {D : Type 0} (a : Ghosts D) where
     pub first : x.steps ≡ 0
 
   -- whatever they merge to
-  abbrev pub RunsStore : Geometry → List D → List ℕ → Option (List ℕ) → Option (List ℕ) → ℕ → Type 0
+  abbrev pub RunsStore : Geometry → List D → Given → Option (List ℕ) → Option (List ℕ) → ℕ → Type 0
   RunsStore g areas script held holds status =
       (m : Setting) (x : Numbers) → m.geometry ≡ g → AreKnown m areas x → Adds (RunsScript m (first_state g) x script) held holds status
 

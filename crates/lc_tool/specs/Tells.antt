@@ -1,6 +1,6 @@
 -- What a script prints over any areas of a geometry, also over those of which nothing is known: each line has the text of a
 -- reply that keeps to the geometry, or of what it shows, and the status follows from these.
-use Rattle.std.specs.Prelude.{◌≡◌, ◌≢◌, ◌⊎◌, ℕ, ◌+◌, ◌&&◌, Bool, true, false, nat_lt, List, [], ◌∷◌, length, Option, None, Some, MatchBool, if◌then◌else◌}
+use Rattle.std.specs.Prelude.{◌≡◌, ◌≢◌, ◌⊎◌, ℕ, ◌+◌, ◌&&◌, Bool, true, false, nat_lt, List, [], ◌∷◌, ◌++◌, length, Option, None, Some, MatchBool, if◌then◌else◌}
 use Rattle.std.specs.Io.KnownBytes.{Keeps}
 use Rattle.lc_record.specs.declared.record.Record.{Record}
 use Rattle.lc_log.specs.LogText.{placed}
@@ -13,13 +13,14 @@ use Rattle.lc_model.specs.declared.refusal.Refusal.TheVariants.{DeviceFault, Dow
 use Rattle.lc_model.specs.declared.reply.Reply.{Reply}
 use Rattle.lc_model.specs.declared.reply.Reply.TheVariants.{Refused}
 use Rattle.lc_core.specs.Geometries.{is_delivery}
-use Rattle.lc_text.specs.Line.{line_of}
+use Rattle.lc_text.specs.Line.{is_skipped, line_of}
 use Rattle.lc_tool.specs.Outcome.{EndsWith, GoesBehind}
 use Rattle.lc_text.specs.Lines.{script_lines}
-use Rattle.lc_tool.specs.Script.{GoesOn, NoMemory, Rest}
+use Rattle.lc_tool.specs.Following.{lines_within}
+use Rattle.lc_tool.specs.Script.{Front, Given, GoesOn, NoMemory, Rest, front_of}
 use Rattle.lc_tool.specs.Session.{Says, end_text, truncate_text}
 use Rattle.lc_tool.specs.Store.{Adds}
-use Rattle.lc_text.specs.Text.{not_understood_text, page_text, records_text, refusal_text, too_long_text, words_text}
+use Rattle.lc_text.specs.Text.{no_memory_text, not_understood_text, page_text, records_text, refusal_text, too_long_text, words_text}
 use Rattle.lc_tool.specs.Verdict.{verdict_of, verdict_on}
 use Rattle.lc_text.specs.declared.command.Command.{Command}
 use Rattle.lc_text.specs.declared.command.Command.TheVariants.{Step as Asks, End, Flush, Truncate, Recover, Log, Inspect, Show}
@@ -79,18 +80,40 @@ TellsLine g line number shown (Ends status) =
     ⊎ (((line_of line ≡ NotUnderstood) × (shown ≡ not_understood_text number) × (status ≡ 2))
     ⊎ ((command : Command) × (line_of line ≡ Commanded command) × TellsCommand g command shown Faulted × (status ≡ 3)))
 
--- by what the line of this number says: `next` is the same of the lines behind it
-abbrev pub TellsFrom : Geometry → Rest → ℕ → Bool → Line → List ℕ → ℕ → Type 0
-TellsFrom g next number refused Skipped text status = next refused text status
-TellsFrom g next number refused NotUnderstood text status = (text ≡ not_understood_text number) × (status ≡ 2)
-TellsFrom g next number refused (Commanded command) text status =
-    (shown : List ℕ) × (verdict : Verdict) × TellsCommand g command shown verdict × GoesOn next refused shown verdict text status
+-- the same behind what stands in front of a line
+abbrev pub TellsFronted : Front → Geometry → List ℕ → ℕ → List ℕ → Outcome → Type 0
+TellsFronted front g line number text outcome =
+    ((line_of line ≡ Skipped) × (text ≡ []) × (outcome ≡ Goes false))
+    ⊎ ((is_skipped line ≡ false) × ((shown : List ℕ) × (text ≡ front number ++ shown) × TellsLine g line number shown outcome))
 
--- where this is the number of the first of these lines, and whether something was refused before
-abbrev pub TellsLines : Geometry → ℕ → Bool → List (List ℕ) → List ℕ → ℕ → Type 0
-TellsLines g number refused [] text status = (text ≡ []) × (status ≡ (if refused then 1 else 0))
-TellsLines g number refused (line ∷ lines) text status =
-    NoMemory text status ⊎ TellsFrom g (λ was rest end. TellsLines g (number + 1) was lines rest end) number refused (line_of line) text status
+module _ (front : Front) where
+  -- by what the line of this number says: `next` is the same of the lines behind it
+  abbrev pub TellsFrom : Geometry → Rest → ℕ → Bool → Line → List ℕ → ℕ → Type 0
+  TellsFrom g next number refused Skipped text status = next refused text status
+  TellsFrom g next number refused NotUnderstood text status = (text ≡ front number ++ not_understood_text number) × (status ≡ 2)
+  TellsFrom g next number refused (Commanded command) text status =
+      (shown : List ℕ) × (verdict : Verdict) × TellsCommand g command shown verdict × GoesOn next refused (front number ++ shown) verdict text status
+
+  -- there may be no memory
+  abbrev pub TellsOne : Geometry → Rest → ℕ → Bool → List ℕ → List ℕ → ℕ → Type 0
+  TellsOne g next number refused line text status =
+      ((text ≡ front number ++ no_memory_text) × (status ≡ 1)) ⊎ TellsFrom g next number refused (line_of line) text status
+
+  -- where this is the number of the first of these lines, and whether something was refused before
+  abbrev pub TellsLines : Geometry → ℕ → Bool → List (List ℕ) → List ℕ → ℕ → Type 0
+  TellsLines g number refused [] text status = (text ≡ []) × (status ≡ (if refused then 1 else 0))
+  TellsLines g number refused (line ∷ lines) text status =
+      TellsOne g (λ was rest end. TellsLines g (number + 1) was lines rest end) number refused line text status
+
+  -- the same of lines that are read one by one, of which the last may pass the limit
+  abbrev pub TellsComing : Geometry → Rest → ℕ → Bool → Option (List ℕ) → List ℕ → ℕ → Type 0
+  TellsComing g next number refused None text status = (text ≡ too_long_text) × (status ≡ 2)
+  TellsComing g next number refused (Some line) text status = TellsOne g next number refused line text status
+
+  abbrev pub TellsFollowed : Geometry → ℕ → Bool → List (Option (List ℕ)) → List ℕ → ℕ → Type 0
+  TellsFollowed g number refused [] text status = NoMemory text status ⊎ ((text ≡ []) × (status ≡ (if refused then 1 else 0)))
+  TellsFollowed g number refused (line ∷ lines) text status =
+      NoMemory text status ⊎ TellsComing g (λ was rest end. TellsFollowed g (number + 1) was lines rest end) number refused line text status
 
 -- there was no memory, or the line of a refusal
 abbrev pub TellsStop : List ℕ → ℕ → Type 0
@@ -101,14 +124,24 @@ abbrev pub TellsOpening : Option (List ℕ) → Option (List ℕ) → Option ℕ
 TellsOpening held holds None = Keeps held holds
 TellsOpening held holds (Some status) = Adds TellsStop held holds status
 
--- a script, unless it is too long
-abbrev pub TellsRead : Geometry → List ℕ → List ℕ → ℕ → Type 0
-TellsRead g script text status = MatchBool (nat_lt 1048576 (length script)) ((text ≡ too_long_text) × (status ≡ 2)) (TellsLines g 1 false (script_lines script) text status)
+-- a script that is read as a whole, unless it is too long
+abbrev pub TellsWhole : Front → Geometry → List ℕ → List ℕ → ℕ → Type 0
+TellsWhole front g script text status =
+    MatchBool (nat_lt 1048576 (length script)) ((text ≡ too_long_text) × (status ≡ 2)) (TellsLines front g 1 false (script_lines script) text status)
+
+abbrev pub TellsAll : Front → Geometry → List ℕ → List ℕ → ℕ → Type 0
+TellsAll front g script text status = NoMemory text status ⊎ TellsWhole front g script text status
+
+-- read line by line, or as a whole
+abbrev pub TellsRead : Geometry → Given → List ℕ → ℕ → Type 0
+TellsRead g script text status = MatchBool script.manner.follow
+    (TellsFollowed (front_of script.manner.number) g 1 false (lines_within 1048576 script.bytes) text status)
+    (TellsWhole (front_of script.manner.number) g script.bytes text status)
 
 -- behind the recovery: there may be no memory for the script
-abbrev pub TellsRecovered : Geometry → List ℕ → List ℕ → ℕ → Type 0
+abbrev pub TellsRecovered : Geometry → Given → List ℕ → ℕ → Type 0
 TellsRecovered g script text status = NoMemory text status ⊎ TellsRead g script text status
 
 -- what a script prints, and the status that it ends with
-abbrev pub TellsScript : Geometry → List ℕ → List ℕ → ℕ → Type 0
+abbrev pub TellsScript : Geometry → Given → List ℕ → ℕ → Type 0
 TellsScript g script text status = TellsStop text status ⊎ TellsRead g script text status

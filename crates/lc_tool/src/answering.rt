@@ -1,9 +1,12 @@
 //! What the program answers.
 ghost use Rattle.std.specs.Prelude.{◌≡◌, ◌≢◌, IfErr, IfOk, IfSome};
 ghost use Rattle.lc_tool.specs.Asked.{AnswersAsked, PrintsHelp, RunsNew};
+ghost use Rattle.lc_tool.specs.Script.{given_as};
 
 use crate::ToolFault;
+use crate::line_list::LINE_LIST;
 use crate::log_file::inspect_file;
+use crate::manner::Manner;
 use crate::scripts::{DONE, NOT_UNDERSTOOD, no_memory, run_script};
 use crate::stores::{init_store, recover_store, run_store};
 use crate::zeros::zero_areas;
@@ -33,16 +36,21 @@ where
     match asked {
         Asked::Run {
             geometry,
-            store: None,
-        } => run_new(alloc, geometry, reader, writer),
-        Asked::Run {
-            geometry,
-            store: Some(folder),
-        } => run_store(alloc, rt, &folder, geometry, reader, writer),
+            store,
+            follow,
+            number,
+        } => {
+            let manner = Manner { follow, number };
+            match store {
+                None => run_new(alloc, geometry, manner, reader, writer),
+                Some(folder) => run_store(alloc, rt, &folder, geometry, manner, reader, writer),
+            }
+        }
         Asked::Init { folder, geometry } => init_store(alloc, rt, &folder, geometry, writer),
         Asked::Recover { folder, geometry } => recover_store(alloc, rt, &folder, geometry, writer),
         Asked::Inspect { file, reverse } => inspect_file(alloc, rt, &file, reverse, writer),
-        Asked::Help(text) => help(&text, writer),
+        Asked::Lines => help(LINE_LIST, writer),
+        Asked::Help(text) | Asked::Version(text) => help(&text, writer),
         Asked::NotUnderstood => {
             let _ = rt.eprintln("command line not understood");
             Ok(NOT_UNDERSTOOD)
@@ -54,14 +62,15 @@ where
 fn run_new<I: Read, W: Write>(
     alloc: Global,
     geometry: Geometry,
+    manner: Manner,
     reader: &mut I,
     writer: &mut W,
 ) -> Result<u8, ToolFault>
-    ensures runs { IfOk result (λ status. IfSome (I.remaining reader.old) (λ script. RunsNew geometry script (W.contents writer.old) (W.contents writer.new) status)) }
+    ensures runs { IfOk result (λ status. IfSome (I.remaining reader.old) (λ script. RunsNew geometry (given_as manner script) (W.contents writer.old) (W.contents writer.new) status)) }
     ensures memory { result ≢ Err ToolFault.NoMemory }
 {
     match zero_areas(alloc, &geometry) {
-        Ok(areas) => run_script(alloc, geometry, areas, reader, writer),
+        Ok(areas) => run_script(alloc, geometry, manner, areas, reader, writer),
         Err(AllocError) => no_memory(writer),
     }
 }

@@ -1,17 +1,20 @@
 //! Runs a script.
-ghost use Rattle.std.specs.Prelude.{◌≡◌, ◌≢◌, ◌+◌, ℕ, false, IfOk, IfSome, Some, None, take, if◌then◌else◌};
+ghost use Rattle.std.specs.Prelude.{◌≡◌, ◌≢◌, ◌+◌, ℕ, false, IfOk, IfSome, OnOk, Some, None, take, if◌then◌else◌};
 ghost use Rattle.std.specs.Io.KnownBytes.{Appends};
 ghost use Rattle.std.specs.Option.{ForSome};
 ghost use Rattle.lc_model.specs.declared.refusal.Refusal.TheVariants.{BadGeometry};
 ghost use Rattle.lc_core.specs.Geometries.{phase_geometry};
-ghost use Rattle.lc_tool.specs.Outcome.{LeavesLine, OpensStore, RefusesFirst, RunsLines, RunsRecovered};
+ghost use Rattle.lc_tool.specs.Outcome.{LeavesFronted, LeavesLine, OpensStore, RefusesFirst, RunsAll, RunsLines, RunsRecovered};
+ghost use Rattle.lc_tool.specs.Script.{front_of, given_as};
 ghost use Rattle.lc_text.specs.Lines.{script_lines};
 ghost use Rattle.lc_tool.specs.Store.{Adds, RefusesLengths, RefusesMerge, RunsStore};
-ghost use Rattle.lc_tool.specs.Tells.{TellsLine, TellsLines, TellsOpening, TellsRecovered, TellsScript};
+ghost use Rattle.lc_tool.specs.Tells.{TellsAll, TellsFronted, TellsLine, TellsLines, TellsOpening, TellsRecovered, TellsScript};
 ghost use Rattle.lc_text.specs.Text.{no_memory_text, refusal_text, reply_text, too_long_text};
 
 use crate::ToolFault;
 use crate::commands::perform;
+use crate::following::follow_script;
+use crate::manner::Manner;
 use crate::outcome::Outcome;
 use crate::repeating::recover;
 use crate::source::Source;
@@ -22,13 +25,14 @@ use lc_disk::Stoppable;
 use lc_record::Geometry;
 use lc_recover::RecoverFault;
 use lc_text::{
-    Line, first_line, parse, write_no_memory, write_not_understood, write_reply, write_too_long,
+    Line, first_line, is_skipped, parse, write_line_number, write_no_memory, write_not_understood,
+    write_reply, write_too_long,
 };
 use std::alloc::Global;
 use std::io::{Read, Write};
 
 // The bytes of the longest script.
-const LONGEST: usize = 1_048_576;
+pub(crate) const LONGEST: usize = 1_048_576;
 
 pub(crate) const DONE: u8 = 0;
 
@@ -40,24 +44,26 @@ pub(crate) const FAULTED: u8 = 3;
 
 /// Runs a script on a store of these areas, once it is recovered, and answers the status: 0 where all was done, 1 where
 /// something was refused or there was no memory, 2 where a line or the script was not understood, 3 where a device
-/// failed. An `Err` is a fault of the reader or of the writer, and says nothing of what was written.
+/// failed. The manner says whether its lines are read one by one, and whether their numbers are printed. An `Err` is a fault of
+/// the reader or of the writer, and says nothing of what was written.
 pub fn run_script<D: Stoppable + Drop, R: Read, W: Write>(
     alloc: Global,
     geometry: Geometry,
+    manner: Manner,
     areas: Vec<D>,
     reader: &mut R,
     writer: &mut W,
 ) -> Result<u8, ToolFault>
     // Areas that merge to one result, whatever a stop leaves of them.
     ensures runs { IfOk result (λ status. IfSome (R.remaining reader.old) (λ script.
-        RunsStore D.Area geometry areas.items script (W.contents writer.old) (W.contents writer.new) status)) }
+        RunsStore D.Area geometry areas.items (given_as manner script) (W.contents writer.old) (W.contents writer.new) status)) }
 
     // Areas whose merge is refused, and areas that are not those of the geometry.
     ensures refused { IfOk result (λ status. RefusesMerge D.Area geometry areas.items (W.contents writer.old) (W.contents writer.new) status) }
     ensures wrong { IfOk result (λ status. RefusesLengths D.Area geometry areas.items (W.contents writer.old) (W.contents writer.new) status) }
 
     // Any areas.
-    ensures tells { IfOk result (λ status. IfSome (R.remaining reader.old) (λ script. Adds (TellsScript geometry script) (W.contents writer.old) (W.contents writer.new) status)) }
+    ensures tells { IfOk result (λ status. IfSome (R.remaining reader.old) (λ script. Adds (TellsScript geometry (given_as manner script)) (W.contents writer.old) (W.contents writer.new) status)) }
     ensures memory { result ≢ Err ToolFault.NoMemory }
 {
     let mut world = match World::new(geometry, areas) {
@@ -68,20 +74,42 @@ pub fn run_script<D: Stoppable + Drop, R: Read, W: Write>(
     if let Some(status) = open(alloc, &mut world, writer)? {
         return Ok(status);
     }
-    run_recovered(alloc, &mut world, reader, writer)
+    run_recovered(alloc, manner, &mut world, reader, writer)
 }
 
 // Reads the script and runs it on a store that is recovered.
 fn run_recovered<D: Stoppable + Drop, R: Read, W: Write>(
     alloc: Global,
+    manner: Manner,
     world: &mut World<D>,
     reader: &mut R,
     writer: &mut W,
 ) -> Result<u8, ToolFault>
     ensures runs { IfOk result (λ status. IfSome (R.remaining reader.old) (λ script.
-        RunsRecovered D.Area world.old script (W.contents writer.old) (W.contents writer.new) status)) }
+        RunsRecovered D.Area world.old (given_as manner script) (W.contents writer.old) (W.contents writer.new) status)) }
     ensures tells { IfOk result (λ status. IfSome (R.remaining reader.old) (λ script.
-        ForSome (phase_geometry D.Area world.old.phase) (λ g. Adds (TellsRecovered g script) (W.contents writer.old) (W.contents writer.new) status))) }
+        ForSome (phase_geometry D.Area world.old.phase) (λ g. Adds (TellsRecovered g (given_as manner script)) (W.contents writer.old) (W.contents writer.new) status))) }
+    ensures memory { result ≢ Err ToolFault.NoMemory }
+{
+    if manner.follow {
+        follow_script(alloc, manner.number, world, reader, writer)
+    } else {
+        run_whole(alloc, manner.number, world, reader, writer)
+    }
+}
+
+// Reads the script as a whole and runs it on a store that is recovered.
+fn run_whole<D: Stoppable + Drop, R: Read, W: Write>(
+    alloc: Global,
+    numbered: bool,
+    world: &mut World<D>,
+    reader: &mut R,
+    writer: &mut W,
+) -> Result<u8, ToolFault>
+    ensures runs { IfOk result (λ status. IfSome (R.remaining reader.old) (λ script.
+        RunsAll D.Area (front_of numbered) world.old script (W.contents writer.old) (W.contents writer.new) status)) }
+    ensures tells { IfOk result (λ status. IfSome (R.remaining reader.old) (λ script.
+        ForSome (phase_geometry D.Area world.old.phase) (λ g. Adds (TellsAll (front_of numbered) g script) (W.contents writer.old) (W.contents writer.new) status))) }
     ensures memory { result ≢ Err ToolFault.NoMemory }
 {
     let script = match read_script(alloc, reader) {
@@ -92,7 +120,7 @@ fn run_recovered<D: Stoppable + Drop, R: Read, W: Write>(
     if script.len() > LONGEST {
         return too_long(writer);
     }
-    run_lines(alloc, world, &script, writer)
+    run_lines(alloc, numbered, world, &script, writer)
 }
 
 // Recovers the store, and says nothing where that is done: otherwise the status is answered.
@@ -160,12 +188,13 @@ fn read_script<R: Read>(alloc: Global, reader: &mut R) -> Result<Vec<u8>, ToolFa
 // Each line in turn.
 fn run_lines<D: Stoppable + Drop, W: Write>(
     alloc: Global,
+    numbered: bool,
     world: &mut World<D>,
     script: &[u8],
     writer: &mut W,
 ) -> Result<u8, ToolFault>
-    ensures runs { IfOk result (λ status. RunsLines D.Area world.old script.now (W.contents writer.old) (W.contents writer.new) status) }
-    ensures tells { IfOk result (λ status. ForSome (phase_geometry D.Area world.old.phase) (λ g. Adds (TellsLines g 1 false (script_lines script.now)) (W.contents writer.old) (W.contents writer.new) status)) }
+    ensures runs { IfOk result (λ status. RunsLines D.Area (front_of numbered) world.old script.now (W.contents writer.old) (W.contents writer.new) status) }
+    ensures tells { IfOk result (λ status. ForSome (phase_geometry D.Area world.old.phase) (λ g. Adds (TellsLines (front_of numbered) g 1 false (script_lines script.now)) (W.contents writer.old) (W.contents writer.new) status)) }
     ensures memory { result ≢ Err ToolFault.NoMemory }
     ensures reads { result ≢ Err ToolFault.Read }
 {
@@ -174,7 +203,7 @@ fn run_lines<D: Stoppable + Drop, W: Write>(
     let mut refused = false;
     while !rest.is_empty() {
         let (line, behind) = first_line(rest);
-        match run_line(alloc, world, line, number, writer)? {
+        match run_line(alloc, numbered, world, line, number, writer)? {
             Outcome::Goes { refused: was } => refused |= was,
             Outcome::Ends(status) => return Ok(status),
         }
@@ -185,29 +214,68 @@ fn run_lines<D: Stoppable + Drop, W: Write>(
 }
 
 // The status of a script that came to its end.
-fn status_of(refused: bool) -> u8
+pub(crate) fn status_of(refused: bool) -> u8
     ensures { result ≡ (if refused then 1 else 0) }
 {
     if refused { REFUSED } else { DONE }
 }
 
-// One line, of which all that is printed has gone out before the next is begun.
-fn run_line<D: Stoppable + Drop, W: Write>(
+/// One line, of which all that is printed has gone out before the next is begun; its number stands in front of that where
+/// numbers are asked for.
+pub(crate) fn run_line<D: Stoppable + Drop, W: Write>(
     alloc: Global,
+    numbered: bool,
     world: &mut World<D>,
     line: &[u8],
     number: u64,
     writer: &mut W,
 ) -> Result<Outcome, ToolFault>
-    ensures leaves { IfOk result (λ outcome. LeavesLine D.Area world.old line.now number (W.contents writer.old) (W.contents writer.new) outcome world.new) }
-    ensures tells { IfOk result (λ outcome. ForSome (phase_geometry D.Area world.old.phase) (λ g. Adds (TellsLine g line.now number) (W.contents writer.old) (W.contents writer.new) outcome)) }
+    ensures leaves { IfOk result (λ outcome. LeavesFronted D.Area (front_of numbered) world.old line.now number (W.contents writer.old) (W.contents writer.new) outcome world.new) }
+    ensures tells { IfOk result (λ outcome. ForSome (phase_geometry D.Area world.old.phase) (λ g. Adds (TellsFronted (front_of numbered) g line.now number) (W.contents writer.old) (W.contents writer.new) outcome)) }
     ensures geometry { phase_geometry D.Area world.new.phase ≡ phase_geometry D.Area world.old.phase }
     ensures memory { result ≢ Err ToolFault.NoMemory }
     ensures reads { result ≢ Err ToolFault.Read }
 {
-    let outcome = do_line(alloc, world, line, number, writer)?;
+    let outcome = number_line(alloc, numbered, world, line, number, writer)?;
     match writer.flush() {
         Ok(()) => Ok(outcome),
+        Err(_) => Err(ToolFault::Write),
+    }
+}
+
+// One line, in front of which its number stands where numbers are asked for, and which prints something.
+fn number_line<D: Stoppable + Drop, W: Write>(
+    alloc: Global,
+    numbered: bool,
+    world: &mut World<D>,
+    line: &[u8],
+    number: u64,
+    writer: &mut W,
+) -> Result<Outcome, ToolFault>
+    ensures leaves { IfOk result (λ outcome. LeavesFronted D.Area (front_of numbered) world.old line.now number (W.contents writer.old) (W.contents writer.new) outcome world.new) }
+    ensures tells { IfOk result (λ outcome. ForSome (phase_geometry D.Area world.old.phase) (λ g. Adds (TellsFronted (front_of numbered) g line.now number) (W.contents writer.old) (W.contents writer.new) outcome)) }
+    ensures geometry { phase_geometry D.Area world.new.phase ≡ phase_geometry D.Area world.old.phase }
+    ensures memory { result ≢ Err ToolFault.NoMemory }
+    ensures reads { result ≢ Err ToolFault.Read }
+{
+    if is_skipped(line) {
+        return Ok(Outcome::Goes { refused: false });
+    }
+    show_number(numbered, number, writer)?;
+    do_line(alloc, world, line, number, writer)
+}
+
+// The number of a line, where numbers are asked for.
+fn show_number<W: Write>(numbered: bool, number: u64, writer: &mut W) -> Result<(), ToolFault>
+    ensures shown { OnOk result (Appends (W.contents writer.old) (W.contents writer.new) (front_of numbered number)) }
+    ensures memory { result ≢ Err ToolFault.NoMemory }
+    ensures reads { result ≢ Err ToolFault.Read }
+{
+    if !numbered {
+        return Ok(());
+    }
+    match write_line_number(writer, number) {
+        Ok(()) => Ok(()),
         Err(_) => Err(ToolFault::Write),
     }
 }
@@ -258,7 +326,7 @@ pub(crate) fn no_memory<W: Write>(writer: &mut W) -> Result<u8, ToolFault>
 }
 
 // The line that tells of a script that is too long, and its status.
-fn too_long<W: Write>(writer: &mut W) -> Result<u8, ToolFault>
+pub(crate) fn too_long<W: Write>(writer: &mut W) -> Result<u8, ToolFault>
     ensures shown { IfOk result (λ status. (status ≡ 2) × Appends (W.contents writer.old) (W.contents writer.new) too_long_text) }
     ensures memory { result ≢ Err ToolFault.NoMemory }
     ensures reads { result ≢ Err ToolFault.Read }

@@ -2,12 +2,14 @@
 ghost use Rattle.std.specs.Prelude.{◌≡◌, ◌≢◌, IfOk, IfSome};
 ghost use Rattle.lc_tool.specs.Files.{TellsInit};
 ghost use Rattle.lc_tool.specs.Recovers.{TellsRecovery};
+ghost use Rattle.lc_tool.specs.Script.{given_as};
 ghost use Rattle.lc_tool.specs.Store.{Adds};
 ghost use Rattle.lc_tool.specs.Tells.{TellsScript};
 
 use crate::ToolFault;
 use crate::directory::Directory;
 use crate::making::{init_in, stopped};
+use crate::manner::Manner;
 use crate::open_store::OpenStore;
 use crate::recovery::recover_areas;
 use crate::scripts::{DONE, run_script};
@@ -84,16 +86,17 @@ pub fn run_store<R: Files + Eprint, I: Read, W: Write>(
     rt: &R,
     folder: &str,
     geometry: Geometry,
+    manner: Manner,
     reader: &mut I,
     writer: &mut W,
 ) -> Result<u8, ToolFault>
 where
     R::File: HeldFile,
-    ensures tells { IfOk result (λ status. IfSome (I.remaining reader.old) (λ script. Adds (TellsScript geometry script) (W.contents writer.old) (W.contents writer.new) status)) }
+    ensures tells { IfOk result (λ status. IfSome (I.remaining reader.old) (λ script. Adds (TellsScript geometry (given_as manner script)) (W.contents writer.old) (W.contents writer.new) status)) }
     ensures memory { result ≢ Err ToolFault.NoMemory }
 {
     let folder = StoreFolder::new(alloc, rt, folder);
-    let ended = run_in(&folder, geometry, reader, writer);
+    let ended = run_in(&folder, geometry, manner, reader, writer);
     folder.tell();
     ended
 }
@@ -102,12 +105,13 @@ where
 fn run_in<R: Files, I: Read, W: Write>(
     folder: &StoreFolder<'_, R>,
     geometry: Geometry,
+    manner: Manner,
     reader: &mut I,
     writer: &mut W,
 ) -> Result<u8, ToolFault>
 where
     R::File: HeldFile,
-    ensures tells { IfOk result (λ status. IfSome (I.remaining reader.old) (λ script. Adds (TellsScript geometry script) (W.contents writer.old) (W.contents writer.new) status)) }
+    ensures tells { IfOk result (λ status. IfSome (I.remaining reader.old) (λ script. Adds (TellsScript geometry (given_as manner script)) (W.contents writer.old) (W.contents writer.new) status)) }
     ensures memory { result ≢ Err ToolFault.NoMemory }
 {
     match folder.open(&geometry) {
@@ -116,7 +120,7 @@ where
                 areas,
                 guard: _guard,
             } = store;
-            run_script(folder.alloc, geometry, areas, reader, writer)
+            run_script(folder.alloc, geometry, manner, areas, reader, writer)
         }
         Err(fault) => stopped(writer, fault),
     }

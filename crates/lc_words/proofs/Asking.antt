@@ -6,12 +6,12 @@ use Rattle.clap.specs.declared.builder.arg.Arg.{Arg}
 use Rattle.clap.specs.declared.builder.command.Command.{Command}
 use Rattle.clap.specs.declared.parser.matches.ArgMatches.{ArgMatches}
 use Rattle.clap.specs.declared.error.kind.ErrorKind.{ErrorKind}
-use Rattle.clap.specs.declared.error.kind.ErrorKind.TheVariants.{DisplayHelp, OutOfMemory}
+use Rattle.clap.specs.declared.error.kind.ErrorKind.TheVariants.{DisplayHelp, DisplayVersion, OutOfMemory}
 use Rattle.clap.proofs.OnLiterals.{clap_on_literals}
-use Rattle.lc_words.proofs.FaultlessWords.{IsSubcommand, entered_run, entered_init, entered_recover, entered_inspect, faultless_words}
-use Rattle.lc_words.specs.CommandLine.{HasNumbersAt, HasSizeAt, HasText, HasWord, IsAskedBy, IsCallOf, IsInitOf, IsInspectOf, IsLike, IsReadOf, IsRecoverOf, IsRunOf, options_of, program_app}
+use Rattle.lc_words.proofs.FaultlessWords.{IsSubcommand, entered_run, entered_init, entered_recover, entered_inspect, entered_lines, faultless_words}
+use Rattle.lc_words.specs.CommandLine.{HasNumbersAt, HasSizeAt, HasText, HasWord, IsAskedBy, IsCallOf, IsInitOf, IsInspectOf, IsLike, IsLinesOf, IsReadOf, IsRecoverOf, IsRunOf, options_of, program_app}
 use Rattle.lc_words.specs.declared.asked.Asked.{Asked}
-use Rattle.lc_words.specs.declared.asked.Asked.TheVariants.{Run, Init, Recover, Inspect, NotUnderstood}
+use Rattle.lc_words.specs.declared.asked.Asked.TheVariants.{Run, Init, Recover, Inspect, Lines, NotUnderstood}
 
 pub program_is_simple : is_simple program_app ≡ true
 unfolding clap_on_literals
@@ -39,12 +39,10 @@ is_call name rows words met = (met.0, met.1 ∙ ap (λ (rs : List Row). Some (na
 
 run_asked : (asked : Asked) (rows : List Row) (words : List Text) → IsMet (codes "run") rows words → IsRunOf rows asked → HasSizeAt rows
     → IsAskedBy words asked
-run_asked (Run geometry store) rows words met read size =
-    let same = rows_are (codes "run") rows words met in (
-      is_call (codes "run") rows words met,
-      subst (λ (rs : List Row). HasNumbersAt rs geometry) same read.0,
-      subst (λ (rs : List Row). HasText (codes "store") rs store) same read.1,
-    )
+run_asked (Run geometry store follow number) rows words met read size =
+    let same = rows_are (codes "run") rows words met in
+    let all = subst (λ (rs : List Row). IsRunOf rs (Run geometry store follow number)) same read in
+    (is_call (codes "run") rows words met, all.0, all.1, all.2, all.3)
 run_asked NotUnderstood rows words met read size = absurd (read size)
 run_asked _ rows words met read size = absurd read
 
@@ -79,6 +77,10 @@ inspect_asked (Inspect file reverse) rows words met read word =
 inspect_asked NotUnderstood rows words met read word = absurd (read word)
 inspect_asked _ rows words met read word = absurd read
 
+lines_asked : (asked : Asked) (rows : List Row) (words : List Text) → IsMet (codes "lines") rows words → IsLinesOf asked → IsAskedBy words asked
+lines_asked Lines rows words met read = is_call (codes "lines") rows words met
+lines_asked _ rows words met read = absurd read
+
 pub asked : (asked : Asked) (found : Option (Text × List Row)) (words : List Text) → IsReadOf found asked → found ≡ subcommand_of program_app words
     → fault_of program_app words ≡ [] → IsAskedBy words asked
 asked given found words read same none = go (faultless_words words none)
@@ -88,23 +90,24 @@ asked given found words read same none = go (faultless_words words none)
     go (entered_init h) = init_asked given h.0 words (none, h.1) (read.1 h.0 (same ∙ h.1)) h.2 h.3
     go (entered_recover h) = recover_asked given h.0 words (none, h.1) (read.2 h.0 (same ∙ h.1)) h.2 h.3
     go (entered_inspect h) = inspect_asked given h.0 words (none, h.1) (read.3 h.0 (same ∙ h.1)) h.2
+    go (entered_lines h) = lines_asked given h.0 words (none, h.1) (read.4 h.0 (same ∙ h.1))
 
 pub no_fault : (c : Command) (words : List Text) → app_of c ≡ program_app → fault_of (app_of c) words ≡ []
     → fault_of program_app words ≡ []
 no_fault c words is none = ap (λ (a : App). fault_of a words) (sym is) ∙ none
 
-pub asks_help : (c : Command) (words : List Text) (k : ErrorKind) → app_of c ≡ program_app → k ≡ DisplayHelp
-    → (k ≡ OutOfMemory) ⊎ IsAmong k (fault_of (app_of c) words) → IsAmong DisplayHelp (fault_of program_app words)
-asks_help c words k is help (inl memory) = let bad : DisplayHelp ≡ OutOfMemory = sym help ∙ memory in cc
-asks_help c words k is help (inr among) =
-    subst (λ (a : App). IsAmong DisplayHelp (fault_of a words)) is (subst (λ (j : ErrorKind). IsAmong j (fault_of (app_of c) words)) help among)
+pub asks_for : (c : Command) (words : List Text) (k wanted : ErrorKind) → app_of c ≡ program_app → k ≡ wanted → (wanted ≡ OutOfMemory → ⊥)
+    → (k ≡ OutOfMemory) ⊎ IsAmong k (fault_of (app_of c) words) → IsAmong wanted (fault_of program_app words)
+asks_for c words k wanted is same other (inl memory) = absurd (other (sym same ∙ memory))
+asks_for c words k wanted is same other (inr among) =
+    subst (λ (a : App). IsAmong wanted (fault_of a words)) is (subst (λ (j : ErrorKind). IsAmong j (fault_of (app_of c) words)) same among)
 
-pub has_other_fault : (c : Command) (words : List Text) (k seen : ErrorKind) → app_of c ≡ program_app → seen ≡ k → (seen ≡ OutOfMemory → ⊥) → (seen ≡ DisplayHelp → ⊥)
+pub has_other_fault : (c : Command) (words : List Text) (k seen : ErrorKind) → app_of c ≡ program_app → seen ≡ k → (seen ≡ OutOfMemory → ⊥) → (seen ≡ DisplayHelp → ⊥) → (seen ≡ DisplayVersion → ⊥)
     → (k ≡ OutOfMemory) ⊎ IsAmong k (fault_of (app_of c) words)
-    → (kind : ErrorKind) × IsAmong kind (fault_of program_app words) × (kind ≡ DisplayHelp → ⊥)
-has_other_fault c words k seen is same memory help (inl bad) = absurd (memory (same ∙ bad))
-has_other_fault c words k seen is same memory help (inr among) =
-    (k, subst (λ (a : App). IsAmong k (fault_of a words)) is among, λ e. help (same ∙ e))
+    → (kind : ErrorKind) × IsAmong kind (fault_of program_app words) × (kind ≡ DisplayHelp → ⊥) × (kind ≡ DisplayVersion → ⊥)
+has_other_fault c words k seen is same memory help version (inl bad) = absurd (memory (same ∙ bad))
+has_other_fault c words k seen is same memory help version (inr among) =
+    (k, subst (λ (a : App). IsAmong k (fault_of a words)) is among, λ e. help (same ∙ e), λ e. version (same ∙ e))
 
 -- ---- the command that is made
 

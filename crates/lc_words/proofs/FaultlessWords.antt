@@ -13,7 +13,7 @@ use Rattle.clap.specs.Walk.{answers_to, arg_by_id, finished, nothing_held, rows_
 use Rattle.clap.specs.Words.{Row, Text, fault_of, subcommand_of}
 use Rattle.clap.specs.declared.builder.value_parser.ValueParser.{ValueParser}
 use Rattle.clap.specs.declared.builder.value_parser.ValueParser.TheVariants as vp
-use Rattle.lc_words.specs.CommandLine.{HasNumberIn, HasSizeAt, HasWord, from_to, option_rule, program_app, reverse_rule, store_rule, word_rule}
+use Rattle.lc_words.specs.CommandLine.{HasNumberIn, HasSizeAt, HasWord, flag_rule, from_to, option_rule, program_app, store_rule, word_rule}
 use Rattle.lc_words.proofs.OptionRows.{AllFit, AllHold, Fits, StopsElse, defaults_made, has_default, level_parts, needs_subcommand, nothing_missing, required_has_row, row_read, rows_hold, walk_stops}
 use Rattle.lc_words.proofs.OptionNumbers.{in_range}
 
@@ -36,8 +36,11 @@ recover = sub 2
 abbrev inspect : Shape
 inspect = sub 3
 
+abbrev lines : Shape
+lines = sub 4
+
 abbrev help : Shape
-help = sub 4
+help = sub 5
 
 -- what the option of a subcommand takes
 abbrev taken : Shape → Text → ValueParser
@@ -74,13 +77,13 @@ store_fits i = inl (record {
   defaults = refl;
 })
 
-reverse_fits : (i : ℕ) → Fits (taken inspect) (with_index i (filled reverse_rule))
-reverse_fits i = inl (record {
+flag_fits : (s : Shape) (i : ℕ) (name : Text) → taken s name ≡ taken inspect (codes "reverse") → Fits (taken s) (with_index i (filled (flag_rule name)))
+flag_fits s i name is = inl (record {
   action = inr refl;
-  parser = refl;
+  parser = sym is;
   case = refl;
   some = inl refl;
-  defaults = refl;
+  defaults = rw is refl;
 })
 
 run_fits : AllFit (taken run) run.rules
@@ -94,7 +97,13 @@ run_fits = (
         number_fits run 1 (codes "pages") (codes "1") 1 1024 refl refl,
         (
           number_fits run 1 (codes "words") (codes "64") 64 4096 refl refl,
-          (store_fits 1, (inr (record { action = refl; defaults = refl }), tt)),
+          (
+            store_fits 1,
+            (
+              flag_fits run 1 (codes "follow") refl,
+              (flag_fits run 1 (codes "number") refl, (inr (record { action = refl; defaults = refl }), tt)),
+            ),
+          ),
         ),
       ),
     ),
@@ -146,7 +155,7 @@ recover_fits = (
 inspect_fits : AllFit (taken inspect) inspect.rules
 inspect_fits = (
   word_fits inspect 1 (codes "file") refl,
-  (reverse_fits 2, (inr (record { action = refl; defaults = refl }), tt)),
+  (flag_fits inspect 2 (codes "reverse") refl, (inr (record { action = refl; defaults = refl }), tt)),
 )
 
 -- ---- what a subcommand has after words with no fault
@@ -204,12 +213,16 @@ IsRecover found = (rows : List Row) × (found ≡ Some (codes "recover", rows)) 
 abbrev pub IsInspect : Found → Type 0
 IsInspect found = (rows : List Row) × (found ≡ Some (codes "inspect", rows)) × HasWord (codes "file") rows
 
+abbrev pub IsLines : Found → Type 0
+IsLines found = (rows : List Row) × (found ≡ Some (codes "lines", rows))
+
 -- one of the subcommands, with what it wants
 pub data IsSubcommand (found : Option (Text × List Row)) : Type 0 where
   entered_run : IsRun found → IsSubcommand found
   entered_init : IsInit found → IsSubcommand found
   entered_recover : IsRecover found → IsSubcommand found
   entered_inspect : IsInspect found → IsSubcommand found
+  entered_lines : IsLines found → IsSubcommand found
 
 or_false : (b : Bool) → (b || false) ≡ true → b ≡ true
 or_false true e = refl
@@ -250,23 +263,24 @@ subcommand_entered : (stop : Option (Text × List Text)) → StopsElse stop → 
     → IsSubcommand (entered program stop)
 subcommand_entered None stops has none = cc
 subcommand_entered (Some p) stops has none =
-    go (answers p.0 0) (answers p.0 1) (answers p.0 2) (answers p.0 3) (answers p.0 4) refl has none
+    go (answers p.0 0) (answers p.0 1) (answers p.0 2) (answers p.0 3) (answers p.0 4) (answers p.0 5) refl has none
   where
     answers : Text → ℕ → Bool
     answers word i = answers_to word (label_of (sub i))
 
-    met : Bool → Bool → Bool → Bool → Bool → Option Shape
-    met a b c d e = cond a (Some run) (cond b (Some init) (cond c (Some recover) (cond d (Some inspect) (cond e (Some help) None))))
+    met : Bool → Bool → Bool → Bool → Bool → Bool → Option Shape
+    met a b c d e f = cond a (Some run) (cond b (Some init) (cond c (Some recover) (cond d (Some inspect) (cond e (Some lines) (cond f (Some help) None)))))
 
-    go : (a b c d e : Bool) → answers_to p.0 (label_of help) ≡ e → is_some (option_map (λ s. rows_at s p.1) (met a b c d e)) ≡ true
-        → option_map_or (λ s. level_fault s [] nothing_held p.1 false []) (met a b c d e) [] ≡ []
-        → IsSubcommand (option_map (λ s. rows_at s p.1) (met a b c d e))
-    go true b c d e is some ok = entered_run (run_at p.1 ok)
-    go false true c d e is some ok = entered_init (init_at p.1 ok)
-    go false false true d e is some ok = entered_recover (recover_at p.1 ok)
-    go false false false true e is some ok = entered_inspect (inspect_at p.1 ok)
-    go false false false false false is some ok = cc
-    go false false false false true is some ok =
+    go : (a b c d e f : Bool) → answers_to p.0 (label_of help) ≡ f → is_some (option_map (λ s. rows_at s p.1) (met a b c d e f)) ≡ true
+        → option_map_or (λ s. level_fault s [] nothing_held p.1 false []) (met a b c d e f) [] ≡ []
+        → IsSubcommand (option_map (λ s. rows_at s p.1) (met a b c d e f))
+    go true b c d e f is some ok = entered_run (run_at p.1 ok)
+    go false true c d e f is some ok = entered_init (init_at p.1 ok)
+    go false false true d e f is some ok = entered_recover (recover_at p.1 ok)
+    go false false false true e f is some ok = entered_inspect (inspect_at p.1 ok)
+    go false false false false true f is some ok = entered_lines (rows_after lines.rules [] p.1, refl)
+    go false false false false false false is some ok = cc
+    go false false false false false true is some ok =
         let same : codes "help" ≡ p.0 = (bytes_eq-Decides (codes "help") p.0).0 (or_false _ is) in
         let bad : bytes_eq p.0 (codes "help") ≡ true = (bytes_eq-Decides p.0 (codes "help")).1 (sym same) in
         cc

@@ -9,14 +9,14 @@ use Rattle.clap.specs.declared.builder.action.ArgAction.TheVariants.{SetTrue}
 use Rattle.clap.specs.declared.builder.command.Command.{Command}
 use Rattle.clap.specs.declared.builder.command.Command.TheViews.{out-Command as fields_of}
 use Rattle.clap.specs.declared.error.kind.ErrorKind.{ErrorKind}
-use Rattle.clap.specs.declared.error.kind.ErrorKind.TheVariants.{DisplayHelp}
+use Rattle.clap.specs.declared.error.kind.ErrorKind.TheVariants.{DisplayHelp, DisplayVersion}
 use Rattle.clap.specs.declared.builder.value_parser.ValueParser.{ValueParser}
 use Rattle.clap.specs.declared.builder.value_parser.ValueParser.TheVariants.{Signed}
 use Rattle.clap.specs.declared.parser.matches.ValueSource.{ValueSource}
 use Rattle.clap.specs.declared.parser.matches.ValueSource.TheVariants.{CommandLine}
 use Rattle.lc_record.specs.declared.geometry.Geometry.{Geometry}
 use Rattle.lc_words.specs.declared.asked.Asked.{Asked}
-use Rattle.lc_words.specs.declared.asked.Asked.TheVariants.{Run, Init, Recover, Inspect, Help, NotUnderstood}
+use Rattle.lc_words.specs.declared.asked.Asked.TheVariants.{Run, Init, Recover, Inspect, Lines, Help, Version, NotUnderstood}
 
 -- ---- the words that are understood
 
@@ -38,8 +38,8 @@ abbrev pub word_rule : Text → Rule
 word_rule name = record (new_rule name) { value_names = 1; required = true }
 
 -- a flag
-abbrev pub reverse_rule : Rule
-reverse_rule = record (new_rule (codes "reverse")) { long = Some (codes "reverse"); action = Some SetTrue }
+abbrev pub flag_rule : Text → Rule
+flag_rule name = record (new_rule name) { long = Some name; action = Some SetTrue }
 
 -- the numbers in this range
 abbrev pub from_to : ℕ → ℕ → ValueParser
@@ -57,7 +57,7 @@ with_sizes app =
 
 -- the subcommands
 abbrev pub run_app : App
-run_app = with_rule (with_sizes (new_app (codes "run"))) store_rule
+run_app = with_rule (with_rule (with_rule (with_sizes (new_app (codes "run"))) store_rule) (flag_rule (codes "follow"))) (flag_rule (codes "number"))
 
 abbrev pub init_app : App
 init_app = with_sizes (with_rule (new_app (codes "init")) (word_rule (codes "folder")))
@@ -66,14 +66,17 @@ abbrev pub recover_app : App
 recover_app = with_sizes (with_rule (new_app (codes "recover")) (word_rule (codes "folder")))
 
 abbrev pub inspect_app : App
-inspect_app = with_rule (with_rule (new_app (codes "inspect")) (word_rule (codes "file"))) reverse_rule
+inspect_app = with_rule (with_rule (new_app (codes "inspect")) (word_rule (codes "file"))) (flag_rule (codes "reverse"))
+
+abbrev pub lines_app : App
+lines_app = new_app (codes "lines")
 
 -- the whole command line
 abbrev pub program_app : App
-program_app = with_subcommand (with_subcommand (with_subcommand (with_subcommand (record {
-  top = record (new_app (codes "lcrvm")).top { subcommand_required = true };
+program_app = with_subcommand (with_subcommand (with_subcommand (with_subcommand (with_subcommand (record {
+  top = record (new_app (codes "lcrvm")).top { subcommand_required = true; has_version = true };
   subs = [];
-}) run_app.top) init_app.top) recover_app.top) inspect_app.top
+}) run_app.top) init_app.top) recover_app.top) inspect_app.top) lines_app.top
 
 -- a command that is read so, and has no argument for its subcommands too
 abbrev pub IsLike : Command → App → Type 0
@@ -142,24 +145,28 @@ options_of words = option_map_or (λ found. found.1) (subcommand_of program_app 
 abbrev pub IsCallOf : Text → List Text → Type 0
 IsCallOf name words = (fault_of program_app words ≡ []) × (subcommand_of program_app words ≡ Some (name, options_of words))
 
--- a subcommand is asked for by words with no fault that name it, and has their numbers and texts; help by words that
--- ask for it; words that are not understood have another fault
+-- a subcommand is asked for by words with no fault that name it, and has their numbers, texts and flags; help and the
+-- version by words that ask for it; words that are not understood have another fault
 abbrev pub IsAskedBy : List Text → Asked → Type 0
-IsAskedBy words (Run geometry store) = IsCallOf (codes "run") words × HasNumbersAt (options_of words) geometry
+IsAskedBy words (Run geometry store follow number) = IsCallOf (codes "run") words × HasNumbersAt (options_of words) geometry
     × HasText (codes "store") (options_of words) store
+    × (follow ≡ is_among_words (codes "follow") (options_of words)) × (number ≡ is_among_words (codes "number") (options_of words))
 IsAskedBy words (Init folder geometry) = IsCallOf (codes "init") words × HasNumbersAt (options_of words) geometry
     × HasText (codes "folder") (options_of words) (Some folder)
 IsAskedBy words (Recover folder geometry) = IsCallOf (codes "recover") words × HasNumbersAt (options_of words) geometry
     × HasText (codes "folder") (options_of words) (Some folder)
 IsAskedBy words (Inspect file reverse) = IsCallOf (codes "inspect") words
     × HasText (codes "file") (options_of words) (Some file) × (reverse ≡ is_among_words (codes "reverse") (options_of words))
+IsAskedBy words Lines = IsCallOf (codes "lines") words
 IsAskedBy words (Help text) = IsAmong DisplayHelp (fault_of program_app words)
+IsAskedBy words (Version text) = IsAmong DisplayVersion (fault_of program_app words)
 IsAskedBy words NotUnderstood =
-    (kind : ErrorKind) × IsAmong kind (fault_of program_app words) × (kind ≡ DisplayHelp → ⊥)
+    (kind : ErrorKind) × IsAmong kind (fault_of program_app words) × (kind ≡ DisplayHelp → ⊥) × (kind ≡ DisplayVersion → ⊥)
 
 -- what the options of each subcommand ask for
 abbrev pub IsRunOf : List Row → Asked → Type 0
-IsRunOf rows (Run geometry store) = HasNumbersAt rows geometry × HasText (codes "store") rows store
+IsRunOf rows (Run geometry store follow number) = HasNumbersAt rows geometry × HasText (codes "store") rows store
+    × (follow ≡ is_among_words (codes "follow") rows) × (number ≡ is_among_words (codes "number") rows)
 IsRunOf rows NotUnderstood = HasSizeAt rows → ⊥
 IsRunOf rows _ = ⊥
 
@@ -178,9 +185,14 @@ IsInspectOf rows (Inspect file reverse) = HasText (codes "file") rows (Some file
 IsInspectOf rows NotUnderstood = HasWord (codes "file") rows → ⊥
 IsInspectOf rows _ = ⊥
 
+abbrev pub IsLinesOf : Asked → Type 0
+IsLinesOf Lines = Unit {0}
+IsLinesOf _ = ⊥
+
 -- the same of the subcommand that was found, with its options
 abbrev pub IsReadOf : Option (Text × List Row) → Asked → Type 0
 IsReadOf found asked = ((rows : List Row) → found ≡ Some (codes "run", rows) → IsRunOf rows asked)
     × ((rows : List Row) → found ≡ Some (codes "init", rows) → IsInitOf rows asked)
     × ((rows : List Row) → found ≡ Some (codes "recover", rows) → IsRecoverOf rows asked)
     × ((rows : List Row) → found ≡ Some (codes "inspect", rows) → IsInspectOf rows asked)
+    × ((rows : List Row) → found ≡ Some (codes "lines", rows) → IsLinesOf asked)

@@ -11,6 +11,10 @@ pub enum Asked {
         geometry: Geometry,
         /// The word of `--store`, or None where it is not there.
         store: Option<String>,
+        /// Whether `--follow` is there: each line is run before the next is read.
+        follow: bool,
+        /// Whether `--number` is there: the number of its line stands in front of each reply.
+        number: bool,
     },
     /// A new store of this size in this folder.
     Init {
@@ -33,8 +37,12 @@ pub enum Asked {
         /// Whether `--reverse` is there.
         reverse: bool,
     },
+    /// The lines that a script may have.
+    Lines,
     /// This help.
     Help(String),
+    /// This line, the version.
+    Version(String),
     /// Nothing that is known.
     NotUnderstood,
 }

@@ -26,6 +26,7 @@ pub fn read_command_line<'a, S: AsStr>(alloc: Global, words: &'a [S]) -> Result<
         Err(error) => match error.kind() {
             ErrorKind::OutOfMemory => Err(AllocError),
             ErrorKind::DisplayHelp => Ok(Asked::Help(error.to_string(alloc)?)),
+            ErrorKind::DisplayVersion => Ok(Asked::Version(error.to_string(alloc)?)),
             _ => Ok(Asked::NotUnderstood),
         },
     }

@@ -18,6 +18,7 @@ pub fn asked_of(alloc: Global, matches: &ArgMatches<'_>) -> Result<Asked, AllocE
         Some(("init", options)) => init_of(alloc, options),
         Some(("recover", options)) => recover_of(alloc, options),
         Some(("inspect", options)) => inspect_of(alloc, options),
+        Some(("lines", _)) => Ok(Asked::Lines),
         _ => Ok(Asked::NotUnderstood),
     }
 }
@@ -29,7 +30,14 @@ fn run_of(alloc: Global, options: &ArgMatches<'_>) -> Result<Asked, AllocError>
         return Ok(Asked::NotUnderstood);
     };
     let store = text_of(alloc, options, "store")?;
-    Ok(Asked::Run { geometry, store })
+    let follow = has_flag(options, "follow");
+    let number = has_flag(options, "number");
+    Ok(Asked::Run {
+        geometry,
+        store,
+        follow,
+        number,
+    })
 }
 
 fn init_of(alloc: Global, options: &ArgMatches<'_>) -> Result<Asked, AllocError>

@@ -1,11 +1,60 @@
 //! The subcommands of the program, with their options and their help.
 ghost use Rattle.std.specs.Prelude.{◌≡◌, IfOk, false};
 ghost use Rattle.clap.specs.Words.{App, app_of, rule_of};
-ghost use Rattle.lc_words.specs.CommandLine.{IsLike, init_app, inspect_app, option_rule, program_app, recover_app, run_app, with_sizes, word_rule};
+ghost use Rattle.lc_words.specs.CommandLine.{IsLike, flag_rule, init_app, inspect_app, lines_app, option_rule, program_app, recover_app, run_app, with_sizes, word_rule};
 
 use clap::builder::ValueParser;
 use clap::{Arg, ArgAction, Command, value_parser};
 use std::alloc::{AllocError, Global};
+
+// What stands behind the options in the help of each subcommand.
+const RUN_HELP: &str = "Statuses:
+  0  all lines were done
+  1  a line or the recovery was refused, or there was no memory
+  2  a line was not understood, or the script was too long
+  3  a device failed, or the script could not be read, or a reply not written
+
+Examples:
+  lcrvm run --pages 4 --store bank < transfers.txt
+  lcrvm run --follow --number";
+
+const INIT_HELP: &str = "Statuses:
+  0  the files are made, and stable
+  1  a file of the store is there already, or there was no memory
+  2  the command line was not understood
+  3  a file could not be made or synced
+
+Example:
+  lcrvm init bank --pages 4";
+
+const RECOVER_HELP: &str = "Statuses:
+  0  the store is recovered
+  1  the logs or the pages are refused, or there was no memory
+  2  the command line was not understood
+  3  a device failed, or the store is in use
+
+Example:
+  lcrvm recover bank --pages 4";
+
+const INSPECT_HELP: &str = "Statuses:
+  0  the records are printed
+  1  the file has not the length of a log, or there was no memory
+  2  the command line was not understood
+  3  the file could not be read
+
+Example:
+  lcrvm inspect bank/log0 --reverse";
+
+const LINES_HELP: &str = "Statuses:
+  0  the lines are printed
+  2  the command line was not understood
+  3  they could not be written
+
+Example:
+  lcrvm lines";
+
+// The version of the program.
+const VERSION: &str = "0.1.0";
 
 /// The command line that is understood.
 pub fn program<'a>(alloc: Global) -> Result<Command<'a>, AllocError>
@@ -13,12 +62,14 @@ pub fn program<'a>(alloc: Global) -> Result<Command<'a>, AllocError>
 {
     Command::new(alloc, "lcrvm")
         .bin_name("lcrvm")?
+        .version(VERSION)
         .about("A store of pages, with a log, that a script of commands reads and changes")
         .subcommand_required(true)
         .subcommand(run(alloc)?)?
         .subcommand(init(alloc)?)?
         .subcommand(recover(alloc)?)?
-        .subcommand(inspect(alloc)?)
+        .subcommand(inspect(alloc)?)?
+        .subcommand(lines(alloc)?)
 }
 
 fn run<'a>(alloc: Global) -> Result<Command<'a>, AllocError>
@@ -26,12 +77,23 @@ fn run<'a>(alloc: Global) -> Result<Command<'a>, AllocError>
 {
     let command = Command::new(alloc, "run")
         .about("Recovers a store, runs the script on standard input over it and prints the replies")
-        .after_help("Example:\n  lcrvm run --pages 4 --store bank < transfers.txt");
+        .after_help(RUN_HELP);
     let store = Arg::new(alloc, "store")
         .long("store")
         .value_name("DIR")
         .help("Folder of the store, that init made; without it the store is new and in memory");
-    with_size_options(alloc, command)?.arg(store)
+    with_size_options(alloc, command)?
+        .arg(store)?
+        .arg(flag(
+            alloc,
+            "follow",
+            "Runs each line before the next is read, as a terminal or another program asks for it",
+        ))?
+        .arg(flag(
+            alloc,
+            "number",
+            "Puts the number of its line in front of each reply",
+        ))
 }
 
 fn init<'a>(alloc: Global) -> Result<Command<'a>, AllocError>
@@ -39,7 +101,7 @@ fn init<'a>(alloc: Global) -> Result<Command<'a>, AllocError>
 {
     let command = Command::new(alloc, "init")
         .about("Makes the files of a new store, all zeros")
-        .after_help("Example:\n  lcrvm init bank --pages 4")
+        .after_help(INIT_HELP)
         .arg(word(alloc, "folder", "DIR", "Folder that the files are made in"))?;
     with_size_options(alloc, command)
 }
@@ -49,7 +111,7 @@ fn recover<'a>(alloc: Global) -> Result<Command<'a>, AllocError>
 {
     let command = Command::new(alloc, "recover")
         .about("Recovers a store from its logs and prints the number of each segment")
-        .after_help("Example:\n  lcrvm recover bank --pages 4")
+        .after_help(RECOVER_HELP)
         .arg(word(
             alloc,
             "folder",
@@ -62,15 +124,25 @@ fn recover<'a>(alloc: Global) -> Result<Command<'a>, AllocError>
 fn inspect<'a>(alloc: Global) -> Result<Command<'a>, AllocError>
     ensures { IfOk result (λ command. IsLike command inspect_app) }
 {
-    let reverse = Arg::new(alloc, "reverse")
-        .long("reverse")
-        .action(ArgAction::SetTrue)
-        .help("Prints the last record first; without it the first one comes first");
     Command::new(alloc, "inspect")
         .about("Prints the records of a log, one a line")
-        .after_help("Example:\n  lcrvm inspect bank/log0 --reverse")
+        .after_help(INSPECT_HELP)
         .arg(word(alloc, "file", "FILE", "File of the log"))?
-        .arg(reverse)
+        .arg(flag(
+            alloc,
+            "reverse",
+            "Prints the last record first; without it the first one comes first",
+        ))
+}
+
+fn lines<'a>(alloc: Global) -> Result<Command<'a>, AllocError>
+    ensures { IfOk result (λ command. IsLike command lines_app) }
+{
+    Ok(
+        Command::new(alloc, "lines")
+            .about("Prints the lines that a script may have, with a sentence each")
+            .after_help(LINES_HELP),
+    )
 }
 
 // The command with the five options of a store's size.
@@ -132,6 +204,17 @@ fn option<'a>(
         .help(help)
         .default_value(default)
         .value_parser(parser)
+}
+
+// A flag, which takes no value.
+fn flag<'a>(alloc: Global, name: &'a str, help: &'a str) -> Arg<'a>
+    ensures rule { rule_of result ≡ flag_rule name.entry.now }
+    ensures local { result.global ≡ false }
+{
+    Arg::new(alloc, name)
+        .long(name)
+        .action(ArgAction::SetTrue)
+        .help(help)
 }
 
 // A word that has to be there.

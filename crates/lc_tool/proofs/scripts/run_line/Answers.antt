@@ -1,7 +1,13 @@
-use Rattle.lc_tool.proofs.ScriptLemmas.{leaves_kept}
+use Rattle.lc_tool.specs.Script.{front_of}
+use Rattle.lc_tool.proofs.ScriptLemmas.{fronted_kept, then_keeps}
 use Rattle.lc_tool.proofs.scripts.run_line.Goals as goal
 
 pub returns-in-Ok-clause-leaves : goal.returns-in-Ok-clause-leaves
 returns-in-Ok-clause-leaves g c =
-    leaves_kept g.D.Area c.args.world.now c.do_line.new.world c.args.line.now c.args.number (g.W.Write.contents c.args.writer.now) (g.W.Write.contents c.do_line.new.writer)
+    fronted_kept g.D.Area (front_of c.args.numbered) c.args.world.now c.number_line.new.world c.args.line.now c.args.number (g.W.Write.contents c.args.writer.now) (g.W.Write.contents c.number_line.new.writer)
     (g.W.Write.contents c.flush.new.self) c.in_ok-outcome.outcome c.in-Ok.ensures.bytes c.in_ok-outcome.ensures.leaves
+
+pub returns-in-Ok-clause-tells : goal.returns-in-Ok-clause-tells
+returns-in-Ok-clause-tells g c = λ h same.
+    let told = c.in_ok-outcome.ensures.tells h same in
+    (told.0, told.1, then_keeps (g.W.Write.contents c.args.writer.now) (g.W.Write.contents c.number_line.new.writer) (g.W.Write.contents c.flush.new.self) told.0 told.2 c.in-Ok.ensures.bytes)

@@ -1,8 +1,11 @@
-use Rattle.std.proofs.Common.{◌≡◌, ◌∙◌, ℕ, ◌+◌, ◌||◌, ◌==◌, true, false, List, [], ◌∷◌, length, refl, sym, arith, eqb-true}
+use Rattle.std.proofs.Common.{◌≡◌, ◌∙◌, ℕ, ◌+◌, ◌||◌, ◌==◌, Bool, true, false, List, [], ◌∷◌, ◌++◌, length, refl, sym, arith, eqb-true}
+use Rattle.lc_model.specs.State.{State}
+use Rattle.lc_core.specs.Numbers.{Numbers}
 use Rattle.lc_text.specs.Lines.{script_lines}
-use Rattle.lc_tool.specs.Script.{Runs}
+use Rattle.lc_tool.specs.Outcome.{fronted}
+use Rattle.lc_tool.specs.Script.{Runs, front_of}
 use Rattle.lc_tool.specs.Tells.{TellsLines}
-use Rattle.lc_tool.proofs.ScriptLemmas.{at_first, breaks_here, further, over, passes_more, runs_end, tells_here, tells_more, to_end}
+use Rattle.lc_tool.proofs.ScriptLemmas.{at_first, breaks_now, further, over, passes_next, runs_end, tells_next, tells_now, to_end}
 use Rattle.lc_tool.proofs.scripts.run_lines.Goals as goal
 
 empty_of : (xs : List ℕ) → true ≡ (length xs == 0) → xs ≡ []
@@ -13,8 +16,8 @@ pub loop-rest-init : goal.loop-rest-init
 loop-rest-init g c = record {
   count = omega arith;
   geometry = refl;
-  told = λ h same. at_first (TellsLines h 1 false (script_lines c.args.script.now)) (g.W.Write.contents c.args.writer.now);
-  runs = λ m first start fits. (first, start, fits, at_first (Runs m first start 1 false (script_lines c.args.script.now)) (g.W.Write.contents c.args.writer.now));
+  told = λ h same. at_first (TellsLines (front_of c.args.numbered) h 1 false (script_lines c.args.script.now)) (g.W.Write.contents c.args.writer.now);
+  runs = λ m first start fits. (first, start, fits, at_first (Runs (front_of c.args.numbered) m first start 1 false (script_lines c.args.script.now)) (g.W.Write.contents c.args.writer.now));
 }
 
 pub returns-in-Ends-clause-runs : goal.returns-in-Ends-clause-runs
@@ -22,19 +25,22 @@ returns-in-Ends-clause-runs g c = λ m first start h.
     let before = c.loop-rest.invariant.runs m first start h in
     let s = before.0 in
     let x = before.1 in
-    let ends = (rw c.in-Ends.is at c.in_ok-was.ensures.leaves) m s x before.2 in
-    let all = Runs m first start 1 false (script_lines c.args.script.now) in
+    let ends = (rw c.in-Ends.is at c.in_ok-was.ensures.leaves).1 m s x before.2 in
+    let number = c.loop-rest.number in
+    let all = Runs (front_of c.args.numbered) m first start 1 false (script_lines c.args.script.now) in
     let lines = script_lines c.first_line.result.1.now in
-    let here = breaks_here m s x c.loop-rest.number c.loop-rest.refused c.first_line.result.0.now lines ends.0 c.in-Ends.status ends.1 in
-    to_end all (g.W.Write.contents c.args.writer.now) (Runs m s x c.loop-rest.number c.loop-rest.refused (script_lines c.loop-rest.rest.now)) (g.W.Write.contents c.loop-rest.writer) (g.W.Write.contents c.run_line.new.writer)
-    before.3 ends.0 ends.2 c.in-Ends.status (rw c.first_line.ensures.lines here)
+    let next = λ (after : State) (later : Numbers) (was : Bool) (rest : List ℕ) (end : ℕ). Runs (front_of c.args.numbered) m after later (number + 1) was lines rest end in
+    let here = breaks_now (front_of c.args.numbered) m s x number c.loop-rest.refused next c.first_line.result.0.now ends.0 c.in-Ends.status ends.1 in
+    to_end all (g.W.Write.contents c.args.writer.now) (Runs (front_of c.args.numbered) m s x c.loop-rest.number c.loop-rest.refused (script_lines c.loop-rest.rest.now)) (g.W.Write.contents c.loop-rest.writer) (g.W.Write.contents c.run_line.new.writer)
+    before.3 (front_of c.args.numbered number ++ ends.0) ends.2 c.in-Ends.status (rw c.first_line.ensures.lines here)
 
 pub returns-in-Ends-clause-tells : goal.returns-in-Ends-clause-tells
 returns-in-Ends-clause-tells g c = λ h same.
     let told = c.in_ok-was.ensures.tells h (c.loop-rest.invariant.geometry ∙ same) in
     let ends = rw c.in-Ends.is at told in
-    let here = tells_here h c.loop-rest.number c.loop-rest.refused c.first_line.result.0.now (script_lines c.first_line.result.1.now) ends.0 c.in-Ends.status ends.1 in
-    to_end (TellsLines h 1 false (script_lines c.args.script.now)) (g.W.Write.contents c.args.writer.now) (TellsLines h c.loop-rest.number c.loop-rest.refused (script_lines c.loop-rest.rest.now))
+    let next = λ (was : Bool) (rest : List ℕ) (end : ℕ). TellsLines (front_of c.args.numbered) h (c.loop-rest.number + 1) was (script_lines c.first_line.result.1.now) rest end in
+    let here = tells_now (front_of c.args.numbered) h c.loop-rest.number c.loop-rest.refused next c.first_line.result.0.now ends.0 c.in-Ends.status ends.1 in
+    to_end (TellsLines (front_of c.args.numbered) h 1 false (script_lines c.args.script.now)) (g.W.Write.contents c.args.writer.now) (TellsLines (front_of c.args.numbered) h c.loop-rest.number c.loop-rest.refused (script_lines c.loop-rest.rest.now))
     (g.W.Write.contents c.loop-rest.writer) (g.W.Write.contents c.run_line.new.writer) (c.loop-rest.invariant.told h same) ends.0 ends.2 c.in-Ends.status (rw c.first_line.ensures.lines here)
 
 pub loop-rest-preserved : goal.loop-rest-preserved
@@ -52,9 +58,10 @@ loop-rest-preserved g c =
       told = λ h same.
           let told = c.in_ok-was.ensures.tells h (c.loop-rest.invariant.geometry ∙ same) in
           let goes = rw c.in-Goes.is at told in
-          further (TellsLines h 1 false (script_lines c.args.script.now)) held (TellsLines h number refused (script_lines c.loop-rest.rest.now)) mid holds (c.loop-rest.invariant.told h same) goes.0 goes.2
-          (TellsLines h (number + 1) (refused || was) lines)
-          (λ after status run. rw c.first_line.ensures.lines (tells_more h number refused line lines goes.0 was after status goes.1 run));
+          further (TellsLines (front_of c.args.numbered) h 1 false (script_lines c.args.script.now)) held (TellsLines (front_of c.args.numbered) h number refused (script_lines c.loop-rest.rest.now)) mid holds (c.loop-rest.invariant.told h same) goes.0 goes.2
+          (TellsLines (front_of c.args.numbered) h (number + 1) (refused || was) lines)
+          (λ after status run. rw c.first_line.ensures.lines
+          (tells_next (front_of c.args.numbered) h number refused (λ was rest end. TellsLines (front_of c.args.numbered) h (number + 1) was lines rest end) line goes.0 was after status goes.1 run));
       runs = λ m first start h.
           let before = c.loop-rest.invariant.runs m first start h in
           let s = before.0 in
@@ -63,9 +70,11 @@ loop-rest-preserved g c =
             goes.0,
             goes.1,
             goes.3,
-            further (Runs m first start 1 false (script_lines c.args.script.now)) held (Runs m s x number refused (script_lines c.loop-rest.rest.now)) mid holds before.3 goes.2.0 goes.2.2
-                (Runs m goes.0 goes.1 (number + 1) (refused || was) lines)
-                (λ after status run. rw c.first_line.ensures.lines (passes_more m s x number refused line lines goes.2.0 was goes.0 goes.1 after status goes.2.1 run)),
+            further (Runs (front_of c.args.numbered) m first start 1 false (script_lines c.args.script.now)) held (Runs (front_of c.args.numbered) m s x number refused (script_lines c.loop-rest.rest.now)) mid holds before.3
+                (fronted (front_of c.args.numbered) number line ++ goes.2.0) goes.2.2
+                (Runs (front_of c.args.numbered) m goes.0 goes.1 (number + 1) (refused || was) lines)
+                (λ after status run. rw c.first_line.ensures.lines
+                (passes_next (front_of c.args.numbered) m s x number refused (λ after later was rest end. Runs (front_of c.args.numbered) m after later (number + 1) was lines rest end) line goes.2.0 was goes.0 goes.1 after status goes.2.1 run)),
           );
     }
 
@@ -73,12 +82,12 @@ pub returns-clause-runs : goal.returns-clause-runs
 returns-clause-runs g c = λ m first start h.
     let before = c.loop-rest.invariant.runs m first start h in
     let none : c.loop-rest.rest.now ≡ [] = empty_of c.loop-rest.rest.now (c.loop-rest-test.ensures) in
-    over (Runs m first start 1 false (script_lines c.args.script.now)) (g.W.Write.contents c.args.writer.now)
-    (Runs m before.0 before.1 c.loop-rest.number c.loop-rest.refused (script_lines c.loop-rest.rest.now)) (g.W.Write.contents c.loop-rest.writer) c.status_of.result before.3
-    (rw none (runs_end m before.0 before.1 c.loop-rest.number c.loop-rest.refused c.status_of.result c.status_of.ensures))
+    over (Runs (front_of c.args.numbered) m first start 1 false (script_lines c.args.script.now)) (g.W.Write.contents c.args.writer.now)
+    (Runs (front_of c.args.numbered) m before.0 before.1 c.loop-rest.number c.loop-rest.refused (script_lines c.loop-rest.rest.now)) (g.W.Write.contents c.loop-rest.writer) c.status_of.result before.3
+    (rw none (runs_end (front_of c.args.numbered) m before.0 before.1 c.loop-rest.number c.loop-rest.refused c.status_of.result c.status_of.ensures))
 
 pub returns-clause-tells : goal.returns-clause-tells
 returns-clause-tells g c = λ h same.
     let none : c.loop-rest.rest.now ≡ [] = empty_of c.loop-rest.rest.now (c.loop-rest-test.ensures) in
-    over (TellsLines h 1 false (script_lines c.args.script.now)) (g.W.Write.contents c.args.writer.now) (TellsLines h c.loop-rest.number c.loop-rest.refused (script_lines c.loop-rest.rest.now))
+    over (TellsLines (front_of c.args.numbered) h 1 false (script_lines c.args.script.now)) (g.W.Write.contents c.args.writer.now) (TellsLines (front_of c.args.numbered) h c.loop-rest.number c.loop-rest.refused (script_lines c.loop-rest.rest.now))
     (g.W.Write.contents c.loop-rest.writer) c.status_of.result (c.loop-rest.invariant.told h same) (rw none (refl, c.status_of.ensures))

@@ -5,7 +5,7 @@ use Rattle.lc_core.specs.Geometries.{phase_geometry}
 use Rattle.lc_core.specs.Numbers.{Numbers}
 use Rattle.lc_core.specs.World.{FitsWorld}
 use Rattle.lc_text.specs.Lines.{script_lines}
-use Rattle.lc_tool.specs.Script.{Runs}
+use Rattle.lc_tool.specs.Script.{Runs, front_of}
 use Rattle.lc_tool.specs.Tells.{TellsLines}
 use Rattle.lc_tool.proofs.ScriptLemmas.{SoFar}
 use Rattle.lc_tool.proofs.scripts.run_lines.Given as goal
@@ -15,10 +15,10 @@ invariant-loop-rest g l = record {
   count : l.number + length l.rest ≤ length l.fn.script + 1;
   geometry : phase_geometry g.D.Area l.world.phase ≡ phase_geometry g.D.Area l.fn.world.phase;
   told : ForSome (phase_geometry g.D.Area l.fn.world.phase) (λ h.
-      SoFar (TellsLines h 1 false (script_lines l.fn.script)) (TellsLines h l.number l.refused (script_lines l.rest)) (g.W.Write.contents l.fn.writer) (g.W.Write.contents l.writer));
+      SoFar (TellsLines (front_of l.fn.numbered) h 1 false (script_lines l.fn.script)) (TellsLines (front_of l.fn.numbered) h l.number l.refused (script_lines l.rest)) (g.W.Write.contents l.fn.writer) (g.W.Write.contents l.writer));
   runs : (m : Setting) (first : State) (start : Numbers) → FitsWorld g.D.Area m l.fn.world first start →
       (s : State) × (x : Numbers) × FitsWorld g.D.Area m l.world s x
-      × SoFar (Runs m first start 1 false (script_lines l.fn.script)) (Runs m s x l.number l.refused (script_lines l.rest)) (g.W.Write.contents l.fn.writer) (g.W.Write.contents l.writer);
+      × SoFar (Runs (front_of l.fn.numbered) m first start 1 false (script_lines l.fn.script)) (Runs (front_of l.fn.numbered) m s x l.number l.refused (script_lines l.rest)) (g.W.Write.contents l.fn.writer) (g.W.Write.contents l.writer);
 }
 
 abbrev pub decreases-loop-rest : goal.decreases-loop-rest

@@ -1,54 +1,28 @@
-use Rattle.std.proofs.Common.{ℕ, List, arith, refl, inl, inr, subst, ◌∙◌, false}
 use Rattle.std.proofs.lemmas.Result.{IfOk-weaker}
-use Rattle.lc_text.specs.Lines.{script_lines}
-use Rattle.lc_text.specs.Text.{no_memory_text, too_long_text}
-use Rattle.lc_tool.specs.Outcome.{RunsLines}
-use Rattle.lc_tool.specs.Store.{Adds}
-use Rattle.lc_tool.specs.Tells.{TellsLines}
-use Rattle.lc_tool.proofs.Beginning.{some_all}
-use Rattle.lc_tool.proofs.ScriptLemmas.{long_script, some_weaker, whole_script}
+use Rattle.lc_tool.proofs.ScriptLemmas.{some_weaker}
+use Rattle.lc_tool.proofs.Manners.{follows_recovered, runs_recovered, tells_recovered, told_recovered}
 use Rattle.lc_tool.proofs.scripts.run_recovered.Goals as goal
 
-pub returns-in-Err-NoMemory-clause-runs : goal.returns-in-Err-NoMemory-clause-runs
-returns-in-Err-NoMemory-clause-runs g c =
-    IfOk-weaker c.no_memory.result _ _ (λ status shown.
-    some_all (g.R.Read.remaining c.args.reader.now) _ (λ script m s x fits. (no_memory_text, inl (refl, shown.0), shown.1))) c.no_memory.ensures.shown
+pub returns-then-manner-clause-runs : goal.returns-then-manner-clause-runs
+returns-then-manner-clause-runs g c =
+    IfOk-weaker c.follow_script.result _ _ (λ status runs.
+    some_weaker (g.R.Read.remaining c.args.reader.now) _ _ (λ script follows.
+    follows_recovered g.D.Area c.args.world.now c.args.manner script (g.W.Write.contents c.args.writer.now) (g.W.Write.contents c.follow_script.new.writer) status c.if-manner.true follows) runs) c.follow_script.ensures.runs
 
-pub returns-in-Err-NoMemory-clause-tells : goal.returns-in-Err-NoMemory-clause-tells
-returns-in-Err-NoMemory-clause-tells g c =
-    IfOk-weaker c.no_memory.result _ _ (λ status shown.
-    some_all (g.R.Read.remaining c.args.reader.now) _ (λ script h same. (no_memory_text, inl (refl, shown.0), shown.1))) c.no_memory.ensures.shown
+pub returns-then-manner-clause-tells : goal.returns-then-manner-clause-tells
+returns-then-manner-clause-tells g c =
+    IfOk-weaker c.follow_script.result _ _ (λ status tells.
+    some_weaker (g.R.Read.remaining c.args.reader.now) _ _ (λ script told h same.
+    tells_recovered h c.args.manner script (g.W.Write.contents c.args.writer.now) (g.W.Write.contents c.follow_script.new.writer) status c.if-manner.true (told h same)) tells) c.follow_script.ensures.tells
 
-pub returns-then-len-gt-LONGEST-clause-runs : goal.returns-then-len-gt-LONGEST-clause-runs
-returns-then-len-gt-LONGEST-clause-runs g c =
-    IfOk-weaker c.too_long.result _ _ (λ status shown.
-    some_weaker (g.R.Read.remaining c.args.reader.now) _ _ (λ all read m s x fits.
-    let long = long_script all c.in-Ok.script.items read (omega (arith, c.if-len-gt-LONGEST.true, c.len.ensures)) in
-    (too_long_text, inr (rw long (refl, shown.0)), shown.1)) c.in-Ok.ensures.script) c.too_long.ensures.shown
+pub returns-else-manner-clause-runs : goal.returns-else-manner-clause-runs
+returns-else-manner-clause-runs g c =
+    IfOk-weaker c.run_whole.result _ _ (λ status runs.
+    some_weaker (g.R.Read.remaining c.args.reader.now) _ _ (λ script all.
+    runs_recovered g.D.Area c.args.world.now c.args.manner script (g.W.Write.contents c.args.writer.now) (g.W.Write.contents c.run_whole.new.writer) status c.if-manner.false all) runs) c.run_whole.ensures.runs
 
-pub returns-then-len-gt-LONGEST-clause-tells : goal.returns-then-len-gt-LONGEST-clause-tells
-returns-then-len-gt-LONGEST-clause-tells g c =
-    IfOk-weaker c.too_long.result _ _ (λ status shown.
-    some_weaker (g.R.Read.remaining c.args.reader.now) _ _ (λ all read h same.
-    let long = long_script all c.in-Ok.script.items read (omega (arith, c.if-len-gt-LONGEST.true, c.len.ensures)) in
-    (too_long_text, inr (rw long (refl, shown.0)), shown.1)) c.in-Ok.ensures.script) c.too_long.ensures.shown
-
-pub returns-clause-runs : goal.returns-clause-runs
-returns-clause-runs g c =
-    let held = g.W.Write.contents c.args.writer.now in
-    let holds = g.W.Write.contents c.run_lines.new.writer in
-    IfOk-weaker c.run_lines.result _ _ (λ status lines.
-    some_weaker (g.R.Read.remaining c.args.reader.now) _ _ (λ all read m s x fits.
-    let whole = whole_script all c.in-Ok.script.items read (omega (arith, c.if-len-gt-LONGEST.false, c.len.ensures)) in
-    let run = subst (λ (l : List ℕ). RunsLines g.D.Area c.args.world.now l held holds status) (c.deref.ensures.value ∙ whole.1) lines m s x fits in
-    (run.0, inr (rw whole.0 run.1), run.2)) c.in-Ok.ensures.script) c.run_lines.ensures.runs
-
-pub returns-clause-tells : goal.returns-clause-tells
-returns-clause-tells g c =
-    let held = g.W.Write.contents c.args.writer.now in
-    let holds = g.W.Write.contents c.run_lines.new.writer in
-    IfOk-weaker c.run_lines.result _ _ (λ status lines.
-    some_weaker (g.R.Read.remaining c.args.reader.now) _ _ (λ all read h same.
-    let whole = whole_script all c.in-Ok.script.items read (omega (arith, c.if-len-gt-LONGEST.false, c.len.ensures)) in
-    let run = subst (λ (l : List ℕ). Adds (TellsLines h 1 false (script_lines l)) held holds status) (c.deref.ensures.value ∙ whole.1) (lines h same) in
-    (run.0, inr (rw whole.0 run.1), run.2)) c.in-Ok.ensures.script) c.run_lines.ensures.tells
+pub returns-else-manner-clause-tells : goal.returns-else-manner-clause-tells
+returns-else-manner-clause-tells g c =
+    IfOk-weaker c.run_whole.result _ _ (λ status tells.
+    some_weaker (g.R.Read.remaining c.args.reader.now) _ _ (λ script told h same.
+    told_recovered h c.args.manner script (g.W.Write.contents c.args.writer.now) (g.W.Write.contents c.run_whole.new.writer) status c.if-manner.false (told h same)) tells) c.run_whole.ensures.tells

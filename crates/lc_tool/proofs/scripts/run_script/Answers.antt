@@ -2,6 +2,7 @@ use Rattle.std.proofs.Common.{◌∙◌, ℕ, Option, ap, subst}
 use Rattle.std.proofs.lemmas.Result.{IfOk-weaker}
 use Rattle.lc_core.specs.Geometries.{phase_geometry}
 use Rattle.lc_tool.specs.Outcome.{OpensStore, RefusesFirst}
+use Rattle.lc_tool.specs.Script.{given_as}
 use Rattle.lc_tool.specs.Tells.{TellsOpening}
 use Rattle.lc_tool.proofs.Beginning.{never_refuses, never_wrong, recovered_runs, recovered_tells, some_all, stopped_refuses, stopped_runs, stopped_tells, wrong_tells}
 use Rattle.lc_tool.proofs.ScriptLemmas.{some_weaker}
@@ -10,7 +11,7 @@ use Rattle.lc_tool.proofs.scripts.run_script.Goals as goal
 pub returns-in-Some-clause-runs : goal.returns-in-Some-clause-runs
 returns-in-Some-clause-runs g c =
     some_all (g.R.Read.remaining c.args.reader.now) _ (λ script.
-    stopped_runs g.D.Area c.args.geometry c.args.areas.items c.in-Ok.world (g.W.Write.contents c.args.writer.now) (g.W.Write.contents c.open.new.writer) c.in-Some.status c.open.new.world script c.in-Ok.ensures.fits
+    stopped_runs g.D.Area c.args.geometry c.args.areas.items c.in-Ok.world (g.W.Write.contents c.args.writer.now) (g.W.Write.contents c.open.new.writer) c.in-Some.status c.open.new.world (given_as c.args.manner script) c.in-Ok.ensures.fits
     (subst (λ (o : Option ℕ). OpensStore g.D.Area c.in-Ok.world (g.W.Write.contents c.args.writer.now) (g.W.Write.contents c.open.new.writer) o c.open.new.world) c.in-Some.is c.in_ok-status.ensures.opens))
 
 pub returns-in-Some-clause-refused : goal.returns-in-Some-clause-refused
@@ -23,13 +24,13 @@ returns-in-Some-clause-tells g c =
     let held = g.W.Write.contents c.args.writer.now in
     let holds = g.W.Write.contents c.open.new.writer in
     some_all (g.R.Read.remaining c.args.reader.now) _ (λ script.
-    stopped_tells c.args.geometry held holds c.in-Some.status script (subst (λ (o : Option ℕ). TellsOpening held holds o) c.in-Some.is c.in_ok-status.ensures.tells))
+    stopped_tells c.args.geometry held holds c.in-Some.status (given_as c.args.manner script) (subst (λ (o : Option ℕ). TellsOpening held holds o) c.in-Some.is c.in_ok-status.ensures.tells))
 
 pub returns-in-Err-default-BadGeometry-clause-tells : goal.returns-in-Err-default-BadGeometry-clause-tells
 returns-in-Err-default-BadGeometry-clause-tells g c =
     IfOk-weaker c.bad_geometry.result _ _ (λ status shown.
     some_all (g.R.Read.remaining c.args.reader.now) _ (λ script.
-    wrong_tells c.args.geometry (g.W.Write.contents c.args.writer.now) (g.W.Write.contents c.bad_geometry.new.writer) status script _ shown.0 shown.1)) c.bad_geometry.ensures.shown
+    wrong_tells c.args.geometry (g.W.Write.contents c.args.writer.now) (g.W.Write.contents c.bad_geometry.new.writer) status (given_as c.args.manner script) _ shown.0 shown.1)) c.bad_geometry.ensures.shown
 
 pub returns-clause-runs : goal.returns-clause-runs
 returns-clause-runs g c =
@@ -38,7 +39,7 @@ returns-clause-runs g c =
     let opens = subst (λ (o : Option ℕ). OpensStore g.D.Area c.in-Ok.world held mid o c.open.new.world) c.in_default.is c.in_ok-status.ensures.opens in
     IfOk-weaker c.run_recovered.result _ _ (λ status runs.
     some_weaker (g.R.Read.remaining c.args.reader.now) _ _ (λ script.
-    recovered_runs g.D.Area c.args.geometry c.args.areas.items c.in-Ok.world held (g.W.Write.contents c.run_recovered.new.writer) status mid c.open.new.world script c.in-Ok.ensures.fits opens) runs) c.run_recovered.ensures.runs
+    recovered_runs g.D.Area c.args.geometry c.args.areas.items c.in-Ok.world held (g.W.Write.contents c.run_recovered.new.writer) status mid c.open.new.world (given_as c.args.manner script) c.in-Ok.ensures.fits opens) runs) c.run_recovered.ensures.runs
 
 pub returns-clause-refused : goal.returns-clause-refused
 returns-clause-refused g c =
@@ -60,4 +61,4 @@ returns-clause-tells g c =
     let keeps = subst (λ (o : Option ℕ). TellsOpening held mid o) c.in_default.is c.in_ok-status.ensures.tells in
     IfOk-weaker c.run_recovered.result _ _ (λ status tells.
     some_weaker (g.R.Read.remaining c.args.reader.now) _ _ (λ script told.
-    recovered_tells c.args.geometry held (g.W.Write.contents c.run_recovered.new.writer) status script mid keeps (told c.args.geometry (c.open.ensures.geometry ∙ ap (phase_geometry g.D.Area) c.in-Ok.ensures.down))) tells) c.run_recovered.ensures.tells
+    recovered_tells c.args.geometry held (g.W.Write.contents c.run_recovered.new.writer) status (given_as c.args.manner script) mid keeps (told c.args.geometry (c.open.ensures.geometry ∙ ap (phase_geometry g.D.Area) c.in-Ok.ensures.down))) tells) c.run_recovered.ensures.tells

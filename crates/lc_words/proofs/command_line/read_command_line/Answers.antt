@@ -1,7 +1,8 @@
 use Rattle.std.proofs.Common.{◌∙◌, ap, map, rules}
 use Rattle.std.proofs.lemmas.Result.{IfOk-weaker}
 use Rattle.clap.specs.Words.{is_simple_and_free}
-use Rattle.lc_words.proofs.Asking.{asked, asks_help, has_other_fault, no_fault, program_is_free, same_options}
+use Rattle.clap.specs.declared.error.kind.ErrorKind.TheVariants.{DisplayHelp, DisplayVersion}
+use Rattle.lc_words.proofs.Asking.{asked, asks_for, has_other_fault, no_fault, program_is_free, same_options}
 use Rattle.lc_words.proofs.command_line.read_command_line.Goals as goal
 
 pub returns-in-Ok : goal.returns-in-Ok
@@ -15,10 +16,15 @@ returns-in-Ok g c =
 pub returns-in-DisplayHelp : goal.returns-in-DisplayHelp
 returns-in-DisplayHelp g c =
     let is = c.in_ok-command.ensures in
-    asks_help c.in_ok-command.command (map g.S.AsStr.text c.args.words.now) _ is (search rules) (c.in-Err.ensures.kinds (ap is_simple_and_free is ∙ program_is_free))
+    asks_for c.in_ok-command.command (map g.S.AsStr.text c.args.words.now) _ DisplayHelp is (search rules) (λ e. cc) (c.in-Err.ensures.kinds (ap is_simple_and_free is ∙ program_is_free))
+
+pub returns-in-DisplayVersion : goal.returns-in-DisplayVersion
+returns-in-DisplayVersion g c =
+    let is = c.in_ok-command.ensures in
+    asks_for c.in_ok-command.command (map g.S.AsStr.text c.args.words.now) _ DisplayVersion is (search rules) (λ e. cc) (c.in-Err.ensures.kinds (ap is_simple_and_free is ∙ program_is_free))
 
 pub returns : goal.returns
 returns g c =
     let is = c.in_ok-command.ensures in
-    has_other_fault c.in_ok-command.command (map g.S.AsStr.text c.args.words.now) _ c.kind.result is c.kind.ensures c.in_default.not-OutOfMemory c.in_default.not-DisplayHelp
+    has_other_fault c.in_ok-command.command (map g.S.AsStr.text c.args.words.now) _ c.kind.result is c.kind.ensures c.in_default.not-OutOfMemory c.in_default.not-DisplayHelp c.in_default.not-DisplayVersion
     (c.in-Err.ensures.kinds (ap is_simple_and_free is ∙ program_is_free))

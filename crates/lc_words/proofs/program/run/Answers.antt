@@ -14,4 +14,6 @@ returns c =
     ) in
     let store : rule_of c.help-store.result ≡ store_rule = search rules in
     let local : c.help-store.result.global ≡ false = search rules in
-    IfOk-weaker c.arg.result _ _ (λ r added. adds_option _ r _ _ _ added (c.in_ok-with_size_options.ensures _ start) store local) c.arg.ensures
+    let first = adds_option _ c.in_ok-arg.field-0 _ _ _ c.in_ok-arg.ensures (c.in_ok-with_size_options.ensures _ start) store local in
+    let second = adds_option _ c.in_ok-arg-2.field-0 _ _ _ c.in_ok-arg-2.ensures first c.flag.ensures.rule c.flag.ensures.local in
+    IfOk-weaker c.arg-3.result _ _ (λ r added. adds_option _ r _ _ _ added second c.flag-2.ensures.rule c.flag-2.ensures.local) c.arg-3.ensures

@@ -1,0 +1,121 @@
+//! Scripts that are followed: at a terminal the next line comes when the reply to the last is there.
+use crate::script_tests::{ONE, WHOLE};
+use lc_text::ToolFault;
+use lc_tool::{Manner, run_script, zero_areas};
+use std::cell::Cell;
+use std::io::{self, Error, ErrorKind, Read, Write};
+use std::test::*;
+
+// Who types these lines, each when the replies to those before are out: a read that comes sooner fails.
+#[derive(Drop)]
+struct Typist<'a> {
+    lines: &'a [&'a str],
+    typed: usize,
+    answered: &'a Cell<usize>,
+}
+
+impl Read for Typist<'_> {
+    fn read(&mut self, buf: &mut [u8]) -> io::Result<usize> {
+        if self.answered.get() != self.typed {
+            return Err(Error::from(ErrorKind::Other));
+        }
+        let Some(line) = self.lines.get(self.typed) else {
+            return Ok(0);
+        };
+        let Some(room) = buf.get_mut(..line.len()) else {
+            return Err(Error::from(ErrorKind::Other));
+        };
+        room.copy_from_slice(line.as_bytes());
+        self.typed = self.typed.saturating_add(1);
+        Ok(line.len())
+    }
+}
+
+// A screen, which counts the replies: what was written between two flushes is one.
+#[derive(Drop)]
+struct Screen<'a> {
+    bytes: Vec<u8>,
+    shown: usize,
+    answered: &'a Cell<usize>,
+}
+
+impl Write for Screen<'_> {
+    fn write(&mut self, buf: &[u8]) -> io::Result<usize> {
+        self.bytes.extend_from_slice(buf)?;
+        Ok(buf.len())
+    }
+
+    fn flush(&mut self) -> io::Result<()> {
+        if self.bytes.len() > self.shown {
+            self.shown = self.bytes.len();
+            self.answered.set(self.answered.get().saturating_add(1));
+        }
+        Ok(())
+    }
+}
+
+// What the screen shows, and the status.
+fn session(
+    rt: &impl AllocGlobal,
+    manner: Manner,
+    lines: &[&str],
+) -> Result<(Vec<u8>, Result<u8, ToolFault>), Fail> {
+    let alloc = rt.alloc();
+    let answered = Cell::new(0);
+    let mut typist = Typist {
+        lines,
+        typed: 0,
+        answered: &answered,
+    };
+    let mut screen = Screen {
+        bytes: Vec::new(alloc),
+        shown: 0,
+        answered: &answered,
+    };
+    let areas = zero_areas(alloc, &ONE)?;
+    let status = run_script(alloc, ONE, manner, areas, &mut typist, &mut screen);
+    Ok((screen.bytes, status))
+}
+
+const FOLLOW: Manner = Manner {
+    follow: true,
+    number: false,
+};
+
+const BOTH: Manner = Manner {
+    follow: true,
+    number: true,
+};
+
+const LINES: [&str; 4] = [
+    "begin 0 0 1\n",
+    "range 0 0 1 3 1\r\n",
+    "# a comment\nend 0 0\n",
+    "truncate 0\n",
+];
+
+#[test]
+fn a_reply_is_out_before_the_next_line_is_read(rt: HostRuntime) -> Result<(), Fail> {
+    let (text, status) = session(&rt, FOLLOW, &LINES)?;
+    assert!(rt; text.as_slice() == "ok\nok\nclosed 0 8\ntruncated 1\n".as_bytes());
+    assert!(rt; status == Ok(0));
+    Ok(())
+}
+
+#[test]
+fn numbers_stand_in_front_of_replies(rt: HostRuntime) -> Result<(), Fail> {
+    let (text, status) = session(&rt, BOTH, &LINES)?;
+    let wanted = "line 1\nok\nline 2\nok\nline 4\nclosed 0 8\nline 5\ntruncated 1\n";
+    assert!(rt; text.as_slice() == wanted.as_bytes());
+    assert!(rt; status == Ok(0));
+    Ok(())
+}
+
+// Who reads the whole script first waits for ever.
+#[test]
+fn a_script_that_is_read_whole_gives_no_reply(rt: HostRuntime) -> Result<(), Fail> {
+    let (text, status) = session(&rt, WHOLE, &LINES)?;
+    assert!(rt; text.is_empty());
+    assert!(rt; status == Err(ToolFault::Read));
+    Ok(())
+}
