@@ -281,12 +281,13 @@ fn helps(asked: &Asked, parts: &[&str]) -> bool {
     }
 }
 
-const COMMANDS: [&str; 5] = [
+const COMMANDS: [&str; 6] = [
     "Usage: lcrvm <COMMAND>",
     "  run ",
     "  init ",
     "  recover ",
     "  inspect ",
+    "  lines ",
 ];
 
 const SIZES: [&str; 9] = [
@@ -302,12 +303,15 @@ const SIZES: [&str; 9] = [
 ];
 
 // The usage, an option or a word of its own, and the example of each command.
-static HELPS: [(&str, &[&str], &[&str]); 4] = [
+static HELPS: [(&str, &[&str], &[&str]); 5] = [
     (
         "run",
         &[
             "Usage: lcrvm run [OPTIONS]",
             "--store <DIR>",
+            "--follow",
+            "--number",
+            "Statuses:\n  0  all lines were done",
             "Example:\n  lcrvm run --pages 4 --store bank < transfers.txt",
         ],
         &SIZES,
@@ -337,6 +341,11 @@ static HELPS: [(&str, &[&str], &[&str]); 4] = [
             "--reverse",
             "Example:\n  lcrvm inspect bank/log0 --reverse",
         ],
+        &[],
+    ),
+    (
+        "lines",
+        &["Usage: lcrvm lines", "Example:\n  lcrvm lines"],
         &[],
     ),
 ];

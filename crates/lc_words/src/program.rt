@@ -14,7 +14,7 @@ const RUN_HELP: &str = "Statuses:
   2  a line was not understood, or the script was too long
   3  a device failed, or the script could not be read, or a reply not written
 
-Examples:
+Example:
   lcrvm run --pages 4 --store bank < transfers.txt
   lcrvm run --follow --number";
 
