@@ -5,7 +5,7 @@ use std::alloc::{AllocError, Global};
 use std::test::*;
 
 // Words that ask for nothing.
-static REFUSED: [&[&str]; 47] = [
+static REFUSED: [&[&str]; 46] = [
     &["lcrvm", "run", "--pages", "0"],
     &["lcrvm", "run", "--pages", "1025"],
     &["lcrvm", "run", "--words", "63"],
@@ -40,7 +40,6 @@ static REFUSED: [&[&str]; 47] = [
     &["lcrvm", "run", "--page", "1"],
     &["lcrvm", "--pages", "1", "run"],
     &["lcrvm", "run", "run"],
-    &["lcrvm", "--version"],
     &["lcrvm", "help", "walk"],
     &["lcrvm", "init"],
     &["lcrvm", "recover"],
