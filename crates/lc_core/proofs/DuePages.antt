@@ -33,7 +33,7 @@ use Rattle.lc_page.specs.declared.writing.Writing.TheVariants.{AtClosing, AtClos
 use Rattle.lc_core.specs.Due.{is_due_then, is_unwritten}
 
 -- a place that is known is no node outside
-not_outside : (g : Geometry) (node : ℕ) (place : Place) → IsPlace g place → g.nodes ≤ node → is_at node place ≡ false
+pub not_outside : (g : Geometry) (node : ℕ) (place : Place) → IsPlace g place → g.nodes ≤ node → is_at node place ≡ false
 not_outside g node Travelling known out = refl
 not_outside g node (At other) known out = elim (cases_eq other node) [
   | inl same ↦ absurd (omega (arith, known, out, same))
@@ -46,7 +46,7 @@ not_outside g node (At other) known out = elim (cases_eq other node) [
       | false ↦ λ is. is
     ] refl
 
-some_calls : (write : Writing) → 1 ≤ calls_of write
+pub some_calls : (write : Writing) → 1 ≤ calls_of write
 some_calls (AtClosing w) = omega arith
 some_calls (AtClosed w) = omega arith
 some_calls (AtFilling w) = omega arith

@@ -83,6 +83,7 @@ pub mod Furnishing
 pub mod Opening
 pub mod Shown
 pub mod DuePages
+pub mod BlockedPages
 pub mod LogReads
 pub mod Faults
 pub mod Failures

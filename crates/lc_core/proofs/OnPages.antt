@@ -32,7 +32,7 @@ use Rattle.lc_core.proofs.Seating.{some_at}
 use Rattle.lc_core.proofs.Shown.{here_shows}
 
 -- one of a list passes
-any_found : {A : Type 0} (p : A → Bool) (xs : List A) → list_any p xs ≡ true → (x : A) × (find p xs ≡ Some x)
+pub any_found : {A : Type 0} (p : A → Bool) (xs : List A) → list_any p xs ≡ true → (x : A) × (find p xs ≡ Some x)
 any_found p [] is = absurd (true≢false (sym is))
 any_found {A} p (x ∷ xs) is = by_first (p x) refl (any_found p xs)
   where
@@ -71,7 +71,7 @@ module _ (m : Setting) (n : ℕ) (here : Here) (seats : List Seat) (s : State) (
       (place_on segment page on.position its.transaction on.first on.last ((its.set_is segment on.position).0 on.has))
 
   -- of a segment whose token is here, another node's transactions hold nothing
-  holder_seat : (t : Transaction) → s.place segment ≡ At n → find (sets_on segment page) (holders s) ≡ Some t → HasSeatOn segment page seats
+  pub holder_seat : (t : Transaction) → s.place segment ≡ At n → find (sets_on segment page) (holders s) ≡ Some t → HasSeatOn segment page seats
   holder_seat t here_is found =
       let on : sets_on segment page t ≡ true = found-passes (sets_on segment page) (holders s) t found in
       let proper = found-all (sets_on segment page) (IsProper m.geometry) (holders s) t found (holders-proper m s sound) in

@@ -1,11 +1,15 @@
--- What a truncation of a node's log is: its flush, the writes of the pages that are due, and its reset, up to the first refusal.
-use Rattle.std.specs.Prelude.{◌≡◌, ℕ, ◌+◌, ◌-◌, ◌||◌, Bool, true, false, Option, Some, None, MatchOption, slice_get, suc, zero}
+-- What a truncation of a node's log is: its flush, the writes of the pages that are due, none of which begins where one is blocked,
+-- and its reset, up to the first refusal.
+use Rattle.std.specs.Prelude.{◌≡◌, ℕ, ◌+◌, ◌-◌, ◌<◌, ◌||◌, ◌⊎◌, Bool, true, false, nat_lt, Option, Some, None, MatchOption, slice_get, suc, zero}
+use Rattle.std.specs.Option.{unwrap_or}
 use Rattle.lc_disk.specs.declared.area.Area.{Ghosts}
 use Rattle.lc_page.specs.PageVector.{entry_at, is_dirty}
+use Rattle.lc_page.specs.Writing.{draft_of}
 use Rattle.lc_token.specs.declared.token.Token.{Token}
 use Rattle.lc_model.specs.declared.event.Event.{Event}
 use Rattle.lc_model.specs.declared.event.Event.TheVariants.{FlushStep, PageStep, ResetStep}
 use Rattle.lc_model.specs.declared.refusal.Refusal.{Refusal}
+use Rattle.lc_model.specs.declared.refusal.Refusal.TheVariants.{Uncommitted}
 use Rattle.lc_model.specs.declared.reply.Reply.{Reply}
 use Rattle.lc_model.specs.declared.reply.Reply.TheVariants.{Acked, Nothing, Refused, Stepped}
 use Rattle.lc_core.specs.Calls.{CallsArea}
@@ -13,9 +17,11 @@ use Rattle.lc_core.specs.Faults.{CountsPhase}
 use Rattle.lc_core.specs.Geometries.{RefusesOutside, phase_geometry}
 use Rattle.lc_core.specs.PageState.{is_begun}
 use Rattle.lc_core.specs.Recovers.{RefusesAtOnce}
+use Rattle.lc_core.specs.Uncommitted.{HasSeatOn}
 use Rattle.lc_core.specs.World.{FollowsWorld}
 use Rattle.lc_core.specs.declared.node.Node.{Node}
 use Rattle.lc_core.specs.declared.page_state.PageState.{PageState}
+use Rattle.lc_core.specs.declared.page_state.PageState.TheVariants.{AtRest, UnderWay, Failed}
 use Rattle.lc_core.specs.declared.pages.Pages.{Pages}
 use Rattle.lc_core.specs.declared.phase.Phase.{Phase}
 use Rattle.lc_core.specs.declared.phase.Phase.TheVariants.{Down, Up, Taken}
@@ -66,6 +72,39 @@ abbrev pub due_at : ℕ → ℕ → Bool → {D : Type 0} {a : Ghosts D} → Opt
 due_at segment page begun None = false
 due_at segment page begun (Some node) = due_in page begun (slice_get node.desk.here.slots.items (segment - 1))
 
+-- the number that the write of a page which is under way puts in place
+abbrev pub under_way_of : PageState → Option ℕ
+under_way_of AtRest = None
+under_way_of (UnderWay write) = Some (draft_of write).seq
+under_way_of Failed = None
+
+abbrev pub under_way_at : Option PageState → Option ℕ
+under_way_at None = None
+under_way_at (Some state) = under_way_of state
+
+abbrev pub under_way_in : ℕ → {D : Type 0} {a : Ghosts D} → Option (Pages D a) → Option ℕ
+under_way_in page None = None
+under_way_in page (Some pages) = under_way_at (slice_get pages.writes.items page)
+
+-- the token stands here, and the page was changed under a greater number than the disk has, or will have behind the write that is
+-- under way
+abbrev pub newer_of : ℕ → Option ℕ → Option Token → Bool
+newer_of page under_way None = false
+newer_of page under_way (Some token) = nat_lt (unwrap_or under_way (entry_at token.pages page).stable) (entry_at token.pages page).touched
+
+abbrev pub newer_in : ℕ → Option ℕ → Option Slot → Bool
+newer_in page under_way None = false
+newer_in page under_way (Some slot) = newer_of page under_way slot.token.token
+
+abbrev pub newer_at : ℕ → ℕ → Option ℕ → {D : Type 0} {a : Ghosts D} → Option (Node D a) → Bool
+newer_at segment page under_way None = false
+newer_at segment page under_way (Some node) = newer_in page under_way (slice_get node.desk.here.slots.items (segment - 1))
+
+-- a transaction of the node that is not over has set a position on the page
+abbrev pub HasOpenOn : ℕ → ℕ → {D : Type 0} {a : Ghosts D} → Option (Node D a) → Type 0
+HasOpenOn segment page None = ⊥
+HasOpenOn segment page (Some node) = HasSeatOn segment page node.desk.seats.items
+
 module _ {D : Type 0} (a : Ghosts D) where
   -- the page of the segment, from 1, is to be written at the node
   abbrev pub is_due : Phase D a → ℕ → ℕ → ℕ → Bool
@@ -79,6 +118,27 @@ module _ {D : Type 0} (a : Ghosts D) where
   sizes_of (Up up) = (up.running.geometry.segments, up.running.geometry.pages)
   sizes_of (Down recovery) = (0, 0)
   sizes_of Taken = (0, 0)
+
+  -- the page of the segment, from 1, is to be written at the node, now or behind the write that is under way, and that write would
+  -- be refused, since a transaction that is not over has set a position on the page
+  abbrev pub IsBlocked : Phase D a → ℕ → ℕ → ℕ → Type 0
+  IsBlocked (Up up) node segment page =
+      (newer_at segment page (under_way_in page (slice_get up.segments.items (segment - 1))) (slice_get up.running.nodes.items node) ≡ true)
+      × HasOpenOn segment page (slice_get up.running.nodes.items node)
+  IsBlocked (Down recovery) node segment page = ⊥
+  IsBlocked Taken node segment page = ⊥
+
+  -- so is one of the first pages of a segment
+  pub record HasBlockedIn (phase : Phase D a) (node segment pages : ℕ) : Type 0 where
+    pub page : ℕ
+    pub within : page < pages
+    pub blocked : IsBlocked phase node segment page
+
+  -- so is one of these pages of so many segments
+  pub record HasBlocked (phase : Phase D a) (node : ℕ) (sizes : ℕ × ℕ) : Type 0 where
+    pub place : ℕ
+    pub inside : place < sizes.0
+    pub blocked : HasBlockedIn phase node (place + 1) sizes.1
 
   -- an event that wants no memory, and is no stop, led from the one store to the other under this reply
   pub record StepsTo (old : World D a) (event : Event) (reply : Reply) (new : World D a) : Type 0 where
@@ -129,8 +189,14 @@ module _ {D : Type 0} (a : Ghosts D) where
       (refused : Option Refusal) × (written : World D a) × WritesPages node (sizes_of old.phase) old refused written
       × MatchOption refused (Repeats 3 (ResetStep node) written reply new) (λ refusal. (reply ≡ Refused refusal) × (new ≡ written))
 
+  -- where a page is blocked none is written
+  abbrev pub AsksFirst : ℕ → World D a → Reply → World D a → Type 0
+  AsksFirst node old reply new =
+      (HasBlocked old.phase node (sizes_of old.phase) × (reply ≡ Refused Uncommitted) × (new ≡ old))
+      ⊎ ((HasBlocked old.phase node (sizes_of old.phase) → ⊥) × Cleans node old reply new)
+
   -- the log is flushed before
   abbrev pub Truncates : ℕ → World D a → Reply → World D a → Type 0
   Truncates node old reply new =
       (first : Reply) × (flushed : World D a) × Repeats 3 (FlushStep node) old first flushed
-      × MatchOption (stopping first) (Cleans node flushed reply new) (λ last. (reply ≡ last) × (new ≡ flushed))
+      × MatchOption (stopping first) (AsksFirst node flushed reply new) (λ last. (reply ≡ last) × (new ≡ flushed))

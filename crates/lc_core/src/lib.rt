@@ -10,6 +10,7 @@ mod answering;
 mod arriving;
 mod beginning;
 mod blank;
+mod blocked;
 mod cluster_tests;
 mod common;
 mod delivering;

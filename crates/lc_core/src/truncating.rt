@@ -17,7 +17,8 @@ const MOST_ROUNDS: u32 = 13;
 impl<D: Stoppable + Drop> World<D> {
     /// Empties the log of a node: flushes it until all or nothing is acknowledged, writes each page that is dirty and whose
     /// token stands at the node, or whose write has begun there, and resets the log, each event by `step`; up to the first
-    /// refusal. The last reply is answered: `Reset`, `Nothing` where the log was empty, or what was refused. The pages of a
+    /// refusal. Behind the flush the pages are asked: where a write would be refused `Uncommitted`, that is answered and no page
+    /// is written. The last reply is answered: `Reset`, `Nothing` where the log was empty, or what was refused. The pages of a
     /// segment are written side by side, each call of all of them before the next, so that the syncs of a file that has
     /// nothing to sync are free: a segment takes three syncs, and flush and reset three. It takes no memory.
     ///
@@ -28,6 +29,9 @@ impl<D: Stoppable + Drop> World<D> {
         match self.repeat(alloc, &Event::FlushStep { node }) {
             Reply::Acked(_) | Reply::Nothing => {}
             reply => return reply,
+        }
+        if self.has_blocked_page(node) {
+            return Reply::Refused(Refusal::Uncommitted);
         }
         match self.write_pages(alloc, node) {
             Ok(()) => self.repeat(alloc, &Event::ResetStep { node }),

@@ -8,12 +8,12 @@ use Rattle.lc_model.specs.Refusals.{is_known, is_node}
 use Rattle.lc_model.specs.declared.event.Event.{Event}
 use Rattle.lc_model.specs.declared.event.Event.TheVariants.{FlushStep, PageStep, ResetStep}
 use Rattle.lc_model.specs.declared.refusal.Refusal.{Refusal}
-use Rattle.lc_model.specs.declared.refusal.Refusal.TheVariants.{Down as IsDown, Unknown}
+use Rattle.lc_model.specs.declared.refusal.Refusal.TheVariants.{Down as IsDown, Uncommitted, Unknown}
 use Rattle.lc_model.specs.declared.reply.Reply.{Reply}
 use Rattle.lc_model.specs.declared.reply.Reply.TheVariants.{Refused}
 use Rattle.lc_core.specs.Geometries.{phase_geometry}
 use Rattle.lc_core.specs.Places.{same_some}
-use Rattle.lc_core.specs.Truncating.{CallsDue, CallsIf, Cleans, EachFrom, Repeats, Round, StepsTo, Truncates, WritesPages, WritesSegment, ending, is_due, refusal_in, sizes_of, stopping}
+use Rattle.lc_core.specs.Truncating.{AsksFirst, CallsDue, CallsIf, Cleans, EachFrom, Repeats, Round, StepsTo, Truncates, WritesPages, WritesSegment, ending, is_due, refusal_in, sizes_of, stopping}
 use Rattle.lc_core.specs.declared.phase.Phase.{Phase}
 use Rattle.lc_core.specs.declared.phase.Phase.TheVariants.{Down, Up, Taken}
 use Rattle.lc_core.specs.declared.world.World.{World}
@@ -104,6 +104,13 @@ module _ {D : Type 0} (a : Ghosts D) where
             )
           ] pages.0 to.3
 
+      asks_keep : (old new : World D a) (reply : Reply) → AsksFirst a node old reply new → Has g old → (reply ≢ Refused Unknown) × Has g new
+      asks_keep old new reply (inl refuses) has = (
+        λ is. (let same : Refused Uncommitted ≡ Refused Unknown = sym refuses.1 ∙ is in cc),
+        ap (λ (w : World D a). phase_geometry a w.phase) refuses.2 ∙ has,
+      )
+      asks_keep old new reply (inr goes) has = cleans_keep old new reply goes.1 has
+
     -- behind a flush that leaves more to do the node is known
     flushed_known : (node : ℕ) (first : Reply) → KeepsTo g (FlushStep node) first → stopping first ≡ None → is_known g (FlushStep node) ≡ true
     flushed_known node first keeps goes = elim (is_known g (FlushStep node)) as (λ (b : Bool). is_known g (FlushStep node) ≡ b → b ≡ true) [
@@ -114,10 +121,10 @@ module _ {D : Type 0} (a : Ghosts D) where
     pub truncation_keeps : (node : ℕ) (old new : World D a) (reply : Reply) → Truncates a node old reply new → Has g old → KeepsTo g (FlushStep node) reply × Has g new
     truncation_keeps node old new reply to has =
         let first = repeats_keep 3 (FlushStep node) old to.1 to.0 to.2 has in
-        elim (stopping to.0) as (λ (o : Option Reply). stopping to.0 ≡ o → MatchOption o (Cleans a node to.1 reply new) (λ last. (reply ≡ last) × (new ≡ to.1)) → KeepsTo g (FlushStep node) reply × Has g new) [
-          | None ↦ λ goes cleans.
+        elim (stopping to.0) as (λ (o : Option Reply). stopping to.0 ≡ o → MatchOption o (AsksFirst a node to.1 reply new) (λ last. (reply ≡ last) × (new ≡ to.1)) → KeepsTo g (FlushStep node) reply × Has g new) [
+          | None ↦ λ goes asks.
               let known = flushed_known node to.0 first.0 goes in
-              let kept = cleans_keep node known to.1 new reply cleans first.1 in
+              let kept = asks_keep node known to.1 new reply asks first.1 in
               (record { outside = λ out. absurd (true≢false (sym known ∙ out)); inside = λ within other. kept.0 }, kept.1)
           | Some last ↦ λ stops ends. (
             subst (λ (r : Reply). KeepsTo g (FlushStep node) r) (sym (ends.0 ∙ stopped to.0 last stops)) first.0,

@@ -1,5 +1,5 @@
 -- A truncation of a store is one of the machine and the numbers.
-use Rattle.std.proofs.Common.{◌≡◌, ℕ, zero, suc, ◌+◌, ◌<◌, ◌≤◌, Bool, true, false, List, Option, Some, None, refl, sym, ap, subst, ◌∙◌, arith}
+use Rattle.std.proofs.Common.{◌≡◌, ℕ, zero, suc, ◌+◌, ◌<◌, ◌≤◌, Bool, true, false, List, Option, Some, None, inl, inr, refl, sym, ap, subst, ◌∙◌, arith}
 use Rattle.std.specs.Prelude.{MatchOption}
 use Rattle.lc_disk.specs.declared.area.Area.{Ghosts}
 use Rattle.lc_record.specs.declared.geometry.Geometry.{Geometry}
@@ -24,9 +24,10 @@ use Rattle.lc_tool.specs.Fits.{Performs}
 use Rattle.lc_tool.specs.Session.{truncate_text}
 use Rattle.lc_tool.specs.Verdict.{verdict_of}
 use Rattle.lc_tool.specs.declared.verdict.Verdict.{Verdict}
-use Rattle.lc_tool.specs.Truncation.{CallsDue, CallsIf, Cleans, EachFrom, Piece, Repeats, Round, Truncates, WritesPages, WritesSegment}
+use Rattle.lc_tool.specs.Truncation.{AsksFirst, CallsDue, CallsIf, Cleans, EachFrom, HasBlocked, Piece, Repeats, Round, Truncates, WritesPages, WritesSegment}
+use Rattle.lc_core.proofs.BlockedPages.{blocked_same}
 use Rattle.lc_core.proofs.DuePages.{due_same}
-use Rattle.lc_tool.proofs.Emptied.{flushed_up, truncated_node}
+use Rattle.lc_tool.proofs.Emptied.{flushed_there, truncated_node}
 
 module _ {D : Type 0} (a : Ghosts D) (m : Setting) where
   -- from a state and numbers to some that the store then fits
@@ -105,13 +106,47 @@ module _ {D : Type 0} (a : Ghosts D) (m : Setting) where
         (λ resets. repeats_led 3 (ResetStep node) to.1 new reply resets first.0 first.1 first.3) to.3 in
         (rest.0, rest.1, (to.0, first.0, first.1, first.2, rest.2), rest.3)
 
+    -- a page is blocked at a node that is not halted where it is by the state and the numbers
+    blocked_to : (old : World D a) (s : State) (x : Numbers) → FitsWorld a m old s x → s.phase ≡ IsUp → s.halted node ≡ false → core.HasBlocked a old.phase node (sizes_of a old.phase) → HasBlocked m node s x
+    blocked_to old s x fits stands awake has =
+        let its = subst (λ (sizes : ℕ × ℕ). core.HasBlocked a old.phase node sizes) (sizes_are old.phase s x fits stands) has in
+        record {
+          place = its.place;
+          inside = its.inside;
+          page = its.blocked.page;
+          within = its.blocked.within;
+          blocked = (blocked_same a m s x old.phase fits node its.place its.blocked.page awake its.inside its.blocked.within).0 its.blocked.blocked;
+        }
+
+    blocked_from : (old : World D a) (s : State) (x : Numbers) → FitsWorld a m old s x → s.phase ≡ IsUp → s.halted node ≡ false → HasBlocked m node s x → core.HasBlocked a old.phase node (sizes_of a old.phase)
+    blocked_from old s x fits stands awake has =
+        subst (λ (sizes : ℕ × ℕ). core.HasBlocked a old.phase node sizes) (sym (sizes_are old.phase s x fits stands)) (record {
+          place = has.place;
+          inside = has.inside;
+          blocked = record {
+            page = has.page;
+            within = has.within;
+            blocked = (blocked_same a m s x old.phase fits node has.place has.page awake has.inside has.within).1 has.blocked;
+          };
+        })
+
+    asks_led : (old new : World D a) (reply : Reply) → core.AsksFirst a node old reply new → (s : State) (x : Numbers) → FitsWorld a m old s x → s.phase ≡ IsUp → s.halted node ≡ false
+        → Led (λ after next. AsksFirst m node s x reply after next) new
+    asks_led old new reply (inl refuses) s x fits stands awake =
+        (s, x, inl (blocked_to old s x fits stands awake refuses.0, refuses.1, refl, refl), subst (λ (w : World D a). FitsWorld a m w s x) (sym refuses.2) fits)
+    asks_led old new reply (inr goes) s x fits stands awake =
+        let led = cleans_led old new reply goes.1 s x fits stands in
+        (led.0, led.1, inr ((λ has. goes.0 (blocked_from old s x fits stands awake has)), led.2), led.3)
+
     pub truncates_led : (old new : World D a) (reply : Reply) → core.Truncates a node old reply new → (s : State) (x : Numbers) → FitsWorld a m old s x
         → Led (λ after next. Truncates m node s x reply after next) new
     truncates_led old new reply to s x fits =
         let first = repeats_led 3 (FlushStep node) old to.1 to.0 to.2 s x fits in
-        let tail = elim (stopping to.0) as (λ (o : Option Reply). stopping to.0 ≡ o → MatchOption o (core.Cleans a node to.1 reply new) (λ last. (reply ≡ last) × (new ≡ to.1))
-        → Led (λ after next. MatchOption o (Cleans m node first.0 first.1 reply after next) (λ last. (reply ≡ last) × (after ≡ first.0) × (next ≡ first.1))) new) [
-          | None ↦ λ goes cleans. cleans_led to.1 new reply cleans first.0 first.1 first.3 (flushed_up m node s x to.0 first.0 first.1 first.2 goes)
+        let tail = elim (stopping to.0) as (λ (o : Option Reply). stopping to.0 ≡ o → MatchOption o (core.AsksFirst a node to.1 reply new) (λ last. (reply ≡ last) × (new ≡ to.1))
+        → Led (λ after next. MatchOption o (AsksFirst m node first.0 first.1 reply after next) (λ last. (reply ≡ last) × (after ≡ first.0) × (next ≡ first.1))) new) [
+          | None ↦ λ goes asks.
+              let there = flushed_there m node s x to.0 first.0 first.1 first.2 goes in
+              asks_led to.1 new reply asks first.0 first.1 first.3 there.up there.awake
           | Some last ↦ λ stops ends. (first.0, first.1, (ends.0, refl, refl), subst (λ (w : World D a). FitsWorld a m w first.0 first.1) (sym ends.1) first.3)
         ] refl to.3 in
         (tail.0, tail.1, (to.0, first.0, first.1, first.2, tail.2), tail.3)

@@ -1,13 +1,14 @@
 -- What a truncation of a node's log is by the machine and the numbers beside it: its flush, the writes of the pages that are due,
--- and its reset, up to the first refusal.
-use Rattle.std.specs.Prelude.{◌≡◌, ℕ, zero, suc, ◌+◌, Bool, true, false, Option, None, Some, MatchOption}
+-- none of which begins where one is blocked, and its reset, up to the first refusal.
+use Rattle.std.specs.Prelude.{◌≡◌, ℕ, zero, suc, ◌+◌, ◌<◌, ◌⊎◌, Bool, true, false, Option, None, Some, MatchOption}
 use Rattle.lc_model.specs.State.{Setting, State}
 use Rattle.lc_model.specs.declared.event.Event.{Event}
 use Rattle.lc_model.specs.declared.event.Event.TheVariants.{FlushStep, PageStep, ResetStep}
 use Rattle.lc_model.specs.declared.refusal.Refusal.{Refusal}
+use Rattle.lc_model.specs.declared.refusal.Refusal.TheVariants.{Uncommitted}
 use Rattle.lc_model.specs.declared.reply.Reply.{Reply}
 use Rattle.lc_model.specs.declared.reply.Reply.TheVariants.{Refused}
-use Rattle.lc_core.specs.Due.{is_due_then}
+use Rattle.lc_core.specs.Due.{is_blocked_then, is_due_then}
 use Rattle.lc_core.specs.Numbers.{Numbers}
 use Rattle.lc_core.specs.Truncating.{ending, refusal_in, stopping}
 use Rattle.lc_tool.specs.Answers.{Answers}
@@ -60,8 +61,21 @@ module _ (m : Setting) where
       × MatchOption refused (Repeats 3 (ResetStep node) written between reply after next)
       (λ refusal. (reply ≡ Refused refusal) × (after ≡ written) × (next ≡ between))
 
+  -- some page is blocked at the node
+  pub record HasBlocked (node : ℕ) (s : State) (x : Numbers) : Type 0 where
+    pub place : ℕ
+    pub inside : place < m.geometry.segments
+    pub page : ℕ
+    pub within : page < m.geometry.pages
+    pub blocked : is_blocked_then s x node (place + 1) page ≡ true
+
+  -- where some page is, none is written
+  abbrev pub AsksFirst : ℕ → State → Numbers → Reply → State → Numbers → Type 0
+  AsksFirst node s x reply after next =
+      (HasBlocked node s x × (reply ≡ Refused Uncommitted) × (after ≡ s) × (next ≡ x)) ⊎ ((HasBlocked node s x → ⊥) × Cleans node s x reply after next)
+
   -- the log is flushed before: this is the last reply, and these are the state and the numbers behind it
   abbrev pub Truncates : ℕ → State → Numbers → Reply → State → Numbers → Type 0
   Truncates node s x reply after next =
       (first : Reply) × (flushed : State) × (between : Numbers) × Repeats 3 (FlushStep node) s x first flushed between
-      × MatchOption (stopping first) (Cleans node flushed between reply after next) (λ last. (reply ≡ last) × (after ≡ flushed) × (next ≡ between))
+      × MatchOption (stopping first) (AsksFirst node flushed between reply after next) (λ last. (reply ≡ last) × (after ≡ flushed) × (next ≡ between))
