@@ -18,6 +18,7 @@ pub use hex::{write_page, write_words};
 pub use inspector::inspect;
 pub use lines::first_line;
 pub use parsing::{is_skipped, parse};
+pub use records::write_record;
 pub use replies::write_reply;
 pub use text::{
     write_closed, write_exists, write_line_number, write_no_memory, write_not_understood,
