@@ -1,0 +1,1264 @@
+#define _POSIX_C_SOURCE 200809L
+
+#include "lcrvm.h"
+
+#include <errno.h>
+#include <fcntl.h>
+#include <inttypes.h>
+#include <signal.h>
+#include <spawn.h>
+#include <stdio.h>
+#include <stdlib.h>
+#include <string.h>
+#include <sys/socket.h>
+#include <sys/stat.h>
+#include <sys/wait.h>
+#include <time.h>
+#include <unistd.h>
+
+enum {
+    MOST_NODES = 8,
+    MOST_THREADS = 16,
+    MOST_SEGMENTS = 16,
+    MOST_RANGES = 64,
+    MOST_RECORD_BYTES = 4096 * 8,
+    PAGE_BYTES = 256,
+    PAGE_AREA_BYTES = 544, /* a page in its file, which has two slots for it */
+    WORD_BYTES = 8,
+
+    SCRIPT_LIMIT = 1048576, /* a run reads no more bytes of lines */
+    RESERVED = 4096,        /* of these, for the lines that end, abort, flush and truncate */
+    RENEWED_BELOW = 262144, /* a run with fewer left is followed by another, where nothing would be lost by that */
+
+    /* The replies of lines that were sent ahead are three bytes each. So many fit into the smallest pipe, of 4,096 bytes: so the program never
+       waits for its output to be read while the client waits for its input to be taken. */
+    MOST_UNREAD = 1024,
+
+    OUT_BYTES = 16384,
+    IN_BYTES = 65536,
+    LINE_BYTES = 160,     /* of a line but for the bytes that it writes, and of a reply but for those that it reads */
+    RANGE_LINE_BYTES = 64, /* of the line of a range, and of a write but for its bytes, at most */
+    MOST_ARGUMENTS = 10,
+    OPTION_BYTES = 32,
+
+    DEVICE_FAULT_STATUS = 3,
+    GRACE_MILLISECONDS = 10000, /* in which a run that is over has to end */
+    ON_ITS_WAY = -1
+};
+
+extern char **environ;
+
+/* One run of the program. Each line has one reply; those of lines that were sent ahead are read with the next. */
+struct run {
+    pid_t process;
+    int input, output;
+    FILE *errors; /* a file, so that the program never waits for its standard error to be read */
+    int wait_status;
+    bool broken; /* the program takes no more lines; why is said by what it printed last */
+    size_t left, unread, out_used, in_at, in_end;
+    char out[OUT_BYTES], in[IN_BYTES];
+};
+
+struct range {
+    uint32_t segment, low, high;
+};
+
+/* A transaction that is open: what it locked, a bit a segment, and its ranges, which neither overlap nor touch. */
+struct begun {
+    bool open;
+    uint32_t writing, reading;
+    size_t count;
+    struct range ranges[MOST_RANGES];
+};
+
+struct lcrvm_store {
+    struct run run;
+    bool dead;
+    struct lcrvm_fault last;
+    char *arguments[MOST_ARGUMENTS + 1];
+    bool truncate_when_full;
+    struct lcrvm_geometry geometry;
+    int tokens[MOST_SEGMENTS + 1];
+    uint64_t records_before[MOST_NODES], rounds_before[MOST_NODES]; /* of the runs before this one */
+    uint64_t records[MOST_NODES], rounds[MOST_NODES];               /* of all */
+    struct begun begun[MOST_NODES][MOST_THREADS];
+    unsigned char kept[MOST_RECORD_BYTES]; /* the bytes of a transaction that is made again */
+};
+
+/* A line: its text, and the bytes that stand behind it in hexadecimal. */
+struct line {
+    char text[LINE_BYTES];
+    const unsigned char *bytes;
+    size_t length;
+};
+
+/* ---- texts */
+
+static const struct {
+    const char *name;
+    enum lcrvm_status status;
+    size_t fields[2]; /* where they stand in a fault; 0 for none */
+} refusals[] = {
+#define FIELD(name) offsetof(struct lcrvm_fault, name)
+    {"Down", LCRVM_DOWN, {0}},
+    {"Unknown", LCRVM_UNKNOWN, {0}},
+    {"Halted", LCRVM_HALTED, {0}},
+    {"OutOfTurn", LCRVM_OUT_OF_TURN, {0}},
+    {"Busy", LCRVM_BUSY, {FIELD(segment)}},
+    {"NotHere", LCRVM_NOT_HERE, {FIELD(segment)}},
+    {"NotLocked", LCRVM_NOT_LOCKED, {0}},
+    {"EmptyRange", LCRVM_EMPTY_RANGE, {0}},
+    {"OutOfSegment", LCRVM_OUT_OF_SEGMENT, {FIELD(area)}},
+    {"NoRange", LCRVM_NO_RANGE, {0}},
+    {"TooManyRanges", LCRVM_TOO_MANY_RANGES, {0}},
+    {"SequenceSpent", LCRVM_SEQUENCE_SPENT, {FIELD(segment)}},
+    {"TooLong", LCRVM_TOO_LONG, {FIELD(words)}},
+    {"Sealed", LCRVM_SEALED, {0}},
+    {"Full", LCRVM_FULL, {FIELD(tail), FIELD(need)}},
+    {"Held", LCRVM_HELD, {0}},
+    {"Writing", LCRVM_WRITING, {0}},
+    {"Unflushed", LCRVM_UNFLUSHED, {0}},
+    {"Behind", LCRVM_BEHIND, {FIELD(applied), FIELD(sequence)}},
+    {"Uncommitted", LCRVM_UNCOMMITTED, {0}},
+    {"NotNewer", LCRVM_NOT_NEWER, {0}},
+    {"Unclean", LCRVM_UNCLEAN, {FIELD(segment), FIELD(sequence)}},
+    {"RoundsSpent", LCRVM_ROUNDS_SPENT, {0}},
+    {"BadGeometry", LCRVM_BAD_GEOMETRY, {FIELD(area)}},
+    {"Twice", LCRVM_TWICE, {FIELD(segment), FIELD(sequence)}},
+    {"Gap", LCRVM_GAP, {FIELD(segment), FIELD(sequence)}},
+    {"ReadOnly", LCRVM_READ_ONLY, {FIELD(segment)}},
+#undef FIELD
+};
+
+enum { REFUSALS = sizeof refusals / sizeof refusals[0] };
+
+const char *lcrvm_status_text(enum lcrvm_status status)
+{
+    for (size_t i = 0; i < REFUSALS; i++)
+        if (refusals[i].status == status)
+            return refusals[i].name;
+    switch (status) {
+    case LCRVM_OK: return "ok";
+    case LCRVM_DEVICE_FAULT: return "device fault";
+    case LCRVM_NO_MEMORY: return "NoMemory";
+    case LCRVM_STORE_IN_USE: return "store in use";
+    case LCRVM_DIED: return "the program ended";
+    case LCRVM_NOT_STARTED: return "not started";
+    case LCRVM_NOT_A_REPLY: return "not a reply";
+    case LCRVM_SPENT: return "the lines of this run are used up";
+    case LCRVM_EXISTS: return "Exists";
+    case LCRVM_CLIENT_MEMORY: return "no memory in the client";
+    default: return "no status";
+    }
+}
+
+static bool take_word(const char **text, const char *word)
+{
+    size_t length = strlen(word);
+    if (strncmp(*text, word, length) != 0)
+        return false;
+    *text += length;
+    return true;
+}
+
+static bool take_number(const char **text, uint64_t *value)
+{
+    if (**text < '0' || **text > '9')
+        return false;
+    char *end;
+    errno = 0;
+    *value = strtoull(*text, &end, 10);
+    *text = end;
+    return errno == 0;
+}
+
+/* Whether the text is this word, a space and a number. */
+static bool is_counted(const char *text, const char *word, uint64_t *value)
+{
+    return take_word(&text, word) && take_word(&text, " ") && take_number(&text, value) && *text == '\0';
+}
+
+/* Whether the text is a refusal's, and which. */
+static bool is_refusal(const char *text, struct lcrvm_fault *fault)
+{
+    memset(fault, 0, sizeof *fault);
+    if (!take_word(&text, "refused "))
+        return false;
+    size_t length = strcspn(text, " "), i = 0;
+    while (i < REFUSALS && (strlen(refusals[i].name) != length || strncmp(refusals[i].name, text, length) != 0))
+        i++;
+    if (i == REFUSALS)
+        return false;
+    text += length;
+    fault->status = refusals[i].status;
+    if (fault->status == LCRVM_OUT_OF_SEGMENT && *text == '\0')
+        return true;
+    fault->has_area = fault->status == LCRVM_OUT_OF_SEGMENT;
+    for (size_t f = 0; f < 2 && refusals[i].fields[f] != 0; f++) {
+        uint64_t value;
+        if (!take_word(&text, " ") || !take_number(&text, &value))
+            return false;
+        memcpy((char *)fault + refusals[i].fields[f], &value, sizeof value);
+    }
+    return *text == '\0';
+}
+
+static bool ends_with(const char *text, const char *end)
+{
+    size_t length = strlen(text), end_length = strlen(end);
+    return length >= end_length && strcmp(text + length - end_length, end) == 0;
+}
+
+/* ---- the program */
+
+/* The same file under a number that no standard descriptor has, closed in programs that are started. */
+static int set_apart(int file)
+{
+    if (file < 0)
+        return -1;
+    int apart = fcntl(file, F_DUPFD_CLOEXEC, STDERR_FILENO + 1);
+    close(file);
+    return apart;
+}
+
+static void close_file(int *file)
+{
+    if (*file >= 0)
+        close(*file);
+    *file = -1;
+}
+
+/* Starts the program between these files. 0, or the system's number of the error. */
+static int start_between(struct run *run, char *const arguments[], int input, int output)
+{
+    posix_spawn_file_actions_t actions;
+    int error = posix_spawn_file_actions_init(&actions);
+    if (error != 0)
+        return error;
+    error = posix_spawn_file_actions_adddup2(&actions, input, STDIN_FILENO);
+    if (error == 0)
+        error = posix_spawn_file_actions_adddup2(&actions, output, STDOUT_FILENO);
+    if (error == 0)
+        error = posix_spawn_file_actions_adddup2(&actions, fileno(run->errors), STDERR_FILENO);
+    if (error == 0)
+        error = posix_spawnp(&run->process, arguments[0], &actions, NULL, arguments, environ);
+    posix_spawn_file_actions_destroy(&actions);
+    return error;
+}
+
+static void close_run(struct run *run)
+{
+    close_file(&run->input);
+    close_file(&run->output);
+    if (run->errors != NULL)
+        fclose(run->errors);
+    run->errors = NULL;
+}
+
+/* Starts a run. 0, or the system's number of the error. */
+static int start_run(struct run *run, char *const arguments[])
+{
+    int inputs[2] = {-1, -1}, outputs[2] = {-1, -1};
+    memset(run, 0, offsetof(struct run, out));
+    run->input = run->output = -1;
+    run->left = SCRIPT_LIMIT;
+    /* The input is a socket, so that a program that has ended is an error of a call and no signal. */
+    run->errors = tmpfile();
+    bool made = run->errors != NULL && socketpair(AF_UNIX, SOCK_STREAM, 0, inputs) == 0 && pipe(outputs) == 0;
+    int error = made ? 0 : errno;
+    for (int i = 0; i < 2; i++) {
+        inputs[i] = set_apart(inputs[i]);
+        outputs[i] = set_apart(outputs[i]);
+        if (error == 0 && (inputs[i] < 0 || outputs[i] < 0))
+            error = errno;
+    }
+    if (error == 0 && fcntl(fileno(run->errors), F_SETFD, FD_CLOEXEC) != 0)
+        error = errno;
+    if (error == 0)
+        error = start_between(run, arguments, inputs[1], outputs[1]);
+    close_file(&inputs[1]);
+    close_file(&outputs[1]);
+    run->input = inputs[0];
+    run->output = outputs[0];
+    if (error != 0)
+        close_run(run);
+    return error;
+}
+
+static void write_out(struct run *run)
+{
+    for (size_t done = 0; done < run->out_used && !run->broken;) {
+        ssize_t more = send(run->input, run->out + done, run->out_used - done, MSG_NOSIGNAL);
+        if (more >= 0)
+            done += (size_t)more;
+        else if (errno != EINTR)
+            run->broken = true;
+    }
+    run->out_used = 0;
+}
+
+static void put_byte(struct run *run, char byte)
+{
+    if (run->out_used == OUT_BYTES)
+        write_out(run);
+    run->out[run->out_used++] = byte;
+}
+
+static size_t length_of(const struct line *line)
+{
+    return strlen(line->text) + 2 * line->length + 1;
+}
+
+static void put_line(struct run *run, const struct line *line)
+{
+    static const char digits[] = "0123456789abcdef";
+    for (const char *at = line->text; *at != '\0'; at++)
+        put_byte(run, *at);
+    for (size_t i = 0; i < line->length; i++) {
+        put_byte(run, digits[line->bytes[i] >> 4]);
+        put_byte(run, digits[line->bytes[i] & 15]);
+    }
+    put_byte(run, '\n');
+    run->left -= length_of(line);
+}
+
+/* The next byte that the program printed, or -1 at its end. */
+static int next_byte(struct run *run)
+{
+    while (run->in_at == run->in_end) {
+        ssize_t more = read(run->output, run->in, IN_BYTES);
+        if (more == 0 || (more < 0 && errno != EINTR))
+            return -1;
+        run->in_at = 0;
+        run->in_end = more < 0 ? 0 : (size_t)more;
+    }
+    return (unsigned char)run->in[run->in_at++];
+}
+
+/* Reads on to the end of a line, and keeps as much of it as there is room for. Whether the line has its end. */
+static bool read_line(struct run *run, char text[LINE_BYTES], size_t used)
+{
+    int byte;
+    while ((byte = next_byte(run)) >= 0 && byte != '\n')
+        if (used < LINE_BYTES - 1)
+            text[used++] = (char)byte;
+    text[used] = '\0';
+    return byte == '\n';
+}
+
+/* Waits for the end of the process; for a time, and then kills it, where that is asked for. */
+static void wait_for(struct run *run, bool bounded)
+{
+    const struct timespec moment = {0, 1000000};
+    for (int waited = 0; bounded && waited < GRACE_MILLISECONDS; waited++) {
+        if (waitpid(run->process, &run->wait_status, WNOHANG) != 0)
+            return;
+        nanosleep(&moment, NULL);
+    }
+    if (bounded)
+        kill(run->process, SIGKILL);
+    while (waitpid(run->process, &run->wait_status, 0) < 0 && errno == EINTR)
+        ;
+}
+
+/* What the program said on standard error, without the last line feed. */
+static void read_errors(struct run *run, char *text, size_t size)
+{
+    rewind(run->errors);
+    size_t length = fread(text, 1, size - 1, run->errors);
+    while (length > 0 && text[length - 1] == '\n')
+        length--;
+    text[length] = '\0';
+}
+
+/* What a run that is over ended of, by its last line. */
+static void read_end(struct run *run, const char *last, struct lcrvm_fault *fault)
+{
+    memset(fault, 0, sizeof *fault);
+    read_errors(run, fault->text, sizeof fault->text);
+    fault->exit_status = WIFEXITED(run->wait_status) ? WEXITSTATUS(run->wait_status) : 0;
+    fault->signal = WIFSIGNALED(run->wait_status) ? WTERMSIG(run->wait_status) : 0;
+    if (strcmp(last, "refused NoMemory") == 0)
+        fault->status = LCRVM_NO_MEMORY;
+    else if (ends_with(fault->text, ": store in use"))
+        fault->status = LCRVM_STORE_IN_USE;
+    else if (strcmp(last, "device fault") == 0 || fault->exit_status == DEVICE_FAULT_STATUS)
+        fault->status = LCRVM_DEVICE_FAULT;
+    else
+        fault->status = LCRVM_DIED;
+}
+
+/* ---- answers of a store */
+
+static void tell(struct lcrvm_fault *to, const struct lcrvm_fault *from)
+{
+    if (to != NULL)
+        *to = *from;
+}
+
+static void fill_fault(struct lcrvm_fault *fault, enum lcrvm_status status, const char *text)
+{
+    memset(fault, 0, sizeof *fault);
+    fault->status = status;
+    snprintf(fault->text, sizeof fault->text, "%s", text);
+}
+
+static enum lcrvm_status answer(struct lcrvm_store *store, enum lcrvm_status status, const char *text)
+{
+    fill_fault(&store->last, status, text);
+    return status;
+}
+
+/* The run is over: it waits for its end, and says what it ended of. */
+static enum lcrvm_status over(struct lcrvm_store *store, const char *last)
+{
+    close_file(&store->run.input);
+    wait_for(&store->run, true);
+    read_end(&store->run, last, &store->last);
+    close_run(&store->run);
+    store->dead = true;
+    return store->last.status;
+}
+
+static enum lcrvm_status not_a_reply(struct lcrvm_store *store, const char *text)
+{
+    kill(store->run.process, SIGKILL);
+    wait_for(&store->run, false);
+    close_run(&store->run);
+    store->dead = true;
+    return answer(store, LCRVM_NOT_A_REPLY, text);
+}
+
+/* The answer of a reply that is none of those that were hoped for. */
+static enum lcrvm_status refused(struct lcrvm_store *store, const char *reply)
+{
+    struct lcrvm_fault fault;
+    if (!is_refusal(reply, &fault))
+        return not_a_reply(store, reply);
+    store->last = fault;
+    return fault.status;
+}
+
+/* Reads the rest of a reply of which some bytes are read. */
+static enum lcrvm_status rest_of_reply(struct lcrvm_store *store, char text[LINE_BYTES], size_t used)
+{
+    bool whole = read_line(&store->run, text, used);
+    if (!whole || strcmp(text, "device fault") == 0 || strcmp(text, "refused NoMemory") == 0)
+        return over(store, text);
+    return LCRVM_OK;
+}
+
+/* Hands all lines to the program, and reads the replies of those that were sent ahead. */
+static enum lcrvm_status catch_up(struct lcrvm_store *store)
+{
+    write_out(&store->run);
+    for (; store->run.unread > 0; store->run.unread--) {
+        char text[LINE_BYTES];
+        enum lcrvm_status status = rest_of_reply(store, text, 0);
+        if (status != LCRVM_OK)
+            return status;
+        if (strcmp(text, "ok") != 0)
+            return not_a_reply(store, text);
+    }
+    return LCRVM_OK;
+}
+
+static enum lcrvm_status put(struct lcrvm_store *store, const struct line *line, size_t reserved)
+{
+    if (length_of(line) + reserved > store->run.left)
+        return answer(store, LCRVM_SPENT, "");
+    put_line(&store->run, line);
+    return LCRVM_OK;
+}
+
+/* Sends a line and reads its reply. */
+static enum lcrvm_status ask(struct lcrvm_store *store, const struct line *line, size_t reserved, char text[LINE_BYTES])
+{
+    enum lcrvm_status status = put(store, line, reserved);
+    if (status == LCRVM_OK)
+        status = catch_up(store);
+    return status == LCRVM_OK ? rest_of_reply(store, text, 0) : status;
+}
+
+/* Sends a line that is answered by `ok`: ahead where that is sure. */
+static enum lcrvm_status carry_out(struct lcrvm_store *store, const struct line *line, bool sure, size_t reserved)
+{
+    char text[LINE_BYTES];
+    enum lcrvm_status status = sure ? put(store, line, reserved) : ask(store, line, reserved, text);
+    if (status != LCRVM_OK)
+        return status;
+    if (!sure)
+        return strcmp(text, "ok") == 0 ? LCRVM_OK : refused(store, text);
+    store->run.unread++;
+    return store->run.unread >= MOST_UNREAD ? catch_up(store) : LCRVM_OK;
+}
+
+static int hex_digit(int byte)
+{
+    if (byte >= '0' && byte <= '9')
+        return byte - '0';
+    return byte >= 'a' && byte <= 'f' ? byte - 'a' + 10 : -1;
+}
+
+/* Reads the digits of so many bytes and the end of their line. */
+static enum lcrvm_status read_digits(struct lcrvm_store *store, unsigned char *bytes, size_t length)
+{
+    for (size_t i = 0; i < length; i++) {
+        int high = next_byte(&store->run), low = high < 0 ? -1 : next_byte(&store->run);
+        if (low < 0)
+            return over(store, "");
+        if (hex_digit(high) < 0 || hex_digit(low) < 0)
+            return not_a_reply(store, "bytes that are no digits");
+        bytes[i] = (unsigned char)(hex_digit(high) << 4 | hex_digit(low));
+    }
+    int end = next_byte(&store->run);
+    if (end < 0)
+        return over(store, "");
+    return end == '\n' ? LCRVM_OK : not_a_reply(store, "more bytes than were asked for");
+}
+
+/* Reads the reply of a `read`. */
+static enum lcrvm_status receive_bytes(struct lcrvm_store *store, unsigned char *bytes, size_t length)
+{
+    const char *head = length > 0 ? "bytes " : "bytes";
+    char text[LINE_BYTES];
+    size_t used = 0;
+    for (; head[used] != '\0'; used++) {
+        int byte = next_byte(&store->run);
+        if (byte < 0)
+            return over(store, "");
+        text[used] = (char)byte;
+        if (byte == '\n') {
+            text[used] = '\0';
+            return refused(store, text);
+        }
+        if (byte != head[used]) {
+            enum lcrvm_status status = rest_of_reply(store, text, used + 1);
+            return status == LCRVM_OK ? refused(store, text) : status;
+        }
+    }
+    return read_digits(store, bytes, length);
+}
+
+/* ---- lines */
+
+/* A node or a thread as it may stand in a line: what is greater is outside of each geometry, as this is. */
+static unsigned bounded(uint32_t number)
+{
+    return number < UINT16_MAX ? number : UINT16_MAX;
+}
+
+static struct line line_of(const char *word, uint32_t node)
+{
+    struct line line = {{0}, NULL, 0};
+    snprintf(line.text, sizeof line.text, "%s %u", word, bounded(node));
+    return line;
+}
+
+static struct line line_of_thread(const char *word, uint32_t node, uint32_t thread)
+{
+    struct line line = {{0}, NULL, 0};
+    snprintf(line.text, sizeof line.text, "%s %u %u", word, bounded(node), bounded(thread));
+    return line;
+}
+
+static struct line line_of_segment(const char *word, uint32_t node, uint32_t segment)
+{
+    struct line line = {{0}, NULL, 0};
+    snprintf(line.text, sizeof line.text, "%s %u %" PRIu32, word, bounded(node), segment);
+    return line;
+}
+
+static struct line line_of_place(const char *word, uint32_t node, uint32_t thread, uint32_t segment, uint32_t offset)
+{
+    struct line line = {{0}, NULL, 0};
+    snprintf(line.text, sizeof line.text, "%s %u %u %" PRIu32 " %" PRIu32, word, bounded(node), bounded(thread), segment, offset);
+    return line;
+}
+
+static struct line line_of_range(const char *word, uint32_t node, uint32_t thread, const struct range *range)
+{
+    struct line line = line_of_place(word, node, thread, range->segment, range->low);
+    size_t used = strlen(line.text);
+    snprintf(line.text + used, sizeof line.text - used, " %" PRIu32, range->high - range->low);
+    return line;
+}
+
+static struct line line_of_write(uint32_t node, uint32_t thread, const struct range *range, const unsigned char *bytes)
+{
+    struct line line = line_of_place("write", node, thread, range->segment, range->low);
+    strcat(line.text, " ");
+    line.bytes = bytes;
+    line.length = range->high - range->low;
+    return line;
+}
+
+static struct line line_of_begin(uint32_t node, uint32_t thread, uint32_t writing, uint32_t reading, uint32_t outside)
+{
+    struct line line = line_of_thread("begin", node, thread);
+    size_t used = strlen(line.text);
+    for (uint32_t segment = 1; segment <= MOST_SEGMENTS; segment++) {
+        const char *how = writing >> segment & 1 ? " " : reading >> segment & 1 ? " r" : NULL;
+        if (how != NULL)
+            used += (size_t)snprintf(line.text + used, sizeof line.text - used, "%s%" PRIu32, how, segment);
+    }
+    if (outside != 1)
+        snprintf(line.text + used, sizeof line.text - used, " %" PRIu32, outside);
+    return line;
+}
+
+/* ---- what is open */
+
+static struct begun *begun_of(struct lcrvm_store *store, uint32_t node, uint32_t thread)
+{
+    if (node >= store->geometry.nodes || thread >= store->geometry.threads)
+        return NULL;
+    struct begun *begun = &store->begun[node][thread];
+    return begun->open ? begun : NULL;
+}
+
+static bool has(uint32_t segments, uint32_t segment)
+{
+    return segment >= 1 && segment <= MOST_SEGMENTS && (segments >> segment & 1) != 0;
+}
+
+/* The segments that open transactions have locked. */
+static uint32_t all_locked(const struct lcrvm_store *store)
+{
+    uint32_t locked = 0;
+    for (size_t node = 0; node < MOST_NODES; node++)
+        for (size_t thread = 0; thread < MOST_THREADS; thread++)
+            if (store->begun[node][thread].open)
+                locked |= store->begun[node][thread].writing | store->begun[node][thread].reading;
+    return locked;
+}
+
+static bool any_open(const struct lcrvm_store *store)
+{
+    for (size_t node = 0; node < MOST_NODES; node++)
+        for (size_t thread = 0; thread < MOST_THREADS; thread++)
+            if (store->begun[node][thread].open)
+                return true;
+    return false;
+}
+
+static bool others_have_ranges(const struct lcrvm_store *store, uint32_t node, uint32_t thread)
+{
+    for (size_t other = 0; other < MOST_THREADS; other++)
+        if (other != thread && store->begun[node][other].open && store->begun[node][other].count > 0)
+            return true;
+    return false;
+}
+
+static bool all_here(const struct lcrvm_store *store, uint32_t node, uint32_t segments)
+{
+    for (uint32_t segment = 1; segment <= MOST_SEGMENTS; segment++)
+        if (has(segments, segment) && (segment > store->geometry.segments || store->tokens[segment] != (int)node))
+            return false;
+    return true;
+}
+
+/* Whether no reason to refuse this is left: what the client does not follow as closely as the program, it is not sure of. */
+static bool can_begin(struct lcrvm_store *store, uint32_t node, uint32_t thread, uint32_t segments)
+{
+    return node < store->geometry.nodes && thread < store->geometry.threads && begun_of(store, node, thread) == NULL &&
+           all_here(store, node, segments) && (all_locked(store) & segments) == 0;
+}
+
+static bool covers(const struct begun *begun, const struct range *wanted)
+{
+    for (size_t i = begun->count; i-- > 0;) {
+        const struct range *range = &begun->ranges[i];
+        if (range->segment == wanted->segment && range->low <= wanted->low && wanted->high <= range->high)
+            return true;
+    }
+    return false;
+}
+
+/* Adds a range; those that it overlaps or touches become one with it, so as many stand as in the program. */
+static void add_range(struct begun *begun, struct range range)
+{
+    size_t kept = 0;
+    for (size_t i = 0; i < begun->count; i++) {
+        const struct range other = begun->ranges[i];
+        if (other.segment == range.segment && other.low <= range.high && range.low <= other.high) {
+            range.low = other.low < range.low ? other.low : range.low;
+            range.high = other.high > range.high ? other.high : range.high;
+        } else {
+            begun->ranges[kept++] = other;
+        }
+    }
+    if (kept < MOST_RANGES)
+        begun->ranges[kept++] = range;
+    begun->count = kept;
+}
+
+/* ---- runs of a store */
+
+static enum lcrvm_status start(struct lcrvm_store *store)
+{
+    int error = start_run(&store->run, store->arguments);
+    if (error != 0) {
+        store->dead = true;
+        return answer(store, LCRVM_NOT_STARTED, strerror(error));
+    }
+    /* Once the store is recovered there is nothing to flush. */
+    char text[LINE_BYTES];
+    const struct line line = line_of("flush", 0);
+    enum lcrvm_status status = ask(store, &line, 0, text);
+    if (status != LCRVM_OK || strcmp(text, "nothing") == 0)
+        return status;
+    status = refused(store, text);
+    if (!store->dead) {
+        /* A recovery that is refused ends the program. */
+        close_file(&store->run.input);
+        wait_for(&store->run, true);
+        close_run(&store->run);
+        store->dead = true;
+    }
+    return status;
+}
+
+/* Ends the input, and waits for the program's end, which has to be that of a script. */
+static enum lcrvm_status end_run(struct lcrvm_store *store)
+{
+    enum lcrvm_status status = catch_up(store);
+    if (status != LCRVM_OK)
+        return status;
+    close_file(&store->run.input);
+    char text[LINE_BYTES];
+    if (read_line(&store->run, text, 0) || text[0] != '\0')
+        return not_a_reply(store, text);
+    wait_for(&store->run, false);
+    read_end(&store->run, "", &store->last);
+    close_run(&store->run);
+    if (store->last.signal == 0 && store->last.exit_status <= 1)
+        return LCRVM_OK;
+    store->dead = true;
+    return store->last.status;
+}
+
+static enum lcrvm_status flushed(struct lcrvm_store *store, uint32_t node, const char *text)
+{
+    uint64_t acked = store->records[node] - store->records_before[node], count = acked;
+    if (strcmp(text, "nothing") != 0 && !is_counted(text, "acked", &count))
+        return refused(store, text);
+    return count == acked ? LCRVM_OK : not_a_reply(store, text);
+}
+
+/* Begins another run over the same store, since a run reads 1 MiB of lines at most. */
+static enum lcrvm_status renew(struct lcrvm_store *store)
+{
+    char text[LINE_BYTES];
+    const struct line line = line_of("flush", 0);
+    enum lcrvm_status status = ask(store, &line, 0, text);
+    if (status == LCRVM_OK)
+        status = flushed(store, 0, text);
+    if (status == LCRVM_OK)
+        status = end_run(store);
+    if (status != LCRVM_OK)
+        return status;
+    memcpy(store->records_before, store->records, sizeof store->records);
+    memcpy(store->rounds_before, store->rounds, sizeof store->rounds);
+    return start(store);
+}
+
+/* What the store died of. And another run is begun, where the lines of this one are nearly used up and nothing would be lost. */
+static enum lcrvm_status ready(struct lcrvm_store *store)
+{
+    if (store->dead)
+        return store->last.status;
+    bool renews = store->run.left < RENEWED_BELOW && store->geometry.nodes == 1 && !any_open(store);
+    for (uint32_t segment = 1; renews && segment <= store->geometry.segments; segment++)
+        renews = store->tokens[segment] != ON_ITS_WAY;
+    return renews ? renew(store) : LCRVM_OK;
+}
+
+/* ---- transactions */
+
+enum lcrvm_status lcrvm_begin_transaction(struct lcrvm_store *store, uint32_t node, uint32_t thread, const uint32_t *segments, size_t count,
+                                          const uint32_t *reading, size_t reading_count)
+{
+    enum lcrvm_status status = ready(store);
+    if (status != LCRVM_OK)
+        return status;
+    /* Segment 1 is in each geometry, so it stands for none here. */
+    uint32_t written = 0, shared = 0, outside = 1;
+    for (size_t i = 0; i < count + reading_count; i++) {
+        uint32_t segment = i < count ? segments[i] : reading[i - count];
+        if (segment < 1 || segment > MOST_SEGMENTS)
+            outside = segment;
+        else
+            *(i < count ? &written : &shared) |= UINT32_C(1) << segment;
+    }
+    shared &= ~written;
+    const struct line line = line_of_begin(node, thread, written, shared, outside);
+    status = carry_out(store, &line, outside == 1 && can_begin(store, node, thread, written | shared), RESERVED);
+    if (status == LCRVM_OK) {
+        struct begun *begun = &store->begun[node][thread];
+        begun->open = true;
+        begun->writing = written;
+        begun->reading = shared;
+        begun->count = 0;
+    }
+    return status;
+}
+
+enum lcrvm_status lcrvm_set_range(struct lcrvm_store *store, uint32_t node, uint32_t thread, uint32_t segment, uint32_t offset, uint32_t length)
+{
+    enum lcrvm_status status = ready(store);
+    if (status != LCRVM_OK)
+        return status;
+    struct begun *begun = begun_of(store, node, thread);
+    const struct range range = {segment, offset, offset + length};
+    bool inside = (uint64_t)offset + length <= (uint64_t)store->geometry.pages * PAGE_BYTES;
+    bool sure = begun != NULL && has(begun->writing, segment) && length > 0 && inside && begun->count < MOST_RANGES;
+    const struct line line = line_of_range("range", node, thread, &range);
+    status = carry_out(store, &line, sure, RESERVED);
+    if (status == LCRVM_OK && begun != NULL)
+        add_range(begun, range);
+    return status;
+}
+
+enum lcrvm_status lcrvm_write(struct lcrvm_store *store, uint32_t node, uint32_t thread, uint32_t segment, uint32_t offset, const void *bytes,
+                              uint32_t length)
+{
+    enum lcrvm_status status = ready(store);
+    if (status != LCRVM_OK || length == 0)
+        return status;
+    const struct begun *begun = begun_of(store, node, thread);
+    const struct range range = {segment, offset, offset + length};
+    bool sure = begun != NULL && range.low < range.high && covers(begun, &range);
+    const struct line line = line_of_write(node, thread, &range, bytes);
+    return carry_out(store, &line, sure, RESERVED);
+}
+
+/* Reads the bytes of a range. */
+static enum lcrvm_status read_range(struct lcrvm_store *store, uint32_t node, uint32_t thread, const struct range *range, void *bytes)
+{
+    const struct line line = line_of_range("read", node, thread, range);
+    enum lcrvm_status status = put(store, &line, RESERVED);
+    if (status == LCRVM_OK)
+        status = catch_up(store);
+    return status == LCRVM_OK ? receive_bytes(store, bytes, range->high - range->low) : status;
+}
+
+enum lcrvm_status lcrvm_read(struct lcrvm_store *store, uint32_t node, uint32_t thread, uint32_t segment, uint32_t offset, void *bytes,
+                             uint32_t length)
+{
+    enum lcrvm_status status = ready(store);
+    const struct range range = {segment, offset, offset + length};
+    return status == LCRVM_OK ? read_range(store, node, thread, &range, bytes) : status;
+}
+
+enum lcrvm_status lcrvm_abort_transaction(struct lcrvm_store *store, uint32_t node, uint32_t thread)
+{
+    enum lcrvm_status status = ready(store);
+    if (status != LCRVM_OK)
+        return status;
+    struct begun *begun = begun_of(store, node, thread);
+    const struct line line = line_of_thread("abort", node, thread);
+    status = carry_out(store, &line, begun != NULL, 0);
+    if (status == LCRVM_OK && begun != NULL)
+        begun->open = false;
+    return status;
+}
+
+static enum lcrvm_status truncate_now(struct lcrvm_store *store, uint32_t node)
+{
+    char text[LINE_BYTES];
+    uint64_t round;
+    const struct line line = line_of("truncate", node);
+    enum lcrvm_status status = ask(store, &line, 0, text);
+    if (status != LCRVM_OK)
+        return status;
+    if (!is_counted(text, "truncated", &round))
+        return refused(store, text);
+    store->rounds[node] = store->rounds_before[node] + round;
+    return LCRVM_OK;
+}
+
+/* Reads the bytes of all ranges of a transaction. */
+static enum lcrvm_status keep_bytes(struct lcrvm_store *store, uint32_t node, uint32_t thread, const struct begun *begun)
+{
+    unsigned char *at = store->kept;
+    for (size_t i = 0; i < begun->count; i++) {
+        enum lcrvm_status status = read_range(store, node, thread, &begun->ranges[i], at);
+        if (status != LCRVM_OK)
+            return status;
+        at += begun->ranges[i].high - begun->ranges[i].low;
+    }
+    return LCRVM_OK;
+}
+
+/* Begins the transaction again, and does what it did, with the bytes that were kept. Each line is taken as it was before. */
+static enum lcrvm_status do_again(struct lcrvm_store *store, uint32_t node, uint32_t thread, struct begun *begun)
+{
+    const unsigned char *at = store->kept;
+    const struct line begins = line_of_begin(node, thread, begun->writing, begun->reading, 1);
+    enum lcrvm_status status = carry_out(store, &begins, true, 0);
+    for (size_t i = 0; status == LCRVM_OK && i < begun->count; i++) {
+        const struct line ranges = line_of_range("range", node, thread, &begun->ranges[i]);
+        const struct line writes = line_of_write(node, thread, &begun->ranges[i], at);
+        status = carry_out(store, &ranges, true, 0);
+        if (status == LCRVM_OK)
+            status = carry_out(store, &writes, true, 0);
+        at += begun->ranges[i].high - begun->ranges[i].low;
+    }
+    begun->open = status == LCRVM_OK;
+    return status;
+}
+
+/* Whether the log can be emptied when this transaction is aborted, and the transaction can be made again then. */
+static bool can_make_again(const struct lcrvm_store *store, uint32_t node, uint32_t thread)
+{
+    const struct begun *begun = &store->begun[node][thread];
+    size_t bytes = 0;
+    for (size_t i = 0; i < begun->count; i++)
+        bytes += begun->ranges[i].high - begun->ranges[i].low;
+    /* A read, a range and a write for each range, with its bytes. */
+    size_t lines = 2 * bytes + (3 * begun->count + 2) * RANGE_LINE_BYTES + LINE_BYTES;
+    return store->truncate_when_full && store->last.need <= store->geometry.words && !others_have_ranges(store, node, thread) &&
+           bytes <= sizeof store->kept && lines + RESERVED <= store->run.left;
+}
+
+/* Aborts the transaction, truncates the log, and makes the transaction again. Where the truncation is refused the log is full as before. */
+static enum lcrvm_status make_again(struct lcrvm_store *store, uint32_t node, uint32_t thread)
+{
+    struct begun *begun = &store->begun[node][thread];
+    const struct lcrvm_fault full = store->last;
+    enum lcrvm_status status = keep_bytes(store, node, thread, begun);
+    if (status != LCRVM_OK)
+        return status;
+    const struct line aborts = line_of_thread("abort", node, thread);
+    status = carry_out(store, &aborts, true, 0);
+    if (status != LCRVM_OK)
+        return status;
+    begun->open = false;
+    enum lcrvm_status truncated = truncate_now(store, node);
+    if (store->dead)
+        return truncated;
+    status = do_again(store, node, thread, begun);
+    if (status != LCRVM_OK || truncated == LCRVM_OK)
+        return status;
+    store->last = full;
+    return full.status;
+}
+
+static enum lcrvm_status end_now(struct lcrvm_store *store, uint32_t node, uint32_t thread, bool flush, struct lcrvm_commit *commit)
+{
+    char ended[LINE_BYTES], acked[LINE_BYTES];
+    const struct line ends = line_of_thread("end", node, thread), flushes = line_of("flush", node);
+    enum lcrvm_status status = put(store, &ends, flush ? length_of(&flushes) : 0);
+    if (status == LCRVM_OK && flush)
+        status = put(store, &flushes, 0);
+    if (status == LCRVM_OK)
+        status = catch_up(store);
+    /* Both replies are read before the first is judged. */
+    if (status == LCRVM_OK)
+        status = rest_of_reply(store, ended, 0);
+    if (status == LCRVM_OK && flush)
+        status = rest_of_reply(store, acked, 0);
+    if (status != LCRVM_OK)
+        return status;
+
+    struct lcrvm_commit made = {0, 0};
+    const char *text = ended;
+    bool closed = take_word(&text, "closed ") && take_number(&text, &made.place) && take_word(&text, " ") && take_number(&text, &made.words) &&
+                  *text == '\0';
+    if (!closed && strcmp(ended, "ended") != 0)
+        return refused(store, ended);
+    struct begun *begun = begun_of(store, node, thread);
+    if (begun == NULL)
+        return not_a_reply(store, ended);
+    begun->open = false;
+    store->records[node] += closed;
+    if (commit != NULL)
+        *commit = made;
+    return flush ? flushed(store, node, acked) : LCRVM_OK;
+}
+
+enum lcrvm_status lcrvm_end_transaction(struct lcrvm_store *store, uint32_t node, uint32_t thread, bool flush, struct lcrvm_commit *commit)
+{
+    enum lcrvm_status status = ready(store);
+    if (status == LCRVM_OK)
+        status = end_now(store, node, thread, flush, commit);
+    if (status != LCRVM_FULL || !can_make_again(store, node, thread))
+        return status;
+    status = make_again(store, node, thread);
+    return status == LCRVM_OK ? end_now(store, node, thread, flush, commit) : status;
+}
+
+/* ---- logs, tokens and records */
+
+enum lcrvm_status lcrvm_flush(struct lcrvm_store *store, uint32_t node, uint64_t *records)
+{
+    char text[LINE_BYTES];
+    const struct line line = line_of("flush", node);
+    enum lcrvm_status status = ready(store);
+    if (status == LCRVM_OK)
+        status = ask(store, &line, 0, text);
+    if (status != LCRVM_OK)
+        return status;
+    status = node < store->geometry.nodes ? flushed(store, node, text) : refused(store, text);
+    if (status == LCRVM_OK && records != NULL)
+        *records = store->records[node];
+    return status;
+}
+
+enum lcrvm_status lcrvm_truncate(struct lcrvm_store *store, uint32_t node, uint64_t *rounds)
+{
+    enum lcrvm_status status = ready(store);
+    if (status == LCRVM_OK && node >= store->geometry.nodes) {
+        char text[LINE_BYTES];
+        const struct line line = line_of("truncate", node);
+        status = ask(store, &line, 0, text);
+        return status == LCRVM_OK ? refused(store, text) : status;
+    }
+    if (status == LCRVM_OK)
+        status = truncate_now(store, node);
+    if (status == LCRVM_OK && rounds != NULL)
+        *rounds = store->rounds[node];
+    return status;
+}
+
+/* Does this to the segment's token, which is then at the place. */
+static enum lcrvm_status move_token(struct lcrvm_store *store, const char *word, uint32_t node, uint32_t segment, int place)
+{
+    const struct line line = line_of_segment(word, node, segment);
+    enum lcrvm_status status = ready(store);
+    if (status == LCRVM_OK)
+        status = carry_out(store, &line, false, RESERVED);
+    if (status == LCRVM_OK && segment <= MOST_SEGMENTS)
+        store->tokens[segment] = place;
+    return status;
+}
+
+enum lcrvm_status lcrvm_leave(struct lcrvm_store *store, uint32_t node, uint32_t segment)
+{
+    return move_token(store, "leave", node, segment, ON_ITS_WAY);
+}
+
+enum lcrvm_status lcrvm_arrive(struct lcrvm_store *store, uint32_t node, uint32_t segment)
+{
+    return move_token(store, "arrive", node, segment, (int)node);
+}
+
+enum lcrvm_status lcrvm_deliver(struct lcrvm_store *store, uint32_t node, uint64_t record, uint32_t segment, uint32_t to,
+                                struct lcrvm_delivered *delivered)
+{
+    char text[LINE_BYTES];
+    struct line line = {{0}, NULL, 0};
+    snprintf(line.text, sizeof line.text, "deliver %u %" PRIu64 " %" PRIu32 " %u", bounded(node), record, segment, bounded(to));
+    enum lcrvm_status status = ready(store);
+    if (status == LCRVM_OK)
+        status = ask(store, &line, RESERVED, text);
+    if (status != LCRVM_OK)
+        return status;
+    struct lcrvm_delivered was = {LCRVM_APPLIED, 0};
+    if (strcmp(text, "held back") == 0)
+        was.delivery = LCRVM_HELD_BACK;
+    else if (strcmp(text, "ignored") == 0)
+        was.delivery = LCRVM_IGNORED;
+    else if (!is_counted(text, "applied", &was.applied))
+        return refused(store, text);
+    if (delivered != NULL)
+        *delivered = was;
+    return LCRVM_OK;
+}
+
+enum lcrvm_status lcrvm_trim(struct lcrvm_store *store, uint32_t node, uint64_t *count)
+{
+    char text[LINE_BYTES];
+    uint64_t trimmed;
+    const struct line line = line_of("trim", node);
+    enum lcrvm_status status = ready(store);
+    if (status == LCRVM_OK)
+        status = ask(store, &line, RESERVED, text);
+    if (status != LCRVM_OK)
+        return status;
+    if (!is_counted(text, "trimmed", &trimmed))
+        return refused(store, text);
+    if (count != NULL)
+        *count = trimmed;
+    return LCRVM_OK;
+}
+
+const struct lcrvm_fault *lcrvm_fault_of(const struct lcrvm_store *store)
+{
+    return &store->last;
+}
+
+const struct lcrvm_geometry *lcrvm_geometry_of(const struct lcrvm_store *store)
+{
+    return &store->geometry;
+}
+
+long lcrvm_process_of(const struct lcrvm_store *store)
+{
+    return (long)store->run.process;
+}
+
+/* ---- stores in folders */
+
+static const struct lcrvm_options no_options;
+static const struct lcrvm_geometry least = {1, 1, 1, 1, 64};
+
+static void free_words(char *words[])
+{
+    for (; *words != NULL; words++) {
+        free(*words);
+        *words = NULL;
+    }
+}
+
+/* A text that is made of two, in memory of its own. */
+static char *joined(const char *first, const char *second)
+{
+    size_t length = strlen(first) + strlen(second) + 1;
+    char *text = malloc(length);
+    if (text != NULL)
+        snprintf(text, length, "%s%s", first, second);
+    return text;
+}
+
+static bool add_word(char *words[], char *word)
+{
+    while (*words != NULL)
+        words++;
+    *words = word;
+    return word != NULL;
+}
+
+static bool add_option(char *words[], const char *name, uint32_t value)
+{
+    char number[OPTION_BYTES];
+    snprintf(number, sizeof number, "%" PRIu32, value);
+    return add_word(words, joined(name, number));
+}
+
+static bool add_geometry(char *words[], const struct lcrvm_geometry *geometry)
+{
+    return add_option(words, "--nodes=", geometry->nodes) && add_option(words, "--threads=", geometry->threads) &&
+           add_option(words, "--segments=", geometry->segments) && add_option(words, "--pages=", geometry->pages) &&
+           add_option(words, "--words=", geometry->words);
+}
+
+static const char *program_of(const struct lcrvm_options *options)
+{
+    return options->program != NULL ? options->program : "lcrvm";
+}
+
+/* How long this file of the store is, or -1 where there is none. */
+static long long length_of_file(const char *folder, const char *name, unsigned number)
+{
+    char file[OPTION_BYTES];
+    struct stat found;
+    snprintf(file, sizeof file, "/%s%u", name, number);
+    char *path = joined(folder, file);
+    bool is_there = path != NULL && stat(path, &found) == 0;
+    free(path);
+    return is_there ? (long long)found.st_size : -1;
+}
+
+/* The geometry that the lengths of a store's files tell. */
+static struct lcrvm_geometry found_geometry(const char *folder)
+{
+    struct lcrvm_geometry geometry = {0, 1, 0, 0, 0};
+    while (geometry.nodes < MOST_NODES && length_of_file(folder, "log", geometry.nodes) >= 0)
+        geometry.nodes++;
+    while (geometry.segments < MOST_SEGMENTS && length_of_file(folder, "seg", geometry.segments + 1) >= 0)
+        geometry.segments++;
+    geometry.pages = (uint32_t)(length_of_file(folder, "seg", 1) / PAGE_AREA_BYTES);
+    geometry.words = (uint32_t)(length_of_file(folder, "log", 0) / WORD_BYTES - 1);
+    return geometry;
+}
+
+/* Reads what a program that makes a store says, and waits for its end. */
+static void read_creation(struct run *run, struct lcrvm_fault *fault)
+{
+    char text[LINE_BYTES];
+    close_file(&run->input);
+    read_line(run, text, 0);
+    wait_for(run, false);
+    read_end(run, text, fault);
+    if (fault->signal == 0 && fault->exit_status == 0)
+        fill_fault(fault, LCRVM_OK, "");
+    else if (strcmp(text, "refused Exists") == 0)
+        fill_fault(fault, LCRVM_EXISTS, "");
+}
+
+enum lcrvm_status lcrvm_create(const char *folder, const struct lcrvm_options *options, struct lcrvm_fault *fault)
+{
+    char *words[MOST_ARGUMENTS + 1] = {NULL};
+    struct lcrvm_fault said;
+    options = options != NULL ? options : &no_options;
+    struct run *run = malloc(sizeof *run);
+    fill_fault(&said, LCRVM_CLIENT_MEMORY, "");
+    bool made = run != NULL && add_word(words, joined(program_of(options), "")) && add_word(words, joined("init", "")) &&
+                add_word(words, joined(folder, "")) && add_geometry(words, options->geometry != NULL ? options->geometry : &least);
+    if (made) {
+        int error = start_run(run, words);
+        if (error != 0)
+            fill_fault(&said, LCRVM_NOT_STARTED, strerror(error));
+        else
+            read_creation(run, &said);
+        close_run(run);
+    }
+    free_words(words);
+    free(run);
+    tell(fault, &said);
+    return said.status;
+}
+
+static void free_store(struct lcrvm_store *store)
+{
+    free_words(store->arguments);
+    free(store);
+}
+
+static bool add_arguments(struct lcrvm_store *store, const char *folder, const struct lcrvm_options *options)
+{
+    char **words = store->arguments;
+    return add_word(words, joined(program_of(options), "")) && add_word(words, joined("run", "")) && add_word(words, joined("--follow", "")) &&
+           add_word(words, joined("--store=", folder)) &&
+           (options->geometry != NULL ? add_geometry(words, options->geometry) : add_word(words, joined("--as-found", "")));
+}
+
+enum lcrvm_status lcrvm_open(const char *folder, const struct lcrvm_options *options, struct lcrvm_store **store, struct lcrvm_fault *fault)
+{
+    *store = NULL;
+    options = options != NULL ? options : &no_options;
+    struct lcrvm_store *opened = calloc(1, sizeof *opened);
+    if (opened == NULL || !add_arguments(opened, folder, options)) {
+        if (opened != NULL)
+            free_store(opened);
+        if (fault != NULL)
+            fill_fault(fault, LCRVM_CLIENT_MEMORY, "");
+        return LCRVM_CLIENT_MEMORY;
+    }
+    enum lcrvm_status status = start(opened);
+    if (status != LCRVM_OK) {
+        tell(fault, &opened->last);
+        free_store(opened);
+        return status;
+    }
+    /* From here on the folder is locked, so the files stay as long as they are. */
+    opened->geometry = options->geometry != NULL ? *options->geometry : found_geometry(folder);
+    opened->truncate_when_full = options->truncate_when_full;
+    for (uint32_t segment = 1; segment <= opened->geometry.segments && segment <= MOST_SEGMENTS; segment++)
+        opened->tokens[segment] = (int)(segment % opened->geometry.nodes);
+    *store = opened;
+    return LCRVM_OK;
+}
+
+enum lcrvm_status lcrvm_close(struct lcrvm_store *store, struct lcrvm_fault *fault)
+{
+    enum lcrvm_status status = store->dead ? store->last.status : end_run(store);
+    if (status != LCRVM_OK)
+        tell(fault, &store->last);
+    else if (fault != NULL)
+        fill_fault(fault, LCRVM_OK, "");
+    free_store(store);
+    return status;
+}

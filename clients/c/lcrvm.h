@@ -1,0 +1,184 @@
+/* Recoverable virtual memory from C: a client of the program lcrvm, by C11 and POSIX alone.
+
+   lcrvm_open starts `lcrvm run --follow` on a store in a folder and speaks its script lines. A call answers LCRVM_OK, or why it did nothing:
+
+   - LCRVM_DOWN to LCRVM_READ_ONLY but LCRVM_DEVICE_FAULT: the program refused the line. Nothing has changed, and the store goes on.
+   - LCRVM_SPENT: the lines of this run are used up. What is open can still be ended or aborted, flushed and closed.
+   - The others: the run is over, and each later call answers the same.
+
+   lcrvm_fault_of has the fields of the last answer that was not LCRVM_OK.
+
+   Lines that cannot be refused are sent ahead, and their replies are read with the next one that is waited for: a begin, a set_range, a write
+   and an end together are one write and one read. A line that the client is not sure of is waited for, so a refusal is answered by
+   the very call that it is of. No call allocates but lcrvm_open and lcrvm_create. A store is used by one thread at a time.
+
+   cc -std=c11 -Wall -Wextra -O2 -c lcrvm.c */
+#ifndef LCRVM_H
+#define LCRVM_H
+
+#include <stdbool.h>
+#include <stddef.h>
+#include <stdint.h>
+
+enum lcrvm_status {
+    LCRVM_OK = 0,
+
+    /* Refusals, by their numbers. Behind each are its fields. */
+    LCRVM_DOWN = 1,           /* the store is down */
+    LCRVM_UNKNOWN = 2,        /* a number is outside the geometry, or no record has it */
+    LCRVM_HALTED = 3,         /* a device of the node has failed */
+    LCRVM_OUT_OF_TURN = 4,    /* a transaction is open already, or none is; so it is with tokens */
+    LCRVM_BUSY = 5,           /* another transaction has the segment's lock: segment */
+    LCRVM_NOT_HERE = 6,       /* the segment's token is not at the node: segment */
+    LCRVM_NOT_LOCKED = 7,     /* the transaction did not lock the segment */
+    LCRVM_EMPTY_RANGE = 8,    /* the range has no bytes */
+    LCRVM_OUT_OF_SEGMENT = 9, /* the bytes reach past the segment; of a recovery: so do those of a record in the area: area */
+    LCRVM_NO_RANGE = 10,      /* some byte was not set */
+    LCRVM_TOO_MANY_RANGES = 11, /* more than 64 ranges would stand */
+    LCRVM_SEQUENCE_SPENT = 12,  /* the segment has had its last number: segment */
+    LCRVM_TOO_LONG = 13,        /* the record would have more than 4,096 words: words */
+    LCRVM_SEALED = 14,          /* the log is being emptied */
+    LCRVM_FULL = 15,            /* the log has no room, and the transaction is still open: tail, need */
+    LCRVM_HELD = 16,            /* a transaction holds the segment */
+    LCRVM_WRITING = 17,         /* a page of the segment is being written */
+    LCRVM_UNFLUSHED = 18,       /* a record of the node is not stable */
+    LCRVM_BEHIND = 19,          /* the node has not applied all that the token has counted: applied, sequence */
+    LCRVM_UNCOMMITTED = 20,     /* a transaction that is not over has a range on the page */
+    LCRVM_NOT_NEWER = 21,       /* the page on the device has all of the segment's numbers */
+    LCRVM_UNCLEAN = 22,         /* a record of the log may not be on the pages: segment, sequence */
+    LCRVM_ROUNDS_SPENT = 23,    /* the log has had its last round */
+    LCRVM_DEVICE_FAULT = 24,    /* a device has failed, or a file could not be opened; the run is over: text */
+    LCRVM_BAD_GEOMETRY = 25,    /* an area has another length, or a record in it is of another node: area */
+    LCRVM_TWICE = 26,           /* two records have the same number: segment, sequence */
+    LCRVM_GAP = 27,             /* a number is missing: segment, sequence */
+    LCRVM_READ_ONLY = 28,       /* the segment is locked for reading alone: segment */
+
+    /* The run is over. */
+    LCRVM_NO_MEMORY = 64,   /* the program had no memory */
+    LCRVM_STORE_IN_USE,     /* another process has the store open: text */
+    LCRVM_DIED,             /* the program ended by itself: exit_status, signal, text */
+    LCRVM_NOT_STARTED,      /* the program could not be started: text */
+    LCRVM_NOT_A_REPLY,      /* the program printed what is no reply to its line: text */
+
+    LCRVM_SPENT = 96,       /* the lines of this run are used up; the store goes on */
+    LCRVM_EXISTS,           /* something stands under the name of a file that lcrvm_create is to make */
+    LCRVM_CLIENT_MEMORY     /* lcrvm_open or lcrvm_create had no memory */
+};
+
+/* Why a call did nothing. Fields that its status does not name are 0, and the text is empty. */
+struct lcrvm_fault {
+    enum lcrvm_status status;
+    bool has_area; /* of LCRVM_OUT_OF_SEGMENT, which may have an area or none */
+    uint64_t segment, sequence, applied, area, words, tail, need;
+    int exit_status, signal;
+    char text[256]; /* what the program said on standard error, the system's reason, or the line that is no reply; cut short */
+};
+
+/* How large a store is. */
+struct lcrvm_geometry {
+    uint32_t nodes;    /* 1 to 8 */
+    uint32_t threads;  /* of a node: 1 to 16 */
+    uint32_t segments; /* 1 to 16 */
+    uint32_t pages;    /* of a segment, 256 bytes each: 1 to 1024 */
+    uint32_t words;    /* of a log, 8 bytes each: 64 to 4096 */
+};
+
+struct lcrvm_options {
+    const char *program;                   /* NULL: lcrvm, as the path has it */
+    const struct lcrvm_geometry *geometry; /* NULL: as the files say, with one thread a node; of lcrvm_create the least */
+    bool truncate_when_full;               /* see lcrvm_end_transaction */
+};
+
+/* Where a commit's record stands in its node's log, and how long it is, in words of 8 bytes. No words: no range was set. */
+struct lcrvm_commit {
+    uint64_t place, words;
+};
+
+enum lcrvm_delivery { LCRVM_APPLIED, LCRVM_HELD_BACK, LCRVM_IGNORED };
+
+/* What became of a record that was delivered; `applied` is the number up to which its segment is, where it was applied. */
+struct lcrvm_delivered {
+    enum lcrvm_delivery delivery;
+    uint64_t applied;
+};
+
+struct lcrvm_store;
+
+/* Makes a new store, of zeros, in a folder that is there. Options and fault may be NULL. */
+enum lcrvm_status lcrvm_create(const char *folder, const struct lcrvm_options *options, struct lcrvm_fault *fault);
+
+/* Opens the store in a folder and recovers it. *store is NULL where it is not opened, and the fault, which may be NULL, says why: beside what
+   ends a run, BAD_GEOMETRY, GAP, TWICE or OUT_OF_SEGMENT of a recovery that is refused. Options may be NULL. */
+enum lcrvm_status lcrvm_open(const char *folder, const struct lcrvm_options *options, struct lcrvm_store **store, struct lcrvm_fault *fault);
+
+/* Ends the run and frees the store, whatever the answer. The fault may be NULL. A transaction that is open is given up, and so is a commit that
+   was not flushed. */
+enum lcrvm_status lcrvm_close(struct lcrvm_store *store, struct lcrvm_fault *fault);
+
+/* Begins a transaction of a thread, and locks segments for writing and others for reading.
+   UNKNOWN, OUT_OF_TURN, NOT_HERE, BUSY. */
+enum lcrvm_status lcrvm_begin_transaction(struct lcrvm_store *store, uint32_t node, uint32_t thread, const uint32_t *segments, size_t count,
+                                          const uint32_t *reading, size_t reading_count);
+
+/* Says that the transaction is about to change these bytes of a segment that it locked for writing.
+   UNKNOWN, OUT_OF_TURN, NOT_LOCKED, READ_ONLY, EMPTY_RANGE, OUT_OF_SEGMENT, TOO_MANY_RANGES. */
+enum lcrvm_status lcrvm_set_range(struct lcrvm_store *store, uint32_t node, uint32_t thread, uint32_t segment, uint32_t offset, uint32_t length);
+
+/* Writes these bytes inside the transaction's ranges. Of no bytes no line is sent.
+   UNKNOWN, OUT_OF_TURN, NOT_LOCKED, READ_ONLY, OUT_OF_SEGMENT, NO_RANGE. */
+enum lcrvm_status lcrvm_write(struct lcrvm_store *store, uint32_t node, uint32_t thread, uint32_t segment, uint32_t offset, const void *bytes,
+                              uint32_t length);
+
+/* Reads bytes of a segment that the transaction locked, with what it wrote.
+   UNKNOWN, OUT_OF_TURN, NOT_LOCKED, OUT_OF_SEGMENT. */
+enum lcrvm_status lcrvm_read(struct lcrvm_store *store, uint32_t node, uint32_t thread, uint32_t segment, uint32_t offset, void *bytes,
+                             uint32_t length);
+
+/* Commits the transaction. With `flush` the node's log is flushed in the same round trip, so the commit is stable behind it. `commit` may be NULL.
+   Still open behind SEQUENCE_SPENT, TOO_LONG, SEALED, FULL. Where the store was opened with truncate_when_full, FULL is answered by an
+   abort, a truncation and the same transaction again, once. FULL is the answer all the same where another transaction of the node has ranges,
+   where the truncation is refused, and where it does not help; this transaction is open then as before. */
+enum lcrvm_status lcrvm_end_transaction(struct lcrvm_store *store, uint32_t node, uint32_t thread, bool flush, struct lcrvm_commit *commit);
+
+/* Ends the transaction without a commit: the bytes are as before it.
+   UNKNOWN, OUT_OF_TURN. */
+enum lcrvm_status lcrvm_abort_transaction(struct lcrvm_store *store, uint32_t node, uint32_t thread);
+
+/* Makes all commits of the node stable; `records`, which may be NULL, is how many it has had since the store was opened.
+   UNKNOWN. */
+enum lcrvm_status lcrvm_flush(struct lcrvm_store *store, uint32_t node, uint64_t *records);
+
+/* Flushes the node's log, writes its pages and empties the log; `rounds`, which may be NULL, is how often it was emptied since the store was opened.
+   UNKNOWN, UNCOMMITTED, UNFLUSHED, UNCLEAN, ROUNDS_SPENT. What was done in front of the refusal stays done. */
+enum lcrvm_status lcrvm_truncate(struct lcrvm_store *store, uint32_t node, uint64_t *rounds);
+
+/* Takes the segment's token from the node.
+   UNKNOWN, NOT_HERE, HELD, WRITING, UNFLUSHED. */
+enum lcrvm_status lcrvm_leave(struct lcrvm_store *store, uint32_t node, uint32_t segment);
+
+/* Gives the token that is on its way to the node.
+   UNKNOWN, OUT_OF_TURN, BEHIND. */
+enum lcrvm_status lcrvm_arrive(struct lcrvm_store *store, uint32_t node, uint32_t segment);
+
+/* Brings a stable record of a node, by its number from 1 on, to another node, for one segment. `delivered` may be NULL.
+   UNKNOWN. */
+enum lcrvm_status lcrvm_deliver(struct lcrvm_store *store, uint32_t node, uint64_t record, uint32_t segment, uint32_t to,
+                                struct lcrvm_delivered *delivered);
+
+/* Drops the node's stable records that all nodes have applied; `count`, which may be NULL, is how many these were.
+   UNKNOWN. */
+enum lcrvm_status lcrvm_trim(struct lcrvm_store *store, uint32_t node, uint64_t *count);
+
+/* The fault of the last call that did not answer LCRVM_OK. */
+const struct lcrvm_fault *lcrvm_fault_of(const struct lcrvm_store *store);
+
+/* How large the store is. */
+const struct lcrvm_geometry *lcrvm_geometry_of(const struct lcrvm_store *store);
+
+/* The number of the process that serves the store now. */
+long lcrvm_process_of(const struct lcrvm_store *store);
+
+/* A status in words, as `Full` or `store in use`. */
+const char *lcrvm_status_text(enum lcrvm_status status);
+
+#endif
