@@ -1,0 +1,439 @@
+/* Measures transactions over the C client, each beside the same changes by hand on two files, in alternating rounds.
+
+   usage: bench [--short] PROGRAM [FOLDER]     (FOLDER: where the files stand, by itself where it runs)
+
+   The store has 64 pages of 256 bytes and a log of 4,096 words; a change is 5 bytes at a random place, from a fixed seed. By hand a commit keeps the old
+   bytes, sets the new ones in memory and makes a record of 64 bytes; a flush is four calls on a file of records: the records but for their first
+   byte, a sync, that byte, a sync. An emptied log is one write of all pages and a sync, and one byte of the log and a sync. Both change the same
+   bytes in the same order, and at the end they are compared. It takes a minute or two; with --short, a few seconds.
+
+   cc -std=c11 -Wall -Wextra -O2 bench.c lcrvm.c -o bench */
+#define _POSIX_C_SOURCE 200809L
+
+#include "lcrvm.h"
+
+#include <fcntl.h>
+#include <inttypes.h>
+#include <stdio.h>
+#include <stdlib.h>
+#include <string.h>
+#include <sys/stat.h>
+#include <time.h>
+#include <unistd.h>
+
+enum {
+    PAGES = 64,
+    SEGMENT_BYTES = PAGES * 256,
+    CHANGE_BYTES = 5,
+    RECORD_BYTES = 64,
+    LOG_WORDS = 4096,
+    LOG_BYTES = LOG_WORDS * 8,
+    LOG_RECORDS = LOG_BYTES / RECORD_BYTES,
+    GROUP = 8,
+    MOST_CHANGES = 1200,
+    MOST_ROUNDS = 9,
+    PATH_BYTES = 512,
+    MARK = 0xa5
+};
+
+struct change {
+    uint32_t offset;
+    unsigned char bytes[CHANGE_BYTES];
+};
+
+/* What is done by hand: a file of records and one of pages, the bytes in memory, and the records that are not in the file. */
+struct hand {
+    int log, pages;
+    char log_path[PATH_BYTES], pages_path[PATH_BYTES];
+    size_t pending, tail;
+    unsigned char memory[SEGMENT_BYTES], records[LOG_BYTES + 8];
+};
+
+struct bench {
+    char folder[PATH_BYTES];
+    struct lcrvm_options options;
+    struct lcrvm_store *store;
+    struct hand hand;
+    uint64_t seed;
+    struct change changes[MOST_CHANGES];
+};
+
+/* One kind of work: so many changes a round, of which so many are one unit. */
+struct work {
+    const char *name, *unit;
+    int changes, short_changes, changes_of_unit;
+    void (*prepare)(struct bench *bench, int count);
+    void (*by_store)(struct bench *bench, int count);
+    void (*by_hand)(struct bench *bench, int count);
+};
+
+static void stop(const char *what)
+{
+    perror(what);
+    exit(1);
+}
+
+static void need(struct bench *bench, enum lcrvm_status status)
+{
+    if (status == LCRVM_OK)
+        return;
+    fprintf(stderr, "bench: %s %s\n", lcrvm_status_text(status), bench->store != NULL ? lcrvm_fault_of(bench->store)->text : "");
+    exit(1);
+}
+
+static double now(void)
+{
+    struct timespec at;
+    clock_gettime(CLOCK_MONOTONIC, &at);
+    return (double)at.tv_sec * 1e6 + (double)at.tv_nsec / 1e3;
+}
+
+/* Marsaglia's xorshift. */
+static uint64_t random_number(struct bench *bench)
+{
+    bench->seed ^= bench->seed << 13;
+    bench->seed ^= bench->seed >> 7;
+    bench->seed ^= bench->seed << 17;
+    return bench->seed;
+}
+
+static void choose_changes(struct bench *bench, int count)
+{
+    for (int i = 0; i < count; i++) {
+        bench->changes[i].offset = (uint32_t)(random_number(bench) % (SEGMENT_BYTES - CHANGE_BYTES + 1));
+        uint64_t bytes = random_number(bench);
+        memcpy(bench->changes[i].bytes, &bytes, CHANGE_BYTES);
+    }
+}
+
+/* ---- by the store */
+
+static void open_store(struct bench *bench)
+{
+    struct lcrvm_fault fault;
+    if (lcrvm_open(bench->folder, &bench->options, &bench->store, &fault) != LCRVM_OK) {
+        fprintf(stderr, "bench: %s %s\n", lcrvm_status_text(fault.status), fault.text);
+        exit(1);
+    }
+}
+
+static void close_store(struct bench *bench)
+{
+    enum lcrvm_status status = lcrvm_close(bench->store, NULL);
+    bench->store = NULL;
+    need(bench, status);
+}
+
+static void store_change(struct bench *bench, const struct change *change)
+{
+    const uint32_t segment = 1;
+    need(bench, lcrvm_begin_transaction(bench->store, 0, 0, &segment, 1, NULL, 0));
+    need(bench, lcrvm_set_range(bench->store, 0, 0, segment, change->offset, CHANGE_BYTES));
+    need(bench, lcrvm_write(bench->store, 0, 0, segment, change->offset, change->bytes, CHANGE_BYTES));
+}
+
+/* Commits the changes, and flushes behind each group of so many; of none, never. */
+static void store_commits(struct bench *bench, int count, int group)
+{
+    for (int i = 0; i < count; i++) {
+        store_change(bench, &bench->changes[i]);
+        need(bench, lcrvm_end_transaction(bench->store, 0, 0, group > 0 && (i + 1) % group == 0, NULL));
+    }
+}
+
+static void store_lazy(struct bench *bench, int count)
+{
+    store_commits(bench, count, 0);
+}
+
+static void store_aborts(struct bench *bench, int count)
+{
+    for (int i = 0; i < count; i++) {
+        store_change(bench, &bench->changes[i]);
+        need(bench, lcrvm_abort_transaction(bench->store, 0, 0));
+    }
+    /* Lines that are sent ahead are done behind the reply of one that is waited for. */
+    need(bench, lcrvm_flush(bench->store, 0, NULL));
+}
+
+static void store_durable(struct bench *bench, int count)
+{
+    store_commits(bench, count, 1);
+}
+
+static void store_groups(struct bench *bench, int count)
+{
+    store_commits(bench, count, GROUP);
+}
+
+static void store_reopen(struct bench *bench, int count)
+{
+    (void)count;
+    open_store(bench);
+}
+
+/* ---- by hand */
+
+static void hand_open(struct hand *hand)
+{
+    hand->log = open(hand->log_path, O_RDWR | O_CREAT, 0666);
+    hand->pages = open(hand->pages_path, O_RDWR | O_CREAT, 0666);
+    if (hand->log < 0 || hand->pages < 0)
+        stop("open");
+}
+
+static void hand_close(struct hand *hand)
+{
+    close(hand->log);
+    close(hand->pages);
+}
+
+static void hand_write(int file, const void *bytes, size_t length, size_t at)
+{
+    if (pwrite(file, bytes, length, (off_t)at) != (ssize_t)length)
+        stop("pwrite");
+}
+
+static void hand_sync(int file)
+{
+    if (fdatasync(file) != 0)
+        stop("fdatasync");
+}
+
+/* Keeps the old bytes, sets the new ones, and gives the old ones back where it is an abort. */
+static void hand_set(struct hand *hand, const struct change *change, bool aborts)
+{
+    unsigned char old[CHANGE_BYTES];
+    unsigned char *place = hand->memory + change->offset;
+    memcpy(old, place, CHANGE_BYTES);
+    memcpy(place, change->bytes, CHANGE_BYTES);
+    if (aborts)
+        memcpy(place, old, CHANGE_BYTES);
+}
+
+static void hand_append(struct hand *hand, const struct change *change)
+{
+    unsigned char *record = hand->records + hand->tail + hand->pending;
+    memset(record, 0, RECORD_BYTES);
+    record[0] = MARK;
+    memcpy(record + 32, &change->offset, sizeof change->offset);
+    memcpy(record + 48, change->bytes, CHANGE_BYTES);
+    hand->pending += RECORD_BYTES;
+}
+
+static void hand_flush(struct hand *hand)
+{
+    if (hand->pending == 0)
+        return;
+    const unsigned char *group = hand->records + hand->tail;
+    memset(hand->records + hand->tail + hand->pending, 0, 8);
+    hand_write(hand->log, group + 1, hand->pending + 7, hand->tail + 1);
+    hand_sync(hand->log);
+    hand_write(hand->log, group, 1, hand->tail);
+    hand_sync(hand->log);
+    hand->tail += hand->pending;
+    hand->pending = 0;
+}
+
+static void hand_empty(struct hand *hand)
+{
+    const unsigned char closed = 0;
+    hand_flush(hand);
+    hand_write(hand->pages, hand->memory, SEGMENT_BYTES, 0);
+    hand_sync(hand->pages);
+    hand_write(hand->log, &closed, 1, 0);
+    hand_sync(hand->log);
+    hand->tail = 0;
+}
+
+static void hand_commits(struct bench *bench, int count, int group)
+{
+    struct hand *hand = &bench->hand;
+    for (int i = 0; i < count; i++) {
+        hand_set(hand, &bench->changes[i], false);
+        if (hand->tail + hand->pending + RECORD_BYTES > LOG_BYTES)
+            hand_empty(hand);
+        hand_append(hand, &bench->changes[i]);
+        if (group > 0 && (i + 1) % group == 0)
+            hand_flush(hand);
+    }
+}
+
+static void hand_lazy(struct bench *bench, int count)
+{
+    hand_commits(bench, count, 0);
+}
+
+static void hand_aborts(struct bench *bench, int count)
+{
+    for (int i = 0; i < count; i++)
+        hand_set(&bench->hand, &bench->changes[i], true);
+}
+
+static void hand_durable(struct bench *bench, int count)
+{
+    hand_commits(bench, count, 1);
+}
+
+static void hand_groups(struct bench *bench, int count)
+{
+    hand_commits(bench, count, GROUP);
+}
+
+/* Reads the pages and the records, does these, writes the pages, and empties the log. */
+static void hand_reopen(struct bench *bench, int count)
+{
+    struct hand *hand = &bench->hand;
+    (void)count;
+    hand_open(hand);
+    ssize_t read_pages = pread(hand->pages, hand->memory, SEGMENT_BYTES, 0);
+    ssize_t length = pread(hand->log, hand->records, LOG_BYTES + 8, 0);
+    if (read_pages != SEGMENT_BYTES || length < 0)
+        stop("pread");
+    hand->tail = hand->pending = 0;
+    for (; hand->tail + RECORD_BYTES <= (size_t)length && hand->records[hand->tail] == MARK; hand->tail += RECORD_BYTES) {
+        uint32_t offset;
+        memcpy(&offset, hand->records + hand->tail + 32, sizeof offset);
+        memcpy(hand->memory + offset, hand->records + hand->tail + 48, CHANGE_BYTES);
+    }
+    hand_empty(hand);
+}
+
+/* ---- before a round */
+
+static void empty_both(struct bench *bench, int count)
+{
+    (void)count;
+    need(bench, lcrvm_truncate(bench->store, 0, NULL));
+    hand_empty(&bench->hand);
+}
+
+static void leave_commits(struct bench *bench, int count)
+{
+    empty_both(bench, count);
+    store_commits(bench, count, 0);
+    need(bench, lcrvm_flush(bench->store, 0, NULL));
+    close_store(bench);
+    hand_commits(bench, count, 0);
+    hand_flush(&bench->hand);
+    hand_close(&bench->hand);
+}
+
+/* ---- the table */
+
+static const struct work works[] = {
+    {"lazy commits", "commit", 400, 40, 1, empty_both, store_lazy, hand_lazy},
+    {"aborts", "abort", 400, 40, 1, empty_both, store_aborts, hand_aborts},
+    {"durable commits", "commit", 32, 4, 1, empty_both, store_durable, hand_durable},
+    {"durable commits, 8 to a flush", "8 commits", 256, 16, GROUP, empty_both, store_groups, hand_groups},
+    {"reopening with 400 commits behind", "opening", 400, 400, 400, leave_commits, store_reopen, hand_reopen},
+    {"sustained, 8 to a flush, with truncations", "commit", 1200, 600, 1, empty_both, store_groups, hand_groups},
+};
+
+static int compare(const void *left, const void *right)
+{
+    double one = *(const double *)left, two = *(const double *)right;
+    return (one > two) - (one < two);
+}
+
+static double timed(void (*does)(struct bench *, int), struct bench *bench, int count)
+{
+    double start = now();
+    does(bench, count);
+    return now() - start;
+}
+
+/* Measures in turn, by the store first and by hand first, and prints the medians and the least of both. */
+static void measure(struct bench *bench, const struct work *work, int rounds, bool is_short)
+{
+    double by_store[MOST_ROUNDS], by_hand[MOST_ROUNDS];
+    int count = is_short ? work->short_changes : work->changes;
+    double units = (double)count / work->changes_of_unit;
+    for (int round = 0; round < rounds; round++) {
+        choose_changes(bench, count);
+        work->prepare(bench, count);
+        if (round % 2 == 1)
+            by_hand[round] = timed(work->by_hand, bench, count);
+        by_store[round] = timed(work->by_store, bench, count);
+        if (round % 2 == 0)
+            by_hand[round] = timed(work->by_hand, bench, count);
+    }
+    qsort(by_store, (size_t)rounds, sizeof by_store[0], compare);
+    qsort(by_hand, (size_t)rounds, sizeof by_hand[0], compare);
+    double middle = by_store[rounds / 2] / units, plain = by_hand[rounds / 2] / units;
+    printf("%-42s %-10s %11.1f %11.1f %11.2f %11.2f %8.2f\n", work->name, work->unit, middle, by_store[0] / units, plain, by_hand[0] / units,
+           middle / plain);
+    fflush(stdout);
+}
+
+/* How many replies a second the client waits for. */
+static void measure_round_trips(struct bench *bench, int count)
+{
+    double start = now();
+    for (int i = 0; i < count; i++)
+        need(bench, lcrvm_flush(bench->store, 0, NULL));
+    printf("\n%.0f round trips a second\n", count / (now() - start) * 1e6);
+}
+
+/* Whether the store has the bytes that were made by hand. */
+static bool agree(struct bench *bench)
+{
+    static unsigned char bytes[SEGMENT_BYTES];
+    const uint32_t segment = 1;
+    need(bench, lcrvm_begin_transaction(bench->store, 0, 0, NULL, 0, &segment, 1));
+    need(bench, lcrvm_read(bench->store, 0, 0, segment, 0, bytes, SEGMENT_BYTES));
+    need(bench, lcrvm_abort_transaction(bench->store, 0, 0));
+    return memcmp(bytes, bench->hand.memory, SEGMENT_BYTES) == 0;
+}
+
+static void remove_files(const struct bench *bench, const char *room)
+{
+    char path[PATH_BYTES + 8];
+    const char *const names[] = {"log0", "seg1"};
+    for (size_t i = 0; i < sizeof names / sizeof names[0]; i++) {
+        snprintf(path, sizeof path, "%s/%s", bench->folder, names[i]);
+        unlink(path);
+    }
+    rmdir(bench->folder);
+    unlink(bench->hand.log_path);
+    unlink(bench->hand.pages_path);
+    rmdir(room);
+}
+
+int main(int count, char *words[])
+{
+    static const struct lcrvm_geometry geometry = {1, 1, 1, PAGES, LOG_WORDS};
+    static struct bench bench;
+    char room[PATH_BYTES / 2];
+    bool is_short = count > 1 && strcmp(words[1], "--short") == 0;
+    int first = is_short ? 2 : 1, rounds = is_short ? 3 : MOST_ROUNDS;
+    if (count <= first || count > first + 2) {
+        fprintf(stderr, "usage: bench [--short] PROGRAM [FOLDER]\n");
+        return 2;
+    }
+    snprintf(room, sizeof room, "%.200s/bench.XXXXXX", count > first + 1 ? words[first + 1] : ".");
+    if (mkdtemp(room) == NULL)
+        stop(room);
+    snprintf(bench.folder, sizeof bench.folder, "%s/store", room);
+    snprintf(bench.hand.log_path, sizeof bench.hand.log_path, "%s/log", room);
+    snprintf(bench.hand.pages_path, sizeof bench.hand.pages_path, "%s/pages", room);
+    bench.options = (struct lcrvm_options){words[first], &geometry, true};
+    bench.seed = UINT64_C(0x9e3779b97f4a7c15);
+    if (mkdir(bench.folder, 0777) != 0)
+        stop(bench.folder);
+    need(&bench, lcrvm_create(bench.folder, &bench.options, NULL));
+    open_store(&bench);
+    hand_open(&bench.hand);
+
+    printf("microseconds for one; %d rounds, seed %" PRIx64 "\n\n", rounds, bench.seed);
+    printf("%-42s %-10s %11s %11s %11s %11s %8s\n", "", "one", "median", "least", "by hand", "least", "ratio");
+    for (size_t i = 0; i < sizeof works / sizeof works[0]; i++)
+        measure(&bench, &works[i], rounds, is_short);
+    measure_round_trips(&bench, is_short ? 1000 : 20000);
+    bool same = agree(&bench);
+    printf("%s\n", same ? "both have the same bytes" : "failed: the bytes differ");
+    close_store(&bench);
+    hand_close(&bench.hand);
+    remove_files(&bench, room);
+    return same ? 0 : 1;
+}
