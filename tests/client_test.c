@@ -185,6 +185,7 @@ static void test_nodes(struct test *test)
     ANSWERS(test, lcrvm_flush(store, 1, &number), LCRVM_OK);
     CHECK(test, number == 2);
     ANSWERS(test, lcrvm_leave(store, 1, 1), LCRVM_OK);
+    ANSWERS(test, begin(store, 1, 0, 1), LCRVM_NOT_HERE);
     ANSWERS(test, lcrvm_arrive(store, 0, 1), LCRVM_BEHIND);
     CHECK(test, fault_of(store)->applied == 0 && fault_of(store)->sequence == 2);
     ANSWERS(test, lcrvm_deliver(store, 1, 2, 1, 0, &delivered), LCRVM_OK);
@@ -343,10 +344,12 @@ static void test_a_full_log_is_truncated(struct test *test)
     struct lcrvm_store *store = made(test, &one, true);
     struct lcrvm_commit made_commit;
     uint64_t number = 0;
+    char bytes[4];
     fill(test, store);
     ANSWERS(test, put(store, 0, 1, 0, "none"), LCRVM_OK);
     ANSWERS(test, lcrvm_set_range(store, 0, 0, 1, 100, 2), LCRVM_OK);
     ANSWERS(test, lcrvm_write(store, 0, 0, 1, 0, "nine", 4), LCRVM_OK);
+    ANSWERS(test, lcrvm_write(store, 0, 0, 1, 101, "z", 1), LCRVM_OK);
     /* 3 + 2 + 2 * 2 words, and two of bytes; it is made again with what it wrote last, and byte 100 as it was. */
     ANSWERS(test, lcrvm_end_transaction(store, 0, 0, true, &made_commit), LCRVM_OK);
     CHECK(test, made_commit.place == 0 && made_commit.words == 11);
@@ -356,6 +359,7 @@ static void test_a_full_log_is_truncated(struct test *test)
     CHECK(test, number == 9);
     ANSWERS(test, begin(store, 0, 0, 1), LCRVM_OK);
     CHECK(test, reads(store, 0, 1, 0, "nine00001111"));
+    CHECK(test, lcrvm_read(store, 0, 0, 1, 99, bytes, 4) == LCRVM_OK && memcmp(bytes, "\0\0z", 4) == 0);
     close_well(test, store);
 }
 
@@ -364,14 +368,15 @@ static void test_a_full_log_that_stays_full(struct test *test)
     const struct lcrvm_geometry geometry = {1, 2, 2, 4, 64};
     struct lcrvm_store *store = made(test, &geometry, true);
     uint64_t rounds = 7;
+    ANSWERS(test, commit(store, 0, 1, 0, "x"), LCRVM_OK);
     /* 3 + 2 + 2 words, and 64 of bytes, which no truncation makes room for. */
     ANSWERS(test, begin(store, 0, 0, 1), LCRVM_OK);
     ANSWERS(test, lcrvm_set_range(store, 0, 0, 1, 0, 512), LCRVM_OK);
     ANSWERS(test, lcrvm_end_transaction(store, 0, 0, false, NULL), LCRVM_FULL);
-    CHECK(test, is_full(fault_of(store), 0, 71));
+    CHECK(test, is_full(fault_of(store), 8, 71));
     ANSWERS(test, lcrvm_abort_transaction(store, 0, 0), LCRVM_OK);
     ANSWERS(test, lcrvm_truncate(store, 0, &rounds), LCRVM_OK);
-    CHECK(test, rounds == 0);
+    CHECK(test, rounds == 1);
     /* Another transaction has a range. */
     fill(test, store);
     ANSWERS(test, begin(store, 0, 1, 2), LCRVM_OK);
@@ -411,7 +416,7 @@ static void test_a_full_log_whose_truncation_is_refused(struct test *test)
 
 static void test_many_lines(struct test *test)
 {
-    /* 25,000 replies of three bytes are more than a pipe holds, and so are their lines. */
+    /* 40,000 replies of three bytes are more than a pipe holds, and so are the lines behind those that fill it. */
     const struct lcrvm_geometry geometry = {1, 1, 1, 1024, 4096};
     struct lcrvm_store *store = made(test, &geometry, false);
     static unsigned char bytes[30000], back[262144];
@@ -420,8 +425,8 @@ static void test_many_lines(struct test *test)
         bytes[i] = (unsigned char)(i % 251);
     ANSWERS(test, begin(store, 0, 0, 1), LCRVM_OK);
     ANSWERS(test, lcrvm_set_range(store, 0, 0, 1, 100000, sizeof bytes), LCRVM_OK);
-    for (uint32_t i = 0; i < 25000; i++)
-        ANSWERS(test, lcrvm_write(store, 0, 0, 1, 100000 + i, &bytes[i], 1), LCRVM_OK);
+    for (uint32_t i = 0; i < 40000; i++)
+        ANSWERS(test, lcrvm_write(store, 0, 0, 1, 100000 + i % 30000, &bytes[i % 30000], 1), LCRVM_OK);
     ANSWERS(test, lcrvm_write(store, 0, 0, 1, 100000, bytes, sizeof bytes), LCRVM_OK);
     ANSWERS(test, lcrvm_end_transaction(store, 0, 0, true, &made_commit), LCRVM_OK);
     CHECK(test, made_commit.words == 3 + 2 + 3 + 3750);

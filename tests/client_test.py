@@ -128,6 +128,8 @@ class ClientTest(unittest.TestCase):
         self.commit(store, 1, 1, 0, b"two")
         self.assertEqual(store.flush(1), 2)
         store.leave(1, 1)
+        with self.refused(lcrvm.NotHere, segment=1):
+            store.begin_transaction(1, 0, [1])
         with self.refused(lcrvm.Behind, applied=0, sequence=2):
             store.arrive(0, 1)
         self.assertEqual(store.deliver(1, 2, 1, 0), lcrvm.Delivered(lcrvm.Delivery.HELD_BACK))
@@ -268,19 +270,23 @@ class ClientTest(unittest.TestCase):
         store.write(0, 0, 1, 0, b"none")
         store.set_range(0, 0, 1, 100, 2)
         store.write(0, 0, 1, 0, b"nine")
+        store.write(0, 0, 1, 101, b"z")
         # 3 + 2 + 2 * 2 words, and two of bytes; it is made again with what it wrote last, and byte 100 as it was.
         self.assertEqual(store.end_transaction(0, 0, flush=True), lcrvm.Commit(0, 11))
         self.assertEqual(store.truncate(0), 2)
         self.assertEqual(store.flush(0), 9)
         with store.transaction(0, 0, [1]) as transaction:
             self.assertEqual(transaction.read(1, 0, 9), b"nine\0\0\0\0\1")
+            self.assertEqual(transaction.read(1, 99, 4), b"\0\0z\0")
 
     def test_a_record_that_no_truncation_makes_room_for(self) -> None:
         store = self.made(lcrvm.Geometry(pages=4), truncate_when_full=True)
-        with self.refused(lcrvm.Full, tail=0, need=71):
+        self.commit(store, 0, 1, 0, b"x")
+        with self.refused(lcrvm.Full, tail=8, need=71):
             self.commit(store, 0, 1, 0, bytes(512))
         self.assertEqual(store.read(0, 0, 1, 0, 2), b"\0\0")
-        self.assertEqual(store.truncate(0), 0)
+        store.abort_transaction(0, 0)
+        self.assertEqual(store.truncate(0), 1)
 
     def test_a_full_log_with_another_transaction(self) -> None:
         store = self.made(lcrvm.Geometry(threads=2, segments=2), truncate_when_full=True)
@@ -316,14 +322,14 @@ class ClientTest(unittest.TestCase):
     # ---- many lines
 
     def test_many_lines_are_sent_ahead(self) -> None:
-        # 25,000 replies of three bytes are more than a pipe holds, and so are their lines.
+        # 40,000 replies of three bytes are more than a pipe holds, and so are the lines behind those that fill it.
         store = self.made(lcrvm.Geometry(pages=64, words=4096))
         data = bytes(number % 251 for number in range(10_000))
         with store.transaction(0, 0, [1], flush=True) as transaction:
             transaction.set_range(1, 0, 10_000)
             for offset in range(10_000):
                 transaction.write(1, offset, data[offset : offset + 1])
-            for _ in range(15_000):
+            for _ in range(30_000):
                 transaction.write(1, 0, data[:1])
         with store.transaction(0, 0, [1]) as transaction:
             self.assertEqual(transaction.read(1, 0, 10_000), data)

@@ -46,6 +46,7 @@ struct hand {
     int log, pages;
     char log_path[PATH_BYTES], pages_path[PATH_BYTES];
     size_t pending, tail;
+    unsigned seen;
     unsigned char memory[SEGMENT_BYTES], records[LOG_BYTES + 8];
 };
 
@@ -207,6 +208,8 @@ static void hand_set(struct hand *hand, const struct change *change, bool aborts
     unsigned char *place = hand->memory + change->offset;
     memcpy(old, place, CHANGE_BYTES);
     memcpy(place, change->bytes, CHANGE_BYTES);
+    /* So that a compiler does not leave out what is taken back. */
+    hand->seen += *(volatile unsigned char *)place;
     if (aborts)
         memcpy(place, old, CHANGE_BYTES);
 }
@@ -361,7 +364,7 @@ static void measure(struct bench *bench, const struct work *work, int rounds, bo
     qsort(by_store, (size_t)rounds, sizeof by_store[0], compare);
     qsort(by_hand, (size_t)rounds, sizeof by_hand[0], compare);
     double middle = by_store[rounds / 2] / units, plain = by_hand[rounds / 2] / units;
-    printf("%-42s %-10s %11.1f %11.1f %11.2f %11.2f %8.2f\n", work->name, work->unit, middle, by_store[0] / units, plain, by_hand[0] / units,
+    printf("%-42s %-10s %11.1f %11.1f %11.3f %11.3f %8.2f\n", work->name, work->unit, middle, by_store[0] / units, plain, by_hand[0] / units,
            middle / plain);
     fflush(stdout);
 }
