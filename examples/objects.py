@@ -7,13 +7,14 @@ usage: examples/objects.py FOLDER make              makes an empty store in a ne
        examples/objects.py FOLDER delete NAME
        examples/objects.py FOLDER list              prints a line for each object: its length in bytes and its name
 
-The program is `lcrvm`, or what the variable LCRVM says. Status 1 where there is no such object, no room, or no store; 2 where the command line is not
-understood.
+The program is `lcrvm`, or what the variable LCRVM says. Status 1 where there is no such object, no room, or no store; 2
+where the command line is not understood.
 
-Each change is one transaction over map, index and data, and is flushed before it is answered. The store is one of lcrvm, of one node:
+Each change is one transaction over map, index and data, and is flushed before it is answered. The store is one of
+lcrvm, of one node:
 
-    segment 1   bytes 0 to 2047: the map, a bit for each chunk, the lowest bit of a byte first, set where an object has the chunk
-                from byte 2048 on: the index, 4,064 entries of 64 bytes
+    segment 1   bytes 0 to 2047: the map, a bit for each chunk, the lowest bit of a byte first, set where an object has
+                the chunk; from byte 2048 on: the index, 4,064 entries of 64 bytes
     segment 2   chunks 0 to 4095, of 64 bytes each
     ..
     segment 5   chunks 12288 to 16383
@@ -51,8 +52,8 @@ MAP_BYTES = CHUNKS // 8
 ENTRY = struct.Struct("<B47sII8x")
 ENTRIES = (GEOMETRY.segment_bytes - MAP_BYTES) // ENTRY.size
 NAME_BYTES = 47
-# A record has 4,096 words at most. This many bytes of an object leave room for its entry, for the bits of the chunks that it had and has, and for the
-# record's own words.
+# A record has 4,096 words at most. This many bytes of an object leave room for its entry, for the bits of the chunks
+# that it had and has, and for the record's own words.
 OBJECT_BYTES = 28_672
 
 # Seconds in which the program of a client that was killed sees the end of its input, and ends.
@@ -137,7 +138,8 @@ class Objects:
         with self._store.transaction(NODE, THREAD, segments, flush=True) as transaction:
             change_map(transaction, taken, old)
             change_map(transaction, taken, new)
-            change(transaction, DIRECTORY, offset_of(new.entry), ENTRY.pack(len(encoded), encoded, new.length, new.first))
+            entry = ENTRY.pack(len(encoded), encoded, new.length, new.first)
+            change(transaction, DIRECTORY, offset_of(new.entry), entry)
             change(transaction, new.segment, new.offset, data)
         self._taken = taken
         self._extents[name] = new

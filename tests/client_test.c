@@ -49,14 +49,15 @@ static void answers(struct test *test, enum lcrvm_status status, enum lcrvm_stat
 
 static void create(struct test *test, const struct lcrvm_geometry *geometry)
 {
-    const struct lcrvm_options options = {test->program, geometry, false};
+    const struct lcrvm_options options = {.program = test->program, .geometry = geometry};
     CHECK(test, mkdir(test->folder, 0777) == 0);
     ANSWERS(test, lcrvm_create(test->folder, &options, NULL), LCRVM_OK);
 }
 
-static struct lcrvm_store *opened_by(struct test *test, const char *program, const struct lcrvm_geometry *geometry, bool truncates)
+static struct lcrvm_store *opened_by(struct test *test, const char *program, const struct lcrvm_geometry *geometry,
+                                     bool truncates)
 {
-    const struct lcrvm_options options = {program, geometry, truncates};
+    const struct lcrvm_options options = {.program = program, .geometry = geometry, .truncate_when_full = truncates};
     struct lcrvm_store *store;
     struct lcrvm_fault fault;
     if (lcrvm_open(test->folder, &options, &store, &fault) != LCRVM_OK) {
@@ -83,7 +84,7 @@ static void script(struct test *test, char path[PATH_BYTES], const char *text)
     }
 }
 
-/* A store of a program that answers each line by the next of these replies, which line feeds part, and then does the last. */
+/* A store of a program that answers each line by the next of these, which line feeds part, and then does the last. */
 static struct lcrvm_store *told(struct test *test, const char *replies, const char *last)
 {
     char path[PATH_BYTES], text[TEXT_BYTES] = "read -r line; echo nothing\n";
@@ -110,7 +111,8 @@ static enum lcrvm_status begin(struct lcrvm_store *store, uint32_t node, uint32_
 }
 
 /* A transaction of thread 0 that writes these bytes, up to its end. */
-static enum lcrvm_status put(struct lcrvm_store *store, uint32_t node, uint32_t segment, uint32_t offset, const char *text)
+static enum lcrvm_status put(struct lcrvm_store *store, uint32_t node, uint32_t segment, uint32_t offset,
+                             const char *text)
 {
     uint32_t length = (uint32_t)strlen(text);
     enum lcrvm_status status = begin(store, node, 0, segment);
@@ -119,7 +121,8 @@ static enum lcrvm_status put(struct lcrvm_store *store, uint32_t node, uint32_t 
     return status == LCRVM_OK ? lcrvm_write(store, node, 0, segment, offset, text, length) : status;
 }
 
-static enum lcrvm_status commit(struct lcrvm_store *store, uint32_t node, uint32_t segment, uint32_t offset, const char *text)
+static enum lcrvm_status commit(struct lcrvm_store *store, uint32_t node, uint32_t segment, uint32_t offset,
+                                const char *text)
 {
     enum lcrvm_status status = put(store, node, segment, offset, text);
     return status == LCRVM_OK ? lcrvm_end_transaction(store, node, 0, false, NULL) : status;
@@ -281,7 +284,7 @@ static void test_a_record_that_is_too_long(struct test *test)
 static void test_a_store_that_is_there(struct test *test)
 {
     const struct lcrvm_geometry longer = {1, 1, 1, 1, 65};
-    const struct lcrvm_options options = {test->program, &longer, false};
+    const struct lcrvm_options options = {.program = test->program, .geometry = &longer};
     struct lcrvm_store *store;
     struct lcrvm_fault fault;
     create(test, &one);
@@ -297,14 +300,20 @@ static void test_a_store_that_is_there(struct test *test)
 static void test_a_store_as_found(struct test *test)
 {
     char path[PATH_BYTES], text[TEXT_BYTES];
+    const struct lcrvm_options options = {.program = path, .threads = 2};
+    struct lcrvm_store *store;
     create(test, &two_nodes);
     /* As the files say, also by a program that does not look at them itself. */
-    snprintf(text, sizeof text, "[ \"$4\" = --as-found ] && exec '%s' run --follow \"$3\" --nodes 2 --segments 2 --pages 2 --words 64", test->program);
+    snprintf(text, sizeof text,
+             "[ \"$4 $5\" = '--as-found --threads=2' ] && "
+             "exec '%s' run --follow \"$3\" --nodes 2 --threads 2 --segments 2 --pages 2 --words 64",
+             test->program);
     script(test, path, text);
-    struct lcrvm_store *store = opened_by(test, path, NULL, false);
+    ANSWERS(test, lcrvm_open(test->folder, &options, &store, NULL), LCRVM_OK);
     const struct lcrvm_geometry *found = lcrvm_geometry_of(store);
-    CHECK(test, found->nodes == 2 && found->threads == 1 && found->segments == 2 && found->pages == 2 && found->words == 64);
+    CHECK(test, memcmp(found, &two_nodes, sizeof two_nodes) == 0);
     ANSWERS(test, commit(store, 1, 1, 0, "x"), LCRVM_OK);
+    ANSWERS(test, begin(store, 1, 1, 1), LCRVM_OK);
     close_well(test, store);
 }
 
@@ -313,7 +322,8 @@ static void test_a_store_as_found(struct test *test)
 /* Eight commits of eight words fill a log of 64. */
 static void fill(struct test *test, struct lcrvm_store *store)
 {
-    const char *const texts[] = {"00000000", "11111111", "22222222", "33333333", "44444444", "55555555", "66666666", "77777777"};
+    const char *const texts[] = {"00000000", "11111111", "22222222", "33333333",
+                                 "44444444", "55555555", "66666666", "77777777"};
     for (uint32_t number = 0; number < 8; number++)
         ANSWERS(test, commit(store, 0, 1, 8 * number, texts[number]), LCRVM_OK);
 }
@@ -501,7 +511,7 @@ static void dead(struct test *test, struct lcrvm_store *store, enum lcrvm_status
 static void test_a_store_in_use(struct test *test)
 {
     struct lcrvm_store *store = made(test, &one, false), *second;
-    const struct lcrvm_options options = {test->program, &one, false};
+    const struct lcrvm_options options = {.program = test->program, .geometry = &one};
     struct lcrvm_fault fault;
     char wanted[PATH_BYTES + 32];
     snprintf(wanted, sizeof wanted, "lcrvm: %s: store in use", test->folder);
@@ -527,7 +537,15 @@ static void test_a_program_that_is_killed(struct test *test)
 
 static void test_what_is_no_reply(struct test *test)
 {
-    const char *const replies[] = {"hello", "acked x", "acked 7", "refused", "refused Nothing", "refused Full 1", "refused Busy x", "line 2: not understood", "ok"};
+    const char *const replies[] = {"hello",
+                                   "acked x",
+                                   "acked 7",
+                                   "refused",
+                                   "refused Nothing",
+                                   "refused Full 1",
+                                   "refused Busy x",
+                                   "line 2: not understood",
+                                   "ok"};
     for (size_t i = 0; i < sizeof replies / sizeof replies[0]; i++) {
         struct lcrvm_store *store = told(test, replies[i], "exec sleep 60");
         ANSWERS(test, lcrvm_flush(store, 0, NULL), LCRVM_NOT_A_REPLY);
@@ -586,10 +604,12 @@ static void test_each_refusal_as_it_is_printed(struct test *test)
         struct lcrvm_store *store = told(test, text, "exit 1");
         const struct lcrvm_fault *said = fault_of(store), *wanted = &rows[i].fault;
         ANSWERS(test, lcrvm_truncate(store, 0, NULL), wanted->status);
-        CHECK(test, said->status == wanted->status && said->has_area == wanted->has_area && said->segment == wanted->segment &&
-                        said->sequence == wanted->sequence && said->applied == wanted->applied && said->area == wanted->area &&
+        CHECK(test, said->status == wanted->status && said->has_area == wanted->has_area &&
+                        said->segment == wanted->segment && said->sequence == wanted->sequence &&
+                        said->applied == wanted->applied && said->area == wanted->area &&
                         said->words == wanted->words && said->tail == wanted->tail && said->need == wanted->need);
-        CHECK(test, strncmp(lcrvm_status_text(wanted->status), rows[i].text, strlen(lcrvm_status_text(wanted->status))) == 0);
+        CHECK(test,
+              strncmp(lcrvm_status_text(wanted->status), rows[i].text, strlen(lcrvm_status_text(wanted->status))) == 0);
         close_well(test, store);
     }
 }
@@ -598,7 +618,7 @@ static void test_programs_that_end(struct test *test)
 {
     char path[PATH_BYTES];
     struct lcrvm_fault fault;
-    struct lcrvm_options options = {path, &one, false};
+    struct lcrvm_options options = {.program = path, .geometry = &one};
     struct lcrvm_store *store = told(test, "device fault", "echo 'lcrvm: store/log0: Input/output error' >&2; exit 3");
     ANSWERS(test, lcrvm_flush(store, 0, NULL), LCRVM_DEVICE_FAULT);
     CHECK(test, strcmp(fault_of(store)->text, "lcrvm: store/log0: Input/output error") == 0);
@@ -632,8 +652,9 @@ static void test_a_sync_that_fails(struct test *test)
     create(test, &one);
     /* A recovery of one node and one segment makes three syncs; the next is that of a flush. */
     snprintf(text, sizeof text,
-             "exec env LD_PRELOAD='%s' CALLS_FOLDER='%s' CALLS_KIND=sync CALLS_FAILED=4 CALLS_ERROR=5 CALLS_MARK='%s/mark' '%s' \"$@\"", test->calls,
-             test->folder, test->room, test->program);
+             "exec env LD_PRELOAD='%s' CALLS_FOLDER='%s' CALLS_KIND=sync CALLS_FAILED=4 CALLS_ERROR=5 "
+             "CALLS_MARK='%s/mark' '%s' \"$@\"",
+             test->calls, test->folder, test->room, test->program);
     script(test, path, text);
     struct lcrvm_store *store = opened_by(test, path, &one, false);
     ANSWERS(test, commit(store, 0, 1, 0, "x"), LCRVM_OK);

@@ -1,5 +1,5 @@
 #!/usr/bin/env python3
-"""Tries the Python client (clients/python/lcrvm.py) on the built program, and on programs that only print what a test gives them.
+"""Tries the Python client (clients/python/lcrvm.py) on the built program, and on programs that print what a test says.
 
 usage: tests/client_test.py PROGRAM [CALLS]     (CALLS: the library that tests/clients.sh makes of tests/traced_calls.c)
 """
@@ -53,7 +53,7 @@ class ClientTest(unittest.TestCase):
         return path
 
     def saying(self, replies: List[str], last: str = "exit 0") -> str:
-        """A program that answers each line by the next of these, the first of them the client's own, and then does the last."""
+        """A program that answers the client's first line, then each by the next of these, and then does the last."""
         says = "\n".join(f"read -r line; echo {shlex.quote(reply)}" for reply in ["nothing", *replies])
         return self.script(f"{says}\n{last}")
 
@@ -154,15 +154,18 @@ class ClientTest(unittest.TestCase):
 
     def test_what_a_transaction_may_not_do(self) -> None:
         store = self.made(lcrvm.Geometry(threads=2, segments=3, pages=2))
-        for call in (lambda: store.end_transaction(0, 0), lambda: store.abort_transaction(0, 0), lambda: store.set_range(0, 0, 1, 0, 1)):
+        for call in (
+            lambda: store.end_transaction(0, 0),
+            lambda: store.abort_transaction(0, 0),
+            lambda: store.set_range(0, 0, 1, 0, 1),
+            lambda: store.write(0, 0, 1, 0, b"x"),
+            lambda: store.read(0, 0, 1, 0, 1),
+        ):
             with self.refused(lcrvm.OutOfTurn):
                 call()
-        for call in (lambda: store.write(0, 0, 1, 0, b"x"), lambda: store.read(0, 0, 1, 0, 1)):
-            with self.refused(lcrvm.OutOfTurn):
-                call()
-        for call in (lambda: store.begin_transaction(1, 0), lambda: store.begin_transaction(0, 2), lambda: store.begin_transaction(0, 0, [4])):
+        for node, thread, segment in ((1, 0, 1), (0, 2, 1), (0, 0, 4), (0, 0, 0)):
             with self.refused(lcrvm.Unknown):
-                call()
+                store.begin_transaction(node, thread, [segment])
         store.begin_transaction(0, 0, [1], reading=[2])
         with self.refused(lcrvm.OutOfTurn):
             store.begin_transaction(0, 0)
@@ -182,7 +185,11 @@ class ClientTest(unittest.TestCase):
         with self.refused(lcrvm.EmptyRange):
             store.set_range(0, 0, 1, 0, 0)
         store.set_range(0, 0, 1, 511, 1)
-        for call in (lambda: store.set_range(0, 0, 1, 511, 2), lambda: store.read(0, 0, 1, 0, 513), lambda: store.write(0, 0, 1, 511, b"xx")):
+        for call in (
+            lambda: store.set_range(0, 0, 1, 511, 2),
+            lambda: store.read(0, 0, 1, 0, 513),
+            lambda: store.write(0, 0, 1, 511, b"xx"),
+        ):
             with self.refused(lcrvm.OutOfSegment, area=None):
                 call()
         with self.refused(lcrvm.NoRange):
@@ -211,9 +218,17 @@ class ClientTest(unittest.TestCase):
 
     def test_numbers_that_stand_in_no_line(self) -> None:
         store = self.made(lcrvm.Geometry())
-        for call in (lambda: store.flush(-1), lambda: store.flush(1 << 16), lambda: store.leave(0, 1 << 32), lambda: store.read(0, 0, 1, 0, -1)):
+        for call in (
+            lambda: store.flush(-1),
+            lambda: store.flush(1 << 16),
+            lambda: store.leave(0, 1 << 32),
+            lambda: store.read(0, 0, 1, 0, -1),
+        ):
             with self.assertRaises(ValueError):
                 call()
+        for wrong in (1.5, "1", None):
+            with self.assertRaises(TypeError):
+                store.set_range(0, 0, 1, 0, wrong)
         self.assertEqual(store.flush(0), 0)
 
     def test_a_store_that_is_there(self) -> None:
@@ -229,7 +244,8 @@ class ClientTest(unittest.TestCase):
         self.create(TWO_NODES)
         # As the files say, also by a program that does not look at them itself.
         size = "--nodes 2 --threads 2 --segments 2 --pages 2 --words 64"
-        program = self.script(f'[ "$4 $5" = "--as-found --threads=2" ] && exec {shlex.quote(PROGRAM)} run --follow "$3" {size}')
+        run = f'exec {shlex.quote(PROGRAM)} run --follow "$3" {size}'
+        program = self.script(f'[ "$4 $5" = "--as-found --threads=2" ] && {run}')
         with lcrvm.open(self.folder, threads=2, program=program) as store:
             self.assertEqual(store.geometry, TWO_NODES)
             self.assertEqual(self.commit(store, 1, 1, 0, b"x"), lcrvm.Commit(0, 8))
@@ -413,7 +429,17 @@ class ClientTest(unittest.TestCase):
         self.dead(store, lcrvm.Closed)
 
     def test_what_is_no_reply(self) -> None:
-        for reply in ("hello", "acked x", "acked 7", "refused", "refused Nothing", "refused Full 1", "refused Busy x", "line 2: not understood", "ok"):
+        for reply in (
+            "hello",
+            "acked x",
+            "acked 7",
+            "refused",
+            "refused Nothing",
+            "refused Full 1",
+            "refused Busy x",
+            "line 2: not understood",
+            "ok",
+        ):
             with self.subTest(reply=reply):
                 store = self.told([reply], "exec sleep 60")
                 self.dead(store, lcrvm.NotAReply)
@@ -485,8 +511,16 @@ class ClientTest(unittest.TestCase):
             self.skipTest("no library of traced calls")
         self.create(lcrvm.Geometry())
         # A recovery of one node and one segment makes three syncs; the next is that of a flush.
-        calls = f"LD_PRELOAD={shlex.quote(CALLS)} CALLS_FOLDER={shlex.quote(self.folder)} CALLS_KIND=sync CALLS_FAILED=4 CALLS_ERROR=5"
-        program = self.script(f'exec env {calls} CALLS_MARK={shlex.quote(self.room)}/mark {shlex.quote(PROGRAM)} "$@"')
+        calls = {
+            "LD_PRELOAD": CALLS,
+            "CALLS_FOLDER": self.folder,
+            "CALLS_MARK": os.path.join(self.room, "mark"),
+            "CALLS_KIND": "sync",
+            "CALLS_FAILED": "4",
+            "CALLS_ERROR": "5",
+        }
+        settings = " ".join(f"{name}={shlex.quote(value)}" for name, value in calls.items())
+        program = self.script(f'exec env {settings} {shlex.quote(PROGRAM)} "$@"')
         store = lcrvm.open(self.folder, lcrvm.Geometry(), program=program)
         self.commit(store, 0, 1, 0, b"x")
         self.dead(store, lcrvm.DeviceFault)

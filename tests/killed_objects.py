@@ -1,12 +1,13 @@
 #!/usr/bin/env python3
-"""Kills the object store of examples/objects.py and its program in the midst of their work, again and again; tests/objects.sh starts it.
+"""Kills the object store of examples/objects.py and its program in the midst of their work; tests/objects.sh starts it.
 
 usage: tests/killed_objects.py PROGRAM SEED KILLS OBJECTS
 
-A worker does the changes that it is told and says of each when it is acknowledged. It and its program are killed together: behind a random number of
-changes, and a random moment later, or while they open the store. Each time all objects are read: they are those of the acknowledged changes, byte for
-byte, and the change that was under way is there whole or not at all. Behind the last kill the objects that are left to do are put, and the
-command line shows them. It works in the folder where it runs.
+A worker does the changes that it is told and says of each when it is acknowledged. It and its program are killed
+together: behind a random number of changes, and a random moment later, or while they open the store. Each time all
+objects are read: they are those of the acknowledged changes, byte for byte, and the change that was under way is there
+whole or not at all. Behind the last kill the objects that are left to do are put, and the command line shows them. It
+works in the folder where it runs.
 """
 from __future__ import annotations
 
@@ -28,7 +29,8 @@ lcrvm = example.lcrvm
 FOLDER = "store"
 # Changes of a worker that is killed, at most, and how many more it is told. So many fill the log more than once.
 CHANGES, SPARE = 100, 200
-# Of a hundred: kills while the store is opened; changes that delete an object, and that do where all are there; those that put one again; long ones.
+# Of a hundred: kills while the store is opened; changes that delete an object, and that do so where all are there;
+# those that put one again; long ones.
 WHILE_OPENING, DELETED, DELETED_FROM_ALL, REPLACED, LONG = 10, 10, 60, 15, 1
 SHORT_BYTES, LONG_BYTES = 300, 20_000
 # Seconds: the latest moment of a kill behind an acknowledgement, and behind the start of a worker.
@@ -107,10 +109,12 @@ def work(program: str) -> None:
 
 
 def run_worker(program: str, lines: List[str], chance: Optional[random.Random]) -> Tuple[int, bool]:
-    """Runs a worker on these changes, and kills it where there is a chance to. How many changes were acknowledged, and whether it was killed."""
-    worker = subprocess.Popen(
-        [sys.executable, os.path.abspath(__file__), "--work", program], stdin=subprocess.PIPE, stdout=subprocess.PIPE, start_new_session=True
-    )
+    """Runs a worker on these changes, and kills it where there is a chance to.
+
+    How many changes were acknowledged, and whether it was killed.
+    """
+    words = [sys.executable, os.path.abspath(__file__), "--work", program]
+    worker = subprocess.Popen(words, stdin=subprocess.PIPE, stdout=subprocess.PIPE, start_new_session=True)
     assert worker.stdin is not None and worker.stdout is not None
     worker.stdin.write("".join(lines).encode())
     worker.stdin.close()
@@ -164,8 +168,10 @@ def show(program: str, there: Dict[str, bytes]) -> None:
     """Looks at the objects by the command line."""
 
     def told(*words: str, given: bytes = b"") -> Tuple[int, bytes]:
+        command = [sys.executable, EXAMPLE, FOLDER, *words]
+        environment = {**os.environ, "LCRVM": program}
         done = subprocess.run(
-            [sys.executable, EXAMPLE, FOLDER, *words], input=given, stdout=subprocess.PIPE, stderr=subprocess.DEVNULL, env={**os.environ, "LCRVM": program}
+            command, input=given, stdout=subprocess.PIPE, stderr=subprocess.DEVNULL, env=environment
         )
         return done.returncode, done.stdout
 
@@ -210,7 +216,8 @@ def main(program: str, seed: int, kills: int, count: int) -> None:
         acknowledged += said
         whole += was_killed and there == behind
         none += was_killed and there == before
-    print(f"{kills} kills, {acknowledged} changes acknowledged, {len(there)} objects; under way were {whole} changes that are there, and {none} that are not")
+    print(f"{kills} kills, {acknowledged} changes acknowledged, {len(there)} objects")
+    print(f"of the changes that were under way {whole} are there, and {none} are not")
     while len(there) < count:
         lines = plan.lines(there, count - len(there))
         run_worker(program, lines, None)

@@ -2,10 +2,11 @@
 
    usage: bench [--short] PROGRAM [FOLDER]     (FOLDER: where the files stand, by itself where it runs)
 
-   The store has 64 pages of 256 bytes and a log of 4,096 words; a change is 5 bytes at a random place, from a fixed seed. By hand a commit keeps the old
-   bytes, sets the new ones in memory and makes a record of 64 bytes; a flush is four calls on a file of records: the records but for their first
-   byte, a sync, that byte, a sync. An emptied log is one write of all pages and a sync, and one byte of the log and a sync. Both change the same
-   bytes in the same order, and at the end they are compared. It takes a minute or two; with --short, a few seconds.
+   The store has 64 pages of 256 bytes and a log of 4,096 words; a change is 5 bytes at a random place, from a fixed
+   seed. By hand a commit keeps the old bytes, sets the new ones in memory and makes a record of 64 bytes; a flush is
+   four calls on a file of records: the records but for their first byte, a sync, that byte, a sync. An emptied log is
+   one write of all pages and a sync, and one byte of the log and a sync. Both change the same bytes in the same order,
+   and at the end they are compared. It takes a minute or two; with --short, a few seconds.
 
    cc -std=c11 -Wall -Wextra -O2 bench.c lcrvm.c -o bench */
 #define _POSIX_C_SOURCE 200809L
@@ -28,7 +29,6 @@ enum {
     RECORD_BYTES = 64,
     LOG_WORDS = 4096,
     LOG_BYTES = LOG_WORDS * 8,
-    LOG_RECORDS = LOG_BYTES / RECORD_BYTES,
     GROUP = 8,
     MOST_CHANGES = 1200,
     MOST_ROUNDS = 9,
@@ -41,7 +41,7 @@ struct change {
     unsigned char bytes[CHANGE_BYTES];
 };
 
-/* What is done by hand: a file of records and one of pages, the bytes in memory, and the records that are not in the file. */
+/* What is done by hand: files of records and of pages, the bytes in memory, and the records that are in no file yet. */
 struct hand {
     int log, pages;
     char log_path[PATH_BYTES], pages_path[PATH_BYTES];
@@ -78,7 +78,8 @@ static void need(struct bench *bench, enum lcrvm_status status)
 {
     if (status == LCRVM_OK)
         return;
-    fprintf(stderr, "bench: %s %s\n", lcrvm_status_text(status), bench->store != NULL ? lcrvm_fault_of(bench->store)->text : "");
+    fprintf(stderr, "bench: %s %s\n", lcrvm_status_text(status),
+            bench->store != NULL ? lcrvm_fault_of(bench->store)->text : "");
     exit(1);
 }
 
@@ -294,7 +295,8 @@ static void hand_reopen(struct bench *bench, int count)
     if (read_pages != SEGMENT_BYTES || length < 0)
         stop("pread");
     hand->tail = hand->pending = 0;
-    for (; hand->tail + RECORD_BYTES <= (size_t)length && hand->records[hand->tail] == MARK; hand->tail += RECORD_BYTES) {
+    for (; hand->tail + RECORD_BYTES <= (size_t)length && hand->records[hand->tail] == MARK;
+         hand->tail += RECORD_BYTES) {
         uint32_t offset;
         memcpy(&offset, hand->records + hand->tail + 32, sizeof offset);
         memcpy(hand->memory + offset, hand->records + hand->tail + 48, CHANGE_BYTES);
@@ -364,8 +366,8 @@ static void measure(struct bench *bench, const struct work *work, int rounds, bo
     qsort(by_store, (size_t)rounds, sizeof by_store[0], compare);
     qsort(by_hand, (size_t)rounds, sizeof by_hand[0], compare);
     double middle = by_store[rounds / 2] / units, plain = by_hand[rounds / 2] / units;
-    printf("%-42s %-10s %11.1f %11.1f %11.3f %11.3f %8.2f\n", work->name, work->unit, middle, by_store[0] / units, plain, by_hand[0] / units,
-           middle / plain);
+    printf("%-42s %-10s %11.1f %11.1f %11.3f %11.3f %8.2f\n", work->name, work->unit, middle, by_store[0] / units,
+           plain, by_hand[0] / units, middle / plain);
     fflush(stdout);
 }
 
@@ -420,7 +422,7 @@ int main(int count, char *words[])
     snprintf(bench.folder, sizeof bench.folder, "%s/store", room);
     snprintf(bench.hand.log_path, sizeof bench.hand.log_path, "%s/log", room);
     snprintf(bench.hand.pages_path, sizeof bench.hand.pages_path, "%s/pages", room);
-    bench.options = (struct lcrvm_options){words[first], &geometry, true};
+    bench.options = (struct lcrvm_options){.program = words[first], .geometry = &geometry, .truncate_when_full = true};
     bench.seed = UINT64_C(0x9e3779b97f4a7c15);
     if (mkdir(bench.folder, 0777) != 0)
         stop(bench.folder);

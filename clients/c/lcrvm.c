@@ -30,13 +30,13 @@ enum {
     RESERVED = 4096,        /* of these, for the lines that end, abort, flush and truncate */
     RENEWED_BELOW = 262144, /* a run with fewer left is followed by another, where nothing would be lost by that */
 
-    /* The replies of lines that were sent ahead are three bytes each. So many fit into the smallest pipe, of 4,096 bytes: so the program never
-       waits for its output to be read while the client waits for its input to be taken. */
+    /* The replies of lines that were sent ahead are three bytes each. So many fit into the smallest pipe, of 4,096
+       bytes: so the program never waits for its output to be read while the client waits for its input to be taken. */
     MOST_UNREAD = 1024,
 
     OUT_BYTES = 16384,
     IN_BYTES = 65536,
-    LINE_BYTES = 160,     /* of a line but for the bytes that it writes, and of a reply but for those that it reads */
+    LINE_BYTES = 160,      /* of a line but for the bytes that it writes, and of a reply but for those that it reads */
     RANGE_LINE_BYTES = 64, /* of the line of a range, and of a write but for its bytes, at most */
     MOST_ARGUMENTS = 10,
     OPTION_BYTES = 32,
@@ -572,7 +572,8 @@ static struct line line_of_segment(const char *word, uint32_t node, uint32_t seg
 static struct line line_of_place(const char *word, uint32_t node, uint32_t thread, uint32_t segment, uint32_t offset)
 {
     struct line line = {{0}, NULL, 0};
-    snprintf(line.text, sizeof line.text, "%s %u %u %" PRIu32 " %" PRIu32, word, bounded(node), bounded(thread), segment, offset);
+    snprintf(line.text, sizeof line.text, "%s %u %u %" PRIu32 " %" PRIu32, word, bounded(node), bounded(thread),
+             segment, offset);
     return line;
 }
 
@@ -593,7 +594,8 @@ static struct line line_of_write(uint32_t node, uint32_t thread, const struct ra
     return line;
 }
 
-static struct line line_of_begin(uint32_t node, uint32_t thread, uint32_t writing, uint32_t reading, uint32_t outside)
+/* With a segment that is outside of each geometry, where one was named: 0 stands for any. */
+static struct line line_of_begin(uint32_t node, uint32_t thread, uint32_t writing, uint32_t reading, bool outside)
 {
     struct line line = line_of_thread("begin", node, thread);
     size_t used = strlen(line.text);
@@ -602,8 +604,8 @@ static struct line line_of_begin(uint32_t node, uint32_t thread, uint32_t writin
         if (how != NULL)
             used += (size_t)snprintf(line.text + used, sizeof line.text - used, "%s%" PRIu32, how, segment);
     }
-    if (outside != 1)
-        snprintf(line.text + used, sizeof line.text - used, " %" PRIu32, outside);
+    if (outside)
+        snprintf(line.text + used, sizeof line.text - used, " 0");
     return line;
 }
 
@@ -620,6 +622,19 @@ static struct begun *begun_of(struct lcrvm_store *store, uint32_t node, uint32_t
 static bool has(uint32_t segments, uint32_t segment)
 {
     return segment >= 1 && segment <= MOST_SEGMENTS && (segments >> segment & 1) != 0;
+}
+
+/* The segments as a set, a bit each, and whether some are outside of each geometry. */
+static uint32_t set_of(const uint32_t *segments, size_t count, bool *outside)
+{
+    uint32_t set = 0;
+    for (size_t i = 0; i < count; i++) {
+        if (segments[i] >= 1 && segments[i] <= MOST_SEGMENTS)
+            set |= UINT32_C(1) << segments[i];
+        else
+            *outside = true;
+    }
+    return set;
 }
 
 /* The segments that open transactions have locked. */
@@ -658,7 +673,7 @@ static bool all_here(const struct lcrvm_store *store, uint32_t node, uint32_t se
     return true;
 }
 
-/* Whether no reason to refuse this is left: what the client does not follow as closely as the program, it is not sure of. */
+/* Whether no reason to refuse this is left; what is followed less closely here than in the program may be one. */
 static bool can_begin(struct lcrvm_store *store, uint32_t node, uint32_t thread, uint32_t segments)
 {
     return node < store->geometry.nodes && thread < store->geometry.threads && begun_of(store, node, thread) == NULL &&
@@ -763,7 +778,7 @@ static enum lcrvm_status renew(struct lcrvm_store *store)
     return start(store);
 }
 
-/* What the store died of. And another run is begun, where the lines of this one are nearly used up and nothing would be lost. */
+/* What the store died of. And another run is begun, where this one's lines are nearly used up and nothing is lost. */
 static enum lcrvm_status ready(struct lcrvm_store *store)
 {
     if (store->dead)
@@ -776,24 +791,17 @@ static enum lcrvm_status ready(struct lcrvm_store *store)
 
 /* ---- transactions */
 
-enum lcrvm_status lcrvm_begin_transaction(struct lcrvm_store *store, uint32_t node, uint32_t thread, const uint32_t *segments, size_t count,
-                                          const uint32_t *reading, size_t reading_count)
+enum lcrvm_status lcrvm_begin_transaction(struct lcrvm_store *store, uint32_t node, uint32_t thread,
+                                          const uint32_t *segments, size_t count, const uint32_t *reading,
+                                          size_t reading_count)
 {
     enum lcrvm_status status = ready(store);
     if (status != LCRVM_OK)
         return status;
-    /* Segment 1 is in each geometry, so it stands for none here. */
-    uint32_t written = 0, shared = 0, outside = 1;
-    for (size_t i = 0; i < count + reading_count; i++) {
-        uint32_t segment = i < count ? segments[i] : reading[i - count];
-        if (segment < 1 || segment > MOST_SEGMENTS)
-            outside = segment;
-        else
-            *(i < count ? &written : &shared) |= UINT32_C(1) << segment;
-    }
-    shared &= ~written;
+    bool outside = false;
+    uint32_t written = set_of(segments, count, &outside), shared = set_of(reading, reading_count, &outside) & ~written;
     const struct line line = line_of_begin(node, thread, written, shared, outside);
-    status = carry_out(store, &line, outside == 1 && can_begin(store, node, thread, written | shared), RESERVED);
+    status = carry_out(store, &line, !outside && can_begin(store, node, thread, written | shared), RESERVED);
     if (status == LCRVM_OK) {
         struct begun *begun = &store->begun[node][thread];
         begun->open = true;
@@ -804,7 +812,8 @@ enum lcrvm_status lcrvm_begin_transaction(struct lcrvm_store *store, uint32_t no
     return status;
 }
 
-enum lcrvm_status lcrvm_set_range(struct lcrvm_store *store, uint32_t node, uint32_t thread, uint32_t segment, uint32_t offset, uint32_t length)
+enum lcrvm_status lcrvm_set_range(struct lcrvm_store *store, uint32_t node, uint32_t thread, uint32_t segment,
+                                  uint32_t offset, uint32_t length)
 {
     enum lcrvm_status status = ready(store);
     if (status != LCRVM_OK)
@@ -820,8 +829,8 @@ enum lcrvm_status lcrvm_set_range(struct lcrvm_store *store, uint32_t node, uint
     return status;
 }
 
-enum lcrvm_status lcrvm_write(struct lcrvm_store *store, uint32_t node, uint32_t thread, uint32_t segment, uint32_t offset, const void *bytes,
-                              uint32_t length)
+enum lcrvm_status lcrvm_write(struct lcrvm_store *store, uint32_t node, uint32_t thread, uint32_t segment,
+                              uint32_t offset, const void *bytes, uint32_t length)
 {
     enum lcrvm_status status = ready(store);
     if (status != LCRVM_OK || length == 0)
@@ -834,7 +843,8 @@ enum lcrvm_status lcrvm_write(struct lcrvm_store *store, uint32_t node, uint32_t
 }
 
 /* Reads the bytes of a range. */
-static enum lcrvm_status read_range(struct lcrvm_store *store, uint32_t node, uint32_t thread, const struct range *range, void *bytes)
+static enum lcrvm_status read_range(struct lcrvm_store *store, uint32_t node, uint32_t thread,
+                                    const struct range *range, void *bytes)
 {
     const struct line line = line_of_range("read", node, thread, range);
     enum lcrvm_status status = put(store, &line, RESERVED);
@@ -843,8 +853,8 @@ static enum lcrvm_status read_range(struct lcrvm_store *store, uint32_t node, ui
     return status == LCRVM_OK ? receive_bytes(store, bytes, range->high - range->low) : status;
 }
 
-enum lcrvm_status lcrvm_read(struct lcrvm_store *store, uint32_t node, uint32_t thread, uint32_t segment, uint32_t offset, void *bytes,
-                             uint32_t length)
+enum lcrvm_status lcrvm_read(struct lcrvm_store *store, uint32_t node, uint32_t thread, uint32_t segment,
+                             uint32_t offset, void *bytes, uint32_t length)
 {
     enum lcrvm_status status = ready(store);
     const struct range range = {segment, offset, offset + length};
@@ -864,22 +874,30 @@ enum lcrvm_status lcrvm_abort_transaction(struct lcrvm_store *store, uint32_t no
     return status;
 }
 
-static enum lcrvm_status truncate_now(struct lcrvm_store *store, uint32_t node)
+/* Asks this of a node; the reply is to be a word and a number. */
+static enum lcrvm_status ask_count(struct lcrvm_store *store, const char *word, uint32_t node, const char *replied,
+                                   size_t reserved, uint64_t *count)
 {
     char text[LINE_BYTES];
-    uint64_t round;
-    const struct line line = line_of("truncate", node);
-    enum lcrvm_status status = ask(store, &line, 0, text);
+    const struct line line = line_of(word, node);
+    enum lcrvm_status status = ask(store, &line, reserved, text);
     if (status != LCRVM_OK)
         return status;
-    if (!is_counted(text, "truncated", &round))
-        return refused(store, text);
-    store->rounds[node] = store->rounds_before[node] + round;
-    return LCRVM_OK;
+    return node < store->geometry.nodes && is_counted(text, replied, count) ? LCRVM_OK : refused(store, text);
+}
+
+static enum lcrvm_status truncate_now(struct lcrvm_store *store, uint32_t node)
+{
+    uint64_t round;
+    enum lcrvm_status status = ask_count(store, "truncate", node, "truncated", 0, &round);
+    if (status == LCRVM_OK)
+        store->rounds[node] = store->rounds_before[node] + round;
+    return status;
 }
 
 /* Reads the bytes of all ranges of a transaction. */
-static enum lcrvm_status keep_bytes(struct lcrvm_store *store, uint32_t node, uint32_t thread, const struct begun *begun)
+static enum lcrvm_status keep_bytes(struct lcrvm_store *store, uint32_t node, uint32_t thread,
+                                    const struct begun *begun)
 {
     unsigned char *at = store->kept;
     for (size_t i = 0; i < begun->count; i++) {
@@ -891,11 +909,11 @@ static enum lcrvm_status keep_bytes(struct lcrvm_store *store, uint32_t node, ui
     return LCRVM_OK;
 }
 
-/* Begins the transaction again, and does what it did, with the bytes that were kept. Each line is taken as it was before. */
+/* Begins the transaction again, and does what it did, with the bytes that were kept. No line is refused. */
 static enum lcrvm_status do_again(struct lcrvm_store *store, uint32_t node, uint32_t thread, struct begun *begun)
 {
     const unsigned char *at = store->kept;
-    const struct line begins = line_of_begin(node, thread, begun->writing, begun->reading, 1);
+    const struct line begins = line_of_begin(node, thread, begun->writing, begun->reading, false);
     enum lcrvm_status status = carry_out(store, &begins, true, 0);
     for (size_t i = 0; status == LCRVM_OK && i < begun->count; i++) {
         const struct line ranges = line_of_range("range", node, thread, &begun->ranges[i]);
@@ -918,11 +936,12 @@ static bool can_make_again(const struct lcrvm_store *store, uint32_t node, uint3
         bytes += begun->ranges[i].high - begun->ranges[i].low;
     /* A read, a range and a write for each range, with its bytes. */
     size_t lines = 2 * bytes + (3 * begun->count + 2) * RANGE_LINE_BYTES + LINE_BYTES;
-    return store->truncate_when_full && store->last.need <= store->geometry.words && !others_have_ranges(store, node, thread) &&
-           bytes <= sizeof store->kept && lines + RESERVED <= store->run.left;
+    return store->truncate_when_full && store->last.need <= store->geometry.words &&
+           !others_have_ranges(store, node, thread) && bytes <= sizeof store->kept &&
+           lines + RESERVED <= store->run.left;
 }
 
-/* Aborts the transaction, truncates the log, and makes the transaction again. Where the truncation is refused the log is full as before. */
+/* Aborts the transaction, truncates the log, and makes the transaction again; or the log is full as before. */
 static enum lcrvm_status make_again(struct lcrvm_store *store, uint32_t node, uint32_t thread)
 {
     struct begun *begun = &store->begun[node][thread];
@@ -945,7 +964,8 @@ static enum lcrvm_status make_again(struct lcrvm_store *store, uint32_t node, ui
     return full.status;
 }
 
-static enum lcrvm_status end_now(struct lcrvm_store *store, uint32_t node, uint32_t thread, bool flush, struct lcrvm_commit *commit)
+static enum lcrvm_status end_now(struct lcrvm_store *store, uint32_t node, uint32_t thread, bool flush,
+                                 struct lcrvm_commit *commit)
 {
     char ended[LINE_BYTES], acked[LINE_BYTES];
     const struct line ends = line_of_thread("end", node, thread), flushes = line_of("flush", node);
@@ -964,8 +984,8 @@ static enum lcrvm_status end_now(struct lcrvm_store *store, uint32_t node, uint3
 
     struct lcrvm_commit made = {0, 0};
     const char *text = ended;
-    bool closed = take_word(&text, "closed ") && take_number(&text, &made.place) && take_word(&text, " ") && take_number(&text, &made.words) &&
-                  *text == '\0';
+    bool closed = take_word(&text, "closed ") && take_number(&text, &made.place) && take_word(&text, " ") &&
+                  take_number(&text, &made.words) && *text == '\0';
     if (!closed && strcmp(ended, "ended") != 0)
         return refused(store, ended);
     struct begun *begun = begun_of(store, node, thread);
@@ -978,7 +998,8 @@ static enum lcrvm_status end_now(struct lcrvm_store *store, uint32_t node, uint3
     return flush ? flushed(store, node, acked) : LCRVM_OK;
 }
 
-enum lcrvm_status lcrvm_end_transaction(struct lcrvm_store *store, uint32_t node, uint32_t thread, bool flush, struct lcrvm_commit *commit)
+enum lcrvm_status lcrvm_end_transaction(struct lcrvm_store *store, uint32_t node, uint32_t thread, bool flush,
+                                        struct lcrvm_commit *commit)
 {
     enum lcrvm_status status = ready(store);
     if (status == LCRVM_OK)
@@ -1009,12 +1030,6 @@ enum lcrvm_status lcrvm_flush(struct lcrvm_store *store, uint32_t node, uint64_t
 enum lcrvm_status lcrvm_truncate(struct lcrvm_store *store, uint32_t node, uint64_t *rounds)
 {
     enum lcrvm_status status = ready(store);
-    if (status == LCRVM_OK && node >= store->geometry.nodes) {
-        char text[LINE_BYTES];
-        const struct line line = line_of("truncate", node);
-        status = ask(store, &line, 0, text);
-        return status == LCRVM_OK ? refused(store, text) : status;
-    }
     if (status == LCRVM_OK)
         status = truncate_now(store, node);
     if (status == LCRVM_OK && rounds != NULL)
@@ -1023,7 +1038,8 @@ enum lcrvm_status lcrvm_truncate(struct lcrvm_store *store, uint32_t node, uint6
 }
 
 /* Does this to the segment's token, which is then at the place. */
-static enum lcrvm_status move_token(struct lcrvm_store *store, const char *word, uint32_t node, uint32_t segment, int place)
+static enum lcrvm_status move_token(struct lcrvm_store *store, const char *word, uint32_t node, uint32_t segment,
+                                    int place)
 {
     const struct line line = line_of_segment(word, node, segment);
     enum lcrvm_status status = ready(store);
@@ -1044,12 +1060,13 @@ enum lcrvm_status lcrvm_arrive(struct lcrvm_store *store, uint32_t node, uint32_
     return move_token(store, "arrive", node, segment, (int)node);
 }
 
-enum lcrvm_status lcrvm_deliver(struct lcrvm_store *store, uint32_t node, uint64_t record, uint32_t segment, uint32_t to,
-                                struct lcrvm_delivered *delivered)
+enum lcrvm_status lcrvm_deliver(struct lcrvm_store *store, uint32_t node, uint64_t record, uint32_t segment,
+                                uint32_t to, struct lcrvm_delivered *delivered)
 {
     char text[LINE_BYTES];
     struct line line = {{0}, NULL, 0};
-    snprintf(line.text, sizeof line.text, "deliver %u %" PRIu64 " %" PRIu32 " %u", bounded(node), record, segment, bounded(to));
+    snprintf(line.text, sizeof line.text, "deliver %u %" PRIu64 " %" PRIu32 " %u", bounded(node), record, segment,
+             bounded(to));
     enum lcrvm_status status = ready(store);
     if (status == LCRVM_OK)
         status = ask(store, &line, RESERVED, text);
@@ -1069,19 +1086,13 @@ enum lcrvm_status lcrvm_deliver(struct lcrvm_store *store, uint32_t node, uint64
 
 enum lcrvm_status lcrvm_trim(struct lcrvm_store *store, uint32_t node, uint64_t *count)
 {
-    char text[LINE_BYTES];
     uint64_t trimmed;
-    const struct line line = line_of("trim", node);
     enum lcrvm_status status = ready(store);
     if (status == LCRVM_OK)
-        status = ask(store, &line, RESERVED, text);
-    if (status != LCRVM_OK)
-        return status;
-    if (!is_counted(text, "trimmed", &trimmed))
-        return refused(store, text);
-    if (count != NULL)
+        status = ask_count(store, "trim", node, "trimmed", RESERVED, &trimmed);
+    if (status == LCRVM_OK && count != NULL)
         *count = trimmed;
-    return LCRVM_OK;
+    return status;
 }
 
 const struct lcrvm_fault *lcrvm_fault_of(const struct lcrvm_store *store)
@@ -1144,6 +1155,11 @@ static bool add_geometry(char *words[], const struct lcrvm_geometry *geometry)
            add_option(words, "--words=", geometry->words);
 }
 
+static uint32_t threads_of(const struct lcrvm_options *options)
+{
+    return options->threads > 0 ? options->threads : 1;
+}
+
 static const char *program_of(const struct lcrvm_options *options)
 {
     return options->program != NULL ? options->program : "lcrvm";
@@ -1162,9 +1178,9 @@ static long long length_of_file(const char *folder, const char *name, unsigned n
 }
 
 /* The geometry that the lengths of a store's files tell. */
-static struct lcrvm_geometry found_geometry(const char *folder)
+static struct lcrvm_geometry found_geometry(const char *folder, uint32_t threads)
 {
-    struct lcrvm_geometry geometry = {0, 1, 0, 0, 0};
+    struct lcrvm_geometry geometry = {0, threads, 0, 0, 0};
     while (geometry.nodes < MOST_NODES && length_of_file(folder, "log", geometry.nodes) >= 0)
         geometry.nodes++;
     while (geometry.segments < MOST_SEGMENTS && length_of_file(folder, "seg", geometry.segments + 1) >= 0)
@@ -1195,8 +1211,9 @@ enum lcrvm_status lcrvm_create(const char *folder, const struct lcrvm_options *o
     options = options != NULL ? options : &no_options;
     struct run *run = malloc(sizeof *run);
     fill_fault(&said, LCRVM_CLIENT_MEMORY, "");
-    bool made = run != NULL && add_word(words, joined(program_of(options), "")) && add_word(words, joined("init", "")) &&
-                add_word(words, joined(folder, "")) && add_geometry(words, options->geometry != NULL ? options->geometry : &least);
+    bool made = run != NULL && add_word(words, joined(program_of(options), "")) &&
+                add_word(words, joined("init", "")) && add_word(words, joined(folder, "")) &&
+                add_geometry(words, options->geometry != NULL ? options->geometry : &least);
     if (made) {
         int error = start_run(run, words);
         if (error != 0)
@@ -1217,15 +1234,23 @@ static void free_store(struct lcrvm_store *store)
     free(store);
 }
 
+static bool add_size(char *words[], const struct lcrvm_options *options)
+{
+    if (options->geometry != NULL)
+        return add_geometry(words, options->geometry);
+    return add_word(words, joined("--as-found", "")) && add_option(words, "--threads=", threads_of(options));
+}
+
 static bool add_arguments(struct lcrvm_store *store, const char *folder, const struct lcrvm_options *options)
 {
     char **words = store->arguments;
-    return add_word(words, joined(program_of(options), "")) && add_word(words, joined("run", "")) && add_word(words, joined("--follow", "")) &&
-           add_word(words, joined("--store=", folder)) &&
-           (options->geometry != NULL ? add_geometry(words, options->geometry) : add_word(words, joined("--as-found", "")));
+    return add_word(words, joined(program_of(options), "")) && add_word(words, joined("run", "")) &&
+           add_word(words, joined("--follow", "")) && add_word(words, joined("--store=", folder)) &&
+           add_size(words, options);
 }
 
-enum lcrvm_status lcrvm_open(const char *folder, const struct lcrvm_options *options, struct lcrvm_store **store, struct lcrvm_fault *fault)
+enum lcrvm_status lcrvm_open(const char *folder, const struct lcrvm_options *options, struct lcrvm_store **store,
+                             struct lcrvm_fault *fault)
 {
     *store = NULL;
     options = options != NULL ? options : &no_options;
@@ -1244,7 +1269,7 @@ enum lcrvm_status lcrvm_open(const char *folder, const struct lcrvm_options *opt
         return status;
     }
     /* From here on the folder is locked, so the files stay as long as they are. */
-    opened->geometry = options->geometry != NULL ? *options->geometry : found_geometry(folder);
+    opened->geometry = options->geometry != NULL ? *options->geometry : found_geometry(folder, threads_of(options));
     opened->truncate_when_full = options->truncate_when_full;
     for (uint32_t segment = 1; segment <= opened->geometry.segments && segment <= MOST_SEGMENTS; segment++)
         opened->tokens[segment] = (int)(segment % opened->geometry.nodes);

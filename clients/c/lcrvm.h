@@ -1,16 +1,19 @@
 /* Recoverable virtual memory from C: a client of the program lcrvm, by C11 and POSIX alone.
 
-   lcrvm_open starts `lcrvm run --follow` on a store in a folder and speaks its script lines. A call answers LCRVM_OK, or why it did nothing:
+   lcrvm_open starts `lcrvm run --follow` on a store in a folder and speaks its script lines. A call answers LCRVM_OK,
+   or why it did nothing:
 
-   - LCRVM_DOWN to LCRVM_READ_ONLY but LCRVM_DEVICE_FAULT: the program refused the line. Nothing has changed, and the store goes on.
+   - LCRVM_DOWN to LCRVM_READ_ONLY but LCRVM_DEVICE_FAULT: the program refused the line. Nothing has changed, and the
+   store goes on.
    - LCRVM_SPENT: the lines of this run are used up. What is open can still be ended or aborted, flushed and closed.
    - The others: the run is over, and each later call answers the same.
 
    lcrvm_fault_of has the fields of the last answer that was not LCRVM_OK.
 
-   Lines that cannot be refused are sent ahead, and their replies are read with the next one that is waited for: a begin, a set_range, a write
-   and an end together are one write and one read. A line that the client is not sure of is waited for, so a refusal is answered by
-   the very call that it is of. No call allocates but lcrvm_open and lcrvm_create. A store is used by one thread at a time.
+   Lines that cannot be refused are sent ahead, and their replies are read with the next one that is waited for: a
+   begin, a set_range, a write and an end together are one write and one read. A line that the client is not sure of is
+   waited for, so a refusal is answered by the very call that it is of. No call allocates but lcrvm_open and
+   lcrvm_create. A store is used by one thread at a time.
 
    cc -std=c11 -Wall -Wextra -O2 -c lcrvm.c */
 #ifndef LCRVM_H
@@ -20,20 +23,24 @@
 #include <stddef.h>
 #include <stdint.h>
 
+#ifdef __cplusplus
+extern "C" {
+#endif
+
 enum lcrvm_status {
     LCRVM_OK = 0,
 
     /* Refusals, by their numbers. Behind each are its fields. */
-    LCRVM_DOWN = 1,           /* the store is down */
-    LCRVM_UNKNOWN = 2,        /* a number is outside the geometry, or no record has it */
-    LCRVM_HALTED = 3,         /* a device of the node has failed */
-    LCRVM_OUT_OF_TURN = 4,    /* a transaction is open already, or none is; so it is with tokens */
-    LCRVM_BUSY = 5,           /* another transaction has the segment's lock: segment */
-    LCRVM_NOT_HERE = 6,       /* the segment's token is not at the node: segment */
-    LCRVM_NOT_LOCKED = 7,     /* the transaction did not lock the segment */
-    LCRVM_EMPTY_RANGE = 8,    /* the range has no bytes */
-    LCRVM_OUT_OF_SEGMENT = 9, /* the bytes reach past the segment; of a recovery: so do those of a record in the area: area */
-    LCRVM_NO_RANGE = 10,      /* some byte was not set */
+    LCRVM_DOWN = 1,             /* the store is down */
+    LCRVM_UNKNOWN = 2,          /* a number is outside the geometry, or no record has it */
+    LCRVM_HALTED = 3,           /* a device of the node has failed */
+    LCRVM_OUT_OF_TURN = 4,      /* a transaction is open already, or none is; so it is with tokens */
+    LCRVM_BUSY = 5,             /* another transaction has the segment's lock: segment */
+    LCRVM_NOT_HERE = 6,         /* the segment's token is not at the node: segment */
+    LCRVM_NOT_LOCKED = 7,       /* the transaction did not lock the segment */
+    LCRVM_EMPTY_RANGE = 8,      /* the range has no bytes */
+    LCRVM_OUT_OF_SEGMENT = 9,   /* the bytes reach past the segment, or of a recovery those of a record do: area */
+    LCRVM_NO_RANGE = 10,        /* some byte was not set */
     LCRVM_TOO_MANY_RANGES = 11, /* more than 64 ranges would stand */
     LCRVM_SEQUENCE_SPENT = 12,  /* the segment has had its last number: segment */
     LCRVM_TOO_LONG = 13,        /* the record would have more than 4,096 words: words */
@@ -54,15 +61,15 @@ enum lcrvm_status {
     LCRVM_READ_ONLY = 28,       /* the segment is locked for reading alone: segment */
 
     /* The run is over. */
-    LCRVM_NO_MEMORY = 64,   /* the program had no memory */
-    LCRVM_STORE_IN_USE,     /* another process has the store open: text */
-    LCRVM_DIED,             /* the program ended by itself: exit_status, signal, text */
-    LCRVM_NOT_STARTED,      /* the program could not be started: text */
-    LCRVM_NOT_A_REPLY,      /* the program printed what is no reply to its line: text */
+    LCRVM_NO_MEMORY = 64, /* the program had no memory */
+    LCRVM_STORE_IN_USE,   /* another process has the store open: text */
+    LCRVM_DIED,           /* the program ended by itself: exit_status, signal, text */
+    LCRVM_NOT_STARTED,    /* the program could not be started: text */
+    LCRVM_NOT_A_REPLY,    /* the program printed what is no reply to its line: text */
 
-    LCRVM_SPENT = 96,       /* the lines of this run are used up; the store goes on */
-    LCRVM_EXISTS,           /* something stands under the name of a file that lcrvm_create is to make */
-    LCRVM_CLIENT_MEMORY     /* lcrvm_open or lcrvm_create had no memory */
+    LCRVM_SPENT = 96,   /* the lines of this run are used up; the store goes on */
+    LCRVM_EXISTS,       /* something stands under the name of a file that lcrvm_create is to make */
+    LCRVM_CLIENT_MEMORY /* lcrvm_open or lcrvm_create had no memory */
 };
 
 /* Why a call did nothing. Fields that its status does not name are 0, and the text is empty. */
@@ -71,7 +78,8 @@ struct lcrvm_fault {
     bool has_area; /* of LCRVM_OUT_OF_SEGMENT, which may have an area or none */
     uint64_t segment, sequence, applied, area, words, tail, need;
     int exit_status, signal;
-    char text[256]; /* what the program said on standard error, the system's reason, or the line that is no reply; cut short */
+    /* What the program said on standard error, the system's reason, or the line that is no reply; cut short. */
+    char text[256];
 };
 
 /* How large a store is. */
@@ -84,19 +92,24 @@ struct lcrvm_geometry {
 };
 
 struct lcrvm_options {
-    const char *program;                   /* NULL: lcrvm, as the path has it */
-    const struct lcrvm_geometry *geometry; /* NULL: as the files say, with one thread a node; of lcrvm_create the least */
-    bool truncate_when_full;               /* see lcrvm_end_transaction */
+    /* NULL: lcrvm, as the path has it. */
+    const char *program;
+    /* NULL: as the files say; of lcrvm_create the least. */
+    const struct lcrvm_geometry *geometry;
+    /* See lcrvm_end_transaction. */
+    bool truncate_when_full;
+    /* Where there is no geometry, the threads of a node; 0 for one. */
+    uint32_t threads;
 };
 
-/* Where a commit's record stands in its node's log, and how long it is, in words of 8 bytes. No words: no range was set. */
+/* Where a commit's record stands in its node's log, and how long it is, in words. No words: no range was set. */
 struct lcrvm_commit {
     uint64_t place, words;
 };
 
 enum lcrvm_delivery { LCRVM_APPLIED, LCRVM_HELD_BACK, LCRVM_IGNORED };
 
-/* What became of a record that was delivered; `applied` is the number up to which its segment is, where it was applied. */
+/* What became of a record; where it was applied, `applied` is the number up to which its segment is. */
 struct lcrvm_delivered {
     enum lcrvm_delivery delivery;
     uint64_t applied;
@@ -107,49 +120,56 @@ struct lcrvm_store;
 /* Makes a new store, of zeros, in a folder that is there. Options and fault may be NULL. */
 enum lcrvm_status lcrvm_create(const char *folder, const struct lcrvm_options *options, struct lcrvm_fault *fault);
 
-/* Opens the store in a folder and recovers it. *store is NULL where it is not opened, and the fault, which may be NULL, says why: beside what
-   ends a run, BAD_GEOMETRY, GAP, TWICE or OUT_OF_SEGMENT of a recovery that is refused. Options may be NULL. */
-enum lcrvm_status lcrvm_open(const char *folder, const struct lcrvm_options *options, struct lcrvm_store **store, struct lcrvm_fault *fault);
+/* Opens the store in a folder and recovers it. *store is NULL where it is not opened, and the fault, which may be NULL,
+   says why: beside what ends a run, BAD_GEOMETRY, GAP, TWICE or OUT_OF_SEGMENT of a recovery that is refused. Options
+   may be NULL. */
+enum lcrvm_status lcrvm_open(const char *folder, const struct lcrvm_options *options, struct lcrvm_store **store,
+                             struct lcrvm_fault *fault);
 
-/* Ends the run and frees the store, whatever the answer. The fault may be NULL. A transaction that is open is given up, and so is a commit that
-   was not flushed. */
+/* Ends the run and frees the store, whatever the answer. The fault may be NULL. A transaction that is open is given up,
+   and so is a commit that was not flushed. */
 enum lcrvm_status lcrvm_close(struct lcrvm_store *store, struct lcrvm_fault *fault);
 
 /* Begins a transaction of a thread, and locks segments for writing and others for reading.
    UNKNOWN, OUT_OF_TURN, NOT_HERE, BUSY. */
-enum lcrvm_status lcrvm_begin_transaction(struct lcrvm_store *store, uint32_t node, uint32_t thread, const uint32_t *segments, size_t count,
-                                          const uint32_t *reading, size_t reading_count);
+enum lcrvm_status lcrvm_begin_transaction(struct lcrvm_store *store, uint32_t node, uint32_t thread,
+                                          const uint32_t *segments, size_t count, const uint32_t *reading,
+                                          size_t reading_count);
 
 /* Says that the transaction is about to change these bytes of a segment that it locked for writing.
    UNKNOWN, OUT_OF_TURN, NOT_LOCKED, READ_ONLY, EMPTY_RANGE, OUT_OF_SEGMENT, TOO_MANY_RANGES. */
-enum lcrvm_status lcrvm_set_range(struct lcrvm_store *store, uint32_t node, uint32_t thread, uint32_t segment, uint32_t offset, uint32_t length);
+enum lcrvm_status lcrvm_set_range(struct lcrvm_store *store, uint32_t node, uint32_t thread, uint32_t segment,
+                                  uint32_t offset, uint32_t length);
 
 /* Writes these bytes inside the transaction's ranges. Of no bytes no line is sent.
    UNKNOWN, OUT_OF_TURN, NOT_LOCKED, READ_ONLY, OUT_OF_SEGMENT, NO_RANGE. */
-enum lcrvm_status lcrvm_write(struct lcrvm_store *store, uint32_t node, uint32_t thread, uint32_t segment, uint32_t offset, const void *bytes,
-                              uint32_t length);
+enum lcrvm_status lcrvm_write(struct lcrvm_store *store, uint32_t node, uint32_t thread, uint32_t segment,
+                              uint32_t offset, const void *bytes, uint32_t length);
 
 /* Reads bytes of a segment that the transaction locked, with what it wrote.
    UNKNOWN, OUT_OF_TURN, NOT_LOCKED, OUT_OF_SEGMENT. */
-enum lcrvm_status lcrvm_read(struct lcrvm_store *store, uint32_t node, uint32_t thread, uint32_t segment, uint32_t offset, void *bytes,
-                             uint32_t length);
+enum lcrvm_status lcrvm_read(struct lcrvm_store *store, uint32_t node, uint32_t thread, uint32_t segment,
+                             uint32_t offset, void *bytes, uint32_t length);
 
-/* Commits the transaction. With `flush` the node's log is flushed in the same round trip, so the commit is stable behind it. `commit` may be NULL.
-   Still open behind SEQUENCE_SPENT, TOO_LONG, SEALED, FULL. Where the store was opened with truncate_when_full, FULL is answered by an
-   abort, a truncation and the same transaction again, once. FULL is the answer all the same where another transaction of the node has ranges,
-   where the truncation is refused, and where it does not help; this transaction is open then as before. */
-enum lcrvm_status lcrvm_end_transaction(struct lcrvm_store *store, uint32_t node, uint32_t thread, bool flush, struct lcrvm_commit *commit);
+/* Commits the transaction. With `flush` the node's log is flushed in the same round trip, so the commit is stable
+   behind it. `commit` may be NULL. Still open behind SEQUENCE_SPENT, TOO_LONG, SEALED, FULL. Where the store was opened
+   with truncate_when_full, FULL is answered by an abort, a truncation and the same transaction again, once. FULL is the
+   answer all the same where another transaction of the node has ranges, where the truncation is refused, and where it
+   does not help; this transaction is open then as before. */
+enum lcrvm_status lcrvm_end_transaction(struct lcrvm_store *store, uint32_t node, uint32_t thread, bool flush,
+                                        struct lcrvm_commit *commit);
 
 /* Ends the transaction without a commit: the bytes are as before it.
    UNKNOWN, OUT_OF_TURN. */
 enum lcrvm_status lcrvm_abort_transaction(struct lcrvm_store *store, uint32_t node, uint32_t thread);
 
-/* Makes all commits of the node stable; `records`, which may be NULL, is how many it has had since the store was opened.
-   UNKNOWN. */
+/* Makes all commits of the node stable; `records`, which may be NULL, is how many it has had since the store was
+   opened. UNKNOWN. */
 enum lcrvm_status lcrvm_flush(struct lcrvm_store *store, uint32_t node, uint64_t *records);
 
-/* Flushes the node's log, writes its pages and empties the log; `rounds`, which may be NULL, is how often it was emptied since the store was opened.
-   UNKNOWN, UNCOMMITTED, UNFLUSHED, UNCLEAN, ROUNDS_SPENT. What was done in front of the refusal stays done. */
+/* Flushes the node's log, writes its pages and empties the log; `rounds`, which may be NULL, is how often it was
+   emptied since the store was opened. UNKNOWN, UNCOMMITTED, UNFLUSHED, UNCLEAN, ROUNDS_SPENT. What was done in front of
+   the refusal stays done. */
 enum lcrvm_status lcrvm_truncate(struct lcrvm_store *store, uint32_t node, uint64_t *rounds);
 
 /* Takes the segment's token from the node.
@@ -162,8 +182,8 @@ enum lcrvm_status lcrvm_arrive(struct lcrvm_store *store, uint32_t node, uint32_
 
 /* Brings a stable record of a node, by its number from 1 on, to another node, for one segment. `delivered` may be NULL.
    UNKNOWN. */
-enum lcrvm_status lcrvm_deliver(struct lcrvm_store *store, uint32_t node, uint64_t record, uint32_t segment, uint32_t to,
-                                struct lcrvm_delivered *delivered);
+enum lcrvm_status lcrvm_deliver(struct lcrvm_store *store, uint32_t node, uint64_t record, uint32_t segment,
+                                uint32_t to, struct lcrvm_delivered *delivered);
 
 /* Drops the node's stable records that all nodes have applied; `count`, which may be NULL, is how many these were.
    UNKNOWN. */
@@ -180,5 +200,9 @@ long lcrvm_process_of(const struct lcrvm_store *store);
 
 /* A status in words, as `Full` or `store in use`. */
 const char *lcrvm_status_text(enum lcrvm_status status);
+
+#ifdef __cplusplus
+}
+#endif
 
 #endif

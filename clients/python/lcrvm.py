@@ -1,15 +1,15 @@
 """Recoverable virtual memory from Python: a client of the program lcrvm, by the standard library alone.
 
-`open` starts `lcrvm run --follow` on a store in a folder and speaks its script lines over two pipes. A call returns what the
-program replied, or raises a `Fault`:
+`open` starts `lcrvm run --follow` on a store in a folder and speaks its script lines over two pipes. A call returns
+what the program replied, or raises a `Fault`:
 
 - `Refused`: the program refused the line. Nothing has changed, and the store goes on.
 - `Spent`: the lines of this run are used up. What is open can still be ended or aborted, flushed and closed.
 - `Dead`: the run is over. Each later call raises the same.
 
-Lines that cannot be refused are sent ahead, and their replies are read with the next one that is waited for: `begin_transaction`,
-`set_range`, `write` and `end_transaction` together are one write to a pipe and one read. A line that the client is not sure of is waited for, so
-a refusal is raised by the very call that it is of.
+Lines that cannot be refused are sent ahead, and their replies are read with the next one that is waited for:
+`begin_transaction`, `set_range`, `write` and `end_transaction` together are one write to a pipe and one read. A line
+that the client is not sure of is waited for, so a refusal is raised by the very call that it is of.
 
 A `Store` is used by one thread at a time. docs/CLIENTS.md has an example of each call.
 """
@@ -17,6 +17,7 @@ from __future__ import annotations
 
 import contextlib
 import enum
+import operator
 import os
 import subprocess
 import tempfile
@@ -30,8 +31,8 @@ RESERVED = 4_096
 RENEWED_BELOW = 262_144
 # Lines are handed to the pipe when so many bytes wait.
 SENT_AT = 16_384
-# The replies of lines that were sent ahead are three bytes each. So many fit into the smallest pipe, of 4,096 bytes: so the program never waits
-# for its output to be read while the client waits for its input to be taken.
+# The replies of lines that were sent ahead are three bytes each. So many fit into the smallest pipe, of 4,096 bytes: so
+# the program never waits for its output to be read while the client waits for its input to be taken.
 MOST_UNREAD = 1_024
 # Ranges that a transaction may have.
 MOST_RANGES = 64
@@ -52,8 +53,8 @@ class Fault(Exception):
 class Refused(Fault):
     """The program refused the line: nothing has changed, and the store goes on.
 
-    Each subclass is a refusal: its name is that of the class, `code` its number, and its fields are attributes, in the order in
-    which they are printed.
+    Each subclass is a refusal: its name is that of the class, `code` its number, and its fields are attributes, in the
+    order in which they are printed.
     """
 
     code: ClassVar[int]
@@ -261,7 +262,10 @@ class ReadOnly(Refused):
 
 
 class Spent(Fault):
-    """A run reads 1 MiB of lines at most, and this line would not leave room to end what is open: end or abort, flush, close, open again."""
+    """A run reads 1 MiB of lines at most, and with this line no room would be left for the end of what is open.
+
+    End or abort it, flush, close, and open the store again.
+    """
 
 
 class Dead(Fault):
@@ -285,7 +289,7 @@ class NoMemory(Dead):
 
 
 class Died(Dead):
-    """The program ended by itself. `status` is its exit status, and below zero the number of the signal that ended it."""
+    """The program ended by itself. `status` is its exit status; below zero it is the signal that ended it."""
 
     def __init__(self, status: int, reason: str = "") -> None:
         super().__init__(reason)
@@ -318,7 +322,11 @@ class Exists(Fault):
 
 
 class Geometry(NamedTuple):
-    """How large a store is: nodes 1 to 8, threads of a node 1 to 16, segments 1 to 16, pages of a segment 1 to 1024, words of a log 64 to 4096."""
+    """How large a store is.
+
+    Nodes are 1 to 8, threads of a node 1 to 16, segments 1 to 16, pages of a segment 1 to 1024 of 256 bytes each, words
+    of a log 64 to 4096 of 8 bytes each.
+    """
 
     nodes: int = 1
     threads: int = 1
@@ -359,9 +367,15 @@ def _line(*words: object) -> bytes:
 
 
 def _number(value: int, bits: int) -> int:
-    if not 0 <= value < 1 << bits:
-        raise ValueError(f"{value} is not a number of {bits} bits")
-    return value
+    number = operator.index(value)
+    if not 0 <= number < 1 << bits:
+        raise ValueError(f"{number} is not a number of {bits} bits")
+    return number
+
+
+def _line_at(word: str, node: int, thread: int, segment: int, offset: int, more: object) -> bytes:
+    """The line of a transaction's call on bytes of a segment."""
+    return _line(word, _number(node, 16), _number(thread, 16), _number(segment, 32), _number(offset, 32), more)
 
 
 def _refusal(reply: str) -> Optional[Refused]:
@@ -378,8 +392,11 @@ def _refusal(reply: str) -> Optional[Refused]:
 def _numbers(reply: str, *shape: str) -> Optional[List[int]]:
     """The numbers of a reply of this shape, in which `#` stands for a number."""
     words = reply.split(" ")
-    fits = len(words) == len(shape) and all(word.isdecimal() if want == "#" else word == want for word, want in zip(words, shape))
-    return [int(word) for word, want in zip(words, shape) if want == "#"] if fits else None
+    if len(words) != len(shape):
+        return None
+    if not all(word.isdecimal() if want == "#" else word == want for word, want in zip(words, shape)):
+        return None
+    return [int(word) for word, want in zip(words, shape) if want == "#"]
 
 
 def _options(geometry: Geometry) -> List[str]:
@@ -387,13 +404,14 @@ def _options(geometry: Geometry) -> List[str]:
 
 
 class _Run:
-    """One run of the program. Lines go out in order and each has one reply; those of lines that were sent ahead are read with the next."""
+    """One run of the program. Each line has one reply; those of lines that were sent ahead are read with the next."""
 
     def __init__(self, command: Sequence[str]) -> None:
         # A file, so that the program never waits for its standard error to be read.
         self._errors = tempfile.TemporaryFile()
         try:
-            self._process = subprocess.Popen(command, stdin=subprocess.PIPE, stdout=subprocess.PIPE, stderr=self._errors)
+            pipe = subprocess.PIPE
+            self._process = subprocess.Popen(command, stdin=pipe, stdout=pipe, stderr=self._errors)
         except OSError as error:
             self._errors.close()
             raise NotStarted(str(error)) from error
@@ -498,9 +516,20 @@ class _Range(NamedTuple):
     low: int
     high: int
 
+    @property
+    def length(self) -> int:
+        return self.high - self.low
+
+    def covers(self, other: _Range) -> bool:
+        return self.segment == other.segment and self.low <= other.low and other.high <= self.high
+
+    def meets(self, other: _Range) -> bool:
+        """Whether the two overlap or touch."""
+        return self.segment == other.segment and self.low <= other.high and other.low <= self.high
+
 
 class _Begun:
-    """A transaction that is open: the line that began it, what it locked, and its ranges, which neither overlap nor touch."""
+    """A transaction that is open: its first line, what it locked, and its ranges, which neither overlap nor touch."""
 
     def __init__(self, line: bytes, writing: Set[int], reading: Set[int]) -> None:
         self.line = line
@@ -513,15 +542,13 @@ class _Begun:
 
     def covers(self, wanted: _Range) -> bool:
         """Whether one of the ranges has these bytes."""
-        return any(it.segment == wanted.segment and it.low <= wanted.low and wanted.high <= it.high for it in reversed(self.ranges))
+        return any(it.covers(wanted) for it in reversed(self.ranges))
 
-    def add(self, range_: _Range) -> None:
+    def add(self, new: _Range) -> None:
         """Adds a range. Those that it overlaps or touches become one with it, so as many stand as in the program."""
-        met = [it for it in self.ranges if it.segment == range_.segment and it.low <= range_.high and range_.low <= it.high]
-        if met:
-            self.ranges = [it for it in self.ranges if it not in met]
-        low, high = min([range_.low, *(it.low for it in met)]), max([range_.high, *(it.high for it in met)])
-        self.ranges.append(_Range(range_.segment, low, high))
+        met = [new, *(it for it in self.ranges if it.meets(new))]
+        self.ranges = [it for it in self.ranges if not it.meets(new)]
+        self.ranges.append(_Range(new.segment, min(it.low for it in met), max(it.high for it in met)))
 
 
 class Transaction:
@@ -546,7 +573,14 @@ class Transaction:
 class Store:
     """A store that is open. `geometry` says how large it is; `open` makes one."""
 
-    def __init__(self, command: Sequence[str], folder: str, geometry: Optional[Geometry], threads: int, truncate_when_full: bool) -> None:
+    def __init__(
+        self,
+        command: Sequence[str],
+        folder: str,
+        geometry: Optional[Geometry],
+        threads: int,
+        truncate_when_full: bool,
+    ) -> None:
         self._command = command
         self._truncate_when_full = truncate_when_full
         self._begun: Dict[Tuple[int, int], _Begun] = {}
@@ -555,7 +589,9 @@ class Store:
         # From here on the folder is locked, so the files stay as long as they are.
         self.geometry = geometry if geometry is not None else _found(folder, threads)
         # Where each token is; nowhere while it is on its way.
-        self._tokens: Dict[int, Optional[int]] = {segment: segment % self.geometry.nodes for segment in range(1, self.geometry.segments + 1)}
+        self._tokens: Dict[int, Optional[int]] = {
+            segment: segment % self.geometry.nodes for segment in range(1, self.geometry.segments + 1)
+        }
         # The records and the rounds of the runs before this one, and the records and the last round known of all.
         self._records_before = [0] * self.geometry.nodes
         self._rounds_before = [0] * self.geometry.nodes
@@ -578,7 +614,7 @@ class Store:
     def transaction(
         self, node: int, thread: int, segments: Iterable[int] = (), reading: Iterable[int] = (), *, flush: bool = False
     ) -> Iterator[Transaction]:
-        """A transaction for a `with`: it is ended behind the block, and aborted where the block, or its end, raises an exception."""
+        """A transaction for a `with`: ended behind the block, and aborted where the block, or that end, raises."""
         self.begin_transaction(node, thread, segments, reading)
         try:
             yield Transaction(self, node, thread)
@@ -588,7 +624,9 @@ class Store:
                 self.abort_transaction(node, thread)
             raise
 
-    def begin_transaction(self, node: int, thread: int, segments: Iterable[int] = (), reading: Iterable[int] = ()) -> None:
+    def begin_transaction(
+        self, node: int, thread: int, segments: Iterable[int] = (), reading: Iterable[int] = ()
+    ) -> None:
         """Begins a transaction of a thread, and locks segments for writing and others for reading.
 
         Refused: Unknown, OutOfTurn, NotHere, Busy.
@@ -608,12 +646,11 @@ class Store:
         """
         self._ready()
         begun = self._begun.get((node, thread))
-        line = _line("range", _number(node, 16), _number(thread, 16), _number(segment, 32), _number(offset, 32), _number(length, 32))
-        range_ = _Range(segment, offset, offset + length)
-        sure = begun is not None and segment in begun.writing and length > 0 and range_.high <= self.geometry.segment_bytes
-        self._do(line, sure and begun is not None and len(begun.ranges) < MOST_RANGES)
+        line = _line_at("range", node, thread, segment, offset, _number(length, 32))
+        new = _Range(segment, offset, offset + length)
+        self._do(line, begun is not None and self._can_set(begun, new))
         if begun is not None:
-            begun.add(range_)
+            begun.add(new)
 
     def write(self, node: int, thread: int, segment: int, offset: int, data: bytes) -> None:
         """Writes these bytes inside the transaction's ranges. Of no bytes no line is sent.
@@ -625,7 +662,7 @@ class Store:
         if not data:
             return
         begun = self._begun.get((node, thread))
-        line = _line("write", _number(node, 16), _number(thread, 16), _number(segment, 32), _number(offset, 32), data.hex())
+        line = _line_at("write", node, thread, segment, offset, data.hex())
         self._do(line, begun is not None and begun.covers(_Range(segment, offset, offset + len(data))))
 
     def read(self, node: int, thread: int, segment: int, offset: int, length: int) -> bytes:
@@ -637,12 +674,14 @@ class Store:
         return self._read(node, thread, segment, offset, length)
 
     def end_transaction(self, node: int, thread: int, *, flush: bool = False) -> Optional[Commit]:
-        """Commits the transaction, and returns where its record stands; None where no range was set. With `flush` the node's log is flushed in the
-        same round trip, so the commit is stable when this returns.
+        """Commits the transaction, and returns where its record stands; None where no range was set.
 
-        Refused, and then still open: SequenceSpent, TooLong, Sealed, Full. Where the store was opened with `truncate_when_full`, Full is answered by
-        an abort, a truncation and the same transaction again, once. Full is raised all the same where another transaction of the node has ranges,
-        where the truncation is refused, which is then the exception's cause, and where it does not help; this transaction is open then as before.
+        With `flush` the node's log is flushed in the same round trip, so the commit is stable when this returns.
+
+        Refused, and then still open: SequenceSpent, TooLong, Sealed, Full. Where the store was opened with
+        `truncate_when_full`, Full is answered by an abort, a truncation and the same transaction again, once. Full is
+        raised all the same where another transaction of the node has ranges, where the truncation is refused, which is
+        then the exception's cause, and where it does not help; this transaction is open then as before.
         """
         self._ready()
         try:
@@ -672,9 +711,10 @@ class Store:
         return self._flushed(node, self._ask(_line("flush", _number(node, 16)), 0))
 
     def truncate(self, node: int) -> int:
-        """Flushes the node's log, writes its pages and empties the log; returns how often it was emptied since the store was opened.
+        """Flushes the node's log, writes its pages and empties the log.
 
-        Refused: Unknown, Uncommitted, Unflushed, Unclean, RoundsSpent. What was done in front of the refusal stays done.
+        Returns how often it was emptied since the store was opened. Refused: Unknown, Uncommitted, Unflushed, Unclean,
+        RoundsSpent. What was done in front of the refusal stays done.
         """
         self._ready()
         return self._truncate(_number(node, 16))
@@ -722,7 +762,10 @@ class Store:
         return (_numbers(reply, "trimmed", "#") or self._fail(reply))[0]
 
     def close(self) -> None:
-        """Ends the run. A transaction that is open is given up, and so is a commit that was not flushed. Each later call raises Closed."""
+        """Ends the run. Each later call raises Closed.
+
+        A transaction that is open is given up, and so is a commit that was not flushed.
+        """
         self._live()
         with self._answering():
             self._run.end()
@@ -731,7 +774,7 @@ class Store:
     # ---- what is sure, and what is made again
 
     def _can_begin(self, node: int, thread: int, segments: Set[int]) -> bool:
-        """Whether no reason to refuse this is left: what the client does not follow as closely as the program, it is not sure of."""
+        """Whether no reason to refuse this is left; what is followed less closely than in the program may be one."""
         return (
             node < self.geometry.nodes
             and thread < self.geometry.threads
@@ -740,18 +783,28 @@ class Store:
             and not any(begun.locks(segment) for begun in self._begun.values() for segment in segments)
         )
 
+    def _can_set(self, begun: _Begun, new: _Range) -> bool:
+        """The same of a range."""
+        inside = new.length > 0 and new.high <= self.geometry.segment_bytes
+        return inside and new.segment in begun.writing and len(begun.ranges) < MOST_RANGES
+
     def _can_make_again(self, node: int, thread: int, full: Full) -> bool:
-        """Whether the log can be emptied when this transaction is aborted, and the transaction can be made again then."""
+        """Whether the log can be emptied when this transaction is aborted, and the transaction be made again then."""
         others = (begun for key, begun in self._begun.items() if key[0] == node and key[1] != thread)
+        if full.need > self.geometry.words or any(begun.ranges for begun in others):
+            return False
         ranges = self._begun[node, thread].ranges
         # A read, a range and a write for each range, with its bytes.
-        lines = sum(3 * RANGE_LINE_BYTES + 2 * (it.high - it.low) for it in ranges) + 3 * RANGE_LINE_BYTES
-        return full.need <= self.geometry.words and not any(begun.ranges for begun in others) and lines + RESERVED <= self._run.left
+        lines = sum(3 * RANGE_LINE_BYTES + 2 * it.length for it in ranges) + 3 * RANGE_LINE_BYTES
+        return lines + RESERVED <= self._run.left
 
     def _make_again(self, node: int, thread: int, full: Full) -> None:
-        """Aborts the transaction, truncates the log, and makes the transaction again. Where the truncation is refused the log is full as before."""
+        """Aborts the transaction, truncates the log, and makes the transaction again.
+
+        Where the truncation is refused the log is full as before.
+        """
         begun = self._begun[node, thread]
-        kept = [self._read(node, thread, it.segment, it.low, it.high - it.low) for it in begun.ranges]
+        kept = [self._read(node, thread, it.segment, it.low, it.length) for it in begun.ranges]
         self.abort_transaction(node, thread)
         cause: Optional[Refused] = None
         try:
@@ -761,14 +814,14 @@ class Store:
         # Nothing was begun in between, so the locks are free, and each line is taken as it was before.
         self._do(begun.line, True, 0)
         for it, data in zip(begun.ranges, kept):
-            self._do(_line("range", node, thread, it.segment, it.low, it.high - it.low), True, 0)
-            self._do(_line("write", node, thread, it.segment, it.low, data.hex()), True, 0)
+            self._do(_line_at("range", node, thread, it.segment, it.low, it.length), True, 0)
+            self._do(_line_at("write", node, thread, it.segment, it.low, data.hex()), True, 0)
         self._begun[node, thread] = begun
         if cause is not None:
             raise full from cause
 
     def _read(self, node: int, thread: int, segment: int, offset: int, length: int) -> bytes:
-        line = _line("read", _number(node, 16), _number(thread, 16), _number(segment, 32), _number(offset, 32), _number(length, 32))
+        line = _line_at("read", node, thread, segment, offset, _number(length, 32))
         reply = self._ask(line, RESERVED)
         word, _, digits = reply.partition(" ")
         with contextlib.suppress(ValueError):
@@ -865,9 +918,14 @@ class Store:
     # ---- runs
 
     def _ready(self) -> None:
-        """Raises what the store died of; and begins another run, where the lines of this one are nearly used up and nothing would be lost."""
+        """Raises what the store died of.
+
+        And begins another run, where the lines of this one are nearly used up and nothing would be lost.
+        """
         self._live()
-        if self._run.left < RENEWED_BELOW and self.geometry.nodes == 1 and not self._begun and None not in self._tokens.values():
+        if self._run.left >= RENEWED_BELOW or self.geometry.nodes > 1:
+            return
+        if not self._begun and None not in self._tokens.values():
             self._renew()
 
     def _renew(self) -> None:
@@ -916,7 +974,8 @@ def create(folder: str, geometry: Geometry = Geometry(), *, program: str = "lcrv
     Raises Exists, DeviceFault, StoreInUse, NotStarted or Died.
     """
     try:
-        done = subprocess.run([program, "init", folder, *_options(geometry)], stdin=subprocess.DEVNULL, stdout=subprocess.PIPE, stderr=subprocess.PIPE)
+        command = [program, "init", folder, *_options(geometry)]
+        done = subprocess.run(command, stdin=subprocess.DEVNULL, stdout=subprocess.PIPE, stderr=subprocess.PIPE)
     except OSError as error:
         raise NotStarted(str(error)) from error
     reason = done.stderr.decode("utf-8", "replace").strip()
@@ -930,12 +989,20 @@ def create(folder: str, geometry: Geometry = Geometry(), *, program: str = "lcrv
 
 
 def open(
-    folder: str, geometry: Optional[Geometry] = None, *, threads: int = 1, program: str = "lcrvm", truncate_when_full: bool = False
+    folder: str,
+    geometry: Optional[Geometry] = None,
+    *,
+    threads: int = 1,
+    program: str = "lcrvm",
+    truncate_when_full: bool = False,
 ) -> Store:
-    """Opens the store in a folder, and recovers it. Without a geometry it is as the files say, with so many threads a node.
+    """Opens the store in a folder, and recovers it.
 
-    Raises BadGeometry, Gap, Twice or OutOfSegment where the recovery is refused; DeviceFault, StoreInUse, NotStarted, NoMemory, Died or NotAReply
-    where there is no run. With `truncate_when_full` a commit that finds the log full empties it (`Store.end_transaction`).
+    Without a geometry it is as the files say, with so many threads a node. With `truncate_when_full` a commit that
+    finds the log full empties it (`Store.end_transaction`).
+
+    Raises BadGeometry, Gap, Twice or OutOfSegment where the recovery is refused; DeviceFault, StoreInUse, NotStarted,
+    NoMemory, Died or NotAReply where there is no run.
     """
     size = _options(geometry) if geometry is not None else ["--as-found", f"--threads={threads}"]
     command = [program, "run", "--follow", f"--store={folder}", *size]
