@@ -141,6 +141,28 @@ static const struct lcrvm_fault *fault_of(const struct lcrvm_store *store)
     return lcrvm_fault_of(store);
 }
 
+/* Each call answers this from now on, and so does the close. */
+static void dead(struct test *test, struct lcrvm_store *store, enum lcrvm_status status)
+{
+    char bytes[1];
+    struct lcrvm_fault fault;
+    ANSWERS(test, lcrvm_flush(store, 0, NULL), status);
+    ANSWERS(test, begin(store, 0, 0, 1), status);
+    ANSWERS(test, lcrvm_set_range(store, 0, 0, 1, 0, 1), status);
+    ANSWERS(test, lcrvm_write(store, 0, 0, 1, 0, "x", 1), status);
+    ANSWERS(test, lcrvm_read(store, 0, 0, 1, 0, bytes, 1), status);
+    ANSWERS(test, lcrvm_end_transaction(store, 0, 0, true, NULL), status);
+    ANSWERS(test, lcrvm_abort_transaction(store, 0, 0), status);
+    ANSWERS(test, lcrvm_truncate(store, 0, NULL), status);
+    ANSWERS(test, lcrvm_leave(store, 0, 1), status);
+    ANSWERS(test, lcrvm_arrive(store, 0, 1), status);
+    ANSWERS(test, lcrvm_deliver(store, 0, 1, 1, 0, NULL), status);
+    ANSWERS(test, lcrvm_trim(store, 0, NULL), status);
+    CHECK(test, fault_of(store)->status == status);
+    ANSWERS(test, lcrvm_close(store, &fault), status);
+    CHECK(test, fault.status == status);
+}
+
 /* ---- the calls */
 
 static void test_commits(struct test *test)
@@ -467,6 +489,32 @@ static void test_a_run_is_followed_by_another(struct test *test)
     close_well(test, store);
 }
 
+static void test_a_store_is_taken_between_two_runs(struct test *test)
+{
+    const struct lcrvm_geometry geometry = {1, 1, 1, 64, 4096};
+    char path[PATH_BYTES], text[TEXT_BYTES];
+    enum lcrvm_status status = LCRVM_OK;
+    unsigned char bytes[10000];
+    create(test, &geometry);
+    snprintf(text, sizeof text,
+             "[ -e '%s/started' ] && { echo 'device fault'; echo 'lcrvm: store: store in use' >&2; exit 3; }\n"
+             ": > '%s/started'\nexec '%s' \"$@\"",
+             test->room, test->room, test->program);
+    script(test, path, text);
+    struct lcrvm_store *store = opened_by(test, path, &geometry, true);
+    for (int number = 1; status == LCRVM_OK && number <= 60; number++) {
+        memset(bytes, number, sizeof bytes);
+        status = begin(store, 0, 0, 1);
+        if (status != LCRVM_OK)
+            break;
+        ANSWERS(test, lcrvm_set_range(store, 0, 0, 1, 0, sizeof bytes), LCRVM_OK);
+        ANSWERS(test, lcrvm_write(store, 0, 0, 1, 0, bytes, sizeof bytes), LCRVM_OK);
+        ANSWERS(test, lcrvm_end_transaction(store, 0, 0, false, NULL), LCRVM_OK);
+    }
+    ANSWERS(test, status, LCRVM_STORE_IN_USE);
+    dead(test, store, LCRVM_STORE_IN_USE);
+}
+
 static void test_lines_are_used_up(struct test *test)
 {
     struct lcrvm_store *store = made(test, &two_nodes, false);
@@ -485,28 +533,6 @@ static void test_lines_are_used_up(struct test *test)
 }
 
 /* ---- runs that are over */
-
-/* Each call answers this from now on, and so does the close. */
-static void dead(struct test *test, struct lcrvm_store *store, enum lcrvm_status status)
-{
-    char bytes[1];
-    struct lcrvm_fault fault;
-    ANSWERS(test, lcrvm_flush(store, 0, NULL), status);
-    ANSWERS(test, begin(store, 0, 0, 1), status);
-    ANSWERS(test, lcrvm_set_range(store, 0, 0, 1, 0, 1), status);
-    ANSWERS(test, lcrvm_write(store, 0, 0, 1, 0, "x", 1), status);
-    ANSWERS(test, lcrvm_read(store, 0, 0, 1, 0, bytes, 1), status);
-    ANSWERS(test, lcrvm_end_transaction(store, 0, 0, true, NULL), status);
-    ANSWERS(test, lcrvm_abort_transaction(store, 0, 0), status);
-    ANSWERS(test, lcrvm_truncate(store, 0, NULL), status);
-    ANSWERS(test, lcrvm_leave(store, 0, 1), status);
-    ANSWERS(test, lcrvm_arrive(store, 0, 1), status);
-    ANSWERS(test, lcrvm_deliver(store, 0, 1, 1, 0, NULL), status);
-    ANSWERS(test, lcrvm_trim(store, 0, NULL), status);
-    CHECK(test, fault_of(store)->status == status);
-    ANSWERS(test, lcrvm_close(store, &fault), status);
-    CHECK(test, fault.status == status);
-}
 
 static void test_a_store_in_use(struct test *test)
 {
@@ -682,6 +708,7 @@ static const struct {
     {"a full log whose truncation is refused", test_a_full_log_whose_truncation_is_refused},
     {"many lines", test_many_lines},
     {"a run is followed by another", test_a_run_is_followed_by_another},
+    {"a store is taken between two runs", test_a_store_is_taken_between_two_runs},
     {"lines are used up", test_lines_are_used_up},
     {"a store in use", test_a_store_in_use},
     {"a program that is killed", test_a_program_that_is_killed},

@@ -371,6 +371,23 @@ class ClientTest(unittest.TestCase):
             self.assertEqual(transaction.read(1, 0, 10_000), bytes([60]) * 10_000)
         store.close()
 
+    def test_a_store_that_is_taken_between_two_runs(self) -> None:
+        self.create(lcrvm.Geometry(pages=64, words=4096))
+        started = shlex.quote(os.path.join(self.room, "started"))
+        taken = "echo 'device fault'; echo 'lcrvm: store: store in use' >&2; exit 3"
+        program = self.script(f'[ -e {started} ] && {{ {taken}; }}\n: > {started}\nexec {shlex.quote(PROGRAM)} "$@"')
+        store = lcrvm.open(self.folder, lcrvm.Geometry(pages=64, words=4096), program=program, truncate_when_full=True)
+        with self.assertRaises(lcrvm.StoreInUse):
+            for number in range(1, 61):
+                with store.transaction(0, 0, [1]) as transaction:
+                    transaction.set_range(1, 0, 10_000)
+                    transaction.write(1, 0, bytes([number]) * 10_000)
+        self.dead(store, lcrvm.StoreInUse)
+        # All that was committed before is there: it was flushed when the first run ended.
+        store = self.opened(lcrvm.Geometry(pages=64, words=4096))
+        with store.transaction(0, 0, reading=[1]) as transaction:
+            self.assertEqual(transaction.read(1, 0, 10_000), bytes([number - 1]) * 10_000)
+
     def test_a_run_whose_lines_are_used_up(self) -> None:
         store = self.made(TWO_NODES)
         store.begin_transaction(1, 0, [1])

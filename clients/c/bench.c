@@ -6,7 +6,7 @@
    seed. By hand a commit keeps the old bytes, sets the new ones in memory and makes a record of 64 bytes; a flush is
    four calls on a file of records: the records but for their first byte, a sync, that byte, a sync. An emptied log is
    one write of all pages and a sync, and one byte of the log and a sync. Both change the same bytes in the same order,
-   and at the end they are compared. It takes a minute or two; with --short, a few seconds.
+   and at the end they are compared. It takes half a minute or more; with --short, a few seconds.
 
    cc -std=c11 -Wall -Wextra -O2 bench.c lcrvm.c -o bench */
 #define _POSIX_C_SOURCE 200809L
