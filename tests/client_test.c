@@ -664,6 +664,12 @@ static void test_programs_that_end(struct test *test)
     script(test, path, "echo refused Gap 1 2; exit 1");
     ANSWERS(test, lcrvm_open(test->folder, &options, &store, &fault), LCRVM_GAP);
     CHECK(test, store == NULL && fault.segment == 1 && fault.sequence == 2);
+    options.geometry = NULL;
+    script(test, path, "read -r line; echo seg2 is missing; exit 1");
+    ANSWERS(test, lcrvm_open(test->folder, &options, &store, &fault), LCRVM_NO_STORE);
+    CHECK(test, store == NULL && strcmp(fault.text, "seg2 is missing") == 0);
+    script(test, path, "read -r line; echo seg2 is missing; exit 2");
+    ANSWERS(test, lcrvm_open(test->folder, &options, &store, &fault), LCRVM_NOT_A_REPLY);
     strcat(path, ".nothing");
     ANSWERS(test, lcrvm_open(test->folder, &options, &store, &fault), LCRVM_NOT_STARTED);
     CHECK(test, store == NULL && fault.text[0] != '\0');

@@ -250,6 +250,16 @@ class ClientTest(unittest.TestCase):
             self.assertEqual(store.geometry, TWO_NODES)
             self.assertEqual(self.commit(store, 1, 1, 0, b"x"), lcrvm.Commit(0, 8))
 
+    def test_files_that_do_not_fit_together(self) -> None:
+        with self.assertRaises(lcrvm.NoStore) as raised:
+            lcrvm.open(self.folder, program=self.script("read -r line; echo seg2 is missing; exit 1"))
+        self.assertEqual(raised.exception.reason, "seg2 is missing")
+        for last in ("echo nothing at all; exit 0", "echo seg2 is missing; exit 2"):
+            with self.assertRaises(lcrvm.NotAReply):
+                lcrvm.open(self.folder, program=self.script(f"read -r line; {last}"))
+        with self.assertRaises(lcrvm.NotAReply):
+            lcrvm.open(self.folder, lcrvm.Geometry(), program=self.script("echo seg2 is missing; exit 1"))
+
     def test_a_store_as_the_program_finds_it(self) -> None:
         helps = subprocess.run([PROGRAM, "run", "--help"], stdout=subprocess.PIPE, check=True)
         if b"--as-found" not in helps.stdout:
@@ -258,6 +268,9 @@ class ClientTest(unittest.TestCase):
         with lcrvm.open(self.folder, threads=2, program=PROGRAM) as store:
             self.assertEqual(store.geometry, TWO_NODES)
             self.assertEqual(self.commit(store, 1, 1, 0, b"x"), lcrvm.Commit(0, 8))
+        os.remove(os.path.join(self.folder, "log0"))
+        with self.assertRaises(lcrvm.NoStore):
+            lcrvm.open(self.folder, program=PROGRAM)
 
     # ---- logs that are full
 

@@ -76,7 +76,7 @@ struct lcrvm_store {
     bool dead;
     struct lcrvm_fault last;
     char *arguments[MOST_ARGUMENTS + 1];
-    bool truncate_when_full;
+    bool is_as_found, truncate_when_full;
     struct lcrvm_geometry geometry;
     int tokens[MOST_SEGMENTS + 1];
     uint64_t records_before[MOST_NODES], rounds_before[MOST_NODES]; /* of the runs before this one */
@@ -145,6 +145,7 @@ const char *lcrvm_status_text(enum lcrvm_status status)
     case LCRVM_DIED: return "the program ended";
     case LCRVM_NOT_STARTED: return "not started";
     case LCRVM_NOT_A_REPLY: return "not a reply";
+    case LCRVM_NO_STORE: return "no store";
     case LCRVM_SPENT: return "the lines of this run are used up";
     case LCRVM_EXISTS: return "Exists";
     case LCRVM_CLIENT_MEMORY: return "no memory in the client";
@@ -710,6 +711,14 @@ static void add_range(struct begun *begun, struct range range)
 
 /* ---- runs of a store */
 
+/* What is printed in place of a first reply, where the files are to tell the size: why they do not, if the program
+ * ends. */
+static enum lcrvm_status no_store(struct lcrvm_store *store, const char *text)
+{
+    over(store, text);
+    return answer(store, store->last.exit_status == 1 ? LCRVM_NO_STORE : LCRVM_NOT_A_REPLY, text);
+}
+
 static enum lcrvm_status start(struct lcrvm_store *store)
 {
     int error = start_run(&store->run, store->arguments);
@@ -723,6 +732,9 @@ static enum lcrvm_status start(struct lcrvm_store *store)
     enum lcrvm_status status = ask(store, &line, 0, text);
     if (status != LCRVM_OK || strcmp(text, "nothing") == 0)
         return status;
+    struct lcrvm_fault fault;
+    if (store->is_as_found && !is_refusal(text, &fault))
+        return no_store(store, text);
     status = refused(store, text);
     if (!store->dead) {
         /* A recovery that is refused ends the program. */
@@ -1262,6 +1274,7 @@ enum lcrvm_status lcrvm_open(const char *folder, const struct lcrvm_options *opt
             fill_fault(fault, LCRVM_CLIENT_MEMORY, "");
         return LCRVM_CLIENT_MEMORY;
     }
+    opened->is_as_found = options->geometry == NULL;
     enum lcrvm_status status = start(opened);
     if (status != LCRVM_OK) {
         tell(fault, &opened->last);

@@ -66,6 +66,7 @@ enum lcrvm_status {
     LCRVM_DIED,           /* the program ended by itself: exit_status, signal, text */
     LCRVM_NOT_STARTED,    /* the program could not be started: text */
     LCRVM_NOT_A_REPLY,    /* the program printed what is no reply to its line: text */
+    LCRVM_NO_STORE,       /* the files do not fit together, so there is no store as found: text */
 
     LCRVM_SPENT = 96,   /* the lines of this run are used up; the store goes on */
     LCRVM_EXISTS,       /* something stands under the name of a file that lcrvm_create is to make */
@@ -121,8 +122,8 @@ struct lcrvm_store;
 enum lcrvm_status lcrvm_create(const char *folder, const struct lcrvm_options *options, struct lcrvm_fault *fault);
 
 /* Opens the store in a folder and recovers it. *store is NULL where it is not opened, and the fault, which may be NULL,
-   says why: beside what ends a run, BAD_GEOMETRY, GAP, TWICE or OUT_OF_SEGMENT of a recovery that is refused. Options
-   may be NULL. */
+   says why: beside what ends a run, BAD_GEOMETRY, GAP, TWICE or OUT_OF_SEGMENT of a recovery that is refused, and
+   NO_STORE. Options may be NULL. */
 enum lcrvm_status lcrvm_open(const char *folder, const struct lcrvm_options *options, struct lcrvm_store **store,
                              struct lcrvm_fault *fault);
 

@@ -301,6 +301,10 @@ class NotStarted(Dead):
     """The program could not be started."""
 
 
+class NoStore(Dead):
+    """The files do not fit together, so there is no store as found; `reason` says which file it is."""
+
+
 class NotAReply(Dead):
     """The program printed what is no reply to its line: `reply`."""
 
@@ -451,6 +455,11 @@ class _Run:
             raise self._why("")
         self._errors.close()
 
+    def is_given_up(self) -> bool:
+        """Whether the program ends by itself, as one does that finds no store."""
+        self._over("")
+        return self._process.returncode == 1
+
     def kill(self) -> None:
         """Ends a program that does not keep to its lines."""
         self._process.kill()
@@ -582,6 +591,7 @@ class Store:
         truncate_when_full: bool,
     ) -> None:
         self._command = command
+        self._as_found = geometry is None
         self._truncate_when_full = truncate_when_full
         self._begun: Dict[Tuple[int, int], _Begun] = {}
         self._dead: Optional[Dead] = None
@@ -951,8 +961,11 @@ class Store:
             # A recovery that is refused ends the program.
             self._run.kill()
             raise
-        if reply != "nothing":
-            self._fail(reply)
+        if reply == "nothing":
+            return
+        if self._as_found and self._run.is_given_up():
+            self._die(NoStore(reply))
+        self._fail(reply)
 
 
 def _found(folder: str, threads: int) -> Geometry:
@@ -1001,8 +1014,8 @@ def open(
     Without a geometry it is as the files say, with so many threads a node. With `truncate_when_full` a commit that
     finds the log full empties it (`Store.end_transaction`).
 
-    Raises BadGeometry, Gap, Twice or OutOfSegment where the recovery is refused; DeviceFault, StoreInUse, NotStarted,
-    NoMemory, Died or NotAReply where there is no run.
+    Raises BadGeometry, Gap, Twice or OutOfSegment where the recovery is refused, NoStore where the files do not fit
+    together; DeviceFault, StoreInUse, NotStarted, NoMemory, Died or NotAReply where there is no run.
     """
     size = _options(geometry) if geometry is not None else ["--as-found", f"--threads={threads}"]
     command = [program, "run", "--follow", f"--store={folder}", *size]
