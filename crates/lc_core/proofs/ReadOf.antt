@@ -16,7 +16,7 @@ use Rattle.lc_rest.specs.declared.holder.Holder.{Holder}
 use Rattle.lc_rest.specs.declared.holder.Holder.TheVariants.{Here, Left}
 use Rattle.lc_token.specs.declared.token.Token.{Token as TheToken}
 use Rattle.lc_trunc.specs.KnownClean.{known as known_of}
-use Rattle.lc_core.specs.AtRest.{AreMerged, AreReadAreas, Fails, IsFirst, IsReadLog, IsReadOf, KeepsImages, KeepsOwn, KeepsToken, PassesAll}
+use Rattle.lc_core.specs.AtRest.{AreMerged, AreReadAreas, Fails, HasPart, IsFirst, IsReadLog, IsReadOf, KeepsImages, KeepsOwn, KeepsToken, PassesAll}
 use Rattle.lc_core.specs.Built.{IsBuiltOf}
 use Rattle.lc_core.specs.Cluster.{IsBuilt, IsReadCluster, knowns_of}
 use Rattle.lc_core.specs.Kept.{closed_record}
@@ -32,6 +32,7 @@ use Rattle.lc_core.specs.declared.part.Part.{Part}
 use Rattle.lc_core.specs.declared.part.Part.TheVariants.{Seat, Log, Token, Image}
 use Rattle.lc_core.specs.declared.parts.Parts.{Parts}
 use Rattle.lc_core.specs.declared.read_cluster.ReadCluster.{ReadCluster}
+use Rattle.lc_core.specs.declared.read_parts.ReadParts.{ReadParts}
 use Rattle.lc_core.specs.declared.segment_part.SegmentPart.{SegmentPart}
 use Rattle.lc_core.specs.declared.up.Up.{Up}
 use Rattle.lc_core.proofs.Closes.{get-map}
@@ -45,6 +46,13 @@ mapped_or f xs n x d got = get_or_from_slice_get (map f xs) n (f x) d (get-map f
 placed_self : (holder : Holder) → IsPlaced holder (place_of holder)
 placed_self (Here node) = refl
 placed_self (Left node) = refl
+
+-- a part that fails is one of the cluster's
+pub one_of_cluster : (r : ReadParts) (knowns : List (List ℕ)) (nodes : List NodeImages) (part : Part) → FailsIn r knowns nodes part → HasPart r.geometry part
+one_of_cluster r knowns nodes (Seat node) fails = absurd fails
+one_of_cluster r knowns nodes (Log node) fails = fails.0
+one_of_cluster r knowns nodes (Token segment) fails = (fails.2.from, fails.0)
+one_of_cluster r knowns nodes (Image segment) fails = (fails.3.2.from, fails.0)
 
 first_mapped : (P Q : ℕ → Type 0) (least n : ℕ) → ((m : ℕ) → P m → Q m) → (Q n → P n) → IsFirst P least n → IsFirst Q least n
 first_mapped P Q least n on back is = record { from = is.from; before = λ other from less. on other (is.before other from less); fails = λ q. is.fails (back q) }

@@ -3,6 +3,7 @@ use Rattle.std.specs.Prelude.{◌≡◌, ◌⊎◌, ℕ, ◌+◌, ◌-◌, ◌<�
 use Rattle.std.specs.List.{flat_map}
 use Rattle.lc_disk.specs.declared.area.Area.{Ghosts}
 use Rattle.lc_model.specs.State.{Travelling}
+use Rattle.lc_record.specs.declared.geometry.Geometry.{Geometry}
 use Rattle.lc_record.specs.declared.record.Record.{Record}
 use Rattle.lc_rest.specs.Holder.{IsPlaced, node_of}
 use Rattle.lc_rest.specs.LogTest.{IsOwn}
@@ -45,6 +46,13 @@ pub record IsFirst (Keeps : ℕ → Type 0) (least n : ℕ) : Type 0 where
   pub from : least ≤ n
   pub before : (other : ℕ) → least ≤ other → other < n → Keeps other
   pub fails : Keeps n → ⊥
+
+-- a cluster of this geometry has the part
+abbrev pub HasPart : Geometry → Part → Type 0
+HasPart g (Seat node) = node < g.nodes
+HasPart g (Log node) = node < g.nodes
+HasPart g (Token segment) = (1 ≤ segment) × (segment ≤ g.segments)
+HasPart g (Image segment) = (1 ≤ segment) × (segment ≤ g.segments)
 
 module _ {D : Type 0} (a : Ghosts D) where
   -- What is read

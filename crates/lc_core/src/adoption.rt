@@ -1,6 +1,6 @@
 //! How a cluster at rest becomes a store.
 ghost use Rattle.std.specs.Prelude.{◌≡◌, ℕ, Err, IfOk};
-ghost use Rattle.lc_core.specs.AtRest.{AgreeAll, FailsFirst};
+ghost use Rattle.lc_core.specs.AtRest.{AgreeAll, FailsFirst, HasPart};
 ghost use Rattle.lc_core.specs.Parts.{AreHonest, AreKept, FailsOnce, IsAdoption};
 ghost use Rattle.lc_core.specs.declared.adopt_fault.AdoptFault.TheVariants.{DeviceFault as Failed, Mismatch};
 ghost use Rattle.lc_core.specs.declared.part.Part.{Part as ThePart};
@@ -32,6 +32,7 @@ impl<D: Area + Drop> World<D> {
         ensures adopted { IfOk result (λ world. IsAdoption D.Area parts world) }
         ensures agree { IfOk result (λ world. AreHonest D.Area parts → AgreeAll D.Area parts) }
         ensures mismatch { (part : ThePart) → result ≡ Err (Mismatch part) → AreHonest D.Area parts → FailsFirst D.Area parts part }
+        ensures within { (part : ThePart) → result ≡ Err (Mismatch part) → HasPart parts.geometry part }
         ensures no_seat { (node : ℕ) → result ≡ Err (Mismatch (Seat node)) → ⊥ }
         ensures device { result ≡ Err Failed → FailsOnce D.Area parts }
     {

@@ -1,12 +1,17 @@
-use Rattle.std.proofs.Common.{refl}
+use Rattle.std.proofs.Common.{refl, subst}
+use Rattle.lc_record.specs.declared.geometry.Geometry.{Geometry}
+use Rattle.lc_core.specs.AtRest.{HasPart}
 use Rattle.lc_core.specs.declared.part.Part.TheVariants.{Seat}
 use Rattle.lc_core.proofs.ClusterReads.{logs_whole}
-use Rattle.lc_core.proofs.ReadOf.{all_pass, are_read, cluster_read, is_built, is_read, one_fails}
+use Rattle.lc_core.proofs.ReadOf.{all_pass, are_read, cluster_read, is_built, is_read, one_fails, one_of_cluster}
 use Rattle.lc_core.proofs.SameFaults.{same_fault}
 use Rattle.lc_core.proofs.world.World.adopt.Goals as goal
 
 pub returns-in_err-cluster-clause-mismatch : goal.returns-in_err-cluster-clause-mismatch
 returns-in_err-cluster-clause-mismatch g c = λ part is. absurd (c.in_err-cluster.ensures.agree part (same_fault c.from_residual-in_err-cluster.result c.in_err-cluster.field-0.0 _ c.from_residual-in_err-cluster.ensures.1 is))
+
+pub returns-in_err-cluster-clause-within : goal.returns-in_err-cluster-clause-within
+returns-in_err-cluster-clause-within g c = λ part is. absurd (c.in_err-cluster.ensures.agree part (same_fault c.from_residual-in_err-cluster.result c.in_err-cluster.field-0.0 _ c.from_residual-in_err-cluster.ensures.1 is))
 
 pub returns-in_err-cluster-clause-no_seat : goal.returns-in_err-cluster-clause-no_seat
 returns-in_err-cluster-clause-no_seat g c = λ node is. c.in_err-cluster.ensures.agree (Seat node) (same_fault c.from_residual-in_err-cluster.result c.in_err-cluster.field-0.0 _ c.from_residual-in_err-cluster.ensures.1 is)
@@ -26,6 +31,11 @@ returns-in_err-up-clause-mismatch g c = λ part is honest.
     let its = c.in_ok-cluster.ensures.read in
     let fails = one_fails a parts kept cluster its part (c.in_err-up.ensures.mismatch part (same_fault c.from_residual-in_err-up.result c.in_err-up.field-0.0 _ c.from_residual-in_err-up.ensures.1 is)) in
     (cluster_read a cluster fails.0, is_read a parts kept cluster its fails.0, are_read a parts kept cluster its fails.0 honest, fails.1))
+
+pub returns-in_err-up-clause-within : goal.returns-in_err-up-clause-within
+returns-in_err-up-clause-within g c = λ part is.
+    subst (λ (shape : Geometry). HasPart shape part) c.in_ok-cluster.ensures.read.geometry
+    (one_of_cluster _ _ _ part (c.in_err-up.ensures.mismatch part (same_fault c.from_residual-in_err-up.result c.in_err-up.field-0.0 _ c.from_residual-in_err-up.ensures.1 is)))
 
 pub returns-in_err-up-clause-no_seat : goal.returns-in_err-up-clause-no_seat
 returns-in_err-up-clause-no_seat g c = λ node is. c.in_err-up.ensures.mismatch (Seat node) (same_fault c.from_residual-in_err-up.result c.in_err-up.field-0.0 _ c.from_residual-in_err-up.ensures.1 is)
