@@ -27,11 +27,13 @@ pub mod KeysKept
 pub mod Knowing
 pub mod Laying
 pub mod LeftParts
+pub mod LeftSegments
 pub mod LeftTokens
 pub mod LinesClosed
 pub mod MessagesGone
 pub mod NextSent
 pub mod Noted
+pub mod OrderedTokens
 pub mod Outside
 pub mod PagesWritten
 pub mod PartsOf
@@ -41,6 +43,7 @@ pub mod Pushing
 pub mod PutBytes
 pub mod Received
 pub mod ReceivedRecords
+pub mod Refused
 pub mod Rounds
 pub mod Runs
 pub mod SegmentLocks
@@ -52,6 +55,7 @@ pub mod StageKeeps
 pub mod Standing
 pub mod Stored
 pub mod Taking
+pub mod TakenOut
 pub mod TokenSent
 pub mod TouchedPages
 pub mod Unbegun

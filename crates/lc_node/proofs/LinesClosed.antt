@@ -1,12 +1,12 @@
 -- Lines that are closed, those of one node after another.
-use Rattle.std.proofs.Common.{◌≡◌, ◌≢◌, ℕ, zero, suc, ◌+◌, ◌<◌, ◌≤◌, List, [], ◌∷◌, ◌++◌, All, drop, length, Option, Some, refl, sym, ap, subst, ◌∙◌, arith, length-drop}
+use Rattle.std.proofs.Common.{◌≡◌, ◌≢◌, ℕ, zero, suc, ◌+◌, ◌<◌, List, [], ◌∷◌, ◌++◌, All, drop, length, Option, Some, refl, sym, ap, subst, ◌∙◌, arith, length-drop}
 use Rattle.std.specs.Prelude.{slice_get, slice_index_or, option_and_then, option_map, None}
 use Rattle.std.proofs.lemmas.List.{append-nil, append_assoc}
 use Rattle.std.proofs.Math.Seq.{drop-append_seam}
 use Rattle.std.specs.Prelude.{OnOk, Result, Ok, Err}
-use Rattle.std.proofs.lemmas.Option.{get_or_from_slice_get, slice_get-get_or, slice_get_within}
+use Rattle.std.proofs.lemmas.Option.{slice_get_within}
 use Rattle.lc_recover.proofs.Images.{get-drop}
-use Rattle.lc_node.specs.Closing.{AreJoined, AreOfOne, Gives, GivesAll, GivesBoth, Grows, IsBehindFirst, StandIn, left_on}
+use Rattle.lc_node.specs.Closing.{AreJoined, Gives, GivesAll, GivesBoth, Grows, IsBehindFirst, StandIn, left_on}
 use Rattle.lc_node.specs.Each.{Each}
 use Rattle.lc_node.specs.Keys.{AreWiredAs}
 use Rattle.lc_node.specs.Messages.{tokens_among}

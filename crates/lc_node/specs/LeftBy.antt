@@ -1,7 +1,10 @@
 -- What a cluster leaves once its threads have ended, and the store that is made of it.
-use Rattle.std.specs.Prelude.{◌≡◌, ◌≢◌, ◌<◌, ◌≤◌, ℕ, ◌++◌, List, [], ◌∷◌, Option, Some, None, All, length, slice_get}
+use Rattle.std.specs.Prelude.{◌≡◌, ◌≢◌, ◌<◌, ◌≤◌, ℕ, ◌++◌, List, [], ◌∷◌, Option, Some, None, false, All, length, map, slice_get}
 use Rattle.std.specs.Global.{Vec}
+use Rattle.std.specs.List.{flat_map}
 use Rattle.lc_disk.specs.declared.area.Area.{Ghosts}
+use Rattle.lc_lock.specs.Loans.{key_of}
+use Rattle.lc_lock.specs.declared.lock.Lock.{Lock}
 use Rattle.lc_page.specs.PageVector.{entry_at, entry_text}
 use Rattle.lc_page.specs.PageWrite.{SettledIn}
 use Rattle.lc_record.specs.declared.geometry.Geometry.{Geometry}
@@ -12,6 +15,7 @@ use Rattle.lc_stage.specs.declared.stage.Stage.{Stage}
 use Rattle.lc_stage.specs.declared.view.Reservation.{Reservation}
 use Rattle.lc_stage.specs.declared.view.View.{View}
 use Rattle.lc_token.specs.declared.token.Token.{Token}
+use Rattle.lc_tx.specs.declared.image.Image.{Image as Picture}
 use Rattle.lc_trunc.specs.KnownClean.{known as known_of}
 use Rattle.lc_trunc.specs.Reset.{AreKnown}
 use Rattle.lc_rest.specs.declared.holder.Holder.TheVariants.{Here, Left}
@@ -59,6 +63,22 @@ pub record IsReceived (round : ℕ) (stable known : List ℕ) (r : Reservation) 
 abbrev pub AreReceived : ℕ → List ℕ → List ℕ → List CommitSeat → Type 0
 AreReceived round stable known seats = All (λ (seat : CommitSeat). (r : Reservation) → Owns (commit_view seat).receipts r → IsReceived round stable known r) seats
 
+-- Logs
+
+module _ {D : Type 0} where
+  -- these are the words that a take finds staged for the log, and the flusher's view once it has taken them
+  pub record IsTake (room : ℕ) (log : LogView D) (taking : View) (words : List ℕ) : Type 0 where
+    pub takes : OnlyTakes (flush_view log.flusher) taking
+    pub words_are : taking.taken ≡ (flush_view log.flusher).taken ++ words
+    pub ends : EndsAt room (flush_view log.flusher) taking
+
+  -- the log serves, and these words are all that is staged for it: up to each tail that it has seen
+  pub record AreAllStaged (room : ℕ) (log : LogView D) (words : List ℕ) : Type 0 where
+    pub serves : log.is_halted ≡ false
+    pub taking : View
+    pub take : IsTake room log taking words
+    pub all : (commit_view log.probe).seen ≤ end_of taking
+
 -- Members
 
 module _ {D : Type 0} where
@@ -97,6 +117,22 @@ module _ {D : Type 0} where
   abbrev pub tokens_at : ℕ → SegView D → List (SegmentPart D)
   tokens_at node side = token_here node side.pages side.standing.token ++ token_waiting side.waiting
 
+  -- a call of the area failed
+  abbrev pub HasFailed : PageArea D → Type 0
+  HasFailed Elsewhere = ⊥
+  HasFailed (Serves area) = ⊥
+  HasFailed (Failed area) = Unit {0}
+
+  -- the segments that stood behind a node's locks, each of which is the one that its lock knows: these are their images, and the
+  -- numbers up to which their records are applied; no call of an area failed; and their tokens go behind the old ones
+  pub record StoodBehind (node : ℕ) (locks : List (Lock (SegView D) ℕ)) (images : List Picture) (applied : List ℕ) (old new : List (SegmentPart D)) : Type 0 where
+    pub sides : List (SegView D)
+    pub segments : map (λ (side : SegView D). side.segment) sides ≡ map (λ (lock : Lock (SegView D) ℕ). key_of lock) locks
+    pub images_are : map (λ (side : SegView D). side.image) sides ≡ map (λ (image : Picture). Some image) images
+    pub applied_are : map (λ (side : SegView D). side.backlog.applied) sides ≡ applied
+    pub serve : All (λ (side : SegView D). HasFailed side.pages → ⊥) sides
+    pub tokens : new ≡ old ++ flat_map (λ (side : SegView D). tokens_at node side) sides
+
 module _ {D : Type 0} (a : Ghosts D) where
   -- in every image the area says of each page what its entry does, and nobody refers to a page
   pub record IsSettledPart (part : SegmentPart D) : Type 0 where
@@ -105,18 +141,14 @@ module _ {D : Type 0} (a : Ghosts D) where
 
   -- Logs
 
-  -- the part has what the log had, and behind its stable words all that was closed is staged: up to each tail that the log has seen
+  -- the part has what the log had, and behind its stable words all that was closed is staged
   pub record LeavesLog (room : ℕ) (log : LogView D) (part : NodePart D a) : Type 0 where
     pub area : log.area ≡ part.log.area ∷ []
     pub round : part.round ≡ log.round
     pub ended : part.ended.items ≡ log.ended
     pub stable : part.stable.items ≡ log.stable
     pub known : part.known ≡ log.known
-    pub taking : View
-    pub takes : OnlyTakes (flush_view log.flusher) taking
-    pub staged : taking.taken ≡ (flush_view log.flusher).taken ++ part.staged.items
-    pub ends : EndsAt room (flush_view log.flusher) taking
-    pub all : (commit_view log.probe).seen ≤ end_of taking
+    pub staged : AreAllStaged room log part.staged.items
 
   -- with an image of each segment
   pub record IsLeftNode (g : Geometry) (part : NodePart D a) : Type 0 where

@@ -20,6 +20,7 @@ pub mod Journey
 pub mod Laid
 pub mod Leaving
 pub mod LeftBy
+pub mod Refusals
 pub mod Lent
 pub mod LogSide
 pub mod LogView

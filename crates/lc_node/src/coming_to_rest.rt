@@ -1,12 +1,11 @@
 //! A cluster whose threads have ended becomes a store.
-ghost use Rattle.std.specs.Prelude.{◌≡◌, ◌⊎◌, ◌++◌, ℕ, All, IfErr, IfOk, OnOk, Some, map, slice_get};
+ghost use Rattle.std.specs.Prelude.{◌≡◌, ◌++◌, ℕ, All, IfErr, IfOk, OnOk, Some, map, slice_get};
 ghost use Rattle.std.specs.Global.{Vec as Several};
 ghost use Rattle.lc_core.specs.Parts.{AreKept};
 ghost use Rattle.lc_core.specs.declared.node_part.NodePart.{NodePart as ThePart};
 ghost use Rattle.lc_stage.specs.declared.seats.CommitSeat.{CommitSeat as Seat};
-ghost use Rattle.lc_node.specs.Fault.{IsMismatch};
 ghost use Rattle.lc_node.specs.LeftBy.{AreOwnSeats, AreReceived, IsLeftBy, IsSettledPart, node_in, post_of, token_sent};
-ghost use Rattle.lc_node.specs.declared.node_fault.NodeFault.TheVariants.{DeviceFault, NoMemory};
+ghost use Rattle.lc_node.specs.Refusals.{StopsCluster, StopsParts};
 
 use crate::closing_lines::{close_lines, take_ends};
 use crate::cluster::Cluster;
@@ -41,7 +40,7 @@ impl<D: Area + Drop> Cluster<D> {
     ) -> Result<World<D>, NodeFault>
         requires own { AreOwnSeats self seats.items }
         ensures adopted { IfOk result (λ world. IsLeftBy D.Area seats.items world) }
-        ensures which { IfErr result (λ fault. IsMismatch fault ⊎ (fault ≡ NoMemory) ⊎ (fault ≡ DeviceFault)) }
+        ensures which { IfErr result (StopsCluster self.geometry) }
     {
         let parts = self.into_parts(rt, alloc, seats)?;
         Ok(World::adopt(alloc, parts)?)
@@ -58,7 +57,8 @@ impl<D: Area + Drop> Cluster<D> {
         ensures kept { IfOk result (λ parts. AreKept D.Area parts) }
         ensures received { IfOk result (λ parts. (node : ℕ) (part : ThePart D D.Area) (mine : Several Seat) → slice_get parts.nodes.items node ≡ Some part → slice_get seats.items node ≡ Some mine
             → AreReceived part.round part.stable.items part.known mine.items) }
-        ensures refused { IfErr result (λ fault. IsMismatch fault ⊎ (fault ≡ NoMemory)) }
+        ensures geometry { IfOk result (λ parts. parts.geometry ≡ self.geometry) }
+        ensures refused { IfErr result (StopsParts self.geometry) }
     {
         let Cluster { geometry, members } = self;
         let (nodes, posts) = take_apart(alloc, members)?;

@@ -1,11 +1,10 @@
 //! What a log leaves once the threads of its node have ended.
-ghost use Rattle.std.specs.Prelude.{◌≡◌, ◌⊎◌, [], All, IfErr, IfOk};
+ghost use Rattle.std.specs.Prelude.{◌≡◌, ◌<◌, All, IfErr, IfOk, OnErr, length};
 ghost use Rattle.lc_core.specs.Parts.{KeepsLog};
 ghost use Rattle.lc_stage.specs.Seats.{commit_view, flush_view, IsFlusherOf, IsSeatOf};
 ghost use Rattle.lc_stage.specs.Staging.{Agree};
-ghost use Rattle.lc_node.specs.Fault.{IsMismatch};
 ghost use Rattle.lc_node.specs.LeftBy.{AreReceived, IsIdleSeatOf, LeavesLog};
-ghost use Rattle.lc_node.specs.declared.node_fault.NodeFault.TheVariants.{NoMemory};
+ghost use Rattle.lc_node.specs.Refusals.{StopsLog};
 
 use crate::flushing::keep;
 use crate::log_state::LogState;
@@ -23,8 +22,9 @@ impl<D: Area + Drop> LogSide<D> {
     ///
     /// # Errors
     ///
-    /// `Mismatch` of the log, where a call of its device failed, or it has not the room of the geometry's logs, and of the node's
-    /// seats, where something is reserved that was not closed. `NoMemory`. The log is gone.
+    /// `Mismatch` of the log, where a call of its device failed, or it has not the room of the geometry's logs for all that is
+    /// staged; and of the node's seats, where something is reserved that was not closed. `NoMemory`, where nothing else is the matter
+    /// and there are words staged. The log is gone.
     pub(crate) fn into_part(
         self,
         alloc: Global,
@@ -38,7 +38,7 @@ impl<D: Area + Drop> LogSide<D> {
         ensures kept { IfOk result (λ part. KeepsLog D.Area geometry.now part) }
         ensures left { IfOk result (λ part. LeavesLog D.Area stage.now.room self part) }
         ensures received { IfOk result (λ part. AreReceived part.round part.stable.items part.known seats.items) }
-        ensures refused { IfErr result (λ fault. IsMismatch fault ⊎ (fault ≡ NoMemory)) }
+        ensures refused { IfErr result (StopsLog D.Area geometry.now stage.now.room node self) }
     {
         let stable_tail = self.stable_tail();
         let LogSide {
@@ -55,7 +55,7 @@ impl<D: Area + Drop> LogSide<D> {
             return Err(Part::Log(node).into());
         };
         let taken = stage.take(&mut flusher, &mut group);
-        if stage.tail(&mut probe) != stable_tail + u64::from(taken) {
+        if stage.tail(&mut probe) > stable_tail + u64::from(taken) {
             return Err(Part::Seat(node).into());
         }
         let end = log.end + taken as usize;
@@ -92,7 +92,8 @@ fn meet_all(stage: &Stage, flusher: &mut FlushSeat, seats: Vec<CommitSeat>)
 
 // The words of a group.
 fn words_in(alloc: Global, group: &Group) -> Result<Vec<u64>, AllocError>
-    ensures { IfOk result (λ words. words.items ≡ group.now.words) }
+    ensures words { IfOk result (λ words. words.items ≡ group.now.words) }
+    ensures refused { OnErr result (0 < length group.now.words) }
 {
     let mut words = Vec::with_capacity(alloc, group.len())?;
     keep(&mut words, group);

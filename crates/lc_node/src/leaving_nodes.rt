@@ -1,10 +1,10 @@
 //! What the nodes of a cluster leave once their threads have ended.
-ghost use Rattle.std.specs.Prelude.{◌≡◌, ◌⊎◌, ℕ, All, IfErr, IfOk, OnOk, Some, length, slice_get, vec_len};
+ghost use Rattle.std.specs.Prelude.{◌≡◌, ◌⊎◌, ℕ, All, Any, IfErr, IfOk, OnOk, Some, length, slice_get, vec_len};
 ghost use Rattle.std.specs.Global.{Vec as Several};
 ghost use Rattle.lc_core.specs.declared.node_part.NodePart.{NodePart as ThePart};
 ghost use Rattle.lc_stage.specs.declared.seats.CommitSeat.{CommitSeat as Seat};
-ghost use Rattle.lc_node.specs.Fault.{IsMismatch};
-ghost use Rattle.lc_node.specs.LeftBy.{AreReceived, HaveOwnSeats, IsIdleSeatOf, IsLeftNode, IsSettledPart};
+ghost use Rattle.lc_node.specs.LeftBy.{AreReceived, HaveOwnSeats, IsIdleSeatOf, IsLeftNode, IsSettledPart, StoodBehind};
+ghost use Rattle.lc_node.specs.Refusals.{StopsNode};
 ghost use Rattle.lc_node.specs.declared.node_fault.NodeFault.TheVariants.{NoMemory};
 
 use crate::leaving_segments::Images;
@@ -20,7 +20,7 @@ use std::sync::Wait;
 ///
 /// # Errors
 ///
-/// `Mismatch` of the first node's log or seats that do not fit. `NoMemory`.
+/// `Mismatch` of a node's log or seats, as `Node::into_part` says, of the first where it answers one. `NoMemory`.
 pub(crate) fn take_nodes<R: Wait, D: Area + Drop>(
     rt: &R,
     alloc: Global,
@@ -37,7 +37,7 @@ pub(crate) fn take_nodes<R: Wait, D: Area + Drop>(
     ensures received { IfOk result (λ parts. (place : ℕ) (part : ThePart D D.Area) (mine : Several Seat) → slice_get parts.items place ≡ Some part → slice_get seats.items place ≡ Some mine
         → AreReceived part.round part.stable.items part.known mine.items) }
     ensures settled { OnOk result (All (IsSettledPart D.Area) tokens.new.items) }
-    ensures refused { IfErr result (λ fault. IsMismatch fault ⊎ (fault ≡ NoMemory)) }
+    ensures refused { IfErr result (λ fault. (fault ≡ NoMemory) ⊎ Any (λ node. StopsNode node.number fault) nodes.items) }
 {
     let mut nodes = nodes;
     let mut seats = seats;
@@ -65,8 +65,9 @@ impl<D: Area + Drop> Node<D> {
         requires settled { All (IsSettledPart D.Area) tokens.old.items }
         ensures part { IfOk result (λ part. IsLeftNode D.Area geometry.now part) }
         ensures received { IfOk result (λ part. AreReceived part.round part.stable.items part.known seats.items) }
+        ensures behind { IfOk result (λ part. StoodBehind self.number self.segments.items part.images.items part.applied.items tokens.old.items tokens.new.items) }
         ensures settled { OnOk result (All (IsSettledPart D.Area) tokens.new.items) }
-        ensures refused { IfErr result (λ fault. IsMismatch fault ⊎ (fault ≡ NoMemory)) }
+        ensures refused { IfErr result (StopsNode self.number) }
     {
         let Node {
             number,

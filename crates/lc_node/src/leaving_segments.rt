@@ -1,8 +1,9 @@
 //! What the segments of a node leave once its threads have ended.
 ghost use Rattle.std.specs.Prelude.{◌≡◌, ◌⊎◌, ◌++◌, All, IfErr, IfOk, IsSome, OnOk, Some, length};
-ghost use Rattle.lc_node.specs.Fault.{IsMismatch};
-ghost use Rattle.lc_node.specs.LeftBy.{IsServingArea, IsSettledPart, token_sent, tokens_at};
-ghost use Rattle.lc_node.specs.declared.node_fault.NodeFault.TheVariants.{NoMemory};
+ghost use Rattle.lc_core.specs.declared.part.Part.TheVariants.{Log};
+ghost use Rattle.lc_node.specs.LeftBy.{HasFailed, IsServingArea, IsSettledPart, StoodBehind, token_sent, tokens_at};
+ghost use Rattle.lc_node.specs.Refusals.{StopsSegment};
+ghost use Rattle.lc_node.specs.declared.node_fault.NodeFault.TheVariants.{Mismatch, NoMemory};
 
 use crate::page_area::PageArea;
 use crate::{NodeFault, SegSide, Travelling};
@@ -42,8 +43,9 @@ impl Images {
         requires settled { All (IsSettledPart D.Area) tokens.old.items }
         ensures images { IfOk result (λ taken. length taken.images.items ≡ length segments.items) }
         ensures applied { IfOk result (λ taken. length taken.applied.items ≡ length segments.items) }
+        ensures behind { IfOk result (λ taken. StoodBehind node segments.items taken.images.items taken.applied.items tokens.old.items tokens.new.items) }
         ensures settled { OnOk result (All (IsSettledPart D.Area) tokens.new.items) }
-        ensures refused { IfErr result (λ fault. IsMismatch fault ⊎ (fault ≡ NoMemory)) }
+        ensures refused { IfErr result (λ fault. (fault ≡ Mismatch (Log node)) ⊎ (fault ≡ NoMemory)) }
     {
         let mut segments = segments;
         let mut images = Vec::with_capacity(alloc, segments.len())?;
@@ -66,7 +68,7 @@ impl<D: Area + Drop> SegSide<D> {
     ///
     /// # Errors
     ///
-    /// `Mismatch` of the node's log, where a call of the area failed. `NoMemory`.
+    /// `Mismatch` of the node's log, where a call of the area failed; `NoMemory` only where none did.
     pub(crate) fn into_image(
         self,
         node: u16,
@@ -78,7 +80,8 @@ impl<D: Area + Drop> SegSide<D> {
         ensures applied { IfOk result (λ left. left.1 ≡ self.backlog.applied) }
         ensures tokens { OnOk result (tokens.new.items ≡ tokens.old.items ++ tokens_at node self) }
         ensures settled { OnOk result (All (IsSettledPart D.Area) tokens.new.items) }
-        ensures refused { IfErr result (λ fault. IsMismatch fault ⊎ (fault ≡ NoMemory)) }
+        ensures serves { OnOk result (HasFailed self.pages → ⊥) }
+        ensures refused { IfErr result (StopsSegment node self.pages) }
     {
         let SegSide {
             image,
@@ -107,7 +110,7 @@ impl<D: Area + Drop> SegSide<D> {
 // The area of the pages, where it is at the node with this number.
 fn serving_area<D: Area + Drop>(pages: PageArea<D>, node: u16) -> Result<Option<D>, NodeFault>
     ensures serves { IfOk result (IsServingArea pages) }
-    ensures refused { IfErr result IsMismatch }
+    ensures refused { IfErr result (λ fault. (fault ≡ Mismatch (Log node)) × HasFailed pages) }
 {
     match pages {
         PageArea::Elsewhere => Ok(None),

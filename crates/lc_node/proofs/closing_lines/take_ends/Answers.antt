@@ -1,7 +1,6 @@
-use Rattle.std.proofs.Common.{◌≡◌, ◌<◌, ◌+◌, ℕ, Some, length, ap, sym, subst, ◌∙◌, arith}
+use Rattle.std.proofs.Common.{◌≡◌, ◌<◌, ◌+◌, Some, length, ap, sym, subst, ◌∙◌, arith}
 use Rattle.std.specs.Prelude.{slice_get, vec_len}
 use Rattle.lc_lock.specs.Loans.{key_of}
-use Rattle.lc_node.specs.Each.{Each}
 use Rattle.lc_node.specs.Keys.{AreOnLines, AreWiredAs, HasOneKey, wired_in}
 use Rattle.lc_node.specs.declared.joining.Post.{Post}
 use Rattle.lc_node.specs.declared.wiring.Ends.{Ends}

@@ -1,4 +1,4 @@
-use Rattle.std.proofs.Common.{◌≡◌, ◌≤◌, ◌+◌, ◌<◌, ℕ, All, Some, length, vec_capacity, vec_len}
+use Rattle.std.proofs.Common.{◌≡◌, ◌≤◌, ◌+◌, ℕ, All, Some, vec_capacity, vec_len}
 use Rattle.std.specs.Prelude.{slice_get}
 use Rattle.lc_lock.specs.Loans.{key_of}
 use Rattle.lc_node.specs.Keys.{AreOnLines, HasOneKey}

@@ -1,14 +1,18 @@
-use Rattle.std.proofs.Common.{◌≡◌, ◌<◌, Some, length, subst, sym, ◌∙◌, arith}
+use Rattle.std.proofs.Common.{◌≡◌, ◌⊎◌, ◌<◌, Some, length, inr, subst, sym, ◌∙◌, arith}
 use Rattle.std.specs.Global.{Vec}
-use Rattle.std.specs.Prelude.{slice_get, vec_len}
+use Rattle.std.specs.Prelude.{Any, slice_get, vec_len}
+use Rattle.std.proofs.lemmas.Option.{get_or_from_slice_get}
 use Rattle.lc_core.specs.declared.node_part.NodePart.{NodePart}
 use Rattle.lc_stage.specs.declared.seats.CommitSeat.{CommitSeat}
 use Rattle.lc_node.specs.LeftBy.{AreReceived, IsLeftNode}
+use Rattle.lc_node.specs.Refusals.{StopsNode}
 use Rattle.lc_node.specs.declared.node.Node.{Node}
+use Rattle.lc_node.specs.declared.node_fault.NodeFault.TheVariants.{NoMemory}
 use Rattle.lc_node.proofs.Backwards.{some_same}
 use Rattle.lc_node.proofs.EachPlace.{each_more}
 use Rattle.lc_node.proofs.FromFront.{left_more, next_is}
 use Rattle.lc_node.proofs.Joined.{all_more, at_each}
+use Rattle.lc_node.proofs.Refused.{handed_on}
 use Rattle.lc_node.proofs.leaving_nodes.take_nodes.Goals as goal
 
 pub into_part-requires-clause-seats : goal.into_part-requires-clause-seats
@@ -55,3 +59,14 @@ loop-preserved g c =
           place one there mine here;
       settled = its.settled;
     }
+
+pub returns-in_err-into_part-clause-refused : goal.returns-in_err-into_part-clause-refused
+returns-in_err-into_part-clause-refused g c =
+    let inv = c.loop.invariant in
+    let n = c.loop.counter in
+    let node = c.remove-node.result in
+    let all = c.args.nodes.items in
+    let some : n < length all = omega (arith, c.loop-test.true, c.len-end.ensures, c.args.nodes.ok.0) in
+    let next = next_is all c.loop.nodes.items n node inv.nodes_left some c.remove-node.ensures.value in
+    handed_on c.from_residual-in_err-into_part.result c.in_err-into_part.field-0.0 (λ fault. (fault ≡ NoMemory) ⊎ Any (λ (one : Node g.row.D.Denot). StopsNode one.number fault) all) c.from_residual-in_err-into_part.ensures.1
+    (inr (n, node, some, get_or_from_slice_get all n node node next, c.in_err-into_part.ensures.refused))

@@ -1,8 +1,10 @@
 use Rattle.std.proofs.Common.{◌≡◌, List, length, ap, ◌∙◌, arith}
 use Rattle.std.proofs.lemmas.List.{length-map}
 use Rattle.lc_node.specs.LeftBy.{node_in}
+use Rattle.lc_node.specs.Refusals.{StopsParts}
 use Rattle.lc_node.specs.declared.node.Node.{Node}
 use Rattle.lc_node.proofs.LeftParts.{all_kept, all_one_key, all_segments, all_wired, own_seats}
+use Rattle.lc_node.proofs.Refused.{handed_on, of_nodes}
 use Rattle.lc_node.proofs.cluster.Cluster.into_parts.Goals as goal
 
 pub take_nodes-requires-clause-seats : goal.take_nodes-requires-clause-seats
@@ -23,3 +25,8 @@ returns-clause-kept g c =
     let count : length c.in_ok-nodes.nodes.items ≡ length self.members.items =
     ap (λ (l : List (Node g.row.D.Denot)). length l) c.in_ok-nodes.ensures.nodes ∙ length-map self.members.items node_in in
     all_kept g.D.Area _ (omega (arith, c.in_ok-nodes-2.ensures.count, count, self.members.ok.0, self.all_nodes)) c.in_ok-segments.ensures.count c.in_ok-nodes-2.ensures.each c.in_ok-segments.ensures.pages
+
+pub returns-in_err-nodes-2-clause-refused : goal.returns-in_err-nodes-2-clause-refused
+returns-in_err-nodes-2-clause-refused g c =
+    handed_on c.from_residual-in_err-nodes-2.result c.in_err-nodes-2.field-0.0 (StopsParts c.args.self.geometry) c.from_residual-in_err-nodes-2.ensures.1
+    (of_nodes c.args.self c.in_ok-nodes.nodes.items c.in_err-nodes-2.field-0.0 c.in_ok-nodes.ensures.nodes c.in_err-nodes-2.ensures.refused)

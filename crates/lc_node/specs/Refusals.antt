@@ -1,0 +1,123 @@
+-- Where what a cluster leaves is refused, and by which fault.
+use Rattle.std.specs.Prelude.{◌≡◌, ◌≢◌, ◌⊎◌, ◌<◌, ◌≤◌, ◌+◌, ◌*◌, ◌==◌, ℕ, true, false, List, Option, Some, All, IsSomeAnd, find, length, option_map, position, remove, slice_get}
+use Rattle.lc_disk.specs.declared.area.Area.{Ghosts}
+use Rattle.lc_record.specs.declared.geometry.Geometry.{Geometry}
+use Rattle.lc_stage.specs.Seats.{commit_view}
+use Rattle.lc_stage.specs.Staging.{end_of}
+use Rattle.lc_stage.specs.declared.view.View.{View}
+use Rattle.lc_core.specs.AtRest.{IsFirst}
+use Rattle.lc_core.specs.declared.part.Part.TheVariants.{Seat, Log, Token, Image}
+use Rattle.lc_core.specs.declared.segment_part.SegmentPart.{SegmentPart}
+use Rattle.lc_node.specs.LeftBy.{AreAllStaged, HasFailed, IsTake}
+use Rattle.lc_node.specs.LogView.{LogView}
+use Rattle.lc_node.specs.declared.node_fault.NodeFault.{NodeFault}
+use Rattle.lc_node.specs.declared.node_fault.NodeFault.TheVariants.{DeviceFault, Mismatch, NoMemory}
+use Rattle.lc_node.specs.declared.page_area.PageArea.{PageArea}
+
+-- Logs
+
+module _ {D : Type 0} where
+  -- the log serves, but has seen a tail above the end of what a take finds: something is reserved that was not closed
+  pub record IsUnclosed (room : ℕ) (log : LogView D) : Type 0 where
+    pub serves : log.is_halted ≡ false
+    pub taking : View
+    pub words : List ℕ
+    pub take : IsTake room log taking words
+    pub tail : ℕ
+    pub seen : (commit_view log.probe).seen ≤ tail
+    pub above : end_of taking < tail
+
+module _ {D : Type 0} (a : Ghosts D) where
+  -- the log has the room of the geometry's logs, with these words behind its stable ones
+  pub record HasRoom (g : Geometry) (log : LogView D) (words : List ℕ) : Type 0 where
+    pub fits : length log.stable + length words ≤ g.words
+    pub area : All (λ area. length (a.now area) ≡ 8 * (g.words + 1)) log.area
+
+  -- why the log of this node is refused: a call of its device failed, or it has not the room for all that is staged; something is
+  -- reserved that was not closed; or, where nothing else is the matter, there is no memory for what is staged
+  abbrev pub StopsLog : Geometry → ℕ → ℕ → LogView D → NodeFault → Type 0
+  StopsLog g room node log (Mismatch (Log n)) = (n ≡ node) × ((log.is_halted ≡ true) ⊎ ((words : List ℕ) × AreAllStaged room log words × (HasRoom g log words → ⊥)))
+  StopsLog g room node log (Mismatch (Seat n)) = (n ≡ node) × IsUnclosed room log
+  StopsLog g room node log NoMemory = (words : List ℕ) × AreAllStaged room log words × HasRoom g log words × (0 < length words)
+  StopsLog g room node log other = ⊥
+
+-- Segments
+
+module _ {D : Type 0} where
+  -- why a segment at this node is refused: its area failed, which is the node's log; or, where it did not, there is no memory
+  abbrev pub StopsSegment : ℕ → PageArea D → NodeFault → Type 0
+  StopsSegment node pages (Mismatch (Log n)) = (n ≡ node) × HasFailed pages
+  StopsSegment node pages NoMemory = HasFailed pages → ⊥
+  StopsSegment node pages other = ⊥
+
+-- a fault of the node with this number: of its seats or its log, or that there is no memory
+abbrev pub StopsNode : ℕ → NodeFault → Type 0
+StopsNode node (Mismatch (Seat n)) = n ≡ node
+StopsNode node (Mismatch (Log n)) = n ≡ node
+StopsNode node NoMemory = Unit {0}
+StopsNode node other = ⊥
+
+-- Tokens
+
+module _ {D : Type 0} where
+  -- the first of these tokens that is one of the segment
+  abbrev pub first_of : ℕ → List (SegmentPart D) → Option (SegmentPart D)
+  first_of segment tokens = find (λ (part : SegmentPart D). part.token.segment == segment) tokens
+
+  -- the first token of the segment is taken out
+  abbrev pub TakesOut : ℕ → List (SegmentPart D) → List (SegmentPart D) → Type 0
+  TakesOut segment old new = (place : ℕ) × (position (λ (part : SegmentPart D). part.token.segment == segment) old ≡ Some place) × (new ≡ remove old place)
+
+  -- the token at this place is the first of a segment of the geometry
+  pub record IsFirstOfItsSegment (g : Geometry) (tokens : List (SegmentPart D)) (place : ℕ) : Type 0 where
+    pub part : SegmentPart D
+    pub here : slice_get tokens place ≡ Some part
+    pub from : 1 ≤ part.token.segment
+    pub within : part.token.segment ≤ g.segments
+    pub before : (other : ℕ) (another : SegmentPart D) → other < place → slice_get tokens other ≡ Some another → another.token.segment ≢ part.token.segment
+
+  -- of the tokens the first that is left over, where the first of each segment of the geometry is taken out, is one of this segment
+  pub record IsLeftOver (g : Geometry) (tokens : List (SegmentPart D)) (segment : ℕ) : Type 0 where
+    pub place : ℕ
+    pub first : IsFirst (IsFirstOfItsSegment g tokens) 0 place
+    pub of_segment : option_map (λ (part : SegmentPart D). part.token.segment) (slice_get tokens place) ≡ Some segment
+
+module _ {D : Type 0} (a : Ghosts D) where
+  -- the token has as many pages as the segments of the geometry, and its area the slots of as many
+  pub record HasPages (g : Geometry) (part : SegmentPart D) : Type 0 where
+    pub entries : length part.token.pages ≡ g.pages
+    pub area : length (a.now part.area) ≡ 2 * 272 * g.pages
+
+  -- there is a token of the segment, and the first one has its pages
+  abbrev pub HasToken : Geometry → List (SegmentPart D) → ℕ → Type 0
+  HasToken g tokens segment = IsSomeAnd (first_of segment tokens) (HasPages g)
+
+  -- why tokens are refused: the first segment that has none with its pages; where each has one, what is left over; or that there is
+  -- no memory
+  abbrev pub StopsTokens : Geometry → List (SegmentPart D) → NodeFault → Type 0
+  StopsTokens g tokens (Mismatch (Token segment)) = ((segment ≤ g.segments) × IsFirst (HasToken g tokens) 1 segment)
+      ⊎ (((s : ℕ) → 1 ≤ s → s ≤ g.segments → HasToken g tokens s) × IsLeftOver g tokens segment)
+  StopsTokens g tokens NoMemory = Unit {0}
+  StopsTokens g tokens other = ⊥
+
+-- The cluster
+
+-- a fault of what the threads of a cluster of this geometry left, before a store is made of it: of a node's seats or its log, of a
+-- token, or that there is no memory
+abbrev pub StopsParts : Geometry → NodeFault → Type 0
+StopsParts g (Mismatch (Seat node)) = node < g.nodes
+StopsParts g (Mismatch (Log node)) = node < g.nodes
+StopsParts g (Mismatch (Token segment)) = Unit {0}
+StopsParts g NoMemory = Unit {0}
+StopsParts g other = ⊥
+
+-- so it is with a store that is made of it: of any part but a token it names one that the cluster has; and there may be no reading
+-- an area
+abbrev pub StopsCluster : Geometry → NodeFault → Type 0
+StopsCluster g (Mismatch (Seat node)) = node < g.nodes
+StopsCluster g (Mismatch (Log node)) = node < g.nodes
+StopsCluster g (Mismatch (Token segment)) = Unit {0}
+StopsCluster g (Mismatch (Image segment)) = (1 ≤ segment) × (segment ≤ g.segments)
+StopsCluster g NoMemory = Unit {0}
+StopsCluster g DeviceFault = Unit {0}
+StopsCluster g other = ⊥
