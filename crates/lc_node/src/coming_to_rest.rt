@@ -40,7 +40,7 @@ impl<D: Area + Drop> Cluster<D> {
     ) -> Result<World<D>, NodeFault>
         requires own { AreOwnSeats self seats.items }
         ensures adopted { IfOk result (λ world. IsLeftBy D.Area seats.items world) }
-        ensures which { IfErr result (StopsCluster self.geometry) }
+        ensures which { IfErr result (StopsCluster D.Area self.geometry) }
     {
         let parts = self.into_parts(rt, alloc, seats)?;
         Ok(World::adopt(alloc, parts)?)
