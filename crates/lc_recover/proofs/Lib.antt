@@ -28,6 +28,10 @@ pub mod PagesBehind
 pub mod Readable
 pub mod ReadLemmas
 pub mod StoppedFits
+pub mod AreasRead
+pub mod Picking
+pub mod Extents
+pub mod Foretelling
 pub mod PageEnd
 pub mod ReadSteps
 pub mod MergedFits

@@ -179,7 +179,7 @@ sound_here logs store changes here segment page index of =
     all_front (IsChange logs store) here of.behind (all_behind (IsChange logs store) of.before (here ++ of.behind) (subst (All (IsChange logs store)) of.whole index.sound))
 
 -- a change of the page is one of these
-one_of_these : (changes here : List Change) (segment page : ℕ) (c : Change) → AreOfPage changes segment page here → Contains changes c → IsOf segment page c → Contains here c
+pub one_of_these : (changes here : List Change) (segment page : ℕ) (c : Change) → AreOfPage changes segment page here → Contains changes c → IsOf segment page c → Contains here c
 one_of_these changes here segment page c of has of_page =
     elim (Contains-append_cases of.before (here ++ of.behind) c (subst (λ (cs : List Change). Contains cs c) of.whole has)) [
       | inl before ↦ absurd (All-contains (IsOfAnother segment page) of.before c of.none_before before of_page)

@@ -9,7 +9,7 @@ use Rattle.lc_model.specs.Merge.{all_records}
 use Rattle.lc_recover.specs.Locks.{numbers_in, greatest_kept}
 use Rattle.lc_recover.specs.Pages.{AreKept}
 use Rattle.lc_recover.specs.Reading.{store_of}
-use Rattle.lc_recover.specs.Reads.{area_count, area_len}
+use Rattle.lc_recover.specs.Reads.{area_count, area_len, AreHonest}
 use Rattle.lc_recover.specs.declared.kept.Kept.{Kept}
 use Rattle.lc_recover.specs.declared.read_areas.ReadAreas.{ReadAreas}
 use Rattle.lc_recover.specs.declared.segment_pages.SegmentPages.{SegmentPages}
@@ -76,3 +76,11 @@ module _ {D : Type 0} (a : Ghosts D) where
     pub segments : new.kept.segments.items ≡ old.kept.segments.items ++ pages ∷ []
     pub locks : new.locks.items ≡ old.locks.items
     pub numbers : new.numbers.items ≡ old.numbers.items ++ greatest_kept pages ∷ []
+
+  -- the first areas were read, as these bytes; while all are honest they are their own
+  pub record IsReadOf (g : Geometry) (areas : List D) (r : ReadAreas) : Type 0 where
+    pub bytes : List (List ℕ)
+    pub first : AreFirst g bytes
+    pub kept : IsRead g bytes r.kept
+    pub counted : IsCounted r
+    pub same : AreHonest a areas → bytes ≡ take (read_count r) (map a.now areas)

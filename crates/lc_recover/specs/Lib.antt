@@ -16,3 +16,5 @@ pub mod Changes
 pub mod Merging
 pub mod Stopped
 pub mod Recovered
+pub mod Survey
+pub mod Forecast

@@ -4,7 +4,8 @@ ghost use Rattle.std.specs.Option.{option_or};
 ghost use Rattle.lc_record.specs.Newest.{byte_from};
 ghost use Rattle.lc_record.specs.Words.{bytes_of};
 ghost use Rattle.lc_record.specs.declared.record.RangeData.{RangeData};
-ghost use Rattle.lc_recover.specs.Page.{IsOf, AreAt, byte_with, IsFirstPage};
+ghost use Rattle.lc_recover.specs.Kept.{AreAscending};
+ghost use Rattle.lc_recover.specs.Page.{IsOf, AreAt, AreOfPage, byte_with, IsFirstPage};
 
 use crate::change::Change;
 use lc_record::{Items, PAGE, put_words};
@@ -22,6 +23,18 @@ pub(crate) fn first_page(changes: &[Change]) -> &[Change]
         }
     }
     changes
+}
+
+/// The changes of this page; none where it has none.
+pub(crate) fn changes_of(changes: &[Change], segment: u32, page: u32) -> &[Change]
+    ensures { AreAscending changes.now → AreOfPage changes.now segment page result.now }
+{
+    for (place, change) in changes.iter().enumerate() {
+        if change.segment == segment && change.page == page {
+            return first_page(&changes[place..]);
+        }
+    }
+    &changes[..0]
 }
 
 /// Puts the ranges of these changes on the bytes of their page, one after another.

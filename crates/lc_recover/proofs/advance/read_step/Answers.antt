@@ -1,4 +1,5 @@
 use Rattle.std.proofs.Common.{◌≡◌, ◌+◌, refl, sym, ◌∙◌, ap, subst, length, Err, List, ℕ, arith}
+use Rattle.lc_recover.proofs.AreaLemmas.{begins}
 use Rattle.lc_recover.proofs.ReadLemmas.{same-counted}
 use Rattle.lc_recover.proofs.StoppedFits.{stopped-fits, same-read}
 use Rattle.lc_recover.specs.KeptAreas.{read_count}
@@ -6,6 +7,12 @@ use Rattle.lc_recover.specs.Reads.{area_count}
 use Rattle.lc_recover.specs.Stage.{Fits}
 use Rattle.lc_recover.specs.declared.stage.Stage.TheVariants.{Reading}
 use Rattle.lc_recover.proofs.advance.read_step.Goals as goal
+
+pub read_area-requires-clause-areas : goal.read_area-requires-clause-areas
+read_area-requires-clause-areas g c = begins g.D.Area c.args.geometry.now (Reading c.args.read) c.args.areas.now c.requires.fits.0
+
+pub returns-in-Ok-clause-fits : goal.returns-in-Ok-clause-fits
+returns-in-Ok-clause-fits g c = c.in-Ok.ensures.fits c.requires.fits
 
 pub returns-in-Err-clause-stopped : goal.returns-in-Err-clause-stopped
 returns-in-Err-clause-stopped g c =

@@ -6,6 +6,7 @@ use Rattle.lc_recover.specs.Stage.{OneCall}
 use Rattle.lc_recover.proofs.AreaLemmas.{on_ok, one_item, one-call, quiet-begins, quiet-merges, quiet-reads}
 use Rattle.lc_recover.proofs.Images.{len-segment}
 use Rattle.lc_recover.proofs.ReadSteps.{log-read, segment-read}
+use Rattle.lc_recover.proofs.AreasRead.{log-more, segment-more, still-honest}
 use Rattle.lc_recover.proofs.reading.read_area.Given.{Over}
 use Rattle.lc_recover.proofs.reading.read_area.Goals as goal
 use Rattle.lc_recover.proofs.reading.read_area.Goals.{After-read_log, After-read_segment}
@@ -18,7 +19,7 @@ read_segment-requires g c =
     let was : slice_get c.args.areas.now c.count-place.result ≡ Some old = slice_get-get_or c.args.areas.now c.count-place.result c.index-areas-place-else-place-geometry.result within in
     let long : length (g.D.Area.now old) ≡ 2 * 272 * c.args.geometry.now.pages =
     one_item (length (g.D.Area.now old)) (2 * 272 * c.args.geometry.now.pages)
-    ((c.requires.fits.0.each k old was).len ∙ len-segment c.args.geometry.now k (omega (arith, c.if-place-geometry.false)) (omega (arith, within, c.requires.fits.0.count))) in
+    ((c.requires.areas.each k old was).len ∙ len-segment c.args.geometry.now k (omega (arith, c.if-place-geometry.false)) (omega (arith, within, c.requires.areas.count))) in
     omega (arith, long)
 
 module _ (g : Over) (c : After-read_log g) where
@@ -34,12 +35,18 @@ module _ (g : Over) (c : After-read_log g) where
 pub returns-then-place-geometry-clause-fits : goal.returns-then-place-geometry-clause-fits
 returns-then-place-geometry-clause-fits g c =
     on_ok c.read_log.result _ _ c.read_log.ensures.read
-    (log-read g.D.Area c.args.geometry.now c.args.areas.now c.args.read.now c.read_log.new.read c.requires.fits c.count-place.result (log_place g c) (log_old g c) c.read_log.new.area (log_was g c) c.read_log.ensures.quiet
-    (omega (arith, c.if-place-geometry.true)))
+    (λ adds fits. log-read g.D.Area c.args.geometry.now c.args.areas.now c.args.read.now c.read_log.new.read fits c.count-place.result (log_place g c) (log_old g c) c.read_log.new.area (log_was g c) c.read_log.ensures.quiet
+    (omega (arith, c.if-place-geometry.true)) adds)
+
+pub returns-then-place-geometry-clause-read : goal.returns-then-place-geometry-clause-read
+returns-then-place-geometry-clause-read g c =
+    on_ok c.read_log.result _ _ c.read_log.ensures.read
+    (λ adds of. log-more g.D.Area c.args.geometry.now c.args.areas.now c.args.read.now c.read_log.new.read of c.count-place.result (log_place g c) c.requires.areas (log_old g c) c.read_log.new.area (log_was g c) c.read_log.ensures.quiet
+    (omega (arith, c.if-place-geometry.true)) adds)
 
 pub returns-then-place-geometry-clause-areas : goal.returns-then-place-geometry-clause-areas
 returns-then-place-geometry-clause-areas g c =
-    quiet-begins g.D.Area c.args.geometry.now c.args.areas.now c.count-place.result (log_old g c) c.read_log.new.area (log_was g c) _ c.requires.fits.0 c.read_log.ensures.quiet
+    quiet-begins g.D.Area c.args.geometry.now c.args.areas.now c.count-place.result (log_old g c) c.read_log.new.area (log_was g c) _ c.requires.areas c.read_log.ensures.quiet
 
 pub returns-then-place-geometry-clause-call : goal.returns-then-place-geometry-clause-call
 returns-then-place-geometry-clause-call g c some =
@@ -67,12 +74,18 @@ module _ (g : Over) (c : After-read_segment g) where
 pub returns-else-place-geometry-clause-fits : goal.returns-else-place-geometry-clause-fits
 returns-else-place-geometry-clause-fits g c =
     on_ok c.read_segment.result _ _ c.read_segment.ensures.read
-    (segment-read g.D.Area c.args.geometry.now c.args.areas.now c.args.read.now c.read_segment.new.read c.requires.fits c.count-place.result (segment_place g c) (segment_old g c) c.read_segment.new.area (segment_was g c) c.read_segment.ensures.quiet
-    (omega (arith, c.if-place-geometry.false)))
+    (λ adds fits. segment-read g.D.Area c.args.geometry.now c.args.areas.now c.args.read.now c.read_segment.new.read fits c.count-place.result (segment_place g c) (segment_old g c) c.read_segment.new.area (segment_was g c) c.read_segment.ensures.quiet
+    (omega (arith, c.if-place-geometry.false)) adds)
+
+pub returns-else-place-geometry-clause-read : goal.returns-else-place-geometry-clause-read
+returns-else-place-geometry-clause-read g c =
+    on_ok c.read_segment.result _ _ c.read_segment.ensures.read
+    (λ adds of. segment-more g.D.Area c.args.geometry.now c.args.areas.now c.args.read.now c.read_segment.new.read of c.count-place.result (segment_place g c) c.requires.areas (segment_old g c) c.read_segment.new.area (segment_was g c) c.read_segment.ensures.quiet
+    (omega (arith, c.if-place-geometry.false)) adds)
 
 pub returns-else-place-geometry-clause-areas : goal.returns-else-place-geometry-clause-areas
 returns-else-place-geometry-clause-areas g c =
-    quiet-begins g.D.Area c.args.geometry.now c.args.areas.now c.count-place.result (segment_old g c) c.read_segment.new.area (segment_was g c) _ c.requires.fits.0 c.read_segment.ensures.quiet
+    quiet-begins g.D.Area c.args.geometry.now c.args.areas.now c.count-place.result (segment_old g c) c.read_segment.new.area (segment_was g c) _ c.requires.areas c.read_segment.ensures.quiet
 
 pub returns-else-place-geometry-clause-call : goal.returns-else-place-geometry-clause-call
 returns-else-place-geometry-clause-call g c some =
@@ -86,3 +99,11 @@ returns-else-place-geometry-clause-merges g c content numbers =
 pub returns-else-place-geometry-clause-reads : goal.returns-else-place-geometry-clause-reads
 returns-else-place-geometry-clause-reads g c =
     quiet-reads g.D.Area c.args.geometry.now c.args.areas.now c.count-place.result (segment_old g c) c.read_segment.new.area (segment_was g c) c.read_segment.ensures.quiet
+
+pub returns-then-place-geometry-clause-honest : goal.returns-then-place-geometry-clause-honest
+returns-then-place-geometry-clause-honest g c =
+    still-honest g.D.Area c.args.geometry.now c.args.areas.now c.count-place.result (log_old g c) c.read_log.new.area (log_was g c) c.read_log.ensures.quiet
+
+pub returns-else-place-geometry-clause-honest : goal.returns-else-place-geometry-clause-honest
+returns-else-place-geometry-clause-honest g c =
+    still-honest g.D.Area c.args.geometry.now c.args.areas.now c.count-place.result (segment_old g c) c.read_segment.new.area (segment_was g c) c.read_segment.ensures.quiet
