@@ -2,12 +2,12 @@
 use Rattle.std.proofs.Common.{◌≡◌, ℕ, zero, suc, ◌+◌, ◌*◌, ◌<◌, ◌≤◌, true, Some, List, [], ◌∷◌, ◌++◌, map, length, get_or, take, refl, sym, ◌∙◌, ap, subst, arith, inl, inr}
 use Rattle.std.specs.Prelude.{slice_get, slice_set}
 use Rattle.std.proofs.lemmas.Bool.{cases_eq}
-use Rattle.std.proofs.lemmas.List.{length-append, length-map, length-take-le, take_all}
+use Rattle.std.proofs.lemmas.List.{length-append, length-map, length-set, length-take-le, take_all}
 use Rattle.std.proofs.lemmas.Option.{none-some, same_Some, slice_get_within, get_or_from_slice_get}
 use Rattle.lc_disk.specs.declared.area.Area.{Ghosts}
 use Rattle.lc_record.specs.Words.{words_of}
 use Rattle.lc_record.specs.declared.geometry.Geometry.{Geometry}
-use Rattle.lc_recover.proofs.AreaLemmas.{each-set, one_item, quiet-reads, set-get, set-others}
+use Rattle.lc_recover.proofs.AreaLemmas.{each-set, get-set, one_item, quiet-reads, set-get, set-others}
 use Rattle.lc_log.proofs.WalkBackLemmas.{words_within}
 use Rattle.lc_model.specs.Merge.{Store}
 use Rattle.lc_recover.proofs.Images.{get-map, get-some, get-take, len-log}
@@ -17,9 +17,9 @@ use Rattle.lc_recover.proofs.MergeStep.{its-store}
 use Rattle.lc_recover.proofs.ReadLemmas.{count-read, counted-log, counted-none, counted-segment, first-more, read-log, read-segment, read-none as kept-none}
 use Rattle.lc_recover.specs.Kept.{IsKept}
 use Rattle.lc_recover.specs.Reading.{store_of as kept_store}
-use Rattle.lc_recover.specs.KeptAreas.{AddsLog, AddsSegment, AreFirst, IsReadOf, IsReadWhole, read_count}
-use Rattle.lc_recover.specs.Reads.{area_count, area_len, AreHonest, store_of}
-use Rattle.lc_recover.specs.Stage.{AreaFits, AreasFit, Quiet}
+use Rattle.lc_recover.specs.KeptAreas.{AddsLog, AddsSegment, IsReadOf, IsReadWhole, read_count}
+use Rattle.lc_recover.specs.Reads.{area_count, area_len, AreHonest, AreLeftAs, IsLeftAs, store_of}
+use Rattle.lc_recover.specs.Stage.{AreasFit, Quiet}
 use Rattle.lc_recover.specs.declared.read_areas.ReadAreas.{ReadAreas}
 use Rattle.lc_recover.specs.declared.segment_pages.SegmentPages.{SegmentPages}
 use Rattle.lc_recover.specs.declared.stage.Stage.TheVariants.{Syncing}
@@ -45,6 +45,46 @@ module _ {D : Type 0} (a : Ghosts D) (g : Geometry) (areas : List D) where
   -- each area is as honest as it was
   pub still-honest : (k : ℕ) (old is : D) → slice_get areas k ≡ Some old → Quiet a old is → AreHonest a areas → AreHonest a (slice_set areas k is)
   still-honest k old is was quiet honest = each-set (λ j area. a.honest area ≡ true) areas k is (λ j area differ there. honest j area there) (quiet.honest ∙ honest k old was)
+
+  -- each area is left as it was, or is the one that was read
+  pub left-set : (k : ℕ) (old is : D) → slice_get areas k ≡ Some old → IsLeftAs a old is → AreLeftAs a areas (slice_set areas k is)
+  left-set k old is was left = record {
+    count = length-set areas k is;
+    each = λ j before after there then.
+        elim (get-set areas k is j after then) [
+          | inl here ↦
+              let its : old ≡ before = one_item old before (sym was ∙ ap (slice_get areas) (sym here.0) ∙ there) in
+              subst (λ (x : D). IsLeftAs a before x) (sym here.1) (subst (λ (x : D). IsLeftAs a x is) its left)
+          | inr other ↦
+              let its : before ≡ after = one_item before after (sym there ∙ other.1) in
+              subst (λ (x : D). IsLeftAs a before x) its (record { honest = refl; len = refl; same = λ honest. refl; same_dirty = λ honest at. refl })
+        ];
+  }
+
+  -- none is called
+  pub left-none : AreLeftAs a areas areas
+  left-none = record {
+    count = refl;
+    each = λ k before after there then.
+        let its : before ≡ after = one_item before after (sym there ∙ then) in
+        subst (λ (x : D). IsLeftAs a before x) its (record { honest = refl; len = refl; same = λ honest. refl; same_dirty = λ honest at. refl });
+  }
+
+  -- one call after another
+  pub left-both : (mids news : List D) → AreLeftAs a areas mids → AreLeftAs a mids news → AreLeftAs a areas news
+  left-both mids news one two = record {
+    count = two.count ∙ one.count;
+    each = λ k before after there then.
+        let mid = get-some mids k (omega (arith, slice_get_within areas k before there, one.count)) in
+        let first = one.each k before mid.0 there mid.1 in
+        let second = two.each k mid.0 after mid.1 then in
+        record {
+          honest = second.honest ∙ first.honest;
+          len = second.len ∙ first.len;
+          same = λ honest. second.same (first.honest ∙ honest) ∙ first.same honest;
+          same_dirty = λ honest at. second.same_dirty (first.honest ∙ honest) at ∙ first.same_dirty honest at;
+        };
+  }
 
   module _ (r new : ReadAreas) (of : IsReadOf a g areas r) (k : ℕ) (here : k ≡ read_count r) (fits : AreasFit a g (Syncing 0) areas)
       (old is : D) (was : slice_get areas k ≡ Some old) (quiet : Quiet a old is) where

@@ -1,6 +1,6 @@
 -- What a merge of all that was read foretells.
-use Rattle.std.proofs.Common.{◌≡◌, ◌↔◌, ℕ, zero, suc, ◌+◌, ◌-◌, ◌*◌, ◌<◌, ◌≤◌, ◌==◌, not, true, false, true≢false, eqb-true, IsTrue, Some, None, List, [], ◌∷◌, ◌++◌, length, drop, All, Contains, sym, ◌∙◌, ap, subst, arith, inl, inr, refl}
-use Rattle.std.specs.Prelude.{slice_get, slice_index_or}
+use Rattle.std.proofs.Common.{◌≡◌, ◌↔◌, ℕ, zero, suc, ◌+◌, ◌-◌, ◌*◌, ◌<◌, ◌≤◌, ◌==◌, not, true, false, true≢false, eqb-true, IsTrue, Some, None, List, ◌++◌, length, drop, All, Contains, sym, ◌∙◌, ap, subst, arith, inl, inr, refl}
+use Rattle.std.specs.Prelude.{slice_get}
 use Rattle.std.specs.Global.{Vec}
 use Rattle.std.specs.Option.{option_or}
 use Rattle.std.proofs.lemmas.Bool.{cases_lt}
@@ -11,7 +11,6 @@ use Rattle.lc_record.specs.Content.{Content, segment_of}
 use Rattle.lc_record.specs.Newest.{byte_of}
 use Rattle.lc_record.specs.declared.geometry.Geometry.{Geometry}
 use Rattle.lc_record.specs.declared.record.RangeData.{RangeData}
-use Rattle.lc_page.specs.PageVector.{entry_at}
 use Rattle.lc_model.specs.Merge.{Page, Store, MergesTo, all_records}
 use Rattle.lc_model.specs.Merging.{byte_at}
 use Rattle.lc_model.specs.Stored.{page_bytes}
@@ -25,13 +24,11 @@ use Rattle.lc_recover.proofs.MergedPage.{one_of_these, page_merged, ranges_stand
 use Rattle.lc_recover.proofs.PagesBehind.{pages-behind}
 use Rattle.lc_recover.proofs.PagesOf.{are_listed}
 use Rattle.lc_recover.proofs.Walks.{contains-at}
-use Rattle.lc_recover.specs.Forecast.{Foretold, IsForecast, IsForetold, IsPageBehind, foretold, sequence_of}
+use Rattle.lc_recover.specs.Forecast.{IsForecast, IsForetold, IsPageBehind, foretold}
 use Rattle.lc_recover.specs.Kept.{IsKept, IsMerging}
 use Rattle.lc_recover.specs.KeptAreas.{IsReadWhole}
 use Rattle.lc_recover.specs.Page.{IsOf, AreAt, AreOfPage, byte_with}
 use Rattle.lc_recover.specs.Pages.{bytes_of_page}
-use Rattle.lc_recover.specs.Position.{HasChange}
-use Rattle.lc_recover.specs.Stage.{AsFarAs, IsOld}
 use Rattle.lc_recover.specs.declared.change.Change.{Change}
 use Rattle.lc_recover.specs.declared.kept.Kept.{Kept}
 use Rattle.lc_recover.specs.declared.page_writes.PageWrites.{PageWrites}

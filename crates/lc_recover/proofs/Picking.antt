@@ -1,5 +1,5 @@
 -- The changes of one page, picked from all.
-use Rattle.std.proofs.Common.{◌≡◌, ℕ, ◌+◌, ◌-◌, Some, List, ◌++◌, length, take, drop, All, sym, ◌∙◌, ap, subst, arith}
+use Rattle.std.proofs.Common.{◌≡◌, ℕ, ◌+◌, ◌-◌, Some, List, ◌++◌, length, take, drop, All, ◌∙◌, ap, subst, arith}
 use Rattle.std.specs.Prelude.{slice_get}
 use Rattle.lc_recover.proofs.Images.{get-drop}
 use Rattle.lc_recover.proofs.MergedPage.{ascending_behind}

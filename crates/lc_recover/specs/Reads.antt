@@ -42,6 +42,18 @@ module _ {D : Type 0} (a : Ghosts D) where
   abbrev pub AreHonest : List D → Type 0
   AreHonest areas = (area : ℕ) (device : D) → slice_get areas area ≡ Some device → a.honest device ≡ true
 
+  -- the area is as long as before, and while it is honest it reads as before, with the same positions dirty
+  pub record IsLeftAs (old new : D) : Type 0 where
+    pub honest : a.honest new ≡ a.honest old
+    pub len : length (a.now new) ≡ length (a.now old)
+    pub same : a.honest old ≡ true → a.now new ≡ a.now old
+    pub same_dirty : a.honest old ≡ true → (at : ℕ) → a.dirty new at ≡ a.dirty old at
+
+  -- so is each of them: none was written to, and no sync has made a position stable
+  pub record AreLeftAs (olds news : List D) : Type 0 where
+    pub count : length news ≡ length olds
+    pub each : (k : ℕ) (old new : D) → slice_get olds k ≡ Some old → slice_get news k ≡ Some new → IsLeftAs old new
+
   -- they read as zeros, and a stop leaves them so
   abbrev pub AreZeros : List D → Type 0
   AreZeros areas = (area : ℕ) (device : D) → slice_get areas area ≡ Some device →

@@ -3,7 +3,7 @@ ghost use Rattle.std.specs.Prelude.{◌≡◌, ◌+◌, ◌*◌, ◌<◌, ◌≤
 ghost use Rattle.lc_record.specs.Content.{Content};
 ghost use Rattle.lc_log.specs.OneCall.{IsOneCall};
 ghost use Rattle.lc_recover.specs.KeptAreas.{read_count, AddsLog, AddsSegment, IsReadOf, IsSameRead};
-ghost use Rattle.lc_recover.specs.Reads.{AreHonest, AllMergeTo};
+ghost use Rattle.lc_recover.specs.Reads.{AllMergeTo, AreHonest, AreLeftAs, IsLeftAs};
 ghost use Rattle.lc_recover.specs.Stage.{AreasFit, Fits, OneCall, Quiet};
 ghost use Rattle.lc_recover.specs.declared.stage.Stage.{Stage};
 ghost use Rattle.lc_recover.specs.declared.fault.RecoverFault.TheVariants.{NoMemory, DeviceFault as Failed};
@@ -36,6 +36,7 @@ pub(crate) fn read_area<D: Area>(
     ensures areas { AreasFit D.Area geometry.now (Stage.Syncing 0) areas.new }
     ensures call { (result ≡ Err NoMemory → ⊥) → OneCall D.Area (read_count read.old) areas.old areas.new (is_ok result) }
     ensures honest { AreHonest D.Area areas.old → AreHonest D.Area areas.new }
+    ensures left { AreLeftAs D.Area areas.old areas.new }
     ensures reads { AreHonest D.Area areas.old → map D.now areas.new ≡ map D.now areas.old }
     ensures merges { (content : Content) (numbers : ℕ → ℕ) → AreHonest D.Area areas.new
         → AllMergeTo D.Area geometry.now areas.old content numbers → AllMergeTo D.Area geometry.now areas.new content numbers }
@@ -54,6 +55,7 @@ fn read_log<D: Area>(alloc: Global, area: &mut D, read: &mut ReadAreas) -> Resul
     ensures read { OnOk result (AddsLog D.Area area.old read.old read.new) }
     ensures no_memory { result ≡ Err NoMemory → (area.new ≡ area.old) × IsSameRead read.old read.new }
     ensures quiet { Quiet D.Area area.old area.new }
+    ensures left { IsLeftAs D.Area area.old area.new }
     ensures call { (result ≡ Err NoMemory → ⊥) → IsOneCall D.Area (is_ok result) area.old area.new }
     ensures fault { IfErr result (λ fault. (fault ≡ NoMemory) ⊎ (fault ≡ Failed)) }
 {
@@ -79,6 +81,7 @@ fn read_segment<D: Area>(
     ensures read { OnOk result (AddsSegment D.Area geometry.now.pages area.old read.old read.new) }
     ensures no_memory { result ≡ Err NoMemory → (area.new ≡ area.old) × IsSameRead read.old read.new }
     ensures quiet { Quiet D.Area area.old area.new }
+    ensures left { IsLeftAs D.Area area.old area.new }
     ensures call { (result ≡ Err NoMemory → ⊥) → IsOneCall D.Area (is_ok result) area.old area.new }
     ensures fault { IfErr result (λ fault. (fault ≡ NoMemory) ⊎ (fault ≡ Failed)) }
 {
@@ -99,6 +102,7 @@ fn read_whole<D: Area>(area: &mut D, bytes: &mut Vec<u8>) -> Result<(), DeviceFa
     ensures len { length bytes.new.items ≡ length (D.now area.old) }
     ensures bytes { OnOk result (D.honest area.old ≡ true → bytes.new.items ≡ D.now area.old) }
     ensures quiet { Quiet D.Area area.old area.new }
+    ensures left { IsLeftAs D.Area area.old area.new }
     ensures call { IsOneCall D.Area (is_ok result) area.old area.new }
 {
     area.read(0, bytes.as_mut_slice())

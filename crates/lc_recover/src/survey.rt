@@ -6,7 +6,7 @@ ghost use Rattle.lc_model.specs.Merge.{IsLeast, MergesTo};
 ghost use Rattle.lc_record.specs.Content.{Content};
 ghost use Rattle.lc_recover.specs.Fault.{IsRefusal};
 ghost use Rattle.lc_recover.specs.KeptAreas.{IsReadOf, read_count};
-ghost use Rattle.lc_recover.specs.Reads.{area_len, AreHonest, AreOfBytes, HaveLengths, store_of};
+ghost use Rattle.lc_recover.specs.Reads.{area_len, AreHonest, AreLeftAs, AreOfBytes, HaveLengths, store_of};
 ghost use Rattle.lc_recover.specs.Recovery.{HasPageToWrite};
 ghost use Rattle.lc_recover.specs.Stage.{AreasFit};
 ghost use Rattle.lc_recover.specs.declared.fault.RecoverFault.TheVariants.{BadGeometry, DeviceFault as Failed, NoMemory};
@@ -65,6 +65,7 @@ impl Survey {
         ensures read { IfOk result (λ survey. AreHonest D.Area areas.old → survey.store ≡ store_of geometry.now (map D.now areas.old)) }
 
         // Also after a fault.
+        ensures left { AreLeftAs D.Area areas.old areas.new }
         ensures honest { AreHonest D.Area areas.old → AreHonest D.Area areas.new }
         ensures reads { AreHonest D.Area areas.old → map D.now areas.new ≡ map D.now areas.old }
     {
@@ -118,6 +119,7 @@ fn read_all<D: Area>(
     ensures read { IfOk result (IsReadOf D.Area geometry.now areas.new) }
     ensures count { IfOk result (λ read. read_count read ≡ length areas.old) }
     ensures fault { IfErr result (λ fault. (fault ≡ NoMemory) ⊎ (fault ≡ Failed)) }
+    ensures left { AreLeftAs D.Area areas.old areas.new }
     ensures honest { AreHonest D.Area areas.old → AreHonest D.Area areas.new }
     ensures reads { AreHonest D.Area areas.old → map D.now areas.new ≡ map D.now areas.old }
 {

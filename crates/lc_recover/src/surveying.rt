@@ -4,7 +4,7 @@ ghost use Rattle.lc_model.specs.Merge.{IsLeast, MergesTo};
 ghost use Rattle.lc_record.specs.Content.{Content};
 ghost use Rattle.lc_recover.specs.Fault.{IsRefusal};
 ghost use Rattle.lc_recover.specs.Forecast.{IsForecast};
-ghost use Rattle.lc_recover.specs.Reads.{area_len, AreHonest, HaveLengths, store_of};
+ghost use Rattle.lc_recover.specs.Reads.{area_len, AreHonest, AreLeftAs, HaveLengths, store_of};
 ghost use Rattle.lc_recover.specs.declared.fault.RecoverFault.TheVariants.{BadGeometry, DeviceFault as Failed, NoMemory};
 
 use crate::{Forecast, RecoverFault, Survey};
@@ -38,6 +38,7 @@ pub fn survey_areas<D: Area>(
     ensures read { IfOk result (λ forecast. AreHonest D.Area areas.old → forecast.store ≡ store_of geometry.now (map D.now areas.old)) }
 
     // Also after a fault.
+    ensures left { AreLeftAs D.Area areas.old areas.new }
     ensures honest { AreHonest D.Area areas.old → AreHonest D.Area areas.new }
     ensures reads { AreHonest D.Area areas.old → map D.now areas.new ≡ map D.now areas.old }
 {

@@ -6,7 +6,7 @@ use Rattle.lc_recover.specs.Stage.{OneCall}
 use Rattle.lc_recover.proofs.AreaLemmas.{on_ok, one_item, one-call, quiet-begins, quiet-merges, quiet-reads}
 use Rattle.lc_recover.proofs.Images.{len-segment}
 use Rattle.lc_recover.proofs.ReadSteps.{log-read, segment-read}
-use Rattle.lc_recover.proofs.AreasRead.{log-more, segment-more, still-honest}
+use Rattle.lc_recover.proofs.AreasRead.{left-set, log-more, segment-more, still-honest}
 use Rattle.lc_recover.proofs.reading.read_area.Given.{Over}
 use Rattle.lc_recover.proofs.reading.read_area.Goals as goal
 use Rattle.lc_recover.proofs.reading.read_area.Goals.{After-read_log, After-read_segment}
@@ -107,3 +107,11 @@ returns-then-place-geometry-clause-honest g c =
 pub returns-else-place-geometry-clause-honest : goal.returns-else-place-geometry-clause-honest
 returns-else-place-geometry-clause-honest g c =
     still-honest g.D.Area c.args.geometry.now c.args.areas.now c.count-place.result (segment_old g c) c.read_segment.new.area (segment_was g c) c.read_segment.ensures.quiet
+
+pub returns-then-place-geometry-clause-left : goal.returns-then-place-geometry-clause-left
+returns-then-place-geometry-clause-left g c =
+    left-set g.D.Area c.args.geometry.now c.args.areas.now c.count-place.result (log_old g c) c.read_log.new.area (log_was g c) c.read_log.ensures.left
+
+pub returns-else-place-geometry-clause-left : goal.returns-else-place-geometry-clause-left
+returns-else-place-geometry-clause-left g c =
+    left-set g.D.Area c.args.geometry.now c.args.areas.now c.count-place.result (segment_old g c) c.read_segment.new.area (segment_was g c) c.read_segment.ensures.left

@@ -1,6 +1,6 @@
 use Rattle.std.proofs.Common.{◌≡◌, map}
 use Rattle.lc_recover.specs.KeptAreas.{IsReadOf, read_count}
-use Rattle.lc_recover.specs.Reads.{AreHonest}
+use Rattle.lc_recover.specs.Reads.{AreHonest, AreLeftAs}
 use Rattle.lc_recover.specs.Stage.{AreasFit}
 use Rattle.lc_recover.specs.declared.stage.Stage.TheVariants.{Syncing}
 use Rattle.lc_recover.proofs.survey.read_all.Given as goal
@@ -11,5 +11,6 @@ invariant-loop g l = record {
   count : read_count l.read ≡ l.counter;
   read : IsReadOf g.D.Area l.geometry l.areas l.read;
   honest : AreHonest g.D.Area l.initial.areas → AreHonest g.D.Area l.areas;
+  left : AreLeftAs g.D.Area l.initial.areas l.areas;
   reads : AreHonest g.D.Area l.initial.areas → map g.D.Area.now l.areas ≡ map g.D.Area.now l.initial.areas;
 }
