@@ -14,7 +14,7 @@ mod text;
 mod tool_fault;
 
 pub use command::{Command, Line};
-pub use hex::{write_page, write_words};
+pub use hex::{write_hex, write_page, write_words};
 pub use inspector::inspect;
 pub use lines::first_line;
 pub use parsing::{is_skipped, parse};

@@ -177,7 +177,7 @@ module _ {D : Type 0} (a : Ghosts D) (g : Geometry) (areas : List D) where
 abbrev pub first_segments : (ℕ → ℕ) → ℕ → List ℕ
 first_segments numbers count = flat_map (λ segment. segment_text segment (numbers segment)) (counting 1 count)
 
-counting_more : (from n : ℕ) → counting from (suc n) ≡ counting from n ++ (from + n) ∷ []
+pub counting_more : (from n : ℕ) → counting from (suc n) ≡ counting from n ++ (from + n) ∷ []
 counting_more from zero = ap (λ (k : ℕ). k ∷ []) (omega arith)
 counting_more from (suc n) =
     let next : from + 1 + n ≡ from + suc n = omega arith in
@@ -193,7 +193,7 @@ one_segment numbers segment o m n some front own =
     ap (λ (k : ℕ). counting 1 (segment - 1) ++ k ∷ []) (sym next) ∙ sym (counting_more 1 (segment - 1)) ∙ ap (counting 1) count in
     same_bytes o n _ _ (flat_map_more its [] (counting 1 (segment - 1)) segment ∙ ap (flat_map its) list) (Appends-trans o m n _ _ front own)
 
-same_numbers : (f h : ℕ → List ℕ) (from n : ℕ) → ((k : ℕ) → from ≤ k → k < from + n → f k ≡ h k) → flat_map f (counting from n) ≡ flat_map h (counting from n)
+pub same_numbers : (f h : ℕ → List ℕ) (from n : ℕ) → ((k : ℕ) → from ≤ k → k < from + n → f k ≡ h k) → flat_map f (counting from n) ≡ flat_map h (counting from n)
 same_numbers f h from zero each = refl
 same_numbers f h from (suc n) each =
     ap₂ (λ (x y : List ℕ). x ++ y) (each from (omega arith) (omega arith))

@@ -19,4 +19,7 @@ mod Beginning
 mod Refusals
 mod FilesMade
 mod AreasRecovered
+mod ChecksShown
+mod FilesTold
+mod DumpsShown
 pub mod Keeping

@@ -1,5 +1,5 @@
 -- What the program prints, and the status that it ends with, by what was asked of it.
-use Rattle.std.specs.Prelude.{◌≡◌, ℕ, Bool, List, Option, None, Some, IfSome, string_bytes}
+use Rattle.std.specs.Prelude.{◌≡◌, ℕ, Bool, List, Option, IfSome, string_bytes}
 use Rattle.std.specs.Io.KnownBytes.{Appends, Keeps}
 use Rattle.lc_record.specs.declared.geometry.Geometry.{Geometry}
 use Rattle.lc_model.specs.Recovered.{zero_content}
@@ -11,8 +11,10 @@ use Rattle.lc_tool.specs.Script.{Given, RunsScript, given_as}
 use Rattle.lc_tool.specs.Store.{Adds}
 use Rattle.lc_tool.specs.Tells.{TellsScript}
 use Rattle.lc_tool.specs.declared.line_list.TheConstants.{LINE_LIST}
+use Rattle.lc_tool.specs.Found.{AnswersSized, TellsChecked, TellsDumped}
+use Rattle.lc_words.specs.declared.run_store.RunStore.TheVariants.{New, InFolder}
 use Rattle.lc_words.specs.declared.asked.Asked.{Asked}
-use Rattle.lc_words.specs.declared.asked.Asked.TheVariants.{Run, Init, Recover, Inspect, Lines, Help, Version, NotUnderstood}
+use Rattle.lc_words.specs.declared.asked.Asked.TheVariants.{Run, Init, Recover, Check, Dump, Inspect, Lines, Help, Version, NotUnderstood}
 
 -- a script on a new store of zeros: what the plain machine allows from its first state on, with no numbers used
 abbrev pub RunsNew : Geometry → Given → Option (List ℕ) → Option (List ℕ) → ℕ → Type 0
@@ -29,10 +31,13 @@ given follow number = given_as (record { follow = follow; number = number })
 
 -- with what is to be read, and what a writer held and holds
 abbrev pub AnswersAsked : Asked → Option (List ℕ) → Option (List ℕ) → Option (List ℕ) → ℕ → Type 0
-AnswersAsked (Run g None follow number) input held holds status = IfSome input (λ bytes. RunsNew g (given follow number bytes) held holds status)
-AnswersAsked (Run g (Some folder) follow number) input held holds status = IfSome input (λ bytes. Adds (TellsScript g (given follow number bytes)) held holds status)
+AnswersAsked (Run (New g) follow number) input held holds status = IfSome input (λ bytes. RunsNew g (given follow number bytes) held holds status)
+AnswersAsked (Run (InFolder folder size) follow number) input held holds status =
+    IfSome input (λ bytes. AnswersSized size (λ g. Adds (TellsScript g (given follow number bytes)) held holds status) held holds status)
 AnswersAsked (Init folder g) input held holds status = Adds TellsInit held holds status
-AnswersAsked (Recover folder g) input held holds status = Adds (TellsRecovery g) held holds status
+AnswersAsked (Recover folder size) input held holds status = AnswersSized size (λ g. Adds (TellsRecovery g) held holds status) held holds status
+AnswersAsked (Check folder size) input held holds status = Adds (TellsChecked size) held holds status
+AnswersAsked (Dump folder segment page) input held holds status = Adds (TellsDumped segment page) held holds status
 AnswersAsked (Inspect file reverse) input held holds status = TellsInspection reverse held holds status
 AnswersAsked Lines input held holds status = PrintsHelp LINE_LIST.now held holds status
 AnswersAsked (Help text) input held holds status = PrintsHelp (string_bytes text) held holds status

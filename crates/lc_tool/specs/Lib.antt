@@ -15,5 +15,8 @@ pub mod Outcome
 pub mod Tells
 pub mod Files
 pub mod Recovers
+pub mod Checks
+pub mod Found
+pub mod Dumps
 pub mod Asked
 pub mod Noted

@@ -6,13 +6,15 @@ ghost use Rattle.lc_tool.specs.Script.{given_as};
 use crate::ToolFault;
 use crate::line_list::LINE_LIST;
 use crate::log_file::inspect_file;
+use crate::looking::{check_store, dump_page};
 use crate::manner::Manner;
 use crate::scripts::{DONE, NOT_UNDERSTOOD, no_memory, run_script};
-use crate::stores::{init_store, recover_store, run_store};
+use crate::shared_file::SharedFile;
+use crate::sizing::{recover_sized, run_sized};
+use crate::stores::init_store;
 use crate::zeros::zero_areas;
-use lc_disk::HeldFile;
 use lc_record::Geometry;
-use lc_words::Asked;
+use lc_words::{Asked, RunStore};
 use std::alloc::{AllocError, Global};
 use std::io::{Read, Write};
 use std::rt::Files;
@@ -29,25 +31,32 @@ pub fn answer<R: Files + Eprint, I: Read, W: Write>(
     writer: &mut W,
 ) -> Result<u8, ToolFault>
 where
-    R::File: HeldFile,
+    R::File: SharedFile,
     ensures answers { IfOk result (λ status. AnswersAsked asked (I.remaining reader.old) (W.contents writer.old) (W.contents writer.new) status) }
     ensures memory { result ≢ Err ToolFault.NoMemory }
 {
     match asked {
         Asked::Run {
-            geometry,
             store,
             follow,
             number,
         } => {
             let manner = Manner { follow, number };
             match store {
-                None => run_new(alloc, geometry, manner, reader, writer),
-                Some(folder) => run_store(alloc, rt, &folder, geometry, manner, reader, writer),
+                RunStore::New(geometry) => run_new(alloc, geometry, manner, reader, writer),
+                RunStore::InFolder { folder, size } => {
+                    run_sized(alloc, rt, &folder, &size, manner, reader, writer)
+                }
             }
         }
         Asked::Init { folder, geometry } => init_store(alloc, rt, &folder, geometry, writer),
-        Asked::Recover { folder, geometry } => recover_store(alloc, rt, &folder, geometry, writer),
+        Asked::Recover { folder, size } => recover_sized(alloc, rt, &folder, &size, writer),
+        Asked::Check { folder, size } => check_store(alloc, rt, &folder, &size, writer),
+        Asked::Dump {
+            folder,
+            segment,
+            page,
+        } => dump_page(alloc, rt, &folder, segment, page, writer),
         Asked::Inspect { file, reverse } => inspect_file(alloc, rt, &file, reverse, writer),
         Asked::Lines => help(LINE_LIST, writer),
         Asked::Help(text) | Asked::Version(text) => help(&text, writer),

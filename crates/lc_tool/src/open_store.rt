@@ -1,8 +1,10 @@
 //! The opening of a store in a folder.
 use crate::file_fault::Place;
+use crate::file_lens::{FileLens, LOGS, SEGMENTS};
 use crate::file_name::FileName;
 use crate::folder::FolderFault;
 use crate::renewing::renew;
+use crate::shared_file::SharedFile;
 use crate::store_file::StoreFile;
 use crate::store_folder::StoreFolder;
 use crate::watch::{FileWatch, StoreArea};
@@ -25,10 +27,63 @@ where
     pub guard: R::File,
 }
 
+/// A store in a folder that is looked at: how long its files are, and what keeps those from it that would change it.
+pub(crate) struct Look<R: Files>
+where
+    R::File: HeldFile,
+{
+    /// How long its files are.
+    pub(crate) lens: FileLens,
+    /// The folder, locked beside others that look at it, until this is dropped.
+    pub(crate) guard: R::File,
+}
+
+impl<R: Files> StoreFolder<'_, R>
+where
+    R::File: SharedFile,
+{
+    /// Looks at the store in the folder: no other process changes it while the guard is kept.
+    ///
+    /// # Errors
+    ///
+    /// `Failed` where another process has the store open, or the system refused something; `fault` says what, and why.
+    pub(crate) fn look(&self) -> Result<Look<R>, FolderFault> {
+        let guard = self.noted(Place::Folder, self.lock_shared())?;
+        let lens = self.file_lens()?;
+        Ok(Look { lens, guard })
+    }
+}
+
 impl<'a, R: Files> StoreFolder<'a, R>
 where
     R::File: HeldFile,
 {
+    /// How long the files of a store are that stand in the folder.
+    pub(crate) fn file_lens(&self) -> Result<FileLens, FolderFault> {
+        let mut lens = FileLens {
+            logs: [None; LOGS],
+            segments: [None; SEGMENTS],
+        };
+        for node in 0..LOGS {
+            let name = FileName::Log(node as u16);
+            lens.logs[node] = self.noted(Place::File(name), self.len_of(name))?;
+        }
+        for place in 0..SEGMENTS {
+            let name = FileName::Segment(place as u32 + 1);
+            lens.segments[place] = self.noted(Place::File(name), self.len_of(name))?;
+        }
+        Ok(lens)
+    }
+
+    /// The areas of the store's files, as `open` opens them, without a lock, and as they are behind a fault too.
+    pub(crate) fn areas_of(
+        &self,
+        geometry: &Geometry,
+    ) -> Result<Vec<StoreArea<'_, R>>, FolderFault> {
+        let beyond = self.first_beyond(geometry)?;
+        self.open_areas(geometry, beyond)
+    }
+
     /// Opens the store of this size that is in the folder, for this process alone: no other opens it while the guard is kept.
     ///
     /// A name of a store's file above those of the geometry (up to `log7` and `seg16`) that is taken is one area more than the

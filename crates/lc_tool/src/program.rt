@@ -3,7 +3,7 @@ use crate::ToolFault;
 use crate::answering::answer;
 use crate::noted::Noted;
 use crate::scripts::{FAULTED, no_memory};
-use lc_disk::HeldFile;
+use crate::shared_file::SharedFile;
 use lc_words::{Asked, read_command_line};
 use std::alloc::{AllocError, Global};
 use std::env;
@@ -14,7 +14,7 @@ use std::rt::{Env, Files};
 /// failed, and why, is said on standard error.
 pub fn run_program<R: AllocGlobal + Env + Files + Input + Print + Eprint>(rt: &R) -> u8
 where
-    R::File: HeldFile,
+    R::File: SharedFile,
 {
     let alloc = rt.alloc();
     let mut input = Noted::new(rt.reader());
@@ -52,7 +52,7 @@ fn buffered<R: Files + Eprint, I: Read, W: Write>(
     output: &mut W,
 ) -> Result<u8, ToolFault>
 where
-    R::File: HeldFile,
+    R::File: SharedFile,
 {
     let Ok(mut writer) = BufWriter::new(alloc, output) else {
         return Err(ToolFault::NoMemory);

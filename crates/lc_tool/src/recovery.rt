@@ -62,7 +62,7 @@ fn recovered<D: Area + Drop>(
 }
 
 // The status, where the lines were written.
-fn ended(written: io::Result<()>, status: u8) -> Result<u8, ToolFault>
+pub(crate) fn ended(written: io::Result<()>, status: u8) -> Result<u8, ToolFault>
     ensures { MatchResult written (λ _. result ≡ Ok status) (λ _. result ≡ Err ToolFault.Write) }
 {
     match written {
@@ -83,14 +83,14 @@ fn write_recovered<D: Area, W: Write>(writer: &mut W, store: &Recovered<D>) -> i
 }
 
 // Writes a segment and its number.
-fn write_segment<W: Write>(writer: &mut W, segment: u32, number: u64) -> io::Result<()>
+pub(crate) fn write_segment<W: Write>(writer: &mut W, segment: u32, number: u64) -> io::Result<()>
     ensures { OnOk result (Appends (W.contents writer.old) (W.contents writer.new) (segment_text segment number)) }
 {
     write!(writer, "segment {segment} sequence {number}\n")
 }
 
 // Writes why the store is not recovered.
-fn write_stop<W: Write>(writer: &mut W, fault: RecoverFault) -> io::Result<()>
+pub(crate) fn write_stop<W: Write>(writer: &mut W, fault: RecoverFault) -> io::Result<()>
     ensures { OnOk result (Appends (W.contents writer.old) (W.contents writer.new) (stop_text fault)) }
 {
     match recovery_refusal(fault) {
@@ -100,7 +100,7 @@ fn write_stop<W: Write>(writer: &mut W, fault: RecoverFault) -> io::Result<()>
 }
 
 // The status of a recovery that has stopped.
-fn status_of(fault: RecoverFault) -> u8
+pub(crate) fn status_of(fault: RecoverFault) -> u8
     ensures { result ≡ stop_status fault }
 {
     match fault {

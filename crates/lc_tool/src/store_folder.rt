@@ -4,6 +4,7 @@ ghost use Rattle.std.specs.Prelude.{◌≡◌};
 use crate::file_fault::{FileFault, Place};
 use crate::file_name::FileName;
 use crate::folder::FolderFault;
+use crate::shared_file::SharedFile;
 use lc_disk::HeldFile;
 use std::alloc::Global;
 use std::cell::Cell;
@@ -121,6 +122,23 @@ impl<'a, R> StoreFolder<'a, R> {
 
 impl<R: Files> StoreFolder<'_, R>
 where
+    R::File: SharedFile,
+{
+    // The folder, which no other process can open for itself alone until this is closed.
+    pub(crate) fn lock_shared(&self) -> io::Result<R::File> {
+        let folder = self.opened(self.path)?;
+        match folder.try_lock_shared() {
+            Ok(()) => Ok(folder),
+            Err(TryLockError::WouldBlock) => {
+                Err(Error::new(ErrorKind::WouldBlock, "store in use"))
+            }
+            Err(TryLockError::Error(error)) => Err(error),
+        }
+    }
+}
+
+impl<R: Files> StoreFolder<'_, R>
+where
     R::File: HeldFile,
 {
     // Says on standard error that a file stands, if one does.
@@ -148,6 +166,16 @@ where
                 Err(Error::new(ErrorKind::WouldBlock, "store in use"))
             }
             Err(TryLockError::Error(error)) => Err(error),
+        }
+    }
+
+    // How long the file of this name is, where there is one.
+    pub(crate) fn len_of(&self, name: FileName) -> io::Result<Option<u64>> {
+        let path = self.path_of(name)?;
+        match fs::metadata(self.rt, &path) {
+            Ok(metadata) => Ok(Some(metadata.len())),
+            Err(error) if error.kind() == ErrorKind::NotFound => Ok(None),
+            Err(error) => Err(error),
         }
     }
 

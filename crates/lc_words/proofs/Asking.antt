@@ -8,10 +8,10 @@ use Rattle.clap.specs.declared.parser.matches.ArgMatches.{ArgMatches}
 use Rattle.clap.specs.declared.error.kind.ErrorKind.{ErrorKind}
 use Rattle.clap.specs.declared.error.kind.ErrorKind.TheVariants.{DisplayHelp, DisplayVersion, OutOfMemory}
 use Rattle.clap.proofs.OnLiterals.{clap_on_literals}
-use Rattle.lc_words.proofs.FaultlessWords.{IsSubcommand, entered_run, entered_init, entered_recover, entered_inspect, entered_lines, faultless_words}
-use Rattle.lc_words.specs.CommandLine.{HasNumbersAt, HasSizeAt, HasText, HasWord, IsAskedBy, IsCallOf, IsInitOf, IsInspectOf, IsLike, IsLinesOf, IsReadOf, IsRecoverOf, IsRunOf, options_of, program_app}
+use Rattle.lc_words.proofs.FaultlessWords.{IsSubcommand, entered_run, entered_init, entered_recover, entered_inspect, entered_lines, entered_check, entered_dump, faultless_words}
+use Rattle.lc_words.specs.CommandLine.{HasCheckedSize, HasNoFiles, HasNumberIn, HasNumbersAt, HasSize, HasSizeAt, HasText, HasWord, IsAskedBy, IsCallOf, IsCheckOf, IsDumpOf, IsInitOf, IsInspectOf, IsLike, IsLinesOf, IsReadOf, IsRecoverOf, IsRunOf, options_of, program_app}
 use Rattle.lc_words.specs.declared.asked.Asked.{Asked}
-use Rattle.lc_words.specs.declared.asked.Asked.TheVariants.{Run, Init, Recover, Inspect, Lines, NotUnderstood}
+use Rattle.lc_words.specs.declared.asked.Asked.TheVariants.{Run, Init, Recover, Check, Dump, Inspect, Lines, NotUnderstood}
 
 pub program_is_simple : is_simple program_app ≡ true
 unfolding clap_on_literals
@@ -39,11 +39,11 @@ is_call name rows words met = (met.0, met.1 ∙ ap (λ (rs : List Row). Some (na
 
 run_asked : (asked : Asked) (rows : List Row) (words : List Text) → IsMet (codes "run") rows words → IsRunOf rows asked → HasSizeAt rows
     → IsAskedBy words asked
-run_asked (Run geometry store follow number) rows words met read size =
+run_asked (Run store follow number) rows words met read size =
     let same = rows_are (codes "run") rows words met in
-    let all = subst (λ (rs : List Row). IsRunOf rs (Run geometry store follow number)) same read in
-    (is_call (codes "run") rows words met, all.0, all.1, all.2, all.3)
-run_asked NotUnderstood rows words met read size = absurd (read size)
+    let all = subst (λ (rs : List Row). IsRunOf rs (Run store follow number)) same read in
+    (is_call (codes "run") rows words met, all.0, all.1, all.2)
+run_asked NotUnderstood rows words met read size = inl (is_call (codes "run") rows words met, subst HasNoFiles (rows_are (codes "run") rows words met) (read size))
 run_asked _ rows words met read size = absurd read
 
 init_asked : (asked : Asked) (rows : List Row) (words : List Text) → IsMet (codes "init") rows words → IsInitOf rows asked → HasSizeAt rows
@@ -59,10 +59,10 @@ init_asked _ rows words met read size word = absurd read
 
 recover_asked : (asked : Asked) (rows : List Row) (words : List Text) → IsMet (codes "recover") rows words → IsRecoverOf rows asked → HasSizeAt rows
     → HasWord (codes "folder") rows → IsAskedBy words asked
-recover_asked (Recover folder geometry) rows words met read size word =
+recover_asked (Recover folder size) rows words met read in_range word =
     let same = rows_are (codes "recover") rows words met in (
       is_call (codes "recover") rows words met,
-      subst (λ (rs : List Row). HasNumbersAt rs geometry) same read.0,
+      subst (λ (rs : List Row). HasSize rs size) same read.0,
       subst (λ (rs : List Row). HasText (codes "folder") rs (Some folder)) same read.1,
     )
 recover_asked NotUnderstood rows words met read size word = absurd (read size word)
@@ -81,6 +81,26 @@ lines_asked : (asked : Asked) (rows : List Row) (words : List Text) → IsMet (c
 lines_asked Lines rows words met read = is_call (codes "lines") rows words met
 lines_asked _ rows words met read = absurd read
 
+check_asked : (asked : Asked) (rows : List Row) (words : List Text) → IsMet (codes "check") rows words → IsCheckOf rows asked → HasSizeAt rows
+    → HasWord (codes "folder") rows → IsAskedBy words asked
+check_asked (Check folder size) rows words met read in_range word =
+    let same = rows_are (codes "check") rows words met in (
+      is_call (codes "check") rows words met,
+      subst (λ (rs : List Row). HasCheckedSize rs size) same read.0,
+      subst (λ (rs : List Row). HasText (codes "folder") rs (Some folder)) same read.1,
+    )
+check_asked NotUnderstood rows words met read size word = absurd (read size word)
+check_asked _ rows words met read size word = absurd read
+
+dump_asked : (asked : Asked) (rows : List Row) (words : List Text) → IsMet (codes "dump") rows words → IsDumpOf rows asked → HasWord (codes "folder") rows
+    → HasNumberIn (codes "segment") 0 4294967295 rows → HasNumberIn (codes "page") 0 4294967295 rows → IsAskedBy words asked
+dump_asked (Dump folder segment page) rows words met read word one two =
+    let same = rows_are (codes "dump") rows words met in
+    let all = subst (λ (rs : List Row). IsDumpOf rs (Dump folder segment page)) same read in
+    (is_call (codes "dump") rows words met, all.0, all.1, all.2)
+dump_asked NotUnderstood rows words met read word one two = absurd (read word one two)
+dump_asked _ rows words met read word one two = absurd read
+
 pub asked : (asked : Asked) (found : Option (Text × List Row)) (words : List Text) → IsReadOf found asked → found ≡ subcommand_of program_app words
     → fault_of program_app words ≡ [] → IsAskedBy words asked
 asked given found words read same none = go (faultless_words words none)
@@ -91,6 +111,8 @@ asked given found words read same none = go (faultless_words words none)
     go (entered_recover h) = recover_asked given h.0 words (none, h.1) (read.2 h.0 (same ∙ h.1)) h.2 h.3
     go (entered_inspect h) = inspect_asked given h.0 words (none, h.1) (read.3 h.0 (same ∙ h.1)) h.2
     go (entered_lines h) = lines_asked given h.0 words (none, h.1) (read.4 h.0 (same ∙ h.1))
+    go (entered_check h) = check_asked given h.0 words (none, h.1) (read.5 h.0 (same ∙ h.1)) h.2 h.3
+    go (entered_dump h) = dump_asked given h.0 words (none, h.1) (read.6 h.0 (same ∙ h.1)) h.2 h.3 h.4
 
 pub no_fault : (c : Command) (words : List Text) → app_of c ≡ program_app → fault_of (app_of c) words ≡ []
     → fault_of program_app words ≡ []

@@ -13,7 +13,7 @@ use Rattle.clap.specs.Walk.{answers_to, arg_by_id, finished, nothing_held, rows_
 use Rattle.clap.specs.Words.{Row, Text, fault_of, subcommand_of}
 use Rattle.clap.specs.declared.builder.value_parser.ValueParser.{ValueParser}
 use Rattle.clap.specs.declared.builder.value_parser.ValueParser.TheVariants as vp
-use Rattle.lc_words.specs.CommandLine.{HasNumberIn, HasSizeAt, HasWord, flag_rule, from_to, option_rule, program_app, store_rule, word_rule}
+use Rattle.lc_words.specs.CommandLine.{HasNumberIn, HasSizeAt, HasWord, flag_rule, from_to, number_rule, option_rule, program_app, store_rule, word_rule}
 use Rattle.lc_words.proofs.OptionRows.{AllFit, AllHold, Fits, StopsElse, defaults_made, has_default, level_parts, needs_subcommand, nothing_missing, required_has_row, row_read, rows_hold, walk_stops}
 use Rattle.lc_words.proofs.OptionNumbers.{in_range}
 
@@ -39,8 +39,14 @@ inspect = sub 3
 abbrev lines : Shape
 lines = sub 4
 
+abbrev check : Shape
+check = sub 5
+
+abbrev dump : Shape
+dump = sub 6
+
 abbrev help : Shape
-help = sub 5
+help = sub 7
 
 -- what the option of a subcommand takes
 abbrev taken : Shape → Text → ValueParser
@@ -61,6 +67,15 @@ module _ (s : Shape) where
 
   word_fits : (i : ℕ) (name : Text) → taken s name ≡ vp.String → Fits (taken s) (with_index i (filled (word_rule name)))
   word_fits i name is = inl (record {
+    action = inl refl;
+    parser = sym is;
+    case = refl;
+    some = inr refl;
+    defaults = refl;
+  })
+
+  number_word_fits : (i : ℕ) (name : Text) → taken s name ≡ from_to 0 4294967295 → Fits (taken s) (with_index i (filled (number_rule name)))
+  number_word_fits i name is = inl (record {
     action = inl refl;
     parser = sym is;
     case = refl;
@@ -101,7 +116,10 @@ run_fits = (
             store_fits 1,
             (
               flag_fits run 1 (codes "follow") refl,
-              (flag_fits run 1 (codes "number") refl, (inr (record { action = refl; defaults = refl }), tt)),
+              (
+                flag_fits run 1 (codes "number") refl,
+                (flag_fits run 1 (codes "as-found") refl, (inr (record { action = refl; defaults = refl }), tt)),
+              ),
             ),
           ),
         ),
@@ -144,11 +162,41 @@ recover_fits = (
           number_fits recover 2 (codes "pages") (codes "1") 1 1024 refl refl,
           (
             number_fits recover 2 (codes "words") (codes "64") 64 4096 refl refl,
-            (inr (record { action = refl; defaults = refl }), tt),
+            (flag_fits recover 2 (codes "as-found") refl, (inr (record { action = refl; defaults = refl }), tt)),
           ),
         ),
       ),
     ),
+  ),
+)
+
+check_fits : AllFit (taken check) check.rules
+check_fits = (
+  word_fits check 1 (codes "folder") refl,
+  (
+    number_fits check 2 (codes "nodes") (codes "1") 1 8 refl refl,
+    (
+      number_fits check 2 (codes "threads") (codes "1") 1 16 refl refl,
+      (
+        number_fits check 2 (codes "segments") (codes "1") 1 16 refl refl,
+        (
+          number_fits check 2 (codes "pages") (codes "1") 1 1024 refl refl,
+          (
+            number_fits check 2 (codes "words") (codes "64") 64 4096 refl refl,
+            (flag_fits check 2 (codes "as-found") refl, (inr (record { action = refl; defaults = refl }), tt)),
+          ),
+        ),
+      ),
+    ),
+  ),
+)
+
+dump_fits : AllFit (taken dump) dump.rules
+dump_fits = (
+  word_fits dump 1 (codes "folder") refl,
+  (
+    number_word_fits dump 2 (codes "segment") refl,
+    (number_word_fits dump 3 (codes "page") refl, (inr (record { action = refl; defaults = refl }), tt)),
   ),
 )
 
@@ -195,6 +243,15 @@ module _ (s : Shape) (fits : AllFit (taken s) s.rules) where
       let read = row_read (taken s) name rows has (rows_hold (taken s) s words fits none) in
       record { word = read.value; read = read.first }
 
+  number_word_at : (name : Text) (words : List Text) → level_fault s [] nothing_held words false [] ≡ [] → s.subcommand_negates_reqs ≡ false
+      → list_any (λ a. bytes_eq a.id name && a.required) s.rules ≡ true → taken s name ≡ from_to 0 4294967295 → HasNumberIn name 0 4294967295 (rows_after s.rules [] words)
+  number_word_at name words none negates wanted is =
+      let rows = rows_after s.rules [] words in
+      let parts = level_parts s [] nothing_held words false [] none in
+      let has = required_has_row name s.rules rows wanted (nothing_missing s rows negates parts.3) in
+      let read = row_read (taken s) name rows has (rows_hold (taken s) s words fits none) in
+      in_range name read.value rows 0 4294967295 (omega arith) (rw is at read.one) (rw is at read.passes)
+
 -- ---- the subcommand that was entered
 
 -- the name and the options of the subcommand
@@ -216,6 +273,13 @@ IsInspect found = (rows : List Row) × (found ≡ Some (codes "inspect", rows)) 
 abbrev pub IsLines : Found → Type 0
 IsLines found = (rows : List Row) × (found ≡ Some (codes "lines", rows))
 
+abbrev pub IsCheck : Found → Type 0
+IsCheck found = (rows : List Row) × (found ≡ Some (codes "check", rows)) × HasSizeAt rows × HasWord (codes "folder") rows
+
+abbrev pub IsDump : Found → Type 0
+IsDump found = (rows : List Row) × (found ≡ Some (codes "dump", rows)) × HasWord (codes "folder") rows
+    × HasNumberIn (codes "segment") 0 4294967295 rows × HasNumberIn (codes "page") 0 4294967295 rows
+
 -- one of the subcommands, with what it wants
 pub data IsSubcommand (found : Option (Text × List Row)) : Type 0 where
   entered_run : IsRun found → IsSubcommand found
@@ -223,6 +287,8 @@ pub data IsSubcommand (found : Option (Text × List Row)) : Type 0 where
   entered_recover : IsRecover found → IsSubcommand found
   entered_inspect : IsInspect found → IsSubcommand found
   entered_lines : IsLines found → IsSubcommand found
+  entered_check : IsCheck found → IsSubcommand found
+  entered_dump : IsDump found → IsSubcommand found
 
 or_false : (b : Bool) → (b || false) ≡ true → b ≡ true
 or_false true e = refl
@@ -251,6 +317,23 @@ recover_at words none = (
   word_at recover recover_fits (codes "folder") words none refl refl,
 )
 
+check_at : (words : List Text) → level_fault check [] nothing_held words false [] ≡ [] → IsCheck (Some (rows_at check words))
+check_at words none = (
+  rows_after check.rules [] words,
+  refl,
+  size_at check check_fits words none (refl, refl) (refl, refl) (refl, refl) (refl, refl) (refl, refl),
+  word_at check check_fits (codes "folder") words none refl refl,
+)
+
+dump_at : (words : List Text) → level_fault dump [] nothing_held words false [] ≡ [] → IsDump (Some (rows_at dump words))
+dump_at words none = (
+  rows_after dump.rules [] words,
+  refl,
+  word_at dump dump_fits (codes "folder") words none refl refl,
+  number_word_at dump dump_fits (codes "segment") words none refl refl refl,
+  number_word_at dump dump_fits (codes "page") words none refl refl refl,
+)
+
 inspect_at : (words : List Text) → level_fault inspect [] nothing_held words false [] ≡ [] → IsInspect (Some (rows_at inspect words))
 inspect_at words none = (
   rows_after inspect.rules [] words,
@@ -263,24 +346,27 @@ subcommand_entered : (stop : Option (Text × List Text)) → StopsElse stop → 
     → IsSubcommand (entered program stop)
 subcommand_entered None stops has none = cc
 subcommand_entered (Some p) stops has none =
-    go (answers p.0 0) (answers p.0 1) (answers p.0 2) (answers p.0 3) (answers p.0 4) (answers p.0 5) refl has none
+    go (answers p.0 0) (answers p.0 1) (answers p.0 2) (answers p.0 3) (answers p.0 4) (answers p.0 5) (answers p.0 6) (answers p.0 7) refl has none
   where
     answers : Text → ℕ → Bool
     answers word i = answers_to word (label_of (sub i))
 
-    met : Bool → Bool → Bool → Bool → Bool → Bool → Option Shape
-    met a b c d e f = cond a (Some run) (cond b (Some init) (cond c (Some recover) (cond d (Some inspect) (cond e (Some lines) (cond f (Some help) None)))))
+    met : Bool → Bool → Bool → Bool → Bool → Bool → Bool → Bool → Option Shape
+    met a b c d e f g h =
+        cond a (Some run) (cond b (Some init) (cond c (Some recover) (cond d (Some inspect) (cond e (Some lines) (cond f (Some check) (cond g (Some dump) (cond h (Some help) None)))))))
 
-    go : (a b c d e f : Bool) → answers_to p.0 (label_of help) ≡ f → is_some (option_map (λ s. rows_at s p.1) (met a b c d e f)) ≡ true
-        → option_map_or (λ s. level_fault s [] nothing_held p.1 false []) (met a b c d e f) [] ≡ []
-        → IsSubcommand (option_map (λ s. rows_at s p.1) (met a b c d e f))
-    go true b c d e f is some ok = entered_run (run_at p.1 ok)
-    go false true c d e f is some ok = entered_init (init_at p.1 ok)
-    go false false true d e f is some ok = entered_recover (recover_at p.1 ok)
-    go false false false true e f is some ok = entered_inspect (inspect_at p.1 ok)
-    go false false false false true f is some ok = entered_lines (rows_after lines.rules [] p.1, refl)
-    go false false false false false false is some ok = cc
-    go false false false false false true is some ok =
+    go : (a b c d e f g h : Bool) → answers_to p.0 (label_of help) ≡ h → is_some (option_map (λ s. rows_at s p.1) (met a b c d e f g h)) ≡ true
+        → option_map_or (λ s. level_fault s [] nothing_held p.1 false []) (met a b c d e f g h) [] ≡ []
+        → IsSubcommand (option_map (λ s. rows_at s p.1) (met a b c d e f g h))
+    go true b c d e f g h is some ok = entered_run (run_at p.1 ok)
+    go false true c d e f g h is some ok = entered_init (init_at p.1 ok)
+    go false false true d e f g h is some ok = entered_recover (recover_at p.1 ok)
+    go false false false true e f g h is some ok = entered_inspect (inspect_at p.1 ok)
+    go false false false false true f g h is some ok = entered_lines (rows_after lines.rules [] p.1, refl)
+    go false false false false false true g h is some ok = entered_check (check_at p.1 ok)
+    go false false false false false false true h is some ok = entered_dump (dump_at p.1 ok)
+    go false false false false false false false false is some ok = cc
+    go false false false false false false false true is some ok =
         let same : codes "help" ≡ p.0 = (bytes_eq-Decides (codes "help") p.0).0 (or_false _ is) in
         let bad : bytes_eq p.0 (codes "help") ≡ true = (bytes_eq-Decides p.0 (codes "help")).1 (sym same) in
         cc

@@ -1,5 +1,5 @@
 -- What a command line asks for.
-use Rattle.std.specs.Prelude.{◌≡◌, ◌≤◌, ◌^◌, ◌&&◌, ℕ, Bool, pos, List, [], ◌∷◌, Option, Some, None, true, false, codes, nat_lt, if◌then◌else◌, option_and_then, option_map, find, String, string_bytes}
+use Rattle.std.specs.Prelude.{◌≡◌, ◌⊎◌, ◌≤◌, ◌^◌, ◌&&◌, ◌||◌, not, ℕ, Bool, pos, List, [], ◌∷◌, Option, Some, None, true, false, codes, nat_lt, if◌then◌else◌, option_and_then, option_map, find, String, string_bytes}
 use Rattle.std.specs.Option.{option_map_or}
 use Rattle.std.specs.Str.{bytes_eq}
 use Rattle.std.specs.Str.Parse.{digits_value, without_leading_plus}
@@ -16,9 +16,19 @@ use Rattle.clap.specs.declared.parser.matches.ValueSource.{ValueSource}
 use Rattle.clap.specs.declared.parser.matches.ValueSource.TheVariants.{CommandLine}
 use Rattle.lc_record.specs.declared.geometry.Geometry.{Geometry}
 use Rattle.lc_words.specs.declared.asked.Asked.{Asked}
-use Rattle.lc_words.specs.declared.asked.Asked.TheVariants.{Run, Init, Recover, Inspect, Lines, Help, Version, NotUnderstood}
+use Rattle.lc_words.specs.declared.asked.Asked.TheVariants.{Run, Init, Recover, Check, Dump, Inspect, Lines, Help, Version, NotUnderstood}
+use Rattle.lc_words.specs.declared.run_store.RunStore.{RunStore}
+use Rattle.lc_words.specs.declared.run_store.RunStore.TheVariants.{New, InFolder}
+use Rattle.lc_words.specs.declared.size.Size.{Size}
+use Rattle.lc_words.specs.declared.size.Size.TheVariants.{Given, AsFound}
+use Rattle.lc_words.specs.declared.wanted.Wanted.{Wanted}
+use Rattle.std.specs.Global.{Global}
 
 -- ---- the words that are understood
+
+-- the numbers in this range
+abbrev pub from_to : ℕ → ℕ → ValueParser
+from_to least most = Signed (pos least) (pos most)
 
 -- an option of one value: its name, its default, and what it takes
 abbrev pub option_rule : Text → Text → ValueParser → Rule
@@ -37,13 +47,13 @@ store_rule = record (new_rule (codes "store")) { long = Some (codes "store"); va
 abbrev pub word_rule : Text → Rule
 word_rule name = record (new_rule name) { value_names = 1; required = true }
 
+-- a number of 32 bits that has to be there, behind no name
+abbrev pub number_rule : Text → Rule
+number_rule name = record (new_rule name) { value_names = 1; required = true; parser = Some (from_to 0 4294967295) }
+
 -- a flag
 abbrev pub flag_rule : Text → Rule
 flag_rule name = record (new_rule name) { long = Some name; action = Some SetTrue }
-
--- the numbers in this range
-abbrev pub from_to : ℕ → ℕ → ValueParser
-from_to least most = Signed (pos least) (pos most)
 
 -- the command with the options of a store's size
 abbrev pub with_sizes : App → App
@@ -57,13 +67,19 @@ with_sizes app =
 
 -- the subcommands
 abbrev pub run_app : App
-run_app = with_rule (with_rule (with_rule (with_sizes (new_app (codes "run"))) store_rule) (flag_rule (codes "follow"))) (flag_rule (codes "number"))
+run_app = with_rule (with_rule (with_rule (with_rule (with_sizes (new_app (codes "run"))) store_rule) (flag_rule (codes "follow"))) (flag_rule (codes "number"))) (flag_rule (codes "as-found"))
 
 abbrev pub init_app : App
 init_app = with_sizes (with_rule (new_app (codes "init")) (word_rule (codes "folder")))
 
 abbrev pub recover_app : App
-recover_app = with_sizes (with_rule (new_app (codes "recover")) (word_rule (codes "folder")))
+recover_app = with_rule (with_sizes (with_rule (new_app (codes "recover")) (word_rule (codes "folder")))) (flag_rule (codes "as-found"))
+
+abbrev pub check_app : App
+check_app = with_rule (with_sizes (with_rule (new_app (codes "check")) (word_rule (codes "folder")))) (flag_rule (codes "as-found"))
+
+abbrev pub dump_app : App
+dump_app = with_rule (with_rule (with_rule (new_app (codes "dump")) (word_rule (codes "folder"))) (number_rule (codes "segment"))) (number_rule (codes "page"))
 
 abbrev pub inspect_app : App
 inspect_app = with_rule (with_rule (new_app (codes "inspect")) (word_rule (codes "file"))) (flag_rule (codes "reverse"))
@@ -73,10 +89,10 @@ lines_app = new_app (codes "lines")
 
 -- the whole command line
 abbrev pub program_app : App
-program_app = with_subcommand (with_subcommand (with_subcommand (with_subcommand (with_subcommand (record {
+program_app = with_subcommand (with_subcommand (with_subcommand (with_subcommand (with_subcommand (with_subcommand (with_subcommand (record {
   top = record (new_app (codes "lcrvm")).top { subcommand_required = true; has_version = true };
   subs = [];
-}) run_app.top) init_app.top) recover_app.top) inspect_app.top) lines_app.top
+}) run_app.top) init_app.top) recover_app.top) inspect_app.top) lines_app.top) check_app.top) dump_app.top
 
 -- a command that is read so, and has no argument for its subcommands too
 abbrev pub IsLike : Command → App → Type 0
@@ -115,6 +131,42 @@ comes_from_words _ = false
 abbrev pub is_among_words : Text → List Row → Bool
 is_among_words name rows = comes_from_words (option_and_then (λ row. row.source) (find (λ row. bytes_eq row.id name) rows))
 
+-- the number of the option that is among the words, if it is
+abbrev pub given_at : Text → List Row → Option ℕ
+given_at name rows = if is_among_words name rows then number_at name rows else None
+
+-- one of the numbers that files tell is among the words
+abbrev pub is_any_given : List Row → Bool
+is_any_given rows =
+    ((is_among_words (codes "nodes") rows || is_among_words (codes "segments") rows) || is_among_words (codes "pages") rows) || is_among_words (codes "words") rows
+
+-- the size is to be that of files, and there are none
+abbrev pub HasNoFiles : List Row → Type 0
+HasNoFiles rows = (is_among_words (codes "as-found") rows ≡ true) × HasText {Z = Global} (codes "store") rows None
+
+-- these are the numbers of the options that are given, and that of the threads
+abbrev pub IsWantedAt : List Row → Wanted → Type 0
+IsWantedAt rows w = (w.nodes ≡ given_at (codes "nodes") rows)
+    × (number_at (codes "threads") rows ≡ Some w.threads)
+    × (w.segments ≡ given_at (codes "segments") rows)
+    × (w.pages ≡ given_at (codes "pages") rows)
+    × (w.words ≡ given_at (codes "words") rows)
+
+-- the numbers of the options, or with the flag those that are given
+abbrev pub HasSize : List Row → Size → Type 0
+HasSize rows (Given g) = HasNumbersAt rows g × (is_among_words (codes "as-found") rows ≡ false)
+HasSize rows (AsFound w) = IsWantedAt rows w × (is_among_words (codes "as-found") rows ≡ true)
+
+-- the same of a check; where no number that the files tell is given they tell all
+abbrev pub HasCheckedSize : List Row → Size → Type 0
+HasCheckedSize rows (Given g) = HasNumbersAt rows g × ((is_among_words (codes "as-found") rows || not (is_any_given rows)) ≡ false)
+HasCheckedSize rows (AsFound w) = IsWantedAt rows w × ((is_among_words (codes "as-found") rows || not (is_any_given rows)) ≡ true)
+
+-- what a run is to run on
+abbrev pub HasRunStore : List Row → RunStore → Type 0
+HasRunStore rows (New g) = HasSize rows (Given g) × HasText {Z = Global} (codes "store") rows None
+HasRunStore rows (InFolder folder size) = HasSize rows size × HasText (codes "store") rows (Some folder)
+
 -- the option has a number from `least` to `most`
 pub record HasNumberIn (name : Text) (least most : ℕ) (rows : List Row) : Type 0 where
   pub number : ℕ
@@ -145,29 +197,37 @@ options_of words = option_map_or (λ found. found.1) (subcommand_of program_app 
 abbrev pub IsCallOf : Text → List Text → Type 0
 IsCallOf name words = (fault_of program_app words ≡ []) × (subcommand_of program_app words ≡ Some (name, options_of words))
 
+-- a run in memory is to have the size that is found
+abbrev pub IsFoundInMemory : List Text → Type 0
+IsFoundInMemory words = IsCallOf (codes "run") words × HasNoFiles (options_of words)
+
 -- a subcommand is asked for by words with no fault that name it, and has their numbers, texts and flags; help and the
--- version by words that ask for it; words that are not understood have another fault
+-- version by words that ask for it; words that are not understood have another fault, or want of a
+-- store in memory the size that is found
 abbrev pub IsAskedBy : List Text → Asked → Type 0
-IsAskedBy words (Run geometry store follow number) = IsCallOf (codes "run") words × HasNumbersAt (options_of words) geometry
-    × HasText (codes "store") (options_of words) store
+IsAskedBy words (Run store follow number) = IsCallOf (codes "run") words × HasRunStore (options_of words) store
     × (follow ≡ is_among_words (codes "follow") (options_of words)) × (number ≡ is_among_words (codes "number") (options_of words))
 IsAskedBy words (Init folder geometry) = IsCallOf (codes "init") words × HasNumbersAt (options_of words) geometry
     × HasText (codes "folder") (options_of words) (Some folder)
-IsAskedBy words (Recover folder geometry) = IsCallOf (codes "recover") words × HasNumbersAt (options_of words) geometry
+IsAskedBy words (Recover folder size) = IsCallOf (codes "recover") words × HasSize (options_of words) size
     × HasText (codes "folder") (options_of words) (Some folder)
+IsAskedBy words (Check folder size) = IsCallOf (codes "check") words × HasCheckedSize (options_of words) size
+    × HasText (codes "folder") (options_of words) (Some folder)
+IsAskedBy words (Dump folder segment page) = IsCallOf (codes "dump") words × HasText (codes "folder") (options_of words) (Some folder)
+    × (number_at (codes "segment") (options_of words) ≡ Some segment) × (number_at (codes "page") (options_of words) ≡ Some page)
 IsAskedBy words (Inspect file reverse) = IsCallOf (codes "inspect") words
     × HasText (codes "file") (options_of words) (Some file) × (reverse ≡ is_among_words (codes "reverse") (options_of words))
 IsAskedBy words Lines = IsCallOf (codes "lines") words
 IsAskedBy words (Help text) = IsAmong DisplayHelp (fault_of program_app words)
 IsAskedBy words (Version text) = IsAmong DisplayVersion (fault_of program_app words)
-IsAskedBy words NotUnderstood =
-    (kind : ErrorKind) × IsAmong kind (fault_of program_app words) × (kind ≡ DisplayHelp → ⊥) × (kind ≡ DisplayVersion → ⊥)
+IsAskedBy words NotUnderstood = IsFoundInMemory words
+    ⊎ ((kind : ErrorKind) × IsAmong kind (fault_of program_app words) × (kind ≡ DisplayHelp → ⊥) × (kind ≡ DisplayVersion → ⊥))
 
 -- what the options of each subcommand ask for
 abbrev pub IsRunOf : List Row → Asked → Type 0
-IsRunOf rows (Run geometry store follow number) = HasNumbersAt rows geometry × HasText (codes "store") rows store
+IsRunOf rows (Run store follow number) = HasRunStore rows store
     × (follow ≡ is_among_words (codes "follow") rows) × (number ≡ is_among_words (codes "number") rows)
-IsRunOf rows NotUnderstood = HasSizeAt rows → ⊥
+IsRunOf rows NotUnderstood = HasSizeAt rows → HasNoFiles rows
 IsRunOf rows _ = ⊥
 
 abbrev pub IsInitOf : List Row → Asked → Type 0
@@ -176,9 +236,20 @@ IsInitOf rows NotUnderstood = HasSizeAt rows → HasWord (codes "folder") rows �
 IsInitOf rows _ = ⊥
 
 abbrev pub IsRecoverOf : List Row → Asked → Type 0
-IsRecoverOf rows (Recover folder geometry) = HasNumbersAt rows geometry × HasText (codes "folder") rows (Some folder)
+IsRecoverOf rows (Recover folder size) = HasSize rows size × HasText (codes "folder") rows (Some folder)
 IsRecoverOf rows NotUnderstood = HasSizeAt rows → HasWord (codes "folder") rows → ⊥
 IsRecoverOf rows _ = ⊥
+
+abbrev pub IsCheckOf : List Row → Asked → Type 0
+IsCheckOf rows (Check folder size) = HasCheckedSize rows size × HasText (codes "folder") rows (Some folder)
+IsCheckOf rows NotUnderstood = HasSizeAt rows → HasWord (codes "folder") rows → ⊥
+IsCheckOf rows _ = ⊥
+
+abbrev pub IsDumpOf : List Row → Asked → Type 0
+IsDumpOf rows (Dump folder segment page) = HasText (codes "folder") rows (Some folder)
+    × (number_at (codes "segment") rows ≡ Some segment) × (number_at (codes "page") rows ≡ Some page)
+IsDumpOf rows NotUnderstood = HasWord (codes "folder") rows → HasNumberIn (codes "segment") 0 4294967295 rows → HasNumberIn (codes "page") 0 4294967295 rows → ⊥
+IsDumpOf rows _ = ⊥
 
 abbrev pub IsInspectOf : List Row → Asked → Type 0
 IsInspectOf rows (Inspect file reverse) = HasText (codes "file") rows (Some file) × (reverse ≡ is_among_words (codes "reverse") rows)
@@ -196,3 +267,5 @@ IsReadOf found asked = ((rows : List Row) → found ≡ Some (codes "run", rows)
     × ((rows : List Row) → found ≡ Some (codes "recover", rows) → IsRecoverOf rows asked)
     × ((rows : List Row) → found ≡ Some (codes "inspect", rows) → IsInspectOf rows asked)
     × ((rows : List Row) → found ≡ Some (codes "lines", rows) → IsLinesOf asked)
+    × ((rows : List Row) → found ≡ Some (codes "check", rows) → IsCheckOf rows asked)
+    × ((rows : List Row) → found ≡ Some (codes "dump", rows) → IsDumpOf rows asked)

@@ -1,16 +1,15 @@
 //! What a command line asks for.
 
+use crate::{RunStore, Size};
 use lc_record::Geometry;
 
 /// What a command line asks for. Each word is kept as it was written, an empty one too.
 #[derive(Drop)]
 pub enum Asked {
-    /// A run of the script on standard input: over the store in this folder, or over a new one in memory.
+    /// A run of the script on standard input.
     Run {
-        /// The numbers of the options, each in its range.
-        geometry: Geometry,
-        /// The word of `--store`, or None where it is not there.
-        store: Option<String>,
+        /// The store that it runs on.
+        store: RunStore,
         /// Whether `--follow` is there: each line is run before the next is read.
         follow: bool,
         /// Whether `--number` is there: the number of its line stands in front of each reply.
@@ -23,12 +22,28 @@ pub enum Asked {
         /// The numbers of the options, each in its range.
         geometry: Geometry,
     },
-    /// The recovery of the store in this folder, which has this size.
+    /// The recovery of the store in this folder.
     Recover {
         /// The word behind `recover`.
         folder: String,
-        /// The numbers of the options, each in its range.
-        geometry: Geometry,
+        /// The size that it is to have.
+        size: Size,
+    },
+    /// What a recovery of the store in this folder would say.
+    Check {
+        /// The word behind `check`.
+        folder: String,
+        /// The size that it is to have.
+        size: Size,
+    },
+    /// A page of the store in this folder, as it would be behind a recovery.
+    Dump {
+        /// The word behind `dump`.
+        folder: String,
+        /// The segment, from 1.
+        segment: u32,
+        /// The page of the segment, from 0.
+        page: u32,
     },
     /// The records of this log file, the last one first where `reverse` is set.
     Inspect {

@@ -1,9 +1,9 @@
 //! What the options of a subcommand ask for.
-ghost use Rattle.std.specs.Prelude.{◌≡◌, IfOk, IfSome, IsNone};
+ghost use Rattle.std.specs.Prelude.{◌≡◌, IfOk, IfSome, IsNone, Some, None, if◌then◌else◌};
 ghost use Rattle.clap.specs.Words.{found_of, rows_of, subcommand_rows_of};
-ghost use Rattle.lc_words.specs.CommandLine.{HasNumbersAt, HasSizeAt, HasText, IsInitOf, IsInspectOf, IsReadOf, IsRecoverOf, IsRunOf, is_among_words, number_at};
+ghost use Rattle.lc_words.specs.CommandLine.{HasCheckedSize, HasNumbersAt, HasSize, HasSizeAt, HasText, IsCheckOf, IsDumpOf, IsInitOf, IsInspectOf, IsReadOf, IsRecoverOf, IsRunOf, IsWantedAt, is_among_words, is_any_given, number_at};
 
-use crate::Asked;
+use crate::{Asked, RunStore, Size, Wanted};
 use clap::ArgMatches;
 use clap::parser::ValueSource;
 use lc_record::Geometry;
@@ -19,21 +19,27 @@ pub fn asked_of(alloc: Global, matches: &ArgMatches<'_>) -> Result<Asked, AllocE
         Some(("recover", options)) => recover_of(alloc, options),
         Some(("inspect", options)) => inspect_of(alloc, options),
         Some(("lines", _)) => Ok(Asked::Lines),
+        Some(("check", options)) => check_of(alloc, options),
+        Some(("dump", options)) => dump_of(alloc, options),
         _ => Ok(Asked::NotUnderstood),
     }
 }
 
+// A store in memory has no files that could tell its size.
 fn run_of(alloc: Global, options: &ArgMatches<'_>) -> Result<Asked, AllocError>
     ensures { IfOk result (IsRunOf (rows_of (found_of options.now))) }
 {
-    let Some(geometry) = geometry_of(options) else {
+    let Some(size) = size_of(options) else {
         return Ok(Asked::NotUnderstood);
     };
-    let store = text_of(alloc, options, "store")?;
     let follow = has_flag(options, "follow");
     let number = has_flag(options, "number");
+    let store = match (text_of(alloc, options, "store")?, size) {
+        (Some(folder), size) => RunStore::InFolder { folder, size },
+        (None, Size::Given(geometry)) => RunStore::New(geometry),
+        (None, Size::AsFound(_)) => return Ok(Asked::NotUnderstood),
+    };
     Ok(Asked::Run {
-        geometry,
         store,
         follow,
         number,
@@ -55,11 +61,42 @@ fn init_of(alloc: Global, options: &ArgMatches<'_>) -> Result<Asked, AllocError>
 fn recover_of(alloc: Global, options: &ArgMatches<'_>) -> Result<Asked, AllocError>
     ensures { IfOk result (IsRecoverOf (rows_of (found_of options.now))) }
 {
-    let Some(geometry) = geometry_of(options) else {
+    let Some(size) = size_of(options) else {
         return Ok(Asked::NotUnderstood);
     };
     match text_of(alloc, options, "folder")? {
-        Some(folder) => Ok(Asked::Recover { folder, geometry }),
+        Some(folder) => Ok(Asked::Recover { folder, size }),
+        None => Ok(Asked::NotUnderstood),
+    }
+}
+
+fn check_of(alloc: Global, options: &ArgMatches<'_>) -> Result<Asked, AllocError>
+    ensures { IfOk result (IsCheckOf (rows_of (found_of options.now))) }
+{
+    let Some(size) = checked_size(options) else {
+        return Ok(Asked::NotUnderstood);
+    };
+    match text_of(alloc, options, "folder")? {
+        Some(folder) => Ok(Asked::Check { folder, size }),
+        None => Ok(Asked::NotUnderstood),
+    }
+}
+
+fn dump_of(alloc: Global, options: &ArgMatches<'_>) -> Result<Asked, AllocError>
+    ensures { IfOk result (IsDumpOf (rows_of (found_of options.now))) }
+{
+    let Some(segment) = number_of(options, "segment") else {
+        return Ok(Asked::NotUnderstood);
+    };
+    let Some(page) = number_of(options, "page") else {
+        return Ok(Asked::NotUnderstood);
+    };
+    match text_of(alloc, options, "folder")? {
+        Some(folder) => Ok(Asked::Dump {
+            folder,
+            segment,
+            page,
+        }),
         None => Ok(Asked::NotUnderstood),
     }
 }
@@ -73,6 +110,65 @@ fn inspect_of(alloc: Global, options: &ArgMatches<'_>) -> Result<Asked, AllocErr
             Ok(Asked::Inspect { file, reverse })
         }
         None => Ok(Asked::NotUnderstood),
+    }
+}
+
+// The size that a store is to have.
+fn size_of(options: &ArgMatches<'_>) -> Option<Size>
+    ensures size { IfSome result (HasSize (rows_of (found_of options.now))) }
+    ensures none { IsNone result → HasSizeAt (rows_of (found_of options.now)) → ⊥ }
+{
+    let geometry = geometry_of(options)?;
+    if !has_flag(options, "as-found") {
+        return Some(Size::Given(geometry));
+    }
+    Some(Size::AsFound(wanted_of(options, geometry)))
+}
+
+// The size that a store which is checked is to have: as it is found, where no number of it is given.
+fn checked_size(options: &ArgMatches<'_>) -> Option<Size>
+    ensures size { IfSome result (HasCheckedSize (rows_of (found_of options.now))) }
+    ensures none { IsNone result → HasSizeAt (rows_of (found_of options.now)) → ⊥ }
+{
+    let geometry = geometry_of(options)?;
+    if !has_flag(options, "as-found") && is_any_given(options) {
+        return Some(Size::Given(geometry));
+    }
+    Some(Size::AsFound(wanted_of(options, geometry)))
+}
+
+// Whether a number is given that the files tell.
+fn is_any_given(options: &ArgMatches<'_>) -> bool
+    ensures { result ≡ is_any_given (rows_of (found_of options.now)) }
+{
+    has_flag(options, "nodes")
+        || has_flag(options, "segments")
+        || has_flag(options, "pages")
+        || has_flag(options, "words")
+}
+
+// The numbers that are given, of the options that have these.
+fn wanted_of(options: &ArgMatches<'_>, geometry: Geometry) -> Wanted
+    requires { HasNumbersAt (rows_of (found_of options.now)) geometry }
+    ensures { IsWantedAt (rows_of (found_of options.now)) result }
+{
+    Wanted {
+        nodes: given(options, "nodes", u32::from(geometry.nodes)),
+        threads: u32::from(geometry.threads),
+        segments: given(options, "segments", geometry.segments),
+        pages: given(options, "pages", geometry.pages),
+        words: given(options, "words", geometry.words),
+    }
+}
+
+// This number, where the option is among the words.
+fn given(options: &ArgMatches<'_>, name: &str, number: u32) -> Option<u32>
+    ensures { result ≡ (if is_among_words name.now (rows_of (found_of options.now)) then Some number else None) }
+{
+    if has_flag(options, name) {
+        Some(number)
+    } else {
+        None
     }
 }
 
@@ -116,7 +212,7 @@ fn text_of(
     }
 }
 
-// Whether the flag is among the words.
+// Whether the flag, or the option, is among the words.
 fn has_flag(options: &ArgMatches<'_>, name: &str) -> bool
     ensures { result ≡ is_among_words name.now (rows_of (found_of options.now)) }
 {

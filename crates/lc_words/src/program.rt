@@ -1,7 +1,7 @@
 //! The subcommands of the program, with their options and their help.
 ghost use Rattle.std.specs.Prelude.{◌≡◌, IfOk, false};
 ghost use Rattle.clap.specs.Words.{App, app_of, rule_of};
-ghost use Rattle.lc_words.specs.CommandLine.{IsLike, flag_rule, init_app, inspect_app, lines_app, option_rule, program_app, recover_app, run_app, with_sizes, word_rule};
+ghost use Rattle.lc_words.specs.CommandLine.{IsLike, check_app, dump_app, flag_rule, init_app, inspect_app, lines_app, number_rule, option_rule, program_app, recover_app, run_app, with_sizes, word_rule};
 
 use clap::builder::ValueParser;
 use clap::{Arg, ArgAction, Command, value_parser};
@@ -34,7 +34,25 @@ const RECOVER_HELP: &str = "Statuses:
   3  a device failed, or the store is in use
 
 Example:
-  lcrvm recover bank --pages 4";
+  lcrvm recover bank --as-found";
+
+const CHECK_HELP: &str = "Statuses:
+  0  the store would recover
+  1  the files do not fit together, the logs or the pages are refused, or there was no memory
+  2  the command line was not understood
+  3  a device failed, or the store is in use
+
+Example:
+  lcrvm check bank";
+
+const DUMP_HELP: &str = "Statuses:
+  0  the page is printed
+  1  the files do not fit together, the store has no such page, the logs or the pages are refused, or there was no memory
+  2  the command line was not understood
+  3  a device failed, or the store is in use
+
+Example:
+  lcrvm dump bank 1 0";
 
 const INSPECT_HELP: &str = "Statuses:
   0  the records are printed
@@ -69,7 +87,9 @@ pub fn program<'a>(alloc: Global) -> Result<Command<'a>, AllocError>
         .subcommand(init(alloc)?)?
         .subcommand(recover(alloc)?)?
         .subcommand(inspect(alloc)?)?
-        .subcommand(lines(alloc)?)
+        .subcommand(lines(alloc)?)?
+        .subcommand(check(alloc)?)?
+        .subcommand(dump(alloc)?)
 }
 
 fn run<'a>(alloc: Global) -> Result<Command<'a>, AllocError>
@@ -93,6 +113,11 @@ fn run<'a>(alloc: Global) -> Result<Command<'a>, AllocError>
             alloc,
             "number",
             "Puts the number of its line in front of each reply",
+        ))?
+        .arg(flag(
+            alloc,
+            "as-found",
+            "Takes each number of the size that is not given from the store's files; with --store alone",
         ))
 }
 
@@ -118,7 +143,50 @@ fn recover<'a>(alloc: Global) -> Result<Command<'a>, AllocError>
             "DIR",
             "Folder of the store, that init made",
         ))?;
-    with_size_options(alloc, command)
+    with_size_options(alloc, command)?.arg(flag(
+        alloc,
+        "as-found",
+        "Takes each number of the size that is not given from the store's files",
+    ))
+}
+
+fn check<'a>(alloc: Global) -> Result<Command<'a>, AllocError>
+    ensures { IfOk result (λ command. IsLike command check_app) }
+{
+    let command = Command::new(alloc, "check")
+        .about(
+            "Prints what a recovery of a store would say, and changes nothing; of a size that is not given, the one that is found",
+        )
+        .after_help(CHECK_HELP)
+        .arg(word(
+            alloc,
+            "folder",
+            "DIR",
+            "Folder of the store, that init made",
+        ))?;
+    with_size_options(alloc, command)?.arg(flag(
+        alloc,
+        "as-found",
+        "Takes each number of the size that is not given from the store's files, also where another one is given",
+    ))
+}
+
+fn dump<'a>(alloc: Global) -> Result<Command<'a>, AllocError>
+    ensures { IfOk result (λ command. IsLike command dump_app) }
+{
+    Command::new(alloc, "dump")
+        .about(
+            "Prints a page as it would be behind a recovery, and its two slots, and changes nothing",
+        )
+        .after_help(DUMP_HELP)
+        .arg(word(
+            alloc,
+            "folder",
+            "DIR",
+            "Folder of the store, that init made",
+        ))?
+        .arg(number(alloc, "segment", "SEGMENT", "Segment, from 1"))?
+        .arg(number(alloc, "page", "PAGE", "Page of the segment, from 0"))
 }
 
 fn inspect<'a>(alloc: Global) -> Result<Command<'a>, AllocError>
@@ -226,4 +294,12 @@ fn word<'a>(alloc: Global, name: &'a str, shown: &'a str, help: &'a str) -> Arg<
         .value_name(shown)
         .help(help)
         .required(true)
+}
+
+// A number of 32 bits that has to be there.
+fn number<'a>(alloc: Global, name: &'a str, shown: &'a str, help: &'a str) -> Arg<'a>
+    ensures rule { rule_of result ≡ number_rule name.entry.now }
+    ensures local { result.global ≡ false }
+{
+    word(alloc, name, shown, help).value_parser(value_parser!(u32).range(0..=4294967295))
 }

@@ -24,4 +24,6 @@ returns c =
     let two = adds_subcommand _ _ c.in_ok-subcommand-2.field-0 _ _ c.in_ok-subcommand-2.ensures one c.in_ok-init.ensures in
     let three = adds_subcommand _ _ c.in_ok-subcommand-3.field-0 _ _ c.in_ok-subcommand-3.ensures two c.in_ok-recover.ensures in
     let four = adds_subcommand _ _ c.in_ok-subcommand-4.field-0 _ _ c.in_ok-subcommand-4.ensures three c.in_ok-inspect.ensures in
-    IfOk-weaker c.subcommand-5.result _ _ (λ m added. (adds_subcommand _ _ m _ _ added four c.in_ok-lines.ensures).0) c.subcommand-5.ensures
+    let five = adds_subcommand _ _ c.in_ok-subcommand-5.field-0 _ _ c.in_ok-subcommand-5.ensures four c.in_ok-lines.ensures in
+    let six = adds_subcommand _ _ c.in_ok-subcommand-6.field-0 _ _ c.in_ok-subcommand-6.ensures five c.in_ok-check.ensures in
+    IfOk-weaker c.subcommand-7.result _ _ (λ m added. (adds_subcommand _ _ m _ _ added six c.in_ok-dump.ensures).0) c.subcommand-7.ensures

@@ -16,4 +16,5 @@ returns c =
     let local : c.help-store.result.global ≡ false = search rules in
     let first = adds_option _ c.in_ok-arg.field-0 _ _ _ c.in_ok-arg.ensures (c.in_ok-with_size_options.ensures _ start) store local in
     let second = adds_option _ c.in_ok-arg-2.field-0 _ _ _ c.in_ok-arg-2.ensures first c.flag.ensures.rule c.flag.ensures.local in
-    IfOk-weaker c.arg-3.result _ _ (λ r added. adds_option _ r _ _ _ added second c.flag-2.ensures.rule c.flag-2.ensures.local) c.arg-3.ensures
+    let third = adds_option _ c.in_ok-arg-3.field-0 _ _ _ c.in_ok-arg-3.ensures second c.flag-2.ensures.rule c.flag-2.ensures.local in
+    IfOk-weaker c.arg-4.result _ _ (λ r added. adds_option _ r _ _ _ added third c.flag-3.ensures.rule c.flag-3.ensures.local) c.arg-4.ensures
