@@ -3,7 +3,7 @@ use crate::listed_files::{FOLDER, Listed, Shelf, Trouble};
 use lc_disk::{Area, FileArea};
 use lc_record::Geometry;
 use lc_tool::answer;
-use lc_words::Asked;
+use lc_words::{Asked, RunStore, Size as StoreSize, Wanted};
 use std::alloc::Global;
 use std::process::Abort;
 use std::test::*;
@@ -23,6 +23,10 @@ enum Ask {
     Init(Size),
     Run(Size),
     Recover(Size),
+    RecoverAsFound,
+    Check(Size),
+    CheckAsFound,
+    Dump { segment: u32, page: u32 },
     Inspect { reverse: bool },
     RunInMemory(Size),
     Help,
@@ -115,6 +119,15 @@ look store/seg1\nopen store/seg1\nmake store/seg1.new\nmode store/seg1.new\n\
 read store/seg1\nwrite store/seg1.new 0 544\nsync store/seg1.new\nrename store/seg1.new\n\
 sync store\nremove store/fault\nopen store/log0\nopen store/seg1\n";
 
+// A size of which no number is given.
+const ALL_FOUND: Wanted = Wanted {
+    nodes: None,
+    threads: 1,
+    segments: None,
+    pages: None,
+    words: None,
+};
+
 fn geometry_of(size: Size) -> Result<Geometry, Fail> {
     let Size {
         nodes,
@@ -133,22 +146,40 @@ fn asked_of(alloc: Global, ask: Ask, folder: String) -> Result<Asked, Fail> {
             geometry: geometry_of(size)?,
         },
         Ask::Run(size) => Asked::Run {
-            geometry: geometry_of(size)?,
-            store: Some(folder),
+            store: RunStore::InFolder {
+                folder,
+                size: StoreSize::Given(geometry_of(size)?),
+            },
             follow: false,
             number: false,
         },
         Ask::Recover(size) => Asked::Recover {
             folder,
-            geometry: geometry_of(size)?,
+            size: StoreSize::Given(geometry_of(size)?),
+        },
+        Ask::RecoverAsFound => Asked::Recover {
+            folder,
+            size: StoreSize::AsFound(ALL_FOUND),
+        },
+        Ask::Check(size) => Asked::Check {
+            folder,
+            size: StoreSize::Given(geometry_of(size)?),
+        },
+        Ask::CheckAsFound => Asked::Check {
+            folder,
+            size: StoreSize::AsFound(ALL_FOUND),
+        },
+        Ask::Dump { segment, page } => Asked::Dump {
+            folder,
+            segment,
+            page,
         },
         Ask::Inspect { reverse } => Asked::Inspect {
             file: String::from_str(alloc, "store/log0")?,
             reverse,
         },
         Ask::RunInMemory(size) => Asked::Run {
-            geometry: geometry_of(size)?,
-            store: None,
+            store: RunStore::New(geometry_of(size)?),
             follow: false,
             number: false,
         },
@@ -250,6 +281,108 @@ static USED: [Step; 6] = [
 #[test]
 fn a_store_is_made_used_inspected_and_recovered(rt: HostRuntime) -> Result<(), Fail> {
     check_all(&rt, rt.alloc(), &Shelf::new(rt.alloc()), &USED)
+}
+
+// The look at it, beside others.
+const LOOKING: &str = "open store\nshare store\nlook store/log1\nlook store/log2\nlook store/log3\n\
+look store/log4\nlook store/log5\nlook store/log6\nlook store/log7\nlook store/seg2\nlook store/seg3\n\
+look store/seg4\nlook store/seg5\nlook store/seg6\nlook store/seg7\nlook store/seg8\nlook store/seg9\n\
+look store/seg10\nlook store/seg11\nlook store/seg12\nlook store/seg13\nlook store/seg14\n\
+look store/seg15\nlook store/seg16\nopen store/log0\nopen store/seg1\n";
+
+// What is read of each area.
+const READS: &str = "read store/log0\nread store/seg1\n";
+
+// The page with `hello` at byte 3.
+const HELLO: &str = "\
+00000000  00 00 00 68 65 6c 6c 6f 00 00 00 00 00 00 00 00  |...hello........|
+00000010  00 00 00 00 00 00 00 00 00 00 00 00 00 00 00 00  |................|
+00000020  00 00 00 00 00 00 00 00 00 00 00 00 00 00 00 00  |................|
+00000030  00 00 00 00 00 00 00 00 00 00 00 00 00 00 00 00  |................|
+00000040  00 00 00 00 00 00 00 00 00 00 00 00 00 00 00 00  |................|
+00000050  00 00 00 00 00 00 00 00 00 00 00 00 00 00 00 00  |................|
+00000060  00 00 00 00 00 00 00 00 00 00 00 00 00 00 00 00  |................|
+00000070  00 00 00 00 00 00 00 00 00 00 00 00 00 00 00 00  |................|
+00000080  00 00 00 00 00 00 00 00 00 00 00 00 00 00 00 00  |................|
+00000090  00 00 00 00 00 00 00 00 00 00 00 00 00 00 00 00  |................|
+000000a0  00 00 00 00 00 00 00 00 00 00 00 00 00 00 00 00  |................|
+000000b0  00 00 00 00 00 00 00 00 00 00 00 00 00 00 00 00  |................|
+000000c0  00 00 00 00 00 00 00 00 00 00 00 00 00 00 00 00  |................|
+000000d0  00 00 00 00 00 00 00 00 00 00 00 00 00 00 00 00  |................|
+000000e0  00 00 00 00 00 00 00 00 00 00 00 00 00 00 00 00  |................|
+000000f0  00 00 00 00 00 00 00 00 00 00 00 00 00 00 00 00  |................|
+slot 0 gate 00 number 0
+slot 1 gate 00 number 0
+";
+
+// A check and a dump take the lock for sharing, read, and call nothing else; then the store is recovered as before.
+static LOOKED_AT: [Step; 9] = [
+    STEP,
+    Step {
+        ask: Ask::Run(ONE),
+        script: COMMIT,
+        printed: COMMITTED,
+        calls: Some(&[OPENING, RECOVERING, FLUSHING]),
+        ..STEP
+    },
+    Step {
+        ask: Ask::CheckAsFound,
+        printed: "nodes 1 segments 1 pages 1 words 64\nlog 0 records 1 words 8\nsegment 1 behind 0\nsegment 1 sequence 1\nrecovered\n",
+        calls: Some(&[LOOKING, READS]),
+        ..STEP
+    },
+    Step {
+        ask: Ask::Check(Size { pages: 2, ..ONE }),
+        printed: "nodes 1 segments 1 pages 1 words 64\nrefused BadGeometry 1\n",
+        status: 1,
+        calls: Some(&[LOOKING]),
+        ..STEP
+    },
+    Step {
+        ask: Ask::Dump {
+            segment: 1,
+            page: 0,
+        },
+        printed: HELLO,
+        calls: Some(&[LOOKING, READS, "read store/seg1\n"]),
+        ..STEP
+    },
+    Step {
+        ask: Ask::Dump {
+            segment: 2,
+            page: 0,
+        },
+        printed: "no page 0 of segment 2\n",
+        status: 1,
+        calls: Some(&[LOOKING]),
+        ..STEP
+    },
+    Step {
+        ask: Ask::CheckAsFound,
+        trouble: Trouble::InUse,
+        printed: "device fault\n",
+        status: 3,
+        calls: Some(&["open store\nshare store\n"]),
+        said: "lcrvm: store: store in use\n",
+        ..STEP
+    },
+    Step {
+        ask: Ask::RecoverAsFound,
+        printed: "segment 1 sequence 1\nrecovered\n",
+        calls: Some(&[OPENING, READING, FIRST_OF_1, EMPTYING]),
+        ..STEP
+    },
+    Step {
+        ask: Ask::CheckAsFound,
+        printed: "nodes 1 segments 1 pages 1 words 64\nlog 0 records 0 words 0\nsegment 1 behind none\nsegment 1 sequence 1\nrecovered\n",
+        calls: Some(&[LOOKING, READS]),
+        ..STEP
+    },
+];
+
+#[test]
+fn a_store_that_is_looked_at_is_not_changed(rt: HostRuntime) -> Result<(), Fail> {
+    check_all(&rt, rt.alloc(), &Shelf::new(rt.alloc()), &LOOKED_AT)
 }
 
 static INSPECTED: [Step; 4] = [

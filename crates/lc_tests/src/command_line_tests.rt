@@ -1,11 +1,15 @@
 //! The command line: what its words ask for, and the help.
 use lc_record::Geometry;
-use lc_words::{Asked, read_command_line};
+use lc_words::{Asked, RunStore, Size, read_command_line};
 use std::alloc::{AllocError, Global};
 use std::test::*;
 
 // Words that ask for nothing.
-static REFUSED: [&[&str]; 46] = [
+static REFUSED: [&[&str]; 50] = [
+    &["lcrvm", "run", "--as-found"],
+    &["lcrvm", "init", "d", "--as-found"],
+    &["lcrvm", "dump", "d", "1"],
+    &["lcrvm", "check", "d", "e"],
     &["lcrvm", "run", "--pages", "0"],
     &["lcrvm", "run", "--pages", "1025"],
     &["lcrvm", "run", "--words", "63"],
@@ -94,6 +98,11 @@ enum Wanted {
     Run(&'static str, [u32; 5]),
     Init(&'static str, [u32; 5]),
     Recover(&'static str, [u32; 5]),
+    // A recovery of the size that is found, but for these numbers: nodes, segments, pages, words.
+    Found(&'static str, [Option<u32>; 4]),
+    Check(&'static str, [u32; 5]),
+    CheckFound(&'static str, [Option<u32>; 4]),
+    Dump(&'static str, u32, u32),
     Inspect(&'static str, bool),
     // A run in memory of the least size: whether it follows, and whether it numbers.
     Manner(bool, bool),
@@ -110,34 +119,78 @@ fn is_size(geometry: &Geometry, size: [u32; 5]) -> bool {
         && geometry.words == words
 }
 
+fn is_given(size: &Size, numbers: [u32; 5]) -> bool {
+    match size {
+        Size::Given(geometry) => is_size(geometry, numbers),
+        Size::AsFound(_) => false,
+    }
+}
+
+fn is_found(size: &Size, numbers: [Option<u32>; 4]) -> bool {
+    match size {
+        Size::Given(_) => false,
+        Size::AsFound(wanted) => {
+            let [nodes, segments, pages, words] = numbers;
+            wanted.nodes == nodes
+                && wanted.segments == segments
+                && wanted.pages == pages
+                && wanted.words == words
+                && wanted.threads == 1
+        }
+    }
+}
+
 // Whether the words ask for this. No store is the store without a name.
 fn asks(asked: &Asked, wanted: Wanted) -> bool {
     match (asked, wanted) {
         (
             Asked::Run {
-                geometry,
-                store,
+                store: RunStore::InFolder { folder, size },
                 follow: false,
                 number: false,
             },
-            Wanted::Run(name, size),
-        ) => store.as_ref().map_or("", |store| store.as_str()) == name && is_size(geometry, size),
+            Wanted::Run(name, numbers),
+        ) => folder.as_str() == name && is_given(size, numbers),
         (
             Asked::Run {
-                geometry,
-                store: None,
+                store: RunStore::New(geometry),
+                follow: false,
+                number: false,
+            },
+            Wanted::Run("", numbers),
+        ) => is_size(geometry, numbers),
+        (
+            Asked::Run {
+                store: RunStore::New(geometry),
                 follow,
                 number,
             },
             Wanted::Manner(follows, numbers),
         ) => is_size(geometry, LEAST) && *follow == follows && *number == numbers,
+        (Asked::Recover { folder, size }, Wanted::Found(name, numbers)) => {
+            folder.as_str() == name && is_found(size, numbers)
+        }
+        (Asked::Check { folder, size }, Wanted::CheckFound(name, numbers)) => {
+            folder.as_str() == name && is_found(size, numbers)
+        }
+        (Asked::Check { folder, size }, Wanted::Check(name, numbers)) => {
+            folder.as_str() == name && is_given(size, numbers)
+        }
+        (
+            Asked::Dump {
+                folder,
+                segment,
+                page,
+            },
+            Wanted::Dump(name, of, at),
+        ) => folder.as_str() == name && *segment == of && *page == at,
         (Asked::Lines, Wanted::Lines) => true,
         (Asked::Version(text), Wanted::Version) => text.as_str() == "lcrvm 0.1.0\n",
         (Asked::Init { folder, geometry }, Wanted::Init(name, size)) => {
             folder.as_str() == name && is_size(geometry, size)
         }
-        (Asked::Recover { folder, geometry }, Wanted::Recover(name, size)) => {
-            folder.as_str() == name && is_size(geometry, size)
+        (Asked::Recover { folder, size }, Wanted::Recover(name, numbers)) => {
+            folder.as_str() == name && is_given(size, numbers)
         }
         (Asked::Inspect { file, reverse }, Wanted::Inspect(name, last_first)) => {
             file.as_str() == name && *reverse == last_first
@@ -150,7 +203,27 @@ const LEAST: [u32; 5] = [1, 1, 1, 1, 64];
 
 const MOST: [u32; 5] = [8, 16, 16, 1024, 4096];
 
-static ASKED: [(&[&str], Wanted); 27] = [
+static ASKED: [(&[&str], Wanted); 32] = [
+    (
+        &["lcrvm", "recover", "bank", "--as-found", "--pages", "1"],
+        Wanted::Found("bank", [None, None, Some(1), None]),
+    ),
+    (
+        &["lcrvm", "check", "bank"],
+        Wanted::CheckFound("bank", [None, None, None, None]),
+    ),
+    (
+        &["lcrvm", "check", "bank", "--words", "64"],
+        Wanted::Check("bank", LEAST),
+    ),
+    (
+        &["lcrvm", "check", "bank", "--as-found", "--nodes", "2"],
+        Wanted::CheckFound("bank", [Some(2), None, None, None]),
+    ),
+    (
+        &["lcrvm", "dump", "bank", "17", "0"],
+        Wanted::Dump("bank", 17, 0),
+    ),
     (&["lcrvm", "run", "--follow"], Wanted::Manner(true, false)),
     (&["lcrvm", "run", "--number"], Wanted::Manner(false, true)),
     (
@@ -280,11 +353,13 @@ fn helps(asked: &Asked, parts: &[&str]) -> bool {
     }
 }
 
-const COMMANDS: [&str; 6] = [
+const COMMANDS: [&str; 8] = [
     "Usage: lcrvm <COMMAND>",
     "  run ",
     "  init ",
     "  recover ",
+    "  check ",
+    "  dump ",
     "  inspect ",
     "  lines ",
 ];
@@ -302,7 +377,7 @@ const SIZES: [&str; 9] = [
 ];
 
 // The usage, an option or a word of its own, and the example of each command.
-static HELPS: [(&str, &[&str], &[&str]); 5] = [
+static HELPS: [(&str, &[&str], &[&str]); 7] = [
     (
         "run",
         &[
@@ -310,6 +385,7 @@ static HELPS: [(&str, &[&str], &[&str]); 5] = [
             "--store <DIR>",
             "--follow",
             "--number",
+            "--as-found",
             "Statuses:\n  0  all lines were done",
             "Example:\n  lcrvm run --pages 4 --store bank < transfers.txt",
         ],
@@ -329,9 +405,27 @@ static HELPS: [(&str, &[&str], &[&str]); 5] = [
         &[
             "Usage: lcrvm recover [OPTIONS] <DIR>",
             "<DIR>",
-            "Example:\n  lcrvm recover bank --pages 4",
+            "--as-found",
+            "Example:\n  lcrvm recover bank --as-found",
         ],
         &SIZES,
+    ),
+    (
+        "check",
+        &[
+            "Usage: lcrvm check [OPTIONS] <DIR>",
+            "--as-found",
+            "Example:\n  lcrvm check bank",
+        ],
+        &SIZES,
+    ),
+    (
+        "dump",
+        &[
+            "Usage: lcrvm dump <DIR> <SEGMENT> <PAGE>",
+            "Example:\n  lcrvm dump bank 1 0",
+        ],
+        &[],
     ),
     (
         "inspect",

@@ -2,6 +2,7 @@
 ghost use Rattle.std.specs.Prelude.{IsErr};
 
 use lc_disk::HeldFile;
+use lc_tool::SharedFile;
 use std::alloc::{Allocator, Global};
 use std::cell::{Cell, RefCell};
 use std::fmt::Display;
@@ -352,6 +353,19 @@ impl HeldFile for ListedFile<'_> {
     fn try_lock(&self) -> Result<(), TryLockError> {
         match (
             self.shelf.list("lock", &self.path),
+            self.shelf.trouble.get(),
+        ) {
+            (Ok(()), Trouble::InUse) => Err(TryLockError::WouldBlock),
+            (Ok(()), _) => Ok(()),
+            (Err(error), _) => Err(TryLockError::Error(error)),
+        }
+    }
+}
+
+impl SharedFile for ListedFile<'_> {
+    fn try_lock_shared(&self) -> Result<(), TryLockError> {
+        match (
+            self.shelf.list("share", &self.path),
             self.shelf.trouble.get(),
         ) {
             (Ok(()), Trouble::InUse) => Err(TryLockError::WouldBlock),
