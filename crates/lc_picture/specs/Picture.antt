@@ -120,9 +120,9 @@ bar_place_text top = pieces (codes "<g transform='translate(20 " ∷ decimal top
 
 -- the log in words
 unfoldable pub bar_label_text : ℕ → ℕ → ℕ → ℕ → ℕ → List ℕ
-bar_label_text node count end words unstable =
+bar_label_text node count end words trailing =
     pieces (codes "<text y='12'>log " ∷ decimal node ∷ codes ": " ∷ decimal count
-    ∷ codes " records in " ∷ decimal end ∷ codes " of " ∷ decimal words ∷ codes " words, " ∷ decimal unstable ∷ codes " not yet stable</text>\n" ∷ [])
+    ∷ codes " records in " ∷ decimal end ∷ codes " of " ∷ decimal words ∷ codes " words, " ∷ decimal trailing ∷ codes " written behind them</text>\n" ∷ [])
 
 -- a bar of so many words, with a lane for each segment; all its words are free
 unfoldable pub bar_frame_text : ℕ → ℕ → List ℕ
@@ -130,14 +130,14 @@ bar_frame_text words lanes =
     pieces (codes "<svg y='20' width='960' height='32' viewBox='0 1 " ∷ decimal words ∷ codes " " ∷ decimal lanes
     ∷ codes "' preserveAspectRatio='none'>\n<rect class='free' y='1' width='" ∷ decimal words ∷ codes "' height='" ∷ decimal lanes ∷ codes "'/>\n" ∷ [])
 
--- but for those behind the records that are not stable
-unfoldable pub bar_unstable_text : ℕ → ℕ → ℕ → List ℕ
-bar_unstable_text end unstable lanes =
-    pieces (codes "<rect class='open' x='" ∷ decimal end ∷ codes "' y='1' width='" ∷ decimal unstable ∷ codes "' height='" ∷ decimal lanes ∷ codes "'/>\n" ∷ [])
+-- but for those behind the records that were written
+unfoldable pub bar_trailing_text : ℕ → ℕ → ℕ → List ℕ
+bar_trailing_text end trailing lanes =
+    pieces (codes "<rect class='open' x='" ∷ decimal end ∷ codes "' y='1' width='" ∷ decimal trailing ∷ codes "' height='" ∷ decimal lanes ∷ codes "'/>\n" ∷ [])
 
 abbrev pub bar_head_text : Geometry → LogBar → List ℕ
 bar_head_text g bar =
-    bar_place_text (log_top bar.node) ++ bar_label_text bar.node (length bar.records.items) bar.end g.words bar.unstable ++ bar_frame_text g.words g.segments ++ bar_unstable_text bar.end bar.unstable g.segments
+    bar_place_text (log_top bar.node) ++ bar_label_text bar.node (length bar.records.items) bar.end g.words bar.trailing ++ bar_frame_text g.words g.segments ++ bar_trailing_text bar.end bar.trailing g.segments
 
 unfoldable pub bar_text : Geometry → LogBar → List ℕ
 bar_text g bar = bar_head_text g bar ++ records_in_bar g.segments bar.records.items ++ codes "</svg>\n</g>\n"

@@ -1,7 +1,7 @@
 //! A log as a bar of records.
 ghost use Rattle.std.specs.Prelude.{flat_map, OnOk};
 ghost use Rattle.std.specs.Io.KnownBytes.{Appends};
-ghost use Rattle.lc_picture.specs.Picture.{bar_frame_text, bar_head_text, bar_label_text, bar_place_text, bar_unstable_text, bar_text, edge_text, lane_text, lanes_text, record_end_text, record_head_text, record_in_bar, records_in_bar};
+ghost use Rattle.lc_picture.specs.Picture.{bar_frame_text, bar_head_text, bar_label_text, bar_place_text, bar_trailing_text, bar_text, edge_text, lane_text, lanes_text, record_end_text, record_head_text, record_in_bar, records_in_bar};
 
 use crate::layout::log_top;
 use lc_record::{Geometry, Lock, Record, encoded_words};
@@ -17,8 +17,8 @@ pub struct LogBar {
     pub records: Vec<(usize, Record)>,
     /// Where they end, in words.
     pub end: usize,
-    /// How many words behind them were written and are not stable.
-    pub unstable: usize,
+    /// How many words behind them were written, up to the last that is not zero: no record reads them.
+    pub trailing: usize,
 }
 
 /// Writes the bar of a log.
@@ -46,10 +46,10 @@ fn write_bar_head<W: io::Write>(writer: &mut W, geometry: &Geometry, bar: &LogBa
         bar.records.len(),
         bar.end,
         geometry.words,
-        bar.unstable,
+        bar.trailing,
     )?;
     write_bar_frame(writer, geometry.words, geometry.segments)?;
-    write_bar_unstable(writer, bar.end, bar.unstable, geometry.segments)
+    write_bar_trailing(writer, bar.end, bar.trailing, geometry.segments)
 }
 
 fn write_bar_place<W: io::Write>(writer: &mut W, top: u32) -> io::Result<()>
@@ -64,13 +64,13 @@ fn write_bar_label<W: io::Write>(
     count: usize,
     end: usize,
     words: u32,
-    unstable: usize,
+    trailing: usize,
 ) -> io::Result<()>
-    ensures { OnOk result (Appends (W.contents writer.old) (W.contents writer.new) (bar_label_text node count end words unstable)) }
+    ensures { OnOk result (Appends (W.contents writer.old) (W.contents writer.new) (bar_label_text node count end words trailing)) }
 {
     write!(
         writer,
-        "<text y='12'>log {node}: {count} records in {end} of {words} words, {unstable} not yet stable</text>\n"
+        "<text y='12'>log {node}: {count} records in {end} of {words} words, {trailing} written behind them</text>\n"
     )
 }
 
@@ -83,17 +83,17 @@ fn write_bar_frame<W: io::Write>(writer: &mut W, words: u32, lanes: u32) -> io::
     )
 }
 
-fn write_bar_unstable<W: io::Write>(
+fn write_bar_trailing<W: io::Write>(
     writer: &mut W,
     end: usize,
-    unstable: usize,
+    trailing: usize,
     lanes: u32,
 ) -> io::Result<()>
-    ensures { OnOk result (Appends (W.contents writer.old) (W.contents writer.new) (bar_unstable_text end unstable lanes)) }
+    ensures { OnOk result (Appends (W.contents writer.old) (W.contents writer.new) (bar_trailing_text end trailing lanes)) }
 {
     write!(
         writer,
-        "<rect class='open' x='{end}' y='1' width='{unstable}' height='{lanes}'/>\n"
+        "<rect class='open' x='{end}' y='1' width='{trailing}' height='{lanes}'/>\n"
     )
 }
 

@@ -14,7 +14,7 @@ text{font:13px sans-serif}
 <g transform='translate(20 14)'>
 <rect class='stable' width='26' height='14'/><rect class='s1' width='26' height='7'/>
 <text x='34' y='12'>record, by the segments that it locks</text>
-<rect class='open' x='300' width='26' height='14'/><text x='334' y='12'>written, not yet stable</text>
+<rect class='open' x='300' width='26' height='14'/><text x='334' y='12'>written, in no record</text>
 <rect class='free' x='520' width='26' height='14'/><text x='554' y='12'>free</text>
 </g>
 <g transform='translate(20 42)'>
