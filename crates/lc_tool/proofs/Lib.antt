@@ -22,4 +22,5 @@ mod AreasRecovered
 mod ChecksShown
 mod FilesTold
 mod DumpsShown
+mod PicturesRead
 pub mod Keeping

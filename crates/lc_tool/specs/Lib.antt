@@ -18,5 +18,6 @@ pub mod Recovers
 pub mod Checks
 pub mod Found
 pub mod Dumps
+pub mod Draws
 pub mod Asked
 pub mod Noted

@@ -5,6 +5,7 @@ mod answering;
 mod checking;
 mod commands;
 mod directory;
+mod drawing;
 mod dumping;
 mod file_fault;
 mod file_lens;
@@ -41,6 +42,7 @@ mod zeros;
 
 pub use answering::answer;
 pub use checking::check_areas;
+pub use drawing::draw_areas;
 pub use dumping::dump_areas;
 pub use file_fault::{FileFault, Place};
 pub use file_name::FileName;
