@@ -8,10 +8,10 @@ use Rattle.clap.specs.declared.parser.matches.ArgMatches.{ArgMatches}
 use Rattle.clap.specs.declared.error.kind.ErrorKind.{ErrorKind}
 use Rattle.clap.specs.declared.error.kind.ErrorKind.TheVariants.{DisplayHelp, DisplayVersion, OutOfMemory}
 use Rattle.clap.proofs.OnLiterals.{clap_on_literals}
-use Rattle.lc_words.proofs.FaultlessWords.{IsSubcommand, entered_run, entered_init, entered_recover, entered_inspect, entered_lines, entered_check, entered_dump, faultless_words}
-use Rattle.lc_words.specs.CommandLine.{HasCheckedSize, HasNoFiles, HasNumberIn, HasNumbersAt, HasSize, HasSizeAt, HasText, HasWord, IsAskedBy, IsCallOf, IsCheckOf, IsDumpOf, IsInitOf, IsInspectOf, IsLike, IsLinesOf, IsReadOf, IsRecoverOf, IsRunOf, options_of, program_app}
+use Rattle.lc_words.proofs.FaultlessWords.{IsSubcommand, entered_run, entered_init, entered_recover, entered_inspect, entered_lines, entered_check, entered_dump, entered_draw, faultless_words}
+use Rattle.lc_words.specs.CommandLine.{HasCheckedSize, HasNoFiles, HasNumberIn, HasNumbersAt, HasSize, HasSizeAt, HasText, HasWord, IsAskedBy, IsCallOf, IsCheckOf, IsDrawOf, IsDumpOf, IsInitOf, IsInspectOf, IsLike, IsLinesOf, IsReadOf, IsRecoverOf, IsRunOf, options_of, program_app}
 use Rattle.lc_words.specs.declared.asked.Asked.{Asked}
-use Rattle.lc_words.specs.declared.asked.Asked.TheVariants.{Run, Init, Recover, Check, Dump, Inspect, Lines, NotUnderstood}
+use Rattle.lc_words.specs.declared.asked.Asked.TheVariants.{Run, Init, Recover, Check, Dump, Draw, Inspect, Lines, NotUnderstood}
 
 pub program_is_simple : is_simple program_app ≡ true
 unfolding clap_on_literals
@@ -101,6 +101,12 @@ dump_asked (Dump folder segment page) rows words met read word one two =
 dump_asked NotUnderstood rows words met read word one two = absurd (read word one two)
 dump_asked _ rows words met read word one two = absurd read
 
+draw_asked : (asked : Asked) (rows : List Row) (words : List Text) → IsMet (codes "draw") rows words → IsDrawOf rows asked → HasWord (codes "folder") rows → IsAskedBy words asked
+draw_asked (Draw folder) rows words met read word =
+    (is_call (codes "draw") rows words met, subst (λ (rs : List Row). IsDrawOf rs (Draw folder)) (rows_are (codes "draw") rows words met) read)
+draw_asked NotUnderstood rows words met read word = absurd (read word)
+draw_asked _ rows words met read word = absurd read
+
 pub asked : (asked : Asked) (found : Option (Text × List Row)) (words : List Text) → IsReadOf found asked → found ≡ subcommand_of program_app words
     → fault_of program_app words ≡ [] → IsAskedBy words asked
 asked given found words read same none = go (faultless_words words none)
@@ -113,6 +119,7 @@ asked given found words read same none = go (faultless_words words none)
     go (entered_lines h) = lines_asked given h.0 words (none, h.1) (read.4 h.0 (same ∙ h.1))
     go (entered_check h) = check_asked given h.0 words (none, h.1) (read.5 h.0 (same ∙ h.1)) h.2 h.3
     go (entered_dump h) = dump_asked given h.0 words (none, h.1) (read.6 h.0 (same ∙ h.1)) h.2 h.3 h.4
+    go (entered_draw h) = draw_asked given h.0 words (none, h.1) (read.7 h.0 (same ∙ h.1)) h.2
 
 pub no_fault : (c : Command) (words : List Text) → app_of c ≡ program_app → fault_of (app_of c) words ≡ []
     → fault_of program_app words ≡ []

@@ -16,7 +16,7 @@ use Rattle.clap.specs.declared.parser.matches.ValueSource.{ValueSource}
 use Rattle.clap.specs.declared.parser.matches.ValueSource.TheVariants.{CommandLine}
 use Rattle.lc_record.specs.declared.geometry.Geometry.{Geometry}
 use Rattle.lc_words.specs.declared.asked.Asked.{Asked}
-use Rattle.lc_words.specs.declared.asked.Asked.TheVariants.{Run, Init, Recover, Check, Dump, Inspect, Lines, Help, Version, NotUnderstood}
+use Rattle.lc_words.specs.declared.asked.Asked.TheVariants.{Run, Init, Recover, Check, Dump, Draw, Inspect, Lines, Help, Version, NotUnderstood}
 use Rattle.lc_words.specs.declared.run_store.RunStore.{RunStore}
 use Rattle.lc_words.specs.declared.run_store.RunStore.TheVariants.{New, InFolder}
 use Rattle.lc_words.specs.declared.size.Size.{Size}
@@ -81,6 +81,9 @@ check_app = with_rule (with_sizes (with_rule (new_app (codes "check")) (word_rul
 abbrev pub dump_app : App
 dump_app = with_rule (with_rule (with_rule (new_app (codes "dump")) (word_rule (codes "folder"))) (number_rule (codes "segment"))) (number_rule (codes "page"))
 
+abbrev pub draw_app : App
+draw_app = with_rule (new_app (codes "draw")) (word_rule (codes "folder"))
+
 abbrev pub inspect_app : App
 inspect_app = with_rule (with_rule (new_app (codes "inspect")) (word_rule (codes "file"))) (flag_rule (codes "reverse"))
 
@@ -89,10 +92,10 @@ lines_app = new_app (codes "lines")
 
 -- the whole command line
 abbrev pub program_app : App
-program_app = with_subcommand (with_subcommand (with_subcommand (with_subcommand (with_subcommand (with_subcommand (with_subcommand (record {
+program_app = with_subcommand (with_subcommand (with_subcommand (with_subcommand (with_subcommand (with_subcommand (with_subcommand (with_subcommand (record {
   top = record (new_app (codes "lcrvm")).top { subcommand_required = true; has_version = true };
   subs = [];
-}) run_app.top) init_app.top) recover_app.top) inspect_app.top) lines_app.top) check_app.top) dump_app.top
+}) run_app.top) init_app.top) recover_app.top) inspect_app.top) lines_app.top) check_app.top) dump_app.top) draw_app.top
 
 -- a command that is read so, and has no argument for its subcommands too
 abbrev pub IsLike : Command → App → Type 0
@@ -215,6 +218,7 @@ IsAskedBy words (Check folder size) = IsCallOf (codes "check") words × HasCheck
     × HasText (codes "folder") (options_of words) (Some folder)
 IsAskedBy words (Dump folder segment page) = IsCallOf (codes "dump") words × HasText (codes "folder") (options_of words) (Some folder)
     × (number_at (codes "segment") (options_of words) ≡ Some segment) × (number_at (codes "page") (options_of words) ≡ Some page)
+IsAskedBy words (Draw folder) = IsCallOf (codes "draw") words × HasText (codes "folder") (options_of words) (Some folder)
 IsAskedBy words (Inspect file reverse) = IsCallOf (codes "inspect") words
     × HasText (codes "file") (options_of words) (Some file) × (reverse ≡ is_among_words (codes "reverse") (options_of words))
 IsAskedBy words Lines = IsCallOf (codes "lines") words
@@ -251,6 +255,11 @@ IsDumpOf rows (Dump folder segment page) = HasText (codes "folder") rows (Some f
 IsDumpOf rows NotUnderstood = HasWord (codes "folder") rows → HasNumberIn (codes "segment") 0 4294967295 rows → HasNumberIn (codes "page") 0 4294967295 rows → ⊥
 IsDumpOf rows _ = ⊥
 
+abbrev pub IsDrawOf : List Row → Asked → Type 0
+IsDrawOf rows (Draw folder) = HasText (codes "folder") rows (Some folder)
+IsDrawOf rows NotUnderstood = HasWord (codes "folder") rows → ⊥
+IsDrawOf rows _ = ⊥
+
 abbrev pub IsInspectOf : List Row → Asked → Type 0
 IsInspectOf rows (Inspect file reverse) = HasText (codes "file") rows (Some file) × (reverse ≡ is_among_words (codes "reverse") rows)
 IsInspectOf rows NotUnderstood = HasWord (codes "file") rows → ⊥
@@ -269,3 +278,4 @@ IsReadOf found asked = ((rows : List Row) → found ≡ Some (codes "run", rows)
     × ((rows : List Row) → found ≡ Some (codes "lines", rows) → IsLinesOf asked)
     × ((rows : List Row) → found ≡ Some (codes "check", rows) → IsCheckOf rows asked)
     × ((rows : List Row) → found ≡ Some (codes "dump", rows) → IsDumpOf rows asked)
+    × ((rows : List Row) → found ≡ Some (codes "draw", rows) → IsDrawOf rows asked)

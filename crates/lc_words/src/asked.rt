@@ -45,6 +45,11 @@ pub enum Asked {
         /// The page of the segment, from 0.
         page: u32,
     },
+    /// The picture of the store in this folder.
+    Draw {
+        /// The word behind `draw`.
+        folder: String,
+    },
     /// The records of this log file, the last one first where `reverse` is set.
     Inspect {
         /// The word behind `inspect`.

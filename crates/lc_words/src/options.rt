@@ -1,7 +1,7 @@
 //! What the options of a subcommand ask for.
 ghost use Rattle.std.specs.Prelude.{◌≡◌, IfOk, IfSome, IsNone, Some, None, if◌then◌else◌};
 ghost use Rattle.clap.specs.Words.{found_of, rows_of, subcommand_rows_of};
-ghost use Rattle.lc_words.specs.CommandLine.{HasCheckedSize, HasNumbersAt, HasSize, HasSizeAt, HasText, IsCheckOf, IsDumpOf, IsInitOf, IsInspectOf, IsReadOf, IsRecoverOf, IsRunOf, IsWantedAt, is_among_words, is_any_given, number_at};
+ghost use Rattle.lc_words.specs.CommandLine.{HasCheckedSize, HasNumbersAt, HasSize, HasSizeAt, HasText, IsCheckOf, IsDrawOf, IsDumpOf, IsInitOf, IsInspectOf, IsReadOf, IsRecoverOf, IsRunOf, IsWantedAt, is_among_words, is_any_given, number_at};
 
 use crate::{Asked, RunStore, Size, Wanted};
 use clap::ArgMatches;
@@ -21,6 +21,7 @@ pub fn asked_of(alloc: Global, matches: &ArgMatches<'_>) -> Result<Asked, AllocE
         Some(("lines", _)) => Ok(Asked::Lines),
         Some(("check", options)) => check_of(alloc, options),
         Some(("dump", options)) => dump_of(alloc, options),
+        Some(("draw", options)) => draw_of(alloc, options),
         _ => Ok(Asked::NotUnderstood),
     }
 }
@@ -97,6 +98,15 @@ fn dump_of(alloc: Global, options: &ArgMatches<'_>) -> Result<Asked, AllocError>
             segment,
             page,
         }),
+        None => Ok(Asked::NotUnderstood),
+    }
+}
+
+fn draw_of(alloc: Global, options: &ArgMatches<'_>) -> Result<Asked, AllocError>
+    ensures { IfOk result (IsDrawOf (rows_of (found_of options.now))) }
+{
+    match text_of(alloc, options, "folder")? {
+        Some(folder) => Ok(Asked::Draw { folder }),
         None => Ok(Asked::NotUnderstood),
     }
 }

@@ -1,7 +1,7 @@
 //! The subcommands of the program, with their options and their help.
 ghost use Rattle.std.specs.Prelude.{◌≡◌, IfOk, false};
 ghost use Rattle.clap.specs.Words.{App, app_of, rule_of};
-ghost use Rattle.lc_words.specs.CommandLine.{IsLike, check_app, dump_app, flag_rule, init_app, inspect_app, lines_app, number_rule, option_rule, program_app, recover_app, run_app, with_sizes, word_rule};
+ghost use Rattle.lc_words.specs.CommandLine.{IsLike, check_app, draw_app, dump_app, flag_rule, init_app, inspect_app, lines_app, number_rule, option_rule, program_app, recover_app, run_app, with_sizes, word_rule};
 
 use clap::builder::ValueParser;
 use clap::{Arg, ArgAction, Command, value_parser};
@@ -54,6 +54,15 @@ const DUMP_HELP: &str = "Statuses:
 Example:
   lcrvm dump bank 1 0";
 
+const DRAW_HELP: &str = "Statuses:
+  0  the picture is printed
+  1  the files do not fit together, the logs or the pages are refused, or there was no memory
+  2  the command line was not understood
+  3  a device failed, or the store is in use
+
+Example:
+  lcrvm draw bank > bank.svg";
+
 const INSPECT_HELP: &str = "Statuses:
   0  the records are printed
   1  the file has not the length of a log, or there was no memory
@@ -89,7 +98,8 @@ pub fn program<'a>(alloc: Global) -> Result<Command<'a>, AllocError>
         .subcommand(inspect(alloc)?)?
         .subcommand(lines(alloc)?)?
         .subcommand(check(alloc)?)?
-        .subcommand(dump(alloc)?)
+        .subcommand(dump(alloc)?)?
+        .subcommand(draw(alloc)?)
 }
 
 fn run<'a>(alloc: Global) -> Result<Command<'a>, AllocError>
@@ -187,6 +197,20 @@ fn dump<'a>(alloc: Global) -> Result<Command<'a>, AllocError>
         ))?
         .arg(number(alloc, "segment", "SEGMENT", "Segment, from 1"))?
         .arg(number(alloc, "page", "PAGE", "Page of the segment, from 0"))
+}
+
+fn draw<'a>(alloc: Global) -> Result<Command<'a>, AllocError>
+    ensures { IfOk result (λ command. IsLike command draw_app) }
+{
+    Command::new(alloc, "draw")
+        .about("Prints a picture of a store, as SVG, and changes nothing")
+        .after_help(DRAW_HELP)
+        .arg(word(
+            alloc,
+            "folder",
+            "DIR",
+            "Folder of the store, that init made",
+        ))
 }
 
 fn inspect<'a>(alloc: Global) -> Result<Command<'a>, AllocError>

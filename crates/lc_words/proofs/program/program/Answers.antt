@@ -26,4 +26,5 @@ returns c =
     let four = adds_subcommand _ _ c.in_ok-subcommand-4.field-0 _ _ c.in_ok-subcommand-4.ensures three c.in_ok-inspect.ensures in
     let five = adds_subcommand _ _ c.in_ok-subcommand-5.field-0 _ _ c.in_ok-subcommand-5.ensures four c.in_ok-lines.ensures in
     let six = adds_subcommand _ _ c.in_ok-subcommand-6.field-0 _ _ c.in_ok-subcommand-6.ensures five c.in_ok-check.ensures in
-    IfOk-weaker c.subcommand-7.result _ _ (λ m added. (adds_subcommand _ _ m _ _ added six c.in_ok-dump.ensures).0) c.subcommand-7.ensures
+    let seven = adds_subcommand _ _ c.in_ok-subcommand-7.field-0 _ _ c.in_ok-subcommand-7.ensures six c.in_ok-dump.ensures in
+    IfOk-weaker c.subcommand-8.result _ _ (λ m added. (adds_subcommand _ _ m _ _ added seven c.in_ok-draw.ensures).0) c.subcommand-8.ensures
