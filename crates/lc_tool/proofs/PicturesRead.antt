@@ -1,5 +1,5 @@
 -- What is drawn of areas that were read, and how they are left.
-use Rattle.std.proofs.Common.{◌≡◌, ◌⊎◌, ℕ, zero, suc, ◌+◌, ◌*◌, ◌≤◌, ◌<◌, true, Option, Some, List, [], ◌∷◌, ◌++◌, map, length, take, get_or, refl, sym, ◌∙◌, ap, ap₂, subst, arith, inl, inr}
+use Rattle.std.proofs.Common.{◌≡◌, ◌⊎◌, ℕ, suc, ◌+◌, ◌*◌, ◌≤◌, ◌<◌, true, Option, Some, List, [], ◌∷◌, ◌++◌, map, length, take, get_or, refl, sym, ◌∙◌, ap, ap₂, subst, arith, inl, inr}
 use Rattle.std.specs.Prelude.{slice_get, slice_set}
 use Rattle.std.specs.Io.KnownBytes.{Appends}
 use Rattle.std.proofs.lemmas.Bool.{cases_lt}
@@ -9,7 +9,6 @@ use Rattle.lc_disk.specs.declared.area.Area.{Ghosts}
 use Rattle.lc_record.specs.declared.geometry.Geometry.{Geometry}
 use Rattle.lc_model.specs.Merge.{Store}
 use Rattle.lc_picture.specs.Picture.{picture_text}
-use Rattle.lc_picture.specs.declared.segment_field.SegmentField.{SegmentField}
 use Rattle.lc_picture.specs.declared.store_picture.StorePicture.{StorePicture}
 use Rattle.lc_recover.specs.Fault.{IsRefusal}
 use Rattle.lc_recover.specs.Forecast.{Foretold, IsForecast, sequence_of}
@@ -18,7 +17,7 @@ use Rattle.lc_recover.specs.declared.fault.RecoverFault.{RecoverFault}
 use Rattle.lc_recover.specs.declared.fault.RecoverFault.TheVariants.{BadGeometry, Gap, Twice, OutOfSegment, DeviceFault, NoMemory}
 use Rattle.lc_recover.proofs.AreaLemmas.{get-pushed, get-set, one_item}
 use Rattle.lc_recover.proofs.Images.{get-map, get-some, len-log, len-segment}
-use Rattle.lc_tool.specs.Draws.{AreBarsOf, AreEach, AreFieldsOf, DrawsAreas, FindsPicture, HaveBytes, IsFieldOf, IsPictureOf, ShowsPicture}
+use Rattle.lc_tool.specs.Draws.{AreBarsOf, AreEach, AreFieldsOf, DrawsAreas, FindsPicture, HaveBytes, IsPictureOf, ShowsPicture}
 use Rattle.lc_tool.specs.Dumps.{StopsAt, StopsDump}
 use Rattle.lc_tool.specs.Files.{Stops}
 use Rattle.lc_tool.specs.Recovers.{stop_status, stop_text}

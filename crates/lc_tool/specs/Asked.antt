@@ -11,10 +11,11 @@ use Rattle.lc_tool.specs.Script.{Given, RunsScript, given_as}
 use Rattle.lc_tool.specs.Store.{Adds}
 use Rattle.lc_tool.specs.Tells.{TellsScript}
 use Rattle.lc_tool.specs.declared.line_list.TheConstants.{LINE_LIST}
+use Rattle.lc_tool.specs.Draws.{TellsDrawn}
 use Rattle.lc_tool.specs.Found.{AnswersSized, TellsChecked, TellsDumped}
 use Rattle.lc_words.specs.declared.run_store.RunStore.TheVariants.{New, InFolder}
 use Rattle.lc_words.specs.declared.asked.Asked.{Asked}
-use Rattle.lc_words.specs.declared.asked.Asked.TheVariants.{Run, Init, Recover, Check, Dump, Inspect, Lines, Help, Version, NotUnderstood}
+use Rattle.lc_words.specs.declared.asked.Asked.TheVariants.{Run, Init, Recover, Check, Dump, Draw, Inspect, Lines, Help, Version, NotUnderstood}
 
 -- a script on a new store of zeros: what the plain machine allows from its first state on, with no numbers used
 abbrev pub RunsNew : Geometry → Given → Option (List ℕ) → Option (List ℕ) → ℕ → Type 0
@@ -38,6 +39,7 @@ AnswersAsked (Init folder g) input held holds status = Adds TellsInit held holds
 AnswersAsked (Recover folder size) input held holds status = AnswersSized size (λ g. Adds (TellsRecovery g) held holds status) held holds status
 AnswersAsked (Check folder size) input held holds status = Adds (TellsChecked size) held holds status
 AnswersAsked (Dump folder segment page) input held holds status = Adds (TellsDumped segment page) held holds status
+AnswersAsked (Draw folder) input held holds status = Adds TellsDrawn held holds status
 AnswersAsked (Inspect file reverse) input held holds status = TellsInspection reverse held holds status
 AnswersAsked Lines input held holds status = PrintsHelp LINE_LIST.now held holds status
 AnswersAsked (Help text) input held holds status = PrintsHelp (string_bytes text) held holds status

@@ -6,7 +6,7 @@ ghost use Rattle.lc_tool.specs.Script.{given_as};
 use crate::ToolFault;
 use crate::line_list::LINE_LIST;
 use crate::log_file::inspect_file;
-use crate::looking::{check_store, dump_page};
+use crate::looking::{check_store, draw_store, dump_page};
 use crate::manner::Manner;
 use crate::scripts::{DONE, NOT_UNDERSTOOD, no_memory, run_script};
 use crate::shared_file::SharedFile;
@@ -57,6 +57,7 @@ where
             segment,
             page,
         } => dump_page(alloc, rt, &folder, segment, page, writer),
+        Asked::Draw { folder } => draw_store(alloc, rt, &folder, writer),
         Asked::Inspect { file, reverse } => inspect_file(alloc, rt, &file, reverse, writer),
         Asked::Lines => help(LINE_LIST, writer),
         Asked::Help(text) | Asked::Version(text) => help(&text, writer),

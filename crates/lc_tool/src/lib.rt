@@ -49,7 +49,7 @@ pub use file_name::FileName;
 pub use folder::FolderFault;
 pub use lc_text::ToolFault;
 pub use log_file::inspect_file;
-pub use looking::{check_store, dump_page};
+pub use looking::{check_store, draw_store, dump_page};
 pub use manner::Manner;
 pub use misfit::Misfit;
 pub use noted::Noted;

@@ -2,12 +2,14 @@
 ghost use Rattle.std.specs.Prelude.{◌≡◌, ◌≢◌, ◌⊎◌, IfErr, IfOk, OnOk};
 ghost use Rattle.std.specs.Io.KnownBytes.{Appends};
 ghost use Rattle.lc_tool.specs.Checks.{EndsWithRecovery};
+ghost use Rattle.lc_tool.specs.Draws.{TellsDraw, TellsDrawn};
 ghost use Rattle.lc_tool.specs.Dumps.{TellsDump};
 ghost use Rattle.lc_tool.specs.Found.{IsAsFound, IsTaken, TellsChecked, TellsDumped, found_text, size_text};
 ghost use Rattle.lc_tool.specs.Store.{Adds};
 
 use crate::ToolFault;
 use crate::checking::check_areas;
+use crate::drawing::draw_areas;
 use crate::dumping::dump_areas;
 use crate::making::stopped;
 use crate::misfit::{Misfit, write_misfit};
@@ -225,6 +227,71 @@ where
             page,
             writer,
         ),
+        Err(fault) => stopped(writer, fault),
+    }
+}
+
+/// Prints the picture of the store in a folder, as `draw_areas` over the areas of its files, which tell its size. The folder's
+/// lock is taken beside others that take it so; no file is made, written or synced. Where the files do not fit together the status
+/// is 1. A store that cannot be looked at gives `device fault` and the status 3. What failed, and why, is said on standard error.
+pub fn draw_store<R: Files + Eprint, W: Write>(
+    alloc: Global,
+    rt: &R,
+    folder: &str,
+    writer: &mut W,
+) -> Result<u8, ToolFault>
+where
+    R::File: SharedFile,
+    ensures tells { IfOk result (λ status. Adds TellsDrawn (W.contents writer.old) (W.contents writer.new) status) }
+    ensures memory { result ≢ Err ToolFault.NoMemory }
+    ensures reads { result ≢ Err ToolFault.Read }
+{
+    let folder = StoreFolder::new(alloc, rt, folder);
+    let ended = draw_in(&folder, writer);
+    folder.tell();
+    ended
+}
+
+// The same, but for what is said on standard error.
+fn draw_in<R: Files + Eprint, W: Write>(
+    folder: &StoreFolder<'_, R>,
+    writer: &mut W,
+) -> Result<u8, ToolFault>
+where
+    R::File: SharedFile,
+    ensures tells { IfOk result (λ status. Adds TellsDrawn (W.contents writer.old) (W.contents writer.new) status) }
+    ensures memory { result ≢ Err ToolFault.NoMemory }
+    ensures reads { result ≢ Err ToolFault.Read }
+{
+    match folder.look() {
+        Ok(look) => {
+            let Look {
+                lens,
+                guard: _guard,
+            } = look;
+            match lens.geometry() {
+                Ok(geometry) => draw_files(folder, &geometry, writer),
+                Err(misfit) => ended(write_misfit(writer, misfit), REFUSED),
+            }
+        }
+        Err(fault) => stopped(writer, fault),
+    }
+}
+
+// The picture of the files.
+fn draw_files<R: Files, W: Write>(
+    folder: &StoreFolder<'_, R>,
+    geometry: &Geometry,
+    writer: &mut W,
+) -> Result<u8, ToolFault>
+where
+    R::File: SharedFile,
+    ensures tells { IfOk result (λ status. Adds (TellsDraw geometry.now) (W.contents writer.old) (W.contents writer.new) status) }
+    ensures memory { result ≢ Err ToolFault.NoMemory }
+    ensures reads { result ≢ Err ToolFault.Read }
+{
+    match folder.areas_of(geometry) {
+        Ok(mut areas) => draw_areas(folder.alloc, geometry, areas.as_mut_slice(), writer),
         Err(fault) => stopped(writer, fault),
     }
 }
