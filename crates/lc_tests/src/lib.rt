@@ -6,6 +6,8 @@ mod answer_tests;
 #[cfg(test)]
 mod command_line_tests;
 #[cfg(test)]
+mod drawing_tests;
+#[cfg(test)]
 mod events;
 #[cfg(test)]
 mod folder_tests;
