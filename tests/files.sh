@@ -1,6 +1,7 @@
 #!/bin/sh
 # Tries the built program over stores in folders: a store that is left and opened again goes on as one that is stopped
-# and recovered in memory, and what was acknowledged holds behind a process that is killed.
+# and recovered in memory, and what was acknowledged holds behind a process that is killed; a check says what the recovery
+# behind it prints, and changes nothing.
 #
 # usage: tests/files.sh [PROGRAM [SEED]]     (default: crates/lcrvm/out/lcrvm, 1)
 #
@@ -142,7 +143,11 @@ acknowledged() {
 
 # The store is recovered. It has the commits up to one, none of which that was acknowledged is missing.
 check_store() {
+    cksum store/* > before
+    lcrvm check store > checked || fail "kill $1: the check says that it does not recover"
+    cksum store/* | cmp -s - before || fail "kill $1: the check changed a file"
     lcrvm recover store $store_size > recovered || fail "kill $1: no recovery"
+    tail -n "$(wc -l < recovered)" checked | cmp -s - recovered || fail "kill $1: the check said something else"
     kept=$(sed -n 's/^segment 1 sequence //p' recovered)
     [ "$(grep -c " sequence $kept\$" recovered)" -eq $segments ] || fail "kill $1: a part of a commit"
     [ "$kept" -ge "$2" ] || fail "kill $1: $2 commits were acknowledged, and $kept are there"
