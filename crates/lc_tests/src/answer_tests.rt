@@ -27,6 +27,7 @@ enum Ask {
     Check(Size),
     CheckAsFound,
     Dump { segment: u32, page: u32 },
+    Draw,
     Inspect { reverse: bool },
     RunInMemory(Size),
     Help,
@@ -174,6 +175,7 @@ fn asked_of(alloc: Global, ask: Ask, folder: String) -> Result<Asked, Fail> {
             segment,
             page,
         },
+        Ask::Draw => Asked::Draw { folder },
         Ask::Inspect { reverse } => Asked::Inspect {
             file: String::from_str(alloc, "store/log0")?,
             reverse,
@@ -379,6 +381,43 @@ static LOOKED_AT: [Step; 9] = [
         ..STEP
     },
 ];
+
+// A store that another process has for itself alone.
+static NOT_DRAWN: [Step; 2] = [
+    STEP,
+    Step {
+        ask: Ask::Draw,
+        trouble: Trouble::InUse,
+        printed: "device fault\n",
+        status: 3,
+        calls: Some(&["open store\nshare store\n"]),
+        said: "lcrvm: store: store in use\n",
+        ..STEP
+    },
+];
+
+#[test]
+fn a_store_in_use_is_not_drawn(rt: HostRuntime) -> Result<(), Fail> {
+    check_all(&rt, rt.alloc(), &Shelf::new(rt.alloc()), &NOT_DRAWN)
+}
+
+// What the picture is, its own tests say.
+#[test]
+fn a_store_that_is_drawn_is_not_changed(rt: HostRuntime) -> Result<(), Fail> {
+    let shelf = Shelf::new(rt.alloc());
+    check(&rt, rt.alloc(), &shelf, &STEP)?;
+    let asked = Asked::Draw {
+        folder: String::from_str(rt.alloc(), FOLDER)?,
+    };
+    let mut text = Vec::new(rt.alloc());
+    let mut script = "".as_bytes();
+    let status = answer(rt.alloc(), &Listed(&shelf), asked, &mut script, &mut text)?;
+    assert!(rt; status == 0 && text.as_slice().starts_with("<svg ".as_bytes()));
+    check_calls(&rt, &shelf.calls()?, &[LOOKING, READS, READS]);
+    let said = shelf.said()?;
+    assert!(rt; said.is_empty(), "{said}");
+    Ok(())
+}
 
 #[test]
 fn a_store_that_is_looked_at_is_not_changed(rt: HostRuntime) -> Result<(), Fail> {

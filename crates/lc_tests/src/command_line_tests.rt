@@ -5,11 +5,13 @@ use std::alloc::{AllocError, Global};
 use std::test::*;
 
 // Words that ask for nothing.
-static REFUSED: [&[&str]; 50] = [
+static REFUSED: [&[&str]; 52] = [
     &["lcrvm", "run", "--as-found"],
     &["lcrvm", "init", "d", "--as-found"],
     &["lcrvm", "dump", "d", "1"],
     &["lcrvm", "check", "d", "e"],
+    &["lcrvm", "draw"],
+    &["lcrvm", "draw", "d", "e"],
     &["lcrvm", "run", "--pages", "0"],
     &["lcrvm", "run", "--pages", "1025"],
     &["lcrvm", "run", "--words", "63"],
@@ -103,6 +105,7 @@ enum Wanted {
     Check(&'static str, [u32; 5]),
     CheckFound(&'static str, [Option<u32>; 4]),
     Dump(&'static str, u32, u32),
+    Draw(&'static str),
     Inspect(&'static str, bool),
     // A run in memory of the least size: whether it follows, and whether it numbers.
     Manner(bool, bool),
@@ -184,6 +187,7 @@ fn asks(asked: &Asked, wanted: Wanted) -> bool {
             },
             Wanted::Dump(name, of, at),
         ) => folder.as_str() == name && *segment == of && *page == at,
+        (Asked::Draw { folder }, Wanted::Draw(name)) => folder.as_str() == name,
         (Asked::Lines, Wanted::Lines) => true,
         (Asked::Version(text), Wanted::Version) => text.as_str() == "lcrvm 0.1.0\n",
         (Asked::Init { folder, geometry }, Wanted::Init(name, size)) => {
@@ -203,7 +207,7 @@ const LEAST: [u32; 5] = [1, 1, 1, 1, 64];
 
 const MOST: [u32; 5] = [8, 16, 16, 1024, 4096];
 
-static ASKED: [(&[&str], Wanted); 32] = [
+static ASKED: [(&[&str], Wanted); 33] = [
     (
         &["lcrvm", "recover", "bank", "--as-found", "--pages", "1"],
         Wanted::Found("bank", [None, None, Some(1), None]),
@@ -224,6 +228,7 @@ static ASKED: [(&[&str], Wanted); 32] = [
         &["lcrvm", "dump", "bank", "17", "0"],
         Wanted::Dump("bank", 17, 0),
     ),
+    (&["lcrvm", "draw", "bank"], Wanted::Draw("bank")),
     (&["lcrvm", "run", "--follow"], Wanted::Manner(true, false)),
     (&["lcrvm", "run", "--number"], Wanted::Manner(false, true)),
     (
@@ -353,13 +358,14 @@ fn helps(asked: &Asked, parts: &[&str]) -> bool {
     }
 }
 
-const COMMANDS: [&str; 8] = [
+const COMMANDS: [&str; 9] = [
     "Usage: lcrvm <COMMAND>",
     "  run ",
     "  init ",
     "  recover ",
     "  check ",
     "  dump ",
+    "  draw ",
     "  inspect ",
     "  lines ",
 ];
@@ -377,7 +383,7 @@ const SIZES: [&str; 9] = [
 ];
 
 // The usage, an option or a word of its own, and the example of each command.
-static HELPS: [(&str, &[&str], &[&str]); 7] = [
+static HELPS: [(&str, &[&str], &[&str]); 8] = [
     (
         "run",
         &[
@@ -424,6 +430,14 @@ static HELPS: [(&str, &[&str], &[&str]); 7] = [
         &[
             "Usage: lcrvm dump <DIR> <SEGMENT> <PAGE>",
             "Example:\n  lcrvm dump bank 1 0",
+        ],
+        &[],
+    ),
+    (
+        "draw",
+        &[
+            "Usage: lcrvm draw <DIR>",
+            "Example:\n  lcrvm draw bank > bank.svg",
         ],
         &[],
     ),
