@@ -2,7 +2,7 @@
 use crate::listed_files::{FOLDER, Listed, Shelf, Trouble};
 use lc_disk::{Area, FileArea};
 use lc_record::Geometry;
-use lc_tool::answer;
+use lc_tool::{ErrorOutput, answer};
 use lc_words::{Asked, RunStore, Size as StoreSize, Wanted};
 use std::alloc::Global;
 use std::process::Abort;
@@ -208,7 +208,14 @@ fn check(rt: &impl Abort, alloc: Global, shelf: &Shelf, step: &Step) -> Result<(
     let asked = asked_of(alloc, step.ask, String::from_str(alloc, FOLDER)?)?;
     let mut text = Vec::new(alloc);
     let mut reader = step.script.as_bytes();
-    let status = answer(alloc, &Listed(shelf), asked, &mut reader, &mut text)?;
+    let status = answer(
+        alloc,
+        &Listed(shelf),
+        ErrorOutput::Other,
+        asked,
+        &mut reader,
+        &mut text,
+    )?;
     let printed = step.printed;
     assert!(rt;
         text.as_slice() == printed.as_bytes() && status == step.status,
@@ -411,7 +418,14 @@ fn a_store_that_is_drawn_is_not_changed(rt: HostRuntime) -> Result<(), Fail> {
     };
     let mut text = Vec::new(rt.alloc());
     let mut script = "".as_bytes();
-    let status = answer(rt.alloc(), &Listed(&shelf), asked, &mut script, &mut text)?;
+    let status = answer(
+        rt.alloc(),
+        &Listed(&shelf),
+        ErrorOutput::Other,
+        asked,
+        &mut script,
+        &mut text,
+    )?;
     assert!(rt; status == 0 && text.as_slice().starts_with("<svg ".as_bytes()));
     check_calls(&rt, &shelf.calls()?, &[LOOKING, READS, READS]);
     let said = shelf.said()?;

@@ -1,7 +1,7 @@
 //! Stores in folders of the system.
 use crate::script_tests::WHOLE;
 use lc_record::Geometry;
-use lc_tool::{init_store, inspect_file, recover_store, run_store};
+use lc_tool::{ErrorOutput, init_store, inspect_file, recover_store, run_store};
 use std::fs::{self, OpenFile, OpenOptions};
 use std::os::unix::fs::symlink;
 use std::test::*;
@@ -99,6 +99,7 @@ fn asked(rt: &HostRuntime, folder: &str, ask: Ask) -> Result<(Vec<u8>, u8), Fail
             run_store(
                 alloc,
                 rt,
+                ErrorOutput::Other,
                 folder,
                 size.geometry()?,
                 WHOLE,
@@ -106,7 +107,14 @@ fn asked(rt: &HostRuntime, folder: &str, ask: Ask) -> Result<(Vec<u8>, u8), Fail
                 &mut text,
             )?
         }
-        Ask::Recover(size) => recover_store(alloc, rt, folder, size.geometry()?, &mut text)?,
+        Ask::Recover(size) => recover_store(
+            alloc,
+            rt,
+            ErrorOutput::Other,
+            folder,
+            size.geometry()?,
+            &mut text,
+        )?,
         Ask::Inspect(behind, order) => {
             let path = format!(in alloc; "{folder}{behind}")?;
             let reverse = matches!(order, Order::Backwards);

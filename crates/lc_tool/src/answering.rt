@@ -12,6 +12,7 @@ use crate::scripts::{DONE, NOT_UNDERSTOOD, no_memory, run_script};
 use crate::shared_file::SharedFile;
 use crate::sizing::{recover_sized, run_sized};
 use crate::stores::init_store;
+use crate::telling::ErrorOutput;
 use crate::zeros::zero_areas;
 use lc_record::Geometry;
 use lc_words::{Asked, RunStore};
@@ -21,11 +22,13 @@ use std::rt::Files;
 
 /// Does what a command line asks for, and answers the status that the program ends with: 0 where it came to its end and nothing
 /// was refused, 1 where something was refused or there was no memory, 2 where something was not understood, 3 where a device
-/// failed. A script comes from the reader. What failed over files, and why, is said on standard error. An `Err` is a fault of
+/// failed. A script comes from the reader. What failed over files, and why, is said on standard error; on a terminal it also shows how
+/// far a recovery is that has more than a thousand pages to write. An `Err` is a fault of
 /// the reader or of the writer.
 pub fn answer<R: Files + Eprint, I: Read, W: Write>(
     alloc: Global,
     rt: &R,
+    errors: ErrorOutput,
     asked: Asked,
     reader: &mut I,
     writer: &mut W,
@@ -45,12 +48,12 @@ where
             match store {
                 RunStore::New(geometry) => run_new(alloc, geometry, manner, reader, writer),
                 RunStore::InFolder { folder, size } => {
-                    run_sized(alloc, rt, &folder, &size, manner, reader, writer)
+                    run_sized(alloc, rt, errors, &folder, &size, manner, reader, writer)
                 }
             }
         }
         Asked::Init { folder, geometry } => init_store(alloc, rt, &folder, geometry, writer),
-        Asked::Recover { folder, size } => recover_sized(alloc, rt, &folder, &size, writer),
+        Asked::Recover { folder, size } => recover_sized(alloc, rt, errors, &folder, &size, writer),
         Asked::Check { folder, size } => check_store(alloc, rt, &folder, &size, writer),
         Asked::Dump {
             folder,

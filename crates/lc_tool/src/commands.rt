@@ -17,6 +17,7 @@ ghost use Rattle.lc_text.specs.declared.command.Command.TheVariants.{Inspect, Lo
 use crate::ToolFault;
 use crate::repeating::{end, flush, recover};
 use crate::stop::Stop;
+use crate::telling::Silent;
 use crate::truncating::show_truncation;
 use crate::verdict::Verdict;
 use lc_core::{Refusal, Reply, ShowFault, World};
@@ -43,7 +44,7 @@ pub(crate) fn perform<D: Stoppable + Drop, W: Write>(
         Command::End { node, thread } => show_end(writer, &end(world, alloc, node, thread)?),
         Command::Flush { node } => show(writer, &flush(world, alloc, node)?),
         Command::Truncate { node } => show_truncation(world, alloc, node, writer),
-        Command::Recover => show(writer, &recover(world, alloc)?),
+        Command::Recover => show(writer, &recover(world, alloc, &Silent)?),
         Command::Log { node } => show_log(world, alloc, node, writer),
         Command::Inspect { node } => show_records(world, alloc, node, writer),
         Command::Show {

@@ -4,6 +4,7 @@ use crate::answering::answer;
 use crate::noted::Noted;
 use crate::scripts::{FAULTED, no_memory};
 use crate::shared_file::SharedFile;
+use crate::telling::ErrorOutput;
 use lc_words::{Asked, read_command_line};
 use std::alloc::{AllocError, Global};
 use std::env;
@@ -11,8 +12,11 @@ use std::io::{self, BufWriter, ErrorKind, Read, Write};
 use std::rt::{Env, Files};
 
 /// Reads the command line, does what it asks for over standard input and output, and answers the status to end with. What
-/// failed, and why, is said on standard error.
-pub fn run_program<R: AllocGlobal + Env + Files + Input + Print + Eprint>(rt: &R) -> u8
+/// failed, and why, is said on standard error, of which the caller says what it is.
+pub fn run_program<R: AllocGlobal + Env + Files + Input + Print + Eprint>(
+    rt: &R,
+    errors: ErrorOutput,
+) -> u8
 where
     R::File: SharedFile,
 {
@@ -21,7 +25,7 @@ where
     let mut output = Noted::new(io::writer(rt));
     let status = match asked_for(alloc, rt) {
         Ok(asked) => status_of(
-            buffered(alloc, rt, asked, &mut input, &mut output),
+            buffered(alloc, rt, errors, asked, &mut input, &mut output),
             &mut output,
         ),
         Err(AllocError) => status_of(Err(ToolFault::NoMemory), &mut output),
@@ -47,6 +51,7 @@ fn asked_for<R: AllocGlobal + Env>(alloc: Global, rt: &R) -> Result<Asked, Alloc
 fn buffered<R: Files + Eprint, I: Read, W: Write>(
     alloc: Global,
     rt: &R,
+    errors: ErrorOutput,
     asked: Asked,
     input: &mut I,
     output: &mut W,
@@ -57,7 +62,7 @@ where
     let Ok(mut writer) = BufWriter::new(alloc, output) else {
         return Err(ToolFault::NoMemory);
     };
-    let status = answer(alloc, rt, asked, input, &mut writer)?;
+    let status = answer(alloc, rt, errors, asked, input, &mut writer)?;
     match writer.flush() {
         Ok(()) => Ok(status),
         Err(_) => Err(ToolFault::Write),

@@ -8,6 +8,7 @@ ghost use Rattle.lc_text.specs.Text.{recovered_text, segment_text};
 
 use crate::ToolFault;
 use crate::scripts::{DONE, FAULTED, REFUSED};
+use crate::telling::{Silent, Teller};
 use lc_core::{Reply, recovery_refusal};
 use lc_disk::Area;
 use lc_record::Geometry;
@@ -38,17 +39,38 @@ pub fn recover_areas<D: Area + Drop, W: Write>(
     ensures memory { result ≢ Err ToolFault.NoMemory }
     ensures reads { result ≢ Err ToolFault.Read }
 {
-    match recovered(alloc, geometry, areas) {
+    recover_told(alloc, geometry, areas, &Silent, writer)
+}
+
+/// The same, and how far it is is told.
+pub(crate) fn recover_told<D: Area + Drop, T: Teller, W: Write>(
+    alloc: Global,
+    geometry: Geometry,
+    areas: Vec<D>,
+    teller: &T,
+    writer: &mut W,
+) -> Result<u8, ToolFault>
+    ensures recovers { IfOk result (λ status. RecoversAreas D.Area geometry areas.items (W.contents writer.old) (W.contents writer.new) status) }
+    ensures refused { IfOk result (λ status. RefusesMerge D.Area geometry areas.items (W.contents writer.old) (W.contents writer.new) status) }
+    ensures wrong { IfOk result (λ status. RefusesLengths D.Area geometry areas.items (W.contents writer.old) (W.contents writer.new) status) }
+    ensures tells { IfOk result (λ status. Adds (TellsRecovery geometry) (W.contents writer.old) (W.contents writer.new) status) }
+    ensures memory { result ≢ Err ToolFault.NoMemory }
+    ensures reads { result ≢ Err ToolFault.Read }
+{
+    let recovered = recovered(alloc, geometry, areas, teller);
+    teller.finished();
+    match recovered {
         Ok(store) => ended(write_recovered(writer, &store), DONE),
         Err(fault) => ended(write_stop(writer, fault), status_of(fault)),
     }
 }
 
 // The store that the recovery of these areas makes.
-fn recovered<D: Area + Drop>(
+fn recovered<D: Area + Drop, T: Teller>(
     alloc: Global,
     geometry: Geometry,
     areas: Vec<D>,
+    teller: &T,
 ) -> Result<Recovered<D>, RecoverFault>
     ensures recovers { IfOk result (λ store. Recovers D.Area geometry areas.items store) }
     ensures stops { IfErr result (λ fault. Explains D.Area geometry areas.items fault) }
@@ -57,7 +79,9 @@ fn recovered<D: Area + Drop>(
         Ok(recovery) => recovery,
         Err((_, fault)) => return Err(fault),
     };
-    while let Progress::Stepped(_) = recovery.step(alloc)? {}
+    while let Progress::Stepped(steps) = recovery.step(alloc)? {
+        teller.stepped(steps);
+    }
     Ok(recovery.finish())
 }
 

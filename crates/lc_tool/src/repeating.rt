@@ -7,6 +7,7 @@ ghost use Rattle.lc_tool.specs.Fits.{AsksFor, FollowsAll, FollowsEnd, RefusesAll
 ghost use Rattle.lc_tool.specs.Tells.{KeepsTo};
 ghost use Rattle.lc_text.specs.declared.command.Command.TheVariants.{End, Recover};
 
+use crate::telling::Teller;
 use lc_core::{Event, Reply, World};
 use lc_disk::Stoppable;
 use std::alloc::{AllocError, Global};
@@ -59,10 +60,11 @@ pub(crate) fn flush<D: Stoppable + Drop>(
     world.step(alloc, &Event::FlushStep { node })
 }
 
-/// The steps of a recovery, up to the one that is answered otherwise than that more are to come.
-pub(crate) fn recover<D: Stoppable + Drop>(
+/// The steps of a recovery, up to the one that is answered otherwise than that more are to come. How many are done is told.
+pub(crate) fn recover<D: Stoppable + Drop, T: Teller>(
     world: &mut World<D>,
     alloc: Global,
+    teller: &T,
 ) -> Result<Reply, AllocError>
     ensures follows { IfOk result (λ reply. FollowsAll D.Area world.old RecoverStep reply world.new) }
     ensures refused { IfOk result (λ reply. RefusesAll D.Area world.old reply) }
@@ -72,7 +74,7 @@ pub(crate) fn recover<D: Stoppable + Drop>(
 {
     for _ in 0..RECOVERY_STEPS {
         match world.step(alloc, &Event::RecoverStep)? {
-            Reply::Stepped(_) => {}
+            Reply::Stepped(steps) => teller.stepped(steps),
             reply => return Ok(reply),
         }
     }

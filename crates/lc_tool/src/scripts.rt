@@ -19,6 +19,7 @@ use crate::outcome::Outcome;
 use crate::repeating::recover;
 use crate::source::Source;
 use crate::stop::Stop;
+use crate::telling::{Silent, Teller};
 use crate::verdict::Verdict;
 use lc_core::{Refusal, Reply, World};
 use lc_disk::Stoppable;
@@ -66,12 +67,32 @@ pub fn run_script<D: Stoppable + Drop, R: Read, W: Write>(
     ensures tells { IfOk result (λ status. IfSome (R.remaining reader.old) (λ script. Adds (TellsScript geometry (given_as manner script)) (W.contents writer.old) (W.contents writer.new) status)) }
     ensures memory { result ≢ Err ToolFault.NoMemory }
 {
+    run_told(alloc, geometry, manner, areas, &Silent, reader, writer)
+}
+
+/// The same, and how far its recovery is is told.
+pub(crate) fn run_told<D: Stoppable + Drop, T: Teller, R: Read, W: Write>(
+    alloc: Global,
+    geometry: Geometry,
+    manner: Manner,
+    areas: Vec<D>,
+    teller: &T,
+    reader: &mut R,
+    writer: &mut W,
+) -> Result<u8, ToolFault>
+    ensures runs { IfOk result (λ status. IfSome (R.remaining reader.old) (λ script.
+        RunsStore D.Area geometry areas.items (given_as manner script) (W.contents writer.old) (W.contents writer.new) status)) }
+    ensures refused { IfOk result (λ status. RefusesMerge D.Area geometry areas.items (W.contents writer.old) (W.contents writer.new) status) }
+    ensures wrong { IfOk result (λ status. RefusesLengths D.Area geometry areas.items (W.contents writer.old) (W.contents writer.new) status) }
+    ensures tells { IfOk result (λ status. IfSome (R.remaining reader.old) (λ script. Adds (TellsScript geometry (given_as manner script)) (W.contents writer.old) (W.contents writer.new) status)) }
+    ensures memory { result ≢ Err ToolFault.NoMemory }
+{
     let mut world = match World::new(geometry, areas) {
         Ok(world) => world,
         Err((_, RecoverFault::BadGeometry { area })) => return bad_geometry(writer, area),
         Err(_) => unreachable!(),
     };
-    if let Some(status) = open(alloc, &mut world, writer)? {
+    if let Some(status) = open(alloc, &mut world, teller, writer)? {
         return Ok(status);
     }
     run_recovered(alloc, manner, &mut world, reader, writer)
@@ -124,9 +145,10 @@ fn run_whole<D: Stoppable + Drop, R: Read, W: Write>(
 }
 
 // Recovers the store, and says nothing where that is done: otherwise the status is answered.
-fn open<D: Stoppable + Drop, W: Write>(
+fn open<D: Stoppable + Drop, T: Teller, W: Write>(
     alloc: Global,
     world: &mut World<D>,
+    teller: &T,
     writer: &mut W,
 ) -> Result<Option<u8>, ToolFault>
     ensures opens { IfOk result (λ status. OpensStore D.Area world.old (W.contents writer.old) (W.contents writer.new) status world.new) }
@@ -136,7 +158,9 @@ fn open<D: Stoppable + Drop, W: Write>(
     ensures memory { result ≢ Err ToolFault.NoMemory }
     ensures reads { result ≢ Err ToolFault.Read }
 {
-    let Ok(reply) = recover(world, alloc) else {
+    let recovered = recover(world, alloc, teller);
+    teller.finished();
+    let Ok(reply) = recovered else {
         return Ok(Some(no_memory(writer)?));
     };
     match Verdict::of(&reply) {

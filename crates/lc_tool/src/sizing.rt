@@ -16,6 +16,7 @@ use crate::recovery::ended;
 use crate::scripts::{NOT_UNDERSTOOD, REFUSED};
 use crate::store_folder::StoreFolder;
 use crate::stores::{recover_store, run_store};
+use crate::telling::ErrorOutput;
 use lc_disk::HeldFile;
 use lc_record::Geometry;
 use lc_words::Size;
@@ -37,6 +38,7 @@ pub(crate) enum SizeFault {
 pub fn recover_sized<R: Files + Eprint, W: Write>(
     alloc: Global,
     rt: &R,
+    errors: ErrorOutput,
     folder: &str,
     size: &Size,
     writer: &mut W,
@@ -48,7 +50,7 @@ where
     ensures reads { result ≢ Err ToolFault.Read }
 {
     match size_in(alloc, rt, folder, size) {
-        Ok(geometry) => recover_store(alloc, rt, folder, geometry, writer),
+        Ok(geometry) => recover_store(alloc, rt, errors, folder, geometry, writer),
         Err(fault) => no_size(writer, fault),
     }
 }
@@ -57,6 +59,7 @@ where
 pub fn run_sized<R: Files + Eprint, I: Read, W: Write>(
     alloc: Global,
     rt: &R,
+    errors: ErrorOutput,
     folder: &str,
     size: &Size,
     manner: Manner,
@@ -70,7 +73,7 @@ where
     ensures memory { result ≢ Err ToolFault.NoMemory }
 {
     match size_in(alloc, rt, folder, size) {
-        Ok(geometry) => run_store(alloc, rt, folder, geometry, manner, reader, writer),
+        Ok(geometry) => run_store(alloc, rt, errors, folder, geometry, manner, reader, writer),
         Err(fault) => no_size(writer, fault),
     }
 }

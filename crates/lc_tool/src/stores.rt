@@ -11,9 +11,10 @@ use crate::directory::Directory;
 use crate::making::{init_in, stopped};
 use crate::manner::Manner;
 use crate::open_store::OpenStore;
-use crate::recovery::recover_areas;
-use crate::scripts::{DONE, run_script};
+use crate::recovery::recover_told;
+use crate::scripts::{DONE, run_told};
 use crate::store_folder::StoreFolder;
+use crate::telling::{ErrorOutput, PageTeller};
 use lc_disk::HeldFile;
 use lc_record::Geometry;
 use std::alloc::Global;
@@ -53,6 +54,7 @@ where
 pub fn recover_store<R: Files + Eprint, W: Write>(
     alloc: Global,
     rt: &R,
+    errors: ErrorOutput,
     folder: &str,
     geometry: Geometry,
     writer: &mut W,
@@ -67,10 +69,11 @@ where
     let ended = match folder.open(&geometry) {
         Ok(store) => {
             let OpenStore {
-                areas,
+                mut areas,
                 guard: _guard,
             } = store;
-            recover_areas(alloc, geometry, areas, writer)
+            let teller = PageTeller::new(alloc, rt, errors, &geometry, areas.as_mut_slice());
+            recover_told(alloc, geometry, areas, &teller, writer)
         }
         Err(fault) => stopped(writer, fault),
     };
@@ -84,6 +87,7 @@ where
 pub fn run_store<R: Files + Eprint, I: Read, W: Write>(
     alloc: Global,
     rt: &R,
+    errors: ErrorOutput,
     folder: &str,
     geometry: Geometry,
     manner: Manner,
@@ -96,13 +100,15 @@ where
     ensures memory { result ≢ Err ToolFault.NoMemory }
 {
     let folder = StoreFolder::new(alloc, rt, folder);
-    let ended = run_in(&folder, geometry, manner, reader, writer);
+    let ended = run_in(rt, errors, &folder, geometry, manner, reader, writer);
     folder.tell();
     ended
 }
 
-// The same, but for what is said on standard error.
-fn run_in<R: Files, I: Read, W: Write>(
+// The same, but for why something failed.
+fn run_in<R: Files + Eprint, I: Read, W: Write>(
+    rt: &R,
+    errors: ErrorOutput,
     folder: &StoreFolder<'_, R>,
     geometry: Geometry,
     manner: Manner,
@@ -117,10 +123,19 @@ where
     match folder.open(&geometry) {
         Ok(store) => {
             let OpenStore {
-                areas,
+                mut areas,
                 guard: _guard,
             } = store;
-            run_script(folder.alloc, geometry, manner, areas, reader, writer)
+            let teller = PageTeller::new(folder.alloc, rt, errors, &geometry, areas.as_mut_slice());
+            run_told(
+                folder.alloc,
+                geometry,
+                manner,
+                areas,
+                &teller,
+                reader,
+                writer,
+            )
         }
         Err(fault) => stopped(writer, fault),
     }

@@ -1,9 +1,15 @@
 //! The program of `lcrvm`, with a stored run of two nodes in which a line is refused.
 #![tactic(auto)]
 
-use lc_tool::run_program;
+use lc_tool::{ErrorOutput, run_program};
+use std::io::IsTerminal;
 use std::process::ExitCode;
 
 fn main(rt: HostRuntime) -> ExitCode {
-    ExitCode::from(run_program(&rt))
+    let errors = if rt.stderr().is_terminal() {
+        ErrorOutput::Terminal
+    } else {
+        ErrorOutput::Other
+    };
+    ExitCode::from(run_program(&rt, errors))
 }

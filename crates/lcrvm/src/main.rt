@@ -1,9 +1,15 @@
 //! Runs scripts of commands over a store in memory or in a folder; makes, recovers and inspects stores in folders.
 #![tactic(auto)]
 
-use lc_tool::run_program;
+use lc_tool::{ErrorOutput, run_program};
+use std::io::IsTerminal;
 use std::process::ExitCode;
 
 fn main(rt: HostRuntime) -> ExitCode {
-    ExitCode::from(run_program(&rt))
+    let errors = if rt.stderr().is_terminal() {
+        ErrorOutput::Terminal
+    } else {
+        ErrorOutput::Other
+    };
+    ExitCode::from(run_program(&rt, errors))
 }

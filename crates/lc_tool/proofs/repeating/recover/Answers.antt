@@ -31,7 +31,7 @@ pub loop-preserved : goal.loop-preserved
 loop-preserved g c =
     record {
       geometry = c.step.ensures.geometry ∙ c.loop.invariant.geometry;
-      gone = more_gone g.D.Area c.args.world.now c.loop.world c.step.new.self c.loop.counter c.in-Stepped.field-0 c.loop.invariant.gone
+      gone = more_gone g.D.Area c.args.world.now c.loop.world c.step.new.self c.loop.counter c.in-Stepped.steps c.loop.invariant.gone
           (subst (λ (r : Reply). FollowsWorld g.D.Area c.loop.world RecoverStep r c.step.new.self) c.in-Stepped.is c.in_ok-reply.ensures.follows)
           (subst (λ (r : Reply). RecoversDown g.D.Area c.loop.world.phase r c.step.new.self.phase) c.in-Stepped.is (c.in_ok-reply.ensures.recovers refl))
           (subst (λ (r : Reply). RefusesAtOnce g.D.Area c.loop.world.phase RecoverStep r c.step.new.self.phase) c.in-Stepped.is c.in_ok-reply.ensures.at_once);

@@ -5,7 +5,7 @@ use Rattle.lc_tool.specs.Recovers.{RecoversAreas, stop_text}
 use Rattle.lc_tool.specs.Store.{RefusesMerge}
 use Rattle.lc_text.specs.Text.{recovered_text}
 use Rattle.lc_tool.proofs.AreasRecovered.{ended_with, prints_numbers, stops_recovery, stops_refused}
-use Rattle.lc_tool.proofs.recovery.recover_areas.Goals as goal
+use Rattle.lc_tool.proofs.recovery.recover_told.Goals as goal
 
 pub returns-in-Ok-clause-recovers : goal.returns-in-Ok-clause-recovers
 returns-in-Ok-clause-recovers g c =

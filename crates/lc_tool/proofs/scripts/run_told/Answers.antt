@@ -6,7 +6,7 @@ use Rattle.lc_tool.specs.Script.{given_as}
 use Rattle.lc_tool.specs.Tells.{TellsOpening}
 use Rattle.lc_tool.proofs.Beginning.{never_refuses, never_wrong, recovered_runs, recovered_tells, some_all, stopped_refuses, stopped_runs, stopped_tells, wrong_tells}
 use Rattle.lc_tool.proofs.ScriptLemmas.{some_weaker}
-use Rattle.lc_tool.proofs.scripts.run_script.Goals as goal
+use Rattle.lc_tool.proofs.scripts.run_told.Goals as goal
 
 pub returns-in-Some-clause-runs : goal.returns-in-Some-clause-runs
 returns-in-Some-clause-runs g c =
