@@ -133,3 +133,6 @@ pub mod SameFaults
 pub mod StableCounts
 pub mod TokenReads
 pub mod UpToNumber
+pub mod Replying
+pub mod Layering
+pub mod ShownBytes

@@ -76,3 +76,5 @@ pub mod ReadNodes
 pub mod Pictures
 pub mod Readings
 pub mod Cluster
+pub mod Answered
+pub mod Layers

@@ -2,6 +2,7 @@
 ghost use Rattle.std.specs.Prelude.{◌≡◌, ◌&&◌, option_map};
 ghost use Rattle.std.specs.List.{list_all};
 ghost use Rattle.lc_model.specs.Refusals.{is_known, is_node, is_page, is_thread, is_segment, named};
+ghost use Rattle.lc_model.specs.declared.event.Event.TheVariants.{Begin};
 
 use crate::Event;
 use lc_record::Geometry;
@@ -16,11 +17,13 @@ pub(crate) fn is_known(geometry: &Geometry, event: &Event) -> bool
             thread,
             segments,
             reading,
-        } => {
-            is_seat(geometry, *node, *thread)
-                && are_segments(geometry, segments.as_slice())
-                && are_segments(geometry, reading.as_slice())
-        }
+        } => knows_begin(
+            geometry,
+            *node,
+            *thread,
+            segments.as_slice(),
+            reading.as_slice(),
+        ),
         Event::SetRange {
             node,
             thread,
@@ -63,6 +66,21 @@ pub(crate) fn is_known(geometry: &Geometry, event: &Event) -> bool
         }
         Event::Stop { .. } | Event::RecoverStep => true,
     }
+}
+
+/// Whether the geometry has the node, the thread and all segments that a transaction begins with.
+pub(crate) fn knows_begin(
+    geometry: &Geometry,
+    node: u16,
+    thread: u16,
+    segments: &[u32],
+    reading: &[u32],
+) -> bool
+    ensures { result ≡ is_known geometry.now (Begin node thread segments.now reading.now) }
+{
+    is_seat(geometry, node, thread)
+        && are_segments(geometry, segments)
+        && are_segments(geometry, reading)
 }
 
 /// The node that the event acts at, of a delivery the receiver; an event of the whole store acts at none.

@@ -1,0 +1,151 @@
+-- What the calls of a store hand out, as the replies to their events.
+use Rattle.std.specs.Prelude.{◌≡◌, ℕ, Bool, true, false, List, Option, Some, None, Result, Ok, Err}
+use Rattle.lc_disk.specs.declared.area.Area.{Ghosts}
+use Rattle.lc_model.specs.declared.event.Event.{Event}
+use Rattle.lc_model.specs.declared.event.Event.TheVariants.{SetRange, Read, Reserve, Deliver, Begin, Write, Abort, Close, FlushStep, Leave, Arrive, Trim, PageStep, ResetStep}
+use Rattle.lc_model.specs.declared.refusal.Refusal.{Refusal}
+use Rattle.lc_model.specs.declared.reply.Reply.{Reply}
+use Rattle.lc_model.specs.declared.reply.Reply.TheVariants.{Ok as Accepted, Bytes, Reserved as HasPlace, Ended, Stepped, Acked, Nothing, Applied, HeldBack, Ignored, Trimmed, Written, Reset, Refused}
+use Rattle.lc_core.specs.Calls.{KeepsAreas}
+use Rattle.lc_core.specs.Faults.{phase_failures}
+use Rattle.lc_core.specs.Geometries.{phase_geometry}
+use Rattle.lc_core.specs.Stepping.{works_up}
+use Rattle.lc_core.specs.Truncating.{StepsTo, refusal_in}
+use Rattle.lc_core.specs.World.{AsksIn, AsksWorld, StillFitsWorld}
+use Rattle.lc_core.specs.declared.call_fault.CallFault.{CallFault}
+use Rattle.lc_core.specs.declared.call_fault.CallFault.TheVariants.{NoMemory, Refused as IsRefused}
+use Rattle.lc_core.specs.declared.flush_progress.FlushProgress.{FlushProgress}
+use Rattle.lc_core.specs.declared.flush_progress.FlushProgress.TheVariants.{Stepped as HasFlushed, Acked as HasAcked, Nothing as NoneToFlush}
+use Rattle.lc_core.specs.declared.receipt.Receipt.{Receipt}
+use Rattle.lc_core.specs.declared.receipt.Receipt.TheVariants.{Applied as IsApplied, HeldBack as IsHeldBack, Ignored as IsIgnored}
+use Rattle.lc_core.specs.declared.placement.Placement.{Placement}
+use Rattle.lc_core.specs.declared.placement.Placement.TheVariants.{Record as HasRecord, Empty as IsEmpty}
+use Rattle.lc_core.specs.declared.reset_progress.ResetProgress.{ResetProgress}
+use Rattle.lc_core.specs.declared.reset_progress.ResetProgress.TheVariants.{Stepped as HasReset, Reset as IsReset, Nothing as NoneToReset}
+use Rattle.lc_core.specs.declared.world.World.{World}
+use Rattle.lc_core.specs.declared.write_progress.WriteProgress.{WriteProgress}
+use Rattle.lc_core.specs.declared.write_progress.WriteProgress.TheVariants.{Stepped as HasCalled, Written as IsWritten}
+
+-- Which events want no memory, and which of these are done or refused and answer nothing else
+
+abbrev pub takes_none : Event → Bool
+takes_none (SetRange node thread segment offset len) = false
+takes_none (Read node thread segment offset len) = false
+takes_none (Reserve node thread) = false
+takes_none (Deliver sender number segment to) = false
+takes_none event = works_up event
+
+abbrev pub is_done_or_not : Event → Bool
+is_done_or_not (Begin node thread segments reading) = true
+is_done_or_not (Write node thread segment offset bytes) = true
+is_done_or_not (Abort node thread) = true
+is_done_or_not (Close node thread) = true
+is_done_or_not (Leave node segment) = true
+is_done_or_not (Arrive node segment) = true
+is_done_or_not event = false
+
+-- Which replies the machine may give to an event
+
+-- the answers of an event beside its refusals
+abbrev pub may_answer : Event → Reply → Bool
+may_answer event (Refused refusal) = true
+may_answer (FlushStep node) (Stepped calls) = true
+may_answer (FlushStep node) (Acked count) = true
+may_answer (FlushStep node) Nothing = true
+may_answer (PageStep node segment page) (Stepped calls) = true
+may_answer (PageStep node segment page) (Written number) = true
+may_answer (ResetStep node) (Stepped steps) = true
+may_answer (ResetStep node) Reset = true
+may_answer (ResetStep node) Nothing = true
+may_answer (Trim node) (Trimmed count) = true
+may_answer (Deliver sender number segment to) (Applied count) = true
+may_answer (Deliver sender number segment to) HeldBack = true
+may_answer (Deliver sender number segment to) Ignored = true
+may_answer (Reserve node thread) (HasPlace place words) = true
+may_answer (Reserve node thread) Ended = true
+may_answer (SetRange node thread segment offset len) Accepted = true
+may_answer (Begin node thread segments reading) Accepted = true
+may_answer (Write node thread segment offset bytes) Accepted = true
+may_answer (Abort node thread) Accepted = true
+may_answer (Close node thread) Accepted = true
+may_answer (Leave node segment) Accepted = true
+may_answer (Arrive node segment) Accepted = true
+may_answer event reply = false
+
+-- this stands for a reply: both refuse the same, and it is the reply where the event may get it
+pub record StandsFor (event : Event) (answer reply : Reply) : Type 0 where
+  pub refused : refusal_in answer ≡ refusal_in reply
+  pub same : may_answer event reply ≡ true → answer ≡ reply
+
+abbrev pub StandsIn : Event → Option Reply → Reply → Type 0
+StandsIn event None reply = ⊥
+StandsIn event (Some answer) reply = StandsFor event answer reply
+
+-- The reply that each result stands for
+
+-- it is done, or refused
+abbrev pub done : Result (Unit {0}) Refusal → Reply
+done (Ok its) = Accepted
+done (Err refusal) = Refused refusal
+
+-- how far the flush of a log is
+abbrev pub flushed : Result FlushProgress Refusal → Reply
+flushed (Ok (HasFlushed calls)) = Stepped calls
+flushed (Ok (HasAcked count)) = Acked count
+flushed (Ok NoneToFlush) = Nothing
+flushed (Err refusal) = Refused refusal
+
+-- how far the write of a page is
+abbrev pub written : Result WriteProgress Refusal → Reply
+written (Ok (HasCalled calls)) = Stepped calls
+written (Ok (IsWritten number)) = Written number
+written (Err refusal) = Refused refusal
+
+-- how far the reset of a log is
+abbrev pub emptied : Result ResetProgress Refusal → Reply
+emptied (Ok (HasReset steps)) = Stepped steps
+emptied (Ok IsReset) = Reset
+emptied (Ok NoneToReset) = Nothing
+emptied (Err refusal) = Refused refusal
+
+-- how many records were dropped
+abbrev pub trimmed : Result ℕ Refusal → Reply
+trimmed (Ok count) = Trimmed count
+trimmed (Err refusal) = Refused refusal
+
+-- The same where memory may be wanted, and there is no reply then
+
+abbrev pub range_set : Result (Unit {0}) CallFault → Option Reply
+range_set (Ok its) = Some Accepted
+range_set (Err (IsRefused refusal)) = Some (Refused refusal)
+range_set (Err NoMemory) = None
+
+-- where the record stands, or that there is none
+abbrev pub place_taken : Result Placement CallFault → Option Reply
+place_taken (Ok (HasRecord place words)) = Some (HasPlace place words)
+place_taken (Ok IsEmpty) = Some Ended
+place_taken (Err (IsRefused refusal)) = Some (Refused refusal)
+place_taken (Err NoMemory) = None
+
+-- what became of the record
+abbrev pub received : Result Receipt CallFault → Option Reply
+received (Ok (IsApplied number)) = Some (Applied number)
+received (Ok IsHeldBack) = Some HeldBack
+received (Ok IsIgnored) = Some Ignored
+received (Err (IsRefused refusal)) = Some (Refused refusal)
+received (Err NoMemory) = None
+
+module _ {D : Type 0} (a : Ghosts D) where
+  -- the event asks for memory, nothing has changed, and no area was called
+  pub record WantsMemory (old : World D a) (event : Event) (new : World D a) : Type 0 where
+    pub asks : AsksWorld a old event
+    pub at_all : AsksIn a old.phase event
+    pub still : StillFitsWorld a old new
+    pub failures : phase_failures a new.phase ≡ phase_failures a old.phase
+    pub geometry : phase_geometry a new.phase ≡ phase_geometry a old.phase
+    pub kept : KeepsAreas a old.phase new.phase
+
+  -- the event led from the one store to the other under this reply, or it wanted memory
+  abbrev pub ComesTo : World D a → Event → Option Reply → World D a → Type 0
+  ComesTo old event (Some reply) new = StepsTo a old event reply new
+  ComesTo old event None new = WantsMemory old event new

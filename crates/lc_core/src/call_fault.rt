@@ -1,0 +1,23 @@
+//! Why a call is not carried out.
+ghost use Rattle.std.specs.Prelude.{◌≡◌};
+ghost use Rattle.lc_core.specs.declared.call_fault.CallFault.TheVariants.{NoMemory};
+
+use crate::Refusal;
+use std::alloc::AllocError;
+
+/// Why a call that may want memory is not carried out. This project's own.
+#[derive(Clone, Copy, PartialEq, Eq)]
+pub enum CallFault {
+    /// The store refuses it.
+    Refused(Refusal),
+    /// There is no memory. Nothing has changed, and no area was called.
+    NoMemory,
+}
+
+impl From<AllocError> for CallFault {
+    ghost from_gives = { λ _ fault. fault ≡ NoMemory };
+
+    fn from(_error: AllocError) -> CallFault {
+        CallFault::NoMemory
+    }
+}

@@ -1,0 +1,64 @@
+//! How a transaction writes, layer by layer of a store.
+ghost use Rattle.std.specs.Prelude.{◌≡◌, ◌<◌, ℕ, Ok, vec_len};
+ghost use Rattle.lc_model.specs.declared.event.Event.TheVariants.{Write};
+ghost use Rattle.lc_core.specs.Layers.{StepsRunning, StepsUp};
+ghost use Rattle.lc_core.specs.NodeSteps.{StepsNode};
+
+use crate::node::Node;
+use crate::running::Running;
+use crate::up::Up;
+use crate::{Event, Reply};
+use lc_disk::Area;
+
+impl<D: Area + Drop> Node<D> {
+    /// One of its threads writes. It takes no memory.
+    pub(crate) fn write(&mut self, thread: u16, segment: u32, offset: u32, bytes: &[u8]) -> Reply
+        requires seat { thread < vec_len self.old.desk.seats }
+        ensures { (node : ℕ) → StepsNode D.Area node (Write node thread segment offset bytes.now) self.old (Ok result) self.new }
+    {
+        self.desk.write(thread, segment, offset, bytes)
+    }
+}
+
+impl<D: Area + Drop> Running<D> {
+    /// A thread of a node writes. It takes no memory.
+    pub(crate) fn write(
+        &mut self,
+        node: u16,
+        thread: u16,
+        segment: u32,
+        offset: u32,
+        bytes: &[u8],
+    ) -> Reply
+        ensures { StepsRunning D.Area self.old (Write node thread segment offset bytes.now) result self.new }
+    {
+        // What is refused at once is so whatever the bytes are: as a range of none there.
+        let same_place = Event::SetRange {
+            node,
+            thread,
+            segment,
+            offset,
+            len: 0,
+        };
+        if let Some(refusal) = self.refusal(&same_place) {
+            return Reply::Refused(refusal);
+        }
+        self.nodes[node as usize].write(thread, segment, offset, bytes)
+    }
+}
+
+impl<D: Area + Drop> Up<D> {
+    /// A thread of a node writes. It takes no memory.
+    pub(crate) fn write(
+        &mut self,
+        node: u16,
+        thread: u16,
+        segment: u32,
+        offset: u32,
+        bytes: &[u8],
+    ) -> Reply
+        ensures { StepsUp D.Area self.old (Write node thread segment offset bytes.now) result self.new }
+    {
+        self.running.write(node, thread, segment, offset, bytes)
+    }
+}
