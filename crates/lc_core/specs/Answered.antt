@@ -135,6 +135,11 @@ received (Ok IsIgnored) = Some Ignored
 received (Err (IsRefused refusal)) = Some (Refused refusal)
 received (Err NoMemory) = None
 
+-- the record stands there, unless it is not closed
+abbrev pub closed_at : Result (Unit {0}) Refusal → Placement → Result Placement CallFault
+closed_at (Ok its) placement = Ok placement
+closed_at (Err refusal) placement = Err (IsRefused refusal)
+
 module _ {D : Type 0} (a : Ghosts D) where
   -- the event asks for memory, nothing has changed, and no area was called
   pub record WantsMemory (old : World D a) (event : Event) (new : World D a) : Type 0 where
@@ -149,3 +154,14 @@ module _ {D : Type 0} (a : Ghosts D) where
   abbrev pub ComesTo : World D a → Event → Option Reply → World D a → Type 0
   ComesTo old event (Some reply) new = StepsTo a old event reply new
   ComesTo old event None new = WantsMemory old event new
+
+  -- a reservation that has a record is closed, and nothing else is
+  abbrev pub ClosesBehind : ℕ → ℕ → Result Placement CallFault → World D a → Result Placement CallFault → World D a → Type 0
+  ClosesBehind node thread (Ok (HasRecord place words)) old result new =
+      (closed : Result (Unit {0}) Refusal) × StepsTo a old (Close node thread) (done closed) new × (result ≡ closed_at closed (HasRecord place words))
+  ClosesBehind node thread first old result new = (result ≡ first) × (new ≡ old)
+
+  -- the transaction gets its place, and is closed there
+  abbrev pub Ends : ℕ → ℕ → World D a → Result Placement CallFault → World D a → Type 0
+  Ends node thread old result new =
+      (first : Result Placement CallFault) × (mid : World D a) × ComesTo old (Reserve node thread) (place_taken first) mid × ClosesBehind node thread first mid result new

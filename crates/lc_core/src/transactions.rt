@@ -1,8 +1,8 @@
 //! The calls of a thread's transaction, by RVM's names.
-ghost use Rattle.std.specs.Prelude.{◌≡◌, IfErr, IfOk, length};
+ghost use Rattle.std.specs.Prelude.{◌≡◌, IfErr, IfOk, Ok, length};
 ghost use Rattle.lc_model.specs.declared.event.Event.TheVariants.{Abort, Begin, Close, Read, Reserve, SetRange, Write};
 ghost use Rattle.lc_model.specs.declared.reply.Reply.TheVariants.{Bytes, Refused};
-ghost use Rattle.lc_core.specs.Answered.{ComesTo, done, place_taken, range_set};
+ghost use Rattle.lc_core.specs.Answered.{ClosesBehind, ComesTo, Ends, done, place_taken, range_set};
 ghost use Rattle.lc_core.specs.Truncating.{StepsTo};
 
 use crate::call_fault::CallFault;
@@ -197,5 +197,40 @@ impl<D: Stoppable + Drop> World<D> {
         ensures { StepsTo D.Area self.old (Close node thread) (done result) self.new }
     {
         self.carry_out(alloc, &Event::Close { node, thread })
+    }
+
+    /// The open transaction of a thread ends (RVM's end_transaction): it gets its place in the log, and is closed there, so
+    /// that its locks are free; one that set nothing is over. Its record is stable once a flush behind it is acknowledged. It
+    /// takes memory as `reserve` does.
+    ///
+    /// # Errors
+    ///
+    /// As of `reserve`. Nothing has changed then, and the transaction is still open.
+    pub fn end(&mut self, alloc: Global, node: u16, thread: u16) -> Result<Placement, CallFault>
+        ensures { Ends D.Area node thread self.old result self.new }
+    {
+        match self.reserve(alloc, node, thread) {
+            Ok(placement) => self.close_behind(alloc, node, thread, placement),
+            Err(fault) => Err(fault),
+        }
+    }
+
+    // Closes the record that the thread has reserved, if it has one.
+    fn close_behind(
+        &mut self,
+        alloc: Global,
+        node: u16,
+        thread: u16,
+        placement: Placement,
+    ) -> Result<Placement, CallFault>
+        ensures { ClosesBehind D.Area node thread (Ok placement) self.old result self.new }
+    {
+        match placement {
+            Placement::Record { place, words } => match self.close(alloc, node, thread) {
+                Ok(()) => Ok(Placement::Record { place, words }),
+                Err(refusal) => Err(CallFault::Refused(refusal)),
+            },
+            Placement::Empty => Ok(Placement::Empty),
+        }
     }
 }
