@@ -1,6 +1,6 @@
 -- What a call of a store hands out stands for the reply to its event.
-use Rattle.std.proofs.Common.{◌≡◌, ◌⊎◌, inl, inr, ℕ, ◌+◌, Bool, true, false, Option, Some, None, refl, sym, ap, subst, ◌∙◌, true≢false}
-use Rattle.std.specs.Prelude.{◌≢◌, MatchBool, not, IsTrue, ◌==◌, nat_lt}
+use Rattle.std.proofs.Common.{◌≡◌, inl, inr, ℕ, ◌+◌, Bool, true, false, Option, Some, None, refl, sym, ap, subst, ◌∙◌, true≢false}
+use Rattle.std.specs.Prelude.{MatchBool, not, IsTrue, ◌==◌, nat_lt}
 use Rattle.lc_disk.specs.declared.area.Area.{Ghosts}
 use Rattle.lc_disk.specs.declared.choice.Choice.{Choice}
 use Rattle.lc_record.specs.Marks.{is_empty, marked, written}
@@ -8,19 +8,19 @@ use Rattle.lc_record.specs.Transaction.{Transaction}
 use Rattle.std.specs.Prelude.{List}
 use Rattle.lc_model.specs.History.{front}
 use Rattle.lc_model.specs.Machine.{ArriveRow, FlushRow, LeaveRow, Moves, OrHalts, ReserveRow, Row, Step, begun, changed, closed_by, dropped, may_deliver, may_page, may_reset, may_trim}
-use Rattle.lc_model.specs.Refusals.{OfRunning, Unless, begin_refusal, common_refusal, is_known, leave_refusal, refuse_if, set_range_refusal, write_refusal}
+use Rattle.lc_model.specs.Refusals.{OfRunning, Unless, begin_refusal, common_refusal, leave_refusal, refuse_if, set_range_refusal, write_refusal}
 use Rattle.lc_model.specs.State.{Place, At, Travelling, Setting, State, has_unclosed, running_of}
 use Rattle.lc_model.specs.declared.event.Event.{Event}
 use Rattle.lc_model.specs.declared.event.Event.TheVariants.{Begin, SetRange, Write, Read, Abort, Reserve, Close, FlushStep, Leave, Arrive, Deliver, Trim, PageStep, ResetStep, Stop, RecoverStep}
 use Rattle.lc_model.specs.declared.refusal.Refusal.{Refusal}
 use Rattle.lc_model.specs.declared.refusal.Refusal.TheVariants.{OutOfTurn, Unknown}
 use Rattle.lc_model.specs.declared.reply.Reply.{Reply}
-use Rattle.lc_model.specs.declared.reply.Reply.TheVariants.{Ok as Accepted, Bytes, Reserved, Ended, Stepped, Acked, Nothing, Applied, HeldBack, Ignored, Trimmed, Written, Reset, Down as IsDown, Recovered, Refused}
+use Rattle.lc_model.specs.declared.reply.Reply.TheVariants.{Ok as Accepted, Reserved, Ended, Stepped, Acked, Nothing, Applied, HeldBack, Ignored, Trimmed, Written, Reset, Refused}
 use Rattle.lc_core.specs.Answered.{ComesTo, StandsFor, StandsIn, is_done_or_not, may_answer, takes_none}
 use Rattle.lc_core.specs.Calls.{CallsArea}
 use Rattle.lc_core.specs.FaultReplies.{is_fault}
 use Rattle.lc_core.specs.Faults.{CountsPhase}
-use Rattle.lc_core.specs.Geometries.{RefusesOutside, RefusesUnknown, phase_geometry}
+use Rattle.lc_core.specs.Geometries.{RefusesOutside, phase_geometry}
 use Rattle.lc_core.specs.Places.{same_some}
 use Rattle.lc_core.specs.Recovers.{RefusesAtOnce}
 use Rattle.lc_core.specs.Truncating.{StepsTo, refusal_in}

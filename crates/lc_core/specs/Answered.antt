@@ -1,11 +1,11 @@
 -- What the calls of a store hand out, as the replies to their events.
-use Rattle.std.specs.Prelude.{◌≡◌, ℕ, Bool, true, false, List, Option, Some, None, Result, Ok, Err}
+use Rattle.std.specs.Prelude.{◌≡◌, ℕ, Bool, true, false, Option, Some, None, Result, Ok, Err}
 use Rattle.lc_disk.specs.declared.area.Area.{Ghosts}
 use Rattle.lc_model.specs.declared.event.Event.{Event}
 use Rattle.lc_model.specs.declared.event.Event.TheVariants.{SetRange, Read, Reserve, Deliver, Begin, Write, Abort, Close, FlushStep, Leave, Arrive, Trim, PageStep, ResetStep}
 use Rattle.lc_model.specs.declared.refusal.Refusal.{Refusal}
 use Rattle.lc_model.specs.declared.reply.Reply.{Reply}
-use Rattle.lc_model.specs.declared.reply.Reply.TheVariants.{Ok as Accepted, Bytes, Reserved as HasPlace, Ended, Stepped, Acked, Nothing, Applied, HeldBack, Ignored, Trimmed, Written, Reset, Refused}
+use Rattle.lc_model.specs.declared.reply.Reply.TheVariants.{Ok as Accepted, Reserved as HasPlace, Ended, Stepped, Acked, Nothing, Applied, HeldBack, Ignored, Trimmed, Written, Reset, Refused}
 use Rattle.lc_core.specs.Calls.{KeepsAreas}
 use Rattle.lc_core.specs.Faults.{phase_failures}
 use Rattle.lc_core.specs.Geometries.{phase_geometry}

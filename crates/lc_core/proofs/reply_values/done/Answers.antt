@@ -1,5 +1,5 @@
 use Rattle.std.proofs.Common.{refl, sym}
-use Rattle.lc_model.specs.declared.reply.Reply.TheVariants.{Ok as Accepted, Ended, Ignored, Nothing, Trimmed, Stepped}
+use Rattle.lc_model.specs.declared.reply.Reply.TheVariants.{Ok as Accepted}
 use Rattle.lc_core.proofs.Replying.{is_done, rest_stands, same_stands}
 use Rattle.lc_core.proofs.Truncations.{not_refused}
 use Rattle.lc_core.proofs.reply_values.done.Goals as goal

@@ -1,6 +1,6 @@
 use Rattle.std.proofs.Common.{refl, sym}
 use Rattle.lc_model.specs.declared.event.Event.TheVariants.{ResetStep}
-use Rattle.lc_model.specs.declared.reply.Reply.TheVariants.{Ok as Accepted, Ended, Ignored, Nothing, Trimmed, Stepped}
+use Rattle.lc_model.specs.declared.reply.Reply.TheVariants.{Nothing}
 use Rattle.lc_core.proofs.Replying.{is_empty_log, rest_stands, same_stands}
 use Rattle.lc_core.proofs.Truncations.{not_refused}
 use Rattle.lc_core.proofs.reply_values.reset_progress.Goals as goal

@@ -1,6 +1,6 @@
 use Rattle.std.proofs.Common.{refl, sym}
 use Rattle.lc_model.specs.declared.event.Event.TheVariants.{Trim}
-use Rattle.lc_model.specs.declared.reply.Reply.TheVariants.{Ok as Accepted, Ended, Ignored, Nothing, Trimmed, Stepped}
+use Rattle.lc_model.specs.declared.reply.Reply.TheVariants.{Trimmed}
 use Rattle.lc_core.proofs.Replying.{is_trimmed, rest_stands, same_stands}
 use Rattle.lc_core.proofs.Truncations.{not_refused}
 use Rattle.lc_core.proofs.reply_values.trimmed.Goals as goal

@@ -1,4 +1,3 @@
-use Rattle.std.proofs.Common.{refl}
 use Rattle.lc_core.proofs.Replying.{named_done, stands_steps}
 use Rattle.lc_core.proofs.world.World.carry_out.Goals as goal
 
