@@ -4,6 +4,8 @@
 #[cfg(test)]
 mod answer_tests;
 #[cfg(test)]
+mod call_tests;
+#[cfg(test)]
 mod command_line_tests;
 #[cfg(test)]
 mod drawing_tests;

@@ -1,0 +1,46 @@
+//! The calls of a store by their names.
+use crate::events::comes_up;
+use lc_core::{CallFault, FlushProgress, Placement, Refusal, World};
+use lc_record::Geometry;
+use std::process::Abort;
+use std::test::*;
+
+const ONE_NODE: Geometry = Geometry {
+    nodes: 1,
+    threads: 2,
+    segments: 1,
+    pages: 1,
+    words: 64,
+};
+
+// A record of one lock and five bytes in one range has 3 + 2 + (2 + 1) words.
+#[test]
+fn a_commit_by_calls_is_durable_and_read(rt: HostRuntime) -> Result<(), Fail> {
+    let alloc = rt.alloc();
+    let mut world = World::in_memory(alloc, ONE_NODE)?;
+    assert!(rt; world.begin(0, 0, &[1], &[]) == Err(Refusal::Down));
+    comes_up(alloc, &mut world)?;
+    assert!(rt; world.begin(0, 0, &[1], &[]) == Ok(()));
+    assert!(rt; world.set_range(alloc, 0, 0, 1, 3, 5) == Ok(()));
+    assert!(rt; world.write(0, 0, 1, 3, b"hello") == Ok(()));
+    assert!(rt; world.write(0, 0, 1, 4, b"hello") == Err(Refusal::NoRange));
+    assert!(rt; world.begin(0, 1, &[], &[1]) == Err(Refusal::Busy { segment: 1 }));
+    assert!(rt; world.end(alloc, 0, 0) == Ok(Placement::Record { place: 0, words: 8 }));
+    for calls in 1..4 {
+        assert!(rt; world.flush_step(alloc, 0) == Ok(FlushProgress::Stepped(calls)));
+    }
+    assert!(rt; world.flush_step(alloc, 0) == Ok(FlushProgress::Acked(1)));
+    assert!(rt; world.trim(alloc, 0) == Ok(1));
+    let mut buffer = [7; 7];
+    assert!(rt; world.read(0, 1, 1, 2, &mut buffer) == Err(Refusal::OutOfTurn));
+    assert!(rt; buffer == [7; 7]);
+    assert!(rt; world.begin(0, 1, &[], &[1]) == Ok(()));
+    assert!(rt; world.read(0, 1, 1, 2, &mut buffer) == Ok(()));
+    assert!(rt; buffer == *b"\0hello\0");
+    assert!(rt;
+        world.set_range(alloc, 0, 1, 1, 0, 1)
+            == Err(CallFault::Refused(Refusal::ReadOnly { segment: 1 }))
+    );
+    assert!(rt; world.end(alloc, 0, 1) == Ok(Placement::Empty));
+    Ok(())
+}
