@@ -118,7 +118,7 @@ fn write_record_in_bar<W: io::Write>(
     place: usize,
     record: &Record,
 ) -> io::Result<()>
-    ensures { OnOk result (Appends (W.contents writer.old) (W.contents writer.new) (record_in_bar lanes place record.now)) }
+    ensures { OnOk result (Appends (W.contents writer.old) (W.contents writer.new) (record_in_bar lanes place «record».now)) }
 {
     let words = encoded_words(record);
     write_record_head(writer, place, record)?;
@@ -129,7 +129,7 @@ fn write_record_in_bar<W: io::Write>(
 
 #[tactic(auto, unfolding(crate::specs::Picture::record_head_text))]
 fn write_record_head<W: io::Write>(writer: &mut W, place: usize, record: &Record) -> io::Result<()>
-    ensures { OnOk result (Appends (W.contents writer.old) (W.contents writer.new) (record_head_text place record.now)) }
+    ensures { OnOk result (Appends (W.contents writer.old) (W.contents writer.new) (record_head_text place «record».now)) }
 {
     writer.write_all(b"<g><title>")?;
     write_record(writer, place, record)
