@@ -10,6 +10,9 @@ use std::time::Instant;
 // The first word of a record.
 const MARK: u64 = 0xa5;
 
+// The bytes of a range, as a word of a record has them.
+const RANGE: [u8; 8] = *b"lcrvm\0\0\0";
+
 /// The transactions of a round, and what they change.
 #[derive(Drop)]
 pub(crate) struct ByHand {
@@ -107,7 +110,7 @@ impl Segment {
             .extend_from_slice(&[MARK, 0, segment, ranges, 0, 0, 0, 0])?;
         for offset in transaction.offsets.as_slice() {
             self.log
-                .extend_from_slice(&[u64::from(*offset), u64::from_le_bytes(DATA)])?;
+                .extend_from_slice(&[u64::from(*offset), u64::from_le_bytes(RANGE)])?;
         }
         Ok(())
     }

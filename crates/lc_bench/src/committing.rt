@@ -7,9 +7,6 @@ use lc_node::{Commit, Gate, Mode, Node, NodeFault, Put};
 use lc_stage::CommitSeat;
 use std::sync::Wait;
 
-// How many bytes a commit writes.
-const LEN: usize = 5;
-
 // More tries than a place in the stage needs.
 const TRIES: u32 = 10_000;
 
@@ -101,7 +98,7 @@ fn put<R: AllocGlobal + Wait, D: Area + Drop>(
     let mut work = Put {
         segment,
         offset: transaction.offsets.first().copied().unwrap_or(0),
-        bytes: DATA.get(..LEN).unwrap_or(&DATA),
+        bytes: &DATA,
     };
     let alloc = rt.alloc();
     node.transact(rt, alloc, seat, &[segment], &mut work, mode, TRIES, &Open)

@@ -1,7 +1,7 @@
 //! How long each kind of event takes in a small store, and in stores that are large in one way.
 use crate::events::{THREAD, begin, finish, flush};
 use crate::harness::ended;
-use crate::measurement::{DATA, End, Measurement, Subject, Timed, Transaction};
+use crate::measurement::{DATA, End, Measurement, Places, Subject, Timed, Transaction};
 use crate::rounds::median;
 use crate::stores::{Act, Store};
 use lc_core::{Event, Reply, World};
@@ -44,6 +44,7 @@ const SMALL: Measurement = Measurement {
     pages: 4,
     count: 0,
     ranges: 1,
+    places: Places::InTurn,
     group: 8,
     end: End::Commit,
 };

@@ -1,11 +1,13 @@
 //! What is measured, and how large it is.
 use lc_record::{Geometry, PAGE};
 use lc_recover::area_len;
+use rand_core::{Rng, SeedableRng};
+use rand_xoshiro::SplitMix64;
 use std::alloc::{AllocError, Global};
 use std::io::{self, Error, ErrorKind};
 
 /// The bytes that a transaction writes into each of its ranges.
-pub(crate) const DATA: [u8; 8] = *b"measured";
+pub(crate) const DATA: [u8; 5] = *b"lcrvm";
 
 /// The words of each log.
 pub(crate) const WORDS: u32 = 4096;
@@ -54,6 +56,14 @@ pub(crate) enum Timed {
     Recovery,
 }
 
+/// Where a transaction changes its segment.
+pub(crate) enum Places {
+    /// Anywhere.
+    Random,
+    /// On the page behind the one that the last changed, so that each page has its turn.
+    InTurn,
+}
+
 /// How a transaction ends.
 pub(crate) enum End {
     Commit,
@@ -72,6 +82,7 @@ pub(crate) struct Measurement {
     pub(crate) pages: u32,
     pub(crate) count: u32,
     pub(crate) ranges: u32,
+    pub(crate) places: Places,
     pub(crate) group: u32,
     pub(crate) end: End,
 }
@@ -131,19 +142,17 @@ impl Measurement {
         Ok(all)
     }
 
-    /// What a transaction changes. Each segment has its turn, and then each page of a segment.
+    /// What a transaction changes. Each segment has its turn.
     pub(crate) fn transaction(
         &self,
         alloc: Global,
         number: u32,
     ) -> Result<Transaction, AllocError> {
         let segment = (number % self.segments.max(1)).wrapping_add(1);
-        let page = number / self.segments.max(1);
+        let first = self.first_offset(number);
         let mut offsets = Vec::new(alloc);
         for range in 0..self.ranges {
-            let behind = page
-                .wrapping_mul(PAGE)
-                .wrapping_add(range.wrapping_mul(GAP));
+            let behind = first.wrapping_add(range.wrapping_mul(GAP));
             offsets.push(behind % self.segment_bytes().max(1))?;
         }
         Ok(Transaction {
@@ -154,6 +163,17 @@ impl Measurement {
         })
     }
 
+    // Where the first range of a transaction begins.
+    fn first_offset(&self, number: u32) -> u32 {
+        match self.places {
+            Places::InTurn => (number / self.segments.max(1)).wrapping_mul(PAGE),
+            Places::Random => {
+                let beyond = self.ranges.wrapping_mul(GAP);
+                random(number) % self.segment_bytes().saturating_sub(beyond).max(1)
+            }
+        }
+    }
+
     /// How many there are in a round of what a time is printed for.
     pub(crate) fn units(&self) -> u32 {
         match self.timed {
@@ -161,4 +181,9 @@ impl Measurement {
             Timed::Emptying | Timed::Recovery => 1,
         }
     }
+}
+
+// A random number, the same for each call with one transaction's number.
+fn random(number: u32) -> u32 {
+    SplitMix64::seed_from_u64(u64::from(number)).next_u32()
 }

@@ -1,7 +1,7 @@
 //! All measurements.
-use crate::measurement::{End, Measurement, Sent, Subject, Timed};
+use crate::measurement::{End, Measurement, Places, Sent, Subject, Timed};
 
-// A transaction of one range on one segment of 64 pages.
+// A transaction of one range at a random place of a segment of 64 pages.
 const ONE: Measurement = Measurement {
     name: "one-range",
     subject: Subject::Image,
@@ -12,6 +12,7 @@ const ONE: Measurement = Measurement {
     pages: 64,
     count: 256,
     ranges: 1,
+    places: Places::Random,
     group: 0,
     end: End::Commit,
 };
@@ -107,6 +108,7 @@ pub(crate) static ALL: [Measurement; 30] = [
         subject: Subject::Files,
         timed: Timed::Emptying,
         count: 64,
+        places: Places::InTurn,
         ..ONE
     },
     Measurement {
@@ -127,6 +129,7 @@ pub(crate) static ALL: [Measurement; 30] = [
     Measurement {
         name: "growth",
         subject: Subject::Events,
+        places: Places::InTurn,
         ..ONE
     },
     Measurement {
@@ -137,6 +140,7 @@ pub(crate) static ALL: [Measurement; 30] = [
         segments: 16,
         count: 4096,
         group: 1,
+        places: Places::InTurn,
         ..ONE
     },
     Measurement {
@@ -148,6 +152,7 @@ pub(crate) static ALL: [Measurement; 30] = [
         pages: 1024,
         count: 3712,
         group: 1,
+        places: Places::InTurn,
         ..ONE
     },
     Measurement {
@@ -159,6 +164,7 @@ pub(crate) static ALL: [Measurement; 30] = [
         count: 160,
         ranges: 64,
         group: 1,
+        places: Places::InTurn,
         ..ONE
     },
     Measurement {
