@@ -75,10 +75,20 @@ fn find_left(logs: &[Vec<Record>], done: &[usize]) -> Option<usize>
     None
 }
 
+// How many records all logs have.
+fn count_records(logs: &[Vec<Record>]) -> usize {
+    let mut count = 0usize;
+    for log in logs {
+        count = count.saturating_add(log.len());
+    }
+    count
+}
+
 /// The order in which the records of all nodes follow one another, each with the next numbers of its segments, from the numbers
 /// that these have before them on: the nodes, each as often as its turn comes. Where at some turn no node's next record has the
 /// next numbers, the least node that has a record left. Segment 1 stands first among the numbers, node 0 among the logs.
-/// The numbers become those behind the last turn. It takes memory for a count of each node and for the order. This project's own.
+/// The numbers become those behind the last turn. It takes memory for a count of each node and for the order, before the first
+/// turn. This project's own.
 pub fn merge_records(
     alloc: Global,
     numbers: &mut [u64],
@@ -92,7 +102,7 @@ pub fn merge_records(
     ensures stuck { IfOk result (λ merged. IfErr merged (λ node. (turns : List ℕ) × IsStuck (logs_of logs.now) numbers.old turns node × (numbers.new ≡ after_turns (logs_of logs.now) numbers.old [] turns))) }
 {
     let mut done = Vec::from_elem(alloc, 0, logs.len())?;
-    let mut order = Vec::new(alloc);
+    let mut order = Vec::with_capacity(alloc, count_records(logs))?;
     while let Some(node) = find_turn(logs, done.as_slice(), numbers) {
         count(numbers, &logs[node][done[node]]);
         done[node] += 1;
