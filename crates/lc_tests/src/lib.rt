@@ -22,11 +22,15 @@ mod hostile_tests;
 #[cfg(test)]
 mod listed_files;
 #[cfg(test)]
+mod looking_tests;
+#[cfg(test)]
 mod recovering_tests;
 #[cfg(test)]
 mod recovery_tests;
 #[cfg(test)]
 mod script_tests;
+#[cfg(test)]
+mod steps;
 #[cfg(test)]
 mod stores;
 #[cfg(test)]

@@ -252,11 +252,11 @@ module _ (s : Shape) (fits : AllFit (taken s) s.rules) where
   number_word_at : (name : Text) (words : List Text) → level_fault s [] nothing_held words false [] ≡ [] → s.subcommand_negates_reqs ≡ false
       → list_any (λ a. bytes_eq a.id name && a.required) s.rules ≡ true → taken s name ≡ from_to 0 4294967295 → HasNumberIn name 0 4294967295 (rows_after s.rules [] words)
   number_word_at name words none negates wanted is =
-      let rows = rows_after s.rules [] words in
+      let read_rows = rows_after s.rules [] words in
       let parts = level_parts s [] nothing_held words false [] none in
-      let has = required_has_row name s.rules rows wanted (nothing_missing s rows negates parts.3) in
-      let read = row_read (taken s) name rows has (rows_hold (taken s) s words fits none) in
-      in_range name read.value rows 0 4294967295 (omega arith) (rw is at read.one) (rw is at read.passes)
+      let has = required_has_row name s.rules read_rows wanted (nothing_missing s read_rows negates parts.3) in
+      let read = row_read (taken s) name read_rows has (rows_hold (taken s) s words fits none) in
+      in_range name read.value read_rows 0 4294967295 (omega arith) (rw is at read.one) (rw is at read.passes)
 
 -- ---- the subcommand that was entered
 

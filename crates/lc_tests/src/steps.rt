@@ -1,0 +1,256 @@
+//! What is asked of the program over a folder of files that list their calls, and what comes of it.
+use crate::listed_files::{FOLDER, Listed, Shelf, Trouble};
+use lc_record::Geometry;
+use lc_tool::{ErrorOutput, answer};
+use lc_words::{Asked, RunStore, Size as StoreSize, Wanted};
+use std::alloc::Global;
+use std::process::Abort;
+use std::test::*;
+
+// The size of a store of one thread.
+#[derive(Clone, Copy)]
+pub(crate) struct Size {
+    pub(crate) nodes: u16,
+    pub(crate) segments: u32,
+    pub(crate) pages: u32,
+    pub(crate) words: u32,
+}
+
+// What is asked: of a store in the folder, but for the last three.
+#[derive(Clone, Copy)]
+pub(crate) enum Ask {
+    Init(Size),
+    Run(Size),
+    Recover(Size),
+    RecoverAsFound,
+    Check(Size),
+    CheckAsFound,
+    Dump { segment: u32, page: u32 },
+    Draw,
+    Inspect { reverse: bool },
+    RunInMemory(Size),
+    Help,
+    NotUnderstood,
+}
+
+// What is asked, with the script and what goes wrong; and what comes of it.
+#[derive(Clone, Copy)]
+pub(crate) struct Step {
+    pub(crate) ask: Ask,
+    pub(crate) script: &'static str,
+    pub(crate) trouble: Trouble,
+    pub(crate) printed: &'static str,
+    pub(crate) status: u8,
+    // The calls, one piece behind another; without them they are not looked at.
+    pub(crate) calls: Option<&'static [&'static str]>,
+    // What is said on standard error.
+    pub(crate) said: &'static str,
+}
+
+pub(crate) const ONE: Size = Size {
+    nodes: 1,
+    segments: 1,
+    pages: 1,
+    words: 64,
+};
+
+// A store of one page is made, and nothing goes wrong.
+pub(crate) const STEP: Step = Step {
+    ask: Ask::Init(ONE),
+    script: "",
+    trouble: Trouble::Nothing,
+    printed: "",
+    status: 0,
+    calls: Some(&[MAKING]),
+    said: "",
+};
+
+// One commit on segment 1 that puts `hello` at byte 3, made stable.
+pub(crate) const COMMIT: &str =
+    "begin 0 0 1\nrange 0 0 1 3 5\nwrite 0 0 1 3 68656c6c6f\nend 0 0\nflush 0\n";
+
+// What it prints.
+pub(crate) const COMMITTED: &str = "ok\nok\nok\nclosed 0 8\nacked 1\n";
+
+// Five commits of one byte on segment 1, made stable: the last record lies in the second half of the log.
+pub(crate) const COMMITS: &str =
+    "begin 0 0 1\nrange 0 0 1 0 1\nend 0 0\nbegin 0 0 1\nrange 0 0 1 0 1\nend 0 0\n\
+begin 0 0 1\nrange 0 0 1 0 1\nend 0 0\nbegin 0 0 1\nrange 0 0 1 0 1\nend 0 0\n\
+begin 0 0 1\nrange 0 0 1 0 1\nend 0 0\nflush 0\n";
+
+// The making of a store of one node and one segment.
+pub(crate) const MAKING: &str = "look store/log0\nlook store/seg1\nopen store\nlock store\n\
+make store/log0\nwrite store/log0 0 520\nsync store/log0\nmake store/seg1\nwrite store/seg1 0 544\nsync store/seg1\n\
+open store\nsync store\nopen store/..\nsync store/..\n";
+
+// The opening of it.
+pub(crate) const OPENING: &str =
+    "open store\nlock store\nlook store/log1\nlook store/log2\nlook store/log3\n\
+look store/log4\nlook store/log5\nlook store/log6\nlook store/log7\nlook store/seg2\nlook store/seg3\n\
+look store/seg4\nlook store/seg5\nlook store/seg6\nlook store/seg7\nlook store/seg8\nlook store/seg9\n\
+look store/seg10\nlook store/seg11\nlook store/seg12\nlook store/seg13\nlook store/seg14\n\
+look store/seg15\nlook store/seg16\nlook store/fault\nopen store/log0\nopen store/seg1\n";
+
+// The opening of it where it is locked by another process.
+pub(crate) const LOCKED: &str = "open store\nlock store\n";
+
+// What its recovery reads.
+pub(crate) const READING: &str =
+    "sync store/log0\nsync store/seg1\nread store/log0\nread store/seg1\n";
+
+// Its recovery where no page is behind: the areas are synced and read, and the log, which is empty, has nothing to be synced.
+pub(crate) const RECOVERING: &str = READING;
+
+// The writing of its page.
+pub(crate) const FIRST_OF_1: &str = "write store/seg1 1 271\nsync store/seg1\n\
+write store/seg1 0 1\nsync store/seg1\n";
+
+// The emptying of its log where it has records.
+pub(crate) const EMPTYING: &str = "write store/log0 0 1\nsync store/log0\n";
+
+// One flush of its log, of a record of eight words.
+pub(crate) const FLUSHING: &str =
+    "write store/log0 1 71\nsync store/log0\nwrite store/log0 0 1\nsync store/log0\n";
+
+// The same of five such records.
+pub(crate) const FLUSHING_FIVE: &str =
+    "write store/log0 1 327\nsync store/log0\nwrite store/log0 0 1\nsync store/log0\n";
+
+// The inspection of its log.
+pub(crate) const INSPECTING: &str = "open store/log0\nread store/log0\n";
+
+// The copying of its files behind a fault.
+pub(crate) const COPYING: &str =
+    "look store/log0\nopen store/log0\nmake store/log0.new\nmode store/log0.new\n\
+read store/log0\nwrite store/log0.new 0 520\nsync store/log0.new\nrename store/log0.new\n\
+look store/seg1\nopen store/seg1\nmake store/seg1.new\nmode store/seg1.new\n\
+read store/seg1\nwrite store/seg1.new 0 544\nsync store/seg1.new\nrename store/seg1.new\n\
+sync store\nremove store/fault\nopen store/log0\nopen store/seg1\n";
+
+// A size of which no number is given.
+pub(crate) const ALL_FOUND: Wanted = Wanted {
+    nodes: None,
+    threads: 1,
+    segments: None,
+    pages: None,
+    words: None,
+};
+
+pub(crate) fn geometry_of(size: Size) -> Result<Geometry, Fail> {
+    let Size {
+        nodes,
+        segments,
+        pages,
+        words,
+    } = size;
+    Ok(Geometry::new(nodes, 1, segments, pages, words).ok_or("no geometry")?)
+}
+
+// What is asked for with this folder.
+pub(crate) fn asked_of(alloc: Global, ask: Ask, folder: String) -> Result<Asked, Fail> {
+    Ok(match ask {
+        Ask::Init(size) => Asked::Init {
+            folder,
+            geometry: geometry_of(size)?,
+        },
+        Ask::Run(size) => Asked::Run {
+            store: RunStore::InFolder {
+                folder,
+                size: StoreSize::Given(geometry_of(size)?),
+            },
+            follow: false,
+            number: false,
+        },
+        Ask::Recover(size) => Asked::Recover {
+            folder,
+            size: StoreSize::Given(geometry_of(size)?),
+        },
+        Ask::RecoverAsFound => Asked::Recover {
+            folder,
+            size: StoreSize::AsFound(ALL_FOUND),
+        },
+        Ask::Check(size) => Asked::Check {
+            folder,
+            size: StoreSize::Given(geometry_of(size)?),
+        },
+        Ask::CheckAsFound => Asked::Check {
+            folder,
+            size: StoreSize::AsFound(ALL_FOUND),
+        },
+        Ask::Dump { segment, page } => Asked::Dump {
+            folder,
+            segment,
+            page,
+        },
+        Ask::Draw => Asked::Draw { folder },
+        Ask::Inspect { reverse } => Asked::Inspect {
+            file: String::from_str(alloc, "store/log0")?,
+            reverse,
+        },
+        Ask::RunInMemory(size) => Asked::Run {
+            store: RunStore::New(geometry_of(size)?),
+            follow: false,
+            number: false,
+        },
+        Ask::Help => Asked::Help(String::from_str(alloc, "help\n")?),
+        Ask::NotUnderstood => Asked::NotUnderstood,
+    })
+}
+
+// These calls are these pieces, one behind another.
+pub(crate) fn check_calls(rt: &impl Abort, calls: &str, pieces: &[&str]) {
+    let mut rest = calls;
+    for piece in pieces {
+        match rest.strip_prefix(*piece) {
+            Some(behind) => rest = behind,
+            None => assert!(rt; false, "{calls}"),
+        }
+    }
+    assert!(rt; rest.is_empty(), "{calls}");
+}
+
+// Asks this, and looks at what comes of it.
+pub(crate) fn check(
+    rt: &impl Abort,
+    alloc: Global,
+    shelf: &Shelf,
+    step: &Step,
+) -> Result<(), Fail> {
+    shelf.meets(step.trouble);
+    let asked = asked_of(alloc, step.ask, String::from_str(alloc, FOLDER)?)?;
+    let mut text = Vec::new(alloc);
+    let mut reader = step.script.as_bytes();
+    let status = answer(
+        alloc,
+        &Listed(shelf),
+        ErrorOutput::Other,
+        asked,
+        &mut reader,
+        &mut text,
+    )?;
+    let printed = step.printed;
+    assert!(rt;
+        text.as_slice() == printed.as_bytes() && status == step.status,
+        "{printed}"
+    );
+    let calls = shelf.calls()?;
+    if let Some(pieces) = step.calls {
+        check_calls(rt, &calls, pieces);
+    }
+    let said = shelf.said()?;
+    assert!(rt; said.as_str() == step.said, "{said}");
+    Ok(())
+}
+
+// The same of some steps in a row.
+pub(crate) fn check_all(
+    rt: &impl Abort,
+    alloc: Global,
+    shelf: &Shelf,
+    steps: &[Step],
+) -> Result<(), Fail> {
+    for step in steps {
+        check(rt, alloc, shelf, step)?;
+    }
+    Ok(())
+}
