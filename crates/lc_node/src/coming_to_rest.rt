@@ -46,8 +46,17 @@ impl<D: Area + Drop> Cluster<D> {
         Ok(World::adopt(alloc, parts)?)
     }
 
-    // What the cluster leaves.
-    fn into_parts<R: Wait>(
+    /// What the cluster leaves once its threads have ended, of each node and of each segment, as the types of a running node keep it:
+    /// `into_world` makes a store of it. For each node there is a list of its committers' seats, which may be empty: each record of
+    /// which one of them has a receipt stands in the node's log, or is of an earlier round and known clean. It waits for each lock,
+    /// as `into_world` does. That the parts agree with one another is not looked at. This project's own.
+    ///
+    /// # Errors
+    ///
+    /// `Mismatch` of a node's seats, where something is reserved that was not closed; of its log, where a call of the device or of a
+    /// segment's area failed, and where the log has not the room of the geometry's; of a segment's token, where there is not one alone,
+    /// with its pages. `NoMemory`. The cluster is gone.
+    pub fn into_parts<R: Wait>(
         self,
         rt: &R,
         alloc: Global,
