@@ -55,16 +55,18 @@ fn areas(alloc: Global) -> Result<Vec<MemArea>, Fail> {
     Ok(areas)
 }
 
-// Two nodes over the store of these areas, and a seat of each.
-fn opened<D: Area + Drop>(
+/// Two nodes over the store of these areas, and a seat of each.
+pub(crate) fn opened<D: Area + Drop>(
     alloc: Global,
+    geometry: Geometry,
     areas: Vec<D>,
 ) -> Result<(Cluster<D>, CommitSeat, CommitSeat), Fail>
+    requires { geometry.nodes ≡ 2 }
     ensures nodes { IfOk result (λ made. length made.0.members.items ≡ 2) }
     ensures first { IfOk result (λ made. IsSeatAt made.0 0 made.1) }
     ensures second { IfOk result (λ made. IsSeatAt made.0 1 made.2) }
 {
-    match Cluster::open(alloc, recovered(alloc, two_nodes()?, areas)?) {
+    match Cluster::open(alloc, recovered(alloc, geometry, areas)?) {
         Ok((cluster, seats)) => {
             let mut seats = seats;
             let first = seats.remove(0);
@@ -98,7 +100,7 @@ fn begun<R: Wait>(rt: &R, alloc: Global) -> Result<(Cluster<MemArea>, CommitSeat
     ensures first { IfOk result (λ made. IsSeatAt made.0 0 made.1) }
     ensures second { IfOk result (λ made. IsSeatAt made.0 1 made.2) }
 {
-    let (cluster, first, second) = opened(alloc, areas(alloc)?)?;
+    let (cluster, first, second) = opened(alloc, two_nodes()?, areas(alloc)?)?;
     let (first, done) = put_at(rt, alloc, &cluster, 0, first, HELLO, Mode::Flush);
     match done {
         Ok(_) => Ok((cluster, first, second)),
@@ -199,7 +201,7 @@ fn a_token_comes_behind_its_record(rt: HostRuntime) -> Result<(), Fail> {
 #[test]
 fn a_token_that_is_not_given_stands_where_it_was(rt: HostRuntime) -> Result<(), Fail> {
     let alloc = rt.alloc();
-    let (cluster, first, _second) = opened(alloc, areas(alloc)?)?;
+    let (cluster, first, _second) = opened(alloc, two_nodes()?, areas(alloc)?)?;
     let not_here = NodeFault::Token {
         fault: TokenFault::NotHere { segment: 1 },
     };
@@ -251,7 +253,7 @@ fn records_are_sent_over_a_truncation(rt: HostRuntime) -> Result<(), Fail> {
 #[test]
 fn a_record_comes_to_each_of_its_segments(rt: HostRuntime) -> Result<(), Fail> {
     let alloc = rt.alloc();
-    let (cluster, first, _second) = opened(alloc, areas(alloc)?)?;
+    let (cluster, first, _second) = opened(alloc, two_nodes()?, areas(alloc)?)?;
     assert!(rt; cluster.give(&rt, 1, 0, 1) == Ok(()));
     assert!(rt; cluster.pump(&rt, alloc, 0, 1) == Ok(Pumped::Arrived));
     let mut both = Both {

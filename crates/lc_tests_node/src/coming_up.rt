@@ -40,8 +40,8 @@ fn geometry_of(nodes: u16) -> Result<Geometry, Fail>
     Ok(Geometry::new(nodes, 1, SEGMENTS, 2, WORDS).ok_or("these numbers are a geometry")?)
 }
 
-// Areas of zeros in memory.
-fn in_memory(alloc: Global, geometry: &Geometry) -> Result<Vec<MemArea>, Fail> {
+/// Areas of zeros in memory.
+pub(crate) fn in_memory(alloc: Global, geometry: &Geometry) -> Result<Vec<MemArea>, Fail> {
     let mut areas = Vec::new(alloc);
     for place in 0..usize::from(geometry.nodes) + geometry.segments as usize {
         if let Some(len) = area_len(geometry, place) {
@@ -67,8 +67,8 @@ fn opened<D: Area + Drop>(
     }
 }
 
-// No seat of so many nodes.
-fn no_seats(alloc: Global, nodes: u16) -> Result<Vec<Vec<CommitSeat>>, AllocError>
+/// No seat of so many nodes.
+pub(crate) fn no_seats(alloc: Global, nodes: u16) -> Result<Vec<Vec<CommitSeat>>, AllocError>
     ensures count { IfOk result (λ seats. length seats.items ≡ nodes) }
     ensures none { IfOk result (λ seats. (node : ℕ) (mine : Several Seat) → slice_get seats.items node ≡ Some mine → mine.items ≡ []) }
 {
@@ -91,8 +91,8 @@ fn come_up<D: Area + Drop, R: Wait>(
     cluster.into_world(rt, alloc, seats)
 }
 
-// The node behind this one.
-fn behind(nodes: u16, node: u16) -> u16
+/// The node behind this one.
+pub(crate) fn behind(nodes: u16, node: u16) -> u16
     requires some { 2 ≤ nodes }
     requires within { node < nodes }
     ensures within { result < nodes }

@@ -2,7 +2,13 @@
 #![tactic(auto)]
 
 #[cfg(test)]
+mod act;
+#[cfg(test)]
 mod both;
+#[cfg(test)]
+mod changed_parts;
+#[cfg(test)]
+mod changing;
 #[cfg(test)]
 mod clusters;
 #[cfg(test)]
@@ -17,6 +23,8 @@ mod failures;
 mod folders;
 #[cfg(test)]
 mod gates;
+#[cfg(test)]
+mod pair;
 #[cfg(test)]
 mod restarts;
 #[cfg(test)]
