@@ -136,3 +136,4 @@ pub mod UpToNumber
 pub mod Replying
 pub mod Layering
 pub mod ShownBytes
+pub mod ComingUp

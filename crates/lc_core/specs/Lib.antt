@@ -51,6 +51,7 @@ pub mod Paging
 pub mod World
 pub mod Faults
 pub mod Recovering
+pub mod ComingUp
 pub mod Fresh
 pub mod Blank
 pub mod Showing

@@ -1,6 +1,6 @@
 //! Why a call is not carried out.
 ghost use Rattle.std.specs.Prelude.{◌≡◌};
-ghost use Rattle.lc_core.specs.declared.call_fault.CallFault.TheVariants.{NoMemory};
+ghost use Rattle.lc_core.specs.declared.call_fault.CallFault.TheVariants.{NoMemory, Refused};
 
 use crate::Refusal;
 use std::alloc::AllocError;
@@ -19,5 +19,13 @@ impl From<AllocError> for CallFault {
 
     fn from(_error: AllocError) -> CallFault {
         CallFault::NoMemory
+    }
+}
+
+impl From<Refusal> for CallFault {
+    ghost from_gives = { λ refusal fault. fault ≡ Refused refusal };
+
+    fn from(refusal: Refusal) -> CallFault {
+        CallFault::Refused(refusal)
     }
 }

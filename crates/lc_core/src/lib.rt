@@ -15,6 +15,7 @@ mod blocked;
 mod call_fault;
 mod carrying;
 mod cluster_tests;
+mod coming_up;
 mod common;
 mod delivering;
 mod desk;

@@ -1,5 +1,5 @@
 //! How a store that is down comes up again.
-ghost use Rattle.std.specs.Prelude.{◌≡◌, false, IfOk, OnErr};
+ghost use Rattle.std.specs.Prelude.{◌≡◌, false, true, IfOk, OnErr};
 ghost use Rattle.lc_model.specs.declared.event.Event.TheVariants.{RecoverStep};
 ghost use Rattle.lc_recover.specs.Reads.{HaveLengths};
 ghost use Rattle.lc_recover.specs.Recovery.{Recovering, IsDone};
@@ -21,6 +21,7 @@ impl<D: Area + Drop> World<D> {
     ghost use Rattle.lc_core.specs.FaultReplies.{is_unknown};
     ghost use Rattle.lc_core.specs.Faults.{CountsPhase, phase_failures};
     ghost use Rattle.lc_core.specs.Geometries.{phase_geometry};
+    ghost use Rattle.lc_core.specs.Recovering.{is_of_recovery};
 
     /// The next step of the recovery. The last one takes the memory of all that comes up before its call.
     pub(crate) fn recover_step(&mut self, alloc: Global) -> Result<Reply, AllocError>
@@ -35,6 +36,8 @@ impl<D: Area + Drop> World<D> {
         ensures unknown { IfOk result (λ reply. is_unknown reply ≡ false) }
         ensures calls { CallsArea D.Area self.old.phase self.new.phase }
         ensures kept { OnErr result (KeepsAreas D.Area self.old.phase self.new.phase) }
+        ensures answers { IfOk result (λ reply. is_of_recovery reply ≡ true) }
+        ensures same { OnErr result (self.new.phase ≡ self.old.phase) }
     {
         let Phase::Down(recovery) = &mut self.phase else {
             return Ok(Reply::Refused(Refusal::OutOfTurn));

@@ -6,6 +6,8 @@ mod answer_tests;
 #[cfg(test)]
 mod call_tests;
 #[cfg(test)]
+mod coming_up_tests;
+#[cfg(test)]
 mod command_line_tests;
 #[cfg(test)]
 mod drawing_tests;
