@@ -25,6 +25,7 @@ mod drafting;
 mod due;
 mod ending;
 mod filling;
+mod flush_calls;
 mod flush_progress;
 mod giving_up;
 mod headline;
