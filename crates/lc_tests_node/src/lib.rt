@@ -24,6 +24,8 @@ mod folders;
 #[cfg(test)]
 mod gates;
 #[cfg(test)]
+mod openings;
+#[cfg(test)]
 mod pair;
 #[cfg(test)]
 mod restarts;

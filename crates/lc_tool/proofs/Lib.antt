@@ -18,7 +18,7 @@ mod Recovering
 mod Beginning
 mod Refusals
 mod FilesMade
-mod AreasRecovered
+pub mod AreasRecovered
 mod ChecksShown
 mod FilesTold
 mod DumpsShown

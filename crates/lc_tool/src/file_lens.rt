@@ -20,15 +20,16 @@ const WORD: u64 = 8;
 const SLOTS: u64 = 544;
 
 /// How many bytes each file of a store has, where there is one: `log0` and those behind it, and `seg1` and those behind it.
+/// This project's own.
 #[derive(Clone, Copy)]
-pub(crate) struct FileLens {
+pub struct FileLens {
     pub(crate) logs: [Option<u64>; LOGS],
     pub(crate) segments: [Option<u64>; SEGMENTS],
 }
 
 impl FileLens {
     /// The size that the files tell, with one thread a node; or what of them does not fit.
-    pub(crate) fn geometry(&self) -> Result<Geometry, Misfit>
+    pub fn geometry(&self) -> Result<Geometry, Misfit>
         ensures found { IfOk result (AreLensOf self.now.logs self.now.segments) }
         ensures misfit { IfErr result (IsMisfit self.now.logs self.now.segments) }
     {

@@ -46,6 +46,7 @@ pub use checking::check_areas;
 pub use drawing::draw_areas;
 pub use dumping::dump_areas;
 pub use file_fault::{FileFault, Place};
+pub use file_lens::FileLens;
 pub use file_name::FileName;
 pub use folder::FolderFault;
 pub use lc_text::ToolFault;

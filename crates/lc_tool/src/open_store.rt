@@ -58,8 +58,12 @@ impl<'a, R: Files> StoreFolder<'a, R>
 where
     R::File: HeldFile,
 {
-    /// How long the files of a store are that stand in the folder.
-    pub(crate) fn file_lens(&self) -> Result<FileLens, FolderFault> {
+    /// How long the files of a store are that stand in the folder. It takes no lock.
+    ///
+    /// # Errors
+    ///
+    /// `Failed` where the system refused it; `fault` says what, and why.
+    pub fn file_lens(&self) -> Result<FileLens, FolderFault> {
         let mut lens = FileLens {
             logs: [None; LOGS],
             segments: [None; SEGMENTS],

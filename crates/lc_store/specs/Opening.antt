@@ -1,0 +1,47 @@
+-- What becomes of the areas of a store that is opened.
+use Rattle.std.specs.Prelude.{◌≡◌, List, Option, Some, None, Result, Ok, Err}
+use Rattle.lc_disk.specs.declared.area.Area.{Ghosts}
+use Rattle.lc_record.specs.declared.geometry.Geometry.{Geometry}
+use Rattle.lc_model.specs.declared.refusal.Refusal.{Refusal}
+use Rattle.lc_recover.specs.Recovery.{begun}
+use Rattle.lc_recover.specs.declared.fault.RecoverFault.{RecoverFault}
+use Rattle.lc_core.specs.ComingUp.{ComesUpBy}
+use Rattle.lc_core.specs.Recovering.{refusal_to}
+use Rattle.lc_core.specs.declared.call_fault.CallFault.{CallFault}
+use Rattle.lc_core.specs.declared.call_fault.CallFault.TheVariants.{NoMemory, Refused}
+use Rattle.lc_core.specs.declared.phase.Phase.TheVariants.{Down}
+use Rattle.lc_core.specs.declared.world.World.{World}
+use Rattle.lc_tool.specs.Recovers.{Explains}
+use Rattle.lc_tool.specs.Store.{IsFirstWrong}
+use Rattle.lc_store.specs.declared.open_fault.OpenFault.{OpenFault}
+use Rattle.lc_store.specs.declared.open_fault.OpenFault.TheVariants.{BadGeometry, Folder, NoStore, NotUp}
+
+-- what a fault of a recovery is as one of a call: the refusal of the same name and fields
+abbrev pub as_refused : Option Refusal → CallFault
+as_refused None = NoMemory
+as_refused (Some refusal) = Refused refusal
+
+abbrev pub of_recovery : RecoverFault → CallFault
+of_recovery fault = as_refused (refusal_to fault)
+
+module _ {D : Type 0} (a : Ghosts D) where
+  -- the store of these areas was down, and this is what came of its recovery
+  pub record ComesUpOn (g : Geometry) (areas : List D) (result : Result (Unit {0}) CallFault) (new : World D a) : Type 0 where
+    pub down : World D a
+    pub was_down : down.phase ≡ Down (begun g areas)
+    pub comes : ComesUpBy a down result new
+
+  -- it is up; or the areas are not those of the geometry; or its recovery has stopped
+  abbrev pub Opens : Geometry → List D → Result (World D a) OpenFault → Type 0
+  Opens g areas (Ok world) = ComesUpOn g areas (Ok tt) world
+  Opens g areas (Err (BadGeometry area)) = IsFirstWrong a g areas area
+  Opens g areas (Err (NotUp fault)) = (new : World D a) × ComesUpOn g areas (Err fault) new
+  Opens g areas (Err (Folder fault)) = ⊥
+  Opens g areas (Err (NoStore misfit)) = ⊥
+
+  -- why a recovery of these areas has stopped
+  abbrev pub RefusesAreas : Geometry → List D → OpenFault → Type 0
+  RefusesAreas g areas (BadGeometry area) = IsFirstWrong a g areas area
+  RefusesAreas g areas (NotUp fault) = (why : RecoverFault) × (fault ≡ of_recovery why) × Explains a g areas why
+  RefusesAreas g areas (Folder fault) = ⊥
+  RefusesAreas g areas (NoStore misfit) = ⊥

@@ -1,0 +1,13 @@
+//! A store in a folder, open: behind one call it is up, and of the size that was asked for.
+#![tactic(auto)]
+
+mod bringing_up;
+mod finding;
+mod open_fault;
+mod recovering;
+mod serving;
+mod store;
+
+pub use open_fault::OpenFault;
+pub use serving::{FolderServing, Serving};
+pub use store::{FolderStore, Store};

@@ -1,0 +1,35 @@
+//! What a recovery makes of areas.
+ghost use Rattle.std.specs.Prelude.{◌≡◌, IfErr, IfOk};
+ghost use Rattle.lc_recover.specs.Reads.{HaveLengths};
+ghost use Rattle.lc_recover.specs.Recovered.{AreFinished};
+ghost use Rattle.lc_tool.specs.Recovers.{Recovers};
+ghost use Rattle.lc_store.specs.Opening.{RefusesAreas};
+
+use crate::OpenFault;
+use lc_disk::Area;
+use lc_record::Geometry;
+use lc_recover::{Progress, RecoverFault, Recovered, Recovery};
+use std::alloc::Global;
+
+/// What a recovery makes of these areas.
+pub(crate) fn recovered_on<D: Area + Drop>(
+    alloc: Global,
+    geometry: Geometry,
+    areas: Vec<D>,
+) -> Result<Recovered<D>, OpenFault>
+    ensures geometry { IfOk result (λ store. store.geometry ≡ geometry) }
+    ensures lengths { IfOk result (λ store. HaveLengths D.Area store.geometry store.areas) }
+    ensures finished { IfOk result (AreFinished D.Area) }
+    ensures recovers { IfOk result (Recovers D.Area geometry areas.items) }
+    ensures refuses { IfErr result (RefusesAreas D.Area geometry areas.items) }
+{
+    let mut recovery = match Recovery::new(geometry, areas) {
+        Ok(recovery) => recovery,
+        Err((_, RecoverFault::BadGeometry { area })) => {
+            return Err(OpenFault::BadGeometry { area });
+        }
+        Err(_) => unreachable!(),
+    };
+    while let Progress::Stepped(_) = recovery.step(alloc)? {}
+    Ok(recovery.finish())
+}

@@ -1,0 +1,74 @@
+//! A store in a folder that is open for many threads.
+ghost use Rattle.std.specs.Prelude.{◌≡◌, length, IfOk};
+ghost use Rattle.lc_stage.specs.Staging.{newcomer};
+ghost use Rattle.lc_stage.specs.Seats.{commit_view, IsSeatOf};
+
+use crate::OpenFault;
+use crate::finding::found;
+use crate::recovering::recovered_on;
+use lc_core::CallFault;
+use lc_disk::{Area, HeldFile};
+use lc_node::Node;
+use lc_record::Geometry;
+use lc_stage::CommitSeat;
+use lc_tool::{OpenStore, StoreArea, StoreFolder};
+use std::alloc::Global;
+use std::rt::Files;
+
+// A running node has seats in place of numbered threads.
+const ANY_THREADS: u16 = 1;
+
+/// A store that is open as one running node, and what keeps other processes from it until this is dropped. This project's own.
+#[derive(Drop)]
+pub struct Serving<D: Area + Drop, G: Drop> {
+    /// The node, whose calls many threads make at once.
+    pub node: Node<D>,
+    guard: G,
+}
+
+/// A running node on a store in a folder: no other process opens the folder.
+pub type FolderServing<'a, R> = Serving<StoreArea<'a, R>, <R as Files>::File>;
+
+impl<'a, R: Files> Serving<StoreArea<'a, R>, R::File>
+where
+    R::File: HeldFile,
+{
+    /// Opens the store of this size that is in the folder, recovers it, and lets its node run; with the first seat, which a
+    /// thread gives to each of its transactions. Where the store has several nodes this is the first of them, with all segments.
+    ///
+    /// # Errors
+    ///
+    /// As of `Store::open`.
+    pub fn open(
+        alloc: Global,
+        folder: &'a StoreFolder<'a, R>,
+        geometry: Geometry,
+    ) -> Result<(FolderServing<'a, R>, CommitSeat), OpenFault>
+        ensures seat { IfOk result (λ made. IsSeatOf made.0.node.stage made.1 × (commit_view made.1 ≡ newcomer geometry.words)) }
+        ensures number { IfOk result (λ made. made.0.node.number ≡ 0) }
+        ensures room { IfOk result (λ made. made.0.node.stage.room ≡ geometry.words) }
+        ensures segments { IfOk result (λ made. length made.0.node.segments.items ≡ geometry.segments) }
+    {
+        let OpenStore { areas, guard } = folder.open(&geometry)?;
+        let recovered = recovered_on(alloc, geometry, areas)?;
+        match Node::open(alloc, recovered) {
+            Ok((node, seat)) => Ok((Serving { node, guard }, seat)),
+            Err(_) => Err(OpenFault::NotUp(CallFault::NoMemory)),
+        }
+    }
+
+    /// Opens the store that is in the folder, of the size that the lengths of its files tell. Else as `open`.
+    ///
+    /// # Errors
+    ///
+    /// As of `open`; and `NoStore` where the files are those of no store.
+    pub fn open_as_found(
+        alloc: Global,
+        folder: &'a StoreFolder<'a, R>,
+    ) -> Result<(FolderServing<'a, R>, CommitSeat), OpenFault>
+        ensures seat { IfOk result (λ made. IsSeatOf made.0.node.stage made.1 × (commit_view made.1 ≡ newcomer made.0.node.stage.room)) }
+        ensures number { IfOk result (λ made. made.0.node.number ≡ 0) }
+    {
+        Serving::open(alloc, folder, found(folder, ANY_THREADS)?)
+    }
+}

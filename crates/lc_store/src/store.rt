@@ -1,0 +1,71 @@
+//! A store in a folder that is open.
+ghost use Rattle.std.specs.Prelude.{◌≡◌, ◌≤◌, true, IfOk, Some};
+ghost use Rattle.lc_record.specs.declared.geometry.Geometry.{Geometry as Sizes};
+ghost use Rattle.lc_core.specs.Geometries.{phase_geometry};
+ghost use Rattle.lc_core.specs.Observed.{observed};
+
+use crate::OpenFault;
+use crate::bringing_up::up_on;
+use crate::finding::found;
+use lc_core::World;
+use lc_disk::{Area, HeldFile};
+use lc_record::Geometry;
+use lc_tool::{OpenStore, StoreArea, StoreFolder};
+use std::alloc::Global;
+use std::rt::Files;
+
+/// A store that is open, and what keeps other processes from it until this is dropped. This project's own.
+#[derive(Drop)]
+pub struct Store<D: Area + Drop, G: Drop> {
+    /// The store, which is up where it was opened. Its calls are those of a store in one thread.
+    pub world: World<D>,
+    guard: G,
+}
+
+/// A store in a folder: no other process opens the folder.
+pub type FolderStore<'a, R> = Store<StoreArea<'a, R>, <R as Files>::File>;
+
+impl<'a, R: Files> Store<StoreArea<'a, R>, R::File>
+where
+    R::File: HeldFile,
+{
+    /// Opens the store of this size that is in the folder, and recovers it: it is up, and has the last content that was stable.
+    /// What other processes do to the files, and whether the system keeps them, no proof can say.
+    ///
+    /// # Errors
+    ///
+    /// `Folder` where another process has the store open, or the system refused something: `folder.fault()` says what, and
+    /// why. `BadGeometry` where the files are not those of this size. `NotUp` with what the recovery is refused for, a fault of a
+    /// device, or `NoMemory`: opened again, it begins again.
+    pub fn open(
+        alloc: Global,
+        folder: &'a StoreFolder<'a, R>,
+        geometry: Geometry,
+    ) -> Result<FolderStore<'a, R>, OpenFault>
+        ensures up { IfOk result (λ store. (observed ⟦<StoreArea<'a, R> as Area>⟧ store.world).up ≡ true) }
+        ensures geometry { IfOk result (λ store. phase_geometry ⟦<StoreArea<'a, R> as Area>⟧ store.world.phase ≡ Some geometry) }
+    {
+        let OpenStore { areas, guard } = folder.open(&geometry)?;
+        let world = up_on(alloc, geometry, areas)?;
+        Ok(Store { world, guard })
+    }
+
+    /// Opens the store that is in the folder, of the size that the lengths of its files tell, with 1 to 16 threads a node: the
+    /// files do not tell these. Else as `open`.
+    ///
+    /// # Errors
+    ///
+    /// As of `open`; and `NoStore` where the files are those of no store.
+    pub fn open_as_found(
+        alloc: Global,
+        folder: &'a StoreFolder<'a, R>,
+        threads: u16,
+    ) -> Result<FolderStore<'a, R>, OpenFault>
+        requires some { 1 ≤ threads }
+        requires few { threads ≤ 16 }
+        ensures up { IfOk result (λ store. (observed ⟦<StoreArea<'a, R> as Area>⟧ store.world).up ≡ true) }
+        ensures geometry { IfOk result (λ store. (g : Sizes) × (phase_geometry ⟦<StoreArea<'a, R> as Area>⟧ store.world.phase ≡ Some g) × (g.threads ≡ threads)) }
+    {
+        Store::open(alloc, folder, found(folder, threads)?)
+    }
+}

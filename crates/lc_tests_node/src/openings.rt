@@ -1,0 +1,61 @@
+//! Stores in folders that are opened by one call.
+use crate::folders::{made, new_folder};
+use crate::seats::put;
+use crate::stores::two_segments;
+use lc_node::{Commit, Mode, Put};
+use lc_record::Geometry;
+use lc_store::{OpenFault, Serving, Store};
+use lc_tool::{FileName, FolderFault, Misfit, StoreFolder};
+use std::fs;
+use std::test::*;
+
+const HELLO: Put<'static> = Put {
+    segment: 2,
+    offset: 3,
+    bytes: b"hello",
+};
+
+const IN_USE: OpenFault = OpenFault::Folder(FolderFault::Failed);
+
+const NO_LOG: OpenFault = OpenFault::NoStore(Misfit::Missing(FileName::Log(0)));
+
+// The segments are behind the one log.
+const SHORT_SEGMENT: OpenFault = OpenFault::BadGeometry { area: 1 };
+
+#[test]
+fn what_a_node_made_durable_a_store_reads(rt: HostRuntime) -> Result<(), Fail> {
+    let alloc = rt.alloc();
+    let path = new_folder(&rt, "openings")?;
+    drop(made(&rt, &path)?);
+    let folder = StoreFolder::new(alloc, &rt, path.as_str());
+    let (serving, seat) = Serving::open_as_found(alloc, &folder)?;
+    let (_seat, done) = put(&rt, alloc, &serving.node, seat, &[2], HELLO, Mode::Flush);
+    assert!(rt; matches!(done, Ok(Commit::Flushed(_))));
+    assert!(rt; Store::open_as_found(alloc, &folder, 1).err() == Some(IN_USE));
+    drop(serving);
+
+    let mut store = Store::open(alloc, &folder, two_segments()?)?;
+    assert!(rt; store.world.is_up());
+    assert!(rt; store.world.begin(0, 0, &[], &[2]) == Ok(()));
+    let mut buffer = [7; 7];
+    assert!(rt; store.world.read(0, 0, 2, 2, &mut buffer) == Ok(()));
+    assert!(rt; buffer == *b"\0hello\0");
+    drop(store);
+    fs::remove_dir_all(&rt, &path)?;
+    Ok(())
+}
+
+#[test]
+fn what_is_no_store_is_not_opened(rt: HostRuntime) -> Result<(), Fail> {
+    let alloc = rt.alloc();
+    let path = new_folder(&rt, "no-openings")?;
+    let folder = StoreFolder::new(alloc, &rt, path.as_str());
+    assert!(rt; Store::open_as_found(alloc, &folder, 1).err() == Some(NO_LOG));
+    assert!(rt; Serving::open_as_found(alloc, &folder).err() == Some(NO_LOG));
+    drop(made(&rt, &path)?);
+    let longer = Geometry::new(1, 1, 2, 3, 4096).ok_or("these numbers are a geometry")?;
+    assert!(rt; Store::open(alloc, &folder, longer).err() == Some(SHORT_SEGMENT));
+    assert!(rt; Serving::open(alloc, &folder, longer).err() == Some(SHORT_SEGMENT));
+    fs::remove_dir_all(&rt, &path)?;
+    Ok(())
+}
