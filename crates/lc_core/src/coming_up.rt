@@ -31,7 +31,7 @@ impl<D: Stoppable + Drop> World<D> {
         ensures at_once { (observed D.Area self.old).up ≡ true → (result ≡ Err (Refused OutOfTurn)) × (self.new.phase ≡ self.old.phase) }
         ensures geometry { phase_geometry D.Area self.new.phase ≡ phase_geometry D.Area self.old.phase }
     {
-        loop {
+        'steps: loop {
             match self.recover_step(alloc)? {
                 Reply::Stepped(_) => {}
                 Reply::Recovered => return Ok(()),
