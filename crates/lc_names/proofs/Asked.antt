@@ -1,0 +1,109 @@
+-- What a table was and what a command makes of it, as a work tells it.
+use Rattle.std.proofs.Common.{◌≡◌, ◌≢◌, ℕ, zero, suc, ◌+◌, ◌-◌, ◌*◌, ◌^◌, ◌<◌, ◌≤◌, false, List, [], ◌∷◌, ◌++◌, length, take, drop, refl, sym, ap, subst, ◌∙◌, inl, inr, arith}
+use Rattle.std.specs.Prelude.{◌⊎◌, IsTrue, Result, min}
+use Rattle.std.proofs.lemmas.List.{length-take-le, take-append-drop}
+use Rattle.lc_record.specs.Content.{put}
+use Rattle.lc_record.specs.Transaction.{is_member}
+use Rattle.lc_tx.specs.declared.tx_fault.TxFault.{TxFault}
+use Rattle.lc_tx.specs.declared.tx_fault.TxFault.TheVariants.{ReadOnly}
+use Rattle.lc_node.specs.Get.{IsUngot}
+use Rattle.lc_node.specs.Put.{IsUnput}
+use Rattle.lc_node.specs.Ran.{AgreeOn, Bytes}
+use Rattle.lc_node.specs.declared.get.Get.{Get}
+use Rattle.lc_node.specs.declared.put.Put.{Put}
+use Rattle.lc_names.specs.Answers.{Answers, IsOfEntry, changed}
+use Rattle.lc_names.specs.Ask.{IsAsked, IsUnasked}
+use Rattle.lc_names.specs.declared.answer.Answer.{Answer}
+use Rattle.lc_names.specs.declared.ask.Ask.{Ask}
+use Rattle.lc_names.specs.declared.change.Change.{Change}
+use Rattle.lc_names.specs.declared.name_fault.NameFault.{NameFault}
+use Rattle.lc_names.proofs.Cuts.{long_entries}
+
+put-append : (place : ℕ) (items xs ys : List ℕ) → place + length items ≤ length xs → put place items (xs ++ ys) ≡ put place items xs ++ ys
+put-append zero [] [] [] l = refl
+put-append zero [] [] (y ∷ ys) l = refl
+put-append zero [] (x ∷ xs) ys l = refl
+put-append zero (i ∷ is) [] ys l = absurd (omega arith)
+put-append zero (i ∷ is) (x ∷ xs) ys l = ap (λ (s : List ℕ). i ∷ s) (put-append zero is xs ys (omega arith))
+put-append (suc place) items [] ys l = absurd (omega arith)
+put-append (suc place) items (x ∷ xs) ys l = ap (λ (s : List ℕ). x ∷ s) (put-append place items xs ys (omega arith))
+
+module _ (ask : Ask) (locked : List ℕ) (before mid : Bytes) (found : List ℕ) (within : 0 + ask.len ≤ length (before 1)) (is : found ≡ take ask.len (before 1)) (agree : AgreeOn locked mid before) where
+  fit : ask.len ≤ length (before 1)
+  fit = omega (arith, within)
+
+  long : length found ≡ ask.len
+  long = ap (λ (s : List ℕ). length s) is ∙ length-take-le ask.len (before 1) fit
+
+  -- an entry of the table ends within it
+  pub ends_within : (change : Change) → IsOfEntry found change → 64 * change.place + 64 ≤ ask.len
+  ends_within change at = omega (arith, long, long_entries found change.place at.0)
+
+  pub asked_same : (given : Result Answer NameFault) → Answers ask.command found given found → IsAsked ask locked before given mid
+  asked_same given answers = record {
+    within = fit;
+    left = found;
+    answers = subst (λ (t : List ℕ). Answers ask.command t given found) is answers;
+    table = λ lock. agree 1 lock ∙ (sym (take-append-drop ask.len (before 1)) ∙ ap (λ (s : List ℕ). s ++ drop ask.len (before 1)) (sym is));
+    others = λ s lock apart. agree s lock;
+  }
+
+  module _ (change : Change) (at : IsOfEntry found change) where
+    laid : put (64 * change.place) change.entry (before 1) ≡ changed change found ++ drop ask.len (before 1)
+    laid =
+        ap (λ (s : List ℕ). put (64 * change.place) change.entry s) (sym (take-append-drop ask.len (before 1)) ∙ ap (λ (s : List ℕ). s ++ drop ask.len (before 1)) (sym is))
+        ∙ put-append (64 * change.place) change.entry found (drop ask.len (before 1)) (omega (arith, long, at.1, ends_within change at))
+
+    pub asked_changed : (given : Result Answer NameFault) (after : Bytes) → Answers ask.command found given (changed change found)
+        → after 1 ≡ put (64 * change.place) change.entry (mid 1) → ((s : ℕ) → IsTrue (is_member s locked) → s ≢ 1 → after s ≡ mid s) → IsAsked ask locked before given after
+    asked_changed given after answers wrote others = record {
+      within = fit;
+      left = changed change found;
+      answers = subst (λ (t : List ℕ). Answers ask.command t given (changed change found)) is answers;
+      table = λ lock. wrote ∙ (ap (λ (s : List ℕ). put (64 * change.place) change.entry s) (agree 1 lock) ∙ laid);
+      others = λ s lock apart. others s lock apart ∙ agree s lock;
+    }
+
+    past : (p : Put) → p.segment ≡ 1 → p.offset ≡ 64 * change.place → p.bytes.now ≡ change.entry → p.offset + 64 < 2 ^ 32
+        → IsTrue (is_member p.segment locked) ⊎ (2 ^ 32 ≤ length p.bytes.now) → min (length (mid p.segment)) (2 ^ 32 - 1) < p.offset + length p.bytes.now → ⊥
+    past p segment offset bytes small locked_or_long over =
+        let size : length p.bytes.now ≡ 64 = ap (λ (s : List ℕ). length s) bytes ∙ at.1 in
+        elim locked_or_long [
+          | inl lock ↦
+              let same : length (mid p.segment) ≡ length (before 1) =
+              ap (λ (s : List ℕ). length s) (agree p.segment lock ∙ ap (λ (s : ℕ). before s) segment) in
+              let end = ends_within change at in
+              omega (arith, same, size, offset, small, over, end, fit)
+          | inr much ↦ omega (arith, much, size)
+        ]
+
+    -- a whole entry of the table is refused for ranges and memory alone, or for the lock
+    pub unasked_put : (p : Put) (fault : TxFault) → p.segment ≡ 1 → p.offset ≡ 64 * change.place → p.bytes.now ≡ change.entry → p.offset + 64 < 2 ^ 32
+        → IsUnput p locked mid fault → IsUnasked ask locked before fault
+    unasked_put p fault segment offset bytes small unput = elim unput [
+      | inl why ↦ inl (why.0, subst (λ (s : ℕ). is_member s locked ≡ false) segment why.1)
+      | inr more ↦ elim more [
+        | inl why ↦ inr (inl (subst (λ (s : ℕ). (fault ≡ ReadOnly s) × (is_member s locked ≡ false)) segment why))
+        | inr more ↦ elim more [
+          | inl why ↦ absurd (let size = ap (λ (s : List ℕ). length s) bytes in omega (arith, why.2, size, at.1))
+          | inr more ↦ elim more [
+            | inl why ↦ absurd (past p segment offset bytes small why.1 why.2)
+            | inr why ↦ elim why.0 [
+              | inl many ↦ inr (inr (inr (inl (many, subst (λ (s : ℕ). IsTrue (is_member s locked)) segment why.1.0, fit))))
+              | inr none ↦ inr (inr (inr (inr (none, fit))))
+            ]
+          ]
+        ]
+      ]
+    ]
+
+pub unasked_get : (ask : Ask) (locked : List ℕ) (before : Bytes) (got : Get) (fault : TxFault) → got.segment ≡ 1 → got.offset ≡ 0 → got.len ≡ ask.len → IsUngot got locked before fault → IsUnasked ask locked before fault
+unasked_get ask locked before got fault segment offset len ungot =
+    let same : length (before got.segment) ≡ length (before 1) = ap (λ (s : ℕ). length (before s)) segment in
+    elim ungot [
+      | inl why ↦ inl (why.0, subst (λ (s : ℕ). is_member s locked ≡ false) segment why.1)
+      | inr more ↦ elim more [
+        | inl why ↦ inr (inr (inl (why.0, omega (arith, why.1, same, offset, len))))
+        | inr why ↦ inr (inr (inr (inr (why.0, omega (arith, why.2, same, offset, len)))))
+      ]
+    ]

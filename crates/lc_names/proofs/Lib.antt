@@ -1,0 +1,7 @@
+mod Asked
+mod Changes
+mod Cuts
+mod Entries
+mod Listed
+mod Lookups
+mod Sound

@@ -1,0 +1,13 @@
+//! What the table answers to a command.
+
+/// What the table answers to a command that it does not refuse. This project's own.
+#[derive(Drop)]
+pub enum Answer {
+    Created,
+    Renamed,
+    Removed,
+    /// The attributes of the name.
+    Attributes(Vec<u8>),
+    /// Each name once, in the order of the table.
+    Names(Vec<Vec<u8>>),
+}
