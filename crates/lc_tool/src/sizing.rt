@@ -1,10 +1,12 @@
 //! The size that a store in a folder is taken to have.
 ghost use Rattle.std.specs.Prelude.{◌≡◌, ◌≢◌, IfErr, IfOk, IfSome};
-ghost use Rattle.lc_tool.specs.Found.{AnswersSized, IsAsFound, IsTaken, TellsUnsized};
+ghost use Rattle.lc_tool.specs.Found.{AnswersSized, AreLensOf, IsAsFound, IsMisfit, IsTaken, TellsUnsized};
 ghost use Rattle.lc_tool.specs.Recovers.{TellsRecovery};
 ghost use Rattle.lc_tool.specs.Script.{given_as};
 ghost use Rattle.lc_tool.specs.Store.{Adds};
 ghost use Rattle.lc_tool.specs.Tells.{TellsScript};
+ghost use Rattle.lc_tool.specs.declared.misfit.Misfit.{Misfit as TheMisfit};
+ghost use Rattle.lc_tool.specs.declared.sizing.SizeFault.TheVariants.{Misfit as HasMisfit};
 
 use crate::ToolFault;
 use crate::file_lens::FileLens;
@@ -125,7 +127,10 @@ where
 }
 
 /// The size that files of these lengths tell.
-pub(crate) fn found(lens: &FileLens) -> Result<Geometry, SizeFault> {
+pub(crate) fn found(lens: &FileLens) -> Result<Geometry, SizeFault>
+    ensures size { IfOk result (AreLensOf lens.now.logs lens.now.segments) }
+    ensures misfit { IfErr result (λ fault. (its : TheMisfit) × (fault ≡ HasMisfit its) × IsMisfit lens.now.logs lens.now.segments its) }
+{
     match lens.geometry() {
         Ok(geometry) => Ok(geometry),
         Err(misfit) => Err(SizeFault::Misfit(misfit)),
