@@ -1,6 +1,6 @@
 //! Stores that come up by one call.
 use crate::stores::{CLOSED, hello, store_of};
-use lc_core::{CallFault, Refusal, World};
+use lc_core::{CallFault, FlushProgress, Refusal, World};
 use lc_record::Geometry;
 use std::process::Abort;
 use std::test::*;
@@ -13,9 +13,6 @@ const ONE_NODE: Geometry = Geometry {
     words: 64,
 };
 
-// The calls of a flush.
-const FLUSH: usize = 4;
-
 #[test]
 fn a_durable_commit_comes_up_again(rt: HostRuntime) -> Result<(), Fail> {
     let alloc = rt.alloc();
@@ -27,9 +24,8 @@ fn a_durable_commit_comes_up_again(rt: HostRuntime) -> Result<(), Fail> {
     assert!(rt; world.set_range(alloc, 0, 0, 1, 3, 5) == Ok(()));
     assert!(rt; world.write(0, 0, 1, 3, b"hello") == Ok(()));
     assert!(rt; world.end(alloc, 0, 0).is_ok());
-    for _ in 0..FLUSH {
-        assert!(rt; world.flush_step(alloc, 0).is_ok());
-    }
+    assert!(rt; world.flush(alloc, 0) == Ok(FlushProgress::Acked(1)));
+    assert!(rt; world.flush(alloc, 0) == Ok(FlushProgress::Nothing));
     let (geometry, areas) = world.into_areas();
     let Ok(mut again) = World::new(geometry, areas) else {
         return Err(Fail::from("the areas fit the geometry"));
