@@ -11,8 +11,8 @@ use Rattle.lc_core.specs.declared.call_fault.CallFault.{CallFault}
 use Rattle.lc_core.specs.declared.call_fault.CallFault.TheVariants.{NoMemory, Refused}
 use Rattle.lc_core.specs.declared.phase.Phase.TheVariants.{Down}
 use Rattle.lc_core.specs.declared.world.World.{World}
-use Rattle.lc_tool.specs.Recovers.{Explains}
-use Rattle.lc_tool.specs.Store.{IsFirstWrong}
+use Rattle.lc_look.specs.Recovers.{Explains}
+use Rattle.lc_look.specs.Refused.{IsFirstWrong}
 use Rattle.lc_store.specs.declared.open_fault.OpenFault.{OpenFault}
 use Rattle.lc_store.specs.declared.open_fault.OpenFault.TheVariants.{BadGeometry, Folder, NoStore, NotUp}
 

@@ -2,7 +2,7 @@
 ghost use Rattle.std.specs.Prelude.{◌≡◌, IfErr, IfOk};
 ghost use Rattle.lc_recover.specs.Reads.{HaveLengths};
 ghost use Rattle.lc_recover.specs.Recovered.{AreFinished};
-ghost use Rattle.lc_tool.specs.Recovers.{Recovers};
+ghost use Rattle.lc_look.specs.Recovers.{Recovers};
 ghost use Rattle.lc_store.specs.Opening.{RefusesAreas};
 
 use crate::OpenFault;

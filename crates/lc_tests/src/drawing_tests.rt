@@ -2,9 +2,10 @@
 use crate::script_tests::{Narrow, ONE};
 use crate::stores::{CLOSED, hello, log_area, open, segment_area, store_of};
 use lc_disk::{Fuse, When};
+use lc_look::draw_areas;
 use lc_record::Geometry;
 use lc_text::ToolFault;
-use lc_tool::{draw_areas, zero_areas};
+use lc_tool::zero_areas;
 use std::test::*;
 
 // What stands above the legend.

@@ -2,9 +2,10 @@
 use crate::script_tests::{Narrow, WRONG};
 use crate::stores::{CLOSED, SlotText, hello, log_area, segment_area};
 use lc_disk::{Area, Fuse, MemArea, When};
+use lc_look::recover_areas;
 use lc_record::Geometry;
 use lc_text::ToolFault;
-use lc_tool::{recover_areas, zero_areas};
+use lc_tool::zero_areas;
 use std::process::Abort;
 use std::test::*;
 

@@ -11,14 +11,15 @@ use Rattle.lc_model.specs.declared.reply.Reply.TheVariants.{Refused as IsRefusal
 use Rattle.lc_core.specs.Numbers.{Numbers}
 use Rattle.lc_core.specs.World.{FitsWorld}
 use Rattle.lc_core.specs.declared.world.World.{World}
-use Rattle.lc_tool.specs.Files.{Stops}
+use Rattle.lc_look.specs.Printed.{Stops, NoMemory, Adds}
 use Rattle.lc_tool.specs.Fits.{FollowsAll, IsRefused, RefusesAll}
 use Rattle.lc_tool.specs.Outcome.{EndsWith, IsGivenUp, IsRecovered, OpensStore, RefusesFirst, RunsRecovered}
-use Rattle.lc_tool.specs.Script.{Given, NoMemory, Opens, RunsRead, RunsScript}
+use Rattle.lc_tool.specs.Script.{Given, Opens, RunsRead, RunsScript}
 use Rattle.lc_recover.specs.Reads.{AllMergeTo, AreHonest, HaveLengths}
 use Rattle.lc_recover.specs.Recovery.{begun}
 use Rattle.lc_core.specs.declared.phase.Phase.TheVariants.{Down}
-use Rattle.lc_tool.specs.Store.{Adds, AreKnown, AreRefused, RefusesLengths, RefusesMerge, RunsStore, merge_refusal}
+use Rattle.lc_tool.specs.Store.{AreKnown, RunsStore}
+use Rattle.lc_look.specs.Refused.{AreRefused, RefusesLengths, RefusesMerge, merge_refusal}
 use Rattle.lc_tool.proofs.ScriptLemmas.{keeps_then}
 use Rattle.lc_tool.specs.Tells.{TellsRecovered, TellsScript, TellsStop}
 use Rattle.lc_text.specs.Text.{no_memory_text, refusal_text, reply_text}

@@ -3,8 +3,8 @@ use Rattle.std.proofs.Common.{◌≡◌, ◌↔◌, ◌∙◌, ℕ, ◌≤◌, B
 use Rattle.std.proofs.lemmas.List.{append-nil}
 use Rattle.lc_record.specs.declared.geometry.Geometry.{Geometry}
 use Rattle.lc_recover.specs.Reads.{area_count}
-use Rattle.lc_tool.specs.Files.{Inits, MadeSome, NoneTaken, Stops, file_at, name_at, names_of}
-use Rattle.lc_tool.specs.Store.{Adds}
+use Rattle.lc_tool.specs.Files.{Inits, MadeSome, NoneTaken, file_at, name_at, names_of}
+use Rattle.lc_look.specs.Printed.{Stops, Adds}
 use Rattle.lc_tool.specs.declared.file_name.FileName.{FileName}
 use Rattle.lc_tool.specs.declared.store_file.StoreFile.{StoreFile}
 

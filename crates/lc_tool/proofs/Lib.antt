@@ -16,11 +16,6 @@ mod Follows
 mod Opening
 mod Recovering
 mod Beginning
-mod Refusals
 mod FilesMade
-pub mod AreasRecovered
-mod ChecksShown
-mod FilesTold
-mod DumpsShown
-mod PicturesRead
+mod Views
 pub mod Keeping

@@ -6,7 +6,7 @@ use Rattle.lc_core.specs.declared.world.World.{World}
 use Rattle.lc_tool.specs.Following.{lines_within}
 use Rattle.lc_tool.specs.Outcome.{FollowsLines, RunsAll, RunsRecovered}
 use Rattle.lc_tool.specs.Script.{front_of, given_as}
-use Rattle.lc_tool.specs.Store.{Adds}
+use Rattle.lc_look.specs.Printed.{Adds}
 use Rattle.lc_tool.specs.Tells.{TellsAll, TellsFollowed, TellsRecovered}
 use Rattle.lc_tool.specs.declared.manner.Manner.{Manner}
 

@@ -13,9 +13,9 @@ use Rattle.lc_core.specs.Recovers.{AnswersMerge, AnswersRecovery, RecoversDown}
 use Rattle.lc_core.specs.declared.phase.Phase.{Phase}
 use Rattle.lc_core.specs.declared.phase.Phase.TheVariants.{Down}
 use Rattle.lc_tool.specs.Answers.{IsStepped}
-use Rattle.lc_tool.specs.Store.{merge_refusal}
+use Rattle.lc_look.specs.Refused.{merge_refusal}
 use Rattle.lc_tool.proofs.Fitting.{reads_same}
-use Rattle.lc_tool.proofs.Refusals.{not_refused, same_refusal}
+use Rattle.lc_look.proofs.Refusals.{not_refused, same_refusal}
 
 same_or_not : (k n : ℕ) → (k ≡ n) ⊎ (k ≡ n → ⊥)
 same_or_not k n = go (k == n) refl

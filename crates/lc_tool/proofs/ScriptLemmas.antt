@@ -13,7 +13,7 @@ use Rattle.lc_text.specs.Line.{asked, command_of, is_skipped, line_of, words}
 use Rattle.lc_text.specs.declared.command.Command.{Command}
 use Rattle.lc_text.specs.declared.command.Line.TheVariants.{Skipped as IsSkipped, Command as Commanded}
 use Rattle.lc_tool.specs.Script.{Front, Going, GoesOn, Rest, Runs, RunsLine}
-use Rattle.lc_tool.specs.Store.{Adds}
+use Rattle.lc_look.specs.Printed.{Adds}
 use Rattle.lc_tool.specs.Tells.{TellsFronted, TellsOne}
 use Rattle.lc_tool.specs.Outcome.{GoesBehind, LeavesFronted, LeavesLine, Passes, Breaks, fronted}
 use Rattle.lc_tool.specs.declared.outcome.Outcome.{Outcome}

@@ -6,13 +6,12 @@ use Rattle.lc_model.specs.Recovered.{zero_content}
 use Rattle.lc_model.specs.State.{first_state}
 use Rattle.lc_core.specs.Numbers.{Numbers}
 use Rattle.lc_tool.specs.Files.{TellsInit, TellsInspection}
-use Rattle.lc_tool.specs.Recovers.{TellsRecovery}
+use Rattle.lc_look.specs.Recovers.{TellsRecovery}
 use Rattle.lc_tool.specs.Script.{Given, RunsScript, given_as}
-use Rattle.lc_tool.specs.Store.{Adds}
+use Rattle.lc_look.specs.Printed.{Adds}
 use Rattle.lc_tool.specs.Tells.{TellsScript}
 use Rattle.lc_tool.specs.declared.line_list.TheConstants.{LINE_LIST}
-use Rattle.lc_tool.specs.Draws.{TellsDrawn}
-use Rattle.lc_tool.specs.Found.{AnswersSized, TellsChecked, TellsDumped}
+use Rattle.lc_tool.specs.Found.{TellsDrawn, AnswersSized, TellsChecked, TellsDumped}
 use Rattle.lc_words.specs.declared.run_store.RunStore.TheVariants.{New, InFolder}
 use Rattle.lc_words.specs.declared.asked.Asked.{Asked}
 use Rattle.lc_words.specs.declared.asked.Asked.TheVariants.{Run, Init, Recover, Check, Dump, Draw, Inspect, Lines, Help, Version, NotUnderstood}

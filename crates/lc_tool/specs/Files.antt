@@ -1,12 +1,11 @@
 -- The files of a store, and what the making of them leaves in a folder.
 use Rattle.std.specs.Prelude.{◌≡◌, ◌⊎◌, ℕ, zero, suc, ◌+◌, ◌-◌, ◌*◌, ◌<◌, ◌≤◌, nat_lt, if◌then◌else◌, Bool, List, [], ◌∷◌, ◌++◌, map, codes, decimal, Contains, Option}
 use Rattle.lc_record.specs.declared.geometry.Geometry.{Geometry}
-use Rattle.lc_model.specs.declared.refusal.Refusal.TheVariants.{BadGeometry, DeviceFault}
+use Rattle.lc_model.specs.declared.refusal.Refusal.TheVariants.{BadGeometry}
 use Rattle.lc_recover.specs.Reads.{area_count}
-use Rattle.lc_tool.specs.Script.{NoMemory}
+use Rattle.lc_look.specs.Printed.{Adds, Stops}
 use Rattle.lc_text.specs.Inspector.{Inspects}
 use Rattle.lc_text.specs.Text.{exists_text, refusal_text}
-use Rattle.lc_tool.specs.Store.{Adds}
 use Rattle.lc_tool.specs.declared.file_name.FileName.{FileName}
 use Rattle.lc_tool.specs.declared.file_name.FileName.TheVariants.{Log, Segment}
 use Rattle.lc_tool.specs.declared.store_file.StoreFile.{StoreFile}
@@ -52,10 +51,6 @@ StaysOrBegins name old new = (new ≡ old) ⊎ ((len : ℕ) × (new ≡ old ++ r
 -- the files of the first so many areas were made, and perhaps the next was begun
 abbrev pub MadeSome : Geometry → List StoreFile → List StoreFile → Type 0
 MadeSome g old new = (areas : ℕ) × (areas ≤ area_count g) × StaysOrBegins (name_at g areas) (old ++ first_files g areas) new
-
--- the line of a device that failed, or of want of memory
-abbrev pub Stops : List ℕ → ℕ → Type 0
-Stops text status = ((text ≡ refusal_text DeviceFault) × (status ≡ 3)) ⊎ NoMemory text status
 
 -- whatever the folder: the line of a file that is there, or nothing, or why there is no store
 abbrev pub TellsInit : List ℕ → ℕ → Type 0

@@ -19,7 +19,7 @@ use Rattle.lc_core.specs.declared.world.World.{World}
 use Rattle.lc_tool.specs.Answers.{Answers, Ends, Finishes}
 use Rattle.lc_tool.specs.Memory.{AsksMemory}
 use Rattle.lc_tool.specs.Session.{Does}
-use Rattle.lc_tool.specs.Store.{merge_refusal}
+use Rattle.lc_look.specs.Refused.{merge_refusal}
 use Rattle.lc_text.specs.declared.command.Command.{Command}
 use Rattle.lc_tool.specs.declared.verdict.Verdict.{Verdict}
 

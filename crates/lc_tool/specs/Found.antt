@@ -4,10 +4,11 @@ use Rattle.std.specs.Io.KnownBytes.{Keeps}
 use Rattle.std.specs.Option.{unwrap_or}
 use Rattle.lc_record.specs.Geometry.{HasNumbers}
 use Rattle.lc_record.specs.declared.geometry.Geometry.{Geometry}
-use Rattle.lc_tool.specs.Checks.{EndsWithRecovery}
-use Rattle.lc_tool.specs.Dumps.{TellsDump}
-use Rattle.lc_tool.specs.Files.{IsLogLen, Stops, name_text}
-use Rattle.lc_tool.specs.Store.{Adds}
+use Rattle.lc_look.specs.Checks.{EndsWithRecovery}
+use Rattle.lc_look.specs.Draws.{TellsDraw}
+use Rattle.lc_look.specs.Dumps.{TellsDump}
+use Rattle.lc_tool.specs.Files.{IsLogLen, name_text}
+use Rattle.lc_look.specs.Printed.{Stops, Adds}
 use Rattle.lc_tool.specs.declared.file_name.FileName.TheVariants.{Log, Segment}
 use Rattle.lc_tool.specs.declared.file_row.FileRow.{FileRow}
 use Rattle.lc_tool.specs.declared.file_row.RowFault.{RowFault}
@@ -119,3 +120,7 @@ TellsChecked size text status =
 -- what a dump of files prints
 abbrev pub TellsDumped : ℕ → ℕ → List ℕ → ℕ → Type 0
 TellsDumped segment page text status = TellsMisfit text status ⊎ TellsDump segment page text status
+
+-- what a draw of files prints
+abbrev pub TellsDrawn : List ℕ → ℕ → Type 0
+TellsDrawn text status = TellsMisfit text status ⊎ ((g : Geometry) × TellsDraw g text status)

@@ -14,10 +14,7 @@ pub mod Fits
 pub mod Outcome
 pub mod Tells
 pub mod Files
-pub mod Recovers
-pub mod Checks
 pub mod Found
-pub mod Dumps
-pub mod Draws
+pub mod View
 pub mod Asked
 pub mod Noted

@@ -15,9 +15,10 @@ use Rattle.lc_tool.specs.Fits.{Leads, IsRefused}
 use Rattle.lc_text.specs.Line.{is_skipped, line_of}
 use Rattle.lc_text.specs.Lines.{script_lines}
 use Rattle.lc_tool.specs.Following.{lines_within}
-use Rattle.lc_tool.specs.Script.{Follows, Front, Given, NoMemory, Runs, RunsRead, RunsWhole}
+use Rattle.lc_tool.specs.Script.{Follows, Front, Given, Runs, RunsRead, RunsWhole}
+use Rattle.lc_look.specs.Printed.{NoMemory, Adds}
 use Rattle.lc_tool.specs.Session.{Does}
-use Rattle.lc_tool.specs.Store.{Adds, RefusesStore}
+use Rattle.lc_look.specs.Refused.{RefusesStore}
 use Rattle.lc_text.specs.Text.{not_understood_text, reply_text}
 use Rattle.lc_tool.specs.Verdict.{verdict_of}
 use Rattle.lc_text.specs.declared.command.Command.{Command}

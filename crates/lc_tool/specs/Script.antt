@@ -5,6 +5,7 @@ use Rattle.lc_model.specs.declared.event.Event.TheVariants.{RecoverStep}
 use Rattle.lc_model.specs.declared.reply.Reply.{Reply}
 use Rattle.lc_core.specs.Numbers.{Numbers}
 use Rattle.lc_text.specs.Lines.{script_lines}
+use Rattle.lc_look.specs.Printed.{NoMemory}
 use Rattle.lc_tool.specs.Answers.{Finishes}
 use Rattle.lc_tool.specs.Following.{lines_within}
 use Rattle.lc_tool.specs.Memory.{LineAsksMemory}
@@ -40,10 +41,6 @@ Front = ℕ → List ℕ
 abbrev pub front_of : Bool → Front
 front_of true number = line_number_text number
 front_of false number = []
-
--- there was no memory
-abbrev pub NoMemory : List ℕ → ℕ → Type 0
-NoMemory text status = (text ≡ no_memory_text) × (status ≡ 1)
 
 module _ (front : Front) where
   -- What the rest of a script prints and which status it ends with, by what a line says: `next` is the same of the

@@ -17,9 +17,9 @@ use Rattle.lc_text.specs.Line.{is_skipped, line_of}
 use Rattle.lc_tool.specs.Outcome.{EndsWith, GoesBehind}
 use Rattle.lc_text.specs.Lines.{script_lines}
 use Rattle.lc_tool.specs.Following.{lines_within}
-use Rattle.lc_tool.specs.Script.{Front, Given, GoesOn, NoMemory, Rest, front_of}
+use Rattle.lc_tool.specs.Script.{Front, Given, GoesOn, Rest, front_of}
+use Rattle.lc_look.specs.Printed.{NoMemory, Adds}
 use Rattle.lc_tool.specs.Session.{Says, end_text, truncate_text}
-use Rattle.lc_tool.specs.Store.{Adds}
 use Rattle.lc_text.specs.Text.{no_memory_text, not_understood_text, page_text, records_text, refusal_text, too_long_text, words_text}
 use Rattle.lc_tool.specs.Verdict.{verdict_of, verdict_on}
 use Rattle.lc_text.specs.declared.command.Command.{Command}

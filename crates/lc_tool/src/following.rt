@@ -6,7 +6,7 @@ ghost use Rattle.lc_tool.specs.Coming.{lines_left};
 ghost use Rattle.lc_tool.specs.Following.{lines_within};
 ghost use Rattle.lc_tool.specs.Outcome.{FollowsLines};
 ghost use Rattle.lc_tool.specs.Script.{front_of};
-ghost use Rattle.lc_tool.specs.Store.{Adds};
+ghost use Rattle.lc_look.specs.Printed.{Adds};
 ghost use Rattle.lc_tool.specs.Tells.{TellsFollowed};
 
 use crate::ToolFault;

@@ -2,11 +2,8 @@
 #![tactic(auto)]
 
 mod answering;
-mod checking;
 mod commands;
 mod directory;
-mod drawing;
-mod dumping;
 mod file_fault;
 mod file_lens;
 mod file_name;
@@ -23,7 +20,6 @@ mod noted;
 mod open_store;
 mod outcome;
 mod program;
-mod recovery;
 mod renewing;
 mod repeating;
 mod script_lines;
@@ -38,13 +34,11 @@ mod stores;
 mod telling;
 mod truncating;
 mod verdict;
+mod view;
 mod watch;
 mod zeros;
 
 pub use answering::answer;
-pub use checking::check_areas;
-pub use drawing::draw_areas;
-pub use dumping::dump_areas;
 pub use file_fault::{FileFault, Place};
 pub use file_lens::FileLens;
 pub use file_name::FileName;
@@ -57,7 +51,6 @@ pub use misfit::Misfit;
 pub use noted::Noted;
 pub use open_store::OpenStore;
 pub use program::run_program;
-pub use recovery::recover_areas;
 pub use scripts::run_script;
 pub use shared_file::SharedFile;
 pub use sizing::{recover_sized, run_sized};

@@ -1,23 +1,19 @@
 //! What is shown of a store in a folder, with nothing changed.
-ghost use Rattle.std.specs.Prelude.{◌≡◌, ◌≢◌, ◌⊎◌, IfErr, IfOk, OnOk};
+ghost use Rattle.std.specs.Prelude.{◌≡◌, ◌≢◌, IfErr, IfOk, OnOk};
 ghost use Rattle.std.specs.Io.KnownBytes.{Appends};
-ghost use Rattle.lc_tool.specs.Checks.{EndsWithRecovery};
-ghost use Rattle.lc_tool.specs.Draws.{TellsDraw, TellsDrawn};
-ghost use Rattle.lc_tool.specs.Dumps.{TellsDump};
-ghost use Rattle.lc_tool.specs.Found.{IsAsFound, IsTaken, TellsChecked, TellsDumped, found_text, size_text};
-ghost use Rattle.lc_tool.specs.Store.{Adds};
+ghost use Rattle.lc_look.specs.Printed.{Adds};
+ghost use Rattle.lc_tool.specs.Found.{TellsChecked, TellsDrawn, TellsDumped, size_text};
+ghost use Rattle.lc_tool.specs.View.{HasNoSize, ShowsView, TakesSize, TellsView, front_text};
 
 use crate::ToolFault;
-use crate::checking::check_areas;
-use crate::drawing::draw_areas;
-use crate::dumping::dump_areas;
 use crate::making::stopped;
 use crate::misfit::{Misfit, write_misfit};
 use crate::open_store::Look;
-use crate::recovery::ended;
-use crate::scripts::{NOT_UNDERSTOOD, REFUSED};
 use crate::shared_file::SharedFile;
 use crate::store_folder::StoreFolder;
+use crate::view::View;
+use lc_disk::Area;
+use lc_look::{NOT_UNDERSTOOD, REFUSED, check_areas, draw_areas, dump_areas};
 use lc_record::Geometry;
 use lc_words::Size;
 use std::alloc::Global;
@@ -41,115 +37,7 @@ where
     ensures memory { result ≢ Err ToolFault.NoMemory }
     ensures reads { result ≢ Err ToolFault.Read }
 {
-    let folder = StoreFolder::new(alloc, rt, folder);
-    let ended = check_in(&folder, size, writer);
-    folder.tell();
-    ended
-}
-
-// The same, but for what is said on standard error.
-fn check_in<R: Files + Eprint, W: Write>(
-    folder: &StoreFolder<'_, R>,
-    size: &Size,
-    writer: &mut W,
-) -> Result<u8, ToolFault>
-where
-    R::File: SharedFile,
-    ensures tells { IfOk result (λ status. Adds (TellsChecked size.now) (W.contents writer.old) (W.contents writer.new) status) }
-    ensures memory { result ≢ Err ToolFault.NoMemory }
-    ensures reads { result ≢ Err ToolFault.Read }
-{
-    match folder.look() {
-        Ok(look) => {
-            let Look {
-                lens,
-                guard: _guard,
-            } = look;
-            check_found(folder, size, lens.geometry(), writer)
-        }
-        Err(fault) => stopped(writer, fault),
-    }
-}
-
-// The same of files that tell this size, or do not fit together so.
-fn check_found<R: Files, W: Write>(
-    folder: &StoreFolder<'_, R>,
-    size: &Size,
-    found: Result<Geometry, Misfit>,
-    writer: &mut W,
-) -> Result<u8, ToolFault>
-where
-    R::File: SharedFile,
-    ensures tells { IfOk result (λ status. Adds (TellsChecked size.now) (W.contents writer.old) (W.contents writer.new) status) }
-    ensures memory { result ≢ Err ToolFault.NoMemory }
-    ensures reads { result ≢ Err ToolFault.Read }
-{
-    let Ok(()) = write_found(writer, &found) else {
-        return Err(ToolFault::Write);
-    };
-    match taken_of(size, &found) {
-        Ok(geometry) => check_files(folder, &geometry, writer),
-        Err(status) => Ok(status),
-    }
-}
-
-// Writes the size that files tell, or what does not fit.
-fn write_found<W: Write>(writer: &mut W, found: &Result<Geometry, Misfit>) -> io::Result<()>
-    ensures { OnOk result (Appends (W.contents writer.old) (W.contents writer.new) (found_text found.now)) }
-{
-    match found {
-        Ok(geometry) => write_size(writer, geometry),
-        Err(misfit) => write_misfit(writer, *misfit),
-    }
-}
-
-// Writes how many there are of each thing that files tell.
-fn write_size<W: Write>(writer: &mut W, geometry: &Geometry) -> io::Result<()>
-    ensures { OnOk result (Appends (W.contents writer.old) (W.contents writer.new) (size_text geometry.now)) }
-{
-    let nodes = geometry.nodes;
-    let segments = geometry.segments;
-    let pages = geometry.pages;
-    let words = geometry.words;
-    write!(
-        writer,
-        "nodes {nodes} segments {segments} pages {pages} words {words}\n"
-    )
-}
-
-// The size that a store is taken to have whose files tell this, or the status where it is of none.
-fn taken_of(size: &Size, found: &Result<Geometry, Misfit>) -> Result<Geometry, u8>
-    ensures taken { IfOk result (IsTaken size.now) }
-    ensures none { IfErr result (λ status. IsAsFound size.now × ((status ≡ 1) ⊎ (status ≡ 2))) }
-{
-    match size {
-        Size::Given(geometry) => Ok(*geometry),
-        Size::AsFound(wanted) => match found {
-            Ok(found) => match wanted.over(found) {
-                Some(geometry) => Ok(geometry),
-                None => Err(NOT_UNDERSTOOD),
-            },
-            Err(_) => Err(REFUSED),
-        },
-    }
-}
-
-// What a recovery of the files would say.
-fn check_files<R: Files, W: Write>(
-    folder: &StoreFolder<'_, R>,
-    geometry: &Geometry,
-    writer: &mut W,
-) -> Result<u8, ToolFault>
-where
-    R::File: SharedFile,
-    ensures tells { IfOk result (λ status. Adds (EndsWithRecovery geometry.now) (W.contents writer.old) (W.contents writer.new) status) }
-    ensures memory { result ≢ Err ToolFault.NoMemory }
-    ensures reads { result ≢ Err ToolFault.Read }
-{
-    match folder.areas_of(geometry) {
-        Ok(mut areas) => check_areas(folder.alloc, geometry, areas.as_mut_slice(), writer),
-        Err(fault) => stopped(writer, fault),
-    }
+    look_at(alloc, rt, folder, View::Check(*size), writer)
 }
 
 /// Prints a page of the store in a folder as it would be behind a recovery, and its two slots as they are, as `dump_areas`
@@ -170,65 +58,7 @@ where
     ensures memory { result ≢ Err ToolFault.NoMemory }
     ensures reads { result ≢ Err ToolFault.Read }
 {
-    let folder = StoreFolder::new(alloc, rt, folder);
-    let ended = dump_in(&folder, segment, page, writer);
-    folder.tell();
-    ended
-}
-
-// The same, but for what is said on standard error.
-fn dump_in<R: Files + Eprint, W: Write>(
-    folder: &StoreFolder<'_, R>,
-    segment: u32,
-    page: u32,
-    writer: &mut W,
-) -> Result<u8, ToolFault>
-where
-    R::File: SharedFile,
-    ensures tells { IfOk result (λ status. Adds (TellsDumped segment page) (W.contents writer.old) (W.contents writer.new) status) }
-    ensures memory { result ≢ Err ToolFault.NoMemory }
-    ensures reads { result ≢ Err ToolFault.Read }
-{
-    match folder.look() {
-        Ok(look) => {
-            let Look {
-                lens,
-                guard: _guard,
-            } = look;
-            match lens.geometry() {
-                Ok(geometry) => dump_files(folder, &geometry, segment, page, writer),
-                Err(misfit) => ended(write_misfit(writer, misfit), REFUSED),
-            }
-        }
-        Err(fault) => stopped(writer, fault),
-    }
-}
-
-// The page of the files.
-fn dump_files<R: Files, W: Write>(
-    folder: &StoreFolder<'_, R>,
-    geometry: &Geometry,
-    segment: u32,
-    page: u32,
-    writer: &mut W,
-) -> Result<u8, ToolFault>
-where
-    R::File: SharedFile,
-    ensures tells { IfOk result (λ status. Adds (TellsDump segment page) (W.contents writer.old) (W.contents writer.new) status) }
-    ensures memory { result ≢ Err ToolFault.NoMemory }
-    ensures reads { result ≢ Err ToolFault.Read }
-{
-    match folder.areas_of(geometry) {
-        Ok(mut areas) => dump_areas(
-            folder.alloc,
-            geometry,
-            areas.as_mut_slice(),
-            segment,
-            page,
-            writer,
-        ),
-        Err(fault) => stopped(writer, fault),
-    }
+    look_at(alloc, rt, folder, View::Dump { segment, page }, writer)
 }
 
 /// Prints the picture of the store in a folder, as `draw_areas` over the areas of its files, which tell its size. The folder's
@@ -246,20 +76,38 @@ where
     ensures memory { result ≢ Err ToolFault.NoMemory }
     ensures reads { result ≢ Err ToolFault.Read }
 {
+    look_at(alloc, rt, folder, View::Draw, writer)
+}
+
+// Shows the view of the store in a folder, and says on standard error what failed.
+fn look_at<R: Files + Eprint, W: Write>(
+    alloc: Global,
+    rt: &R,
+    folder: &str,
+    view: View,
+    writer: &mut W,
+) -> Result<u8, ToolFault>
+where
+    R::File: SharedFile,
+    ensures tells { IfOk result (λ status. Adds (TellsView view) (W.contents writer.old) (W.contents writer.new) status) }
+    ensures memory { result ≢ Err ToolFault.NoMemory }
+    ensures reads { result ≢ Err ToolFault.Read }
+{
     let folder = StoreFolder::new(alloc, rt, folder);
-    let ended = draw_in(&folder, writer);
+    let ended = look_in(&folder, view, writer);
     folder.tell();
     ended
 }
 
 // The same, but for what is said on standard error.
-fn draw_in<R: Files + Eprint, W: Write>(
+fn look_in<R: Files, W: Write>(
     folder: &StoreFolder<'_, R>,
+    view: View,
     writer: &mut W,
 ) -> Result<u8, ToolFault>
 where
     R::File: SharedFile,
-    ensures tells { IfOk result (λ status. Adds TellsDrawn (W.contents writer.old) (W.contents writer.new) status) }
+    ensures tells { IfOk result (λ status. Adds (TellsView view) (W.contents writer.old) (W.contents writer.new) status) }
     ensures memory { result ≢ Err ToolFault.NoMemory }
     ensures reads { result ≢ Err ToolFault.Read }
 {
@@ -269,29 +117,120 @@ where
                 lens,
                 guard: _guard,
             } = look;
-            match lens.geometry() {
-                Ok(geometry) => draw_files(folder, &geometry, writer),
-                Err(misfit) => ended(write_misfit(writer, misfit), REFUSED),
-            }
+            show_store(folder, view, lens.geometry(), writer)
         }
         Err(fault) => stopped(writer, fault),
     }
 }
 
-// The picture of the files.
-fn draw_files<R: Files, W: Write>(
+// The view of a store whose files tell this size, or do not fit together so.
+fn show_store<R: Files, W: Write>(
     folder: &StoreFolder<'_, R>,
+    view: View,
+    found: Result<Geometry, Misfit>,
+    writer: &mut W,
+) -> Result<u8, ToolFault>
+where
+    R::File: SharedFile,
+    ensures tells { IfOk result (λ status. Adds (TellsView view) (W.contents writer.old) (W.contents writer.new) status) }
+    ensures memory { result ≢ Err ToolFault.NoMemory }
+    ensures reads { result ≢ Err ToolFault.Read }
+{
+    let Ok(()) = write_front(writer, view, &found) else {
+        return Err(ToolFault::Write);
+    };
+    match taken_of(view, &found) {
+        Ok(geometry) => show_files(folder, view, &geometry, writer),
+        Err(status) => Ok(status),
+    }
+}
+
+// Writes what does not fit, or, in front of a check, the size that files tell.
+fn write_front<W: Write>(
+    writer: &mut W,
+    view: View,
+    found: &Result<Geometry, Misfit>,
+) -> io::Result<()>
+    ensures { OnOk result (Appends (W.contents writer.old) (W.contents writer.new) (front_text found.now view)) }
+{
+    match found {
+        Ok(geometry) => match view {
+            View::Check(_) => write_size(writer, geometry),
+            View::Dump { .. } | View::Draw => Ok(()),
+        },
+        Err(misfit) => write_misfit(writer, *misfit),
+    }
+}
+
+// Writes how many there are of each thing that files tell.
+fn write_size<W: Write>(writer: &mut W, geometry: &Geometry) -> io::Result<()>
+    ensures { OnOk result (Appends (W.contents writer.old) (W.contents writer.new) (size_text geometry.now)) }
+{
+    let nodes = geometry.nodes;
+    let segments = geometry.segments;
+    let pages = geometry.pages;
+    let words = geometry.words;
+    write!(
+        writer,
+        "nodes {nodes} segments {segments} pages {pages} words {words}\n"
+    )
+}
+
+// The size that a store is taken to have whose files tell this, or the status where it is of none.
+fn taken_of(view: View, found: &Result<Geometry, Misfit>) -> Result<Geometry, u8>
+    ensures taken { IfOk result (TakesSize view found.now) }
+    ensures none { IfErr result (HasNoSize view found.now) }
+{
+    match view {
+        View::Check(Size::Given(geometry)) => Ok(geometry),
+        View::Check(Size::AsFound(wanted)) => match found {
+            Ok(found) => match wanted.over(found) {
+                Some(geometry) => Ok(geometry),
+                None => Err(NOT_UNDERSTOOD),
+            },
+            Err(_) => Err(REFUSED),
+        },
+        View::Dump { .. } | View::Draw => match found {
+            Ok(geometry) => Ok(*geometry),
+            Err(_) => Err(REFUSED),
+        },
+    }
+}
+
+// The view of the files of a store of this size.
+fn show_files<R: Files, W: Write>(
+    folder: &StoreFolder<'_, R>,
+    view: View,
     geometry: &Geometry,
     writer: &mut W,
 ) -> Result<u8, ToolFault>
 where
     R::File: SharedFile,
-    ensures tells { IfOk result (λ status. Adds (TellsDraw geometry.now) (W.contents writer.old) (W.contents writer.new) status) }
+    ensures tells { IfOk result (λ status. Adds (ShowsView view geometry.now) (W.contents writer.old) (W.contents writer.new) status) }
     ensures memory { result ≢ Err ToolFault.NoMemory }
     ensures reads { result ≢ Err ToolFault.Read }
 {
     match folder.areas_of(geometry) {
-        Ok(mut areas) => draw_areas(folder.alloc, geometry, areas.as_mut_slice(), writer),
+        Ok(mut areas) => show_areas(folder.alloc, view, geometry, areas.as_mut_slice(), writer),
         Err(fault) => stopped(writer, fault),
+    }
+}
+
+// The view of these areas.
+fn show_areas<D: Area, W: Write>(
+    alloc: Global,
+    view: View,
+    geometry: &Geometry,
+    areas: &mut [D],
+    writer: &mut W,
+) -> Result<u8, ToolFault>
+    ensures tells { IfOk result (λ status. Adds (ShowsView view geometry.now) (W.contents writer.old) (W.contents writer.new) status) }
+    ensures memory { result ≢ Err ToolFault.NoMemory }
+    ensures reads { result ≢ Err ToolFault.Read }
+{
+    match view {
+        View::Check(_) => check_areas(alloc, geometry, areas, writer),
+        View::Dump { segment, page } => dump_areas(alloc, geometry, areas, segment, page, writer),
+        View::Draw => draw_areas(alloc, geometry, areas, writer),
     }
 }

@@ -1,16 +1,16 @@
 //! The making of a store's files.
 ghost use Rattle.std.specs.Prelude.{◌≡◌, ◌≢◌, ◌++◌, true, IfErr, IfOk, OnOk, OnErr, MatchBool};
 ghost use Rattle.lc_recover.specs.Reads.{area_count};
-ghost use Rattle.lc_tool.specs.Files.{Inits, MadeSome, NoneTaken, SomeTaken, Stops, TellsInit, names_of, store_files};
+ghost use Rattle.lc_tool.specs.Files.{Inits, MadeSome, NoneTaken, SomeTaken, TellsInit, names_of, store_files};
+ghost use Rattle.lc_look.specs.Printed.{Stops, Adds};
 ghost use Rattle.lc_text.specs.Text.{exists_text};
 ghost use Rattle.std.specs.Io.KnownBytes.{Appends};
-ghost use Rattle.lc_tool.specs.Store.{Adds};
 
 use crate::ToolFault;
 use crate::folder::{Folder, FolderFault};
-use crate::scripts::{DONE, FAULTED, REFUSED};
 use crate::store_file::StoreFile;
 use lc_core::{Refusal, Reply};
+use lc_look::{DONE, FAULTED, REFUSED};
 use lc_record::Geometry;
 use lc_text::{write_exists, write_no_memory, write_reply};
 use std::io::Write;

@@ -2,9 +2,10 @@
 use crate::ToolFault;
 use crate::answering::answer;
 use crate::noted::Noted;
-use crate::scripts::{FAULTED, no_memory};
+use crate::scripts::no_memory;
 use crate::shared_file::SharedFile;
 use crate::telling::ErrorOutput;
+use lc_look::FAULTED;
 use lc_words::{Asked, read_command_line};
 use std::alloc::{AllocError, Global};
 use std::env;

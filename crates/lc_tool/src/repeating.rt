@@ -7,9 +7,9 @@ ghost use Rattle.lc_tool.specs.Fits.{AsksFor, FollowsAll, FollowsEnd, RefusesAll
 ghost use Rattle.lc_tool.specs.Tells.{KeepsTo};
 ghost use Rattle.lc_text.specs.declared.command.Command.TheVariants.{End, Recover};
 
-use crate::telling::Teller;
 use lc_core::{Event, Reply, World};
 use lc_disk::Stoppable;
+use lc_look::Teller;
 use std::alloc::{AllocError, Global};
 
 // The steps of a flush that say that more are to come.

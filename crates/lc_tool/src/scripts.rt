@@ -7,7 +7,9 @@ ghost use Rattle.lc_core.specs.Geometries.{phase_geometry};
 ghost use Rattle.lc_tool.specs.Outcome.{LeavesFronted, LeavesLine, OpensStore, RefusesFirst, RunsAll, RunsLines, RunsRecovered};
 ghost use Rattle.lc_tool.specs.Script.{front_of, given_as};
 ghost use Rattle.lc_text.specs.Lines.{script_lines};
-ghost use Rattle.lc_tool.specs.Store.{Adds, RefusesLengths, RefusesMerge, RunsStore};
+ghost use Rattle.lc_look.specs.Printed.{Adds};
+ghost use Rattle.lc_look.specs.Refused.{RefusesLengths, RefusesMerge};
+ghost use Rattle.lc_tool.specs.Store.{RunsStore};
 ghost use Rattle.lc_tool.specs.Tells.{TellsAll, TellsFronted, TellsLine, TellsLines, TellsOpening, TellsRecovered, TellsScript};
 ghost use Rattle.lc_text.specs.Text.{no_memory_text, refusal_text, reply_text, too_long_text};
 
@@ -19,10 +21,10 @@ use crate::outcome::Outcome;
 use crate::repeating::recover;
 use crate::source::Source;
 use crate::stop::Stop;
-use crate::telling::{Silent, Teller};
 use crate::verdict::Verdict;
 use lc_core::{Refusal, Reply, World};
 use lc_disk::Stoppable;
+use lc_look::{DONE, FAULTED, NOT_UNDERSTOOD, REFUSED, Silent, Teller};
 use lc_record::Geometry;
 use lc_recover::RecoverFault;
 use lc_text::{
@@ -34,14 +36,6 @@ use std::io::{Read, Write};
 
 // The bytes of the longest script.
 pub(crate) const LONGEST: usize = 1_048_576;
-
-pub(crate) const DONE: u8 = 0;
-
-pub(crate) const REFUSED: u8 = 1;
-
-pub(crate) const NOT_UNDERSTOOD: u8 = 2;
-
-pub(crate) const FAULTED: u8 = 3;
 
 /// Runs a script on a store of these areas, once it is recovered, and answers the status: 0 where all was done, 1 where
 /// something was refused or there was no memory, 2 where a line or the script was not understood, 3 where a device

@@ -1,9 +1,9 @@
 //! The size that a store in a folder is taken to have.
 ghost use Rattle.std.specs.Prelude.{◌≡◌, ◌≢◌, IfErr, IfOk, IfSome};
 ghost use Rattle.lc_tool.specs.Found.{AnswersSized, AreLensOf, IsAsFound, IsMisfit, IsTaken, TellsUnsized};
-ghost use Rattle.lc_tool.specs.Recovers.{TellsRecovery};
+ghost use Rattle.lc_look.specs.Recovers.{TellsRecovery};
 ghost use Rattle.lc_tool.specs.Script.{given_as};
-ghost use Rattle.lc_tool.specs.Store.{Adds};
+ghost use Rattle.lc_look.specs.Printed.{Adds};
 ghost use Rattle.lc_tool.specs.Tells.{TellsScript};
 ghost use Rattle.lc_tool.specs.declared.misfit.Misfit.{Misfit as TheMisfit};
 ghost use Rattle.lc_tool.specs.declared.sizing.SizeFault.TheVariants.{Misfit as HasMisfit};
@@ -14,12 +14,11 @@ use crate::folder::FolderFault;
 use crate::making::stopped;
 use crate::manner::Manner;
 use crate::misfit::{Misfit, write_misfit};
-use crate::recovery::ended;
-use crate::scripts::{NOT_UNDERSTOOD, REFUSED};
 use crate::store_folder::StoreFolder;
 use crate::stores::{recover_store, run_store};
 use crate::telling::ErrorOutput;
 use lc_disk::HeldFile;
+use lc_look::{NOT_UNDERSTOOD, REFUSED, ended};
 use lc_record::Geometry;
 use lc_words::Size;
 use std::alloc::Global;

@@ -1,9 +1,9 @@
 //! Stores in folders.
 ghost use Rattle.std.specs.Prelude.{◌≡◌, ◌≢◌, IfOk, IfSome};
 ghost use Rattle.lc_tool.specs.Files.{TellsInit};
-ghost use Rattle.lc_tool.specs.Recovers.{TellsRecovery};
+ghost use Rattle.lc_look.specs.Recovers.{TellsRecovery};
 ghost use Rattle.lc_tool.specs.Script.{given_as};
-ghost use Rattle.lc_tool.specs.Store.{Adds};
+ghost use Rattle.lc_look.specs.Printed.{Adds};
 ghost use Rattle.lc_tool.specs.Tells.{TellsScript};
 
 use crate::ToolFault;
@@ -11,11 +11,11 @@ use crate::directory::Directory;
 use crate::making::{init_in, stopped};
 use crate::manner::Manner;
 use crate::open_store::OpenStore;
-use crate::recovery::recover_told;
-use crate::scripts::{DONE, run_told};
+use crate::scripts::run_told;
 use crate::store_folder::StoreFolder;
 use crate::telling::{ErrorOutput, PageTeller};
 use lc_disk::HeldFile;
+use lc_look::{DONE, recover_told};
 use lc_record::Geometry;
 use std::alloc::Global;
 use std::io::{Read, Write};

@@ -1,5 +1,6 @@
 //! How far a long recovery is.
 use lc_disk::Area;
+use lc_look::Teller;
 use lc_record::Geometry;
 use lc_recover::{Forecast, survey_areas};
 use std::alloc::Global;
@@ -20,25 +21,6 @@ pub enum ErrorOutput {
     Terminal,
     /// Anything else.
     Other,
-}
-
-/// Is told how far a recovery is.
-pub(crate) trait Teller {
-    /// So many of its steps are done.
-    fn stepped(&self, steps: u64);
-
-    /// It is over, or has failed.
-    fn finished(&self);
-}
-
-/// Says nothing.
-#[derive(Drop)]
-pub(crate) struct Silent;
-
-impl Teller for Silent {
-    fn stepped(&self, _steps: u64) {}
-
-    fn finished(&self) {}
 }
 
 /// Shows on a terminal how many of the pages that a recovery writes are written, where they are more than a thousand.

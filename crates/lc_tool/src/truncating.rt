@@ -4,7 +4,7 @@ ghost use Rattle.std.specs.Option.{ForSome};
 ghost use Rattle.lc_core.specs.Geometries.{phase_geometry};
 ghost use Rattle.lc_tool.specs.Fits.{Performs};
 ghost use Rattle.lc_tool.specs.Session.{truncate_text};
-ghost use Rattle.lc_tool.specs.Store.{Adds};
+ghost use Rattle.lc_look.specs.Printed.{Adds};
 ghost use Rattle.lc_tool.specs.Tells.{TellsCommand};
 ghost use Rattle.lc_tool.specs.Verdict.{verdict_of};
 ghost use Rattle.std.specs.Io.KnownBytes.{Appends};

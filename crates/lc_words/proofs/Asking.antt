@@ -1,6 +1,8 @@
 -- What the words ask for.
-use Rattle.std.proofs.Common.{◌≡◌, ◌∙◌, ◌⊎◌, List, [], Option, Some, true, refl, sym, ap, ap₂, subst, false, inl, inr, codes}
+use Rattle.std.proofs.Common.{◌≡◌, ◌∙◌, ◌⊎◌, ◌&&◌, Bool, List, [], Option, Some, true, refl, sym, ap, ap₂, subst, false, inl, inr, codes}
 use Rattle.std.specs.Option.{option_map_or}
+use Rattle.clap.specs.Faults.{is_free_app}
+use Rattle.clap.specs.Simple.{built}
 use Rattle.clap.specs.Words.{AddsArg, AddsSubcommand, App, Rule, rule_of, with_rule, with_subcommand, HasMatchesOf, IsAmong, Row, Text, app_of, fault_of, is_simple, is_simple_and_free, subcommand_of, subcommand_rows_of}
 use Rattle.clap.specs.declared.builder.arg.Arg.{Arg}
 use Rattle.clap.specs.declared.builder.command.Command.{Command}
@@ -13,13 +15,16 @@ use Rattle.lc_words.specs.CommandLine.{HasCheckedSize, HasNoFiles, HasNumberIn, 
 use Rattle.lc_words.specs.declared.asked.Asked.{Asked}
 use Rattle.lc_words.specs.declared.asked.Asked.TheVariants.{Run, Init, Recover, Check, Dump, Draw, Inspect, Lines, NotUnderstood}
 
-pub program_is_simple : is_simple program_app ≡ true
-unfolding clap_on_literals
-program_is_simple = refl
-
 pub program_is_free : is_simple_and_free program_app ≡ true
 unfolding clap_on_literals
 program_is_free = refl
+
+first_of_both : (x y : Bool) → (x && y) ≡ true → x ≡ true
+first_of_both true y both = refl
+first_of_both false y both = both
+
+pub program_is_simple : is_simple program_app ≡ true
+program_is_simple = first_of_both (is_simple program_app) (is_free_app (built program_app)) program_is_free
 
 pub same_options : (c : Command) (m : ArgMatches) (words : List Text) → app_of c ≡ program_app → HasMatchesOf (app_of c) words m
     → subcommand_rows_of m ≡ subcommand_of program_app words

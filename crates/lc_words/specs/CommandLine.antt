@@ -69,20 +69,28 @@ with_sizes app =
 abbrev pub run_app : App
 run_app = with_rule (with_rule (with_rule (with_rule (with_sizes (new_app (codes "run"))) store_rule) (flag_rule (codes "follow"))) (flag_rule (codes "number"))) (flag_rule (codes "as-found"))
 
+-- over a folder
+abbrev pub folder_app : Text → App
+folder_app name = with_rule (new_app name) (word_rule (codes "folder"))
+
+-- over a store whose size is given, or told by its files
+abbrev pub sized_app : Text → App
+sized_app name = with_rule (with_sizes (folder_app name)) (flag_rule (codes "as-found"))
+
 abbrev pub init_app : App
-init_app = with_sizes (with_rule (new_app (codes "init")) (word_rule (codes "folder")))
+init_app = with_sizes (folder_app (codes "init"))
 
 abbrev pub recover_app : App
-recover_app = with_rule (with_sizes (with_rule (new_app (codes "recover")) (word_rule (codes "folder")))) (flag_rule (codes "as-found"))
+recover_app = sized_app (codes "recover")
 
 abbrev pub check_app : App
-check_app = with_rule (with_sizes (with_rule (new_app (codes "check")) (word_rule (codes "folder")))) (flag_rule (codes "as-found"))
+check_app = sized_app (codes "check")
 
 abbrev pub dump_app : App
-dump_app = with_rule (with_rule (with_rule (new_app (codes "dump")) (word_rule (codes "folder"))) (number_rule (codes "segment"))) (number_rule (codes "page"))
+dump_app = with_rule (with_rule (folder_app (codes "dump")) (number_rule (codes "segment"))) (number_rule (codes "page"))
 
 abbrev pub draw_app : App
-draw_app = with_rule (new_app (codes "draw")) (word_rule (codes "folder"))
+draw_app = folder_app (codes "draw")
 
 abbrev pub inspect_app : App
 inspect_app = with_rule (with_rule (new_app (codes "inspect")) (word_rule (codes "file"))) (flag_rule (codes "reverse"))

@@ -1,7 +1,7 @@
 //! The subcommands of the program, with their options and their help.
 ghost use Rattle.std.specs.Prelude.{◌≡◌, IfOk, false};
 ghost use Rattle.clap.specs.Words.{App, app_of, rule_of};
-ghost use Rattle.lc_words.specs.CommandLine.{IsLike, check_app, draw_app, dump_app, flag_rule, init_app, inspect_app, lines_app, number_rule, option_rule, program_app, recover_app, run_app, with_sizes, word_rule};
+ghost use Rattle.lc_words.specs.CommandLine.{IsLike, check_app, draw_app, dump_app, flag_rule, folder_app, init_app, inspect_app, lines_app, number_rule, option_rule, program_app, recover_app, run_app, sized_app, with_sizes, word_rule};
 
 use clap::builder::ValueParser;
 use clap::{Arg, ArgAction, Command, value_parser};
@@ -80,6 +80,9 @@ const LINES_HELP: &str = "Statuses:
 Example:
   lcrvm lines";
 
+// The help of the folder of a store.
+const STORE_FOLDER: &str = "Folder of the store, that init made";
+
 // The version of the program.
 const VERSION: &str = "0.1.0";
 
@@ -134,83 +137,64 @@ fn run<'a>(alloc: Global) -> Result<Command<'a>, AllocError>
 fn init<'a>(alloc: Global) -> Result<Command<'a>, AllocError>
     ensures { IfOk result (λ command. IsLike command init_app) }
 {
-    let command = Command::new(alloc, "init")
-        .about("Makes the files of a new store, all zeros")
-        .after_help(INIT_HELP)
-        .arg(word(alloc, "folder", "DIR", "Folder that the files are made in"))?;
+    let command = over_folder(
+        alloc,
+        "init",
+        "Makes the files of a new store, all zeros",
+        INIT_HELP,
+        "Folder that the files are made in",
+    )?;
     with_size_options(alloc, command)
 }
 
 fn recover<'a>(alloc: Global) -> Result<Command<'a>, AllocError>
     ensures { IfOk result (λ command. IsLike command recover_app) }
 {
-    let command = Command::new(alloc, "recover")
-        .about("Recovers a store from its logs and prints the number of each segment")
-        .after_help(RECOVER_HELP)
-        .arg(word(
-            alloc,
-            "folder",
-            "DIR",
-            "Folder of the store, that init made",
-        ))?;
-    with_size_options(alloc, command)?.arg(flag(
+    over_sized(
         alloc,
-        "as-found",
+        "recover",
+        "Recovers a store from its logs and prints the number of each segment",
+        RECOVER_HELP,
         "Takes each number of the size that is not given from the store's files",
-    ))
+    )
 }
 
 fn check<'a>(alloc: Global) -> Result<Command<'a>, AllocError>
     ensures { IfOk result (λ command. IsLike command check_app) }
 {
-    let command = Command::new(alloc, "check")
-        .about(
-            "Prints what a recovery of a store would say, and changes nothing; of a size that is not given, the one that is found",
-        )
-        .after_help(CHECK_HELP)
-        .arg(word(
-            alloc,
-            "folder",
-            "DIR",
-            "Folder of the store, that init made",
-        ))?;
-    with_size_options(alloc, command)?.arg(flag(
+    over_sized(
         alloc,
-        "as-found",
+        "check",
+        "Prints what a recovery of a store would say, and changes nothing; of a size that is not given, the one that is found",
+        CHECK_HELP,
         "Takes each number of the size that is not given from the store's files, also where another one is given",
-    ))
+    )
 }
 
 fn dump<'a>(alloc: Global) -> Result<Command<'a>, AllocError>
     ensures { IfOk result (λ command. IsLike command dump_app) }
 {
-    Command::new(alloc, "dump")
-        .about(
-            "Prints a page as it would be behind a recovery, and its two slots, and changes nothing",
-        )
-        .after_help(DUMP_HELP)
-        .arg(word(
-            alloc,
-            "folder",
-            "DIR",
-            "Folder of the store, that init made",
-        ))?
-        .arg(number(alloc, "segment", "SEGMENT", "Segment, from 1"))?
-        .arg(number(alloc, "page", "PAGE", "Page of the segment, from 0"))
+    over_folder(
+        alloc,
+        "dump",
+        "Prints a page as it would be behind a recovery, and its two slots, and changes nothing",
+        DUMP_HELP,
+        STORE_FOLDER,
+    )?
+    .arg(number(alloc, "segment", "SEGMENT", "Segment, from 1"))?
+    .arg(number(alloc, "page", "PAGE", "Page of the segment, from 0"))
 }
 
 fn draw<'a>(alloc: Global) -> Result<Command<'a>, AllocError>
     ensures { IfOk result (λ command. IsLike command draw_app) }
 {
-    Command::new(alloc, "draw")
-        .about("Prints a picture of a store, as SVG, and changes nothing")
-        .after_help(DRAW_HELP)
-        .arg(word(
-            alloc,
-            "folder",
-            "DIR",
-            "Folder of the store, that init made",
-        ))
+    over_folder(
+        alloc,
+        "draw",
+        "Prints a picture of a store, as SVG, and changes nothing",
+        DRAW_HELP,
+        STORE_FOLDER,
+    )
 }
 
 fn inspect<'a>(alloc: Global) -> Result<Command<'a>, AllocError>
@@ -235,6 +219,36 @@ fn lines<'a>(alloc: Global) -> Result<Command<'a>, AllocError>
             .about("Prints the lines that a script may have, with a sentence each")
             .after_help(LINES_HELP),
     )
+}
+
+// A subcommand over a folder, which has to be there.
+fn over_folder<'a>(
+    alloc: Global,
+    name: &'a str,
+    about: &'a str,
+    after_help: &'a str,
+    folder_help: &'a str,
+) -> Result<Command<'a>, AllocError>
+    ensures { IfOk result (λ command. IsLike command (folder_app name.entry.now)) }
+{
+    Command::new(alloc, name)
+        .about(about)
+        .after_help(after_help)
+        .arg(word(alloc, "folder", "DIR", folder_help))
+}
+
+// A subcommand over a store whose size is given, or told by its files.
+fn over_sized<'a>(
+    alloc: Global,
+    name: &'a str,
+    about: &'a str,
+    after_help: &'a str,
+    as_found_help: &'a str,
+) -> Result<Command<'a>, AllocError>
+    ensures { IfOk result (λ command. IsLike command (sized_app name.entry.now)) }
+{
+    let command = over_folder(alloc, name, about, after_help, STORE_FOLDER)?;
+    with_size_options(alloc, command)?.arg(flag(alloc, "as-found", as_found_help))
 }
 
 // The command with the five options of a store's size.

@@ -2,7 +2,7 @@ use Rattle.std.proofs.Common.{refl, sym, subst}
 use Rattle.std.proofs.lemmas.Result.{err_from_is_err_and}
 use Rattle.lc_recover.specs.Recovery.{Tells}
 use Rattle.lc_recover.specs.declared.progress.Progress.{Progress}
-use Rattle.lc_tool.proofs.AreasRecovered.{done_of, explains_step, first_goes, next_goes, recovers}
+use Rattle.lc_look.proofs.AreasRecovered.{done_of, explains_step, first_goes, next_goes, recovers}
 use Rattle.lc_store.specs.Opening.{RefusesAreas}
 use Rattle.lc_store.specs.declared.open_fault.OpenFault.{OpenFault}
 use Rattle.lc_store.proofs.recovering.recovered_on.Goals as goal

@@ -1,6 +1,6 @@
 use Rattle.std.proofs.Common.{◌-◌, ◌*◌}
 use Rattle.lc_recover.specs.Recovery.{all_steps}
-use Rattle.lc_tool.proofs.AreasRecovered.{Goes}
+use Rattle.lc_look.proofs.AreasRecovered.{Goes}
 use Rattle.lc_store.proofs.recovering.recovered_on.Given as goal
 
 abbrev pub invariant-loop-recovery : goal.invariant-loop-recovery

@@ -8,7 +8,7 @@ use Rattle.lc_tool.specs.Outcome.{FollowsLines}
 use Rattle.std.specs.Option.{ForSome}
 use Rattle.lc_core.specs.Geometries.{phase_geometry}
 use Rattle.lc_tool.specs.Script.{Follows, front_of}
-use Rattle.lc_tool.specs.Store.{Adds}
+use Rattle.lc_look.specs.Printed.{Adds}
 use Rattle.lc_tool.specs.Tells.{TellsFollowed}
 use Rattle.lc_tool.proofs.Comings.{lines_limited}
 use Rattle.lc_tool.proofs.Follows.{some_at, some_by, tells_want, wants}

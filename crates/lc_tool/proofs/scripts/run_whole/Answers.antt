@@ -4,7 +4,7 @@ use Rattle.lc_text.specs.Lines.{script_lines}
 use Rattle.lc_text.specs.Text.{no_memory_text, too_long_text}
 use Rattle.lc_tool.specs.Outcome.{RunsLines}
 use Rattle.lc_tool.specs.Script.{front_of}
-use Rattle.lc_tool.specs.Store.{Adds}
+use Rattle.lc_look.specs.Printed.{Adds}
 use Rattle.lc_tool.specs.Tells.{TellsLines}
 use Rattle.lc_tool.proofs.Beginning.{some_all}
 use Rattle.lc_tool.proofs.ScriptLemmas.{long_script, some_weaker, whole_script}

@@ -1,0 +1,5 @@
+pub mod Refusals
+pub mod AreasRecovered
+mod ChecksShown
+mod DumpsShown
+mod PicturesRead

@@ -1,6 +1,0 @@
-use Rattle.lc_core.specs.Readings.{items_of}
-use Rattle.lc_tool.specs.Draws.{AreBarsOf}
-use Rattle.lc_tool.proofs.drawing.bars_of.Given as goal
-
-abbrev pub invariant-loop-node : goal.invariant-loop-node
-invariant-loop-node l = AreBarsOf l.node (items_of l.areas) l.bars.items

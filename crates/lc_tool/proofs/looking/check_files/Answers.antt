@@ -1,6 +1,0 @@
-use Rattle.std.proofs.lemmas.Result.{IfOk-weaker}
-use Rattle.lc_tool.proofs.FilesTold.{stops-check}
-use Rattle.lc_tool.proofs.looking.check_files.Goals as goal
-
-pub returns-in-Err-clause-tells : goal.returns-in-Err-clause-tells
-returns-in-Err-clause-tells g c = IfOk-weaker c.stopped.result _ _ (λ status told. (told.0, stops-check c.args.geometry.now told.0 status told.1, told.2)) c.stopped.ensures.shown
