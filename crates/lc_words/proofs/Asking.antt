@@ -6,6 +6,7 @@ use Rattle.clap.specs.Simple.{built}
 use Rattle.clap.specs.Words.{AddsArg, AddsSubcommand, App, Rule, rule_of, with_rule, with_subcommand, HasMatchesOf, IsAmong, Row, Text, app_of, fault_of, is_simple, is_simple_and_free, subcommand_of, subcommand_rows_of}
 use Rattle.clap.specs.declared.builder.arg.Arg.{Arg}
 use Rattle.clap.specs.declared.builder.command.Command.{Command}
+use Rattle.clap.specs.declared.builder.value_parser.ValueParser.{ValueParser}
 use Rattle.clap.specs.declared.parser.matches.ArgMatches.{ArgMatches}
 use Rattle.clap.specs.declared.error.kind.ErrorKind.{ErrorKind}
 use Rattle.clap.specs.declared.error.kind.ErrorKind.TheVariants.{DisplayHelp, DisplayVersion, OutOfMemory}
@@ -158,3 +159,7 @@ adds_subcommand old sub new app below added is under = (
   added.shape under.1 ∙ ap₂ with_subcommand is.0 (ap (λ (a : App). a.top) under.0),
   added.globals ∙ rw (is.1, under.1) refl,
 )
+
+-- what an option takes may be said otherwise
+pub takes : (command : Command) (app : App) (rule : ValueParser → Rule) (p q : ValueParser) → p ≡ q → IsLike command (with_rule app (rule p)) → IsLike command (with_rule app (rule q))
+takes command app rule p q same like = subst (λ (r : ValueParser). IsLike command (with_rule app (rule r))) same like

@@ -1,7 +1,7 @@
 //! The subcommands of the program, with their options and their help.
-ghost use Rattle.std.specs.Prelude.{◌≡◌, IfOk, false};
-ghost use Rattle.clap.specs.Words.{App, app_of, rule_of};
-ghost use Rattle.lc_words.specs.CommandLine.{IsLike, check_app, draw_app, dump_app, flag_rule, folder_app, init_app, inspect_app, lines_app, number_rule, option_rule, program_app, recover_app, run_app, sized_app, with_sizes, word_rule};
+ghost use Rattle.std.specs.Prelude.{◌≡◌, IfOk, codes, false};
+ghost use Rattle.clap.specs.Words.{App, app_of, new_app, rule_of, with_rule};
+ghost use Rattle.lc_words.specs.CommandLine.{IsLike, check_app, draw_app, dump_app, flag_rule, folder_app, init_app, inspect_app, lines_app, number_rule, option_rule, program_app, recover_app, run_app, sized_app, store_rule, with_sizes, word_rule};
 
 use clap::builder::ValueParser;
 use clap::{Arg, ArgAction, Command, value_parser};
@@ -108,30 +108,45 @@ pub fn program<'a>(alloc: Global) -> Result<Command<'a>, AllocError>
 fn run<'a>(alloc: Global) -> Result<Command<'a>, AllocError>
     ensures { IfOk result (λ command. IsLike command run_app) }
 {
-    let command = Command::new(alloc, "run")
+    let command = with_size_options(alloc, run_command(alloc))?.arg(store(alloc))?;
+    let command = with_flag(
+        alloc,
+        command,
+        "follow",
+        "Runs each line before the next is read, as a terminal or another program asks for it",
+    )?;
+    let command = with_flag(
+        alloc,
+        command,
+        "number",
+        "Puts the number of its line in front of each reply",
+    )?;
+    with_flag(
+        alloc,
+        command,
+        "as-found",
+        "Takes each number of the size that is not given from the store's files; with --store alone",
+    )
+}
+
+// A run, without its options.
+fn run_command<'a>(alloc: Global) -> Command<'a>
+    ensures { IsLike result (new_app (codes "run")) }
+{
+    Command::new(alloc, "run")
         .about("Recovers a store, runs the script on standard input over it and prints the replies")
-        .after_help(RUN_HELP);
-    let store = Arg::new(alloc, "store")
+        .after_help(RUN_HELP)
+}
+
+// The folder of the store that is run on.
+fn store<'a>(alloc: Global) -> Arg<'a>
+    ensures rule { rule_of result ≡ store_rule }
+    ensures local { result.global ≡ false }
+{
+    Arg::new(alloc, "store")
         .long("store")
         .value_name("DIR")
-        .help("Folder of the store, that init made; without it the store is new and in memory");
-    with_size_options(alloc, command)?
-        .arg(store)?
-        .arg(flag(
-            alloc,
-            "follow",
-            "Runs each line before the next is read, as a terminal or another program asks for it",
-        ))?
-        .arg(flag(
-            alloc,
-            "number",
-            "Puts the number of its line in front of each reply",
-        ))?
-        .arg(flag(
-            alloc,
-            "as-found",
-            "Takes each number of the size that is not given from the store's files; with --store alone",
-        ))
+        .help("Folder of the store, that init made; without it the store is new and in memory")
 }
 
 fn init<'a>(alloc: Global) -> Result<Command<'a>, AllocError>
@@ -248,49 +263,80 @@ fn over_sized<'a>(
     ensures { IfOk result (λ command. IsLike command (sized_app name.entry.now)) }
 {
     let command = over_folder(alloc, name, about, after_help, STORE_FOLDER)?;
-    with_size_options(alloc, command)?.arg(flag(alloc, "as-found", as_found_help))
+    let command = with_size_options(alloc, command)?;
+    with_flag(alloc, command, "as-found", as_found_help)
 }
 
 // The command with the five options of a store's size.
 fn with_size_options<'a>(alloc: Global, command: Command<'a>) -> Result<Command<'a>, AllocError>
     ensures { (app : App) → IsLike command.entry app → IfOk result (λ larger. IsLike larger (with_sizes app)) }
 {
-    command
-        .arg(option(
-            alloc,
-            "nodes",
-            "Nodes that share the store, 1 to 8",
-            "1",
-            value_parser!(u32).range(1..=8),
-        ))?
-        .arg(option(
-            alloc,
-            "threads",
-            "Threads of each node, 1 to 16",
-            "1",
-            value_parser!(u32).range(1..=16),
-        ))?
-        .arg(option(
-            alloc,
-            "segments",
-            "Segments of the store, 1 to 16",
-            "1",
-            value_parser!(u32).range(1..=16),
-        ))?
-        .arg(option(
-            alloc,
-            "pages",
-            "Pages of 256 bytes in each segment, 1 to 1024",
-            "1",
-            value_parser!(u32).range(1..=1024),
-        ))?
-        .arg(option(
-            alloc,
-            "words",
-            "Words of 8 bytes in each log, 64 to 4096",
-            "64",
-            value_parser!(u32).range(64..=4096),
-        ))
+    let command = with_option(
+        alloc,
+        command,
+        "nodes",
+        "Nodes that share the store, 1 to 8",
+        "1",
+        value_parser!(u32).range(1..=8),
+    )?;
+    let command = with_option(
+        alloc,
+        command,
+        "threads",
+        "Threads of each node, 1 to 16",
+        "1",
+        value_parser!(u32).range(1..=16),
+    )?;
+    let command = with_option(
+        alloc,
+        command,
+        "segments",
+        "Segments of the store, 1 to 16",
+        "1",
+        value_parser!(u32).range(1..=16),
+    )?;
+    let command = with_option(
+        alloc,
+        command,
+        "pages",
+        "Pages of 256 bytes in each segment, 1 to 1024",
+        "1",
+        value_parser!(u32).range(1..=1024),
+    )?;
+    with_option(
+        alloc,
+        command,
+        "words",
+        "Words of 8 bytes in each log, 64 to 4096",
+        "64",
+        value_parser!(u32).range(64..=4096),
+    )
+}
+
+// The command with one more option, of one number.
+fn with_option<'a>(
+    alloc: Global,
+    command: Command<'a>,
+    name: &'a str,
+    help: &'a str,
+    default: &'a str,
+    parser: ValueParser<'a>,
+) -> Result<Command<'a>, AllocError>
+    ensures { (app : App) → IsLike command.entry app → IfOk result (λ larger. IsLike larger (with_rule app (option_rule name.entry.now default.entry.now parser.entry))) }
+{
+    command.arg(option(alloc, name, help, default, parser))
+}
+
+// The command with one more flag.
+fn with_flag<'a>(
+    alloc: Global,
+    command: Command<'a>,
+    name: &'a str,
+    help: &'a str,
+) -> Result<Command<'a>, AllocError>
+    ensures { (app : App) → IsLike command.entry app → IfOk result (λ larger. IsLike larger (with_rule app (flag_rule name.entry.now))) }
+{
+    command.arg(flag(alloc, name, help))
 }
 
 // An option of one number.

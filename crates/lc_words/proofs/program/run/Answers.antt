@@ -1,20 +1,15 @@
-use Rattle.std.proofs.Common.{◌≡◌, ◌∙◌, ap, codes, false, rules}
-use Rattle.std.proofs.lemmas.Result.{IfOk-weaker}
-use Rattle.clap.specs.Simple.{app_of_fields}
-use Rattle.clap.specs.Words.{new_app, rule_of}
-use Rattle.lc_words.specs.CommandLine.{IsLike, store_rule}
+use Rattle.std.proofs.Common.{codes}
+use Rattle.clap.specs.Words.{App, new_app, with_rule}
+use Rattle.lc_words.specs.CommandLine.{flag_rule, store_rule, with_sizes}
 use Rattle.lc_words.proofs.Asking.{adds_option}
 use Rattle.lc_words.proofs.program.run.Goals as goal
 
 pub returns : goal.returns
 returns c =
-    let start : IsLike c.after_help-command.result (new_app (codes "run")) = (
-      ap app_of_fields c.after_help-command.ensures ∙ ap app_of_fields c.about.ensures ∙ c.new.ensures.app,
-      ap (λ f. f.has_globals) c.after_help-command.ensures ∙ ap (λ f. f.has_globals) c.about.ensures ∙ c.new.ensures.local,
-    ) in
-    let store : rule_of c.help-store.result ≡ store_rule = search rules in
-    let local : c.help-store.result.global ≡ false = search rules in
-    let first = adds_option _ c.in_ok-arg.field-0 _ _ _ c.in_ok-arg.ensures (c.in_ok-with_size_options.ensures _ start) store local in
-    let second = adds_option _ c.in_ok-arg-2.field-0 _ _ _ c.in_ok-arg-2.ensures first c.flag.ensures.rule c.flag.ensures.local in
-    let third = adds_option _ c.in_ok-arg-3.field-0 _ _ _ c.in_ok-arg-3.ensures second c.flag-2.ensures.rule c.flag-2.ensures.local in
-    IfOk-weaker c.arg-4.result _ _ (λ r added. adds_option _ r _ _ _ added third c.flag-3.ensures.rule c.flag-3.ensures.local) c.arg-4.ensures
+    let plain : App = new_app (codes "run") in
+    let stored : App = with_rule (with_sizes plain) store_rule in
+    let followed : App = with_rule stored (flag_rule (codes "follow")) in
+    let numbered : App = with_rule followed (flag_rule (codes "number")) in
+    let like_stored = adds_option c.in_ok-with_size_options.field-0 c.in_ok-command.command c.store.result (with_sizes plain) store_rule c.in_ok-command.ensures
+    (c.in_ok-with_size_options.ensures plain c.run_command.ensures) c.store.ensures.rule c.store.ensures.local in
+    c.with_flag-3.ensures numbered (c.in_ok-command-3.ensures followed (c.in_ok-command-2.ensures stored like_stored))
