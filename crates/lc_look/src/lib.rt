@@ -1,4 +1,4 @@
-//! What is printed of a store, from its areas: the lines of its recovery, a forecast of them, a page, a picture.
+//! What is printed of a store is what its areas read as, and how it ends is the status.
 #![tactic(auto)]
 
 mod checking;
