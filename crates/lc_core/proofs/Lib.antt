@@ -137,3 +137,4 @@ pub mod Replying
 pub mod Layering
 pub mod ShownBytes
 pub mod ComingUp
+pub mod AreaShown

@@ -7,6 +7,7 @@ mod adopted_parts;
 mod adopting;
 mod adoption;
 mod answering;
+mod area_shown;
 mod arriving;
 mod begin_calls;
 mod beginning;

@@ -1,5 +1,5 @@
 //! The recovery of a store, step by step.
-ghost use Rattle.std.specs.Prelude.{[], ◌≡◌, ◌≢◌, ◌+◌, ◌*◌, ◌<◌, ◌≤◌, ◌↔◌, ◌⊎◌, ℕ, List, length, map, take, drop, false, true, Some, None, Err, IfOk, IfErr, OnOk, OnErr, IsTrue, is_ok, slice_get};
+ghost use Rattle.std.specs.Prelude.{[], ◌≡◌, ◌≢◌, ◌+◌, ◌*◌, ◌<◌, ◌≤◌, ◌↔◌, ◌⊎◌, ℕ, List, length, map, take, drop, false, true, Some, None, Err, IfOk, IfErr, OnOk, OnErr, IsTrue, is_ok, option_copied, slice_get};
 ghost use Rattle.lc_model.specs.Merge.{IsLeast};
 ghost use Rattle.lc_record.specs.Content.{Content};
 ghost use Rattle.lc_recover.specs.Fault.{IsRefusal};
@@ -203,6 +203,13 @@ impl<D: Area> Recovery<D> {
         ensures read { IsReadFrom D.Area area at buffer.old buffer.new self.old.areas self.new.areas (is_ok result) }
     {
         self.areas[area].read(at, buffer)
+    }
+
+    /// The area at this place in their order, where there is one.
+    pub fn area(&self, place: usize) -> Option<&D>
+        ensures { option_copied result ≡ slice_get self.now.areas place }
+    {
+        self.areas.get(place)
     }
 
     /// The areas in their order, as they are now.
