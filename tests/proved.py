@@ -12,7 +12,7 @@ import sys
 
 TOP = pathlib.Path(__file__).resolve().parent.parent
 NAMED = re.compile(r"`([\w:]+(?:\{[\w, ]+\})?)`(?:\s+\([^)]*\))?\s*\[([^\[\]]*`[^\[\]]*)\](?!\()")
-HEAD = re.compile(r"^[ \t]*(?:pub(?:\([a-z]+\))? )?(?:final )?fn (\w+)", re.M)
+HEAD = re.compile(r"^[ \t]*(?:pub(?:\([a-z]+\))? )?(?:final )?(?:extern \S+ )?fn (\w+)", re.M)
 CLAUSE = re.compile(r"^\s*ensures\*? (\w+) \{", re.M)
 
 

@@ -1,0 +1,6 @@
+mod AsBox
+mod Held
+mod Parted
+mod Stages
+mod Asked
+mod Mirroring

@@ -1,0 +1,100 @@
+#!/bin/sh
+# Compiles a C program with a store in its own process (clients/c/embedded.h), and tries it: every call once, with what it
+# refuses; kills in the midst of its commits, behind which the program lcrvm, and the C program by turns, have to find each commit
+# that was acknowledged; and each of its writes and syncs failing in turn, behind which `lcrvm recover` has to find them.
+#
+# usage: tests/embedded.sh [PROGRAM [LIBRARY [HEAP]]]
+#   PROGRAM   default: crates/lcrvm/out/lcrvm
+#   LIBRARY   default: crates/lc_c/out/liblc_c.a, which `rt lib` makes in crates/lc_c
+#   HEAP      what a library of Rattle has its memory from; default: c/liblibc_c.a of the kit
+#
+# A C compiler `cc` is wanted. It takes half a minute, and works in a folder of its own below TMPDIR.
+set -eu
+
+top=$(cd "$(dirname "$0")/.." && pwd)
+program=${1:-$top/crates/lcrvm/out/lcrvm}
+library=${2:-$top/crates/lc_c/out/liblc_c.a}
+heap=${3:-}
+[ -n "$heap" ] || heap=$(dirname "$(rt doc | head -n 1)")/c/liblibc_c.a
+kills=12
+
+work=$(mktemp -d "${TMPDIR:-/tmp}/lcrvm-embedded.XXXXXX")
+trap 'rm -rf "$work"' EXIT
+trap 'exit 1' HUP INT TERM
+
+cc -std=c11 -Wall -Wextra -Werror -O2 -c "$top/clients/c/embedded.c" -o "$work/embedded.o"
+cc -std=c11 -Wall -Wextra -Werror -O2 -I"$top/clients/c" "$top/tests/embedded_test.c" "$work/embedded.o" "$library" "$heap" \
+    -o "$work/test"
+
+passed=0
+failed=0
+passes() {
+    passed=$((passed + 1))
+}
+fails() {
+    failed=$((failed + 1))
+    echo "$1"
+}
+
+# The greatest number in the first 256 bytes of segment 1, as the program reads them.
+number_by_program() {
+    printf 'begin 0 0 r1\nread 0 0 1 0 256\n' | "$program" run --as-found --store "$1" |
+        awk '$1 == "bytes" {
+            greatest = 0
+            for (place = 0; place < 32; place++) {
+                number = 0
+                for (byte = 7; byte >= 0; byte--)
+                    number = number * 256 + hex(substr($2, place * 16 + byte * 2 + 1, 2))
+                if (number > greatest) greatest = number
+            }
+            print greatest
+        }
+        function hex(pair) {
+            return 16 * (index("0123456789abcdef", substr(pair, 1, 1)) - 1) + index("0123456789abcdef", substr(pair, 2, 1)) - 1
+        }'
+}
+
+# Whether a store has all that was acknowledged, and at most one commit more.
+has_commits() {
+    [ -n "$2" ] && [ "$2" -ge "$1" ] && [ "$2" -le $(($1 + 1)) ]
+}
+
+mkdir "$work/calls"
+"$program" init "$work/calls" --nodes 2 --segments 3
+if "$work/test" calls "$work/calls"; then passes; else fails "calls"; fi
+
+mkdir "$work/killed"
+"$program" init "$work/killed" --segments 2 --words 1024
+last=0
+for kill in $(seq $kills); do
+    "$work/test" commits "$work/killed" > "$work/told" &
+    process=$!
+    sleep 0.$((kill * 7 % 10))$kill
+    kill -KILL $process
+    wait $process 2> "$work/waited" || true
+    told=$(tail -n 1 "$work/told")
+    [ -z "$told" ] || last=$told
+    if [ $((kill % 2)) -eq 0 ]; then found=$("$work/test" shows "$work/killed"); else found=$(number_by_program "$work/killed"); fi
+    if has_commits "$last" "$found"; then passes; else fails "killed: $last acknowledged, $found found"; fi
+    last=$found
+done
+echo "$last commits, killed $kills times"
+
+call=1
+while :; do
+    rm -rf "$work/faults"
+    mkdir "$work/faults"
+    "$program" init "$work/faults" --segments 2 --words 1024
+    status=0
+    "$work/test" faults "$work/faults" $call > "$work/told" || status=$?
+    [ $status -ne 0 ] || break
+    told=$(tail -n 1 "$work/told")
+    "$program" recover "$work/faults" --as-found > "$work/recovered" || fails "call $call: not recovered"
+    found=$("$work/test" shows "$work/faults")
+    if [ $status -eq 3 ] && has_commits "${told:-0}" "$found"; then passes; else fails "call $call: status $status, ${told:-0} acknowledged, $found found"; fi
+    call=$((call + 1))
+done
+echo "$((call - 1)) writes and syncs failed in turn"
+
+echo "$passed passed, $failed failed"
+[ $failed -eq 0 ]
