@@ -7,21 +7,23 @@ use crate::folder::FolderFault;
 use crate::shared_file::SharedFile;
 use lc_disk::HeldFile;
 use std::alloc::Global;
-use std::cell::Cell;
 use std::fs::{self, File, OpenFile, OpenOptions, TryLockError};
 use std::io::{self, Error, ErrorKind};
 use std::rt::Files;
+use std::sync::OnceLock;
+use std::sync::atomic::{AtomicBool, Ordering};
 
 /// The name of the mark that a fault leaves. It is an empty file.
 const MARK: &str = "fault";
 
-/// The folder of a store, by its path, with what went wrong in it: a fault that is answered does not say why. This project's own.
+/// The folder of a store, by its path, with what went wrong in it: a fault that is answered does not say why. Threads may share
+/// it, and areas of its files that note their faults in it. This project's own.
 pub struct StoreFolder<'a, R> {
     pub(crate) alloc: Global,
     pub(crate) rt: &'a R,
     path: &'a str,
-    fault: Cell<Option<FileFault>>,
-    is_unmarked: Cell<bool>,
+    fault: OnceLock<FileFault>,
+    is_unmarked: AtomicBool,
 }
 
 impl<R> Drop for StoreFolder<'_, R> {
@@ -43,21 +45,19 @@ impl<'a, R> StoreFolder<'a, R> {
             alloc,
             rt,
             path,
-            fault: Cell::new(None),
-            is_unmarked: Cell::new(false),
+            fault: OnceLock::new(),
+            is_unmarked: AtomicBool::new(false),
         }
     }
 
     /// What failed first, if anything did.
     pub fn fault(&self) -> Option<FileFault> {
-        self.fault.get()
+        self.fault.get().copied()
     }
 
     // Notes what failed, unless something did before.
     pub(crate) fn note(&self, place: Place, error: Error) {
-        if self.fault.get().is_none() {
-            self.fault.set(Some(FileFault { place, error }));
-        }
+        let _ = self.fault.try_set(FileFault { place, error });
     }
 
     // What a call gave; its error is noted, unless there was no memory.
@@ -104,7 +104,7 @@ impl<'a, R> StoreFolder<'a, R> {
         R: Eprint,
     {
         let folder = self.path;
-        if let Some(FileFault { place, error }) = self.fault.get() {
+        if let Some(FileFault { place, error }) = self.fault() {
             let _ = match place {
                 Place::Folder => eprintln!(self.rt; "lcrvm: {folder}: {error}"),
                 Place::Parent => eprintln!(self.rt; "lcrvm: {folder}/..: {error}"),
@@ -112,7 +112,7 @@ impl<'a, R> StoreFolder<'a, R> {
                 Place::Mark => eprintln!(self.rt; "lcrvm: {folder}/{MARK}: {error}"),
             };
         }
-        if self.is_unmarked.get() {
+        if self.is_unmarked.load(Ordering::SeqCst) {
             let _ = eprintln!(self.rt;
                 "lcrvm: {folder}/{MARK}: not made: unmount the file system before the store is opened again"
             );
@@ -219,7 +219,7 @@ where
             .create(true)
             .open(self.rt, path);
         if made.is_err() {
-            self.is_unmarked.set(true);
+            self.is_unmarked.store(true, Ordering::SeqCst);
         }
     }
 }
