@@ -1,5 +1,5 @@
 -- What becomes of the areas of a store that is opened.
-use Rattle.std.specs.Prelude.{◌≡◌, List, Option, Some, None, Result, Ok, Err}
+use Rattle.std.specs.Prelude.{◌≡◌, ◌⊎◌, ◌<◌, ℕ, List, Option, Some, None, Result, Ok, Err}
 use Rattle.lc_disk.specs.declared.area.Area.{Ghosts}
 use Rattle.lc_record.specs.declared.geometry.Geometry.{Geometry}
 use Rattle.lc_model.specs.declared.refusal.Refusal.{Refusal}
@@ -14,7 +14,11 @@ use Rattle.lc_core.specs.declared.world.World.{World}
 use Rattle.lc_look.specs.Recovers.{Explains}
 use Rattle.lc_look.specs.Refused.{IsFirstWrong}
 use Rattle.lc_store.specs.declared.open_fault.OpenFault.{OpenFault}
-use Rattle.lc_store.specs.declared.open_fault.OpenFault.TheVariants.{BadGeometry, Folder, NoStore, NotUp}
+use Rattle.lc_store.specs.declared.open_fault.OpenFault.TheVariants.{BadGeometry, BadThreads, Folder, NoStore, NotUp}
+
+-- a node has at least one thread, and at most 16
+abbrev pub IsNoThreadCount : ℕ → Type 0
+IsNoThreadCount threads = (threads ≡ 0) ⊎ (16 < threads)
 
 -- what a fault of a recovery is as one of a call: the refusal of the same name and fields
 abbrev pub as_refused : Option Refusal → CallFault
@@ -38,6 +42,7 @@ module _ {D : Type 0} (a : Ghosts D) where
   Opens g areas (Err (NotUp fault)) = (new : World D a) × ComesUpOn g areas (Err fault) new
   Opens g areas (Err (Folder fault)) = ⊥
   Opens g areas (Err (NoStore misfit)) = ⊥
+  Opens g areas (Err BadThreads) = ⊥
 
   -- why a recovery of these areas has stopped
   abbrev pub RefusesAreas : Geometry → List D → OpenFault → Type 0
@@ -45,3 +50,4 @@ module _ {D : Type 0} (a : Ghosts D) where
   RefusesAreas g areas (NotUp fault) = (why : RecoverFault) × (fault ≡ of_recovery why) × Explains a g areas why
   RefusesAreas g areas (Folder fault) = ⊥
   RefusesAreas g areas (NoStore misfit) = ⊥
+  RefusesAreas g areas BadThreads = ⊥

@@ -19,6 +19,9 @@ pub enum OpenFault {
     /// The files of the folder are those of no store.
     #[error("the files are those of no store")]
     NoStore(Misfit),
+    /// A node has 1 to 16 threads.
+    #[error("a node has 1 to 16 threads")]
+    BadThreads,
     /// The file of this area has not the length of the geometry, or is one too many; the areas are the logs of the nodes and
     /// then the segments.
     #[error("area {area} does not fit the geometry")]

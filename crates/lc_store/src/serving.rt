@@ -1,5 +1,5 @@
 //! A store in a folder that is open for many threads.
-ghost use Rattle.std.specs.Prelude.{◌≡◌, length, IfOk};
+ghost use Rattle.std.specs.Prelude.{◌≡◌, ◌≢◌, length, IfOk};
 ghost use Rattle.lc_stage.specs.Staging.{newcomer};
 ghost use Rattle.lc_stage.specs.Seats.{commit_view, IsSeatOf};
 
@@ -48,6 +48,7 @@ where
         ensures number { IfOk result (λ made. made.0.node.number ≡ 0) }
         ensures room { IfOk result (λ made. made.0.node.stage.room ≡ geometry.words) }
         ensures segments { IfOk result (λ made. length made.0.node.segments.items ≡ geometry.segments) }
+        ensures bad_threads { result ≢ Err OpenFault.BadThreads }
     {
         let OpenStore { areas, guard } = folder.open(&geometry)?;
         let recovered = recovered_on(alloc, geometry, areas)?;
@@ -68,6 +69,7 @@ where
     ) -> Result<(FolderServing<'a, R>, CommitSeat), OpenFault>
         ensures seat { IfOk result (λ made. IsSeatOf made.0.node.stage made.1 × (commit_view made.1 ≡ newcomer made.0.node.stage.room)) }
         ensures number { IfOk result (λ made. made.0.node.number ≡ 0) }
+        ensures bad_threads { result ≢ Err OpenFault.BadThreads }
     {
         Serving::open(alloc, folder, found(folder, ANY_THREADS)?)
     }

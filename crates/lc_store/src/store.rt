@@ -1,8 +1,9 @@
 //! A store in a folder that is open.
-ghost use Rattle.std.specs.Prelude.{◌≡◌, ◌≤◌, true, IfOk, Some};
+ghost use Rattle.std.specs.Prelude.{◌≡◌, ◌≢◌, ◌↔◌, true, IfOk, Some};
 ghost use Rattle.lc_record.specs.declared.geometry.Geometry.{Geometry as Sizes};
 ghost use Rattle.lc_core.specs.Geometries.{phase_geometry};
 ghost use Rattle.lc_core.specs.Observed.{observed};
+ghost use Rattle.lc_store.specs.Opening.{IsNoThreadCount};
 
 use crate::OpenFault;
 use crate::bringing_up::up_on;
@@ -44,27 +45,28 @@ where
     ) -> Result<FolderStore<'a, R>, OpenFault>
         ensures up { IfOk result (λ store. (observed ⟦<StoreArea<'a, R> as Area>⟧ store.world).up ≡ true) }
         ensures geometry { IfOk result (λ store. phase_geometry ⟦<StoreArea<'a, R> as Area>⟧ store.world.phase ≡ Some geometry) }
+        ensures bad_threads { result ≢ Err OpenFault.BadThreads }
     {
         let OpenStore { areas, guard } = folder.open(&geometry)?;
         let world = up_on(alloc, geometry, areas)?;
         Ok(Store { world, guard })
     }
 
-    /// Opens the store that is in the folder, of the size that the lengths of its files tell, with 1 to 16 threads a node: the
-    /// files do not tell these. Else as `open`.
+    /// Opens the store that is in the folder, of the size that the lengths of its files tell, with so many threads a node, 1 to
+    /// 16: the files do not tell these. Else as `open`.
     ///
     /// # Errors
     ///
-    /// As of `open`; and `NoStore` where the files are those of no store.
+    /// `BadThreads` exactly where the threads are 0 or more than 16, before the folder is asked anything; `NoStore` where the
+    /// files are those of no store; and as of `open`.
     pub fn open_as_found(
         alloc: Global,
         folder: &'a StoreFolder<'a, R>,
         threads: u16,
     ) -> Result<FolderStore<'a, R>, OpenFault>
-        requires some { 1 ≤ threads }
-        requires few { threads ≤ 16 }
         ensures up { IfOk result (λ store. (observed ⟦<StoreArea<'a, R> as Area>⟧ store.world).up ≡ true) }
         ensures geometry { IfOk result (λ store. (g : Sizes) × (phase_geometry ⟦<StoreArea<'a, R> as Area>⟧ store.world.phase ≡ Some g) × (g.threads ≡ threads)) }
+        ensures bad_threads { (result ≡ Err OpenFault.BadThreads) ↔ IsNoThreadCount threads }
     {
         Store::open(alloc, folder, found(folder, threads)?)
     }
