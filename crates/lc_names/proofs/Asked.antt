@@ -1,21 +1,26 @@
 -- What a table was and what a command makes of it, as a work tells it.
-use Rattle.std.proofs.Common.{◌≡◌, ◌≢◌, ℕ, zero, suc, ◌+◌, ◌-◌, ◌*◌, ◌^◌, ◌<◌, ◌≤◌, false, List, [], ◌∷◌, ◌++◌, length, take, drop, refl, sym, ap, subst, ◌∙◌, inl, inr, arith}
-use Rattle.std.specs.Prelude.{◌⊎◌, IsTrue, Result, min}
+use Rattle.std.proofs.Common.{◌≡◌, ◌≢◌, ℕ, zero, suc, ◌+◌, ◌-◌, ◌*◌, ◌^◌, ◌<◌, ◌≤◌, false, List, [], ◌∷◌, ◌++◌, Some, length, take, drop, refl, sym, ap, subst, ◌∙◌, inl, inr, arith, true≢false}
+use Rattle.std.specs.Prelude.{◌⊎◌, ◌↔◌, ◌||◌, IfOk, IsErrAnd, IsTrue, MatchResult, Result, Ok, Err, min}
+use Rattle.std.specs.Global.{Vec}
+use Rattle.std.specs.declared.alloc.AllocError.{AllocError}
+use Rattle.std.proofs.lemmas.Bool.{cases_Bool, cases_lt}
 use Rattle.std.proofs.lemmas.List.{length-take-le, take-append-drop}
 use Rattle.lc_record.specs.Content.{put}
 use Rattle.lc_record.specs.Transaction.{is_member}
 use Rattle.lc_tx.specs.declared.tx_fault.TxFault.{TxFault}
-use Rattle.lc_tx.specs.declared.tx_fault.TxFault.TheVariants.{ReadOnly}
-use Rattle.lc_node.specs.Get.{IsUngot}
+use Rattle.lc_tx.specs.declared.tx_fault.TxFault.TheVariants.{NotLocked, OutOfSegment, ReadOnly}
+use Rattle.lc_tx.specs.declared.images.Images.{Ghosts}
+use Rattle.lc_tx.specs.declared.tx.Tx.{Tx}
+use Rattle.lc_tx.specs.Images.{bytes_of}
+use Rattle.lc_tx.specs.Tx.{Holds, RunsOn}
 use Rattle.lc_node.specs.Put.{IsUnput}
 use Rattle.lc_node.specs.Ran.{AgreeOn, Bytes}
-use Rattle.lc_node.specs.declared.get.Get.{Get}
 use Rattle.lc_node.specs.declared.put.Put.{Put}
-use Rattle.lc_names.specs.Answers.{Answers, IsOfEntry, changed}
+use Rattle.lc_names.specs.Answers.{Answers, Change, IsOfEntry, left_by}
+use Rattle.lc_names.specs.Table.{entries_in}
 use Rattle.lc_names.specs.Ask.{IsAsked, IsUnasked}
 use Rattle.lc_names.specs.declared.answer.Answer.{Answer}
 use Rattle.lc_names.specs.declared.ask.Ask.{Ask}
-use Rattle.lc_names.specs.declared.change.Change.{Change}
 use Rattle.lc_names.specs.declared.name_fault.NameFault.{NameFault}
 use Rattle.lc_names.proofs.Cuts.{long_entries}
 
@@ -36,8 +41,8 @@ module _ (ask : Ask) (locked : List ℕ) (before mid : Bytes) (found : List ℕ)
   long = ap (λ (s : List ℕ). length s) is ∙ length-take-le ask.len (before 1) fit
 
   -- an entry of the table ends within it
-  pub ends_within : (change : Change) → IsOfEntry found change → 64 * change.place + 64 ≤ ask.len
-  ends_within change at = omega (arith, long, long_entries found change.place at.0)
+  pub ends_within : (change : Change) → IsOfEntry (entries_in found) change → 64 * change.0 + 64 ≤ ask.len
+  ends_within change at = omega (arith, long, long_entries found change.0 at.0)
 
   pub asked_same : (given : Result Answer NameFault) → Answers ask.command found given found → IsAsked ask locked before given mid
   asked_same given answers = record {
@@ -48,23 +53,23 @@ module _ (ask : Ask) (locked : List ℕ) (before mid : Bytes) (found : List ℕ)
     others = λ s lock apart. agree s lock;
   }
 
-  module _ (change : Change) (at : IsOfEntry found change) where
-    laid : put (64 * change.place) change.entry (before 1) ≡ changed change found ++ drop ask.len (before 1)
+  module _ (change : Change) (at : IsOfEntry (entries_in found) change) where
+    laid : put (64 * change.0) change.1 (before 1) ≡ left_by (Some change) found ++ drop ask.len (before 1)
     laid =
-        ap (λ (s : List ℕ). put (64 * change.place) change.entry s) (sym (take-append-drop ask.len (before 1)) ∙ ap (λ (s : List ℕ). s ++ drop ask.len (before 1)) (sym is))
-        ∙ put-append (64 * change.place) change.entry found (drop ask.len (before 1)) (omega (arith, long, at.1, ends_within change at))
+        ap (λ (s : List ℕ). put (64 * change.0) change.1 s) (sym (take-append-drop ask.len (before 1)) ∙ ap (λ (s : List ℕ). s ++ drop ask.len (before 1)) (sym is))
+        ∙ put-append (64 * change.0) change.1 found (drop ask.len (before 1)) (omega (arith, long, at.1, ends_within change at))
 
-    pub asked_changed : (given : Result Answer NameFault) (after : Bytes) → Answers ask.command found given (changed change found)
-        → after 1 ≡ put (64 * change.place) change.entry (mid 1) → ((s : ℕ) → IsTrue (is_member s locked) → s ≢ 1 → after s ≡ mid s) → IsAsked ask locked before given after
+    pub asked_changed : (given : Result Answer NameFault) (after : Bytes) → Answers ask.command found given (left_by (Some change) found)
+        → after 1 ≡ put (64 * change.0) change.1 (mid 1) → ((s : ℕ) → IsTrue (is_member s locked) → s ≢ 1 → after s ≡ mid s) → IsAsked ask locked before given after
     asked_changed given after answers wrote others = record {
       within = fit;
-      left = changed change found;
-      answers = subst (λ (t : List ℕ). Answers ask.command t given (changed change found)) is answers;
-      table = λ lock. wrote ∙ (ap (λ (s : List ℕ). put (64 * change.place) change.entry s) (agree 1 lock) ∙ laid);
+      left = left_by (Some change) found;
+      answers = subst (λ (t : List ℕ). Answers ask.command t given (left_by (Some change) found)) is answers;
+      table = λ lock. wrote ∙ (ap (λ (s : List ℕ). put (64 * change.0) change.1 s) (agree 1 lock) ∙ laid);
       others = λ s lock apart. others s lock apart ∙ agree s lock;
     }
 
-    past : (p : Put) → p.segment ≡ 1 → p.offset ≡ 64 * change.place → p.bytes.now ≡ change.entry → p.offset + 64 < 2 ^ 32
+    past : (p : Put) → p.segment ≡ 1 → p.offset ≡ 64 * change.0 → p.bytes.now ≡ change.1 → p.offset + 64 < 2 ^ 32
         → IsTrue (is_member p.segment locked) ⊎ (2 ^ 32 ≤ length p.bytes.now) → min (length (mid p.segment)) (2 ^ 32 - 1) < p.offset + length p.bytes.now → ⊥
     past p segment offset bytes small locked_or_long over =
         let size : length p.bytes.now ≡ 64 = ap (λ (s : List ℕ). length s) bytes ∙ at.1 in
@@ -78,7 +83,7 @@ module _ (ask : Ask) (locked : List ℕ) (before mid : Bytes) (found : List ℕ)
         ]
 
     -- a whole entry of the table is refused for ranges and memory alone, or for the lock
-    pub unasked_put : (p : Put) (fault : TxFault) → p.segment ≡ 1 → p.offset ≡ 64 * change.place → p.bytes.now ≡ change.entry → p.offset + 64 < 2 ^ 32
+    pub unasked_put : (p : Put) (fault : TxFault) → p.segment ≡ 1 → p.offset ≡ 64 * change.0 → p.bytes.now ≡ change.1 → p.offset + 64 < 2 ^ 32
         → IsUnput p locked mid fault → IsUnasked ask locked before fault
     unasked_put p fault segment offset bytes small unput = elim unput [
       | inl why ↦ inl (why.0, subst (λ (s : ℕ). is_member s locked ≡ false) segment why.1)
@@ -97,13 +102,24 @@ module _ (ask : Ask) (locked : List ℕ) (before mid : Bytes) (found : List ℕ)
       ]
     ]
 
-pub unasked_get : (ask : Ask) (locked : List ℕ) (before : Bytes) (got : Get) (fault : TxFault) → got.segment ≡ 1 → got.offset ≡ 0 → got.len ≡ ask.len → IsUngot got locked before fault → IsUnasked ask locked before fault
-unasked_get ask locked before got fault segment offset len ungot =
-    let same : length (before got.segment) ≡ length (before 1) = ap (λ (s : ℕ). length (before s)) segment in
-    elim ungot [
-      | inl why ↦ inl (why.0, subst (λ (s : ℕ). is_member s locked ≡ false) segment why.1)
-      | inr more ↦ elim more [
-        | inl why ↦ inr (inr (inl (why.0, omega (arith, why.1, same, offset, len))))
-        | inr why ↦ inr (inr (inr (inr (why.0, omega (arith, why.2, same, offset, len)))))
-      ]
+-- The bytes are read, or not
+
+module _ {I : Type 0} (m : Ghosts I) (old : I) (tx : Tx) (on : RunsOn m old tx) (ask : Ask) (r : Result (Vec ℕ) TxFault)
+    (unlocked : (r ≡ Err NotLocked) ↔ (Holds tx 1 → ⊥))
+    (outside : (r ≡ Err OutOfSegment) ↔ (Holds tx 1 × (length (bytes_of m old 1) < 0 + ask.len))) where
+  ok_not : (v : Vec ℕ) (f : TxFault) → r ≡ Ok v → r ≡ Err f → ⊥
+  ok_not v f is not = absurd cc
+
+  pub read_within : (v : Vec ℕ) → r ≡ Ok v → 0 + ask.len ≤ length (bytes_of m old 1)
+  read_within v is = elim (cases_lt (length (bytes_of m old 1)) (0 + ask.len)) [
+    | inl over ↦ elim (cases_Bool (is_member 1 tx.locked.items || is_member 1 tx.reading.items)) [
+      | inl holds ↦ absurd (ok_not v OutOfSegment is (outside.1 (holds, over)))
+      | inr none ↦ absurd (ok_not v NotLocked is (unlocked.1 (λ holds. true≢false (sym holds ∙ none))))
     ]
+    | inr within ↦ omega (arith, within)
+  ]
+
+-- what was decided, once a want of memory is told otherwise
+pub told_through : {D : Type 0} (P : D → Type 0) (r : Result D AllocError) (s : Result D TxFault) (Otherwise : AllocError → TxFault → Type 0) → MatchResult r (λ x. s ≡ Ok x) (λ e. IsErrAnd s (Otherwise e)) → IfOk r P → (d : D) → s ≡ Ok d → P d
+told_through P (Ok x) s Otherwise cases told d is = let same : x ≡ d = cc in subst P same told
+told_through {D} P (Err e) s Otherwise cases told d is = absurd (subst (λ (x : Result D TxFault). IsErrAnd x (Otherwise e)) is cases)

@@ -1,22 +1,14 @@
 -- The entries of a table, one behind another.
-use Rattle.std.proofs.Common.{◌≡◌, ℕ, zero, suc, ◌+◌, ◌*◌, ◌/◌, ◌<◌, ◌≤◌, List, [], ◌∷◌, ◌++◌, length, get_or, set, take, drop, refl, ap, ◌∙◌, arith}
-use Rattle.std.proofs.lemmas.List.{drop-drop, drop_at, length-drop, length-take-le, take_at}
+use Rattle.std.proofs.Common.{◌≡◌, ℕ, zero, suc, ◌+◌, ◌*◌, ◌/◌, ◌<◌, ◌≤◌, List, [], ◌∷◌, ◌++◌, length, set, take, drop, refl, ap, ◌∙◌, arith}
+use Rattle.std.proofs.lemmas.List.{drop_at, length-drop, length-take-le, take_at}
 use Rattle.lc_record.specs.Content.{put}
 use Rattle.lc_record.proofs.SegmentLemmas.{length-put}
-use Rattle.lc_names.specs.Table.{cut, entries_in}
+use Rattle.std.specs.Simd.{first_chunks}
+use Rattle.lc_names.specs.Table.{entries_in}
 
-pub length_cut : (size n : ℕ) (bytes : List ℕ) → length (cut size n bytes) ≡ n
-unfolding cut
+pub length_cut : (size n : ℕ) (bytes : List ℕ) → length (first_chunks size n bytes) ≡ n
 length_cut size zero bytes = refl
 length_cut size (suc n) bytes = ap suc (length_cut size n (drop size bytes))
-
-pub cut_at : (size n : ℕ) (bytes : List ℕ) (k : ℕ) → k < n → get_or (cut size n bytes) k [] ≡ take size (drop (size * k) bytes)
-unfolding cut
-cut_at size zero bytes k l = absurd (omega arith)
-cut_at size (suc n) bytes zero l = let none : 0 ≡ size * 0 = omega arith in ap (λ (m : ℕ). take size (drop m bytes)) none
-cut_at size (suc n) bytes (suc k) l =
-    let next : size + size * k ≡ size * suc k = omega arith in
-    cut_at size n (drop size bytes) k (omega arith) ∙ ap (λ (s : List ℕ). take size s) (drop-drop (size * k) size bytes ∙ ap (λ (m : ℕ). drop m bytes) next)
 
 pub put_front : (items old : List ℕ) → length items ≤ length old → put 0 items old ≡ items ++ drop (length items) old
 put_front [] [] l = refl
@@ -31,16 +23,14 @@ put_behind (suc n) (suc m) place items [] e l = absurd (omega arith)
 put_behind (suc n) (suc m) place items (o ∷ os) e l = ap (λ (s : List ℕ). o ∷ s) (put_behind n m place items os (omega arith) (omega arith))
 
 -- a head of one size, and what is behind it, are what they are
-headed : (size n : ℕ) (head rest bytes : List ℕ) → length head ≡ size → bytes ≡ head ++ rest → cut size (suc n) bytes ≡ head ∷ cut size n rest
-unfolding cut
+headed : (size n : ℕ) (head rest bytes : List ℕ) → length head ≡ size → bytes ≡ head ++ rest → first_chunks size (suc n) bytes ≡ head ∷ first_chunks size n rest
 headed size n head rest bytes long is =
-    ap (λ (s : List ℕ). take size s ∷ cut size n (drop size s)) is
-    ∙ (ap (λ (s : List ℕ). s ∷ cut size n (drop size (head ++ rest))) (take_at head rest size long)
-    ∙ ap (λ (s : List ℕ). head ∷ cut size n s) (drop_at head rest size long))
+    ap (λ (s : List ℕ). take size s ∷ first_chunks size n (drop size s)) is
+    ∙ (ap (λ (s : List ℕ). s ∷ first_chunks size n (drop size (head ++ rest))) (take_at head rest size long)
+    ∙ ap (λ (s : List ℕ). head ∷ first_chunks size n s) (drop_at head rest size long))
 
 -- a piece that is put over a piece takes its place
-pub cut_put : (size n : ℕ) (bytes piece : List ℕ) (k : ℕ) → length piece ≡ size → k < n → size * n ≤ length bytes → cut size n (put (size * k) piece bytes) ≡ set (cut size n bytes) k piece
-unfolding cut
+pub cut_put : (size n : ℕ) (bytes piece : List ℕ) (k : ℕ) → length piece ≡ size → k < n → size * n ≤ length bytes → first_chunks size n (put (size * k) piece bytes) ≡ set (first_chunks size n bytes) k piece
 cut_put size zero bytes piece k long l fits = absurd (omega arith)
 cut_put size (suc n) bytes piece zero long l fits =
     let front : size * 0 ≡ 0 = omega arith in
@@ -58,9 +48,9 @@ pub length_entries : (table : List ℕ) → length (entries_in table) ≡ length
 unfolding entries_in
 length_entries table = length_cut 64 (length table / 64) table
 
-pub entry_is : (table : List ℕ) (k : ℕ) → k < length (entries_in table) → get_or (entries_in table) k [] ≡ take 64 (drop (64 * k) table)
+pub entries_are : (table : List ℕ) → first_chunks 64 (length table / 64) table ≡ entries_in table
 unfolding entries_in
-entry_is table k l = cut_at 64 (length table / 64) table k (omega (arith, l, length_entries table))
+entries_are table = refl
 
 pub long_entries : (table : List ℕ) (k : ℕ) → k < length (entries_in table) → 64 * k + 64 ≤ length table
 long_entries table k l = omega (arith, l, length_entries table)
@@ -68,5 +58,5 @@ long_entries table k l = omega (arith, l, length_entries table)
 pub entries_put : (table entry : List ℕ) (k : ℕ) → length entry ≡ 64 → k < length (entries_in table) → entries_in (put (64 * k) entry table) ≡ set (entries_in table) k entry
 unfolding entries_in
 entries_put table entry k long l =
-    ap (λ (n : ℕ). cut 64 (n / 64) (put (64 * k) entry table)) (length-put (64 * k) entry table)
+    ap (λ (n : ℕ). first_chunks 64 (n / 64) (put (64 * k) entry table)) (length-put (64 * k) entry table)
     ∙ cut_put 64 (length table / 64) table entry k long (omega (arith, l, length_entries table)) (omega arith)

@@ -1,6 +1,7 @@
 mod Asked
 mod Changes
 mod Cuts
+mod Decided
 mod Entries
 mod Listed
 mod Lookups

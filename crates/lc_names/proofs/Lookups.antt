@@ -4,7 +4,7 @@ use Rattle.std.specs.Prelude.{IsTrue}
 use Rattle.std.proofs.lemmas.Bool.{cases_eq, false_from_ne_true, true≢false}
 use Rattle.std.proofs.lemmas.List.{length-set}
 use Rattle.lc_names.specs.Entry.{Fits, attributes_of, is_named, is_used}
-use Rattle.lc_names.specs.Table.{HoldsTable, attributes_among, entries_in, entry_at}
+use Rattle.lc_names.specs.Table.{IsTable, attributes_among, entry_at}
 
 pub passed : (name entry : List ℕ) (rest : Option (List ℕ)) → is_named name entry ≡ false → cond (is_named name entry) (Some (attributes_of entry)) rest ≡ rest
 passed name entry rest not = ap (λ (b : Bool). cond b (Some (attributes_of entry)) rest) not
@@ -67,25 +67,25 @@ set_gone name entries k entry l not never = none_among name (set entries k entry
 -- Tables
 
 -- who has a name is the only one
-pub elsewhere_not : (table name : List ℕ) (k : ℕ) → HoldsTable table → k < length (entries_in table) → is_named name (entry_at table k) ≡ true → IsElsewhereNot name (entries_in table) k
-elsewhere_not table name k holds l is j m apart = false_from_ne_true (is_named name (entry_at table j)) (λ other. apart (holds.once name j k m l other is))
+pub elsewhere_not : (entries : List (List ℕ)) (name : List ℕ) (k : ℕ) → IsTable entries → k < length entries → is_named name (entry_at entries k) ≡ true → IsElsewhereNot name entries k
+elsewhere_not entries name k holds l is j m apart = false_from_ne_true (is_named name (entry_at entries j)) (λ other. apart (holds.once name j k m l other is))
 
 pub nowhere_not : (name : List ℕ) (entries : List (List ℕ)) (k : ℕ) → attributes_among name entries ≡ None → IsElsewhereNot name entries k
 nowhere_not name entries k none j l apart = absent_each name entries none j l
 
 -- a table with one entry changed is one where the entry fits and its name is in no other
-module _ (table left : List ℕ) (k : ℕ) (entry : List ℕ) (l : k < length (entries_in table)) (is : entries_in left ≡ set (entries_in table) k entry) where
-  same_length : length (entries_in left) ≡ length (entries_in table)
-  same_length = ap (λ (es : List (List ℕ)). length es) is ∙ length-set (entries_in table) k entry
+module _ (entries left : List (List ℕ)) (k : ℕ) (entry : List ℕ) (l : k < length entries) (is : left ≡ set entries k entry) where
+  same_length : length left ≡ length entries
+  same_length = ap (λ (es : List (List ℕ)). length es) is ∙ length-set entries k entry
 
   at_place : entry_at left k ≡ entry
-  at_place = ap (λ (es : List (List ℕ)). get_or es k []) is ∙ get_or-set_same (entries_in table) k entry [] l
+  at_place = ap (λ (es : List (List ℕ)). get_or es k []) is ∙ get_or-set_same entries k entry [] l
 
-  at_other : (j : ℕ) → j ≢ k → entry_at left j ≡ entry_at table j
-  at_other j apart = ap (λ (es : List (List ℕ)). get_or es j []) is ∙ get_or-set_other (entries_in table) k j entry [] apart
+  at_other : (j : ℕ) → j ≢ k → entry_at left j ≡ entry_at entries j
+  at_other j apart = ap (λ (es : List (List ℕ)). get_or es j []) is ∙ get_or-set_other entries k j entry [] apart
 
-  module _ (holds : HoldsTable table) (fit : IsTrue (is_used entry) → Fits entry) (alone : (name : List ℕ) → is_named name entry ≡ true → IsElsewhereNot name (entries_in table) k) where
-    fit_at : (j : ℕ) → j < length (entries_in left) → IsTrue (is_used (entry_at left j)) → Fits (entry_at left j)
+  module _ (holds : IsTable entries) (fit : IsTrue (is_used entry) → Fits entry) (alone : (name : List ℕ) → is_named name entry ≡ true → IsElsewhereNot name entries k) where
+    fit_at : (j : ℕ) → j < length left → IsTrue (is_used (entry_at left j)) → Fits (entry_at left j)
     fit_at j m used = elim (cases_eq j k) [
       | inl e ↦
           let here : entry_at left j ≡ entry = ap (λ (i : ℕ). entry_at left i) e ∙ at_place in
@@ -93,16 +93,16 @@ module _ (table left : List ℕ) (k : ℕ) (entry : List ℕ) (l : k < length (e
       | inr apart ↦ subst Fits (sym (at_other j apart)) (holds.fit j (omega (arith, m, same_length)) (subst (λ (x : List ℕ). IsTrue (is_used x)) (at_other j apart) used))
     ]
 
-    named_there : (name : List ℕ) (j : ℕ) → j ≢ k → is_named name (entry_at left j) ≡ true → is_named name (entry_at table j) ≡ true
+    named_there : (name : List ℕ) (j : ℕ) → j ≢ k → is_named name (entry_at left j) ≡ true → is_named name (entry_at entries j) ≡ true
     named_there name j apart named = sym (ap (λ (x : List ℕ). is_named name x) (at_other j apart)) ∙ named
 
     -- the changed entry and another have no name in common
-    not_both : (name : List ℕ) (i j : ℕ) → i ≡ k → j ≢ k → j < length (entries_in left) → is_named name (entry_at left i) ≡ true → is_named name (entry_at left j) ≡ true → ⊥
+    not_both : (name : List ℕ) (i j : ℕ) → i ≡ k → j ≢ k → j < length left → is_named name (entry_at left i) ≡ true → is_named name (entry_at left j) ≡ true → ⊥
     not_both name i j here apart m one two =
         true≢false (sym (named_there name j apart two)
         ∙ alone name (sym (ap (λ (x : List ℕ). is_named name x) (ap (λ (n : ℕ). entry_at left n) here ∙ at_place)) ∙ one) j (omega (arith, m, same_length)) apart)
 
-    once_at : (name : List ℕ) (i j : ℕ) → i < length (entries_in left) → j < length (entries_in left) → is_named name (entry_at left i) ≡ true → is_named name (entry_at left j) ≡ true → i ≡ j
+    once_at : (name : List ℕ) (i j : ℕ) → i < length left → j < length left → is_named name (entry_at left i) ≡ true → is_named name (entry_at left j) ≡ true → i ≡ j
     once_at name i j m n one two = elim (cases_eq i k) [
       | inl here ↦ elim (cases_eq j k) [
         | inl too ↦ here ∙ sym too
@@ -114,5 +114,5 @@ module _ (table left : List ℕ) (k : ℕ) (entry : List ℕ) (l : k < length (e
       ]
     ]
 
-    pub holds_left : HoldsTable left
+    pub holds_left : IsTable left
     holds_left = record { fit = fit_at; once = once_at }

@@ -1,91 +1,98 @@
 -- What a command makes of a table, and what is answered.
-use Rattle.std.specs.Prelude.{◌≡◌, ℕ, ◌*◌, ◌<◌, List, length, map, Option, Some, None, IsSome, Result, MatchResult}
+use Rattle.std.specs.Prelude.{◌≡◌, ℕ, ◌*◌, ◌<◌, List, length, map, set, Option, Some, None, IsSome, IfSome, Result, MatchResult}
 use Rattle.std.specs.Global.{Vec}
 use Rattle.lc_record.specs.Content.{put}
 use Rattle.lc_names.specs.Entry.{AreAttributes, IsName}
 use Rattle.lc_names.specs.Names.{IsCreated, IsRemoved, IsRenamed}
-use Rattle.lc_names.specs.Table.{HoldsTable, IsFull, attributes_in, entries_in, names_in}
+use Rattle.lc_names.specs.Table.{HoldsTable, IsFull, IsTable, attributes_in, entries_in, names_in}
 use Rattle.lc_names.specs.declared.answer.Answer.{Answer}
-use Rattle.lc_names.specs.declared.answer.Answer.TheVariants.{Attributes, Created, Names, Removed, Renamed}
-use Rattle.lc_names.specs.declared.change.Change.{Change}
+use Rattle.lc_names.specs.declared.answer.Answer.TheVariants.{Attributes, Done, Names}
 use Rattle.lc_names.specs.declared.command.Command.{Command}
-use Rattle.lc_names.specs.declared.command.Command.TheVariants.{Create, Find, List as Lists, Remove, Rename}
+use Rattle.lc_names.specs.declared.command.Command.TheVariants.{Create, Find, List as ListAll, Remove, Rename}
 use Rattle.lc_names.specs.declared.entry.TheConstants.{ENTRY}
 use Rattle.lc_names.specs.declared.name_fault.NameFault.{NameFault}
 use Rattle.lc_names.specs.declared.name_fault.NameFault.TheVariants.{BadAttributes, BadName, Exists, Full, NoName, NoTable}
 
--- what a change leaves
-abbrev pub changed : Change → List ℕ → List ℕ
-changed change table = put (ENTRY * change.place) change.entry table
+-- the place of an entry that changes, and the bytes that it gets
+abbrev pub Change : Type 0
+Change = ℕ × List ℕ
 
+-- what a change leaves of the bytes of a table
 abbrev pub left_by : Option Change → List ℕ → List ℕ
 left_by None table = table
-left_by (Some change) table = changed change table
+left_by (Some change) table = put (ENTRY * change.0) change.1 table
 
 -- the entry is there, and is a whole one
-abbrev pub IsOfEntry : List ℕ → Change → Type 0
-IsOfEntry table change = (change.place < length (entries_in table)) × (length change.entry ≡ ENTRY)
+abbrev pub IsOfEntry : List (List ℕ) → Change → Type 0
+IsOfEntry entries change = (change.0 < length entries) × (length change.1 ≡ ENTRY)
 
 -- a change of an entry, which leaves what it is to leave
-abbrev pub Changes : List ℕ → (List ℕ → Type 0) → Change → Type 0
-Changes table Leaves change = IsOfEntry table change × Leaves (changed change table)
+abbrev pub Changes : List (List ℕ) → (List (List ℕ) → Type 0) → Change → Type 0
+Changes entries Leaves change = IsOfEntry entries change × Leaves (set entries change.0 change.1)
 
--- each command: what is left where it is done, and where it is refused
+-- each command: which entries are left where it is done, and where it is refused
 
-abbrev pub Creates : List ℕ → List ℕ → List ℕ → List ℕ → Type 0
-Creates table name attributes left =
-    HoldsTable table × HoldsTable left × IsName name × AreAttributes attributes × IsCreated name attributes (attributes_in table) (attributes_in left)
+abbrev pub Creates : List (List ℕ) → List ℕ → List ℕ → List (List ℕ) → Type 0
+Creates entries name attributes left =
+    IsTable entries × IsTable left × IsName name × AreAttributes attributes × IsCreated name attributes (attributes_in entries) (attributes_in left)
 
-abbrev pub IsUncreated : List ℕ → List ℕ → List ℕ → NameFault → Type 0
-IsUncreated table name attributes NoTable = HoldsTable table → ⊥
-IsUncreated table name attributes BadName = HoldsTable table × (IsName name → ⊥)
-IsUncreated table name attributes BadAttributes = HoldsTable table × IsName name × (AreAttributes attributes → ⊥)
-IsUncreated table name attributes Exists = HoldsTable table × IsName name × AreAttributes attributes × IsSome (attributes_in table name)
-IsUncreated table name attributes Full = HoldsTable table × IsName name × AreAttributes attributes × (attributes_in table name ≡ None) × IsFull table
-IsUncreated table name attributes NoName = ⊥
+abbrev pub IsUncreated : List (List ℕ) → List ℕ → List ℕ → NameFault → Type 0
+IsUncreated entries name attributes NoTable = IsTable entries → ⊥
+IsUncreated entries name attributes BadName = IsTable entries × (IsName name → ⊥)
+IsUncreated entries name attributes BadAttributes = IsTable entries × IsName name × (AreAttributes attributes → ⊥)
+IsUncreated entries name attributes Exists = IsTable entries × IsName name × AreAttributes attributes × IsSome (attributes_in entries name)
+IsUncreated entries name attributes Full = IsTable entries × IsName name × AreAttributes attributes × (attributes_in entries name ≡ None) × IsFull entries
+IsUncreated entries name attributes NoName = ⊥
 
-abbrev pub Renames : List ℕ → List ℕ → List ℕ → List ℕ → Type 0
-Renames table from to left = HoldsTable table × HoldsTable left × IsName from × IsName to × IsRenamed from to (attributes_in table) (attributes_in left)
+abbrev pub Renames : List (List ℕ) → List ℕ → List ℕ → List (List ℕ) → Type 0
+Renames entries from to left = IsTable entries × IsTable left × IsName from × IsName to × IsRenamed from to (attributes_in entries) (attributes_in left)
 
 -- a name is not renamed to itself: it exists
-abbrev pub IsUnrenamed : List ℕ → List ℕ → List ℕ → NameFault → Type 0
-IsUnrenamed table from to NoTable = HoldsTable table → ⊥
-IsUnrenamed table from to BadName = HoldsTable table × (IsName from × IsName to → ⊥)
-IsUnrenamed table from to NoName = HoldsTable table × IsName from × IsName to × (attributes_in table from ≡ None)
-IsUnrenamed table from to Exists = HoldsTable table × IsName from × IsName to × IsSome (attributes_in table from) × IsSome (attributes_in table to)
-IsUnrenamed table from to BadAttributes = ⊥
-IsUnrenamed table from to Full = ⊥
+abbrev pub IsUnrenamed : List (List ℕ) → List ℕ → List ℕ → NameFault → Type 0
+IsUnrenamed entries from to NoTable = IsTable entries → ⊥
+IsUnrenamed entries from to BadName = IsTable entries × (IsName from × IsName to → ⊥)
+IsUnrenamed entries from to NoName = IsTable entries × IsName from × IsName to × (attributes_in entries from ≡ None)
+IsUnrenamed entries from to Exists = IsTable entries × IsName from × IsName to × IsSome (attributes_in entries from) × IsSome (attributes_in entries to)
+IsUnrenamed entries from to BadAttributes = ⊥
+IsUnrenamed entries from to Full = ⊥
 
-abbrev pub Removes : List ℕ → List ℕ → List ℕ → Type 0
-Removes table name left = HoldsTable table × HoldsTable left × IsName name × IsRemoved name (attributes_in table) (attributes_in left)
+abbrev pub Removes : List (List ℕ) → List ℕ → List (List ℕ) → Type 0
+Removes entries name left = IsTable entries × IsTable left × IsName name × IsRemoved name (attributes_in entries) (attributes_in left)
 
 -- of a name that is to be removed or found
-abbrev pub IsMissed : List ℕ → List ℕ → NameFault → Type 0
-IsMissed table name NoTable = HoldsTable table → ⊥
-IsMissed table name BadName = HoldsTable table × (IsName name → ⊥)
-IsMissed table name NoName = HoldsTable table × IsName name × (attributes_in table name ≡ None)
-IsMissed table name Exists = ⊥
-IsMissed table name BadAttributes = ⊥
-IsMissed table name Full = ⊥
+abbrev pub IsMissed : List (List ℕ) → List ℕ → NameFault → Type 0
+IsMissed entries name NoTable = IsTable entries → ⊥
+IsMissed entries name BadName = IsTable entries × (IsName name → ⊥)
+IsMissed entries name NoName = IsTable entries × IsName name × (attributes_in entries name ≡ None)
+IsMissed entries name Exists = ⊥
+IsMissed entries name BadAttributes = ⊥
+IsMissed entries name Full = ⊥
 
-abbrev pub Finds : List ℕ → List ℕ → List ℕ → Type 0
-Finds table name found = HoldsTable table × IsName name × (attributes_in table name ≡ Some found)
+abbrev pub Finds : List (List ℕ) → List ℕ → List ℕ → Type 0
+Finds entries name found = IsTable entries × IsName name × (attributes_in entries name ≡ Some found)
 
--- the answer, and what is left of a table
+abbrev pub Lists : List (List ℕ) → List (Vec ℕ) → Type 0
+Lists entries names = IsTable entries × (map (λ (name : Vec ℕ). name.items) names ≡ names_in entries)
+
+-- the answer, and the bytes that are left of a table
 abbrev pub Does : Command → List ℕ → Answer → List ℕ → Type 0
-Does (Create name attributes) table Created left = Creates table name.now attributes.now left
-Does (Rename from to) table Renamed left = Renames table from.now to.now left
-Does (Remove name) table Removed left = Removes table name.now left
-Does (Find name) table (Attributes found) left = (left ≡ table) × Finds table name.now found.items
-Does Lists table (Names names) left = (left ≡ table) × HoldsTable table × (map (λ (name : Vec ℕ). name.items) names.items ≡ names_in table)
+Does (Create name attributes) table Done left = Creates (entries_in table) name.now attributes.now (entries_in left)
+Does (Rename from to) table Done left = Renames (entries_in table) from.now to.now (entries_in left)
+Does (Remove name) table Done left = Removes (entries_in table) name.now (entries_in left)
+Does (Find name) table (Attributes found) left = (left ≡ table) × Finds (entries_in table) name.now found.items
+Does ListAll table (Names names) left = (left ≡ table) × Lists (entries_in table) names.items
 Does command table answer left = ⊥
 
 abbrev pub Refuses : Command → List ℕ → NameFault → Type 0
-Refuses (Create name attributes) table fault = IsUncreated table name.now attributes.now fault
-Refuses (Rename from to) table fault = IsUnrenamed table from.now to.now fault
-Refuses (Remove name) table fault = IsMissed table name.now fault
-Refuses (Find name) table fault = IsMissed table name.now fault
-Refuses Lists table fault = (fault ≡ NoTable) × (HoldsTable table → ⊥)
+Refuses (Create name attributes) table fault = IsUncreated (entries_in table) name.now attributes.now fault
+Refuses (Rename from to) table fault = IsUnrenamed (entries_in table) from.now to.now fault
+Refuses (Remove name) table fault = IsMissed (entries_in table) name.now fault
+Refuses (Find name) table fault = IsMissed (entries_in table) name.now fault
+Refuses ListAll table fault = (fault ≡ NoTable) × (HoldsTable table → ⊥)
 
 abbrev pub Answers : Command → List ℕ → Result Answer NameFault → List ℕ → Type 0
 Answers command table answer left = MatchResult answer (λ given. Does command table given left) (λ fault. (left ≡ table) × Refuses command table fault)
+
+-- what is decided: a change of an entry, if there is one, and an answer that says what it leaves
+abbrev pub Decides : Command → List ℕ → Option Change × Result Answer NameFault → Type 0
+Decides command table decided = IfSome decided.0 (IsOfEntry (entries_in table)) × Answers command table decided.1 (left_by decided.0 table)

@@ -1,7 +1,7 @@
 -- An entry of the table: the length of a name, the name, the length of its attributes, and these, each filled up with zeros.
-use Rattle.std.specs.Prelude.{ℕ, ◌-◌, ◌<◌, ◌≤◌, ◌&&◌, nat_lt, Bool, List, ◌∷◌, ◌++◌, length, take, drop, replicate, slice_index}
+use Rattle.std.specs.Prelude.{ℕ, ◌+◌, ◌-◌, ◌<◌, ◌≤◌, ◌&&◌, nat_lt, Bool, List, ◌∷◌, ◌++◌, length, take, drop, replicate, slice_index}
 use Rattle.std.specs.Str.{bytes_eq}
-use Rattle.lc_names.specs.declared.entry.TheConstants.{ATTRIBUTES, ATTRIBUTES_LENGTH, ENTRY, LONGEST, NAME}
+use Rattle.lc_names.specs.declared.entry.TheConstants.{ATTRIBUTES, ENTRY, LONGEST, NAME}
 
 abbrev pub IsName : List ℕ → Type 0
 IsName name = (0 < length name) × (length name ≤ LONGEST)
@@ -9,15 +9,19 @@ IsName name = (0 < length name) × (length name ≤ LONGEST)
 abbrev pub AreAttributes : List ℕ → Type 0
 AreAttributes attributes = length attributes ≤ LONGEST
 
+-- the text behind its length at a place
+unfoldable pub text_at : ℕ → List ℕ → List ℕ
+text_at place entry = take (slice_index entry place) (drop (place + 1) entry)
+
+abbrev pub name_of : List ℕ → List ℕ
+name_of entry = text_at NAME entry
+
+abbrev pub attributes_of : List ℕ → List ℕ
+attributes_of entry = text_at ATTRIBUTES entry
+
 -- it is in use: its name has a length
 unfoldable pub is_used : List ℕ → Bool
-is_used entry = nat_lt 0 (slice_index entry 0)
-
-unfoldable pub name_of : List ℕ → List ℕ
-name_of entry = take (slice_index entry 0) (drop NAME entry)
-
-unfoldable pub attributes_of : List ℕ → List ℕ
-attributes_of entry = take (slice_index entry ATTRIBUTES_LENGTH) (drop ATTRIBUTES entry)
+is_used entry = nat_lt 0 (slice_index entry NAME)
 
 -- it is in use under this name
 unfoldable pub is_named : List ℕ → List ℕ → Bool
@@ -25,7 +29,7 @@ is_named name entry = is_used entry && bytes_eq (name_of entry) name
 
 -- its lengths are those of a name and of attributes
 unfoldable pub Fits : List ℕ → Type 0
-Fits entry = (slice_index entry 0 ≤ LONGEST) × (slice_index entry ATTRIBUTES_LENGTH ≤ LONGEST)
+Fits entry = (slice_index entry NAME ≤ LONGEST) × (slice_index entry ATTRIBUTES ≤ LONGEST)
 
 -- an entry in no use
 unfoldable pub free_entry : List ℕ

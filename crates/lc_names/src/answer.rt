@@ -3,9 +3,8 @@
 /// What the table answers to a command that it does not refuse. This project's own.
 #[derive(Drop)]
 pub enum Answer {
-    Created,
-    Renamed,
-    Removed,
+    /// The name is created, renamed or removed.
+    Done,
     /// The attributes of the name.
     Attributes(Vec<u8>),
     /// Each name once, in the order of the table.

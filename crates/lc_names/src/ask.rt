@@ -1,24 +1,15 @@
 //! A work that asks a table of names.
-ghost use Rattle.std.specs.Prelude.{◌≡◌, ◌+◌, ◌*◌, ◌^◌, ◌<◌, ◌≤◌};
 ghost use Rattle.lc_names.specs.Ask.{Asks};
 
+use crate::deciding::decide;
 use crate::entry::ENTRY;
-use crate::{Answer, Command, Decision, NameFault, decide};
-use lc_node::{Get, Put, Work};
+use crate::{Answer, Command, NameFault};
+use lc_node::{Put, Work};
 use lc_tx::{Images, Tx, TxFault};
 use std::alloc::Global;
 
 /// The segment that has the table. This project's own.
 pub const SEGMENT: u32 = 1;
-
-// The offset of the entry at a place of a table with so many bytes.
-fn offset_in(len: u32, place: usize) -> u32
-    requires { ENTRY * place + ENTRY ≤ len }
-    ensures offset { result ≡ ENTRY * place }
-    ensures end { result + ENTRY < 2 ^ 32 }
-{
-    (ENTRY * place) as u32
-}
 
 /// Asks the table of names in the first `len` bytes of segment 1; the answer stands in `answer` behind a run that was not
 /// refused. This project's own.
@@ -42,22 +33,13 @@ impl Work for Ask<'_> {
         tx: &mut Tx,
         images: &mut I,
     ) -> Result<(), TxFault> {
-        let mut table = Get {
-            segment: SEGMENT,
-            offset: 0,
-            len: self.len,
-            found: Vec::new(alloc),
-        };
-        table.run(alloc, tx, images)?;
-        let Ok(decision) = decide(alloc, table.found.as_slice(), &self.command) else {
-            return Err(TxFault::NoMemory);
-        };
-        let Decision { change, answer } = decision;
+        let table = tx.read(alloc, images, SEGMENT, 0, self.len)?;
+        let (change, answer) = decide(alloc, &table, &self.command).map_err(|_| TxFault::NoMemory)?;
         if let Some(change) = change {
             let mut put = Put {
                 segment: SEGMENT,
-                offset: offset_in(self.len, change.place),
-                bytes: &change.entry,
+                offset: (ENTRY * change.0) as u32,
+                bytes: &change.1,
             };
             put.run(alloc, tx, images)?;
         }

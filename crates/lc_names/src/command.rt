@@ -3,24 +3,14 @@
 /// What is asked of a table of names. A name has 1 to 31 bytes, attributes have at most 31. This project's own.
 #[derive(Clone, Copy)]
 pub enum Command<'a> {
-    /// Puts a new name.
-    Create {
-        name: &'a [u8],
-        attributes: &'a [u8],
-    },
+    /// Puts a new name, with these attributes.
+    Create(&'a [u8], &'a [u8]),
     /// Gives the attributes of a name to another, and removes the first.
-    Rename {
-        from: &'a [u8],
-        to: &'a [u8],
-    },
+    Rename(&'a [u8], &'a [u8]),
     /// Removes a name.
-    Remove {
-        name: &'a [u8],
-    },
+    Remove(&'a [u8]),
     /// Asks for the attributes of a name.
-    Find {
-        name: &'a [u8],
-    },
+    Find(&'a [u8]),
     /// Asks for all names.
     List,
 }

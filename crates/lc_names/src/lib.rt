@@ -3,10 +3,8 @@
 
 mod answer;
 mod ask;
-mod change;
 mod command;
 mod deciding;
-mod decision;
 mod entry;
 mod laws;
 mod name_fault;
@@ -14,10 +12,6 @@ mod table;
 
 pub use answer::Answer;
 pub use ask::{Ask, SEGMENT};
-pub use change::Change;
 pub use command::Command;
-pub use deciding::decide;
-pub use decision::Decision;
-pub use entry::{ENTRY, LONGEST};
 pub use laws::names_of_the_map;
 pub use name_fault::NameFault;

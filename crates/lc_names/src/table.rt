@@ -1,83 +1,57 @@
 //! The table of names: whole entries, one behind another.
-ghost use Rattle.std.specs.Prelude.{◌≡◌, ◌<◌, ◌↔◌, ℕ, List, [], length, map, IfOk, IsTrue, MatchOption, slice_index_or};
+ghost use Rattle.std.specs.Prelude.{◌≡◌, ◌<◌, ◌↔◌, ℕ, length, map, IfOk, IsTrue, MatchOption, MatchResult};
 ghost use Rattle.std.specs.Global.{Vec as Items};
-ghost use Rattle.lc_names.specs.Table.{entries_in, HoldsTable, IsFreePlace, IsFull, IsPlaceOf, IsSoundAt, names_in, IsNowhere};
+ghost use Rattle.lc_names.specs.Table.{IsAbsent, IsNoName, IsPlaceOf, IsSoundAt, IsTable, IsUnplaced, names_in};
 
-use crate::entry::{ENTRY, fits, is_named, is_used, name_of};
+use crate::NameFault;
+use crate::entry::{ATTRIBUTES, Entry, LONGEST, NAME, text_at};
 use std::alloc::{AllocError, Global};
 
-/// The entries of a table.
-#[tactic(auto, using(crate::proofs::Cuts::length_entries))]
-pub(crate) fn count(table: &[u8]) -> usize
-    ensures { result ≡ length (entries_in table.now) }
+/// Whether the entries are a table.
+pub(crate) fn is_table(entries: &[Entry]) -> bool
+    ensures { IsTrue result ↔ IsTable entries.now }
 {
-    table.len() / ENTRY
+    (0..entries.len()).all(|place| is_sound_at(entries, place))
 }
 
-/// The entry at a place, counted from 0.
-pub(crate) fn entry_at(table: &[u8], place: usize) -> &[u8]
-    requires { place < length (entries_in table.now) }
-    ensures value { result.now ≡ slice_index_or (entries_in table.now) place [] }
-    ensures len { length result.now ≡ ENTRY }
+// Whether the entry at a place is free, or its lengths fit and no entry in front has its name.
+fn is_sound_at(entries: &[Entry], place: usize) -> bool
+    requires { place < length entries.now }
+    ensures { IsTrue result ↔ IsSoundAt entries.now place }
 {
-    let start = ENTRY * place;
-    &table[start..start + ENTRY]
+    let entry = &entries[place];
+    let longest = entry[NAME].max(entry[ATTRIBUTES]);
+    entry[NAME] == 0
+        || usize::from(longest) <= LONGEST && found(entries, text_at(entry, NAME)) == Ok(place)
 }
 
-/// The first place of a name.
-pub(crate) fn find(table: &[u8], name: &[u8]) -> Option<usize>
-    ensures { MatchOption result (IsNowhere name.now table.now) (IsPlaceOf name.now table.now) }
+/// The place of a name, counted from 0, or `BadName` where it is none.
+pub(crate) fn place_of(entries: &[Entry], name: &[u8]) -> Result<Option<usize>, NameFault>
+    ensures { MatchResult result (λ place. MatchOption place (IsAbsent name.now entries.now) (IsPlaceOf name.now entries.now)) (IsNoName name.now) }
 {
-    for place in 0..count(table) {
-        if is_named(entry_at(table, place), name) {
-            return Some(place);
-        }
+    if name.is_empty() || LONGEST < name.len() {
+        return Err(NameFault::BadName);
     }
-    None
+    let is_named = |entry: &Entry| text_at(entry, NAME) == name;
+    Ok(entries.iter().position(is_named))
 }
 
-/// The first place whose entry is free.
-pub(crate) fn free_place(table: &[u8]) -> Option<usize>
-    ensures { MatchOption result (IsFull table.now) (IsFreePlace table.now) }
+/// The place of a name that is there.
+pub(crate) fn found(entries: &[Entry], name: &[u8]) -> Result<usize, NameFault>
+    ensures { MatchResult result (IsPlaceOf name.now entries.now) (IsUnplaced name.now entries.now) }
 {
-    for place in 0..count(table) {
-        if !is_used(entry_at(table, place)) {
-            return Some(place);
-        }
-    }
-    None
-}
-
-/// Whether the bytes hold a table.
-pub(crate) fn is_table(table: &[u8]) -> bool
-    ensures { IsTrue result ↔ HoldsTable table.now }
-{
-    for place in 0..count(table) {
-        if !is_sound_at(table, place) {
-            return false;
-        }
-    }
-    true
-}
-
-// Whether the entry at a place is free, or has lengths that fit and a name that no entry in front has.
-fn is_sound_at(table: &[u8], place: usize) -> bool
-    requires { place < length (entries_in table.now) }
-    ensures { IsTrue result ↔ IsSoundAt table.now place }
-{
-    let entry = entry_at(table, place);
-    !is_used(entry) || fits(entry) && find(table, name_of(entry)) == Some(place)
+    place_of(entries, name)?.ok_or(NameFault::NoName)
 }
 
 /// The names in use, in the order of the table.
-pub(crate) fn names_in(alloc: Global, table: &[u8]) -> Result<Vec<Vec<u8>>, AllocError>
-    ensures { IfOk result (λ names. map (λ (name : Items ℕ). name.items) names.items ≡ names_in table.now) }
+#[tactic(auto, unfolding(crate::specs::Entry::is_used))]
+pub(crate) fn names_in(alloc: Global, entries: &[Entry]) -> Result<Vec<Vec<u8>>, AllocError>
+    ensures { IfOk result (λ names. map (λ (name : Items ℕ). name.items) names.items ≡ names_in entries.now) }
 {
     let mut names = Vec::new(alloc);
-    for place in 0..count(table) {
-        let entry = entry_at(table, place);
-        if is_used(entry) {
-            names.push(Vec::from_slice(alloc, name_of(entry))?)?;
+    for entry in entries {
+        if entry[NAME] > 0 {
+            names.push(Vec::from_slice(alloc, text_at(entry, NAME))?)?;
         }
     }
     Ok(names)

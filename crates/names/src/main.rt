@@ -2,18 +2,17 @@
 //! running node, and prints what each was told.
 #![tactic(auto)]
 
-mod client;
+mod clients;
 mod request;
-mod serving;
-mod stores;
 
+use clients::serve;
+use lc_record::Geometry;
+use lc_store::Serving;
 use lc_tool::StoreFolder;
-use request::Request;
-use serving::serve;
+use request::request_of;
 use std::env;
 use std::io::{self, Read};
 use std::process::ExitCode;
-use stores::open;
 
 // The status where a line is not understood, and where the device failed or has no such store.
 const NOT_UNDERSTOOD: u8 = 2;
@@ -30,26 +29,21 @@ fn main(rt: HostRuntime) -> io::Result<ExitCode> {
         return Ok(ExitCode::from(NOT_UNDERSTOOD));
     };
     let text = io::read_to_string(alloc, rt.reader().take(LONGEST_INPUT))?;
-    let mut requests = Vec::new(alloc);
-    let mut status = 0;
-    for line in text.lines() {
-        match Request::of_line(line) {
-            Some(request) => requests.push(request)?,
-            None => status = NOT_UNDERSTOOD,
-        }
-    }
     let folder = StoreFolder::new(alloc, &rt, path.as_str());
-    let is_served = match open(&rt, &folder, path.as_str())? {
-        Some((areas, _guard)) => serve(&rt, alloc, areas, requests.as_slice())?,
-        None => false,
+    // One node with 8 threads, one segment of 16 pages, and a log of 4096 words.
+    let geometry = Geometry::new(1, 8, 1, 16, 4096).unwrap();
+    let is_served = match Serving::open(alloc, &folder, geometry) {
+        Ok((serving, seat)) => serve(&rt, &serving.node, seat, &text)?,
+        Err(_) => false,
     };
     folder.tell();
-    if status == NOT_UNDERSTOOD {
+    let is_understood = text.lines().all(|line| request_of(line).is_some());
+    if !is_understood {
         rt.println("not understood")?;
     }
-    if !is_served {
+    if !is_served || folder.fault().is_some() {
         rt.println("device fault")?;
-        status = DEVICE_FAULT;
+        return Ok(ExitCode::from(DEVICE_FAULT));
     }
-    Ok(ExitCode::from(status))
+    Ok(ExitCode::from(if is_understood { 0 } else { NOT_UNDERSTOOD }))
 }

@@ -1,31 +1,21 @@
 //! A line that a client sends.
-use crate::serving::CLIENTS;
 use lc_names::Command;
 
-/// What a client asks.
-#[derive(Clone, Copy)]
-pub(crate) struct Request<'a> {
-    pub(crate) client: u8,
-    pub(crate) command: Command<'a>,
-}
+/// The clients are numbered from 0.
+pub(crate) const CLIENTS: u8 = 8;
 
-impl<'a> Request<'a> {
-    /// The request of a line: the number of a client, and a command.
-    pub(crate) fn of_line(line: &'a str) -> Option<Request<'a>> {
-        let mut words = line.split_ascii_whitespace().map(str::as_bytes);
-        let client = line.split_ascii_whitespace().next()?.parse().ok()?;
-        let command = match (words.nth(1)?, words.next(), words.next()) {
-            (b"create", Some(name), attributes) => Command::Create {
-                name,
-                attributes: attributes.unwrap_or(b""),
-            },
-            (b"rename", Some(from), Some(to)) => Command::Rename { from, to },
-            (b"remove", Some(name), None) => Command::Remove { name },
-            (b"find", Some(name), None) => Command::Find { name },
-            (b"list", None, None) => Command::List,
-            _ => return None,
-        };
-        let is_whole = client < CLIENTS && words.next().is_none();
-        is_whole.then_some(Request { client, command })
-    }
+/// The client of a line, the verb of what it asks, and that.
+pub(crate) fn request_of(line: &str) -> Option<(u8, &str, Command<'_>)> {
+    let mut words = line.split_ascii_whitespace();
+    let (client, verb) = (words.next()?.parse().ok()?, words.next()?);
+    let mut names = words.map(str::as_bytes);
+    let command = match (verb, names.next(), names.next(), names.next()) {
+        ("create", Some(name), text, None) => Command::Create(name, text.unwrap_or(b"")),
+        ("rename", Some(from), Some(to), None) => Command::Rename(from, to),
+        ("remove", Some(name), None, None) => Command::Remove(name),
+        ("find", Some(name), None, None) => Command::Find(name),
+        ("list", None, None, None) => Command::List,
+        _ => return None,
+    };
+    (client < CLIENTS).then_some((client, verb, command))
 }
