@@ -1,13 +1,15 @@
 -- What the words ask for.
-use Rattle.std.proofs.Common.{◌≡◌, ◌∙◌, ◌⊎◌, ◌&&◌, Bool, List, [], Option, Some, true, refl, sym, ap, ap₂, subst, false, inl, inr, codes}
-use Rattle.std.specs.Option.{option_map_or}
+use Rattle.std.proofs.Common.{◌≡◌, ◌∙◌, ◌⊎◌, ◌&&◌, Bool, List, [], None, Option, Some, true, refl, sym, ap, ap₂, subst, false, inl, inr, codes}
+use Rattle.std.proofs.lemmas.Option.{same_Some}
+use Rattle.std.specs.Option.{option_map, option_map_or}
 use Rattle.clap.specs.Faults.{is_free_app}
 use Rattle.clap.specs.Simple.{built}
-use Rattle.clap.specs.Words.{AddsArg, AddsSubcommand, App, Rule, rule_of, with_rule, with_subcommand, HasMatchesOf, IsAmong, Row, Text, app_of, fault_of, is_simple, is_simple_and_free, subcommand_of, subcommand_rows_of}
+use Rattle.clap.specs.Words.{AddsArg, AddsSubcommand, App, Rule, rule_of, with_rule, with_subcommand, HasMatchesOf, IsAmong, Row, Text, app_of, fault_of, is_simple, is_simple_and_free, subcommand_name_of, subcommand_of, subcommand_rows_of}
 use Rattle.clap.specs.declared.builder.arg.Arg.{Arg}
 use Rattle.clap.specs.declared.builder.command.Command.{Command}
 use Rattle.clap.specs.declared.builder.value_parser.ValueParser.{ValueParser}
 use Rattle.clap.specs.declared.parser.matches.ArgMatches.{ArgMatches}
+use Rattle.clap.specs.declared.parser.matches.ArgMatches.TheViews.{out-ArgMatches}
 use Rattle.clap.specs.declared.error.kind.ErrorKind.{ErrorKind}
 use Rattle.clap.specs.declared.error.kind.ErrorKind.TheVariants.{DisplayHelp, DisplayVersion, OutOfMemory}
 use Rattle.clap.proofs.OnLiterals.{clap_on_literals}
@@ -163,3 +165,13 @@ adds_subcommand old sub new app below added is under = (
 -- what an option takes may be said otherwise
 pub takes : (command : Command) (app : App) (rule : ValueParser → Rule) (p q : ValueParser) → p ≡ q → IsLike command (with_rule app (rule p)) → IsLike command (with_rule app (rule q))
 takes command app rule p q same like = subst (λ (r : ValueParser). IsLike command (with_rule app (rule r))) same like
+
+-- the first parts of pairs
+first_parts : {A B C : Type 0} (f : A → B) (g : A → C) (o : Option A) → option_map f o ≡ option_map (λ (p : B × C). p.0) (option_map (λ a. (f a, g a)) o)
+first_parts f g None = refl
+first_parts f g (Some a) = refl
+
+-- the subcommand that was found has one name
+pub one_name : (m : ArgMatches) (name other : Text) (rows : List Row) → Some name ≡ subcommand_name_of m → subcommand_rows_of m ≡ Some (other, rows) → name ≡ other
+one_name m name other rows named is =
+    same_Some name other (named ∙ first_parts _ _ (out-ArgMatches m).subcommand ∙ ap (λ (found : Option (Text × List Row)). option_map (λ p. p.0) found) is)

@@ -98,12 +98,17 @@ inspect_app = with_rule (with_rule (new_app (codes "inspect")) (word_rule (codes
 abbrev pub lines_app : App
 lines_app = new_app (codes "lines")
 
--- the whole command line
-abbrev pub program_app : App
-program_app = with_subcommand (with_subcommand (with_subcommand (with_subcommand (with_subcommand (with_subcommand (with_subcommand (with_subcommand (record {
+-- the program, without its subcommands
+abbrev pub top_app : App
+top_app = record {
   top = record (new_app (codes "lcrvm")).top { subcommand_required = true; has_version = true };
   subs = [];
-}) run_app.top) init_app.top) recover_app.top) inspect_app.top) lines_app.top) check_app.top) dump_app.top) draw_app.top
+}
+
+-- the whole command line
+abbrev pub program_app : App
+program_app = with_subcommand (with_subcommand (with_subcommand (with_subcommand (with_subcommand (with_subcommand (with_subcommand (with_subcommand top_app
+    run_app.top) init_app.top) recover_app.top) inspect_app.top) lines_app.top) check_app.top) dump_app.top) draw_app.top
 
 -- a command that is read so, and has no argument for its subcommands too
 abbrev pub IsLike : Command → App → Type 0

@@ -13,15 +13,18 @@ use std::alloc::{AllocError, Global};
 pub fn asked_of(alloc: Global, matches: &ArgMatches<'_>) -> Result<Asked, AllocError>
     ensures { IfOk result (IsReadOf (subcommand_rows_of matches.now)) }
 {
-    match matches.subcommand() {
-        Some(("run", options)) => run_of(alloc, options),
-        Some(("init", options)) => init_of(alloc, options),
-        Some(("recover", options)) => recover_of(alloc, options),
-        Some(("inspect", options)) => inspect_of(alloc, options),
-        Some(("lines", _)) => Ok(Asked::Lines),
-        Some(("check", options)) => check_of(alloc, options),
-        Some(("dump", options)) => dump_of(alloc, options),
-        Some(("draw", options)) => draw_of(alloc, options),
+    let Some((name, options)) = matches.subcommand() else {
+        return Ok(Asked::NotUnderstood);
+    };
+    match name {
+        "run" => run_of(alloc, options),
+        "init" => init_of(alloc, options),
+        "recover" => recover_of(alloc, options),
+        "inspect" => inspect_of(alloc, options),
+        "lines" => Ok(Asked::Lines),
+        "check" => check_of(alloc, options),
+        "dump" => dump_of(alloc, options),
+        "draw" => draw_of(alloc, options),
         _ => Ok(Asked::NotUnderstood),
     }
 }

@@ -1,7 +1,7 @@
 //! The subcommands of the program, with their options and their help.
 ghost use Rattle.std.specs.Prelude.{◌≡◌, IfOk, codes, false};
-ghost use Rattle.clap.specs.Words.{App, app_of, new_app, rule_of, with_rule};
-ghost use Rattle.lc_words.specs.CommandLine.{IsLike, check_app, draw_app, dump_app, flag_rule, folder_app, init_app, inspect_app, lines_app, number_rule, option_rule, program_app, recover_app, run_app, sized_app, store_rule, with_sizes, word_rule};
+ghost use Rattle.clap.specs.Words.{App, app_of, new_app, rule_of, with_rule, with_subcommand};
+ghost use Rattle.lc_words.specs.CommandLine.{IsLike, check_app, draw_app, dump_app, flag_rule, folder_app, init_app, inspect_app, lines_app, number_rule, option_rule, program_app, recover_app, run_app, sized_app, store_rule, top_app, with_sizes, word_rule};
 
 use clap::builder::ValueParser;
 use clap::{Arg, ArgAction, Command, value_parser};
@@ -90,19 +90,37 @@ const VERSION: &str = "0.1.0";
 pub fn program<'a>(alloc: Global) -> Result<Command<'a>, AllocError>
     ensures { IfOk result (λ command. app_of command ≡ program_app) }
 {
-    Command::new(alloc, "lcrvm")
-        .bin_name("lcrvm")?
-        .version(VERSION)
-        .about("A store of pages, with a log, that a script of commands reads and changes")
-        .subcommand_required(true)
-        .subcommand(run(alloc)?)?
-        .subcommand(init(alloc)?)?
-        .subcommand(recover(alloc)?)?
-        .subcommand(inspect(alloc)?)?
-        .subcommand(lines(alloc)?)?
-        .subcommand(check(alloc)?)?
-        .subcommand(dump(alloc)?)?
-        .subcommand(draw(alloc)?)
+    let command = with_subcommand(topmost(alloc)?, run(alloc))?;
+    let command = with_subcommand(command, init(alloc))?;
+    let command = with_subcommand(command, recover(alloc))?;
+    let command = with_subcommand(command, inspect(alloc))?;
+    let command = with_subcommand(command, lines(alloc))?;
+    let command = with_subcommand(command, check(alloc))?;
+    let command = with_subcommand(command, dump(alloc))?;
+    with_subcommand(command, draw(alloc))
+}
+
+// The program, without its subcommands.
+fn topmost<'a>(alloc: Global) -> Result<Command<'a>, AllocError>
+    ensures { IfOk result (λ command. IsLike command top_app) }
+{
+    let command = Command::new(alloc, "lcrvm").bin_name("lcrvm")?;
+    Ok(
+        command
+            .version(VERSION)
+            .about("A store of pages, with a log, that a script of commands reads and changes")
+            .subcommand_required(true),
+    )
+}
+
+// The command with one more subcommand, where that could be made.
+fn with_subcommand<'a>(
+    command: Command<'a>,
+    made: Result<Command<'a>, AllocError>,
+) -> Result<Command<'a>, AllocError>
+    ensures { (app below : App) → IsLike command.entry app → IfOk made.entry (λ sub. IsLike sub below) → IfOk result (λ larger. IsLike larger (with_subcommand app below.top)) }
+{
+    command.subcommand(made?)
 }
 
 fn run<'a>(alloc: Global) -> Result<Command<'a>, AllocError>
