@@ -138,7 +138,7 @@ fn a_store_that_is_drawn_is_not_changed(rt: HostRuntime) -> Result<(), Fail> {
         rt.alloc(),
         &Listed(&shelf),
         ErrorOutput::Other,
-        asked,
+        &asked,
         &mut script,
         &mut text,
     )?;

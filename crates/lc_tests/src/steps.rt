@@ -224,7 +224,7 @@ pub(crate) fn check(
         alloc,
         &Listed(shelf),
         ErrorOutput::Other,
-        asked,
+        &asked,
         &mut reader,
         &mut text,
     )?;

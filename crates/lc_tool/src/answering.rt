@@ -30,13 +30,13 @@ pub fn answer<R: Files + Eprint, I: Read, W: Write>(
     alloc: Global,
     rt: &R,
     errors: ErrorOutput,
-    asked: Asked,
+    asked: &Asked,
     reader: &mut I,
     writer: &mut W,
 ) -> Result<u8, ToolFault>
 where
     R::File: SharedFile,
-    ensures answers { IfOk result (λ status. AnswersAsked asked (I.remaining reader.old) (W.contents writer.old) (W.contents writer.new) status) }
+    ensures answers { IfOk result (λ status. AnswersAsked asked.now (I.remaining reader.old) (W.contents writer.old) (W.contents writer.new) status) }
     ensures memory { result ≢ Err ToolFault.NoMemory }
 {
     match asked {
@@ -45,26 +45,29 @@ where
             follow,
             number,
         } => {
-            let manner = Manner { follow, number };
+            let manner = Manner {
+                follow: *follow,
+                number: *number,
+            };
             match store {
-                RunStore::New(geometry) => run_new(alloc, geometry, manner, reader, writer),
+                RunStore::New(geometry) => run_new(alloc, *geometry, manner, reader, writer),
                 RunStore::InFolder { folder, size } => {
-                    run_sized(alloc, rt, errors, &folder, &size, manner, reader, writer)
+                    run_sized(alloc, rt, errors, folder, size, manner, reader, writer)
                 }
             }
         }
-        Asked::Init { folder, geometry } => init_store(alloc, rt, &folder, geometry, writer),
-        Asked::Recover { folder, size } => recover_sized(alloc, rt, errors, &folder, &size, writer),
-        Asked::Check { folder, size } => check_store(alloc, rt, &folder, &size, writer),
+        Asked::Init { folder, geometry } => init_store(alloc, rt, folder, *geometry, writer),
+        Asked::Recover { folder, size } => recover_sized(alloc, rt, errors, folder, size, writer),
+        Asked::Check { folder, size } => check_store(alloc, rt, folder, size, writer),
         Asked::Dump {
             folder,
             segment,
             page,
-        } => dump_page(alloc, rt, &folder, segment, page, writer),
-        Asked::Draw { folder } => draw_store(alloc, rt, &folder, writer),
-        Asked::Inspect { file, reverse } => inspect_file(alloc, rt, &file, reverse, writer),
+        } => dump_page(alloc, rt, folder, *segment, *page, writer),
+        Asked::Draw { folder } => draw_store(alloc, rt, folder, writer),
+        Asked::Inspect { file, reverse } => inspect_file(alloc, rt, file, *reverse, writer),
         Asked::Lines => help(LINE_LIST, writer),
-        Asked::Help(text) | Asked::Version(text) => help(&text, writer),
+        Asked::Help(text) | Asked::Version(text) => help(text, writer),
         Asked::NotUnderstood => {
             let _ = rt.eprintln("command line not understood");
             Ok(NOT_UNDERSTOOD)

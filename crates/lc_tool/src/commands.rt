@@ -30,28 +30,28 @@ use std::io::Write;
 pub(crate) fn perform<D: Stoppable + Drop, W: Write>(
     world: &mut World<D>,
     alloc: Global,
-    command: Command,
+    command: &Command,
     writer: &mut W,
 ) -> Result<Verdict, Stop>
-    ensures done { IfOk result (λ verdict. Performs D.Area world.old command (W.contents writer.old) (W.contents writer.new) verdict world.new) }
-    ensures tells { IfOk result (λ verdict. ForSome (phase_geometry D.Area world.old.phase) (λ g. Adds (TellsCommand g command) (W.contents writer.old) (W.contents writer.new) verdict)) }
+    ensures done { IfOk result (λ verdict. Performs D.Area world.old command.now (W.contents writer.old) (W.contents writer.new) verdict world.new) }
+    ensures tells { IfOk result (λ verdict. ForSome (phase_geometry D.Area world.old.phase) (λ g. Adds (TellsCommand g command.now) (W.contents writer.old) (W.contents writer.new) verdict)) }
     ensures geometry { phase_geometry D.Area world.new.phase ≡ phase_geometry D.Area world.old.phase }
     ensures memory { result ≡ Err Stop.NoMemory → Keeps (W.contents writer.old) (W.contents writer.new) }
-    ensures asks { result ≡ Err Stop.NoMemory → AsksFor D.Area world.old command }
+    ensures asks { result ≡ Err Stop.NoMemory → AsksFor D.Area world.old command.now }
 {
     match command {
-        Command::Step(event) => show(writer, &world.step(alloc, &event)?),
-        Command::End { node, thread } => show_end(writer, &end(world, alloc, node, thread)?),
-        Command::Flush { node } => show(writer, &flush(world, alloc, node)?),
-        Command::Truncate { node } => show_truncation(world, alloc, node, writer),
+        Command::Step(event) => show(writer, &world.step(alloc, event)?),
+        Command::End { node, thread } => show_end(writer, &end(world, alloc, *node, *thread)?),
+        Command::Flush { node } => show(writer, &flush(world, alloc, *node)?),
+        Command::Truncate { node } => show_truncation(world, alloc, *node, writer),
         Command::Recover => show(writer, &recover(world, alloc, &Silent)?),
-        Command::Log { node } => show_log(world, alloc, node, writer),
-        Command::Inspect { node } => show_records(world, alloc, node, writer),
+        Command::Log { node } => show_log(world, alloc, *node, writer),
+        Command::Inspect { node } => show_records(world, alloc, *node, writer),
         Command::Show {
             node,
             segment,
             page,
-        } => show_page(world, node, segment, page, writer),
+        } => show_page(world, *node, *segment, *page, writer),
     }
 }
 

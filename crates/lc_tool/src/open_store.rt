@@ -100,16 +100,25 @@ where
     /// `Failed` where another process has the store open, or the system refused something; `fault` says what, and why.
     pub fn open(&self, geometry: &Geometry) -> Result<OpenStore<'_, R>, FolderFault> {
         let guard = self.noted(Place::Folder, self.lock())?;
+        let areas = self.renewed_areas(geometry, &guard)?;
+        Ok(OpenStore { areas, guard })
+    }
+
+    // The areas of the store's files. Where a fault has left its mark the files are copied before.
+    fn renewed_areas(
+        &self,
+        geometry: &Geometry,
+        guard: &R::File,
+    ) -> Result<Vec<StoreArea<'_, R>>, FolderFault> {
         let beyond = self.first_beyond(geometry)?;
         let is_marked = self.noted(Place::Mark, self.is_marked())?;
         let areas = self.open_areas(geometry, beyond)?;
         if !is_marked || beyond.is_some() || !have_lengths(geometry, &areas) {
-            return Ok(OpenStore { areas, guard });
+            return Ok(areas);
         }
         drop(areas);
-        self.renew_all(geometry, &guard)?;
-        let areas = self.open_areas(geometry, None)?;
-        Ok(OpenStore { areas, guard })
+        self.renew_all(geometry, guard)?;
+        self.open_areas(geometry, None)
     }
 
     // The first name of a store's file above those of the geometry that is taken.

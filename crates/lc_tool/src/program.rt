@@ -26,7 +26,7 @@ where
     let mut output = Noted::new(io::writer(rt));
     let status = match asked_for(alloc, rt) {
         Ok(asked) => status_of(
-            buffered(alloc, rt, errors, asked, &mut input, &mut output),
+            buffered(alloc, rt, errors, &asked, &mut input, &mut output),
             &mut output,
         ),
         Err(AllocError) => status_of(Err(ToolFault::NoMemory), &mut output),
@@ -53,7 +53,7 @@ fn buffered<R: Files + Eprint, I: Read, W: Write>(
     alloc: Global,
     rt: &R,
     errors: ErrorOutput,
-    asked: Asked,
+    asked: &Asked,
     input: &mut I,
     output: &mut W,
 ) -> Result<u8, ToolFault>

@@ -1,15 +1,17 @@
 //! Runs a script.
-ghost use Rattle.std.specs.Prelude.{◌≡◌, ◌≢◌, ◌+◌, ℕ, false, IfOk, IfSome, OnOk, Some, None, take, if◌then◌else◌};
+ghost use Rattle.std.specs.Prelude.{◌≡◌, ◌≢◌, ◌+◌, ℕ, List, false, IfOk, IfSome, OnOk, Some, None, take, if◌then◌else◌};
 ghost use Rattle.std.specs.Io.KnownBytes.{Appends};
 ghost use Rattle.std.specs.Option.{ForSome};
 ghost use Rattle.lc_model.specs.declared.refusal.Refusal.TheVariants.{BadGeometry};
 ghost use Rattle.lc_core.specs.Geometries.{phase_geometry};
 ghost use Rattle.lc_tool.specs.Outcome.{LeavesFronted, LeavesLine, OpensStore, RefusesFirst, RunsAll, RunsLines, RunsRecovered};
 ghost use Rattle.lc_tool.specs.Script.{front_of, given_as};
+ghost use Rattle.lc_text.specs.Line.{line_of};
 ghost use Rattle.lc_text.specs.Lines.{script_lines};
 ghost use Rattle.lc_look.specs.Printed.{Adds};
 ghost use Rattle.lc_look.specs.Refused.{RefusesLengths, RefusesMerge};
 ghost use Rattle.lc_tool.specs.Store.{RunsStore};
+ghost use Rattle.lc_text.specs.declared.command.Line.TheVariants.{Command as Commanded};
 ghost use Rattle.lc_tool.specs.Tells.{TellsAll, TellsFronted, TellsLine, TellsLines, TellsOpening, TellsRecovered, TellsScript};
 ghost use Rattle.lc_text.specs.Text.{no_memory_text, refusal_text, reply_text, too_long_text};
 
@@ -28,8 +30,8 @@ use lc_look::{DONE, FAULTED, NOT_UNDERSTOOD, REFUSED, Silent, Teller};
 use lc_record::Geometry;
 use lc_recover::RecoverFault;
 use lc_text::{
-    Line, first_line, is_skipped, parse, write_line_number, write_no_memory, write_not_understood,
-    write_reply, write_too_long,
+    Command, Line, first_line, is_skipped, parse, write_line_number, write_no_memory,
+    write_not_understood, write_reply, write_too_long,
 };
 use std::alloc::Global;
 use std::io::{Read, Write};
@@ -321,13 +323,30 @@ fn do_line<D: Stoppable + Drop, W: Write>(
             Ok(()) => Ok(Outcome::Ends(NOT_UNDERSTOOD)),
             Err(_) => Err(ToolFault::Write),
         },
-        Line::Command(command) => match perform(world, alloc, command, writer) {
-            Ok(Verdict::Done) => Ok(Outcome::Goes { refused: false }),
-            Ok(Verdict::Refused) => Ok(Outcome::Goes { refused: true }),
-            Ok(Verdict::Faulted) => Ok(Outcome::Ends(FAULTED)),
-            Err(Stop::NoMemory) => Ok(Outcome::Ends(no_memory(writer)?)),
-            Err(Stop::Write) => Err(ToolFault::Write),
-        },
+        Line::Command(command) => do_command(alloc, world, &command, writer),
+    }
+}
+
+// A line's command.
+fn do_command<D: Stoppable + Drop, W: Write>(
+    alloc: Global,
+    world: &mut World<D>,
+    command: &Command,
+    writer: &mut W,
+) -> Result<Outcome, ToolFault>
+    ensures leaves { (line : List ℕ) (number : ℕ) → line_of line ≡ Commanded command.now → IfOk result (λ outcome. LeavesLine D.Area world.old line number (W.contents writer.old) (W.contents writer.new) outcome world.new) }
+    ensures tells { (line : List ℕ) (number : ℕ) → line_of line ≡ Commanded command.now → IfOk result (λ outcome.
+        ForSome (phase_geometry D.Area world.old.phase) (λ g. Adds (TellsLine g line number) (W.contents writer.old) (W.contents writer.new) outcome)) }
+    ensures geometry { phase_geometry D.Area world.new.phase ≡ phase_geometry D.Area world.old.phase }
+    ensures memory { result ≢ Err ToolFault.NoMemory }
+    ensures reads { result ≢ Err ToolFault.Read }
+{
+    match perform(world, alloc, command, writer) {
+        Ok(Verdict::Done) => Ok(Outcome::Goes { refused: false }),
+        Ok(Verdict::Refused) => Ok(Outcome::Goes { refused: true }),
+        Ok(Verdict::Faulted) => Ok(Outcome::Ends(FAULTED)),
+        Err(Stop::NoMemory) => Ok(Outcome::Ends(no_memory(writer)?)),
+        Err(Stop::Write) => Err(ToolFault::Write),
     }
 }
 

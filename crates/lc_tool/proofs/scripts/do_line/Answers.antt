@@ -1,43 +1,14 @@
-use Rattle.std.proofs.Common.{◌≡◌, ◌∙◌, refl, sym, ap, inl, inr, Err}
+use Rattle.std.proofs.Common.{◌≡◌, ◌∙◌, sym}
 use Rattle.lc_text.specs.Line.{line_of}
-use Rattle.lc_text.specs.Text.{no_memory_text}
 use Rattle.lc_text.specs.declared.command.Line.TheVariants.{Command as Commanded}
-use Rattle.lc_tool.specs.declared.verdict.Verdict.TheVariants.{Done, Refused}
-use Rattle.lc_tool.proofs.ScriptLemmas.{keeps_then}
 use Rattle.lc_tool.proofs.scripts.do_line.Goals as goal
 
-pub returns-in-Ok-Done-clause-leaves : goal.returns-in-Ok-Done-clause-leaves
-returns-in-Ok-Done-clause-leaves g c = λ m s x fits.
-    let led = c.in-Ok-Done.ensures.done m s x fits in
+pub returns-in-Command-clause-leaves : goal.returns-in-Command-clause-leaves
+returns-in-Command-clause-leaves g c =
     let read : line_of c.args.line.now ≡ Commanded c.in-Command.command = sym c.in-Ok.ensures.value ∙ c.in-Command.is in
-    (led.0, led.1, (led.2.0, inr (Done, record { command = c.in-Command.command; read = read; done = rw c.in-Ok-Done.field-0-is at led.2.1 }, refl), led.2.2), led.3)
+    c.do_command.ensures.leaves c.args.line.now c.args.number read
 
-pub returns-in-Ok-Refused-clause-leaves : goal.returns-in-Ok-Refused-clause-leaves
-returns-in-Ok-Refused-clause-leaves g c = λ m s x fits.
-    let led = c.in-Ok-Refused.ensures.done m s x fits in
+pub returns-in-Command-clause-tells : goal.returns-in-Command-clause-tells
+returns-in-Command-clause-tells g c =
     let read : line_of c.args.line.now ≡ Commanded c.in-Command.command = sym c.in-Ok.ensures.value ∙ c.in-Command.is in
-    (led.0, led.1, (led.2.0, inr (Refused, record { command = c.in-Command.command; read = read; done = rw c.in-Ok-Refused.field-0-is at led.2.1 }, refl), led.2.2), led.3)
-
-pub returns-in-Ok-Faulted-clause-leaves : goal.returns-in-Ok-Faulted-clause-leaves
-returns-in-Ok-Faulted-clause-leaves g c = λ m s x fits.
-    let led = c.in-Ok-Faulted.ensures.done m s x fits in
-    let read : line_of c.args.line.now ≡ Commanded c.in-Command.command = sym c.in-Ok.ensures.value ∙ c.in-Command.is in
-    (led.2.0, inr (inr (led.0, led.1, record { command = c.in-Command.command; read = read; done = rw c.in-Ok-Faulted.field-0-is at led.2.1 }, refl)), led.2.2)
-
-pub returns-in_ok-no_memory-in-Err-NoMemory-clause-leaves : goal.returns-in_ok-no_memory-in-Err-NoMemory-clause-leaves
-returns-in_ok-no_memory-in-Err-NoMemory-clause-leaves g c = λ m s x h.
-    let shown = c.in_ok-no_memory-in-Err-NoMemory.ensures.shown in
-    let want = ap (λ stop. Err stop) c.in-Err-NoMemory.field-0-is in (
-      no_memory_text,
-      inl (inr (c.in-Command.command, sym c.in-Ok.ensures.value ∙ c.in-Command.is, c.in-Err-NoMemory.ensures.asks want m s x h), (refl, shown.0)),
-      keeps_then (g.W.Write.contents c.args.writer.now) _ (g.W.Write.contents c.no_memory-in-Err-NoMemory.new.writer) no_memory_text (c.in-Err-NoMemory.ensures.memory want) shown.1,
-    )
-
-pub returns-in_ok-no_memory-in-Err-NoMemory-clause-tells : goal.returns-in_ok-no_memory-in-Err-NoMemory-clause-tells
-returns-in_ok-no_memory-in-Err-NoMemory-clause-tells g c = λ h same.
-    let shown = c.in_ok-no_memory-in-Err-NoMemory.ensures.shown in
-    let want = ap (λ stop. Err stop) c.in-Err-NoMemory.field-0-is in (
-      no_memory_text,
-      inl (refl, shown.0),
-      keeps_then (g.W.Write.contents c.args.writer.now) _ (g.W.Write.contents c.no_memory-in-Err-NoMemory.new.writer) no_memory_text (c.in-Err-NoMemory.ensures.memory want) shown.1,
-    )
+    c.do_command.ensures.tells c.args.line.now c.args.number read
