@@ -1,4 +1,4 @@
-/* Tries the C client (clients/c/lcrvm.h) on the built program, and on programs that only print what a test gives them.
+/* Tries the C client (clients/c/lcrvm.c) on the built program, and on programs that only print what a test gives them.
 
    usage: client_test PROGRAM [CALLS]     (CALLS: the library that tests/clients.sh makes of tests/traced_calls.c)
 
@@ -315,8 +315,23 @@ static void test_a_store_that_is_there(struct test *test)
     CHECK(test, store == NULL && fault.area == 0);
     strcat(test->folder, "/nowhere");
     ANSWERS(test, lcrvm_create(test->folder, &options, &fault), LCRVM_DEVICE_FAULT);
-    CHECK(test, strstr(fault.text, "No such file or directory") != NULL);
+    CHECK(test, strstr(fault.text, "No such file or directory") != NULL && fault.exit_status == 0);
     ANSWERS(test, lcrvm_open(test->folder, &options, &store, &fault), LCRVM_DEVICE_FAULT);
+}
+
+static void test_a_size_of_no_store(struct test *test)
+{
+    /* No program is asked. */
+    const struct lcrvm_geometry shorter = {1, 1, 1, 1, 63};
+    const struct lcrvm_options options = {.program = "/nothing", .geometry = &shorter};
+    const struct lcrvm_options many = {.program = "/nothing", .threads = 17};
+    struct lcrvm_store *store;
+    struct lcrvm_fault fault;
+    ANSWERS(test, lcrvm_create(test->folder, &options, &fault), LCRVM_UNKNOWN);
+    CHECK(test, fault.status == LCRVM_UNKNOWN);
+    ANSWERS(test, lcrvm_open(test->folder, &options, &store, &fault), LCRVM_UNKNOWN);
+    CHECK(test, store == NULL && fault.status == LCRVM_UNKNOWN);
+    ANSWERS(test, lcrvm_open(test->folder, &many, &store, NULL), LCRVM_UNKNOWN);
 }
 
 static void test_a_store_as_found(struct test *test)
@@ -384,7 +399,7 @@ static void test_a_full_log_is_truncated(struct test *test)
     ANSWERS(test, lcrvm_write(store, 0, 0, 1, 101, "z", 1), LCRVM_OK);
     /* 3 + 2 + 2 * 2 words, and two of bytes; it is made again with what it wrote last, and byte 100 as it was. */
     ANSWERS(test, lcrvm_end_transaction(store, 0, 0, true, &made_commit), LCRVM_OK);
-    CHECK(test, made_commit.place == 0 && made_commit.words == 11);
+    CHECK(test, made_commit.place == 0 && made_commit.words == 11 && fault_of(store)->status == LCRVM_OK);
     ANSWERS(test, lcrvm_truncate(store, 0, &number), LCRVM_OK);
     CHECK(test, number == 2);
     ANSWERS(test, lcrvm_flush(store, 0, &number), LCRVM_OK);
@@ -707,6 +722,7 @@ static const struct {
     {"transactions", test_transactions},
     {"a record that is too long", test_a_record_that_is_too_long},
     {"a store that is there", test_a_store_that_is_there},
+    {"a size of no store", test_a_size_of_no_store},
     {"a store as found", test_a_store_as_found},
     {"a full log", test_a_full_log},
     {"a full log is truncated", test_a_full_log_is_truncated},

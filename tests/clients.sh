@@ -21,7 +21,7 @@ TMPDIR=$work
 export TMPDIR PYTHONDONTWRITEBYTECODE=1
 
 compile() {
-    cc -std=c11 -Wall -Wextra -Werror -O2 -I"$client" "$@"
+    cc -std=c11 -Wall -Wextra -Werror -O2 -I"$tests/../include" "$@"
 }
 compile -c "$client/lcrvm.c" -o "$work/lcrvm.o"
 compile "$tests/client_test.c" "$work/lcrvm.o" -o "$work/client_test"

@@ -1,14 +1,15 @@
 #!/bin/sh
-# Compiles a C program with a store in its own process (clients/c/embedded.h), and tries it: every call once, with what it
-# refuses; kills in the midst of its commits, behind which the program lcrvm, and the C program by turns, have to find each commit
-# that was acknowledged; and each of its writes and syncs failing in turn, behind which `lcrvm recover` has to find them.
+# Compiles a C program with a store in its own process (clients/c/embedded.c), and tries it: the calls, with what they refuse;
+# kills in the midst of its commits, behind which the program lcrvm, and the C program by turns, have to find each commit that was
+# acknowledged; each of its writes and syncs failing in turn, behind which `lcrvm recover` has to find them; each write and sync
+# of the making of a store failing in turn; and each allocation refused in turn, behind which the call is done once more.
 #
 # usage: tests/embedded.sh [PROGRAM [LIBRARY [HEAP]]]
 #   PROGRAM   default: crates/lcrvm/out/lcrvm
 #   LIBRARY   default: crates/lc_c/out/liblc_c.a, which `rt lib` makes in crates/lc_c
 #   HEAP      what a library of Rattle has its memory from; default: c/liblibc_c.a of the kit
 #
-# A C compiler `cc` is wanted. It takes half a minute, and works in a folder of its own below TMPDIR.
+# A C compiler `cc` is wanted. It takes a minute, and works in a folder of its own below TMPDIR.
 set -eu
 
 top=$(cd "$(dirname "$0")/.." && pwd)
@@ -23,8 +24,9 @@ trap 'rm -rf "$work"' EXIT
 trap 'exit 1' HUP INT TERM
 
 cc -std=c11 -Wall -Wextra -Werror -O2 -c "$top/clients/c/embedded.c" -o "$work/embedded.o"
-cc -std=c11 -Wall -Wextra -Werror -O2 -I"$top/clients/c" "$top/tests/embedded_test.c" "$work/embedded.o" "$library" "$heap" \
+cc -std=c11 -Wall -Wextra -Werror -O2 -I"$top/include" "$top/tests/embedded_test.c" "$work/embedded.o" "$library" "$heap" \
     -o "$work/test"
+cc -shared -fPIC -O2 -o "$work/refuse.so" "$top/tests/refused_allocation.c" -ldl
 
 passed=0
 failed=0
@@ -60,7 +62,6 @@ has_commits() {
 }
 
 mkdir "$work/calls"
-"$program" init "$work/calls" --nodes 2 --segments 3
 if "$work/test" calls "$work/calls"; then passes; else fails "calls"; fi
 
 mkdir "$work/killed"
@@ -95,6 +96,41 @@ while :; do
     call=$((call + 1))
 done
 echo "$((call - 1)) writes and syncs failed in turn"
+
+call=1
+made=0
+while :; do
+    rm -rf "$work/created"
+    mkdir "$work/created"
+    status=0
+    "$work/test" creates "$work/created" $call || status=$?
+    case $status in
+        0) break ;;
+        3) passes ;;
+        4) made=$((made + 1)) ;;
+        *) fails "call $call of a creation: status $status"; break ;;
+    esac
+    call=$((call + 1))
+done
+"$program" check "$work/created" --as-found > "$work/checked" || fails "a store that was made: $(cat "$work/checked")"
+if [ $made -eq 1 ]; then passes; else fails "$made creations in spite of a failure, and not 1"; fi
+echo "$((call - 1)) writes and syncs of a creation failed in turn"
+
+mkdir "$work/memory"
+"$work/test" memory "$work/memory" > "$work/whole" || fails "memory: $(tail -n 1 "$work/whole")"
+number=1
+while :; do
+    rm -rf "$work/memory" "$work/mark"
+    mkdir "$work/memory"
+    status=0
+    REFUSED_ALLOCATION=$number REFUSED_MARK=$work/mark LD_PRELOAD=$work/refuse.so "$work/test" memory "$work/memory" > "$work/text" \
+        || status=$?
+    [ -e "$work/mark" ] || break
+    if [ $status -eq 0 ] && cmp -s "$work/text" "$work/whole"; then passes; else fails "allocation $number: $(tail -n 1 "$work/text")"; fi
+    number=$((number + 1))
+done
+if [ $number -gt 1 ]; then passes; else fails "no allocation was refused"; fi
+echo "$((number - 1)) allocations were refused in turn"
 
 echo "$passed passed, $failed failed"
 [ $failed -eq 0 ]

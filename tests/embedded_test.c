@@ -1,38 +1,65 @@
-/* A program with a store in its own process (clients/c/embedded.h), for tests/embedded.sh.
+/* A program with a store in its own process (clients/c/embedded.c), for tests/embedded.sh.
 
    usage: embedded_test commits FOLDER     makes commits and prints the number of each once it is stable, until it is killed
-          embedded_test calls FOLDER       makes each call once on a new store of two nodes and three segments; its last line is `N wrong`
+          embedded_test calls FOLDER       tries each call on new stores in folders below this one; its last line is `N wrong`
           embedded_test shows FOLDER       prints the number that the store has
           embedded_test faults FOLDER N    makes twenty commits, of whose writes and syncs of files the Nth fails: status 3 where
                                            it came to it, and then each later call was refused too; 0 where there are fewer
+          embedded_test creates FOLDER N   makes a store, of whose writes and syncs the Nth fails: status 3 where that was answered,
+                                           4 where it is made all the same, 0 where there are fewer
+          embedded_test memory FOLDER      makes a store, works on it and prints what came of it; what finds no memory is done
+                                           once more
 
    A commit writes its number, from 1 on, into eight bytes of segment 1 and into the same place of segment 2, which the next
    numbers pass by turns; every sixteenth empties the log. */
 #define _GNU_SOURCE
-#include "embedded.h"
+#include "lcrvm.h"
 
+#include <dirent.h>
 #include <errno.h>
+#include <fcntl.h>
 #include <inttypes.h>
 #include <stdio.h>
 #include <stdlib.h>
 #include <string.h>
+#include <sys/file.h>
+#include <sys/stat.h>
 #include <sys/syscall.h>
 #include <unistd.h>
 
-enum { PLACES = 32, NUMBER_BYTES = 8, TRUNCATED_EVERY = 16, FEW_COMMITS = 20, HAS_FAILED = 3 };
+enum {
+    PLACES = 32,
+    NUMBER_BYTES = 8,
+    TRUNCATED_EVERY = 16,
+    FEW_COMMITS = 20,
+    HAS_FAILED = 3,
+    IS_MADE = 4,
+    PATH_BYTES = 512,
+    MOST_BYTES = 8192
+};
 
 static int wrong;
 
 /* The writes and syncs of files, in place of the C library's. Of a write that fails half the bytes are written. */
 static long made, failing;
 
-int fdatasync(int file)
+static int sync_by(long call, int file)
 {
     if (++made == failing) {
         errno = EIO;
         return -1;
     }
-    return (int)syscall(SYS_fdatasync, file);
+    return (int)syscall(call, file);
+}
+
+int fdatasync(int file)
+{
+    return sync_by(SYS_fdatasync, file);
+}
+
+int fsync(int file)
+{
+    return sync_by(SYS_fsync, file);
 }
 
 ssize_t pwrite(int file, const void *bytes, size_t len, off_t at)
@@ -53,7 +80,7 @@ static void answers(enum lcrvm_status status, enum lcrvm_status wanted, const ch
 {
     if (status == wanted)
         return;
-    fprintf(stderr, "line %d: %s: %d, and not %d\n", line, text, (int)status, (int)wanted);
+    fprintf(stderr, "line %d: %s: %s, and not %s\n", line, text, lcrvm_status_text(status), lcrvm_status_text(wanted));
     wrong++;
 }
 
@@ -65,30 +92,44 @@ static void check(bool fact, const char *text, int line)
     wrong++;
 }
 
-static struct lcrvm_embedded *opened(const char *folder)
+/* How many descriptors are open. */
+static int descriptors(void)
 {
-    struct lcrvm_embedded *store;
+    DIR *folder = opendir("/proc/self/fd");
+    int count = 0;
+
+    if (folder == NULL)
+        return -1;
+    while (readdir(folder) != NULL)
+        count++;
+    closedir(folder);
+    return count;
+}
+
+static struct lcrvm_store *opened(const char *folder)
+{
+    struct lcrvm_store *store;
     struct lcrvm_fault fault;
-    enum lcrvm_status status = lcrvm_embedded_open(folder, NULL, 1, &store, &fault);
+    enum lcrvm_status status = lcrvm_open(folder, NULL, &store, &fault);
 
     if (status != LCRVM_OK)
-        fprintf(stderr, "not opened: %d %s\n", (int)status, fault.text);
+        fprintf(stderr, "not opened: %s %s\n", lcrvm_status_text(status), fault.text);
     return store;
 }
 
 /* The greatest number at any place of both segments, where they agree; 0 where there is none, and -1 where they differ. */
-static int64_t number_in(struct lcrvm_embedded *store)
+static int64_t number_in(struct lcrvm_store *store)
 {
     static const uint32_t both[] = {1, 2};
     uint64_t one[PLACES], other[PLACES], greatest = 0;
 
-    if (lcrvm_embedded_begin_transaction(store, 0, 0, NULL, 0, both, 2) != LCRVM_OK)
+    if (lcrvm_begin_transaction(store, 0, 0, NULL, 0, both, 2) != LCRVM_OK)
         return -1;
-    if (lcrvm_embedded_read(store, 0, 0, 1, 0, one, sizeof one) != LCRVM_OK)
+    if (lcrvm_read(store, 0, 0, 1, 0, one, sizeof one) != LCRVM_OK)
         return -1;
-    if (lcrvm_embedded_read(store, 0, 0, 2, 0, other, sizeof other) != LCRVM_OK)
+    if (lcrvm_read(store, 0, 0, 2, 0, other, sizeof other) != LCRVM_OK)
         return -1;
-    if (lcrvm_embedded_abort_transaction(store, 0, 0) != LCRVM_OK)
+    if (lcrvm_abort_transaction(store, 0, 0) != LCRVM_OK)
         return -1;
     if (memcmp(one, other, sizeof one) != 0)
         return -1;
@@ -99,30 +140,30 @@ static int64_t number_in(struct lcrvm_embedded *store)
 }
 
 /* Makes commits up to this number, and prints that of each once it is stable. */
-static enum lcrvm_status commits_in(struct lcrvm_embedded *store, uint64_t most)
+static enum lcrvm_status commits_in(struct lcrvm_store *store, uint64_t most)
 {
     static const uint32_t both[] = {1, 2};
     int64_t last = number_in(store);
 
     if (last < 0)
-        return lcrvm_embedded_fault_of(store)->status;
+        return lcrvm_fault_of(store)->status;
     for (uint64_t number = (uint64_t)last + 1; number <= most; number++) {
         uint32_t offset = (uint32_t)(number % PLACES) * NUMBER_BYTES;
-        enum lcrvm_status status = lcrvm_embedded_begin_transaction(store, 0, 0, both, 2, NULL, 0);
+        enum lcrvm_status status = lcrvm_begin_transaction(store, 0, 0, both, 2, NULL, 0);
 
         for (uint32_t segment = 1; segment <= 2 && status == LCRVM_OK; segment++) {
-            status = lcrvm_embedded_set_range(store, 0, 0, segment, offset, NUMBER_BYTES);
+            status = lcrvm_set_range(store, 0, 0, segment, offset, NUMBER_BYTES);
             if (status == LCRVM_OK)
-                status = lcrvm_embedded_write(store, 0, 0, segment, offset, &number, NUMBER_BYTES);
+                status = lcrvm_write(store, 0, 0, segment, offset, &number, NUMBER_BYTES);
         }
         if (status == LCRVM_OK)
-            status = lcrvm_embedded_end_transaction(store, 0, 0, true, NULL);
+            status = lcrvm_end_transaction(store, 0, 0, true, NULL);
         if (status != LCRVM_OK)
             return status;
         printf("%" PRIu64 "\n", number);
         fflush(stdout);
         if (number % TRUNCATED_EVERY == 0) {
-            status = lcrvm_embedded_truncate(store, 0);
+            status = lcrvm_truncate(store, 0, NULL);
             if (status != LCRVM_OK)
                 return status;
         }
@@ -132,106 +173,780 @@ static enum lcrvm_status commits_in(struct lcrvm_embedded *store, uint64_t most)
 
 static int commits(const char *folder)
 {
-    struct lcrvm_embedded *store = opened(folder);
+    struct lcrvm_store *store = opened(folder);
 
     if (store == NULL)
         return 1;
     commits_in(store, UINT64_MAX);
-    fprintf(stderr, "ended: %d %s\n", (int)lcrvm_embedded_fault_of(store)->status,
-            lcrvm_embedded_fault_of(store)->text);
-    lcrvm_embedded_close(store);
+    fprintf(stderr, "ended: %s %s\n", lcrvm_status_text(lcrvm_fault_of(store)->status), lcrvm_fault_of(store)->text);
+    lcrvm_close(store, NULL);
     return 1;
+}
+
+static bool is_failure(const struct lcrvm_fault *fault)
+{
+    return fault->status == LCRVM_DEVICE_FAULT && strcmp(fault->text, strerror(EIO)) == 0;
+}
+
+/* A file of the store has failed: all is refused, also with arguments that are wrong, and no call is made of a file. */
+static void given_up(struct lcrvm_store *store)
+{
+    static const uint32_t first[] = {1};
+    char bytes[1];
+    struct lcrvm_fault fault;
+
+    ANSWERS(lcrvm_begin_transaction(store, 0, 0, first, 1, NULL, 0), LCRVM_DEVICE_FAULT);
+    ANSWERS(lcrvm_set_range(store, 9, 9, 9, 9, 9), LCRVM_DEVICE_FAULT);
+    ANSWERS(lcrvm_write(store, 0, 0, 1, 0, "x", 1), LCRVM_DEVICE_FAULT);
+    ANSWERS(lcrvm_write(store, 0, 0, 1, 0, NULL, 0), LCRVM_DEVICE_FAULT);
+    ANSWERS(lcrvm_read(store, 0, 0, 1, 0, bytes, 1), LCRVM_DEVICE_FAULT);
+    ANSWERS(lcrvm_end_transaction(store, 0, 0, false, NULL), LCRVM_DEVICE_FAULT);
+    ANSWERS(lcrvm_end_transaction(store, 0, 0, true, NULL), LCRVM_DEVICE_FAULT);
+    ANSWERS(lcrvm_abort_transaction(store, 0, 0), LCRVM_DEVICE_FAULT);
+    ANSWERS(lcrvm_flush(store, 0, NULL), LCRVM_DEVICE_FAULT);
+    ANSWERS(lcrvm_truncate(store, 0, NULL), LCRVM_DEVICE_FAULT);
+    ANSWERS(lcrvm_leave(store, 0, 1), LCRVM_DEVICE_FAULT);
+    ANSWERS(lcrvm_arrive(store, 0, 1), LCRVM_DEVICE_FAULT);
+    ANSWERS(lcrvm_deliver(store, 0, 1, 1, 0, NULL), LCRVM_DEVICE_FAULT);
+    ANSWERS(lcrvm_trim(store, 0, NULL), LCRVM_DEVICE_FAULT);
+    CHECK(is_failure(lcrvm_fault_of(store)));
+    ANSWERS(lcrvm_close(store, &fault), LCRVM_DEVICE_FAULT);
+    CHECK(is_failure(&fault));
+    CHECK(made == failing);
 }
 
 static int faults(const char *folder, const char *number)
 {
-    struct lcrvm_embedded *store;
+    struct lcrvm_store *store;
     struct lcrvm_fault fault;
     enum lcrvm_status status;
+    int before = descriptors();
 
     failing = strtol(number, NULL, 10);
-    status = lcrvm_embedded_open(folder, NULL, 1, &store, &fault);
+    status = lcrvm_open(folder, NULL, &store, &fault);
     if (store != NULL)
         status = commits_in(store, FEW_COMMITS);
     if (status == LCRVM_OK && made < failing) {
-        lcrvm_embedded_close(store);
-        return 0;
+        ANSWERS(lcrvm_close(store, &fault), LCRVM_OK);
+        CHECK(fault.status == LCRVM_OK);
+        return wrong != 0;
     }
-    CHECK(status == LCRVM_DEVICE_FAULT);
-    if (store != NULL) {
-        ANSWERS(lcrvm_embedded_flush(store, 0, NULL), LCRVM_DEVICE_FAULT);
-        ANSWERS(lcrvm_embedded_abort_transaction(store, 0, 0), LCRVM_DEVICE_FAULT);
-        CHECK(made == failing);
+    ANSWERS(status, LCRVM_DEVICE_FAULT);
+    if (store != NULL)
+        given_up(store);
+    else
+        CHECK(is_failure(&fault));
+    ANSWERS(lcrvm_open(folder, NULL, &store, &fault), LCRVM_DEVICE_FAULT);
+    CHECK(store == NULL && strstr(fault.text, "lcrvm recover") != NULL);
+    CHECK(descriptors() == before);
+    return wrong == 0 ? HAS_FAILED : 1;
+}
+
+/* How many of the files of a store of two nodes and two segments stand. */
+static int standing(const char *folder)
+{
+    static const char *const names[] = {"log0", "log1", "seg1", "seg2"};
+    int count = 0;
+
+    for (int i = 0; i < 4; i++) {
+        char path[PATH_BYTES];
+
+        snprintf(path, sizeof path, "%s/%s", folder, names[i]);
+        count += access(path, F_OK) == 0;
     }
-    lcrvm_embedded_close(store);
-    ANSWERS(lcrvm_embedded_open(folder, NULL, 1, &store, &fault), LCRVM_DEVICE_FAULT);
+    return count;
+}
+
+static int creates(const char *folder, const char *number)
+{
+    static const struct lcrvm_geometry geometry = {2, 1, 2, 1, 64};
+    const struct lcrvm_options options = {.geometry = &geometry};
+    struct lcrvm_fault fault;
+    enum lcrvm_status status;
+    int before = descriptors();
+
+    failing = strtol(number, NULL, 10);
+    status = lcrvm_create(folder, &options, &fault);
+    CHECK(fault.status == status);
+    CHECK(descriptors() == before);
+    if (made < failing) {
+        /* A write and a sync of each of four files, and the syncs of two folders. */
+        CHECK(made == 4 * 2 + 2);
+        return status == LCRVM_OK && wrong == 0 ? 0 : 1;
+    }
+    /* That the folder which it stands in is not synced is no fault. */
+    if (status == LCRVM_OK)
+        return standing(folder) == 4 && wrong == 0 ? IS_MADE : 1;
+    CHECK(is_failure(&fault));
+    CHECK(standing(folder) == (failing <= 8 ? (failing + 1) / 2 : 4));
+    failing = 0;
+    ANSWERS(lcrvm_create(folder, &options, NULL), LCRVM_EXISTS);
     return wrong == 0 ? HAS_FAILED : 1;
 }
 
 static int shows(const char *folder)
 {
-    struct lcrvm_embedded *store = opened(folder);
+    struct lcrvm_store *store = opened(folder);
 
     if (store == NULL)
         return 1;
     printf("%" PRId64 "\n", number_in(store));
-    lcrvm_embedded_close(store);
+    lcrvm_close(store, NULL);
     return 0;
 }
 
+/* What the tests of the calls have. */
+
+static const struct lcrvm_geometry one = {1, 2, 2, 4, 64};
+static const struct lcrvm_geometry two_nodes = {2, 1, 3, 1, 64};
+
+/* The path of a name below a folder. */
+static const char *below(const char *folder, const char *name)
+{
+    static char path[PATH_BYTES];
+
+    snprintf(path, sizeof path, "%s/%s", folder, name);
+    return path;
+}
+
+static struct lcrvm_store *opened_as(const char *folder, const struct lcrvm_geometry *geometry, bool truncates)
+{
+    const struct lcrvm_options options = {.geometry = geometry, .truncate_when_full = truncates};
+    struct lcrvm_store *store;
+    struct lcrvm_fault fault;
+
+    ANSWERS(lcrvm_open(folder, &options, &store, &fault), LCRVM_OK);
+    if (store == NULL)
+        exit(1);
+    return store;
+}
+
+/* A new store. */
+static struct lcrvm_store *made_as(const char *folder, const struct lcrvm_geometry *geometry, bool truncates)
+{
+    const struct lcrvm_options options = {.geometry = geometry};
+
+    CHECK(mkdir(folder, 0777) == 0);
+    ANSWERS(lcrvm_create(folder, &options, NULL), LCRVM_OK);
+    return opened_as(folder, geometry, truncates);
+}
+
+static void close_well(struct lcrvm_store *store)
+{
+    struct lcrvm_fault fault;
+
+    ANSWERS(lcrvm_close(store, &fault), LCRVM_OK);
+    CHECK(fault.status == LCRVM_OK);
+}
+
+static enum lcrvm_status begin(struct lcrvm_store *store, uint32_t node, uint32_t thread, uint32_t segment)
+{
+    return lcrvm_begin_transaction(store, node, thread, &segment, 1, NULL, 0);
+}
+
+/* Writes these bytes, of a range of their own, in the transaction of thread 0. */
+static enum lcrvm_status put(struct lcrvm_store *store, uint32_t node, uint32_t segment, uint32_t offset, const char *text)
+{
+    uint32_t length = (uint32_t)strlen(text);
+    enum lcrvm_status status = lcrvm_set_range(store, node, 0, segment, offset, length);
+
+    return status == LCRVM_OK ? lcrvm_write(store, node, 0, segment, offset, text, length) : status;
+}
+
+/* A commit of eight words: with at most eight bytes. */
+static enum lcrvm_status commit(struct lcrvm_store *store, uint32_t node, uint32_t segment, uint32_t offset,
+                                const char *text)
+{
+    enum lcrvm_status status = begin(store, node, 0, segment);
+
+    if (status == LCRVM_OK)
+        status = put(store, node, segment, offset, text);
+    return status == LCRVM_OK ? lcrvm_end_transaction(store, node, 0, false, NULL) : status;
+}
+
+/* Eight commits fill a log of 64 words. */
+static void fill(struct lcrvm_store *store)
+{
+    for (uint32_t number = 0; number < 8; number++)
+        ANSWERS(commit(store, 0, 1, 8 * number, "filled"), LCRVM_OK);
+}
+
+/* Whether an open transaction of thread 0 reads just this. */
+static bool reads(struct lcrvm_store *store, uint32_t node, uint32_t segment, uint32_t offset, const char *text)
+{
+    char bytes[64];
+    uint32_t length = (uint32_t)strlen(text);
+
+    return lcrvm_read(store, node, 0, segment, offset, bytes, length) == LCRVM_OK && memcmp(bytes, text, length) == 0;
+}
+
+/* Whether a new transaction does. */
+static bool holds(struct lcrvm_store *store, uint32_t node, uint32_t segment, uint32_t offset, const char *text)
+{
+    bool has = lcrvm_begin_transaction(store, node, 0, NULL, 0, &segment, 1) == LCRVM_OK &&
+               reads(store, node, segment, offset, text);
+
+    return lcrvm_abort_transaction(store, node, 0) == LCRVM_OK && has;
+}
+
+static bool is_full(const struct lcrvm_store *store, uint64_t tail, uint64_t need)
+{
+    const struct lcrvm_fault *fault = lcrvm_fault_of(store);
+
+    return fault->status == LCRVM_FULL && fault->tail == tail && fault->need == need;
+}
+
+static size_t read_bytes(const char *path, char bytes[MOST_BYTES])
+{
+    FILE *file = fopen(path, "r");
+    size_t len;
+
+    if (file == NULL)
+        return 0;
+    len = fread(bytes, 1, MOST_BYTES, file);
+    fclose(file);
+    return len;
+}
+
+/* The tests of the calls, each in a folder of its own that is not there yet. */
+
 /* Each call, with what it refuses. The tokens of segments 1 and 3 stand at node 1. */
-static int calls(const char *folder)
+static void test_calls(const char *folder)
 {
     static const uint32_t first[] = {1}, third[] = {3};
-    struct lcrvm_embedded *store = opened(folder), *other;
+    struct lcrvm_store *store = made_as(folder, &two_nodes, false), *other;
     struct lcrvm_commit commit;
     struct lcrvm_delivered delivered;
     struct lcrvm_fault fault;
     uint64_t records = 0, count = 0;
     char bytes[5] = "";
 
+    CHECK(lcrvm_geometry_of(store)->nodes == 2);
+    CHECK(lcrvm_process_of(store) == (long)getpid());
+    ANSWERS(lcrvm_open(folder, NULL, &other, &fault), LCRVM_STORE_IN_USE);
+    CHECK(other == NULL && fault.text[0] != '\0');
+    ANSWERS(lcrvm_begin_transaction(store, 2, 0, NULL, 0, NULL, 0), LCRVM_UNKNOWN);
+    ANSWERS(lcrvm_begin_transaction(store, 65536, 0, NULL, 0, NULL, 0), LCRVM_UNKNOWN);
+    ANSWERS(lcrvm_set_range(store, 1, 0, 1, 0, 5), LCRVM_OUT_OF_TURN);
+    ANSWERS(lcrvm_begin_transaction(store, 0, 0, first, 1, NULL, 0), LCRVM_NOT_HERE);
+    CHECK(lcrvm_fault_of(store)->segment == 1);
+    ANSWERS(lcrvm_begin_transaction(store, 1, 0, first, 1, third, 1), LCRVM_OK);
+    ANSWERS(lcrvm_set_range(store, 1, 0, 3, 0, 5), LCRVM_READ_ONLY);
+    ANSWERS(lcrvm_set_range(store, 1, 0, 1, 3, 0), LCRVM_EMPTY_RANGE);
+    ANSWERS(lcrvm_set_range(store, 1, 0, 1, 3, 5), LCRVM_OK);
+    ANSWERS(lcrvm_write(store, 1, 0, 1, 2, "hello", 5), LCRVM_NO_RANGE);
+    ANSWERS(lcrvm_write(store, 1, 0, 1, 3, "hello", 5), LCRVM_OK);
+    ANSWERS(lcrvm_write(store, 1, 0, 1, 3, NULL, 0), LCRVM_OK);
+    ANSWERS(lcrvm_read(store, 1, 0, 1, 3, bytes, 5), LCRVM_OK);
+    CHECK(memcmp(bytes, "hello", 5) == 0);
+    ANSWERS(lcrvm_read(store, 1, 0, 1, 256, bytes, 5), LCRVM_OUT_OF_SEGMENT);
+    ANSWERS(lcrvm_end_transaction(store, 1, 0, false, &commit), LCRVM_OK);
+    CHECK(commit.place == 0 && commit.words == 8);
+    ANSWERS(lcrvm_leave(store, 1, 1), LCRVM_UNFLUSHED);
+    /* The log is flushed also where there is nothing to end. */
+    ANSWERS(lcrvm_end_transaction(store, 1, 0, true, NULL), LCRVM_OUT_OF_TURN);
+    ANSWERS(lcrvm_leave(store, 1, 1), LCRVM_OK);
+    ANSWERS(lcrvm_flush(store, 1, &records), LCRVM_OK);
+    CHECK(records == 1);
+    ANSWERS(lcrvm_arrive(store, 0, 1), LCRVM_BEHIND);
+    CHECK(lcrvm_fault_of(store)->sequence == 1);
+    ANSWERS(lcrvm_deliver(store, 1, 1, 1, 0, &delivered), LCRVM_OK);
+    CHECK(delivered.delivery == LCRVM_APPLIED && delivered.applied == 1);
+    ANSWERS(lcrvm_arrive(store, 0, 1), LCRVM_OK);
+    ANSWERS(lcrvm_trim(store, 1, &count), LCRVM_OK);
+    CHECK(count == 1);
+    CHECK(holds(store, 0, 1, 3, "hello"));
+    ANSWERS(lcrvm_abort_transaction(store, 0, 0), LCRVM_OUT_OF_TURN);
+    ANSWERS(lcrvm_truncate(store, 0, NULL), LCRVM_OK);
+    close_well(store);
+}
+
+static void test_status_text(const char *folder)
+{
+    (void)folder;
+    CHECK(strcmp(lcrvm_status_text(LCRVM_OK), "ok") == 0);
+    CHECK(strcmp(lcrvm_status_text(LCRVM_FULL), "Full") == 0);
+    CHECK(strcmp(lcrvm_status_text(LCRVM_READ_ONLY), "ReadOnly") == 0);
+    CHECK(strcmp(lcrvm_status_text(LCRVM_DEVICE_FAULT), "device fault") == 0);
+    CHECK(strcmp(lcrvm_status_text(LCRVM_STORE_IN_USE), "store in use") == 0);
+    CHECK(strcmp(lcrvm_status_text(LCRVM_EXISTS), "Exists") == 0);
+}
+
+/* A file has this length and holds zeros alone. */
+static bool is_zeros(const char *path, size_t len)
+{
+    static const char zeros[MOST_BYTES];
+    char bytes[MOST_BYTES];
+
+    return read_bytes(path, bytes) == len && memcmp(bytes, zeros, len) == 0;
+}
+
+static void test_creation(const char *folder)
+{
+    const struct lcrvm_options options = {.geometry = &one};
+    struct lcrvm_fault fault;
+    struct lcrvm_store *store;
+    int before = descriptors();
+
+    ANSWERS(lcrvm_create(folder, &options, &fault), LCRVM_DEVICE_FAULT);
+    CHECK(strcmp(fault.text, strerror(ENOENT)) == 0);
+    CHECK(mkdir(folder, 0777) == 0);
+    ANSWERS(lcrvm_create(folder, &options, &fault), LCRVM_OK);
+    CHECK(fault.status == LCRVM_OK && fault.text[0] == '\0');
+    CHECK(is_zeros(below(folder, "log0"), 65 * 8));
+    CHECK(is_zeros(below(folder, "seg1"), 4 * 544) && is_zeros(below(folder, "seg2"), 4 * 544));
+    CHECK(access(below(folder, "log1"), F_OK) != 0 && access(below(folder, "seg3"), F_OK) != 0);
+    ANSWERS(lcrvm_create(folder, &options, &fault), LCRVM_EXISTS);
+    ANSWERS(lcrvm_create(below(folder, "log0"), &options, &fault), LCRVM_DEVICE_FAULT);
+    CHECK(strcmp(fault.text, strerror(ENOTDIR)) == 0);
+    ANSWERS(lcrvm_create("", &options, NULL), LCRVM_DEVICE_FAULT);
+    store = opened_as(folder, NULL, false);
+    CHECK(lcrvm_geometry_of(store)->pages == 4 && lcrvm_geometry_of(store)->threads == 1);
+    close_well(store);
+    CHECK(descriptors() == before);
+}
+
+/* Nothing is made where one name is taken, be it by a link to nothing, or where the folder is locked. */
+static void test_creation_is_refused(const char *folder)
+{
+    const struct lcrvm_options options = {.geometry = &one};
+    struct lcrvm_fault fault;
+    int before, locked;
+
+    CHECK(mkdir(folder, 0777) == 0);
+    before = descriptors();
+    CHECK(symlink("nowhere", below(folder, "seg2")) == 0);
+    ANSWERS(lcrvm_create(folder, &options, &fault), LCRVM_EXISTS);
+    CHECK(access(below(folder, "log0"), F_OK) != 0);
+    CHECK(unlink(below(folder, "seg2")) == 0);
+    locked = open(folder, O_RDONLY);
+    CHECK(flock(locked, LOCK_SH) == 0);
+    ANSWERS(lcrvm_create(folder, &options, &fault), LCRVM_STORE_IN_USE);
+    CHECK(fault.text[0] != '\0' && access(below(folder, "log0"), F_OK) != 0);
+    close(locked);
+    /* With no options it has one of each, and 64 words. */
+    ANSWERS(lcrvm_create(folder, NULL, NULL), LCRVM_OK);
+    CHECK(is_zeros(below(folder, "log0"), 65 * 8) && is_zeros(below(folder, "seg1"), 544));
+    CHECK(access(below(folder, "seg2"), F_OK) != 0);
+    CHECK(descriptors() == before);
+}
+
+/* A size that no store has is refused before the folder is looked at. */
+static void test_sizes(const char *folder)
+{
+    static const struct lcrvm_geometry sizes[] = {
+        {0, 1, 1, 1, 64}, {9, 1, 1, 1, 64},  {65537, 1, 1, 1, 64}, {1, 0, 1, 1, 64},    {1, 17, 1, 1, 64}, {1, 65537, 1, 1, 64},
+        {1, 1, 0, 1, 64}, {1, 1, 17, 1, 64}, {1, 1, 1, 0, 64},     {1, 1, 1, 1025, 64}, {1, 1, 1, 1, 63},  {1, 1, 1, 1, 4097},
+    };
+    const struct lcrvm_options threads = {.threads = 17};
+    struct lcrvm_store *store;
+    struct lcrvm_fault fault;
+
+    for (size_t i = 0; i < sizeof sizes / sizeof sizes[0]; i++) {
+        const struct lcrvm_options options = {.geometry = &sizes[i]};
+
+        ANSWERS(lcrvm_create(folder, &options, &fault), LCRVM_UNKNOWN);
+        CHECK(fault.status == LCRVM_UNKNOWN);
+        ANSWERS(lcrvm_open(folder, &options, &store, &fault), LCRVM_UNKNOWN);
+        CHECK(store == NULL && fault.status == LCRVM_UNKNOWN);
+    }
+    ANSWERS(lcrvm_open(folder, &threads, &store, NULL), LCRVM_UNKNOWN);
+    ANSWERS(lcrvm_open(folder, NULL, &store, NULL), LCRVM_NO_STORE);
+}
+
+/* What is opened has to have the size that is asked for, and as found its files have to fit together. */
+static void test_openings(const char *folder)
+{
+    const struct lcrvm_geometry fewer = {1, 2, 1, 4, 64}, longer = {1, 2, 2, 4, 65};
+    const struct lcrvm_options as_fewer = {.geometry = &fewer}, as_longer = {.geometry = &longer};
+    struct lcrvm_store *store = made_as(folder, &one, false);
+    struct lcrvm_fault fault;
+
+    close_well(store);
+    ANSWERS(lcrvm_open(folder, &as_fewer, &store, &fault), LCRVM_BAD_GEOMETRY);
+    CHECK(fault.area == 2);
+    ANSWERS(lcrvm_open(folder, &as_longer, &store, &fault), LCRVM_BAD_GEOMETRY);
+    CHECK(fault.area == 0);
+    CHECK(truncate(below(folder, "seg2"), 544) == 0);
+    ANSWERS(lcrvm_open(folder, NULL, &store, &fault), LCRVM_NO_STORE);
+    CHECK(strcmp(fault.text, "seg2 has another length than the first") == 0);
+    CHECK(truncate(below(folder, "seg1"), 543) == 0 && truncate(below(folder, "seg2"), 543) == 0);
+    ANSWERS(lcrvm_open(folder, NULL, &store, &fault), LCRVM_NO_STORE);
+    CHECK(strcmp(fault.text, "seg1 has a length of no store") == 0);
+    CHECK(unlink(below(folder, "seg1")) == 0);
+    ANSWERS(lcrvm_open(folder, NULL, &store, &fault), LCRVM_NO_STORE);
+    CHECK(store == NULL && strcmp(fault.text, "seg1 is missing") == 0);
+}
+
+/* Commits with a record and resets are counted from the opening on. */
+static void test_counts(const char *folder)
+{
+    struct lcrvm_store *store = made_as(folder, &one, false);
+    uint64_t records = 7, rounds = 7;
+
+    ANSWERS(lcrvm_flush(store, 0, &records), LCRVM_OK);
+    ANSWERS(lcrvm_truncate(store, 0, &rounds), LCRVM_OK);
+    CHECK(records == 0 && rounds == 0);
+    ANSWERS(commit(store, 0, 1, 0, "one"), LCRVM_OK);
+    ANSWERS(commit(store, 0, 2, 0, "two"), LCRVM_OK);
+    ANSWERS(begin(store, 0, 0, 1), LCRVM_OK);
+    ANSWERS(lcrvm_end_transaction(store, 0, 0, true, NULL), LCRVM_OK);
+    ANSWERS(lcrvm_flush(store, 0, &records), LCRVM_OK);
+    CHECK(records == 2);
+    ANSWERS(lcrvm_truncate(store, 0, &rounds), LCRVM_OK);
+    CHECK(rounds == 1);
+    ANSWERS(lcrvm_truncate(store, 0, &rounds), LCRVM_OK);
+    CHECK(rounds == 1);
+    ANSWERS(commit(store, 0, 1, 0, "three"), LCRVM_OK);
+    ANSWERS(lcrvm_truncate(store, 0, &rounds), LCRVM_OK);
+    ANSWERS(lcrvm_flush(store, 0, &records), LCRVM_OK);
+    CHECK(rounds == 2 && records == 3);
+    ANSWERS(lcrvm_truncate(store, 1, &rounds), LCRVM_UNKNOWN);
+    CHECK(rounds == 2);
+    close_well(store);
+    store = opened_as(folder, &one, false);
+    ANSWERS(lcrvm_flush(store, 0, &records), LCRVM_OK);
+    ANSWERS(lcrvm_truncate(store, 0, &rounds), LCRVM_OK);
+    CHECK(records == 0 && rounds == 0);
+    close_well(store);
+}
+
+/* A transaction whose log is full is made again, with all its ranges, and what they hold where nothing was written. */
+static void test_full_is_made_again(const char *folder)
+{
+    static const uint32_t both[] = {2, 1};
+    struct lcrvm_store *store = made_as(folder, &one, true);
+    struct lcrvm_commit commit;
+    uint64_t records = 0, rounds = 0;
+
+    ANSWERS(lcrvm_leave(store, 0, 3), LCRVM_UNKNOWN);
+    fill(store);
+    ANSWERS(lcrvm_begin_transaction(store, 0, 0, both, 2, NULL, 0), LCRVM_OK);
+    ANSWERS(put(store, 0, 1, 0, "none"), LCRVM_OK);
+    ANSWERS(put(store, 0, 1, 0, "nine"), LCRVM_OK);
+    ANSWERS(put(store, 0, 2, 300, "other"), LCRVM_OK);
+    ANSWERS(lcrvm_set_range(store, 0, 0, 1, 8, 3), LCRVM_OK);
+    /* 3 words, 2 for each lock, 2 for each range, and one for the bytes of each. */
+    ANSWERS(lcrvm_end_transaction(store, 0, 0, true, &commit), LCRVM_OK);
+    CHECK(commit.place == 0 && commit.words == 3 + 4 + 9);
+    CHECK(lcrvm_fault_of(store)->status == LCRVM_UNKNOWN);
+    ANSWERS(lcrvm_flush(store, 0, &records), LCRVM_OK);
+    CHECK(records == 9);
+    ANSWERS(lcrvm_truncate(store, 0, &rounds), LCRVM_OK);
+    CHECK(rounds == 2);
+    close_well(store);
+    store = opened_as(folder, &one, true);
+    CHECK(holds(store, 0, 1, 0, "nineed") && holds(store, 0, 1, 8, "filled") && holds(store, 0, 2, 300, "other"));
+    close_well(store);
+}
+
+/* The transaction that was not made again is open with its locks, ranges and bytes. */
+static void stays_open(struct lcrvm_store *store, uint32_t node, uint32_t segment, uint64_t need, uint64_t tail)
+{
+    CHECK(is_full(store, tail, need));
+    CHECK(reads(store, node, segment, 0, "first") && reads(store, node, segment, 40, "second"));
+    ANSWERS(lcrvm_write(store, node, 0, segment, 40, "seconds", 7), LCRVM_NO_RANGE);
+    ANSWERS(lcrvm_begin_transaction(store, node, 0, NULL, 0, NULL, 0), LCRVM_OUT_OF_TURN);
+}
+
+/* 3 words, 2 of a lock, and of each of two ranges 2 and one of bytes. */
+enum { TWO_RANGES = 3 + 2 + 6 };
+
+static void put_two(struct lcrvm_store *store, uint32_t node, uint32_t segment)
+{
+    ANSWERS(put(store, node, segment, 0, "first"), LCRVM_OK);
+    ANSWERS(put(store, node, segment, 40, "second"), LCRVM_OK);
+}
+
+static void test_full_where_another_has_ranges(const char *folder)
+{
+    static const uint32_t second[] = {2};
+    struct lcrvm_store *store = made_as(folder, &one, true);
+    uint64_t rounds = 7;
+
+    fill(store);
+    ANSWERS(lcrvm_begin_transaction(store, 0, 1, second, 1, NULL, 0), LCRVM_OK);
+    ANSWERS(lcrvm_set_range(store, 0, 1, 2, 900, 1), LCRVM_OK);
+    ANSWERS(begin(store, 0, 0, 1), LCRVM_OK);
+    put_two(store, 0, 1);
+    ANSWERS(lcrvm_end_transaction(store, 0, 0, false, NULL), LCRVM_FULL);
+    stays_open(store, 0, 1, TWO_RANGES, 64);
+    /* Without a range it is in nobody's way. */
+    ANSWERS(lcrvm_abort_transaction(store, 0, 1), LCRVM_OK);
+    ANSWERS(lcrvm_begin_transaction(store, 0, 1, second, 1, NULL, 0), LCRVM_OK);
+    ANSWERS(lcrvm_end_transaction(store, 0, 0, false, NULL), LCRVM_OK);
+    ANSWERS(lcrvm_abort_transaction(store, 0, 1), LCRVM_OK);
+    CHECK(holds(store, 0, 1, 0, "first") && holds(store, 0, 1, 40, "second"));
+    ANSWERS(lcrvm_truncate(store, 0, &rounds), LCRVM_OK);
+    CHECK(rounds == 2);
+    close_well(store);
+}
+
+/* Records on segment 1 stand in the log of node 1, and its token is at node 0. What is only read stays locked too. */
+static void test_full_where_the_truncation_is_refused(const char *folder)
+{
+    static const struct lcrvm_geometry size = {2, 2, 5, 1, 64};
+    static const uint32_t third[] = {3}, fifth[] = {5};
+    struct lcrvm_store *store = made_as(folder, &size, true);
+    uint64_t rounds = 7;
+
+    for (uint32_t number = 0; number < 7; number++)
+        ANSWERS(commit(store, 1, 1, number, "x"), LCRVM_OK);
+    ANSWERS(lcrvm_flush(store, 1, NULL), LCRVM_OK);
+    ANSWERS(lcrvm_leave(store, 1, 1), LCRVM_OK);
+    for (uint64_t record = 1; record <= 7; record++)
+        ANSWERS(lcrvm_deliver(store, 1, record, 1, 0, NULL), LCRVM_OK);
+    ANSWERS(lcrvm_arrive(store, 0, 1), LCRVM_OK);
+    ANSWERS(lcrvm_begin_transaction(store, 1, 0, third, 1, fifth, 1), LCRVM_OK);
+    put_two(store, 1, 3);
+    ANSWERS(lcrvm_end_transaction(store, 1, 0, false, NULL), LCRVM_FULL);
+    stays_open(store, 1, 3, TWO_RANGES, 56);
+    CHECK(reads(store, 1, 5, 0, ""));
+    ANSWERS(lcrvm_set_range(store, 1, 0, 5, 0, 1), LCRVM_READ_ONLY);
+    ANSWERS(lcrvm_begin_transaction(store, 1, 1, fifth, 1, NULL, 0), LCRVM_BUSY);
+    ANSWERS(lcrvm_end_transaction(store, 1, 0, true, NULL), LCRVM_FULL);
+    stays_open(store, 1, 3, TWO_RANGES, 56);
+    ANSWERS(lcrvm_leave(store, 0, 1), LCRVM_OK);
+    ANSWERS(lcrvm_arrive(store, 1, 1), LCRVM_OK);
+    ANSWERS(lcrvm_end_transaction(store, 1, 0, true, NULL), LCRVM_OK);
+    ANSWERS(lcrvm_truncate(store, 1, &rounds), LCRVM_OK);
+    CHECK(rounds == 2);
+    CHECK(holds(store, 1, 3, 0, "first") && holds(store, 1, 3, 40, "second"));
+    close_well(store);
+}
+
+static void test_full_where_it_does_not_help(const char *folder)
+{
+    struct lcrvm_store *store = made_as(folder, &one, true);
+    uint64_t rounds = 7;
+
+    ANSWERS(commit(store, 0, 2, 0, "x"), LCRVM_OK);
+    ANSWERS(begin(store, 0, 0, 1), LCRVM_OK);
+    put_two(store, 0, 1);
+    ANSWERS(lcrvm_set_range(store, 0, 0, 1, 256, 512), LCRVM_OK);
+    ANSWERS(lcrvm_end_transaction(store, 0, 0, false, NULL), LCRVM_FULL);
+    stays_open(store, 0, 1, TWO_RANGES + 2 + 64, 8);
+    ANSWERS(lcrvm_abort_transaction(store, 0, 0), LCRVM_OK);
+    ANSWERS(lcrvm_truncate(store, 0, &rounds), LCRVM_OK);
+    CHECK(rounds == 1);
+    close_well(store);
+}
+
+/* What the files of two segments held, and whether they do so now. */
+struct held {
+    char bytes[2][MOST_BYTES];
+    size_t lens[2];
+};
+
+static void hold(const char *folder, struct held *held)
+{
+    held->lens[0] = read_bytes(below(folder, "seg1"), held->bytes[0]);
+    held->lens[1] = read_bytes(below(folder, "seg2"), held->bytes[1]);
+}
+
+static bool is_held(const char *folder, const struct held *held)
+{
+    static struct held now;
+
+    hold(folder, &now);
+    return memcmp(held->bytes[0], now.bytes[0], held->lens[0]) == 0 &&
+           memcmp(held->bytes[1], now.bytes[1], held->lens[1]) == 0;
+}
+
+/* A truncation with an open range on a page that is to be written writes none, also none in front of it, and flushes; a
+   range on another page is in nobody's way. */
+static void test_uncommitted(const char *folder)
+{
+    static const uint32_t second[] = {2};
+    static struct held held;
+    struct lcrvm_store *store = made_as(folder, &one, false);
+    char log[MOST_BYTES];
+    uint64_t rounds = 7;
+
+    ANSWERS(commit(store, 0, 1, 508, "bytes"), LCRVM_OK);
+    ANSWERS(commit(store, 0, 2, 600, "second"), LCRVM_OK);
+    ANSWERS(lcrvm_begin_transaction(store, 0, 1, second, 1, NULL, 0), LCRVM_OK);
+    ANSWERS(lcrvm_set_range(store, 0, 1, 2, 767, 1), LCRVM_OK);
+    hold(folder, &held);
+    ANSWERS(lcrvm_truncate(store, 0, &rounds), LCRVM_UNCOMMITTED);
+    CHECK(rounds == 7 && lcrvm_fault_of(store)->status == LCRVM_UNCOMMITTED);
+    CHECK(is_held(folder, &held));
+    CHECK(read_bytes(below(folder, "log0"), log) == 65 * 8 && (unsigned char)log[0] == 0xa5);
+    ANSWERS(lcrvm_abort_transaction(store, 0, 1), LCRVM_OK);
+    ANSWERS(lcrvm_begin_transaction(store, 0, 1, second, 1, NULL, 0), LCRVM_OK);
+    ANSWERS(lcrvm_set_range(store, 0, 1, 2, 768, 1), LCRVM_OK);
+    ANSWERS(lcrvm_set_range(store, 0, 1, 2, 511, 1), LCRVM_OK);
+    ANSWERS(lcrvm_truncate(store, 0, &rounds), LCRVM_OK);
+    CHECK(rounds == 1 && !is_held(folder, &held));
+    /* The pages are clean now, and are not written again. */
+    hold(folder, &held);
+    ANSWERS(lcrvm_set_range(store, 0, 1, 2, 600, 1), LCRVM_OK);
+    ANSWERS(lcrvm_truncate(store, 0, &rounds), LCRVM_OK);
+    CHECK(rounds == 1 && is_held(folder, &held));
+    close_well(store);
+    store = opened_as(folder, &one, false);
+    CHECK(holds(store, 0, 1, 508, "bytes") && holds(store, 0, 2, 600, "second"));
+    close_well(store);
+}
+
+/* A page that is to be written goes with its segment's token, and is written where that is. */
+static void test_pages_go_with_tokens(const char *folder)
+{
+    struct lcrvm_store *store = made_as(folder, &two_nodes, false);
+    char before[MOST_BYTES], now[MOST_BYTES];
+    uint64_t rounds = 7;
+
+    ANSWERS(commit(store, 1, 1, 0, "one"), LCRVM_OK);
+    ANSWERS(lcrvm_flush(store, 1, NULL), LCRVM_OK);
+    ANSWERS(lcrvm_leave(store, 1, 1), LCRVM_OK);
+    read_bytes(below(folder, "seg1"), before);
+    ANSWERS(lcrvm_truncate(store, 0, &rounds), LCRVM_OK);
+    ANSWERS(lcrvm_truncate(store, 1, NULL), LCRVM_UNCLEAN);
+    CHECK(read_bytes(below(folder, "seg1"), now) == 544 && memcmp(before, now, 544) == 0);
+    ANSWERS(lcrvm_deliver(store, 1, 1, 1, 0, NULL), LCRVM_OK);
+    ANSWERS(lcrvm_arrive(store, 0, 1), LCRVM_OK);
+    ANSWERS(lcrvm_truncate(store, 0, &rounds), LCRVM_OK);
+    CHECK(rounds == 0);
+    CHECK(read_bytes(below(folder, "seg1"), now) == 544 && memcmp(before, now, 544) != 0);
+    ANSWERS(lcrvm_leave(store, 0, 1), LCRVM_OK);
+    ANSWERS(lcrvm_arrive(store, 1, 1), LCRVM_OK);
+    ANSWERS(lcrvm_truncate(store, 1, &rounds), LCRVM_OK);
+    CHECK(rounds == 1);
+    close_well(store);
+    store = opened_as(folder, &two_nodes, false);
+    CHECK(holds(store, 1, 1, 0, "one"));
+    close_well(store);
+}
+
+/* The pages of a segment are written side by side: of each file three syncs, however many they are. */
+static void test_syncs_of_a_truncation(const char *folder)
+{
+    struct lcrvm_store *store = made_as(folder, &one, false);
+    long before;
+
+    for (uint32_t page = 0; page < 4; page++)
+        ANSWERS(commit(store, 0, 1, 256 * page, "page"), LCRVM_OK);
+    ANSWERS(commit(store, 0, 2, 0, "page"), LCRVM_OK);
+    ANSWERS(lcrvm_flush(store, 0, NULL), LCRVM_OK);
+    before = made;
+    ANSWERS(lcrvm_truncate(store, 0, NULL), LCRVM_OK);
+    /* A gate that stands closed is closed by a write of no bytes: of each page two writes, of the segment two syncs; and the log. */
+    CHECK(made - before == (4 * 2 + 2) + (1 * 2 + 2) + 2);
+    for (uint32_t page = 0; page < 4; page++)
+        ANSWERS(commit(store, 0, 1, 256 * page, "page"), LCRVM_OK);
+    ANSWERS(lcrvm_truncate(store, 0, NULL), LCRVM_OK);
+    for (uint32_t page = 0; page < 4; page++)
+        ANSWERS(commit(store, 0, 1, 256 * page, "page"), LCRVM_OK);
+    ANSWERS(lcrvm_flush(store, 0, NULL), LCRVM_OK);
+    before = made;
+    ANSWERS(lcrvm_truncate(store, 0, NULL), LCRVM_OK);
+    CHECK(made - before == (4 * 3 + 3) + 2);
+    close_well(store);
+}
+
+static const struct {
+    const char *name;
+    void (*run)(const char *folder);
+} tests[] = {
+    {"calls", test_calls},
+    {"texts", test_status_text},
+    {"creation", test_creation},
+    {"refused_creation", test_creation_is_refused},
+    {"sizes", test_sizes},
+    {"openings", test_openings},
+    {"counts", test_counts},
+    {"full", test_full_is_made_again},
+    {"full_with_another", test_full_where_another_has_ranges},
+    {"full_and_refused", test_full_where_the_truncation_is_refused},
+    {"full_and_long", test_full_where_it_does_not_help},
+    {"uncommitted", test_uncommitted},
+    {"tokens", test_pages_go_with_tokens},
+    {"syncs", test_syncs_of_a_truncation},
+};
+
+static int calls(const char *folder)
+{
+    for (size_t i = 0; i < sizeof tests / sizeof tests[0]; i++) {
+        char path[PATH_BYTES];
+        int before = wrong;
+
+        snprintf(path, sizeof path, "%s/%s", folder, tests[i].name);
+        tests[i].run(path);
+        if (wrong > before)
+            fprintf(stderr, "failed: %s\n", tests[i].name);
+    }
+    printf("%d wrong\n", wrong);
+    return wrong != 0;
+}
+
+/* Want of memory. What is answered NO_MEMORY has changed nothing, and is done once more. */
+
+static bool misses_memory(enum lcrvm_status status)
+{
+    return status == LCRVM_NO_MEMORY || status == LCRVM_CLIENT_MEMORY;
+}
+
+#define DONE(call)                                                                                                     \
+    do {                                                                                                               \
+        enum lcrvm_status first = (call);                                                                              \
+                                                                                                                       \
+        ANSWERS(misses_memory(first) ? (call) : first, LCRVM_OK);                                                      \
+    } while (0)
+
+enum { MANY_RANGES = 20 };
+
+/* A commit of many ranges, whose end may find the log full, and no memory to make the transaction again: then it was aborted. */
+static void commit_all(struct lcrvm_store *store, uint32_t number)
+{
+    char text[8];
+    bool open = false;
+
+    snprintf(text, sizeof text, "c%u", (unsigned)number);
+    for (int attempt = 0; attempt < 2; attempt++) {
+        enum lcrvm_status status;
+
+        if (!open)
+            DONE(begin(store, 1, 0, 1));
+        for (uint32_t range = 0; range < MANY_RANGES && !open; range++)
+            DONE(put(store, 1, 1, 40 * range + number, text));
+        status = lcrvm_end_transaction(store, 1, 0, false, NULL);
+        if (status == LCRVM_OK)
+            return;
+        ANSWERS(status, LCRVM_NO_MEMORY);
+        open = lcrvm_begin_transaction(store, 1, 0, NULL, 0, NULL, 0) == LCRVM_OUT_OF_TURN;
+        if (!open)
+            ANSWERS(lcrvm_abort_transaction(store, 1, 0), LCRVM_OK);
+    }
+    CHECK(false);
+}
+
+static int memory(const char *folder)
+{
+    static const struct lcrvm_geometry size = {2, 1, 2, 4, 256};
+    const struct lcrvm_options options = {.geometry = &size, .truncate_when_full = true};
+    struct lcrvm_store *store;
+    struct lcrvm_delivered held, applied;
+    uint64_t records = 0, rounds = 0;
+    char bytes[1024];
+
+    DONE(lcrvm_create(folder, &options, NULL));
+    DONE(lcrvm_open(folder, &options, &store, NULL));
     if (store == NULL)
         return 1;
-    CHECK(lcrvm_embedded_geometry_of(store)->nodes == 2);
-    ANSWERS(lcrvm_embedded_open(folder, NULL, 1, &other, &fault), LCRVM_STORE_IN_USE);
-    ANSWERS(lcrvm_embedded_begin_transaction(store, 2, 0, NULL, 0, NULL, 0), LCRVM_UNKNOWN);
-    ANSWERS(lcrvm_embedded_begin_transaction(store, 65536, 0, NULL, 0, NULL, 0), LCRVM_UNKNOWN);
-    ANSWERS(lcrvm_embedded_set_range(store, 1, 0, 1, 0, 5), LCRVM_OUT_OF_TURN);
-    ANSWERS(lcrvm_embedded_begin_transaction(store, 0, 0, first, 1, NULL, 0), LCRVM_NOT_HERE);
-    CHECK(lcrvm_embedded_fault_of(store)->segment == 1);
-    ANSWERS(lcrvm_embedded_begin_transaction(store, 1, 0, first, 1, third, 1), LCRVM_OK);
-    ANSWERS(lcrvm_embedded_set_range(store, 1, 0, 3, 0, 5), LCRVM_READ_ONLY);
-    ANSWERS(lcrvm_embedded_set_range(store, 1, 0, 1, 3, 0), LCRVM_EMPTY_RANGE);
-    ANSWERS(lcrvm_embedded_set_range(store, 1, 0, 1, 3, 5), LCRVM_OK);
-    ANSWERS(lcrvm_embedded_write(store, 1, 0, 1, 2, "hello", 5), LCRVM_NO_RANGE);
-    ANSWERS(lcrvm_embedded_write(store, 1, 0, 1, 3, "hello", 5), LCRVM_OK);
-    ANSWERS(lcrvm_embedded_write(store, 1, 0, 1, 3, NULL, 0), LCRVM_OK);
-    ANSWERS(lcrvm_embedded_read(store, 1, 0, 1, 3, bytes, 5), LCRVM_OK);
-    CHECK(memcmp(bytes, "hello", 5) == 0);
-    ANSWERS(lcrvm_embedded_read(store, 1, 0, 1, 256, bytes, 5), LCRVM_OUT_OF_SEGMENT);
-    ANSWERS(lcrvm_embedded_end_transaction(store, 1, 0, false, &commit), LCRVM_OK);
-    CHECK(commit.place == 0 && commit.words == 8);
-    ANSWERS(lcrvm_embedded_leave(store, 1, 1), LCRVM_UNFLUSHED);
-    ANSWERS(lcrvm_embedded_flush(store, 1, &records), LCRVM_OK);
-    CHECK(records == 1);
-    ANSWERS(lcrvm_embedded_flush(store, 1, NULL), LCRVM_OK);
-    ANSWERS(lcrvm_embedded_leave(store, 1, 1), LCRVM_OK);
-    ANSWERS(lcrvm_embedded_arrive(store, 0, 1), LCRVM_BEHIND);
-    CHECK(lcrvm_embedded_fault_of(store)->sequence == 1);
-    ANSWERS(lcrvm_embedded_deliver(store, 1, 1, 1, 0, &delivered), LCRVM_OK);
-    CHECK(delivered.delivery == LCRVM_APPLIED && delivered.applied == 1);
-    ANSWERS(lcrvm_embedded_arrive(store, 0, 1), LCRVM_OK);
-    ANSWERS(lcrvm_embedded_trim(store, 1, &count), LCRVM_OK);
-    CHECK(count == 1);
-    ANSWERS(lcrvm_embedded_begin_transaction(store, 0, 0, NULL, 0, first, 1), LCRVM_OK);
-    memset(bytes, 0, sizeof bytes);
-    ANSWERS(lcrvm_embedded_read(store, 0, 0, 1, 3, bytes, 5), LCRVM_OK);
-    CHECK(memcmp(bytes, "hello", 5) == 0);
-    ANSWERS(lcrvm_embedded_abort_transaction(store, 0, 0), LCRVM_OK);
-    ANSWERS(lcrvm_embedded_abort_transaction(store, 0, 0), LCRVM_OUT_OF_TURN);
-    ANSWERS(lcrvm_embedded_truncate(store, 0), LCRVM_OK);
-    lcrvm_embedded_close(store);
-    printf("%d wrong\n", wrong);
+    for (uint32_t number = 0; number < 12; number++)
+        commit_all(store, number);
+    DONE(lcrvm_flush(store, 1, &records));
+    DONE(lcrvm_deliver(store, 1, 2, 1, 0, &held));
+    DONE(lcrvm_deliver(store, 1, 1, 1, 0, &applied));
+    CHECK(held.delivery == LCRVM_HELD_BACK && applied.delivery == LCRVM_APPLIED && applied.applied == 2);
+    DONE(lcrvm_truncate(store, 1, &rounds));
+    DONE(begin(store, 1, 0, 1));
+    DONE(lcrvm_read(store, 1, 0, 1, 0, bytes, sizeof bytes));
+    close_well(store);
+    printf("%" PRIu64 " records, %" PRIu64 " rounds\n", records, rounds);
+    for (size_t i = 0; i < sizeof bytes; i++)
+        putchar(bytes[i] != '\0' ? bytes[i] : '.');
+    printf("\n%d wrong\n", wrong);
     return wrong != 0;
 }
 
@@ -243,8 +958,12 @@ int main(int count, char **arguments)
         return calls(arguments[2]);
     if (count == 3 && strcmp(arguments[1], "shows") == 0)
         return shows(arguments[2]);
+    if (count == 3 && strcmp(arguments[1], "memory") == 0)
+        return memory(arguments[2]);
     if (count == 4 && strcmp(arguments[1], "faults") == 0)
         return faults(arguments[2], arguments[3]);
-    fprintf(stderr, "usage: embedded_test commits|calls|shows FOLDER, embedded_test faults FOLDER N\n");
+    if (count == 4 && strcmp(arguments[1], "creates") == 0)
+        return creates(arguments[2], arguments[3]);
+    fprintf(stderr, "usage: embedded_test commits|calls|shows|memory FOLDER, embedded_test faults|creates FOLDER N\n");
     return 2;
 }

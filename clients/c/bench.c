@@ -1,6 +1,8 @@
-/* Measures transactions over the C client, each beside the same changes by hand on two files, in alternating rounds.
+/* Measures transactions by the calls of lcrvm.h, of the client or of the library, each beside the same changes by hand on
+   two files, in alternating rounds.
 
-   usage: bench [--short] PROGRAM [FOLDER]     (FOLDER: where the files stand, by itself where it runs)
+   usage: bench [--short] PROGRAM [FOLDER]     (PROGRAM: lcrvm, which the library does not read; FOLDER: where the files
+                                               stand, by itself where it runs)
 
    The store has 64 pages of 256 bytes and a log of 4,096 words; a change is 5 bytes at a random place, from a fixed
    seed. By hand a commit keeps the old bytes, sets the new ones in memory and makes a record of 64 bytes; a flush is
@@ -8,7 +10,8 @@
    one write of all pages and a sync, and one byte of the log and a sync. Both change the same bytes in the same order,
    and at the end they are compared. It takes half a minute or more; with --short, a few seconds.
 
-   cc -std=c11 -Wall -Wextra -O2 bench.c lcrvm.c -o bench */
+   cc -std=c11 -O2 -I../../include bench.c lcrvm.c -o bench
+   cc -std=c11 -O2 -I../../include bench.c embedded.c ../../crates/lc_c/out/liblc_c.a KIT/c/liblibc_c.a -o bench */
 #define _POSIX_C_SOURCE 200809L
 
 #include "lcrvm.h"
@@ -371,7 +374,7 @@ static void measure(struct bench *bench, const struct work *work, int rounds, bo
     fflush(stdout);
 }
 
-/* How many replies a second the client waits for. */
+/* How many calls a second are answered that have nothing to do; for the client each is a round trip. */
 static void measure_round_trips(struct bench *bench, int count)
 {
     double start = now();

@@ -1,7 +1,17 @@
+/* The library: recoverable virtual memory in a C program's own process, by the calls of lcrvm.h. The store is a static library,
+   liblc_c.a, and its files are read and written here.
+
+   Each event of the store makes at most one call on one of its areas in memory: a write, or a sync. The same call is made on
+   the area's file, by pwrite or fdatasync, before the event is answered; but a sync makes none where all that was written to
+   the file is stable. Where a call fails the store is given up: this call and each later one answer LCRVM_DEVICE_FAULT, a file
+   `fault` is left in the folder, and a recovery has what was acknowledged. */
+
 /* flock is no POSIX function. */
 #define _DEFAULT_SOURCE
 
-#include "embedded.h"
+#include "lcrvm.h"
+#include "statuses.h"
+#include "transactions.h"
 
 #include <errno.h>
 #include <fcntl.h>
@@ -14,17 +24,13 @@
 #include <unistd.h>
 
 enum {
-    MOST_NODES = 8,
-    MOST_SEGMENTS = 16,
     MOST_AREAS = MOST_NODES + MOST_SEGMENTS,
-    WORD_BYTES = 8,
-    PAGE_AREA_BYTES = 544, /* a page in its file, which has two slots for it */
-    LEAST_WORDS = 64,
-    MOST_WORDS = 4096,
-    MOST_PAGES = 1024,
+    PIECE_BYTES = 4096, /* of a new file, that are written at once */
     NAME_BYTES = 16,
     LEAST_DESCRIPTOR = 3
 };
+
+static const char log_kind[] = "log", segment_kind[] = "seg", mark[] = "fault";
 
 /* What crosses to the library, as lc_c declares it. */
 
@@ -96,29 +102,34 @@ bool lcrvm_session_bytes(struct handle *handle, uint32_t place, size_t at, uint8
 void lcrvm_session_give_up(struct handle *handle);
 void lcrvm_session_free(struct handle handle);
 
-struct lcrvm_embedded {
+struct lcrvm_store {
     struct handle session;
-    struct lcrvm_geometry geometry;
-    struct lcrvm_fault fault;
+    struct known known;
     int folder, files[MOST_AREAS];
     uint32_t areas;
-    uint64_t calls[MOST_AREAS]; /* of each area, those that its file has had */
-    uint8_t *bytes;             /* room for what one call writes */
+    uint64_t calls[MOST_AREAS];                /* of each area, those that its file has had */
+    bool stable[MOST_AREAS];                   /* of each file, whether all that was written to it is */
+    bool dirty[MOST_SEGMENTS + 1][MOST_PAGES]; /* whether a record is newer than the page in its file */
+    uint8_t *bytes;                            /* room for what one call writes */
 };
 
 /* Keeps why a call did nothing. */
-static enum lcrvm_status failed(struct lcrvm_embedded *store, enum lcrvm_status status, const char *text)
+static enum lcrvm_status failed(struct lcrvm_store *store, enum lcrvm_status status, const char *text)
 {
-    store->fault = (struct lcrvm_fault){.status = status};
-    snprintf(store->fault.text, sizeof store->fault.text, "%s", text);
-    return status;
+    return fill_fault(&store->known.last, status, text);
 }
 
-static enum lcrvm_status refused(struct lcrvm_embedded *store, const struct answer *answer)
+/* The system has refused something. */
+static enum lcrvm_status system_failed(struct lcrvm_fault *fault)
+{
+    return fill_fault(fault, LCRVM_DEVICE_FAULT, strerror(errno));
+}
+
+static enum lcrvm_status refused(struct lcrvm_store *store, const struct answer *answer)
 {
     if (answer->status == LCRVM_OK)
         return LCRVM_OK;
-    store->fault = (struct lcrvm_fault){
+    store->known.last = (struct lcrvm_fault){
         .status = (enum lcrvm_status)answer->status,
         .has_area = answer->has_area,
         .segment = answer->segment,
@@ -129,17 +140,18 @@ static enum lcrvm_status refused(struct lcrvm_embedded *store, const struct answ
         .tail = answer->tail,
         .need = answer->need,
     };
-    return store->fault.status;
+    return store->known.last.status;
 }
 
 /* A file has failed: the store is given up, and a mark is left for whoever opens it next. */
-static enum lcrvm_status given_up(struct lcrvm_embedded *store, const char *reason)
+static enum lcrvm_status given_up(struct lcrvm_store *store, const char *reason)
 {
-    int mark = openat(store->folder, "fault", O_WRONLY | O_CREAT | O_CLOEXEC, 0666);
+    int file = openat(store->folder, mark, O_WRONLY | O_CREAT | O_CLOEXEC, 0666);
 
-    if (mark >= 0)
-        close(mark);
+    if (file >= 0)
+        close(file);
     lcrvm_session_give_up(&store->session);
+    store->known.dead = true;
     return failed(store, LCRVM_DEVICE_FAULT, reason);
 }
 
@@ -187,31 +199,48 @@ static bool read_whole(int file, uint8_t *bytes, size_t len)
     return true;
 }
 
-static bool make_stable(int file)
+/* Makes what was written to a file stable, by fdatasync or fsync. */
+static bool make_stable(int file, int (*sync)(int file))
 {
-    while (fdatasync(file) != 0)
+    while (sync(file) != 0)
         if (errno != EINTR)
             return false;
     return true;
 }
 
+static bool write_area(struct lcrvm_store *store, uint32_t place, size_t at, size_t len)
+{
+    if (len > 0)
+        store->stable[place] = false;
+    return lcrvm_session_bytes(&store->session, place, at, store->bytes, len) &&
+           write_whole(store->files[place], store->bytes, len, at);
+}
+
+static bool sync_area(struct lcrvm_store *store, uint32_t place)
+{
+    if (!store->stable[place])
+        store->stable[place] = make_stable(store->files[place], fdatasync);
+    return store->stable[place];
+}
+
 /* Makes on the file of an area the call that was made on the area. */
-static bool mirror_call(struct lcrvm_embedded *store, uint32_t place, const struct last_call *call)
+static bool mirror_call(struct lcrvm_store *store, uint32_t place, const struct last_call *call)
 {
     switch (call->kind) {
     case WRITE:
-        return lcrvm_session_bytes(&store->session, place, call->at, store->bytes, call->len) &&
-               write_whole(store->files[place], store->bytes, call->len, call->at);
+        return write_area(store, place, call->at, call->len);
     case SYNC:
-        return make_stable(store->files[place]);
+        return sync_area(store, place);
     default:
         return true;
     }
 }
 
 /* Behind an event: what was called of an area is called of its file, and only then the answer is given. */
-static enum lcrvm_status mirrored(struct lcrvm_embedded *store, const struct answer *answer)
+static enum lcrvm_status mirrored(struct lcrvm_store *store, const struct answer *answer)
 {
+    if (store->known.dead)
+        return store->known.last.status;
     for (uint32_t place = 0; place < store->areas; place++) {
         struct last_call call = {0};
 
@@ -225,78 +254,45 @@ static enum lcrvm_status mirrored(struct lcrvm_embedded *store, const struct ans
     return refused(store, answer);
 }
 
-/* The number of a node or a thread that no store has, for those that do not fit into 16 bits. */
-static uint16_t narrow(uint32_t number)
-{
-    return number > UINT16_MAX ? UINT16_MAX : (uint16_t)number;
-}
+/* The files of a store. */
 
-/* The size of a store by its files. */
+static void write_name(const char *kind, uint32_t number, char name[NAME_BYTES])
+{
+    snprintf(name, NAME_BYTES, "%s%u", kind, (unsigned)number);
+}
 
 static void name_of(const struct lcrvm_geometry *geometry, uint32_t place, char name[NAME_BYTES])
 {
     if (place < geometry->nodes)
-        snprintf(name, NAME_BYTES, "log%u", (unsigned)place);
+        write_name(log_kind, place, name);
     else
-        snprintf(name, NAME_BYTES, "seg%u", (unsigned)(place - geometry->nodes + 1));
+        write_name(segment_kind, place - geometry->nodes + 1, name);
 }
 
-static bool stands(int folder, const char *kind, uint32_t number, off_t *len)
+static size_t len_of(const struct lcrvm_geometry *geometry, uint32_t place)
 {
-    char name[NAME_BYTES];
+    if (place < geometry->nodes)
+        return ((size_t)geometry->words + 1) * WORD_BYTES;
+    return (size_t)geometry->pages * PAGE_AREA_BYTES;
+}
+
+/* OK where nothing stands under a name, EXISTS where something does. A link counts, wherever it leads. */
+static enum lcrvm_status look_at(int folder, const char *name, struct lcrvm_fault *fault)
+{
     struct stat at;
 
-    snprintf(name, sizeof name, "%s%u", kind, (unsigned)number);
-    if (fstatat(folder, name, &at, 0) != 0)
-        return false;
-    *len = at.st_size;
-    return true;
+    if (fstatat(folder, name, &at, AT_SYMLINK_NOFOLLOW) == 0)
+        return fill_fault(fault, LCRVM_EXISTS, "");
+    return errno == ENOENT ? LCRVM_OK : system_failed(fault);
 }
 
-/* How many files of a kind there are, from the first on, and the length of the first. */
-static uint32_t count_files(int folder, const char *kind, uint32_t first, uint32_t most, off_t *first_len)
+static void close_file(int file)
 {
-    uint32_t count = 0;
-    off_t len;
+    int reason = errno;
 
-    while (count < most && stands(folder, kind, first + count, &len)) {
-        if (count == 0)
-            *first_len = len;
-        count++;
-    }
-    return count;
-}
-
-static bool find_geometry(int folder, uint32_t threads, struct lcrvm_geometry *found)
-{
-    off_t log_len = 0, segment_len = 0;
-
-    *found = (struct lcrvm_geometry){.threads = threads};
-    found->nodes = count_files(folder, "log", 0, MOST_NODES, &log_len);
-    found->segments = count_files(folder, "seg", 1, MOST_SEGMENTS, &segment_len);
-    if (found->nodes == 0 || found->segments == 0 || log_len % WORD_BYTES != 0 || segment_len % PAGE_AREA_BYTES != 0)
-        return false;
-    if (log_len < (LEAST_WORDS + 1) * WORD_BYTES || log_len > (MOST_WORDS + 1) * WORD_BYTES)
-        return false;
-    if (segment_len < PAGE_AREA_BYTES || segment_len > MOST_PAGES * PAGE_AREA_BYTES)
-        return false;
-    found->words = (uint32_t)(log_len / WORD_BYTES - 1);
-    found->pages = (uint32_t)(segment_len / PAGE_AREA_BYTES);
-    return true;
-}
-
-/* A file of the store above those of its geometry. */
-static bool has_more(int folder, const struct lcrvm_geometry *geometry)
-{
-    off_t len;
-
-    for (uint32_t node = geometry->nodes; node < MOST_NODES; node++)
-        if (stands(folder, "log", node, &len))
-            return true;
-    for (uint32_t segment = geometry->segments + 1; segment <= MOST_SEGMENTS; segment++)
-        if (stands(folder, "seg", segment, &len))
-            return true;
-    return false;
+    if (file >= 0)
+        close(file);
+    errno = reason;
 }
 
 /* The file is under no descriptor of the standard streams: what is printed would be written into it. */
@@ -307,15 +303,202 @@ static int beside_standard_streams(int file)
     if (file < 0 || file >= LEAST_DESCRIPTOR)
         return file;
     other = fcntl(file, F_DUPFD_CLOEXEC, LEAST_DESCRIPTOR);
-    close(file);
+    close_file(file);
     return other;
 }
 
-static size_t len_of(const struct lcrvm_geometry *geometry, uint32_t place)
+static int open_folder(int beside, const char *path)
 {
-    if (place < geometry->nodes)
-        return ((size_t)geometry->words + 1) * WORD_BYTES;
-    return (size_t)geometry->pages * PAGE_AREA_BYTES;
+    return beside_standard_streams(openat(beside, path, O_RDONLY | O_DIRECTORY | O_CLOEXEC));
+}
+
+/* No other process makes or opens a store in the folder until it is closed. */
+static enum lcrvm_status lock_folder(int folder, struct lcrvm_fault *fault)
+{
+    if (flock(folder, LOCK_EX | LOCK_NB) == 0)
+        return LCRVM_OK;
+    return errno == EWOULDBLOCK ? fill_fault(fault, LCRVM_STORE_IN_USE, "store in use") : system_failed(fault);
+}
+
+/* New stores. */
+
+static bool write_zeros(int file, size_t len)
+{
+    static const uint8_t zeros[PIECE_BYTES];
+    size_t piece;
+
+    for (size_t at = 0; at < len; at += piece) {
+        piece = len - at < sizeof zeros ? len - at : sizeof zeros;
+        if (!write_whole(file, zeros, piece, at))
+            return false;
+    }
+    return true;
+}
+
+static bool make_file(int folder, const char *name, size_t len)
+{
+    int file = beside_standard_streams(openat(folder, name, O_RDWR | O_CREAT | O_EXCL | O_CLOEXEC, 0666));
+    bool made = file >= 0 && write_zeros(file, len) && make_stable(file, fsync);
+
+    close_file(file);
+    return made;
+}
+
+/* Makes the names in a folder stable, and then its own. That the folder which it stands in cannot be synced is no fault. */
+static bool sync_names(int folder)
+{
+    int parent;
+
+    if (!make_stable(folder, fsync))
+        return false;
+    parent = open_folder(folder, "..");
+    if (parent >= 0)
+        make_stable(parent, fsync);
+    close_file(parent);
+    return true;
+}
+
+/* Makes the files of a store, unless something stands under one of their names: all are looked at before the first is made. */
+static enum lcrvm_status make_files(int folder, const struct lcrvm_geometry *geometry, struct lcrvm_fault *fault)
+{
+    uint32_t areas = geometry->nodes + geometry->segments;
+    char name[NAME_BYTES];
+    enum lcrvm_status status = LCRVM_OK;
+
+    for (uint32_t place = 0; place < areas && status == LCRVM_OK; place++) {
+        name_of(geometry, place, name);
+        status = look_at(folder, name, fault);
+    }
+    if (status == LCRVM_OK)
+        status = lock_folder(folder, fault);
+    for (uint32_t place = 0; place < areas && status == LCRVM_OK; place++) {
+        name_of(geometry, place, name);
+        if (!make_file(folder, name, len_of(geometry, place)))
+            status = system_failed(fault);
+    }
+    if (status == LCRVM_OK && !sync_names(folder))
+        status = system_failed(fault);
+    return status;
+}
+
+enum lcrvm_status lcrvm_create(const char *folder, const struct lcrvm_options *options, struct lcrvm_fault *fault)
+{
+    const struct lcrvm_geometry *geometry = size_of(options != NULL ? options : &no_options);
+    struct lcrvm_fault said = {.status = LCRVM_OK};
+    int opened;
+
+    if (!is_size(geometry))
+        return say(fault, LCRVM_UNKNOWN);
+    opened = open_folder(AT_FDCWD, folder);
+    if (opened < 0)
+        system_failed(&said);
+    else
+        make_files(opened, geometry, &said);
+    close_file(opened);
+    return tell(fault, &said);
+}
+
+/* The size of a store by its files. */
+
+struct row {
+    uint32_t count;
+    uint64_t len;
+};
+
+static enum lcrvm_status no_store(struct lcrvm_fault *fault, const char *kind, uint32_t number, const char *why)
+{
+    fill_fault(fault, LCRVM_NO_STORE, "");
+    snprintf(fault->text, sizeof fault->text, "%s%u %s", kind, (unsigned)number, why);
+    return LCRVM_NO_STORE;
+}
+
+/* How many files of a kind there are, from the first on, each as long as the first. */
+static enum lcrvm_status find_row(int folder, const char *kind, uint32_t first, uint32_t most, struct row *row,
+                                  struct lcrvm_fault *fault)
+{
+    char name[NAME_BYTES];
+    struct stat at;
+
+    *row = (struct row){0};
+    for (uint32_t place = 0; place < most; place++) {
+        write_name(kind, first + place, name);
+        if (fstatat(folder, name, &at, 0) != 0) {
+            if (errno != ENOENT)
+                return system_failed(fault);
+            continue;
+        }
+        if (row->count < place)
+            return no_store(fault, kind, first + row->count, "is missing");
+        if (place > 0 && (uint64_t)at.st_size != row->len)
+            return no_store(fault, kind, first + place, "has another length than the first");
+        *row = (struct row){.count = place + 1, .len = (uint64_t)at.st_size};
+    }
+    return row->count > 0 ? LCRVM_OK : no_store(fault, kind, first, "is missing");
+}
+
+/* How many things of so many bytes there are in this length, if they fill it. */
+static bool count_in(uint64_t len, uint64_t each, uint64_t least_count, uint64_t most_count, uint32_t *count)
+{
+    if (len % each != 0 || len / each < least_count || len / each > most_count)
+        return false;
+    *count = (uint32_t)(len / each);
+    return true;
+}
+
+static enum lcrvm_status find_size(int folder, struct lcrvm_geometry *found, struct lcrvm_fault *fault)
+{
+    struct row logs, segments;
+    enum lcrvm_status status = find_row(folder, log_kind, 0, MOST_NODES, &logs, fault);
+
+    if (status == LCRVM_OK)
+        status = find_row(folder, segment_kind, 1, MOST_SEGMENTS, &segments, fault);
+    if (status != LCRVM_OK)
+        return status;
+    if (!count_in(logs.len, WORD_BYTES, LEAST_WORDS + 1, MOST_WORDS + 1, &found->words))
+        return no_store(fault, log_kind, 0, "has a length of no store");
+    if (!count_in(segments.len, PAGE_AREA_BYTES, 1, MOST_PAGES, &found->pages))
+        return no_store(fault, segment_kind, 1, "has a length of no store");
+    found->words--;
+    found->nodes = logs.count;
+    found->segments = segments.count;
+    return LCRVM_OK;
+}
+
+/* Opening. */
+
+/* Looks at the names of a kind above those of the geometry: EXISTS where one is taken. */
+static enum lcrvm_status look_beyond(int folder, const char *kind, uint32_t first, uint32_t last,
+                                     struct lcrvm_fault *fault)
+{
+    char name[NAME_BYTES];
+    enum lcrvm_status status = LCRVM_OK;
+
+    for (uint32_t number = first; number <= last && status == LCRVM_OK; number++) {
+        write_name(kind, number, name);
+        status = look_at(folder, name, fault);
+    }
+    return status;
+}
+
+/* Adds the area of a file, with what it holds. */
+static enum lcrvm_status add_area(struct lcrvm_store *store, const uint8_t *bytes, size_t len)
+{
+    enum lcrvm_status status = (enum lcrvm_status)lcrvm_session_area(&store->session, bytes, len);
+
+    return status == LCRVM_OK ? LCRVM_OK : failed(store, status, "");
+}
+
+/* A file above those of the geometry is an area too many, which the start refuses. */
+static enum lcrvm_status add_beyond(struct lcrvm_store *store)
+{
+    static const uint8_t none = 0;
+    const struct lcrvm_geometry *geometry = &store->known.geometry;
+    struct lcrvm_fault *fault = &store->known.last;
+    enum lcrvm_status status = look_beyond(store->folder, log_kind, geometry->nodes, MOST_NODES - 1, fault);
+
+    if (status == LCRVM_OK)
+        status = look_beyond(store->folder, segment_kind, geometry->segments + 1, MOST_SEGMENTS, fault);
+    return status == LCRVM_EXISTS ? add_area(store, &none, 0) : status;
 }
 
 /* As many bytes as the longest area has. */
@@ -326,43 +509,63 @@ static size_t room_of(const struct lcrvm_geometry *geometry)
     return log_len > segment_len ? log_len : segment_len;
 }
 
-/* Opens the file of an area, and adds what it holds; of one that is too long one byte too much, which the start refuses. */
-static enum lcrvm_status add_file(struct lcrvm_embedded *store, uint32_t place)
+/* Reads a file, and adds its area; of one that is too long one byte too much, which the start refuses. */
+static enum lcrvm_status read_file(struct lcrvm_store *store, uint32_t place)
 {
-    char name[NAME_BYTES];
     struct stat at;
     uint8_t *bytes;
-    size_t len = len_of(&store->geometry, place);
+    size_t len = len_of(&store->known.geometry, place);
     enum lcrvm_status status;
-    int file;
 
-    name_of(&store->geometry, place, name);
-    if (fstatat(store->folder, name, &at, 0) != 0)
-        return failed(store, LCRVM_DEVICE_FAULT, strerror(errno));
-    if (!S_ISREG(at.st_mode))
-        return failed(store, LCRVM_DEVICE_FAULT, "not a regular file");
-    file = beside_standard_streams(openat(store->folder, name, O_RDWR | O_CLOEXEC));
-    if (file < 0)
-        return failed(store, LCRVM_DEVICE_FAULT, strerror(errno));
-    store->files[place] = file;
-    if (fstat(file, &at) != 0)
-        return failed(store, LCRVM_DEVICE_FAULT, strerror(errno));
+    if (fstat(store->files[place], &at) != 0)
+        return system_failed(&store->known.last);
     len = at.st_size > (off_t)len ? len + 1 : (size_t)at.st_size;
     bytes = malloc(len + 1);
     if (bytes == NULL)
         return failed(store, LCRVM_CLIENT_MEMORY, "");
-    if (read_whole(file, bytes, len)) {
-        status = (enum lcrvm_status)lcrvm_session_area(&store->session, bytes, len);
-        if (status != LCRVM_OK)
-            failed(store, status, "");
-    } else {
-        status = failed(store, LCRVM_DEVICE_FAULT, strerror(errno));
-    }
+    if (read_whole(store->files[place], bytes, len))
+        status = add_area(store, bytes, len);
+    else
+        status = system_failed(&store->known.last);
     free(bytes);
     return status;
 }
 
-static enum lcrvm_status recover(struct lcrvm_embedded *store)
+/* Opens the file of an area, and adds what it holds. */
+static enum lcrvm_status add_file(struct lcrvm_store *store, uint32_t place)
+{
+    char name[NAME_BYTES];
+    struct stat at;
+
+    name_of(&store->known.geometry, place, name);
+    if (fstatat(store->folder, name, &at, 0) != 0)
+        return system_failed(&store->known.last);
+    if (!S_ISREG(at.st_mode))
+        return failed(store, LCRVM_DEVICE_FAULT, "not a regular file");
+    store->files[place] = beside_standard_streams(openat(store->folder, name, O_RDWR | O_CLOEXEC));
+    return store->files[place] < 0 ? system_failed(&store->known.last) : read_file(store, place);
+}
+
+/* Begins a session for a store of this size, and adds its files. */
+static enum lcrvm_status add_files(struct lcrvm_store *store)
+{
+    const struct lcrvm_geometry *geometry = &store->known.geometry;
+    enum lcrvm_status status = (enum lcrvm_status)lcrvm_session_new(
+        bounded(geometry->nodes), bounded(geometry->threads), geometry->segments, geometry->pages, geometry->words,
+        &store->session);
+
+    if (status != LCRVM_OK)
+        return failed(store, status, "");
+    store->areas = geometry->nodes + geometry->segments;
+    store->bytes = malloc(room_of(geometry));
+    if (store->bytes == NULL)
+        return failed(store, LCRVM_CLIENT_MEMORY, "");
+    for (uint32_t place = 0; place < store->areas && status == LCRVM_OK; place++)
+        status = add_file(store, place);
+    return status == LCRVM_OK ? add_beyond(store) : status;
+}
+
+static enum lcrvm_status recover(struct lcrvm_store *store)
 {
     struct answer answer = {0};
     enum lcrvm_status status;
@@ -376,232 +579,385 @@ static enum lcrvm_status recover(struct lcrvm_embedded *store)
     return status;
 }
 
-/* Fills a store whose folder and session are none yet. */
-static enum lcrvm_status open_in(struct lcrvm_embedded *store, const char *folder,
-                                 const struct lcrvm_geometry *geometry, uint32_t threads)
+/* Where a mark stands, a file had failed: what the system has of it in memory alone may be lost. */
+static enum lcrvm_status look_for_mark(struct lcrvm_store *store)
 {
-    struct stat at;
-    enum lcrvm_status status;
+    enum lcrvm_status status = look_at(store->folder, mark, &store->known.last);
 
-    store->folder = beside_standard_streams(open(folder, O_RDONLY | O_DIRECTORY | O_CLOEXEC));
-    if (store->folder < 0)
-        return failed(store, LCRVM_DEVICE_FAULT, strerror(errno));
-    if (flock(store->folder, LOCK_EX | LOCK_NB) != 0)
-        return failed(store, errno == EWOULDBLOCK ? LCRVM_STORE_IN_USE : LCRVM_DEVICE_FAULT, strerror(errno));
-    if (fstatat(store->folder, "fault", &at, AT_SYMLINK_NOFOLLOW) == 0)
-        return failed(store, LCRVM_DEVICE_FAULT, "a file had failed: lcrvm recover copies the files first");
-    if (geometry != NULL)
-        store->geometry = *geometry;
-    else if (!find_geometry(store->folder, threads, &store->geometry))
-        return failed(store, LCRVM_NO_STORE, "a file is missing or has a length of no store");
-    status = (enum lcrvm_status)lcrvm_session_new(narrow(store->geometry.nodes), narrow(store->geometry.threads),
-                                                  store->geometry.segments, store->geometry.pages,
-                                                  store->geometry.words, &store->session);
-    if (status != LCRVM_OK)
-        return failed(store, status, "");
-    store->areas = store->geometry.nodes + store->geometry.segments;
-    if (has_more(store->folder, &store->geometry)) {
-        failed(store, geometry != NULL ? LCRVM_BAD_GEOMETRY : LCRVM_NO_STORE, "a file of more nodes or segments is there");
-        store->fault.area = store->areas;
-        return store->fault.status;
-    }
-    store->bytes = malloc(room_of(&store->geometry));
-    if (store->bytes == NULL)
-        return failed(store, LCRVM_CLIENT_MEMORY, "");
-    for (uint32_t place = 0; place < store->areas; place++) {
-        status = add_file(store, place);
-        if (status != LCRVM_OK)
-            return status;
-    }
-    return recover(store);
+    if (status != LCRVM_EXISTS)
+        return status;
+    return failed(store, LCRVM_DEVICE_FAULT, "a file had failed: lcrvm recover copies the files first");
 }
 
-enum lcrvm_status lcrvm_embedded_open(const char *folder, const struct lcrvm_geometry *geometry, uint32_t threads,
-                                      struct lcrvm_embedded **store, struct lcrvm_fault *fault)
+static enum lcrvm_status take_size(struct lcrvm_store *store, const struct lcrvm_options *options)
 {
-    struct lcrvm_embedded *opened = calloc(1, sizeof *opened);
-    enum lcrvm_status status;
-
-    *store = NULL;
-    if (opened == NULL) {
-        if (fault != NULL)
-            *fault = (struct lcrvm_fault){.status = LCRVM_CLIENT_MEMORY};
-        return LCRVM_CLIENT_MEMORY;
-    }
-    opened->folder = -1;
-    for (uint32_t place = 0; place < MOST_AREAS; place++)
-        opened->files[place] = -1;
-    status = open_in(opened, folder, geometry, threads);
-    if (status == LCRVM_OK) {
-        *store = opened;
+    if (options->geometry != NULL) {
+        store->known.geometry = *options->geometry;
         return LCRVM_OK;
     }
-    if (fault != NULL)
-        *fault = opened->fault;
-    lcrvm_embedded_close(opened);
-    return status;
+    store->known.geometry.threads = threads_of(options);
+    return find_size(store->folder, &store->known.geometry, &store->known.last);
 }
 
-void lcrvm_embedded_close(struct lcrvm_embedded *store)
+/* Fills a store whose folder and session are none yet. As found, no file is in a folder that is not there. */
+static enum lcrvm_status open_in(struct lcrvm_store *store, const char *folder, const struct lcrvm_options *options)
 {
+    struct lcrvm_fault *fault = &store->known.last;
+    enum lcrvm_status status;
+
+    store->folder = open_folder(AT_FDCWD, folder);
+    if (store->folder < 0 && errno == ENOENT && options->geometry == NULL)
+        return no_store(fault, log_kind, 0, "is missing");
+    if (store->folder < 0)
+        return system_failed(fault);
+    status = take_size(store, options);
+    if (status == LCRVM_OK)
+        status = lock_folder(store->folder, fault);
+    if (status == LCRVM_OK)
+        status = look_for_mark(store);
+    if (status == LCRVM_OK)
+        status = add_files(store);
+    return status == LCRVM_OK ? recover(store) : status;
+}
+
+static struct lcrvm_store *new_store(void)
+{
+    struct lcrvm_store *store = calloc(1, sizeof *store);
+
     if (store == NULL)
-        return;
+        return NULL;
+    store->folder = -1;
+    for (uint32_t place = 0; place < MOST_AREAS; place++)
+        store->files[place] = -1;
+    return store;
+}
+
+static void free_store(struct lcrvm_store *store)
+{
     lcrvm_session_free(store->session);
     for (uint32_t place = 0; place < MOST_AREAS; place++)
-        if (store->files[place] >= 0)
-            close(store->files[place]);
-    if (store->folder >= 0)
-        close(store->folder);
+        close_file(store->files[place]);
+    close_file(store->folder);
     free(store->bytes);
     free(store);
 }
 
+enum lcrvm_status lcrvm_open(const char *folder, const struct lcrvm_options *options, struct lcrvm_store **store,
+                             struct lcrvm_fault *fault)
+{
+    const struct lcrvm_options *wanted = options != NULL ? options : &no_options;
+    struct lcrvm_store *opened;
+    enum lcrvm_status status;
+
+    *store = NULL;
+    if (!is_wanted(wanted))
+        return say(fault, LCRVM_UNKNOWN);
+    opened = new_store();
+    if (opened == NULL)
+        return say(fault, LCRVM_CLIENT_MEMORY);
+    status = open_in(opened, folder, wanted);
+    if (status != LCRVM_OK) {
+        tell(fault, &opened->known.last);
+        free_store(opened);
+        return status;
+    }
+    place_tokens(&opened->known);
+    opened->known.truncate_when_full = wanted->truncate_when_full;
+    *store = opened;
+    return LCRVM_OK;
+}
+
+enum lcrvm_status lcrvm_close(struct lcrvm_store *store, struct lcrvm_fault *fault)
+{
+    enum lcrvm_status status = store->known.dead ? tell(fault, &store->known.last) : say(fault, LCRVM_OK);
+
+    free_store(store);
+    return status;
+}
+
 /* The calls, each an event or a row of events. A slice of nothing has an address all the same. */
 
-enum lcrvm_status lcrvm_embedded_begin_transaction(struct lcrvm_embedded *store, uint32_t node, uint32_t thread,
-                                                   const uint32_t *segments, size_t count, const uint32_t *reading,
-                                                   size_t reading_count)
+enum lcrvm_status lcrvm_begin_transaction(struct lcrvm_store *store, uint32_t node, uint32_t thread,
+                                          const uint32_t *segments, size_t count, const uint32_t *reading,
+                                          size_t reading_count)
 {
     static const uint32_t none = 0;
     struct answer answer = {0};
+    enum lcrvm_status status;
+    bool outside;
 
-    lcrvm_session_begin(&store->session, narrow(node), narrow(thread), count > 0 ? segments : &none, count,
+    lcrvm_session_begin(&store->session, bounded(node), bounded(thread), count > 0 ? segments : &none, count,
                         reading_count > 0 ? reading : &none, reading_count, &answer);
-    return mirrored(store, &answer);
+    status = mirrored(store, &answer);
+    if (status == LCRVM_OK) {
+        uint32_t writing = set_of(segments, count, &outside);
+
+        note_begun(&store->known, node, thread, writing, set_of(reading, reading_count, &outside) & ~writing);
+    }
+    return status;
 }
 
-enum lcrvm_status lcrvm_embedded_set_range(struct lcrvm_embedded *store, uint32_t node, uint32_t thread, uint32_t segment,
-                                           uint32_t offset, uint32_t length)
+enum lcrvm_status lcrvm_set_range(struct lcrvm_store *store, uint32_t node, uint32_t thread, uint32_t segment,
+                                  uint32_t offset, uint32_t length)
+{
+    struct answer answer = {0};
+    enum lcrvm_status status;
+
+    lcrvm_session_set_range(&store->session, bounded(node), bounded(thread), segment, offset, length, &answer);
+    status = mirrored(store, &answer);
+    if (status == LCRVM_OK)
+        add_range(&store->known.begun[node][thread], (struct range){segment, offset, offset + length});
+    return status;
+}
+
+enum lcrvm_status lcrvm_write(struct lcrvm_store *store, uint32_t node, uint32_t thread, uint32_t segment,
+                              uint32_t offset, const void *bytes, uint32_t length)
 {
     struct answer answer = {0};
 
-    lcrvm_session_set_range(&store->session, narrow(node), narrow(thread), segment, offset, length, &answer);
+    if (length > 0)
+        lcrvm_session_write(&store->session, bounded(node), bounded(thread), segment, offset, bytes, length, &answer);
     return mirrored(store, &answer);
 }
 
-enum lcrvm_status lcrvm_embedded_write(struct lcrvm_embedded *store, uint32_t node, uint32_t thread, uint32_t segment,
-                                       uint32_t offset, const void *bytes, uint32_t length)
-{
-    static const uint8_t none = 0;
-    struct answer answer = {0};
-
-    lcrvm_session_write(&store->session, narrow(node), narrow(thread), segment, offset, length > 0 ? bytes : &none,
-                        length, &answer);
-    return mirrored(store, &answer);
-}
-
-enum lcrvm_status lcrvm_embedded_read(struct lcrvm_embedded *store, uint32_t node, uint32_t thread, uint32_t segment,
-                                      uint32_t offset, void *bytes, uint32_t length)
+enum lcrvm_status lcrvm_read(struct lcrvm_store *store, uint32_t node, uint32_t thread, uint32_t segment,
+                             uint32_t offset, void *bytes, uint32_t length)
 {
     uint8_t none = 0;
     struct answer answer = {0};
 
-    lcrvm_session_read(&store->session, narrow(node), narrow(thread), segment, offset, length > 0 ? bytes : &none,
+    lcrvm_session_read(&store->session, bounded(node), bounded(thread), segment, offset, length > 0 ? bytes : &none,
                        length, &answer);
     return mirrored(store, &answer);
 }
 
-enum lcrvm_status lcrvm_embedded_end_transaction(struct lcrvm_embedded *store, uint32_t node, uint32_t thread, bool flush,
-                                                 struct lcrvm_commit *commit)
+enum lcrvm_status lcrvm_abort_transaction(struct lcrvm_store *store, uint32_t node, uint32_t thread)
 {
-    struct lcrvm_commit placed = {0, 0};
     struct answer answer = {0};
     enum lcrvm_status status;
 
-    lcrvm_session_reserve(&store->session, narrow(node), narrow(thread), &answer);
+    lcrvm_session_abort(&store->session, bounded(node), bounded(thread), &answer);
     status = mirrored(store, &answer);
-    if (status != LCRVM_OK)
-        return status;
-    if (answer.reply == RESERVED) {
-        placed = (struct lcrvm_commit){.place = answer.place, .words = answer.words};
-        lcrvm_session_close_record(&store->session, narrow(node), narrow(thread), &answer);
+    if (status == LCRVM_OK)
+        store->known.begun[node][thread].open = false;
+    return status;
+}
+
+/* The pages that a range touches, the last of them too. */
+static uint32_t first_page(const struct range *range)
+{
+    return range->low / PAGE_BYTES;
+}
+
+static uint32_t last_page(const struct range *range)
+{
+    return (range->high - 1) / PAGE_BYTES;
+}
+
+/* The transaction is over, and its record is newer than the pages that its ranges touch. */
+static void note_commit(struct lcrvm_store *store, uint32_t node, uint32_t thread)
+{
+    struct begun *begun = &store->known.begun[node][thread];
+
+    for (size_t i = 0; i < begun->count; i++) {
+        const struct range *range = &begun->ranges[i];
+
+        for (uint32_t page = first_page(range); page <= last_page(range); page++)
+            store->dirty[range->segment][page] = true;
+    }
+    store->known.records[node] += begun->count > 0;
+    begun->open = false;
+}
+
+/* Gives the transaction its place in the log, and completes its record. */
+static enum lcrvm_status commit_now(struct lcrvm_store *store, uint32_t node, uint32_t thread,
+                                    struct lcrvm_commit *placed)
+{
+    struct answer answer = {0};
+    enum lcrvm_status status;
+
+    lcrvm_session_reserve(&store->session, bounded(node), bounded(thread), &answer);
+    status = mirrored(store, &answer);
+    if (status == LCRVM_OK && answer.reply == RESERVED) {
+        *placed = (struct lcrvm_commit){.place = answer.place, .words = answer.words};
+        lcrvm_session_close_record(&store->session, bounded(node), bounded(thread), &answer);
+        status = mirrored(store, &answer);
+    }
+    if (status == LCRVM_OK)
+        note_commit(store, node, thread);
+    return status;
+}
+
+static enum lcrvm_status flush_now(struct lcrvm_store *store, uint32_t node)
+{
+    struct answer answer = {0};
+    enum lcrvm_status status;
+
+    do {
+        lcrvm_session_flush_step(&store->session, bounded(node), &answer);
+        status = mirrored(store, &answer);
+    } while (status == LCRVM_OK && answer.reply == STEPPED);
+    return status;
+}
+
+/* Commits, and flushes whatever became of the commit, which is answered first. */
+static enum lcrvm_status end_now(struct lcrvm_store *store, uint32_t node, uint32_t thread, bool flush,
+                                 struct lcrvm_commit *commit)
+{
+    struct lcrvm_commit placed = {0, 0};
+    enum lcrvm_status ended = commit_now(store, node, thread, &placed);
+    enum lcrvm_status flushed = flush ? flush_now(store, node) : LCRVM_OK;
+
+    if (store->known.dead)
+        return store->known.last.status;
+    if (ended == LCRVM_OK && commit != NULL)
+        *commit = placed;
+    return ended == LCRVM_OK ? flushed : ended;
+}
+
+enum lcrvm_status lcrvm_end_transaction(struct lcrvm_store *store, uint32_t node, uint32_t thread, bool flush,
+                                        struct lcrvm_commit *commit)
+{
+    const struct lcrvm_fault before = store->known.last;
+    enum lcrvm_status status = end_now(store, node, thread, flush, commit);
+
+    if (status == LCRVM_FULL && may_make_again(&store->known, node, thread)) {
+        status = make_again(store, &store->known, node, thread, &before);
+        if (status == LCRVM_OK)
+            status = end_now(store, node, thread, flush, commit);
+    }
+    return status;
+}
+
+enum lcrvm_status lcrvm_flush(struct lcrvm_store *store, uint32_t node, uint64_t *records)
+{
+    enum lcrvm_status status = flush_now(store, node);
+
+    if (status == LCRVM_OK && records != NULL)
+        *records = store->known.records[node];
+    return status;
+}
+
+/* A page is due at a node where its segment's token is there, and a record is newer than the page in its file. */
+static bool is_due(const struct lcrvm_store *store, uint32_t node, uint32_t segment, uint32_t page)
+{
+    return store->known.tokens[segment] == (int)node && store->dirty[segment][page];
+}
+
+/* Whether a range of a transaction that is open touches a page that is due. */
+static bool blocks(const struct lcrvm_store *store, uint32_t node, const struct begun *begun)
+{
+    for (size_t i = 0; i < begun->count; i++) {
+        const struct range *range = &begun->ranges[i];
+
+        for (uint32_t page = first_page(range); page <= last_page(range); page++)
+            if (is_due(store, node, range->segment, page))
+                return true;
+    }
+    return false;
+}
+
+static bool some_blocks(const struct lcrvm_store *store, uint32_t node)
+{
+    for (uint32_t thread = 0; thread < store->known.geometry.threads; thread++)
+        if (store->known.begun[node][thread].open && blocks(store, node, &store->known.begun[node][thread]))
+            return true;
+    return false;
+}
+
+/* Makes the next call of each page of a segment that is due; whether one was. */
+static enum lcrvm_status call_pages(struct lcrvm_store *store, uint32_t node, uint32_t segment, bool *some)
+{
+    *some = false;
+    for (uint32_t page = 0; page < store->known.geometry.pages; page++) {
+        struct answer answer = {0};
+        enum lcrvm_status status;
+
+        if (!is_due(store, node, segment, page))
+            continue;
+        *some = true;
+        lcrvm_session_page_step(&store->session, bounded(node), segment, page, &answer);
         status = mirrored(store, &answer);
         if (status != LCRVM_OK)
             return status;
+        if (answer.reply == WRITTEN)
+            store->dirty[segment][page] = false;
     }
-    if (commit != NULL)
-        *commit = placed;
-    return flush ? lcrvm_embedded_flush(store, node, NULL) : LCRVM_OK;
+    return LCRVM_OK;
 }
 
-enum lcrvm_status lcrvm_embedded_abort_transaction(struct lcrvm_embedded *store, uint32_t node, uint32_t thread)
+/* Writes the pages of a segment that are due side by side, so that a sync of the file serves all of them. */
+static enum lcrvm_status write_pages(struct lcrvm_store *store, uint32_t node, uint32_t segment)
 {
-    struct answer answer = {0};
-
-    lcrvm_session_abort(&store->session, narrow(node), narrow(thread), &answer);
-    return mirrored(store, &answer);
-}
-
-enum lcrvm_status lcrvm_embedded_flush(struct lcrvm_embedded *store, uint32_t node, uint64_t *records)
-{
-    struct answer answer = {0};
     enum lcrvm_status status;
+    bool some;
 
-    do {
-        lcrvm_session_flush_step(&store->session, narrow(node), &answer);
-        status = mirrored(store, &answer);
-    } while (status == LCRVM_OK && answer.reply == STEPPED);
-    if (status == LCRVM_OK && answer.reply == ACKED && records != NULL)
-        *records = answer.count;
+    do
+        status = call_pages(store, node, segment, &some);
+    while (status == LCRVM_OK && some);
     return status;
 }
 
-/* Writes a page, where it is to be written. */
-static enum lcrvm_status write_page(struct lcrvm_embedded *store, uint32_t node, uint32_t segment, uint32_t page)
+static enum lcrvm_status reset(struct lcrvm_store *store, uint32_t node)
 {
     struct answer answer = {0};
     enum lcrvm_status status;
 
     do {
-        lcrvm_session_page_step(&store->session, narrow(node), segment, page, &answer);
+        lcrvm_session_reset_step(&store->session, bounded(node), &answer);
         status = mirrored(store, &answer);
     } while (status == LCRVM_OK && answer.reply == STEPPED);
-    return status == LCRVM_NOT_NEWER || status == LCRVM_NOT_HERE ? LCRVM_OK : status;
-}
-
-enum lcrvm_status lcrvm_embedded_truncate(struct lcrvm_embedded *store, uint32_t node)
-{
-    struct answer answer = {0};
-    enum lcrvm_status status = lcrvm_embedded_flush(store, node, NULL);
-
-    for (uint32_t segment = 1; segment <= store->geometry.segments; segment++)
-        for (uint32_t page = 0; page < store->geometry.pages; page++) {
-            if (status != LCRVM_OK)
-                return status;
-            status = write_page(store, node, segment, page);
-        }
-    if (status != LCRVM_OK)
-        return status;
-    do {
-        lcrvm_session_reset_step(&store->session, narrow(node), &answer);
-        status = mirrored(store, &answer);
-    } while (status == LCRVM_OK && answer.reply == STEPPED);
+    if (status == LCRVM_OK && answer.reply == RESET)
+        store->known.rounds[node]++;
     return status;
 }
 
-enum lcrvm_status lcrvm_embedded_leave(struct lcrvm_embedded *store, uint32_t node, uint32_t segment)
+enum lcrvm_status lcrvm_truncate(struct lcrvm_store *store, uint32_t node, uint64_t *rounds)
 {
-    struct answer answer = {0};
+    enum lcrvm_status status = flush_now(store, node);
 
-    lcrvm_session_leave(&store->session, narrow(node), segment, &answer);
-    return mirrored(store, &answer);
+    if (status == LCRVM_OK && some_blocks(store, node))
+        status = failed(store, LCRVM_UNCOMMITTED, "");
+    for (uint32_t segment = 1; segment <= store->known.geometry.segments && status == LCRVM_OK; segment++)
+        status = write_pages(store, node, segment);
+    if (status == LCRVM_OK)
+        status = reset(store, node);
+    if (status == LCRVM_OK && rounds != NULL)
+        *rounds = store->known.rounds[node];
+    return status;
 }
 
-enum lcrvm_status lcrvm_embedded_arrive(struct lcrvm_embedded *store, uint32_t node, uint32_t segment)
-{
-    struct answer answer = {0};
-
-    lcrvm_session_arrive(&store->session, narrow(node), segment, &answer);
-    return mirrored(store, &answer);
-}
-
-enum lcrvm_status lcrvm_embedded_deliver(struct lcrvm_embedded *store, uint32_t node, uint64_t record, uint32_t segment,
-                                         uint32_t to, struct lcrvm_delivered *delivered)
+enum lcrvm_status lcrvm_leave(struct lcrvm_store *store, uint32_t node, uint32_t segment)
 {
     struct answer answer = {0};
     enum lcrvm_status status;
 
-    lcrvm_session_deliver(&store->session, narrow(node), record, segment, narrow(to), &answer);
+    lcrvm_session_leave(&store->session, bounded(node), segment, &answer);
+    status = mirrored(store, &answer);
+    if (status == LCRVM_OK)
+        store->known.tokens[segment] = ON_ITS_WAY;
+    return status;
+}
+
+enum lcrvm_status lcrvm_arrive(struct lcrvm_store *store, uint32_t node, uint32_t segment)
+{
+    struct answer answer = {0};
+    enum lcrvm_status status;
+
+    lcrvm_session_arrive(&store->session, bounded(node), segment, &answer);
+    status = mirrored(store, &answer);
+    if (status == LCRVM_OK)
+        store->known.tokens[segment] = (int)node;
+    return status;
+}
+
+enum lcrvm_status lcrvm_deliver(struct lcrvm_store *store, uint32_t node, uint64_t record, uint32_t segment,
+                                uint32_t to, struct lcrvm_delivered *delivered)
+{
+    struct answer answer = {0};
+    enum lcrvm_status status;
+
+    lcrvm_session_deliver(&store->session, bounded(node), record, segment, bounded(to), &answer);
     status = mirrored(store, &answer);
     if (status == LCRVM_OK && delivered != NULL)
         *delivered = (struct lcrvm_delivered){
@@ -613,24 +969,37 @@ enum lcrvm_status lcrvm_embedded_deliver(struct lcrvm_embedded *store, uint32_t 
     return status;
 }
 
-enum lcrvm_status lcrvm_embedded_trim(struct lcrvm_embedded *store, uint32_t node, uint64_t *count)
+enum lcrvm_status lcrvm_trim(struct lcrvm_store *store, uint32_t node, uint64_t *count)
 {
     struct answer answer = {0};
     enum lcrvm_status status;
 
-    lcrvm_session_trim(&store->session, narrow(node), &answer);
+    lcrvm_session_trim(&store->session, bounded(node), &answer);
     status = mirrored(store, &answer);
     if (status == LCRVM_OK && count != NULL)
         *count = answer.count;
     return status;
 }
 
-const struct lcrvm_fault *lcrvm_embedded_fault_of(const struct lcrvm_embedded *store)
+/* What is asked of no session. */
+
+long lcrvm_process_of(const struct lcrvm_store *store)
 {
-    return &store->fault;
+    (void)store;
+    return (long)getpid();
 }
 
-const struct lcrvm_geometry *lcrvm_embedded_geometry_of(const struct lcrvm_embedded *store)
+const char *lcrvm_status_text(enum lcrvm_status status)
 {
-    return &store->geometry;
+    return text_of(status);
+}
+
+const struct lcrvm_fault *lcrvm_fault_of(const struct lcrvm_store *store)
+{
+    return &store->known.last;
+}
+
+const struct lcrvm_geometry *lcrvm_geometry_of(const struct lcrvm_store *store)
+{
+    return &store->known.geometry;
 }

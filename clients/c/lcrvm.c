@@ -1,6 +1,8 @@
 #define _POSIX_C_SOURCE 200809L
 
 #include "lcrvm.h"
+#include "statuses.h"
+#include "transactions.h"
 
 #include <errno.h>
 #include <fcntl.h>
@@ -17,15 +19,6 @@
 #include <unistd.h>
 
 enum {
-    MOST_NODES = 8,
-    MOST_THREADS = 16,
-    MOST_SEGMENTS = 16,
-    MOST_RANGES = 64,
-    MOST_RECORD_BYTES = 4096 * 8,
-    PAGE_BYTES = 256,
-    PAGE_AREA_BYTES = 544, /* a page in its file, which has two slots for it */
-    WORD_BYTES = 8,
-
     SCRIPT_LIMIT = 1048576, /* a run reads no more bytes of lines */
     RESERVED = 4096,        /* of these, for the lines that end, abort, flush and truncate */
     RENEWED_BELOW = 262144, /* a run with fewer left is followed by another, where nothing would be lost by that */
@@ -42,8 +35,7 @@ enum {
     OPTION_BYTES = 32,
 
     DEVICE_FAULT_STATUS = 3,
-    GRACE_MILLISECONDS = 10000, /* in which a run that is over has to end */
-    ON_ITS_WAY = -1
+    GRACE_MILLISECONDS = 10000 /* in which a run that is over has to end */
 };
 
 extern char **environ;
@@ -59,30 +51,12 @@ struct run {
     char out[OUT_BYTES], in[IN_BYTES];
 };
 
-struct range {
-    uint32_t segment, low, high;
-};
-
-/* A transaction that is open: what it locked, a bit a segment, and its ranges, which neither overlap nor touch. */
-struct begun {
-    bool open;
-    uint32_t writing, reading;
-    size_t count;
-    struct range ranges[MOST_RANGES];
-};
-
 struct lcrvm_store {
     struct run run;
-    bool dead;
-    struct lcrvm_fault last;
     char *arguments[MOST_ARGUMENTS + 1];
-    bool is_as_found, truncate_when_full;
-    struct lcrvm_geometry geometry;
-    int tokens[MOST_SEGMENTS + 1];
+    bool is_as_found;
     uint64_t records_before[MOST_NODES], rounds_before[MOST_NODES]; /* of the runs before this one */
-    uint64_t records[MOST_NODES], rounds[MOST_NODES];               /* of all */
-    struct begun begun[MOST_NODES][MOST_THREADS];
-    unsigned char kept[MOST_RECORD_BYTES]; /* the bytes of a transaction that is made again */
+    struct known known;
 };
 
 /* A line: its text, and the bytes that stand behind it in hexadecimal. */
@@ -94,63 +68,9 @@ struct line {
 
 /* ---- texts */
 
-static const struct {
-    const char *name;
-    enum lcrvm_status status;
-    size_t fields[2]; /* where they stand in a fault; 0 for none */
-} refusals[] = {
-#define FIELD(name) offsetof(struct lcrvm_fault, name)
-    {"Down", LCRVM_DOWN, {0}},
-    {"Unknown", LCRVM_UNKNOWN, {0}},
-    {"Halted", LCRVM_HALTED, {0}},
-    {"OutOfTurn", LCRVM_OUT_OF_TURN, {0}},
-    {"Busy", LCRVM_BUSY, {FIELD(segment)}},
-    {"NotHere", LCRVM_NOT_HERE, {FIELD(segment)}},
-    {"NotLocked", LCRVM_NOT_LOCKED, {0}},
-    {"EmptyRange", LCRVM_EMPTY_RANGE, {0}},
-    {"OutOfSegment", LCRVM_OUT_OF_SEGMENT, {FIELD(area)}},
-    {"NoRange", LCRVM_NO_RANGE, {0}},
-    {"TooManyRanges", LCRVM_TOO_MANY_RANGES, {0}},
-    {"SequenceSpent", LCRVM_SEQUENCE_SPENT, {FIELD(segment)}},
-    {"TooLong", LCRVM_TOO_LONG, {FIELD(words)}},
-    {"Sealed", LCRVM_SEALED, {0}},
-    {"Full", LCRVM_FULL, {FIELD(tail), FIELD(need)}},
-    {"Held", LCRVM_HELD, {0}},
-    {"Writing", LCRVM_WRITING, {0}},
-    {"Unflushed", LCRVM_UNFLUSHED, {0}},
-    {"Behind", LCRVM_BEHIND, {FIELD(applied), FIELD(sequence)}},
-    {"Uncommitted", LCRVM_UNCOMMITTED, {0}},
-    {"NotNewer", LCRVM_NOT_NEWER, {0}},
-    {"Unclean", LCRVM_UNCLEAN, {FIELD(segment), FIELD(sequence)}},
-    {"RoundsSpent", LCRVM_ROUNDS_SPENT, {0}},
-    {"BadGeometry", LCRVM_BAD_GEOMETRY, {FIELD(area)}},
-    {"Twice", LCRVM_TWICE, {FIELD(segment), FIELD(sequence)}},
-    {"Gap", LCRVM_GAP, {FIELD(segment), FIELD(sequence)}},
-    {"ReadOnly", LCRVM_READ_ONLY, {FIELD(segment)}},
-#undef FIELD
-};
-
-enum { REFUSALS = sizeof refusals / sizeof refusals[0] };
-
 const char *lcrvm_status_text(enum lcrvm_status status)
 {
-    for (size_t i = 0; i < REFUSALS; i++)
-        if (refusals[i].status == status)
-            return refusals[i].name;
-    switch (status) {
-    case LCRVM_OK: return "ok";
-    case LCRVM_DEVICE_FAULT: return "device fault";
-    case LCRVM_NO_MEMORY: return "NoMemory";
-    case LCRVM_STORE_IN_USE: return "store in use";
-    case LCRVM_DIED: return "the program ended";
-    case LCRVM_NOT_STARTED: return "not started";
-    case LCRVM_NOT_A_REPLY: return "not a reply";
-    case LCRVM_NO_STORE: return "no store";
-    case LCRVM_SPENT: return "the lines of this run are used up";
-    case LCRVM_EXISTS: return "Exists";
-    case LCRVM_CLIENT_MEMORY: return "no memory in the client";
-    default: return "no status";
-    }
+    return text_of(status);
 }
 
 static bool take_word(const char **text, const char *word)
@@ -372,42 +292,35 @@ static void read_errors(struct run *run, char *text, size_t size)
     text[length] = '\0';
 }
 
+/* The exit status of a run that is over, or -1 where a signal ended it. */
+static int exit_of(const struct run *run)
+{
+    return WIFEXITED(run->wait_status) ? WEXITSTATUS(run->wait_status) : -1;
+}
+
 /* What a run that is over ended of, by its last line. */
 static void read_end(struct run *run, const char *last, struct lcrvm_fault *fault)
 {
     memset(fault, 0, sizeof *fault);
     read_errors(run, fault->text, sizeof fault->text);
-    fault->exit_status = WIFEXITED(run->wait_status) ? WEXITSTATUS(run->wait_status) : 0;
-    fault->signal = WIFSIGNALED(run->wait_status) ? WTERMSIG(run->wait_status) : 0;
-    if (strcmp(last, "refused NoMemory") == 0)
+    if (strcmp(last, "refused NoMemory") == 0) {
         fault->status = LCRVM_NO_MEMORY;
-    else if (ends_with(fault->text, ": store in use"))
+    } else if (ends_with(fault->text, ": store in use")) {
         fault->status = LCRVM_STORE_IN_USE;
-    else if (strcmp(last, "device fault") == 0 || fault->exit_status == DEVICE_FAULT_STATUS)
+    } else if (strcmp(last, "device fault") == 0 || exit_of(run) == DEVICE_FAULT_STATUS) {
         fault->status = LCRVM_DEVICE_FAULT;
-    else
+    } else {
         fault->status = LCRVM_DIED;
+        fault->exit_status = exit_of(run) > 0 ? exit_of(run) : 0;
+        fault->signal = WIFSIGNALED(run->wait_status) ? WTERMSIG(run->wait_status) : 0;
+    }
 }
 
 /* ---- answers of a store */
 
-static void tell(struct lcrvm_fault *to, const struct lcrvm_fault *from)
-{
-    if (to != NULL)
-        *to = *from;
-}
-
-static void fill_fault(struct lcrvm_fault *fault, enum lcrvm_status status, const char *text)
-{
-    memset(fault, 0, sizeof *fault);
-    fault->status = status;
-    snprintf(fault->text, sizeof fault->text, "%s", text);
-}
-
 static enum lcrvm_status answer(struct lcrvm_store *store, enum lcrvm_status status, const char *text)
 {
-    fill_fault(&store->last, status, text);
-    return status;
+    return fill_fault(&store->known.last, status, text);
 }
 
 /* The run is over: it waits for its end, and says what it ended of. */
@@ -415,10 +328,10 @@ static enum lcrvm_status over(struct lcrvm_store *store, const char *last)
 {
     close_file(&store->run.input);
     wait_for(&store->run, true);
-    read_end(&store->run, last, &store->last);
+    read_end(&store->run, last, &store->known.last);
     close_run(&store->run);
-    store->dead = true;
-    return store->last.status;
+    store->known.dead = true;
+    return store->known.last.status;
 }
 
 static enum lcrvm_status not_a_reply(struct lcrvm_store *store, const char *text)
@@ -426,7 +339,7 @@ static enum lcrvm_status not_a_reply(struct lcrvm_store *store, const char *text
     kill(store->run.process, SIGKILL);
     wait_for(&store->run, false);
     close_run(&store->run);
-    store->dead = true;
+    store->known.dead = true;
     return answer(store, LCRVM_NOT_A_REPLY, text);
 }
 
@@ -436,7 +349,7 @@ static enum lcrvm_status refused(struct lcrvm_store *store, const char *reply)
     struct lcrvm_fault fault;
     if (!is_refusal(reply, &fault))
         return not_a_reply(store, reply);
-    store->last = fault;
+    store->known.last = fault;
     return fault.status;
 }
 
@@ -543,12 +456,6 @@ static enum lcrvm_status receive_bytes(struct lcrvm_store *store, unsigned char 
 
 /* ---- lines */
 
-/* A node or a thread as it may stand in a line: what is greater is outside of each geometry, as this is. */
-static unsigned bounded(uint32_t number)
-{
-    return number < UINT16_MAX ? number : UINT16_MAX;
-}
-
 static struct line line_of(const char *word, uint32_t node)
 {
     struct line line = {{0}, NULL, 0};
@@ -612,73 +519,39 @@ static struct line line_of_begin(uint32_t node, uint32_t thread, uint32_t writin
 
 /* ---- what is open */
 
-static struct begun *begun_of(struct lcrvm_store *store, uint32_t node, uint32_t thread)
-{
-    if (node >= store->geometry.nodes || thread >= store->geometry.threads)
-        return NULL;
-    struct begun *begun = &store->begun[node][thread];
-    return begun->open ? begun : NULL;
-}
-
-static bool has(uint32_t segments, uint32_t segment)
-{
-    return segment >= 1 && segment <= MOST_SEGMENTS && (segments >> segment & 1) != 0;
-}
-
-/* The segments as a set, a bit each, and whether some are outside of each geometry. */
-static uint32_t set_of(const uint32_t *segments, size_t count, bool *outside)
-{
-    uint32_t set = 0;
-    for (size_t i = 0; i < count; i++) {
-        if (segments[i] >= 1 && segments[i] <= MOST_SEGMENTS)
-            set |= UINT32_C(1) << segments[i];
-        else
-            *outside = true;
-    }
-    return set;
-}
-
 /* The segments that open transactions have locked. */
-static uint32_t all_locked(const struct lcrvm_store *store)
+static uint32_t all_locked(const struct known *known)
 {
     uint32_t locked = 0;
     for (size_t node = 0; node < MOST_NODES; node++)
         for (size_t thread = 0; thread < MOST_THREADS; thread++)
-            if (store->begun[node][thread].open)
-                locked |= store->begun[node][thread].writing | store->begun[node][thread].reading;
+            if (known->begun[node][thread].open)
+                locked |= known->begun[node][thread].writing | known->begun[node][thread].reading;
     return locked;
 }
 
-static bool any_open(const struct lcrvm_store *store)
+static bool any_open(const struct known *known)
 {
     for (size_t node = 0; node < MOST_NODES; node++)
         for (size_t thread = 0; thread < MOST_THREADS; thread++)
-            if (store->begun[node][thread].open)
+            if (known->begun[node][thread].open)
                 return true;
     return false;
 }
 
-static bool others_have_ranges(const struct lcrvm_store *store, uint32_t node, uint32_t thread)
-{
-    for (size_t other = 0; other < MOST_THREADS; other++)
-        if (other != thread && store->begun[node][other].open && store->begun[node][other].count > 0)
-            return true;
-    return false;
-}
-
-static bool all_here(const struct lcrvm_store *store, uint32_t node, uint32_t segments)
+static bool all_here(const struct known *known, uint32_t node, uint32_t segments)
 {
     for (uint32_t segment = 1; segment <= MOST_SEGMENTS; segment++)
-        if (has(segments, segment) && (segment > store->geometry.segments || store->tokens[segment] != (int)node))
+        if (has(segments, segment) && (segment > known->geometry.segments || known->tokens[segment] != (int)node))
             return false;
     return true;
 }
 
 /* Whether no reason to refuse this is left; what is followed less closely here than in the program may be one. */
-static bool can_begin(struct lcrvm_store *store, uint32_t node, uint32_t thread, uint32_t segments)
+static bool can_begin(struct known *known, uint32_t node, uint32_t thread, uint32_t segments)
 {
-    return node < store->geometry.nodes && thread < store->geometry.threads && begun_of(store, node, thread) == NULL &&
-           all_here(store, node, segments) && (all_locked(store) & segments) == 0;
+    return node < known->geometry.nodes && thread < known->geometry.threads && begun_of(known, node, thread) == NULL &&
+           all_here(known, node, segments) && (all_locked(known) & segments) == 0;
 }
 
 static bool covers(const struct begun *begun, const struct range *wanted)
@@ -691,24 +564,6 @@ static bool covers(const struct begun *begun, const struct range *wanted)
     return false;
 }
 
-/* Adds a range; those that it overlaps or touches become one with it, so as many stand as in the program. */
-static void add_range(struct begun *begun, struct range range)
-{
-    size_t kept = 0;
-    for (size_t i = 0; i < begun->count; i++) {
-        const struct range other = begun->ranges[i];
-        if (other.segment == range.segment && other.low <= range.high && range.low <= other.high) {
-            range.low = other.low < range.low ? other.low : range.low;
-            range.high = other.high > range.high ? other.high : range.high;
-        } else {
-            begun->ranges[kept++] = other;
-        }
-    }
-    if (kept < MOST_RANGES)
-        begun->ranges[kept++] = range;
-    begun->count = kept;
-}
-
 /* ---- runs of a store */
 
 /* What is printed in place of a first reply, where the files are to tell the size: why they do not, if the program
@@ -716,14 +571,14 @@ static void add_range(struct begun *begun, struct range range)
 static enum lcrvm_status no_store(struct lcrvm_store *store, const char *text)
 {
     over(store, text);
-    return answer(store, store->last.exit_status == 1 ? LCRVM_NO_STORE : LCRVM_NOT_A_REPLY, text);
+    return answer(store, exit_of(&store->run) == 1 ? LCRVM_NO_STORE : LCRVM_NOT_A_REPLY, text);
 }
 
 static enum lcrvm_status start(struct lcrvm_store *store)
 {
     int error = start_run(&store->run, store->arguments);
     if (error != 0) {
-        store->dead = true;
+        store->known.dead = true;
         return answer(store, LCRVM_NOT_STARTED, strerror(error));
     }
     /* Once the store is recovered there is nothing to flush. */
@@ -736,12 +591,12 @@ static enum lcrvm_status start(struct lcrvm_store *store)
     if (store->is_as_found && !is_refusal(text, &fault))
         return no_store(store, text);
     status = refused(store, text);
-    if (!store->dead) {
+    if (!store->known.dead) {
         /* A recovery that is refused ends the program. */
         close_file(&store->run.input);
         wait_for(&store->run, true);
         close_run(&store->run);
-        store->dead = true;
+        store->known.dead = true;
     }
     return status;
 }
@@ -757,17 +612,16 @@ static enum lcrvm_status end_run(struct lcrvm_store *store)
     if (read_line(&store->run, text, 0) || text[0] != '\0')
         return not_a_reply(store, text);
     wait_for(&store->run, false);
-    read_end(&store->run, "", &store->last);
+    store->known.dead = exit_of(&store->run) < 0 || exit_of(&store->run) > 1;
+    if (store->known.dead)
+        read_end(&store->run, "", &store->known.last);
     close_run(&store->run);
-    if (store->last.signal == 0 && store->last.exit_status <= 1)
-        return LCRVM_OK;
-    store->dead = true;
-    return store->last.status;
+    return store->known.dead ? store->known.last.status : LCRVM_OK;
 }
 
 static enum lcrvm_status flushed(struct lcrvm_store *store, uint32_t node, const char *text)
 {
-    uint64_t acked = store->records[node] - store->records_before[node], count = acked;
+    uint64_t acked = store->known.records[node] - store->records_before[node], count = acked;
     if (strcmp(text, "nothing") != 0 && !is_counted(text, "acked", &count))
         return refused(store, text);
     return count == acked ? LCRVM_OK : not_a_reply(store, text);
@@ -785,20 +639,26 @@ static enum lcrvm_status renew(struct lcrvm_store *store)
         status = end_run(store);
     if (status != LCRVM_OK)
         return status;
-    memcpy(store->records_before, store->records, sizeof store->records);
-    memcpy(store->rounds_before, store->rounds, sizeof store->rounds);
+    memcpy(store->records_before, store->known.records, sizeof store->known.records);
+    memcpy(store->rounds_before, store->known.rounds, sizeof store->known.rounds);
     return start(store);
+}
+
+/* Whether nothing would be lost by another run. */
+static bool can_renew(const struct known *known)
+{
+    bool can = known->geometry.nodes == 1 && !any_open(known) && !known->makes_again;
+    for (uint32_t segment = 1; can && segment <= known->geometry.segments; segment++)
+        can = known->tokens[segment] != ON_ITS_WAY;
+    return can;
 }
 
 /* What the store died of. And another run is begun, where this one's lines are nearly used up and nothing is lost. */
 static enum lcrvm_status ready(struct lcrvm_store *store)
 {
-    if (store->dead)
-        return store->last.status;
-    bool renews = store->run.left < RENEWED_BELOW && store->geometry.nodes == 1 && !any_open(store);
-    for (uint32_t segment = 1; renews && segment <= store->geometry.segments; segment++)
-        renews = store->tokens[segment] != ON_ITS_WAY;
-    return renews ? renew(store) : LCRVM_OK;
+    if (store->known.dead)
+        return store->known.last.status;
+    return store->run.left < RENEWED_BELOW && can_renew(&store->known) ? renew(store) : LCRVM_OK;
 }
 
 /* ---- transactions */
@@ -813,14 +673,9 @@ enum lcrvm_status lcrvm_begin_transaction(struct lcrvm_store *store, uint32_t no
     bool outside = false;
     uint32_t written = set_of(segments, count, &outside), shared = set_of(reading, reading_count, &outside) & ~written;
     const struct line line = line_of_begin(node, thread, written, shared, outside);
-    status = carry_out(store, &line, !outside && can_begin(store, node, thread, written | shared), RESERVED);
-    if (status == LCRVM_OK) {
-        struct begun *begun = &store->begun[node][thread];
-        begun->open = true;
-        begun->writing = written;
-        begun->reading = shared;
-        begun->count = 0;
-    }
+    status = carry_out(store, &line, !outside && can_begin(&store->known, node, thread, written | shared), RESERVED);
+    if (status == LCRVM_OK)
+        note_begun(&store->known, node, thread, written, shared);
     return status;
 }
 
@@ -830,9 +685,9 @@ enum lcrvm_status lcrvm_set_range(struct lcrvm_store *store, uint32_t node, uint
     enum lcrvm_status status = ready(store);
     if (status != LCRVM_OK)
         return status;
-    struct begun *begun = begun_of(store, node, thread);
+    struct begun *begun = begun_of(&store->known, node, thread);
     const struct range range = {segment, offset, offset + length};
-    bool inside = (uint64_t)offset + length <= (uint64_t)store->geometry.pages * PAGE_BYTES;
+    bool inside = (uint64_t)offset + length <= (uint64_t)store->known.geometry.pages * PAGE_BYTES;
     bool sure = begun != NULL && has(begun->writing, segment) && length > 0 && inside && begun->count < MOST_RANGES;
     const struct line line = line_of_range("range", node, thread, &range);
     status = carry_out(store, &line, sure, RESERVED);
@@ -847,30 +702,24 @@ enum lcrvm_status lcrvm_write(struct lcrvm_store *store, uint32_t node, uint32_t
     enum lcrvm_status status = ready(store);
     if (status != LCRVM_OK || length == 0)
         return status;
-    const struct begun *begun = begun_of(store, node, thread);
+    const struct begun *begun = begun_of(&store->known, node, thread);
     const struct range range = {segment, offset, offset + length};
     bool sure = begun != NULL && range.low < range.high && covers(begun, &range);
     const struct line line = line_of_write(node, thread, &range, bytes);
     return carry_out(store, &line, sure, RESERVED);
 }
 
-/* Reads the bytes of a range. */
-static enum lcrvm_status read_range(struct lcrvm_store *store, uint32_t node, uint32_t thread,
-                                    const struct range *range, void *bytes)
-{
-    const struct line line = line_of_range("read", node, thread, range);
-    enum lcrvm_status status = put(store, &line, RESERVED);
-    if (status == LCRVM_OK)
-        status = catch_up(store);
-    return status == LCRVM_OK ? receive_bytes(store, bytes, range->high - range->low) : status;
-}
-
 enum lcrvm_status lcrvm_read(struct lcrvm_store *store, uint32_t node, uint32_t thread, uint32_t segment,
                              uint32_t offset, void *bytes, uint32_t length)
 {
-    enum lcrvm_status status = ready(store);
     const struct range range = {segment, offset, offset + length};
-    return status == LCRVM_OK ? read_range(store, node, thread, &range, bytes) : status;
+    const struct line line = line_of_range("read", node, thread, &range);
+    enum lcrvm_status status = ready(store);
+    if (status == LCRVM_OK)
+        status = put(store, &line, RESERVED);
+    if (status == LCRVM_OK)
+        status = catch_up(store);
+    return status == LCRVM_OK ? receive_bytes(store, bytes, length) : status;
 }
 
 enum lcrvm_status lcrvm_abort_transaction(struct lcrvm_store *store, uint32_t node, uint32_t thread)
@@ -878,7 +727,7 @@ enum lcrvm_status lcrvm_abort_transaction(struct lcrvm_store *store, uint32_t no
     enum lcrvm_status status = ready(store);
     if (status != LCRVM_OK)
         return status;
-    struct begun *begun = begun_of(store, node, thread);
+    struct begun *begun = begun_of(&store->known, node, thread);
     const struct line line = line_of_thread("abort", node, thread);
     status = carry_out(store, &line, begun != NULL, 0);
     if (status == LCRVM_OK && begun != NULL)
@@ -895,85 +744,18 @@ static enum lcrvm_status ask_count(struct lcrvm_store *store, const char *word, 
     enum lcrvm_status status = ask(store, &line, reserved, text);
     if (status != LCRVM_OK)
         return status;
-    return node < store->geometry.nodes && is_counted(text, replied, count) ? LCRVM_OK : refused(store, text);
+    return node < store->known.geometry.nodes && is_counted(text, replied, count) ? LCRVM_OK : refused(store, text);
 }
 
-static enum lcrvm_status truncate_now(struct lcrvm_store *store, uint32_t node)
-{
-    uint64_t round;
-    enum lcrvm_status status = ask_count(store, "truncate", node, "truncated", 0, &round);
-    if (status == LCRVM_OK)
-        store->rounds[node] = store->rounds_before[node] + round;
-    return status;
-}
-
-/* Reads the bytes of all ranges of a transaction. */
-static enum lcrvm_status keep_bytes(struct lcrvm_store *store, uint32_t node, uint32_t thread,
-                                    const struct begun *begun)
-{
-    unsigned char *at = store->kept;
-    for (size_t i = 0; i < begun->count; i++) {
-        enum lcrvm_status status = read_range(store, node, thread, &begun->ranges[i], at);
-        if (status != LCRVM_OK)
-            return status;
-        at += begun->ranges[i].high - begun->ranges[i].low;
-    }
-    return LCRVM_OK;
-}
-
-/* Begins the transaction again, and does what it did, with the bytes that were kept. No line is refused. */
-static enum lcrvm_status do_again(struct lcrvm_store *store, uint32_t node, uint32_t thread, struct begun *begun)
-{
-    const unsigned char *at = store->kept;
-    const struct line begins = line_of_begin(node, thread, begun->writing, begun->reading, false);
-    enum lcrvm_status status = carry_out(store, &begins, true, 0);
-    for (size_t i = 0; status == LCRVM_OK && i < begun->count; i++) {
-        const struct line ranges = line_of_range("range", node, thread, &begun->ranges[i]);
-        const struct line writes = line_of_write(node, thread, &begun->ranges[i], at);
-        status = carry_out(store, &ranges, true, 0);
-        if (status == LCRVM_OK)
-            status = carry_out(store, &writes, true, 0);
-        at += begun->ranges[i].high - begun->ranges[i].low;
-    }
-    begun->open = status == LCRVM_OK;
-    return status;
-}
-
-/* Whether the log can be emptied when this transaction is aborted, and the transaction can be made again then. */
+/* Whether this transaction, whose log is full, can be made again within this run. */
 static bool can_make_again(const struct lcrvm_store *store, uint32_t node, uint32_t thread)
 {
-    const struct begun *begun = &store->begun[node][thread];
-    size_t bytes = 0;
-    for (size_t i = 0; i < begun->count; i++)
-        bytes += begun->ranges[i].high - begun->ranges[i].low;
+    if (!may_make_again(&store->known, node, thread))
+        return false;
     /* A read, a range and a write for each range, with its bytes. */
-    size_t lines = 2 * bytes + (3 * begun->count + 2) * RANGE_LINE_BYTES + LINE_BYTES;
-    return store->truncate_when_full && store->last.need <= store->geometry.words &&
-           !others_have_ranges(store, node, thread) && bytes <= sizeof store->kept &&
-           lines + RESERVED <= store->run.left;
-}
-
-/* Aborts the transaction, truncates the log, and makes the transaction again; or the log is full as before. */
-static enum lcrvm_status make_again(struct lcrvm_store *store, uint32_t node, uint32_t thread)
-{
-    struct begun *begun = &store->begun[node][thread];
-    const struct lcrvm_fault full = store->last;
-    enum lcrvm_status status = keep_bytes(store, node, thread, begun);
-    if (status != LCRVM_OK)
-        return status;
-    const struct line aborts = line_of_thread("abort", node, thread);
-    status = carry_out(store, &aborts, true, 0);
-    if (status != LCRVM_OK)
-        return status;
-    begun->open = false;
-    enum lcrvm_status truncated = truncate_now(store, node);
-    if (store->dead)
-        return truncated;
-    status = do_again(store, node, thread, begun);
-    if (status != LCRVM_OK || truncated == LCRVM_OK)
-        return status;
-    store->last = full;
-    return full.status;
+    const struct begun *begun = &store->known.begun[node][thread];
+    size_t lines = 2 * bytes_of(begun) + (3 * begun->count + 2) * RANGE_LINE_BYTES + LINE_BYTES;
+    return lines + RESERVED <= store->run.left;
 }
 
 static enum lcrvm_status end_now(struct lcrvm_store *store, uint32_t node, uint32_t thread, bool flush,
@@ -1000,11 +782,11 @@ static enum lcrvm_status end_now(struct lcrvm_store *store, uint32_t node, uint3
                   take_number(&text, &made.words) && *text == '\0';
     if (!closed && strcmp(ended, "ended") != 0)
         return refused(store, ended);
-    struct begun *begun = begun_of(store, node, thread);
+    struct begun *begun = begun_of(&store->known, node, thread);
     if (begun == NULL)
         return not_a_reply(store, ended);
     begun->open = false;
-    store->records[node] += closed;
+    store->known.records[node] += closed;
     if (commit != NULL)
         *commit = made;
     return flush ? flushed(store, node, acked) : LCRVM_OK;
@@ -1013,12 +795,13 @@ static enum lcrvm_status end_now(struct lcrvm_store *store, uint32_t node, uint3
 enum lcrvm_status lcrvm_end_transaction(struct lcrvm_store *store, uint32_t node, uint32_t thread, bool flush,
                                         struct lcrvm_commit *commit)
 {
+    const struct lcrvm_fault before = store->known.last;
     enum lcrvm_status status = ready(store);
     if (status == LCRVM_OK)
         status = end_now(store, node, thread, flush, commit);
     if (status != LCRVM_FULL || !can_make_again(store, node, thread))
         return status;
-    status = make_again(store, node, thread);
+    status = make_again(store, &store->known, node, thread, &before);
     return status == LCRVM_OK ? end_now(store, node, thread, flush, commit) : status;
 }
 
@@ -1033,20 +816,24 @@ enum lcrvm_status lcrvm_flush(struct lcrvm_store *store, uint32_t node, uint64_t
         status = ask(store, &line, 0, text);
     if (status != LCRVM_OK)
         return status;
-    status = node < store->geometry.nodes ? flushed(store, node, text) : refused(store, text);
+    status = node < store->known.geometry.nodes ? flushed(store, node, text) : refused(store, text);
     if (status == LCRVM_OK && records != NULL)
-        *records = store->records[node];
+        *records = store->known.records[node];
     return status;
 }
 
 enum lcrvm_status lcrvm_truncate(struct lcrvm_store *store, uint32_t node, uint64_t *rounds)
 {
+    uint64_t round;
     enum lcrvm_status status = ready(store);
     if (status == LCRVM_OK)
-        status = truncate_now(store, node);
-    if (status == LCRVM_OK && rounds != NULL)
-        *rounds = store->rounds[node];
-    return status;
+        status = ask_count(store, "truncate", node, "truncated", 0, &round);
+    if (status != LCRVM_OK)
+        return status;
+    store->known.rounds[node] = store->rounds_before[node] + round;
+    if (rounds != NULL)
+        *rounds = store->known.rounds[node];
+    return LCRVM_OK;
 }
 
 /* Does this to the segment's token, which is then at the place. */
@@ -1058,7 +845,7 @@ static enum lcrvm_status move_token(struct lcrvm_store *store, const char *word,
     if (status == LCRVM_OK)
         status = carry_out(store, &line, false, RESERVED);
     if (status == LCRVM_OK && segment <= MOST_SEGMENTS)
-        store->tokens[segment] = place;
+        store->known.tokens[segment] = place;
     return status;
 }
 
@@ -1109,12 +896,12 @@ enum lcrvm_status lcrvm_trim(struct lcrvm_store *store, uint32_t node, uint64_t 
 
 const struct lcrvm_fault *lcrvm_fault_of(const struct lcrvm_store *store)
 {
-    return &store->last;
+    return &store->known.last;
 }
 
 const struct lcrvm_geometry *lcrvm_geometry_of(const struct lcrvm_store *store)
 {
-    return &store->geometry;
+    return &store->known.geometry;
 }
 
 long lcrvm_process_of(const struct lcrvm_store *store)
@@ -1123,9 +910,6 @@ long lcrvm_process_of(const struct lcrvm_store *store)
 }
 
 /* ---- stores in folders */
-
-static const struct lcrvm_options no_options;
-static const struct lcrvm_geometry least = {1, 1, 1, 1, 64};
 
 static void free_words(char *words[])
 {
@@ -1167,11 +951,6 @@ static bool add_geometry(char *words[], const struct lcrvm_geometry *geometry)
            add_option(words, "--words=", geometry->words);
 }
 
-static uint32_t threads_of(const struct lcrvm_options *options)
-{
-    return options->threads > 0 ? options->threads : 1;
-}
-
 static const char *program_of(const struct lcrvm_options *options)
 {
     return options->program != NULL ? options->program : "lcrvm";
@@ -1210,10 +989,25 @@ static void read_creation(struct run *run, struct lcrvm_fault *fault)
     read_line(run, text, 0);
     wait_for(run, false);
     read_end(run, text, fault);
-    if (fault->signal == 0 && fault->exit_status == 0)
+    if (exit_of(run) == 0)
         fill_fault(fault, LCRVM_OK, "");
     else if (strcmp(text, "refused Exists") == 0)
         fill_fault(fault, LCRVM_EXISTS, "");
+}
+
+/* Runs the program to make a store. */
+static void run_creation(char *words[], struct lcrvm_fault *fault)
+{
+    struct run *run = malloc(sizeof *run);
+    if (run == NULL)
+        return;
+    int error = start_run(run, words);
+    if (error != 0)
+        fill_fault(fault, LCRVM_NOT_STARTED, strerror(error));
+    else
+        read_creation(run, fault);
+    close_run(run);
+    free(run);
 }
 
 enum lcrvm_status lcrvm_create(const char *folder, const struct lcrvm_options *options, struct lcrvm_fault *fault)
@@ -1221,23 +1015,14 @@ enum lcrvm_status lcrvm_create(const char *folder, const struct lcrvm_options *o
     char *words[MOST_ARGUMENTS + 1] = {NULL};
     struct lcrvm_fault said;
     options = options != NULL ? options : &no_options;
-    struct run *run = malloc(sizeof *run);
+    if (!is_size(size_of(options)))
+        return say(fault, LCRVM_UNKNOWN);
     fill_fault(&said, LCRVM_CLIENT_MEMORY, "");
-    bool made = run != NULL && add_word(words, joined(program_of(options), "")) &&
-                add_word(words, joined("init", "")) && add_word(words, joined(folder, "")) &&
-                add_geometry(words, options->geometry != NULL ? options->geometry : &least);
-    if (made) {
-        int error = start_run(run, words);
-        if (error != 0)
-            fill_fault(&said, LCRVM_NOT_STARTED, strerror(error));
-        else
-            read_creation(run, &said);
-        close_run(run);
-    }
+    if (add_word(words, joined(program_of(options), "")) && add_word(words, joined("init", "")) &&
+        add_word(words, joined(folder, "")) && add_geometry(words, size_of(options)))
+        run_creation(words, &said);
     free_words(words);
-    free(run);
-    tell(fault, &said);
-    return said.status;
+    return tell(fault, &said);
 }
 
 static void free_store(struct lcrvm_store *store)
@@ -1266,37 +1051,37 @@ enum lcrvm_status lcrvm_open(const char *folder, const struct lcrvm_options *opt
 {
     *store = NULL;
     options = options != NULL ? options : &no_options;
+    if (!is_wanted(options))
+        return say(fault, LCRVM_UNKNOWN);
     struct lcrvm_store *opened = calloc(1, sizeof *opened);
     if (opened == NULL || !add_arguments(opened, folder, options)) {
         if (opened != NULL)
             free_store(opened);
-        if (fault != NULL)
-            fill_fault(fault, LCRVM_CLIENT_MEMORY, "");
-        return LCRVM_CLIENT_MEMORY;
+        return say(fault, LCRVM_CLIENT_MEMORY);
     }
     opened->is_as_found = options->geometry == NULL;
     enum lcrvm_status status = start(opened);
     if (status != LCRVM_OK) {
-        tell(fault, &opened->last);
+        tell(fault, &opened->known.last);
         free_store(opened);
         return status;
     }
     /* From here on the folder is locked, so the files stay as long as they are. */
-    opened->geometry = options->geometry != NULL ? *options->geometry : found_geometry(folder, threads_of(options));
-    opened->truncate_when_full = options->truncate_when_full;
-    for (uint32_t segment = 1; segment <= opened->geometry.segments && segment <= MOST_SEGMENTS; segment++)
-        opened->tokens[segment] = (int)(segment % opened->geometry.nodes);
+    opened->known.geometry =
+        options->geometry != NULL ? *options->geometry : found_geometry(folder, threads_of(options));
+    opened->known.truncate_when_full = options->truncate_when_full;
+    place_tokens(&opened->known);
     *store = opened;
     return LCRVM_OK;
 }
 
 enum lcrvm_status lcrvm_close(struct lcrvm_store *store, struct lcrvm_fault *fault)
 {
-    enum lcrvm_status status = store->dead ? store->last.status : end_run(store);
+    enum lcrvm_status status = store->known.dead ? store->known.last.status : end_run(store);
     if (status != LCRVM_OK)
-        tell(fault, &store->last);
-    else if (fault != NULL)
-        fill_fault(fault, LCRVM_OK, "");
+        tell(fault, &store->known.last);
+    else
+        say(fault, LCRVM_OK);
     free_store(store);
     return status;
 }
