@@ -211,7 +211,7 @@ enum lcrvm_status lcrvm_deliver(struct lcrvm_store *store, uint32_t node, uint64
                                 uint32_t to, struct lcrvm_delivered *delivered);
 
 /* Drops the node's stable records that all nodes have applied; `count`, which may be NULL, is how many these were.
-   UNKNOWN. */
+   Until then a record stays in memory, also behind a truncation, and where there is one node. UNKNOWN. */
 enum lcrvm_status lcrvm_trim(struct lcrvm_store *store, uint32_t node, uint64_t *count);
 
 /* The fault of the last call that did not answer LCRVM_OK. */

@@ -2,7 +2,8 @@
 # Compiles a C program with a store in its own process (clients/c/embedded.c), and tries it: the calls, with what they refuse;
 # kills in the midst of its commits, behind which the program lcrvm, and the C program by turns, have to find each commit that was
 # acknowledged; each of its writes and syncs failing in turn, behind which `lcrvm recover` has to find them; each write and sync
-# of the making of a store failing in turn; and each allocation refused in turn, behind which the call is done once more.
+# of the making of a store failing in turn; each allocation refused in turn, behind which the call is done once more; and each
+# choice of standard descriptors closed, of which no file of the store may take the place.
 #
 # usage: tests/embedded.sh [PROGRAM [LIBRARY [HEAP]]]
 #   PROGRAM   default: crates/lcrvm/out/lcrvm
@@ -131,6 +132,17 @@ while :; do
 done
 if [ $number -gt 1 ]; then passes; else fails "no allocation was refused"; fi
 echo "$((number - 1)) allocations were refused in turn"
+
+# What each store holds is what the first holds, of which no descriptor was closed.
+for input in '< /dev/null' '<&-'; do for output in '> /dev/null' '>&-'; do for errors in '2> /dev/null' '2>&-'; do
+    rm -rf "$work/closed"
+    mkdir "$work/closed"
+    status=0
+    eval "\"\$work/test\" closed \"\$work/closed\" $input $output $errors" || status=$?
+    [ -e "$work/open" ] || cp -r "$work/closed" "$work/open"
+    if [ $status -eq 0 ] && diff -r "$work/open" "$work/closed" && "$program" check "$work/closed" --as-found > "$work/checked" &&
+        [ "$(tail -n 1 "$work/checked")" = recovered ]; then passes; else fails "closed: $input $output $errors: status $status"; fi
+done; done; done
 
 echo "$passed passed, $failed failed"
 [ $failed -eq 0 ]

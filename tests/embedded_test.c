@@ -3,12 +3,15 @@
    usage: embedded_test commits FOLDER     makes commits and prints the number of each once it is stable, until it is killed
           embedded_test calls FOLDER       tries each call on new stores in folders below this one; its last line is `N wrong`
           embedded_test shows FOLDER       prints the number that the store has
-          embedded_test faults FOLDER N    makes twenty commits, of whose writes and syncs of files the Nth fails: status 3 where
-                                           it came to it, and then each later call was refused too; 0 where there are fewer
+          embedded_test faults FOLDER N    makes twenty commits, of whose writes and syncs of files the Nth fails, and no file can
+                                           be opened then: status 3 where it came to it, and each later call was refused too; 0
+                                           where there are fewer
           embedded_test creates FOLDER N   makes a store, of whose writes and syncs the Nth fails: status 3 where that was answered,
                                            4 where it is made all the same, 0 where there are fewer
           embedded_test memory FOLDER      makes a store, works on it and prints what came of it; what finds no memory is done
                                            once more
+          embedded_test closed FOLDER      makes a store, and commits to it between prints; a standard descriptor that is closed
+                                           has to stay so
 
    A commit writes its number, from 1 on, into eight bytes of segment 1 and into the same place of segment 2, which the next
    numbers pass by turns; every sixteenth empties the log. */
@@ -23,8 +26,10 @@
 #include <stdlib.h>
 #include <string.h>
 #include <sys/file.h>
+#include <sys/resource.h>
 #include <sys/stat.h>
 #include <sys/syscall.h>
+#include <sys/wait.h>
 #include <unistd.h>
 
 enum {
@@ -215,6 +220,16 @@ static void given_up(struct lcrvm_store *store)
     CHECK(made == failing);
 }
 
+/* Lets no descriptor more be opened, or lets them again. */
+static void let_descriptors(bool more)
+{
+    struct rlimit limit;
+
+    CHECK(getrlimit(RLIMIT_NOFILE, &limit) == 0);
+    limit.rlim_cur = more ? limit.rlim_max : 0;
+    CHECK(setrlimit(RLIMIT_NOFILE, &limit) == 0);
+}
+
 static int faults(const char *folder, const char *number)
 {
     struct lcrvm_store *store;
@@ -224,8 +239,10 @@ static int faults(const char *folder, const char *number)
 
     failing = strtol(number, NULL, 10);
     status = lcrvm_open(folder, NULL, &store, &fault);
+    let_descriptors(false);
     if (store != NULL)
         status = commits_in(store, FEW_COMMITS);
+    let_descriptors(true);
     if (status == LCRVM_OK && made < failing) {
         ANSWERS(lcrvm_close(store, &fault), LCRVM_OK);
         CHECK(fault.status == LCRVM_OK);
@@ -558,11 +575,18 @@ static void test_sizes(const char *folder)
 static void test_openings(const char *folder)
 {
     const struct lcrvm_geometry fewer = {1, 2, 1, 4, 64}, longer = {1, 2, 2, 4, 65};
-    const struct lcrvm_options as_fewer = {.geometry = &fewer}, as_longer = {.geometry = &longer};
+    const struct lcrvm_options as_one = {.geometry = &one}, as_fewer = {.geometry = &fewer}, as_longer = {.geometry = &longer};
     struct lcrvm_store *store = made_as(folder, &one, false);
     struct lcrvm_fault fault;
 
     close_well(store);
+    /* What stands above the geometry has to be a file, too. */
+    CHECK(mkdir(below(folder, "seg3"), 0777) == 0);
+    ANSWERS(lcrvm_open(folder, &as_one, &store, &fault), LCRVM_DEVICE_FAULT);
+    CHECK(strcmp(fault.text, "not a regular file") == 0 && rmdir(below(folder, "seg3")) == 0);
+    CHECK(symlink("nowhere", below(folder, "seg3")) == 0);
+    ANSWERS(lcrvm_open(folder, NULL, &store, &fault), LCRVM_DEVICE_FAULT);
+    CHECK(strcmp(fault.text, strerror(ENOENT)) == 0 && unlink(below(folder, "seg3")) == 0);
     ANSWERS(lcrvm_open(folder, &as_fewer, &store, &fault), LCRVM_BAD_GEOMETRY);
     CHECK(fault.area == 2);
     ANSWERS(lcrvm_open(folder, &as_longer, &store, &fault), LCRVM_BAD_GEOMETRY);
@@ -844,6 +868,85 @@ static void test_syncs_of_a_truncation(const char *folder)
     close_well(store);
 }
 
+/* Where records are trimmed, the heap does not grow. */
+static void test_trimmed(const char *folder)
+{
+    static const struct lcrvm_geometry size = {1, 1, 1, 1, 4096};
+    struct lcrvm_store *store = made_as(folder, &size, true);
+    const void *end = NULL;
+
+    for (uint32_t round = 0; round < 40; round++) {
+        uint64_t count = 0;
+
+        if (round == 10)
+            end = sbrk(0);
+        for (uint32_t number = 0; number < 100; number++)
+            ANSWERS(commit(store, 0, 1, number, "x"), LCRVM_OK);
+        ANSWERS(lcrvm_flush(store, 0, NULL), LCRVM_OK);
+        ANSWERS(lcrvm_trim(store, 0, &count), LCRVM_OK);
+        CHECK(count == 100);
+    }
+    CHECK(sbrk(0) == end);
+    close_well(store);
+}
+
+/* The greatest size: a record as long as a log can be, up to the last byte of the last segment. */
+static void test_greatest(const char *folder)
+{
+    static const struct lcrvm_geometry greatest = {8, 16, 16, 1024, 4096};
+    /* Past 16 KiB a range has 3 words. */
+    static char bytes[8 * (4096 - 3 - 2 - 3)], found[sizeof bytes];
+    const uint32_t at = 1024 * 256 - sizeof bytes, last = 16;
+    struct lcrvm_store *store = made_as(folder, &greatest, false);
+    struct lcrvm_commit commit;
+    uint64_t records = 0, rounds = 0;
+
+    memset(bytes, 'x', sizeof bytes);
+    ANSWERS(begin(store, 0, 15, last), LCRVM_OK);
+    ANSWERS(lcrvm_set_range(store, 0, 15, last, at, sizeof bytes + 1), LCRVM_OUT_OF_SEGMENT);
+    ANSWERS(lcrvm_set_range(store, 0, 15, last, at, sizeof bytes), LCRVM_OK);
+    ANSWERS(lcrvm_write(store, 0, 15, last, at, bytes, sizeof bytes), LCRVM_OK);
+    ANSWERS(lcrvm_end_transaction(store, 0, 15, false, &commit), LCRVM_OK);
+    CHECK(commit.place == 0 && commit.words == 4096);
+    ANSWERS(lcrvm_flush(store, 0, &records), LCRVM_OK);
+    ANSWERS(lcrvm_truncate(store, 0, &rounds), LCRVM_OK);
+    CHECK(records == 1 && rounds == 1);
+    close_well(store);
+    store = opened_as(folder, &greatest, false);
+    ANSWERS(lcrvm_begin_transaction(store, 0, 15, NULL, 0, &last, 1), LCRVM_OK);
+    ANSWERS(lcrvm_read(store, 0, 15, last, at, found, sizeof found), LCRVM_OK);
+    CHECK(memcmp(bytes, found, sizeof bytes) == 0);
+    close_well(store);
+}
+
+/* A child of a fork neither gives the lock back nor keeps it, also where it has come to no exec yet. */
+static void test_children(const char *folder)
+{
+    struct lcrvm_store *store = made_as(folder, &one, false), *other;
+    int ends[2];
+    char byte;
+    pid_t child = fork();
+
+    if (child == 0) {
+        lcrvm_close(store, NULL);
+        _exit(0);
+    }
+    CHECK(waitpid(child, NULL, 0) == child);
+    ANSWERS(lcrvm_open(folder, NULL, &other, NULL), LCRVM_STORE_IN_USE);
+    CHECK(pipe(ends) == 0);
+    child = fork();
+    if (child == 0) {
+        close(ends[1]);
+        _exit((int)read(ends[0], &byte, 1));
+    }
+    close_well(store);
+    store = opened_as(folder, &one, false);
+    close_well(store);
+    close(ends[0]);
+    close(ends[1]);
+    CHECK(waitpid(child, NULL, 0) == child);
+}
+
 static const struct {
     const char *name;
     void (*run)(const char *folder);
@@ -862,6 +965,9 @@ static const struct {
     {"uncommitted", test_uncommitted},
     {"tokens", test_pages_go_with_tokens},
     {"syncs", test_syncs_of_a_truncation},
+    {"trimmed", test_trimmed},
+    {"greatest", test_greatest},
+    {"children", test_children},
 };
 
 static int calls(const char *folder)
@@ -876,6 +982,47 @@ static int calls(const char *folder)
             fprintf(stderr, "failed: %s\n", tests[i].name);
     }
     printf("%d wrong\n", wrong);
+    return wrong != 0;
+}
+
+/* The standard descriptors that are closed, a bit each. */
+static int closed_streams(void)
+{
+    int set = 0;
+
+    for (int stream = 0; stream < 3; stream++)
+        if (fcntl(stream, F_GETFD) < 0)
+            set |= 1 << stream;
+    return set;
+}
+
+/* Prints to each standard stream, whether it is open or closed. */
+static void print_to_all(void)
+{
+    for (int stream = 0; stream < 3; stream++)
+        (void)!write(stream, "printed\n", 8);
+}
+
+static int closed(const char *folder)
+{
+    const struct lcrvm_options options = {.geometry = &one};
+    const int before = closed_streams();
+    struct lcrvm_store *store;
+
+    ANSWERS(lcrvm_create(folder, &options, NULL), LCRVM_OK);
+    print_to_all();
+    store = opened_as(folder, &one, false);
+    CHECK(closed_streams() == before);
+    for (uint32_t number = 0; number < 4; number++) {
+        ANSWERS(commit(store, 0, 1, 8 * number, "before"), LCRVM_OK);
+        print_to_all();
+    }
+    ANSWERS(lcrvm_truncate(store, 0, NULL), LCRVM_OK);
+    ANSWERS(commit(store, 0, 1, 0, "behind"), LCRVM_OK);
+    ANSWERS(lcrvm_flush(store, 0, NULL), LCRVM_OK);
+    print_to_all();
+    close_well(store);
+    CHECK(closed_streams() == before);
     return wrong != 0;
 }
 
@@ -960,10 +1107,13 @@ int main(int count, char **arguments)
         return shows(arguments[2]);
     if (count == 3 && strcmp(arguments[1], "memory") == 0)
         return memory(arguments[2]);
+    if (count == 3 && strcmp(arguments[1], "closed") == 0)
+        return closed(arguments[2]);
     if (count == 4 && strcmp(arguments[1], "faults") == 0)
         return faults(arguments[2], arguments[3]);
     if (count == 4 && strcmp(arguments[1], "creates") == 0)
         return creates(arguments[2], arguments[3]);
-    fprintf(stderr, "usage: embedded_test commits|calls|shows|memory FOLDER, embedded_test faults|creates FOLDER N\n");
+    fprintf(stderr,
+            "usage: embedded_test commits|calls|shows|memory|closed FOLDER, embedded_test faults|creates FOLDER N\n");
     return 2;
 }

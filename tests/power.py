@@ -807,9 +807,9 @@ def main():
         for k in range((asked.cuts + each - 1) // each)
     ]
     made, calls, lost, left, kinds = 0, 0, [], [], {}
-    # Whoever is told to end takes its processes and folders with it.
+    # Whoever is told to end takes its processes and folders with it; those processes end at once.
     signal.signal(signal.SIGTERM, lambda *_: sys.exit(1))
-    with multiprocessing.Pool(asked.jobs) as pool:
+    with multiprocessing.Pool(asked.jobs, signal.signal, (signal.SIGTERM, signal.SIG_DFL)) as pool:
         for some, faults, stays, several, counts in pool.imap_unordered(cut_story, tasks):
             made += some
             calls += several

@@ -57,7 +57,10 @@ done
 [ $((number - 1)) -gt $spared ] || fail "no allocation of the script was missed"
 echo "a script of two nodes: each of $((number - 1)) allocations was refused once; $spared were not missed"
 
-for test in $("$tests" --list | sed -n 's/^\(growth_tests::[a-z_]*\): test$/\1/p'); do
+"$tests" --list > "$work/listed" || fail "the tests are not built: $tests"
+names=$(sed -n 's/^\(growth_tests::[a-z_]*\): test$/\1/p' "$work/listed")
+[ -n "$names" ] || fail "none of the tests is of growth_tests: $tests"
+for test in $names; do
     number=1
     while [ $number -le $most ]; do
         refusing $number "$tests" "$test" > "$work/text" 2>&1 || fail "allocation $number of $test: $(tail -n 3 "$work/text")"

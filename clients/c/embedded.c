@@ -105,6 +105,7 @@ void lcrvm_session_free(struct handle handle);
 struct lcrvm_store {
     struct handle session;
     struct known known;
+    pid_t process; /* whose store it is: a child of its fork leaves it the lock */
     int folder, files[MOST_AREAS];
     uint32_t areas;
     uint64_t calls[MOST_AREAS];                /* of each area, those that its file has had */
@@ -143,13 +144,11 @@ static enum lcrvm_status refused(struct lcrvm_store *store, const struct answer 
     return store->known.last.status;
 }
 
-/* A file has failed: the store is given up, and a mark is left for whoever opens it next. */
+/* A file has failed: the store is given up, and a mark is left for whoever opens it next. That takes no descriptor, of
+   which the caller may have none left. */
 static enum lcrvm_status given_up(struct lcrvm_store *store, const char *reason)
 {
-    int file = openat(store->folder, mark, O_WRONLY | O_CREAT | O_CLOEXEC, 0666);
-
-    if (file >= 0)
-        close(file);
+    mknodat(store->folder, mark, S_IFREG | 0666, 0);
     lcrvm_session_give_up(&store->session);
     store->known.dead = true;
     return failed(store, LCRVM_DEVICE_FAULT, reason);
@@ -320,6 +319,13 @@ static enum lcrvm_status lock_folder(int folder, struct lcrvm_fault *fault)
     return errno == EWOULDBLOCK ? fill_fault(fault, LCRVM_STORE_IN_USE, "store in use") : system_failed(fault);
 }
 
+/* A child of a fork has the folder too until its exec, and so the lock: it is given back here, and not with the descriptor. */
+static void unlock_folder(int folder)
+{
+    if (folder >= 0)
+        flock(folder, LOCK_UN);
+}
+
 /* New stores. */
 
 static bool write_zeros(int file, size_t len)
@@ -394,6 +400,7 @@ enum lcrvm_status lcrvm_create(const char *folder, const struct lcrvm_options *o
         system_failed(&said);
     else
         make_files(opened, geometry, &said);
+    unlock_folder(opened);
     close_file(opened);
     return tell(fault, &said);
 }
@@ -466,17 +473,31 @@ static enum lcrvm_status find_size(int folder, struct lcrvm_geometry *found, str
 
 /* Opening. */
 
-/* Looks at the names of a kind above those of the geometry: EXISTS where one is taken. */
-static enum lcrvm_status look_beyond(int folder, const char *kind, uint32_t first, uint32_t last,
-                                     struct lcrvm_fault *fault)
+/* Opens the file of an area. */
+static enum lcrvm_status open_file(struct lcrvm_store *store, uint32_t place, const char *name)
+{
+    struct stat at;
+
+    if (fstatat(store->folder, name, &at, 0) != 0)
+        return system_failed(&store->known.last);
+    if (!S_ISREG(at.st_mode))
+        return failed(store, LCRVM_DEVICE_FAULT, "not a regular file");
+    store->files[place] = beside_standard_streams(openat(store->folder, name, O_RDWR | O_CLOEXEC));
+    return store->files[place] < 0 ? system_failed(&store->known.last) : LCRVM_OK;
+}
+
+/* Looks at the names of a kind above those of the geometry: EXISTS where one is taken, and its file is opened. */
+static enum lcrvm_status look_beyond(struct lcrvm_store *store, const char *kind, uint32_t first, uint32_t last)
 {
     char name[NAME_BYTES];
     enum lcrvm_status status = LCRVM_OK;
 
     for (uint32_t number = first; number <= last && status == LCRVM_OK; number++) {
         write_name(kind, number, name);
-        status = look_at(folder, name, fault);
+        status = look_at(store->folder, name, &store->known.last);
     }
+    if (status == LCRVM_EXISTS && open_file(store, store->areas, name) != LCRVM_OK)
+        return store->known.last.status;
     return status;
 }
 
@@ -493,11 +514,10 @@ static enum lcrvm_status add_beyond(struct lcrvm_store *store)
 {
     static const uint8_t none = 0;
     const struct lcrvm_geometry *geometry = &store->known.geometry;
-    struct lcrvm_fault *fault = &store->known.last;
-    enum lcrvm_status status = look_beyond(store->folder, log_kind, geometry->nodes, MOST_NODES - 1, fault);
+    enum lcrvm_status status = look_beyond(store, log_kind, geometry->nodes, MOST_NODES - 1);
 
     if (status == LCRVM_OK)
-        status = look_beyond(store->folder, segment_kind, geometry->segments + 1, MOST_SEGMENTS, fault);
+        status = look_beyond(store, segment_kind, geometry->segments + 1, MOST_SEGMENTS);
     return status == LCRVM_EXISTS ? add_area(store, &none, 0) : status;
 }
 
@@ -535,15 +555,11 @@ static enum lcrvm_status read_file(struct lcrvm_store *store, uint32_t place)
 static enum lcrvm_status add_file(struct lcrvm_store *store, uint32_t place)
 {
     char name[NAME_BYTES];
-    struct stat at;
+    enum lcrvm_status status;
 
     name_of(&store->known.geometry, place, name);
-    if (fstatat(store->folder, name, &at, 0) != 0)
-        return system_failed(&store->known.last);
-    if (!S_ISREG(at.st_mode))
-        return failed(store, LCRVM_DEVICE_FAULT, "not a regular file");
-    store->files[place] = beside_standard_streams(openat(store->folder, name, O_RDWR | O_CLOEXEC));
-    return store->files[place] < 0 ? system_failed(&store->known.last) : read_file(store, place);
+    status = open_file(store, place, name);
+    return status == LCRVM_OK ? read_file(store, place) : status;
 }
 
 /* Begins a session for a store of this size, and adds its files. */
@@ -626,6 +642,7 @@ static struct lcrvm_store *new_store(void)
 
     if (store == NULL)
         return NULL;
+    store->process = getpid();
     store->folder = -1;
     for (uint32_t place = 0; place < MOST_AREAS; place++)
         store->files[place] = -1;
@@ -637,6 +654,8 @@ static void free_store(struct lcrvm_store *store)
     lcrvm_session_free(store->session);
     for (uint32_t place = 0; place < MOST_AREAS; place++)
         close_file(store->files[place]);
+    if (store->process == getpid())
+        unlock_folder(store->folder);
     close_file(store->folder);
     free(store->bytes);
     free(store);
