@@ -95,7 +95,7 @@ fn a_store_has_bounds_when_it_is_made_and_recovered(rt: HostRuntime) -> Result<(
 }
 
 // A folder or a file and the size of a store, or whether the last record comes first.
-#[derive(Clone, Copy, PartialEq, Eq)]
+#[derive(Clone, Copy)]
 enum Wanted {
     Run(&'static str, [u32; 5]),
     Init(&'static str, [u32; 5]),

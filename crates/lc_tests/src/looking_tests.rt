@@ -1,11 +1,9 @@
 //! What a look at a store prints and calls, over a folder of files that list their calls.
-use crate::listed_files::{FOLDER, Listed, Shelf, Trouble};
+use crate::listed_files::{Shelf, Trouble};
 use crate::steps::{
     Ask, COMMIT, COMMITTED, EMPTYING, FIRST_OF_1, FLUSHING, ONE, OPENING, READING, RECOVERING,
-    STEP, Size, Step, check, check_all, check_calls,
+    STEP, Size, Step, check, check_all, told,
 };
-use lc_tool::{ErrorOutput, answer};
-use lc_words::Asked;
 use std::test::*;
 
 // The look at it, beside others.
@@ -125,27 +123,18 @@ fn a_store_in_use_is_not_drawn(rt: HostRuntime) -> Result<(), Fail> {
 }
 
 // What the picture is, its own tests say.
+static DRAWN: Step = Step {
+    ask: Ask::Draw,
+    calls: Some(&[LOOKING, READS, READS]),
+    ..STEP
+};
+
 #[test]
 fn a_store_that_is_drawn_is_not_changed(rt: HostRuntime) -> Result<(), Fail> {
     let shelf = Shelf::new(rt.alloc());
     check(&rt, rt.alloc(), &shelf, &STEP)?;
-    let asked = Asked::Draw {
-        folder: String::from_str(rt.alloc(), FOLDER)?,
-    };
-    let mut text = Vec::new(rt.alloc());
-    let mut script = "".as_bytes();
-    let status = answer(
-        rt.alloc(),
-        &Listed(&shelf),
-        ErrorOutput::Other,
-        &asked,
-        &mut script,
-        &mut text,
-    )?;
-    assert!(rt; status == 0 && text.as_slice().starts_with("<svg ".as_bytes()));
-    check_calls(&rt, &shelf.calls()?, &[LOOKING, READS, READS]);
-    let said = shelf.said()?;
-    assert!(rt; said.is_empty(), "{said}");
+    let text = told(&rt, rt.alloc(), &shelf, &DRAWN)?;
+    assert!(rt; text.as_slice().starts_with("<svg ".as_bytes()));
     Ok(())
 }
 

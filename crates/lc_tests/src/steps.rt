@@ -209,13 +209,13 @@ pub(crate) fn check_calls(rt: &impl Abort, calls: &str, pieces: &[&str]) {
     assert!(rt; rest.is_empty(), "{calls}");
 }
 
-// Asks this, and looks at what comes of it.
-pub(crate) fn check(
+// Asks this, looks at what comes of it but for what is printed, and answers that.
+pub(crate) fn told(
     rt: &impl Abort,
     alloc: Global,
     shelf: &Shelf,
     step: &Step,
-) -> Result<(), Fail> {
+) -> Result<Vec<u8>, Fail> {
     shelf.meets(step.trouble);
     let asked = asked_of(alloc, step.ask, String::from_str(alloc, FOLDER)?)?;
     let mut text = Vec::new(alloc);
@@ -228,17 +228,26 @@ pub(crate) fn check(
         &mut reader,
         &mut text,
     )?;
-    let printed = step.printed;
-    assert!(rt;
-        text.as_slice() == printed.as_bytes() && status == step.status,
-        "{printed}"
-    );
+    assert!(rt; status == step.status, "{status}");
     let calls = shelf.calls()?;
     if let Some(pieces) = step.calls {
         check_calls(rt, &calls, pieces);
     }
     let said = shelf.said()?;
     assert!(rt; said.as_str() == step.said, "{said}");
+    Ok(text)
+}
+
+// Asks this, and looks at all that comes of it.
+pub(crate) fn check(
+    rt: &impl Abort,
+    alloc: Global,
+    shelf: &Shelf,
+    step: &Step,
+) -> Result<(), Fail> {
+    let text = told(rt, alloc, shelf, step)?;
+    let printed = step.printed;
+    assert!(rt; text.as_slice() == printed.as_bytes(), "{printed}");
     Ok(())
 }
 

@@ -3,7 +3,7 @@ ghost use Rattle.std.specs.Prelude.{◌≤◌, IfErr, IfOk, length};
 ghost use Rattle.lc_tool.specs.Found.{IsRow, IsRowFault, place_of};
 
 /// Files that stand one behind the other, all as long as the first.
-#[derive(Clone, Copy, PartialEq, Eq)]
+#[derive(Clone, Copy)]
 pub(crate) struct FileRow {
     /// How many there are, at least one.
     pub(crate) count: usize,
@@ -12,7 +12,7 @@ pub(crate) struct FileRow {
 }
 
 /// Why files are in no row.
-#[derive(Clone, Copy, PartialEq, Eq)]
+#[derive(Clone, Copy)]
 pub(crate) enum RowFault {
     /// This one is not there, and it is the first, or one behind it is there.
     Missing(usize),

@@ -1,7 +1,7 @@
 //! What a line of a script leaves.
 
 /// How the script goes on behind a line.
-#[derive(Clone, Copy, PartialEq, Eq)]
+#[derive(Clone, Copy)]
 pub(crate) enum Outcome {
     /// With the next line; and whether this one was refused.
     Goes { refused: bool },

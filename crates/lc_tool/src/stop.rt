@@ -4,7 +4,7 @@ use std::alloc::AllocError;
 use std::io;
 
 /// Why a command did not come to its end.
-#[derive(Clone, Copy, PartialEq, Eq)]
+#[derive(Clone, Copy)]
 pub(crate) enum Stop {
     /// There was no memory, and nothing was written.
     NoMemory,

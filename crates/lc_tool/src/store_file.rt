@@ -7,7 +7,7 @@ use lc_record::Geometry;
 use lc_recover::area_len;
 
 /// A file of a store, with its length in bytes.
-#[derive(Clone, Copy, PartialEq, Eq)]
+#[derive(Clone, Copy)]
 pub(crate) struct StoreFile {
     pub(crate) name: FileName,
     pub(crate) len: usize,
