@@ -1,5 +1,5 @@
 //! An area over a file.
-ghost use Rattle.std.specs.Prelude.{◌≡◌, ◌≢◌, ◌+◌, ◌≤◌, ℕ, true, false, length, replicate, IfOk, if◌then◌else◌, is_ok};
+ghost use Rattle.std.specs.Prelude.{◌≡◌, ◌≢◌, ◌↔◌, ◌+◌, ◌<◌, ◌≤◌, ℕ, true, false, length, replicate, IfOk, IsErr, if◌then◌else◌, is_ok};
 ghost use Rattle.lc_disk.specs.FaultCount.{fault_count};
 
 use crate::fault_count::FaultCount;
@@ -65,6 +65,20 @@ impl<F: HeldFile> FileArea<F> {
     {
         let mut options = OpenOptions::new();
         let (file, len) = open_regular(rt, options.read(true).write(true), path)?;
+        FileArea::of_file(file, len)
+    }
+
+    /// The bytes of a regular file that is open, as many as it has now. Where it was opened for reading alone each write is a
+    /// fault.
+    ///
+    /// # Errors
+    ///
+    /// `FileTooLarge` exactly where the file is longer than any list of bytes.
+    pub fn of_file(file: F, len: u64) -> io::Result<FileArea<F>>
+        ensures len { IfOk result (λ area. file_len area ≡ len) }
+        ensures failures { IfOk result (λ area. file_failures area ≡ 0) }
+        ensures too_large { IsErr result ↔ (usize.MAX < len) }
+    {
         match usize::try_from(len) {
             Ok(len) => Ok(FileArea::over(file, len)),
             Err(_) => Err(Error::from(ErrorKind::FileTooLarge)),
