@@ -11,6 +11,10 @@ use Rattle.lc_core.specs.declared.call_fault.CallFault.{CallFault}
 use Rattle.lc_core.specs.declared.call_fault.CallFault.TheVariants.{NoMemory, Refused}
 use Rattle.lc_core.specs.declared.phase.Phase.TheVariants.{Down}
 use Rattle.lc_core.specs.declared.world.World.{World}
+use Rattle.lc_files.specs.declared.sizing.SizeFault.{SizeFault}
+use Rattle.lc_files.specs.declared.sizing.SizeFault.TheVariants.{Misfit as Misfits, Folder as SizeFolder}
+use Rattle.lc_files.specs.declared.sizing.Unopened.{Unopened}
+use Rattle.lc_files.specs.declared.sizing.Unopened.TheVariants.{Folder as NoFolder, OtherSize}
 use Rattle.lc_look.specs.Recovers.{Explains}
 use Rattle.lc_look.specs.Refused.{IsFirstWrong}
 use Rattle.lc_store.specs.declared.open_fault.OpenFault.{OpenFault}
@@ -27,6 +31,16 @@ as_refused (Some refusal) = Refused refusal
 
 abbrev pub of_recovery : RecoverFault → CallFault
 of_recovery fault = as_refused (refusal_to fault)
+
+-- a store that is not opened in its folder
+abbrev pub of_unopened : Unopened → OpenFault
+of_unopened (NoFolder fault) = Folder fault
+of_unopened (OtherSize area) = BadGeometry area
+
+-- a folder that tells no size
+abbrev pub of_size : SizeFault → OpenFault
+of_size (Misfits misfit) = NoStore misfit
+of_size (SizeFolder fault) = Folder fault
 
 module _ {D : Type 0} (a : Ghosts D) where
   -- the store of these areas was down, and this is what came of its recovery

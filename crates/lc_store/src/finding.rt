@@ -1,30 +1,33 @@
-//! The size that the files of a folder tell.
-ghost use Rattle.std.specs.Prelude.{◌≡◌, ◌↔◌, IfOk};
+//! The size that a folder tells.
+ghost use Rattle.std.specs.Prelude.{◌≡◌, ◌↔◌, true, IfOk};
+ghost use Rattle.lc_record.specs.declared.geometry.Geometry.{Geometry as Sizes};
+ghost use Rattle.lc_files.specs.SizeText.{IsSameSize};
+ghost use Rattle.lc_files.specs.Sizes.{IsSizeOf};
 ghost use Rattle.lc_store.specs.Opening.{IsNoThreadCount};
 
 use crate::OpenFault;
-use lc_disk::HeldFile;
+use lc_files::{SizeSource, size_found};
 use lc_record::Geometry;
-use lc_tool::StoreFolder;
-use std::rt::Files;
+use std::alloc::Global;
 
 // The most threads that a node has.
 const MOST_THREADS: u16 = 16;
 
-/// The size that the lengths of the files tell, with so many threads a node.
-pub(crate) fn found<R: Files>(
-    folder: &StoreFolder<'_, R>,
+/// The size of the store in a folder, as the file of the size says or the lengths of the other files tell, with so many threads a node.
+pub(crate) fn found<F: SizeSource>(
+    alloc: Global,
+    folder: &F,
     threads: u16,
 ) -> Result<Geometry, OpenFault>
-where
-    R::File: HeldFile,
     ensures threads { IfOk result (λ geometry. geometry.threads ≡ threads) }
+    ensures size { IfOk result (λ geometry. F.honest folder.now ≡ true
+        → (its : Sizes) × IsSizeOf (F.stated folder.now) (F.logs folder.now) (F.segments folder.now) its × IsSameSize its geometry) }
     ensures bad_threads { (result ≡ Err OpenFault.BadThreads) ↔ IsNoThreadCount threads }
 {
     if threads == 0 || MOST_THREADS < threads {
         return Err(OpenFault::BadThreads);
     }
-    let found = folder.file_lens()?.geometry()?;
+    let found = size_found(alloc, folder)?;
     Ok(Geometry {
         nodes: found.nodes,
         threads,

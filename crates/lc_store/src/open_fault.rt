@@ -1,11 +1,11 @@
 //! Why a store in a folder is not opened.
 ghost use Rattle.std.specs.Prelude.{◌≡◌};
-ghost use Rattle.lc_store.specs.Opening.{of_recovery};
-ghost use Rattle.lc_store.specs.declared.open_fault.OpenFault.TheVariants.{Folder, NoStore, NotUp};
+ghost use Rattle.lc_store.specs.Opening.{of_recovery, of_size, of_unopened};
+ghost use Rattle.lc_store.specs.declared.open_fault.OpenFault.TheVariants.{NotUp};
 
 use lc_core::{CallFault, recovery_refusal};
 use lc_recover::RecoverFault;
-use lc_tool::{FolderFault, Misfit};
+use lc_files::{FolderFault, Misfit, SizeFault, Unopened};
 use std::fmt;
 use thiserror::Error;
 
@@ -16,14 +16,14 @@ pub enum OpenFault {
     /// what, and why.
     #[error("the files of the store could not be opened")]
     Folder(FolderFault),
-    /// The files of the folder are those of no store.
+    /// No file of the folder says the store's size, and the others are those of no store.
     #[error("the files are those of no store")]
     NoStore(Misfit),
     /// A node has 1 to 16 threads.
     #[error("a node has 1 to 16 threads")]
     BadThreads,
-    /// The file of this area has not the length of the geometry, or is one too many; the areas are the logs of the nodes and
-    /// then the segments.
+    /// The file of this area has not the length of the geometry, or is one too many, or the store's own file says another size, whose
+    /// files differ first at this area; the areas are the logs of the nodes and then the segments.
     #[error("area {area} does not fit the geometry")]
     BadGeometry { area: u32 },
     /// The store does not come up: its recovery is refused, a device failed in it, or there is no memory for it.
@@ -37,19 +37,25 @@ impl fmt::Debug for OpenFault {
     }
 }
 
-impl From<FolderFault> for OpenFault {
-    ghost from_gives = { λ fault own. own ≡ Folder fault };
+impl From<Unopened> for OpenFault {
+    ghost from_gives = { λ fault own. own ≡ of_unopened fault };
 
-    fn from(fault: FolderFault) -> OpenFault {
-        OpenFault::Folder(fault)
+    fn from(fault: Unopened) -> OpenFault {
+        match fault {
+            Unopened::Folder(fault) => OpenFault::Folder(fault),
+            Unopened::OtherSize { area } => OpenFault::BadGeometry { area },
+        }
     }
 }
 
-impl From<Misfit> for OpenFault {
-    ghost from_gives = { λ misfit own. own ≡ NoStore misfit };
+impl From<SizeFault> for OpenFault {
+    ghost from_gives = { λ fault own. own ≡ of_size fault };
 
-    fn from(misfit: Misfit) -> OpenFault {
-        OpenFault::NoStore(misfit)
+    fn from(fault: SizeFault) -> OpenFault {
+        match fault {
+            SizeFault::Misfit(misfit) => OpenFault::NoStore(misfit),
+            SizeFault::Folder(fault) => OpenFault::Folder(fault),
+        }
     }
 }
 

@@ -7,11 +7,11 @@ use crate::OpenFault;
 use crate::finding::found;
 use crate::recovering::recovered_on;
 use lc_core::CallFault;
-use lc_disk::{Area, HeldFile};
+use lc_disk::Area;
 use lc_node::Node;
 use lc_record::Geometry;
 use lc_stage::CommitSeat;
-use lc_tool::{OpenStore, StoreArea, StoreFolder};
+use lc_files::{OpenStore, SharedFile, StoreArea, StoreFolder};
 use std::alloc::Global;
 use std::rt::Files;
 
@@ -31,7 +31,7 @@ pub type FolderServing<'a, R> = Serving<StoreArea<'a, R>, <R as Files>::File>;
 
 impl<'a, R: Files> Serving<StoreArea<'a, R>, R::File>
 where
-    R::File: HeldFile,
+    R::File: SharedFile,
 {
     /// Opens the store of this size that is in the folder, recovers it, and lets its node run; with the first seat, which a
     /// thread gives to each of its transactions. Where the store has several nodes this is the first of them, with all segments.
@@ -58,7 +58,8 @@ where
         }
     }
 
-    /// Opens the store that is in the folder, of the size that the lengths of its files tell. Else as `open`.
+    /// Opens the store that is in the folder, of the size that its own file says, or, where there is none, the lengths of its files tell.
+    /// Else as `open`.
     ///
     /// # Errors
     ///
@@ -71,6 +72,6 @@ where
         ensures number { IfOk result (λ made. made.0.node.number ≡ 0) }
         ensures bad_threads { result ≢ Err OpenFault.BadThreads }
     {
-        Serving::open(alloc, folder, found(folder, ANY_THREADS)?)
+        Serving::open(alloc, folder, found(alloc, folder, ANY_THREADS)?)
     }
 }

@@ -9,9 +9,9 @@ use crate::OpenFault;
 use crate::bringing_up::up_on;
 use crate::finding::found;
 use lc_core::World;
-use lc_disk::{Area, HeldFile};
+use lc_disk::Area;
 use lc_record::Geometry;
-use lc_tool::{OpenStore, StoreArea, StoreFolder};
+use lc_files::{OpenStore, SharedFile, StoreArea, StoreFolder};
 use std::alloc::Global;
 use std::rt::Files;
 
@@ -28,7 +28,7 @@ pub type FolderStore<'a, R> = Store<StoreArea<'a, R>, <R as Files>::File>;
 
 impl<'a, R: Files> Store<StoreArea<'a, R>, R::File>
 where
-    R::File: HeldFile,
+    R::File: SharedFile,
 {
     /// Opens the store of this size that is in the folder, and recovers it: it is up, and has the last content that was stable.
     /// What other processes do to the files, and whether the system keeps them, no proof can say.
@@ -52,8 +52,8 @@ where
         Ok(Store { world, guard })
     }
 
-    /// Opens the store that is in the folder, of the size that the lengths of its files tell, with so many threads a node, 1 to
-    /// 16: the files do not tell these. Else as `open`.
+    /// Opens the store that is in the folder, of the size that its own file says, or, where there is none, the
+    /// lengths of its files tell, with so many threads a node, 1 to 16: the files do not tell these. Else as `open`.
     ///
     /// # Errors
     ///
@@ -68,6 +68,6 @@ where
         ensures geometry { IfOk result (λ store. (g : Sizes) × (phase_geometry ⟦<StoreArea<'a, R> as Area>⟧ store.world.phase ≡ Some g) × (g.threads ≡ threads)) }
         ensures bad_threads { (result ≡ Err OpenFault.BadThreads) ↔ IsNoThreadCount threads }
     {
-        Store::open(alloc, folder, found(folder, threads)?)
+        Store::open(alloc, folder, found(alloc, folder, threads)?)
     }
 }

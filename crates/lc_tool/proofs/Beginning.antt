@@ -11,7 +11,8 @@ use Rattle.lc_model.specs.declared.reply.Reply.TheVariants.{Refused as IsRefusal
 use Rattle.lc_core.specs.Numbers.{Numbers}
 use Rattle.lc_core.specs.World.{FitsWorld}
 use Rattle.lc_core.specs.declared.world.World.{World}
-use Rattle.lc_look.specs.Printed.{Stops, NoMemory, Adds}
+use Rattle.lc_look.specs.Printed.{NoMemory, Adds}
+use Rattle.lc_tool.specs.Files.{NotOpened}
 use Rattle.lc_tool.specs.Fits.{FollowsAll, IsRefused, RefusesAll}
 use Rattle.lc_tool.specs.Outcome.{EndsWith, IsGivenUp, IsRecovered, OpensStore, RefusesFirst, RunsRecovered}
 use Rattle.lc_tool.specs.Script.{Given, Opens, RunsRead, RunsScript}
@@ -140,11 +141,14 @@ module _ (g : Geometry) (held holds : Option (List ℕ)) (status : ℕ) (script 
   stopped_tells stop = (stop.0, inl stop.1, stop.2)
 
   -- files that could not be opened
-  pub not_opened_tells : Adds Stops held holds status → Adds (TellsScript g script) held holds status
+  pub not_opened_tells : Adds NotOpened held holds status → Adds (TellsScript g script) held holds status
   not_opened_tells stop =
       elim stop.1 [
-        | inl device ↦ (stop.0, inl (inr (IsRefusal DeviceFault, device)), stop.2)
-        | inr memory ↦ (stop.0, inl (inl memory), stop.2)
+        | inl stops ↦ elim stops [
+          | inl device ↦ (stop.0, inl (inr (IsRefusal DeviceFault, device)), stop.2)
+          | inr memory ↦ (stop.0, inl (inl memory), stop.2)
+        ]
+        | inr other ↦ (stop.0, inl (inr (IsRefusal (WrongArea other.0), (other.1, other.2))), stop.2)
       ]
 
   pub wrong_tells : (area : ℕ) → status ≡ 1 → Appends held holds (refusal_text (WrongArea area)) → Adds (TellsScript g script) held holds status

@@ -16,6 +16,5 @@ mod Follows
 mod Opening
 mod Recovering
 mod Beginning
-mod FilesMade
 mod Views
 pub mod Keeping

@@ -3,21 +3,24 @@ use Rattle.std.proofs.Common.{◌≡◌, ℕ, List, [], ◌++◌, append-nil, re
 use Rattle.std.specs.Prelude.{Result, Ok, Err}
 use Rattle.lc_record.specs.declared.geometry.Geometry.{Geometry}
 use Rattle.lc_recover.specs.declared.fault.RecoverFault.{RecoverFault}
-use Rattle.lc_recover.specs.declared.fault.RecoverFault.TheVariants.{DeviceFault, NoMemory}
+use Rattle.lc_recover.specs.declared.fault.RecoverFault.TheVariants.{BadGeometry, DeviceFault, NoMemory}
 use Rattle.lc_look.specs.Printed.{Stops}
 use Rattle.lc_look.specs.Recovers.{stop_status, stop_text}
-use Rattle.lc_tool.specs.Found.{misfit_text, size_text}
+use Rattle.lc_files.specs.Found.{misfit_text}
+use Rattle.lc_tool.specs.Files.{NotOpened}
+use Rattle.lc_tool.specs.Found.{size_text}
 use Rattle.lc_tool.specs.View.{HasNoSize, ShowsView, TakesSize, TellsView, front_text}
-use Rattle.lc_tool.specs.declared.misfit.Misfit.{Misfit}
+use Rattle.lc_files.specs.declared.misfit.Misfit.{Misfit}
 use Rattle.lc_tool.specs.declared.view.View.{View}
 use Rattle.lc_tool.specs.declared.view.View.TheVariants.{Check, Dump, Draw}
 
-its_fault : (text : List ℕ) (status : ℕ) → Stops text status → (fault : RecoverFault) × (text ≡ stop_text fault) × (status ≡ stop_status fault)
-its_fault text status (inl failed) = (DeviceFault, failed.0, failed.1)
-its_fault text status (inr none) = (NoMemory, none.0, none.1)
+its_fault : (text : List ℕ) (status : ℕ) → NotOpened text status → (fault : RecoverFault) × (text ≡ stop_text fault) × (status ≡ stop_status fault)
+its_fault text status (inl (inl failed)) = (DeviceFault, failed.0, failed.1)
+its_fault text status (inl (inr none)) = (NoMemory, none.0, none.1)
+its_fault text status (inr other) = (BadGeometry other.0, other.1, other.2)
 
 -- the areas could not be had
-pub shows_stop : (view : View) (g : Geometry) (text : List ℕ) (status : ℕ) → Stops text status → ShowsView view g text status
+pub shows_stop : (view : View) (g : Geometry) (text : List ℕ) (status : ℕ) → NotOpened text status → ShowsView view g text status
 shows_stop (Check size) g text status stops = ([], text, refl, inr (its_fault text status stops))
 shows_stop (Dump segment page) g text status stops = inr (inr (its_fault text status stops))
 shows_stop Draw g text status stops = inr (its_fault text status stops)

@@ -4,8 +4,9 @@ use Rattle.lc_record.specs.declared.geometry.Geometry.{Geometry}
 use Rattle.lc_look.specs.Checks.{EndsWithRecovery}
 use Rattle.lc_look.specs.Draws.{TellsDraw}
 use Rattle.lc_look.specs.Dumps.{TellsDump}
-use Rattle.lc_tool.specs.Found.{IsAsFound, IsTaken, TellsChecked, TellsDrawn, TellsDumped, misfit_text, size_text}
-use Rattle.lc_tool.specs.declared.misfit.Misfit.{Misfit}
+use Rattle.lc_files.specs.Found.{misfit_text}
+use Rattle.lc_tool.specs.Found.{IsAsFound, IsTaken, TellsChecked, TellsDrawn, TellsDumped, size_text}
+use Rattle.lc_files.specs.declared.misfit.Misfit.{Misfit}
 use Rattle.lc_tool.specs.declared.view.View.{View}
 use Rattle.lc_tool.specs.declared.view.View.TheVariants.{Check, Dump, Draw}
 

@@ -2,15 +2,16 @@
 ghost use Rattle.std.specs.Prelude.{◌≡◌, ◌≢◌, ◌↔◌, ◌⊎◌, IfOk, IsTrue};
 ghost use Rattle.std.specs.Io.KnownBytes.{Appends};
 ghost use Rattle.lc_record.specs.Words.{words_of};
-ghost use Rattle.lc_tool.specs.Files.{IsLogLen, TellsInspection};
+ghost use Rattle.lc_files.specs.Files.{IsLogLen};
+ghost use Rattle.lc_tool.specs.Files.{TellsInspection};
 ghost use Rattle.lc_text.specs.Inspector.{Inspects};
 ghost use Rattle.lc_text.specs.Text.{no_memory_text};
 
 use crate::ToolFault;
-use crate::folder::FolderFault;
 use crate::making::stopped;
 use crate::scripts::{bad_geometry, no_memory};
 use lc_disk::{HeldFile, open_regular};
+use lc_files::FolderFault;
 use lc_look::DONE;
 use lc_record::Geometry;
 use lc_text::inspect;

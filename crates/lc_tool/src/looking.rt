@@ -6,13 +6,10 @@ ghost use Rattle.lc_tool.specs.Found.{TellsChecked, TellsDrawn, TellsDumped, siz
 ghost use Rattle.lc_tool.specs.View.{HasNoSize, ShowsView, TakesSize, TellsView, front_text};
 
 use crate::ToolFault;
-use crate::making::stopped;
-use crate::misfit::{Misfit, write_misfit};
-use crate::open_store::Look;
-use crate::shared_file::SharedFile;
-use crate::store_folder::StoreFolder;
+use crate::making::{not_opened, stopped};
 use crate::view::View;
 use lc_disk::Area;
+use lc_files::{Look, Misfit, SharedFile, StoreFolder, write_misfit};
 use lc_look::{NOT_UNDERSTOOD, REFUSED, check_areas, draw_areas, dump_areas};
 use lc_record::Geometry;
 use lc_words::Size;
@@ -94,13 +91,14 @@ where
     ensures reads { result ≢ Err ToolFault.Read }
 {
     let folder = StoreFolder::new(alloc, rt, folder);
-    let ended = look_in(&folder, view, writer);
+    let ended = look_in(alloc, &folder, view, writer);
     folder.tell();
     ended
 }
 
 // The same, but for what is said on standard error.
 fn look_in<R: Files, W: Write>(
+    alloc: Global,
     folder: &StoreFolder<'_, R>,
     view: View,
     writer: &mut W,
@@ -114,10 +112,10 @@ where
     match folder.look() {
         Ok(look) => {
             let Look {
-                lens,
+                found,
                 guard: _guard,
             } = look;
-            show_store(folder, view, lens.geometry(), writer)
+            show_store(alloc, folder, view, found, writer)
         }
         Err(fault) => stopped(writer, fault),
     }
@@ -125,6 +123,7 @@ where
 
 // The view of a store whose files tell this size, or do not fit together so.
 fn show_store<R: Files, W: Write>(
+    alloc: Global,
     folder: &StoreFolder<'_, R>,
     view: View,
     found: Result<Geometry, Misfit>,
@@ -140,7 +139,7 @@ where
         return Err(ToolFault::Write);
     };
     match taken_of(view, &found) {
-        Ok(geometry) => show_files(folder, view, &geometry, writer),
+        Ok(geometry) => show_files(alloc, folder, view, &geometry, writer),
         Err(status) => Ok(status),
     }
 }
@@ -199,6 +198,7 @@ fn taken_of(view: View, found: &Result<Geometry, Misfit>) -> Result<Geometry, u8
 
 // The view of the files of a store of this size.
 fn show_files<R: Files, W: Write>(
+    alloc: Global,
     folder: &StoreFolder<'_, R>,
     view: View,
     geometry: &Geometry,
@@ -210,9 +210,9 @@ where
     ensures memory { result ≢ Err ToolFault.NoMemory }
     ensures reads { result ≢ Err ToolFault.Read }
 {
-    match folder.areas_of(geometry) {
-        Ok(mut areas) => show_areas(folder.alloc, view, geometry, areas.as_mut_slice(), writer),
-        Err(fault) => stopped(writer, fault),
+    match folder.areas_to_read(geometry) {
+        Ok(mut areas) => show_areas(alloc, view, geometry, areas.as_mut_slice(), writer),
+        Err(fault) => not_opened(writer, fault),
     }
 }
 

@@ -91,11 +91,32 @@ pub(crate) fn run_told<D: Stoppable + Drop, T: Teller, R: Read, W: Write>(
     if let Some(status) = open(alloc, &mut world, teller, writer)? {
         return Ok(status);
     }
-    run_recovered(alloc, manner, &mut world, reader, writer)
+    run_recovered(alloc, manner, teller, &mut world, reader, writer)
+}
+
+// Reads the script and runs it on a store that is recovered. What it leaves that is lost is told.
+fn run_recovered<D: Stoppable + Drop, T: Teller, R: Read, W: Write>(
+    alloc: Global,
+    manner: Manner,
+    teller: &T,
+    world: &mut World<D>,
+    reader: &mut R,
+    writer: &mut W,
+) -> Result<u8, ToolFault>
+    ensures runs { IfOk result (λ status. IfSome (R.remaining reader.old) (λ script.
+        RunsRecovered D.Area world.old (given_as manner script) (W.contents writer.old) (W.contents writer.new) status)) }
+    ensures tells { IfOk result (λ status. IfSome (R.remaining reader.old) (λ script.
+        ForSome (phase_geometry D.Area world.old.phase) (λ g. Adds (TellsRecovered g (given_as manner script)) (W.contents writer.old) (W.contents writer.new) status))) }
+    ensures memory { result ≢ Err ToolFault.NoMemory }
+{
+    let ended = run_read(alloc, manner, world, reader, writer);
+    let left = world.unfinished();
+    teller.left(left.commits, left.transactions);
+    ended
 }
 
 // Reads the script and runs it on a store that is recovered.
-fn run_recovered<D: Stoppable + Drop, R: Read, W: Write>(
+fn run_read<D: Stoppable + Drop, R: Read, W: Write>(
     alloc: Global,
     manner: Manner,
     world: &mut World<D>,

@@ -7,24 +7,22 @@ ghost use Rattle.lc_look.specs.Printed.{Adds};
 ghost use Rattle.lc_tool.specs.Tells.{TellsScript};
 
 use crate::ToolFault;
-use crate::directory::Directory;
-use crate::making::{init_in, stopped};
+use crate::making::{not_opened, told_of_making};
 use crate::manner::Manner;
-use crate::open_store::OpenStore;
 use crate::scripts::run_told;
-use crate::store_folder::StoreFolder;
 use crate::telling::{ErrorOutput, PageTeller};
-use lc_disk::HeldFile;
-use lc_look::{DONE, recover_told};
+use lc_files::{Cause, Directory, OpenStore, SharedFile, StoreFolder, Unmade, make_store};
+use lc_look::recover_told;
 use lc_record::Geometry;
 use std::alloc::Global;
 use std::io::{Read, Write};
 use std::rt::Files;
 
-/// Makes the files of a new store in a folder, zeros: `log0` and so on for the nodes, `seg1` and so on for the segments. It
-/// prints nothing, and the status is 0; where something stands under one of these names it makes none, prints `refused
-/// Exists`, and the status is 1. A folder that fails, or that another process has open, gives `device fault` and 3, and what was
-/// made stays: it says on standard error why, and which files stand. An `Err` is a fault of the writer.
+/// Makes the files of a new store in a folder: `lcrvm.store`, which says the size, and then, as zeros, `log0` and so on for the nodes and
+/// `seg1` and so on for the segments. It prints nothing, and the status is 0. Where something stands under a name that some store gives
+/// in its folder (these up to `log7` and `seg16`, with `.new` behind them too, and `fault`), it makes none, prints `refused Exists`, and
+/// the status is 1. A folder that fails, or that another process has open, gives `device fault` and 3, and what was made is taken away
+/// again. It says on standard error why, and which files are left that could not be taken away. An `Err` is a fault of the writer.
 pub fn init_store<R: Files + Eprint, W: Write>(
     alloc: Global,
     rt: &R,
@@ -33,19 +31,36 @@ pub fn init_store<R: Files + Eprint, W: Write>(
     writer: &mut W,
 ) -> Result<u8, ToolFault>
 where
-    R::File: HeldFile,
+    R::File: SharedFile,
     ensures tells { IfOk result (λ status. Adds TellsInit (W.contents writer.old) (W.contents writer.new) status) }
     ensures memory { result ≢ Err ToolFault.NoMemory }
     ensures reads { result ≢ Err ToolFault.Read }
 {
     let folder = StoreFolder::new(alloc, rt, folder);
     let mut directory = Directory::new(&folder);
-    let ended = init_in(&mut directory, &geometry, writer);
+    let made = make_store(&mut directory, &geometry);
     folder.tell();
-    if ended != Ok(DONE) {
-        directory.tell_left(&geometry);
+    if let Err(unmade) = &made {
+        tell_unmade(&folder, &directory, &geometry, unmade);
     }
-    ended
+    told_of_making(writer, made)
+}
+
+// Says on standard error which name is taken, and which files are left.
+fn tell_unmade<R: Files + Eprint>(
+    folder: &StoreFolder<'_, R>,
+    directory: &Directory<'_, R>,
+    geometry: &Geometry,
+    unmade: &Unmade,
+) where
+    R::File: SharedFile,
+{
+    if let Cause::Exists(name) = unmade.cause {
+        folder.tell_taken(name);
+    }
+    if unmade.is_left {
+        directory.tell_left(geometry);
+    }
 }
 
 /// Recovers the store in a folder, and prints the number of each segment and `recovered`: as `recover_areas` over the
@@ -60,7 +75,7 @@ pub fn recover_store<R: Files + Eprint, W: Write>(
     writer: &mut W,
 ) -> Result<u8, ToolFault>
 where
-    R::File: HeldFile,
+    R::File: SharedFile,
     ensures tells { IfOk result (λ status. Adds (TellsRecovery geometry) (W.contents writer.old) (W.contents writer.new) status) }
     ensures memory { result ≢ Err ToolFault.NoMemory }
     ensures reads { result ≢ Err ToolFault.Read }
@@ -75,7 +90,7 @@ where
             let teller = PageTeller::new(alloc, rt, errors, &geometry, areas.as_mut_slice());
             recover_told(alloc, geometry, areas, &teller, writer)
         }
-        Err(fault) => stopped(writer, fault),
+        Err(fault) => not_opened(writer, fault),
     };
     folder.tell();
     ended
@@ -95,18 +110,19 @@ pub fn run_store<R: Files + Eprint, I: Read, W: Write>(
     writer: &mut W,
 ) -> Result<u8, ToolFault>
 where
-    R::File: HeldFile,
+    R::File: SharedFile,
     ensures tells { IfOk result (λ status. IfSome (I.remaining reader.old) (λ script. Adds (TellsScript geometry (given_as manner script)) (W.contents writer.old) (W.contents writer.new) status)) }
     ensures memory { result ≢ Err ToolFault.NoMemory }
 {
     let folder = StoreFolder::new(alloc, rt, folder);
-    let ended = run_in(rt, errors, &folder, geometry, manner, reader, writer);
+    let ended = run_in(alloc, rt, errors, &folder, geometry, manner, reader, writer);
     folder.tell();
     ended
 }
 
 // The same, but for why something failed.
 fn run_in<R: Files + Eprint, I: Read, W: Write>(
+    alloc: Global,
     rt: &R,
     errors: ErrorOutput,
     folder: &StoreFolder<'_, R>,
@@ -116,7 +132,7 @@ fn run_in<R: Files + Eprint, I: Read, W: Write>(
     writer: &mut W,
 ) -> Result<u8, ToolFault>
 where
-    R::File: HeldFile,
+    R::File: SharedFile,
     ensures tells { IfOk result (λ status. IfSome (I.remaining reader.old) (λ script. Adds (TellsScript geometry (given_as manner script)) (W.contents writer.old) (W.contents writer.new) status)) }
     ensures memory { result ≢ Err ToolFault.NoMemory }
 {
@@ -126,9 +142,9 @@ where
                 mut areas,
                 guard: _guard,
             } = store;
-            let teller = PageTeller::new(folder.alloc, rt, errors, &geometry, areas.as_mut_slice());
+            let teller = PageTeller::new(alloc, rt, errors, &geometry, areas.as_mut_slice());
             run_told(
-                folder.alloc,
+                alloc,
                 geometry,
                 manner,
                 areas,
@@ -137,6 +153,6 @@ where
                 writer,
             )
         }
-        Err(fault) => stopped(writer, fault),
+        Err(fault) => not_opened(writer, fault),
     }
 }

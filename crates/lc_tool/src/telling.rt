@@ -1,4 +1,4 @@
-//! How far a long recovery is.
+//! How far a long recovery is, and what a run leaves.
 use lc_disk::Area;
 use lc_look::Teller;
 use lc_record::Geometry;
@@ -23,7 +23,8 @@ pub enum ErrorOutput {
     Other,
 }
 
-/// Shows on a terminal how many of the pages that a recovery writes are written, where they are more than a thousand.
+/// Shows on a terminal how many of the pages that a recovery writes are written, where they are more than a thousand; and says on standard
+/// error what a run leaves that is lost.
 #[derive(Drop)]
 pub(crate) struct PageTeller<'a, R> {
     rt: &'a R,
@@ -67,6 +68,12 @@ impl<R: Eprint> Teller for PageTeller<'_, R> {
     fn finished(&self) {
         if self.pages > 0 {
             let _ = self.rt.eprintln("");
+        }
+    }
+
+    fn left(&self, commits: u64, transactions: u64) {
+        if commits > 0 || transactions > 0 {
+            let _ = eprintln!(self.rt; "lcrvm: {commits} commits not flushed, {transactions} transactions open");
         }
     }
 }

@@ -3,4 +3,4 @@ use Rattle.lc_tool.proofs.Views.{shows_stop}
 use Rattle.lc_tool.proofs.looking.show_files.Goals as goal
 
 pub returns-in-Err-clause-tells : goal.returns-in-Err-clause-tells
-returns-in-Err-clause-tells g c = IfOk-weaker c.stopped.result _ _ (λ status told. (told.0, shows_stop c.args.view c.args.geometry.now told.0 status told.1, told.2)) c.stopped.ensures.shown
+returns-in-Err-clause-tells g c = IfOk-weaker c.not_opened.result _ _ (λ status told. (told.0, shows_stop c.args.view c.args.geometry.now told.0 status told.1, told.2)) c.not_opened.ensures.shown

@@ -1,0 +1,170 @@
+//! A folder of the system.
+ghost use Rattle.std.specs.Prelude.{◌≡◌};
+ghost use Rattle.lc_files.specs.declared.folder.FolderFault.TheVariants.{NoMemory};
+
+use crate::copying::{CopyFault, copy_file};
+use crate::file_fault::Place;
+use crate::file_name::FileName;
+use crate::folder::{Folder, FolderFault, MakeFault};
+use crate::new_file::NewFile;
+use crate::owned_file::OwnedFile;
+use crate::size_text::SizeText;
+use crate::store_folder::{StoreFolder, exclusive};
+use crate::store_name::StoreName;
+use lc_disk::{FileArea, HeldFile};
+use lc_record::Geometry;
+use std::alloc::AllocError;
+use std::fs::OpenFile;
+use std::io::{self, ErrorKind};
+use std::os::unix::fs::FileExt;
+use std::rt::Files;
+
+/// A folder of the system. Other processes may change what is in it, so contracts never see it as honest.
+pub struct Directory<'a, R: Files>
+where
+    R::File: OwnedFile,
+{
+    folder: &'a StoreFolder<'a, R>,
+    guard: Option<R::File>,
+}
+
+impl<R: Files> Drop for Directory<'_, R>
+where
+    R::File: OwnedFile,
+{
+    fn drop(self) {
+        let Directory {
+            folder: _folder,
+            guard: _guard,
+        } = self;
+    }
+}
+
+impl<'a, R: Files> Directory<'a, R>
+where
+    R::File: OwnedFile,
+{
+    /// This folder, which is not held yet.
+    pub fn new(folder: &'a StoreFolder<'a, R>) -> Directory<'a, R> {
+        Directory {
+            folder,
+            guard: None,
+        }
+    }
+
+    /// Says on standard error which files of a store of this size stand.
+    pub fn tell_left(&self, geometry: &Geometry)
+    where
+        R: Eprint,
+    {
+        for place in 0..geometry.nodes as usize + geometry.segments as usize + 1 {
+            if let Some(file) = NewFile::at(geometry, place) {
+                self.folder.tell_standing(file.name());
+            }
+        }
+    }
+
+    fn try_make(&self, file: NewFile) -> io::Result<()> {
+        let path = self.folder.path_of(file.name())?;
+        match file {
+            NewFile::Size(geometry) => self.make_size(&path, geometry),
+            NewFile::Area(area) => {
+                FileArea::try_make(self.folder.rt, &path, area.len)?;
+                Ok(())
+            }
+        }
+    }
+
+    // Makes the file that says the size.
+    fn make_size(&self, path: &str, geometry: Geometry) -> io::Result<()> {
+        let text = SizeText { geometry }.to_string(self.folder.alloc)?;
+        let file = exclusive()
+            .open(self.folder.rt, path)?
+            .beside_standard_streams()?;
+        file.write_all_at(text.as_bytes(), 0)?;
+        file.sync_all()
+    }
+
+    // Copies the file of this name beside it. Of a link that is beside where it leads to.
+    fn try_copy(&self, name: FileName) -> Result<(), FolderFault> {
+        let place = Place::Name(StoreName::File(name));
+        let beside = Place::Name(StoreName::Copy(name));
+        let (file, len) = self.folder.noted(place, self.folder.open_to_copy(name))?;
+        let made = self.folder.noted(beside, self.make_copy(name))?;
+        match copy_file(&file, &made, len) {
+            Ok(()) => Ok(()),
+            Err(CopyFault::Reading(error)) => Err(self.folder.fault_of(place, error)),
+            Err(CopyFault::Writing(error)) => Err(self.folder.fault_of(beside, error)),
+        }
+    }
+
+    // A new file for a copy.
+    fn make_copy(&self, name: FileName) -> io::Result<R::File> {
+        let path = self.folder.copy_path(name)?;
+        exclusive()
+            .open(self.folder.rt, &path)?
+            .beside_standard_streams()
+    }
+}
+
+impl<R: Files> Folder for Directory<'_, R>
+where
+    R::File: OwnedFile,
+{
+    ghost use Rattle.std.specs.Prelude.{None, false};
+
+    ghost files = { λ _ _. None };
+
+    ghost stable = { λ _ _. false };
+
+    ghost honest = { λ _. false };
+
+    fn is_taken(&mut self, name: StoreName) -> Result<bool, FolderFault> {
+        self.folder
+            .noted(Place::Name(name), self.folder.is_taken(name))
+    }
+
+    fn hold(&mut self) -> Result<(), FolderFault> {
+        self.guard = Some(self.folder.noted(Place::Folder, self.folder.lock())?);
+        Ok(())
+    }
+
+    fn make(&mut self, file: NewFile) -> Result<(), MakeFault> {
+        match self.try_make(file) {
+            Ok(()) => Ok(()),
+            Err(error) if error.kind() == ErrorKind::AlreadyExists => Err(MakeFault::Exists),
+            Err(error) => {
+                let place = Place::Name(file.name());
+                Err(MakeFault::Begun(self.folder.fault_of(place, error)))
+            }
+        }
+    }
+
+    fn remove(&mut self, name: StoreName) -> Result<(), FolderFault> {
+        self.folder
+            .noted(Place::Name(name), self.folder.remove(name))
+    }
+
+    fn copy(&mut self, name: FileName) -> Result<(), FolderFault> {
+        self.try_copy(name)
+    }
+
+    fn replace(&mut self, name: FileName) -> Result<(), FolderFault> {
+        self.folder.noted(
+            Place::Name(StoreName::Copy(name)),
+            self.folder.replace(name),
+        )
+    }
+
+    fn sync(&mut self) -> Result<(), FolderFault> {
+        self.folder.noted(Place::Folder, self.folder.sync())
+    }
+}
+
+impl From<AllocError> for FolderFault {
+    ghost from_gives = { λ _ fault. fault ≡ NoMemory };
+
+    fn from(_error: AllocError) -> FolderFault {
+        FolderFault::NoMemory
+    }
+}

@@ -1,0 +1,264 @@
+//! The opening of a store in a folder.
+use crate::directory::Directory;
+use crate::file_fault::Place;
+use crate::file_lens::{FileLens, LOGS, SEGMENTS};
+use crate::file_name::FileName;
+use crate::folder::FolderFault;
+use crate::misfit::Misfit;
+use crate::renewing::renew_store;
+use crate::shared_file::SharedFile;
+use crate::size_source::SizeSource;
+use crate::sizing::{SizeFault, Unopened, agrees, size_found};
+use crate::store_file::StoreFile;
+use crate::store_folder::{StoreFolder, locked, no_size};
+use crate::store_name::StoreName;
+use crate::watch::{FileWatch, StoreArea};
+use lc_disk::{Area, FileArea, HeldFile};
+use lc_record::{Geometry, MAX_NODE, MAX_SEGMENT};
+use std::alloc::AllocError;
+use std::fs::{OpenFile, OpenOptions};
+use std::io;
+use std::rt::Files;
+
+// What a file is opened for.
+#[derive(Clone, Copy, PartialEq, Eq)]
+enum Access {
+    // To be changed, by this opening alone.
+    Change,
+    // To be read, beside others that do so.
+    Read,
+}
+
+/// A store in a folder that is open: its areas, and what keeps other processes from it.
+pub struct OpenStore<'a, R: Files>
+where
+    R::File: HeldFile,
+{
+    /// The areas of its files, in the order of the store; where the folder has more files of a store, the first of those is one
+    /// area more. No other process has a file of these open until its area is dropped.
+    pub areas: Vec<StoreArea<'a, R>>,
+    /// The folder, locked until this is dropped.
+    pub guard: R::File,
+}
+
+/// A store in a folder that is looked at: its size, and what keeps those from it that would change it.
+pub struct Look<R: Files>
+where
+    R::File: HeldFile,
+{
+    /// The size, as `size_found`, or what of its files does not fit together.
+    pub found: Result<Geometry, Misfit>,
+    /// The folder, locked beside others that look at it, until this is dropped.
+    pub guard: R::File,
+}
+
+impl<'a, R: Files> StoreFolder<'a, R>
+where
+    R::File: SharedFile,
+{
+    /// Looks at the store in the folder: no other process changes it while the guard is kept.
+    ///
+    /// # Errors
+    ///
+    /// `Failed` where another process has the store open, or the system refused something; `fault` says what, and why.
+    pub fn look(&self) -> Result<Look<R>, FolderFault> {
+        let guard = self.noted(Place::Folder, self.lock_shared())?;
+        match size_found(self.alloc, self) {
+            Ok(geometry) => Ok(Look {
+                found: Ok(geometry),
+                guard,
+            }),
+            Err(SizeFault::Misfit(misfit)) => Ok(Look {
+                found: Err(misfit),
+                guard,
+            }),
+            Err(SizeFault::Folder(fault)) => Err(fault),
+        }
+    }
+
+    /// The areas of the files of a store of this size, opened to be read alone, beside others that do so, and as they are behind a
+    /// fault too. It takes no lock of the folder.
+    ///
+    /// # Errors
+    ///
+    /// As of `open`.
+    pub fn areas_to_read(&self, geometry: &Geometry) -> Result<Vec<StoreArea<'_, R>>, Unopened> {
+        let beyond = self.first_beyond(geometry)?;
+        let areas = self.open_areas(geometry, beyond, Access::Read)?;
+        if beyond.is_none() && have_lengths(geometry, &areas) {
+            agrees(self.alloc, self, geometry)?;
+        }
+        Ok(areas)
+    }
+
+    /// Opens the store of this size that is in the folder, for this process alone: no other opens the folder or one of the files, under
+    /// whatever name, while the guard and the areas are kept. The names in the folder are stable.
+    ///
+    /// A name of a store's file above those of the geometry (up to `log7` and `seg16`) that is taken is one area more than the
+    /// geometry has, so that a store is not run with fewer nodes or segments than it has. Where a fault has left its mark,
+    /// each file is copied and the copy put in its place, so that only what is on the device is read; where the areas are not
+    /// those of the geometry nothing is copied.
+    ///
+    /// # Errors
+    ///
+    /// `OtherSize` where all areas are those of the geometry, and the file of the size says another. `Failed` where another process has
+    /// the store open, or the system refused something; `fault` says what, and why.
+    pub fn open(&self, geometry: &Geometry) -> Result<OpenStore<'_, R>, Unopened> {
+        let guard = self.noted(Place::Folder, self.lock())?;
+        let areas = self.renewed_areas(geometry)?;
+        self.noted(Place::Folder, guard.sync_all())?;
+        Ok(OpenStore { areas, guard })
+    }
+
+    // The areas of the store's files. Where a fault has left its mark the files are copied before.
+    fn renewed_areas(&self, geometry: &Geometry) -> Result<Vec<StoreArea<'_, R>>, Unopened> {
+        let beyond = self.first_beyond(geometry)?;
+        let is_marked = self.stands(StoreName::Mark)?;
+        let areas = self.open_areas(geometry, beyond, Access::Change)?;
+        if beyond.is_some() || !have_lengths(geometry, &areas) {
+            return Ok(areas);
+        }
+        agrees(self.alloc, self, geometry)?;
+        if !is_marked {
+            return Ok(areas);
+        }
+        drop(areas);
+        renew_store(&mut Directory::new(self), geometry)?;
+        Ok(self.open_areas(geometry, None, Access::Change)?)
+    }
+
+    // The areas of a store's files, which are opened in the order of the areas, and behind them that of this name.
+    fn open_areas(
+        &self,
+        geometry: &Geometry,
+        beyond: Option<FileName>,
+        access: Access,
+    ) -> Result<Vec<StoreArea<'_, R>>, FolderFault> {
+        let mut areas = Vec::new(self.alloc);
+        for area in 0..geometry.nodes as usize + geometry.segments as usize {
+            if let Some(file) = StoreFile::of_area(geometry, area) {
+                self.add_area(&mut areas, file.name, access)?;
+            }
+        }
+        if let Some(name) = beyond {
+            self.add_area(&mut areas, name, access)?;
+        }
+        Ok(areas)
+    }
+
+    // Opens the file of this name as one area more.
+    fn add_area<'f>(
+        &'f self,
+        areas: &mut Vec<StoreArea<'f, R>>,
+        name: FileName,
+        access: Access,
+    ) -> Result<(), FolderFault> {
+        let place = Place::Name(StoreName::File(name));
+        let area = self.noted(place, self.open_area(name, access))?;
+        areas.push(area).map_err(AllocError::from)?;
+        Ok(())
+    }
+
+    // The area of the file of this name, whose lock is taken.
+    fn open_area(&self, name: FileName, access: Access) -> io::Result<StoreArea<'_, R>> {
+        let mark = self.path_of(StoreName::Mark)?;
+        let mut options = OpenOptions::new();
+        options.read(true).write(access == Access::Change);
+        let (file, len) = self.open_file(name, &options)?;
+        locked(match access {
+            Access::Change => file.try_lock(),
+            Access::Read => file.try_lock_shared(),
+        })?;
+        let area = FileArea::of_file(file, len)?;
+        Ok(area.witnessed_by(FileWatch::new(self, name, mark)))
+    }
+}
+
+impl<R: Files> SizeSource for StoreFolder<'_, R>
+where
+    R::File: HeldFile,
+{
+    ghost use Rattle.std.specs.Prelude.{None, [], false};
+
+    ghost stated = { λ _. None };
+
+    ghost logs = { λ _. [] };
+
+    ghost segments = { λ _. [] };
+
+    ghost honest = { λ _. false };
+
+    fn stated(&self) -> Result<Option<Vec<u8>>, FolderFault> {
+        self.noted(Place::Name(StoreName::Size), self.read_size())
+    }
+
+    fn file_lens(&self) -> Result<FileLens, FolderFault> {
+        let mut lens = FileLens {
+            logs: [None; LOGS],
+            segments: [None; SEGMENTS],
+        };
+        for node in 0..LOGS {
+            lens.logs[node] = self.noted_len(FileName::Log(node as u16))?;
+        }
+        for place in 0..SEGMENTS {
+            lens.segments[place] = self.noted_len(FileName::Segment(place as u32 + 1))?;
+        }
+        Ok(lens)
+    }
+
+    fn says_no_size(&self) -> FolderFault {
+        self.fault_of(Place::Name(StoreName::Size), no_size())
+    }
+
+    fn says_other_size(&self, stated: &Geometry) {
+        self.note_size(stated);
+        self.note_lacking(stated);
+    }
+
+    fn says_nothing(&self) {
+        self.note_unstated();
+    }
+}
+
+impl<R: Files> StoreFolder<'_, R>
+where
+    R::File: HeldFile,
+{
+    fn noted_len(&self, name: FileName) -> Result<Option<u64>, FolderFault> {
+        self.noted(Place::Name(StoreName::File(name)), self.len_of(name))
+    }
+
+    // The first name of a store's file above those of the geometry that is taken.
+    fn first_beyond(&self, geometry: &Geometry) -> Result<Option<FileName>, FolderFault> {
+        for node in geometry.nodes..MAX_NODE + 1 {
+            let name = FileName::Log(node);
+            if self.stands(StoreName::File(name))? {
+                return Ok(Some(name));
+            }
+        }
+        for segment in geometry.segments + 1..MAX_SEGMENT + 1 {
+            let name = FileName::Segment(segment);
+            if self.stands(StoreName::File(name))? {
+                return Ok(Some(name));
+            }
+        }
+        Ok(None)
+    }
+
+    // Whether something stands under this name.
+    fn stands(&self, name: StoreName) -> Result<bool, FolderFault> {
+        self.noted(Place::Name(name), self.is_taken(name))
+    }
+}
+
+// Whether these are as many areas as the geometry has, each as long as it says.
+fn have_lengths<A: Area>(geometry: &Geometry, areas: &[A]) -> bool {
+    for (place, area) in areas.iter().enumerate() {
+        let len = area.len();
+        match StoreFile::of_area(geometry, place) {
+            Some(file) if file.len == len => {}
+            _ => return false,
+        }
+    }
+    true
+}
