@@ -26,7 +26,7 @@ fail() {
 }
 
 size='--words 256'
-files='log0 seg1'
+files='lcrvm.store log0 seg1'
 printf 'begin 0 0 1\nrange 0 0 1 0 4\nwrite 0 0 1 0 a1a2a3a4\nend 0 0\nflush 0\n' > before.script
 {
     printf 'begin 0 0 1\nrange 0 0 1 8 4\nwrite 0 0 1 8 b1b2b3b4\nend 0 0\nflush 0\n'

@@ -44,7 +44,7 @@ failing() {
 }
 
 size='--nodes 2 --segments 2 --words 256'
-files='log0 log1 seg1 seg2 '
+files='lcrvm.store log0 log1 seg1 seg2 '
 store=$work/at/store
 
 # Commit K puts the number K in two bytes of both segments. One node's commits come first, and behind a page write and a

@@ -86,7 +86,7 @@ while [ $pair -le "$pairs" ]; do
     [ $((pair % 4)) -eq 0 ] || echo "$((first + 4)) $(grep -c '^acked' second.out)" >> wanted || true
 
     # All that was ever acknowledged in this store is there, and nothing of a process that did not run.
-    [ "$(ls store | tr '\n' ' ')" = 'log0 seg1 seg2 ' ] || fail "$name: other files are there"
+    [ "$(ls store | tr '\n' ' ')" = 'lcrvm.store log0 seg1 seg2 ' ] || fail "$name: other files are there"
     status=0
     lcrvm recover store $size > recovered 2> /dev/null || status=$?
     [ $status -eq 0 ] || fail "$name: the recovery has status $status: $(tail -n 1 recovered)"

@@ -85,9 +85,11 @@ where
     pub fn areas_to_read(&self, geometry: &Geometry) -> Result<Vec<StoreArea<'_, R>>, Unopened> {
         let beyond = self.first_beyond(geometry)?;
         let areas = self.open_areas(geometry, beyond, Access::Read)?;
-        if beyond.is_none() && have_lengths(geometry, &areas) {
-            agrees(self.alloc, self, geometry)?;
+        if beyond.is_some() || !have_lengths(geometry, &areas) {
+            self.note_misfit(geometry, beyond);
+            return Ok(areas);
         }
+        agrees(self.alloc, self, geometry)?;
         Ok(areas)
     }
 
@@ -116,6 +118,7 @@ where
         let is_marked = self.stands(StoreName::Mark)?;
         let areas = self.open_areas(geometry, beyond, Access::Change)?;
         if beyond.is_some() || !have_lengths(geometry, &areas) {
+            self.note_misfit(geometry, beyond);
             return Ok(areas);
         }
         agrees(self.alloc, self, geometry)?;
@@ -125,6 +128,17 @@ where
         drop(areas);
         renew_store(&mut Directory::new(self), geometry)?;
         Ok(self.open_areas(geometry, None, Access::Change)?)
+    }
+
+    // Notes why the areas are not those of a store of this size: it is another than the store's own file says, or a file does not fit.
+    fn note_misfit(&self, geometry: &Geometry, beyond: Option<FileName>) {
+        if agrees(self.alloc, self, geometry).is_err() {
+            return;
+        }
+        self.note_lacking(geometry);
+        if let Some(name) = beyond {
+            self.note_file(name, "is one file too many");
+        }
     }
 
     // The areas of a store's files, which are opened in the order of the areas, and behind them that of this name.

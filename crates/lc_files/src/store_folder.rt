@@ -123,7 +123,7 @@ impl<'a, R> StoreFolder<'a, R> {
         let folder = self.path;
         if let Some(FileFault { place, error }) = self.fault() {
             let _ = match place {
-                Place::Folder if folder.is_empty() => eprintln!(self.rt; "lcrvm: '': {error}"),
+                _ if folder.is_empty() => eprintln!(self.rt; "lcrvm: '': {error}"),
                 Place::Folder => eprintln!(self.rt; "lcrvm: {folder}: {error}"),
                 Place::Parent => eprintln!(self.rt; "lcrvm: {folder}/..: {error}"),
                 Place::Name(name) => eprintln!(self.rt; "lcrvm: {folder}/{name}: {error}"),
@@ -270,18 +270,21 @@ where
 
     // Where the copy of this file is made: beside it.
     pub(crate) fn copy_path(&self, name: FileName) -> io::Result<String> {
-        let path = self.file_path(name)?;
+        self.beside(&self.file_path(name)?)
+    }
+
+    fn beside(&self, path: &str) -> io::Result<String> {
         Ok(format!(in self.alloc; "{path}.new")?)
     }
 
-    // Puts the copy of a file in its place, and makes that stable where the file stands in another folder.
+    // Puts the copy of a file in its place. Of a link the folder that it leads to is synced: it may be another one.
     pub(crate) fn replace(&self, name: FileName) -> io::Result<()> {
+        let named = self.path_of(StoreName::File(name))?;
         let path = self.file_path(name)?;
-        let copy = self.copy_path(name)?;
-        fs::rename(self.rt, &copy, &path)?;
+        fs::rename(self.rt, &self.beside(&path)?, &path)?;
         match Path::new(&path).parent() {
-            Some(folder) => self.opened_at(folder)?.sync_all(),
-            None => Ok(()),
+            Some(folder) if path != named => self.opened_at(folder)?.sync_all(),
+            _ => Ok(()),
         }
     }
 
@@ -342,7 +345,7 @@ where
         }
     }
 
-    fn note_file(&self, name: FileName, why: &'static str) {
+    pub(crate) fn note_file(&self, name: FileName, why: &'static str) {
         let place = Place::Name(StoreName::File(name));
         self.note(place, Error::new(ErrorKind::InvalidData, why));
     }

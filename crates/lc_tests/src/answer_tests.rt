@@ -2,8 +2,8 @@
 use crate::listed_files::{Listed, Shelf, Trouble};
 use crate::steps::{
     Ask, COMMIT, COMMITS, COMMITTED, COPYING, EMPTYING, FIRST_OF_1, FLUSHING, FLUSHING_FIVE,
-    INSPECTING, LOCKED, ONE, OPENING, READING, RECOVERING, STEP, Size, Step, check, check_all,
-    check_calls,
+    INSPECTING, LOCKED, LOOKING_AT_ALL, MAKING_LOG, MAKING_SIZE, ONE, OPENING_FILES, READING,
+    READING_SIZE, RECOVERING, STEP, SYNCING, Size, Step, check, check_all, check_calls,
 };
 use lc_disk::{Area, FileArea};
 use std::alloc::Global;
@@ -26,7 +26,7 @@ static USED: [Step; 6] = [
         ask: Ask::Run(ONE),
         script: COMMIT,
         printed: COMMITTED,
-        calls: Some(&[OPENING, RECOVERING, FLUSHING]),
+        calls: Some(&[OPENING_FILES, READING_SIZE, SYNCING, RECOVERING, FLUSHING]),
         ..STEP
     },
     Step {
@@ -38,7 +38,14 @@ static USED: [Step; 6] = [
     Step {
         ask: Ask::Recover(ONE),
         printed: "segment 1 sequence 1\nrecovered\n",
-        calls: Some(&[OPENING, READING, FIRST_OF_1, EMPTYING]),
+        calls: Some(&[
+            OPENING_FILES,
+            READING_SIZE,
+            SYNCING,
+            READING,
+            FIRST_OF_1,
+            EMPTYING,
+        ]),
         ..STEP
     },
     Step {
@@ -51,7 +58,7 @@ static USED: [Step; 6] = [
         script: "begin 0 0 1\nread 0 0 1 3 5\nread 0 0 2 3 5\nabort 1 0\n",
         printed: "ok\nbytes 68656c6c6f\nrefused Unknown\nrefused Unknown\n",
         status: 1,
-        calls: Some(&[OPENING, RECOVERING]),
+        calls: Some(&[OPENING_FILES, READING_SIZE, SYNCING, RECOVERING]),
         ..STEP
     },
 ];
@@ -68,7 +75,13 @@ static INSPECTED: [Step; 4] = [
         script: COMMITS,
         printed: "ok\nok\nclosed 0 8\nok\nok\nclosed 8 8\nok\nok\nclosed 16 8\n\
 ok\nok\nclosed 24 8\nok\nok\nclosed 32 8\nacked 5\n",
-        calls: Some(&[OPENING, RECOVERING, FLUSHING_FIVE]),
+        calls: Some(&[
+            OPENING_FILES,
+            READING_SIZE,
+            SYNCING,
+            RECOVERING,
+            FLUSHING_FIVE,
+        ]),
         ..STEP
     },
     Step {
@@ -165,7 +178,9 @@ static MISFITS: [Misfit; 5] = [
         printed: "refused BadGeometry 2\n",
         calls: &[
             LOCKED,
-            "look store/log1\nlook store/fault\nopen store/log0\nopen store/seg1\nopen store/log1\n",
+            "look store/log1\nlook store/fault\nopen store/log0\nlock store/log0\nopen store/seg1\nlock store/seg1\nopen store/log1\nlock store/log1\n",
+            READING_SIZE,
+            SYNCING,
         ],
     },
     Misfit {
@@ -175,7 +190,9 @@ static MISFITS: [Misfit; 5] = [
             LOCKED,
             LOOKS_FROM_LOG_2,
             "look store/seg2\nlook store/fault\n",
-            "open store/log0\nopen store/log1\nopen store/seg1\nopen store/seg2\n",
+            "open store/log0\nlock store/log0\nopen store/log1\nlock store/log1\nopen store/seg1\nlock store/seg1\nopen store/seg2\nlock store/seg2\n",
+            READING_SIZE,
+            SYNCING,
         ],
     },
     Misfit {
@@ -184,7 +201,9 @@ static MISFITS: [Misfit; 5] = [
         calls: &[
             LOCKED,
             "look store/log1\nlook store/fault\n",
-            "open store/log0\nopen store/seg1\nopen store/seg2\nopen store/log1\n",
+            "open store/log0\nlock store/log0\nopen store/seg1\nlock store/seg1\nopen store/seg2\nlock store/seg2\nopen store/log1\nlock store/log1\n",
+            READING_SIZE,
+            SYNCING,
         ],
     },
     Misfit {
@@ -192,7 +211,9 @@ static MISFITS: [Misfit; 5] = [
         printed: "refused BadGeometry 0\n",
         calls: &[
             LOCKED,
-            "look store/log1\nlook store/fault\nopen store/log0\nopen store/seg1\nopen store/log1\n",
+            "look store/log1\nlook store/fault\nopen store/log0\nlock store/log0\nopen store/seg1\nlock store/seg1\nopen store/log1\nlock store/log1\n",
+            READING_SIZE,
+            SYNCING,
         ],
     },
     Misfit {
@@ -203,7 +224,9 @@ static MISFITS: [Misfit; 5] = [
             LOOKS_FROM_LOG_2,
             LOOKS_FROM_SEGMENT_3,
             "look store/fault\n",
-            "open store/log0\nopen store/log1\nopen store/seg1\nopen store/seg2\n",
+            "open store/log0\nlock store/log0\nopen store/log1\nlock store/log1\nopen store/seg1\nlock store/seg1\nopen store/seg2\nlock store/seg2\n",
+            READING_SIZE,
+            SYNCING,
         ],
     },
 ];
@@ -221,6 +244,7 @@ fn check_misfit(
         printed: misfit.printed,
         status: 1,
         calls: Some(misfit.calls),
+        said: "lcrvm: store/lcrvm.store: nodes 2 segments 2 pages 1 words 64\n",
         ..STEP
     };
     check(rt, alloc, shelf, &run)?;
@@ -252,7 +276,7 @@ const IN_USE: Step = Step {
 
 static NOT_SHARED: [Step; 5] = [
     Step {
-        calls: Some(&["look store/log0\nlook store/seg1\n", LOCKED]),
+        calls: Some(&[LOOKING_AT_ALL, LOCKED]),
         ..IN_USE
     },
     Step {
@@ -269,7 +293,8 @@ static NOT_SHARED: [Step; 5] = [
         trouble: Trouble::InUse,
         printed: "refused Exists\n",
         status: 1,
-        calls: Some(&["look store/log0\n"]),
+        calls: Some(&["look store/lcrvm.store\n"]),
+        said: "lcrvm: store/lcrvm.store: is there already\n",
         ..STEP
     },
 ];
@@ -279,15 +304,17 @@ fn a_store_in_use_is_not_opened(rt: HostRuntime) -> Result<(), Fail> {
     check_all(&rt, rt.alloc(), &Shelf::new(rt.alloc()), &NOT_SHARED)
 }
 
-// Behind the two syncs of the recovery: that of the group.
+// Behind the sync of the folder and the two of the recovery: that of the group.
 const SYNC_FAILS: Step = Step {
     ask: Ask::Run(ONE),
     script: COMMIT,
-    trouble: Trouble::Sync(3),
+    trouble: Trouble::Sync(4),
     printed: "ok\nok\nok\nclosed 0 8\ndevice fault\n",
     status: 3,
     calls: Some(&[
-        OPENING,
+        OPENING_FILES,
+        READING_SIZE,
+        SYNCING,
         RECOVERING,
         "write store/log0 1 71\nsync store/log0\nmake store/fault\n",
     ]),
@@ -298,7 +325,9 @@ const SYNC_FAILS: Step = Step {
 const WRITE_FAILS: Step = Step {
     trouble: Trouble::Write(1),
     calls: Some(&[
-        OPENING,
+        OPENING_FILES,
+        READING_SIZE,
+        SYNCING,
         RECOVERING,
         "write store/log0 1 71\nmake store/fault\n",
     ]),
@@ -311,14 +340,14 @@ static COPIED: [Step; 2] = [
     Step {
         ask: Ask::Recover(ONE),
         printed: "segment 1 sequence 0\nrecovered\n",
-        calls: Some(&[OPENING, COPYING, RECOVERING]),
+        calls: Some(&[OPENING_FILES, READING_SIZE, COPYING, SYNCING, RECOVERING]),
         ..STEP
     },
     Step {
         ask: Ask::Run(ONE),
         script: COMMIT,
         printed: COMMITTED,
-        calls: Some(&[OPENING, RECOVERING, FLUSHING]),
+        calls: Some(&[OPENING_FILES, READING_SIZE, SYNCING, RECOVERING, FLUSHING]),
         ..STEP
     },
 ];
@@ -340,25 +369,25 @@ fn a_failed_write_has_the_files_copied(rt: HostRuntime) -> Result<(), Fail> {
     check_failing(&rt, rt.alloc(), WRITE_FAILS)
 }
 
+// The sync of the log fails, and what was made is taken away.
 const NOT_MADE: Step = Step {
     trouble: Trouble::Sync(2),
     printed: "device fault\n",
     status: 3,
     calls: Some(&[
-        "look store/log0\nlook store/seg1\n",
+        LOOKING_AT_ALL,
         LOCKED,
-        "make store/log0\nwrite store/log0 0 520\nsync store/log0\n",
-        "make store/seg1\nwrite store/seg1 0 544\nsync store/seg1\n",
-        "look store/log0\nlook store/seg1\n",
+        MAKING_SIZE,
+        MAKING_LOG,
+        "look store/log0\nremove store/log0\nlook store/lcrvm.store\nremove store/lcrvm.store\n",
     ]),
-    said: "lcrvm: store/seg1: the sync failed\n\
-lcrvm: store/log0: left in place\nlcrvm: store/seg1: left in place\n",
+    said: "lcrvm: store/log0: the sync failed\n",
     ..STEP
 };
 
 // The sync of the parent changes nothing else.
 const PARENT_NOT_SYNCED: Step = Step {
-    trouble: Trouble::Sync(4),
+    trouble: Trouble::Sync(5),
     said: "lcrvm: store/..: the sync failed\n",
     ..STEP
 };
@@ -367,13 +396,13 @@ const NOT_LOOKED_AT: Step = Step {
     trouble: Trouble::Looks,
     printed: "device fault\n",
     status: 3,
-    calls: Some(&["look store/log0\n"]),
-    said: "lcrvm: store/log0: the look failed\n",
+    calls: Some(&["look store/lcrvm.store\n"]),
+    said: "lcrvm: store/lcrvm.store: the look failed\n",
     ..STEP
 };
 
 #[test]
-fn an_init_that_fails_tells_what_it_leaves(rt: HostRuntime) -> Result<(), Fail> {
+fn an_init_that_fails_takes_away_what_it_made(rt: HostRuntime) -> Result<(), Fail> {
     let alloc = rt.alloc();
     for step in &[NOT_MADE, PARENT_NOT_SYNCED] {
         check(&rt, alloc, &Shelf::new(alloc), step)?;
@@ -413,7 +442,10 @@ range 0 0 1 0 1\nend 0 0\nflush 0\n",
             "look store/log1\n",
             LOOKS_FROM_LOG_2,
             LOOKS_FROM_SEGMENT_3,
-            "look store/fault\nopen store/log0\nopen store/seg1\nopen store/seg2\n",
+            "look store/fault\n",
+            "open store/log0\nlock store/log0\nopen store/seg1\nlock store/seg1\nopen store/seg2\nlock store/seg2\n",
+            READING_SIZE,
+            SYNCING,
             "sync store/log0\nsync store/seg1\nsync store/seg2\n",
             "read store/log0\nread store/seg1\nread store/seg2\n",
             FIRST_OF_1,

@@ -2,7 +2,7 @@
 ghost use Rattle.std.specs.Prelude.{IsErr};
 
 use lc_disk::HeldFile;
-use lc_tool::SharedFile;
+use lc_files::{OwnedFile, SharedFile};
 use std::alloc::{Allocator, Global};
 use std::cell::{Cell, RefCell};
 use std::fmt::Display;
@@ -359,6 +359,12 @@ impl HeldFile for ListedFile<'_> {
             (Ok(()), _) => Ok(()),
             (Err(error), _) => Err(TryLockError::Error(error)),
         }
+    }
+}
+
+impl OwnedFile for ListedFile<'_> {
+    fn give_to(&self, _user: u32, _group: u32) -> io::Result<()> {
+        unsupported()
     }
 }
 

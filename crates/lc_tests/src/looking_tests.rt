@@ -1,17 +1,20 @@
 //! What a look at a store prints and calls, over a folder of files that list their calls.
 use crate::listed_files::{Shelf, Trouble};
 use crate::steps::{
-    Ask, COMMIT, COMMITTED, EMPTYING, FIRST_OF_1, FLUSHING, ONE, OPENING, READING, RECOVERING,
-    STEP, Size, Step, check, check_all, told,
+    Ask, COMMIT, COMMITTED, EMPTYING, FIRST_OF_1, FLUSHING, ONE, OPENING_FILES, READING,
+    READING_SIZE, RECOVERING, STEP, SYNCING, Size, Step, check, check_all, told,
 };
 use std::test::*;
 
-// The look at it, beside others.
-const LOOKING: &str = "open store\nshare store\nlook store/log1\nlook store/log2\nlook store/log3\n\
-look store/log4\nlook store/log5\nlook store/log6\nlook store/log7\nlook store/seg2\nlook store/seg3\n\
-look store/seg4\nlook store/seg5\nlook store/seg6\nlook store/seg7\nlook store/seg8\nlook store/seg9\n\
-look store/seg10\nlook store/seg11\nlook store/seg12\nlook store/seg13\nlook store/seg14\n\
-look store/seg15\nlook store/seg16\nopen store/log0\nopen store/seg1\n";
+// The look at it, beside others: the size that its file says, and then its files.
+const LOOKING: &str = "open store\nshare store\n\
+look store/lcrvm.store\nopen store/lcrvm.store\nread store/lcrvm.store\n\
+look store/log1\nlook store/log2\nlook store/log3\nlook store/log4\nlook store/log5\nlook store/log6\n\
+look store/log7\nlook store/seg2\nlook store/seg3\nlook store/seg4\nlook store/seg5\nlook store/seg6\n\
+look store/seg7\nlook store/seg8\nlook store/seg9\nlook store/seg10\nlook store/seg11\nlook store/seg12\n\
+look store/seg13\nlook store/seg14\nlook store/seg15\nlook store/seg16\n\
+open store/log0\nshare store/log0\nopen store/seg1\nshare store/seg1\n\
+look store/lcrvm.store\nopen store/lcrvm.store\nread store/lcrvm.store\n";
 
 // What is read of each area.
 const READS: &str = "read store/log0\nread store/seg1\n";
@@ -45,7 +48,7 @@ static LOOKED_AT: [Step; 9] = [
         ask: Ask::Run(ONE),
         script: COMMIT,
         printed: COMMITTED,
-        calls: Some(&[OPENING, RECOVERING, FLUSHING]),
+        calls: Some(&[OPENING_FILES, READING_SIZE, SYNCING, RECOVERING, FLUSHING]),
         ..STEP
     },
     Step {
@@ -59,6 +62,7 @@ static LOOKED_AT: [Step; 9] = [
         printed: "nodes 1 segments 1 pages 1 words 64\nrefused BadGeometry 1\n",
         status: 1,
         calls: Some(&[LOOKING]),
+        said: "lcrvm: store/lcrvm.store: nodes 1 segments 1 pages 1 words 64\n",
         ..STEP
     },
     Step {
@@ -92,7 +96,15 @@ static LOOKED_AT: [Step; 9] = [
     Step {
         ask: Ask::RecoverAsFound,
         printed: "segment 1 sequence 1\nrecovered\n",
-        calls: Some(&[OPENING, READING, FIRST_OF_1, EMPTYING]),
+        calls: Some(&[
+            READING_SIZE,
+            OPENING_FILES,
+            READING_SIZE,
+            SYNCING,
+            READING,
+            FIRST_OF_1,
+            EMPTYING,
+        ]),
         ..STEP
     },
     Step {

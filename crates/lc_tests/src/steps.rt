@@ -61,7 +61,14 @@ pub(crate) const STEP: Step = Step {
     trouble: Trouble::Nothing,
     printed: "",
     status: 0,
-    calls: Some(&[MAKING]),
+    calls: Some(&[
+        LOOKING_AT_ALL,
+        LOCKED,
+        MAKING_SIZE,
+        MAKING_LOG,
+        MAKING_SEGMENT,
+        SYNCING_NAMES,
+    ]),
     said: "",
 };
 
@@ -78,18 +85,46 @@ pub(crate) const COMMITS: &str =
 begin 0 0 1\nrange 0 0 1 0 1\nend 0 0\nbegin 0 0 1\nrange 0 0 1 0 1\nend 0 0\n\
 begin 0 0 1\nrange 0 0 1 0 1\nend 0 0\nflush 0\n";
 
-// The making of a store of one node and one segment.
-pub(crate) const MAKING: &str = "look store/log0\nlook store/seg1\nopen store\nlock store\n\
-make store/log0\nwrite store/log0 0 520\nsync store/log0\nmake store/seg1\nwrite store/seg1 0 544\nsync store/seg1\n\
-open store\nsync store\nopen store/..\nsync store/..\n";
+// The looking at all names that some store gives in its folder.
+pub(crate) const LOOKING_AT_ALL: &str =
+    "look store/lcrvm.store\nlook store/fault\nlook store/log0\nlook store/log1\nlook store/log2\nlook store/log3\n\
+look store/log4\nlook store/log5\nlook store/log6\nlook store/log7\nlook store/seg1\nlook store/seg2\n\
+look store/seg3\nlook store/seg4\nlook store/seg5\nlook store/seg6\nlook store/seg7\nlook store/seg8\n\
+look store/seg9\nlook store/seg10\nlook store/seg11\nlook store/seg12\nlook store/seg13\nlook store/seg14\n\
+look store/seg15\nlook store/seg16\nlook store/log0.new\nlook store/log1.new\nlook store/log2.new\n\
+look store/log3.new\nlook store/log4.new\nlook store/log5.new\nlook store/log6.new\nlook store/log7.new\n\
+look store/seg1.new\nlook store/seg2.new\nlook store/seg3.new\nlook store/seg4.new\nlook store/seg5.new\n\
+look store/seg6.new\nlook store/seg7.new\nlook store/seg8.new\nlook store/seg9.new\nlook store/seg10.new\n\
+look store/seg11.new\nlook store/seg12.new\nlook store/seg13.new\nlook store/seg14.new\nlook store/seg15.new\n\
+look store/seg16.new\n";
 
-// The opening of it.
-pub(crate) const OPENING: &str =
-    "open store\nlock store\nlook store/log1\nlook store/log2\nlook store/log3\n\
-look store/log4\nlook store/log5\nlook store/log6\nlook store/log7\nlook store/seg2\nlook store/seg3\n\
-look store/seg4\nlook store/seg5\nlook store/seg6\nlook store/seg7\nlook store/seg8\nlook store/seg9\n\
-look store/seg10\nlook store/seg11\nlook store/seg12\nlook store/seg13\nlook store/seg14\n\
-look store/seg15\nlook store/seg16\nlook store/fault\nopen store/log0\nopen store/seg1\n";
+// The making of the file that says the size, in so many bytes: that of a store of one node and one segment has 45.
+pub(crate) const MAKING_SIZE: &str =
+    "make store/lcrvm.store\nwrite store/lcrvm.store 0 45\nsync store/lcrvm.store\n";
+
+pub(crate) const MAKING_LOG: &str = "make store/log0\nwrite store/log0 0 520\nsync store/log0\n";
+
+pub(crate) const MAKING_SEGMENT: &str =
+    "make store/seg1\nwrite store/seg1 0 544\nsync store/seg1\n";
+
+// The syncs of the folder, and of the one that it stands in.
+pub(crate) const SYNCING_NAMES: &str = "open store\nsync store\nopen store/..\nsync store/..\n";
+
+// The opening of it, as far as its files.
+pub(crate) const OPENING_FILES: &str = "open store\nlock store\n\
+look store/log1\nlook store/log2\nlook store/log3\nlook store/log4\nlook store/log5\nlook store/log6\n\
+look store/log7\nlook store/seg2\nlook store/seg3\nlook store/seg4\nlook store/seg5\nlook store/seg6\n\
+look store/seg7\nlook store/seg8\nlook store/seg9\nlook store/seg10\nlook store/seg11\nlook store/seg12\n\
+look store/seg13\nlook store/seg14\nlook store/seg15\nlook store/seg16\n\
+look store/fault\n\
+open store/log0\nlock store/log0\nopen store/seg1\nlock store/seg1\n";
+
+// The reading of the file that says the size.
+pub(crate) const READING_SIZE: &str =
+    "look store/lcrvm.store\nopen store/lcrvm.store\nread store/lcrvm.store\n";
+
+// The names in the folder are stable before the first reply.
+pub(crate) const SYNCING: &str = "sync store\n";
 
 // The opening of it where it is locked by another process.
 pub(crate) const LOCKED: &str = "open store\nlock store\n";
@@ -121,11 +156,12 @@ pub(crate) const INSPECTING: &str = "open store/log0\nread store/log0\n";
 
 // The copying of its files behind a fault.
 pub(crate) const COPYING: &str =
-    "look store/log0\nopen store/log0\nmake store/log0.new\nmode store/log0.new\n\
-read store/log0\nwrite store/log0.new 0 520\nsync store/log0.new\nrename store/log0.new\n\
-look store/seg1\nopen store/seg1\nmake store/seg1.new\nmode store/seg1.new\n\
-read store/seg1\nwrite store/seg1.new 0 544\nsync store/seg1.new\nrename store/seg1.new\n\
-sync store\nremove store/fault\nopen store/log0\nopen store/seg1\n";
+    "look store/log0\nlook store/log0.new\nopen store/log0\nlock store/log0\nlook store/log0\nmake store/log0.new\n\
+mode store/log0.new\nread store/log0\nwrite store/log0.new 0 520\nsync store/log0.new\nlook store/log0\nrename store/log0.new\n\
+look store/seg1\nlook store/seg1.new\nopen store/seg1\nlock store/seg1\nlook store/seg1\nmake store/seg1.new\n\
+mode store/seg1.new\nread store/seg1\nwrite store/seg1.new 0 544\nsync store/seg1.new\nlook store/seg1\nrename store/seg1.new\n\
+open store\nsync store\nopen store/..\nsync store/..\nlook store/fault\nremove store/fault\n\
+open store/log0\nlock store/log0\nopen store/seg1\nlock store/seg1\n";
 
 // A size of which no number is given.
 pub(crate) const ALL_FOUND: Wanted = Wanted {

@@ -2,10 +2,10 @@
 use crate::folders::{made, new_folder};
 use crate::seats::put;
 use crate::stores::two_segments;
+use lc_files::{FileName, FolderFault, Misfit, StoreFolder};
 use lc_node::{Commit, Mode, Put};
 use lc_record::Geometry;
 use lc_store::{OpenFault, Serving, Store};
-use lc_tool::{FileName, FolderFault, Misfit, StoreFolder};
 use std::fs;
 use std::test::*;
 

@@ -6,9 +6,9 @@ mod clients;
 mod request;
 
 use clients::serve;
+use lc_files::StoreFolder;
 use lc_record::Geometry;
 use lc_store::Serving;
-use lc_tool::StoreFolder;
 use request::request_of;
 use std::env;
 use std::io::{self, Read};
