@@ -4,12 +4,16 @@
    Each event of the store makes at most one call on one of its areas in memory: a write, or a sync. The same call is made on
    the area's file, by pwrite or fdatasync, before the event is answered; but a sync makes none where all that was written to
    the file is stable. Where a call fails the store is given up: this call and each later one answer LCRVM_DEVICE_FAULT, a file
-   `fault` is left in the folder, and a recovery has what was acknowledged. */
+   `fault` is left in the folder, and a recovery has what was acknowledged.
+
+   The size of a store stands in a file of its own, which is made before the others. So a store whose creation was cut,
+   or that has lost a file, is not opened. */
 
 /* flock is no POSIX function. */
 #define _DEFAULT_SOURCE
 
 #include "lcrvm.h"
+#include "stated_size.h"
 #include "statuses.h"
 #include "transactions.h"
 
@@ -30,7 +34,8 @@ enum {
     LEAST_DESCRIPTOR = 3
 };
 
-static const char log_kind[] = "log", segment_kind[] = "seg", mark[] = "fault";
+static const char log_kind[] = "log", segment_kind[] = "seg", mark[] = "fault", in_use[] = "store in use";
+static const struct lcrvm_geometry greatest = {MOST_NODES, MOST_THREADS, MOST_SEGMENTS, MOST_PAGES, MOST_WORDS};
 
 /* What crosses to the library, as lc_c declares it. */
 
@@ -105,7 +110,8 @@ void lcrvm_session_free(struct handle handle);
 struct lcrvm_store {
     struct handle session;
     struct known known;
-    pid_t process; /* whose store it is: a child of its fork leaves it the lock */
+    struct lcrvm_geometry stated; /* by the folder; of no nodes where it states none */
+    pid_t process;                /* whose store it is: a child of its fork leaves it the locks */
     int folder, files[MOST_AREAS];
     uint32_t areas;
     uint64_t calls[MOST_AREAS];                /* of each area, those that its file has had */
@@ -126,6 +132,36 @@ static enum lcrvm_status system_failed(struct lcrvm_fault *fault)
     return fill_fault(fault, LCRVM_DEVICE_FAULT, strerror(errno));
 }
 
+/* The same of a file, whose name stands in front of the reason. */
+static enum lcrvm_status fault_of_file(struct lcrvm_fault *fault, enum lcrvm_status status, const char *name,
+                                       const char *reason)
+{
+    fill_fault(fault, status, "");
+    snprintf(fault->text, sizeof fault->text, "%s: %s", name, reason);
+    return status;
+}
+
+static enum lcrvm_status file_failed(struct lcrvm_fault *fault, const char *name)
+{
+    return fault_of_file(fault, LCRVM_DEVICE_FAULT, name, strerror(errno));
+}
+
+/* Says one thing more of a file, on a line of its own. For all lines that find no room there is one of two dots. */
+static void add_line(struct lcrvm_fault *fault, const char *name, const char *what)
+{
+    static const char dots[] = "\n..";
+    size_t used = strlen(fault->text), room = sizeof fault->text - used;
+    char line[sizeof fault->text];
+    int length = snprintf(line, sizeof line, "\n%s: %s", name, what);
+
+    if (used >= sizeof dots && strcmp(fault->text + used + 1 - sizeof dots, dots) == 0)
+        return;
+    if ((size_t)length + sizeof dots <= room)
+        strcpy(fault->text + used, line);
+    else if (sizeof dots <= room)
+        strcpy(fault->text + used, dots);
+}
+
 static enum lcrvm_status refused(struct lcrvm_store *store, const struct answer *answer)
 {
     if (answer->status == LCRVM_OK)
@@ -142,16 +178,6 @@ static enum lcrvm_status refused(struct lcrvm_store *store, const struct answer 
         .need = answer->need,
     };
     return store->known.last.status;
-}
-
-/* A file has failed: the store is given up, and a mark is left for whoever opens it next. That takes no descriptor, of
-   which the caller may have none left. */
-static enum lcrvm_status given_up(struct lcrvm_store *store, const char *reason)
-{
-    mknodat(store->folder, mark, S_IFREG | 0666, 0);
-    lcrvm_session_give_up(&store->session);
-    store->known.dead = true;
-    return failed(store, LCRVM_DEVICE_FAULT, reason);
 }
 
 static bool write_whole(int file, const uint8_t *bytes, size_t len, uint64_t at)
@@ -235,24 +261,6 @@ static bool mirror_call(struct lcrvm_store *store, uint32_t place, const struct 
     }
 }
 
-/* Behind an event: what was called of an area is called of its file, and only then the answer is given. */
-static enum lcrvm_status mirrored(struct lcrvm_store *store, const struct answer *answer)
-{
-    if (store->known.dead)
-        return store->known.last.status;
-    for (uint32_t place = 0; place < store->areas; place++) {
-        struct last_call call = {0};
-
-        if (!lcrvm_session_last_call(&store->session, place, &call) || call.calls == store->calls[place])
-            continue;
-        errno = EIO;
-        if (call.calls - store->calls[place] != 1 || !mirror_call(store, place, &call))
-            return given_up(store, strerror(errno));
-        store->calls[place] = call.calls;
-    }
-    return refused(store, answer);
-}
-
 /* The files of a store. */
 
 static void write_name(const char *kind, uint32_t number, char name[NAME_BYTES])
@@ -268,6 +276,11 @@ static void name_of(const struct lcrvm_geometry *geometry, uint32_t place, char 
         write_name(segment_kind, place - geometry->nodes + 1, name);
 }
 
+static uint32_t areas_of(const struct lcrvm_geometry *geometry)
+{
+    return geometry->nodes + geometry->segments;
+}
+
 static size_t len_of(const struct lcrvm_geometry *geometry, uint32_t place)
 {
     if (place < geometry->nodes)
@@ -275,14 +288,48 @@ static size_t len_of(const struct lcrvm_geometry *geometry, uint32_t place)
     return (size_t)geometry->pages * PAGE_AREA_BYTES;
 }
 
-/* OK where nothing stands under a name, EXISTS where something does. A link counts, wherever it leads. */
+/* The file of an area has failed: the store is given up, and a mark is left for whoever opens it next. That takes no
+   descriptor, of which the caller may have none left. */
+static enum lcrvm_status given_up(struct lcrvm_store *store, uint32_t place)
+{
+    char name[NAME_BYTES];
+
+    name_of(&store->known.geometry, place, name);
+    file_failed(&store->known.last, name);
+    if (mknodat(store->folder, mark, S_IFREG | 0666, 0) != 0 && errno != EEXIST)
+        add_line(&store->known.last, mark, "not made: unmount the file system before the store is opened again");
+    lcrvm_session_give_up(&store->session);
+    store->known.dead = true;
+    return store->known.last.status;
+}
+
+/* Behind an event: what was called of an area is called of its file, and only then the answer is given. */
+static enum lcrvm_status mirrored(struct lcrvm_store *store, const struct answer *answer)
+{
+    if (store->known.dead)
+        return store->known.last.status;
+    for (uint32_t place = 0; place < store->areas; place++) {
+        struct last_call call = {0};
+
+        if (!lcrvm_session_last_call(&store->session, place, &call) || call.calls == store->calls[place])
+            continue;
+        errno = EIO;
+        if (call.calls - store->calls[place] != 1 || !mirror_call(store, place, &call))
+            return given_up(store, place);
+        store->calls[place] = call.calls;
+    }
+    return refused(store, answer);
+}
+
+/* OK where nothing stands under a name, EXISTS where something does, and then the name is said. A link counts, wherever
+   it leads. */
 static enum lcrvm_status look_at(int folder, const char *name, struct lcrvm_fault *fault)
 {
     struct stat at;
 
     if (fstatat(folder, name, &at, AT_SYMLINK_NOFOLLOW) == 0)
-        return fill_fault(fault, LCRVM_EXISTS, "");
-    return errno == ENOENT ? LCRVM_OK : system_failed(fault);
+        return fill_fault(fault, LCRVM_EXISTS, name);
+    return errno == ENOENT ? LCRVM_OK : file_failed(fault, name);
 }
 
 static void close_file(int file)
@@ -311,19 +358,37 @@ static int open_folder(int beside, const char *path)
     return beside_standard_streams(openat(beside, path, O_RDONLY | O_DIRECTORY | O_CLOEXEC));
 }
 
-/* No other process makes or opens a store in the folder until it is closed. */
-static enum lcrvm_status lock_folder(int folder, struct lcrvm_fault *fault)
+/* Locks what is open until it is unlocked, unless it is locked already. */
+static bool lock(int file)
 {
-    if (flock(folder, LOCK_EX | LOCK_NB) == 0)
-        return LCRVM_OK;
-    return errno == EWOULDBLOCK ? fill_fault(fault, LCRVM_STORE_IN_USE, "store in use") : system_failed(fault);
+    while (flock(file, LOCK_EX | LOCK_NB) != 0)
+        if (errno != EINTR)
+            return false;
+    return true;
 }
 
-/* A child of a fork has the folder too until its exec, and so the lock: it is given back here, and not with the descriptor. */
-static void unlock_folder(int folder)
+/* No other process makes or opens a store in the folder until it is unlocked. */
+static enum lcrvm_status lock_folder(int folder, struct lcrvm_fault *fault)
 {
-    if (folder >= 0)
-        flock(folder, LOCK_UN);
+    if (lock(folder))
+        return LCRVM_OK;
+    return errno == EWOULDBLOCK ? fill_fault(fault, LCRVM_STORE_IN_USE, in_use) : system_failed(fault);
+}
+
+/* Nor does one open the file by another folder, where it has a name too. */
+static enum lcrvm_status lock_file(int file, const char *name, struct lcrvm_fault *fault)
+{
+    if (lock(file))
+        return LCRVM_OK;
+    return errno == EWOULDBLOCK ? fault_of_file(fault, LCRVM_STORE_IN_USE, name, in_use) : file_failed(fault, name);
+}
+
+/* A child of a fork has what is open too until its exec, and so the lock: it is given back here, and not with the
+   descriptor. */
+static void unlock(int file)
+{
+    if (file >= 0)
+        flock(file, LOCK_UN);
 }
 
 /* New stores. */
@@ -341,13 +406,51 @@ static bool write_zeros(int file, size_t len)
     return true;
 }
 
-static bool make_file(int folder, const char *name, size_t len)
-{
-    int file = beside_standard_streams(openat(folder, name, O_RDWR | O_CREAT | O_EXCL | O_CLOEXEC, 0666));
-    bool made = file >= 0 && write_zeros(file, len) && make_stable(file, fsync);
+/* The files of a new store in the order in which they are made: that of the size, and then those of the areas. */
 
+static void name_of_new(const struct lcrvm_geometry *geometry, uint32_t number, char name[NAME_BYTES])
+{
+    if (number == 0)
+        snprintf(name, NAME_BYTES, "%s", size_name);
+    else
+        name_of(geometry, number - 1, name);
+}
+
+static bool fill_file(int file, const struct lcrvm_geometry *geometry, uint32_t number)
+{
+    char text[SIZE_BYTES];
+
+    if (number > 0)
+        return write_zeros(file, len_of(geometry, number - 1));
+    return write_whole(file, (const uint8_t *)text, write_size(geometry, text), 0);
+}
+
+/* Takes a file away that was made; where it cannot, it says so. */
+static void take_away(int folder, const char *name, struct lcrvm_fault *fault)
+{
+    if (unlinkat(folder, name, 0) != 0 && errno != ENOENT)
+        add_line(fault, name, "left in place");
+}
+
+/* Makes a file, or none. */
+static enum lcrvm_status make_file(int folder, const struct lcrvm_geometry *geometry, uint32_t number,
+                                   struct lcrvm_fault *fault)
+{
+    char name[NAME_BYTES];
+    enum lcrvm_status status = LCRVM_OK;
+    int file;
+
+    name_of_new(geometry, number, name);
+    file = openat(folder, name, O_RDWR | O_CREAT | O_EXCL | O_CLOEXEC, 0666);
+    if (file < 0)
+        return file_failed(fault, name);
+    file = beside_standard_streams(file);
+    if (file < 0 || !fill_file(file, geometry, number) || !make_stable(file, fsync)) {
+        status = file_failed(fault, name);
+        take_away(folder, name, fault);
+    }
     close_file(file);
-    return made;
+    return status;
 }
 
 /* Makes the names in a folder stable, and then its own. That the folder which it stands in cannot be synced is no fault. */
@@ -364,27 +467,58 @@ static bool sync_names(int folder)
     return true;
 }
 
-/* Makes the files of a store, unless something stands under one of their names: all are looked at before the first is made. */
-static enum lcrvm_status make_files(int folder, const struct lcrvm_geometry *geometry, struct lcrvm_fault *fault)
+/* Looks at the names of all areas that a store may have, with this behind each. */
+static enum lcrvm_status look_at_areas(int folder, const char *end, struct lcrvm_fault *fault)
 {
-    uint32_t areas = geometry->nodes + geometry->segments;
     char name[NAME_BYTES];
     enum lcrvm_status status = LCRVM_OK;
 
-    for (uint32_t place = 0; place < areas && status == LCRVM_OK; place++) {
-        name_of(geometry, place, name);
+    for (uint32_t place = 0; place < MOST_AREAS && status == LCRVM_OK; place++) {
+        name_of(&greatest, place, name);
+        strcat(name, end);
         status = look_at(folder, name, fault);
     }
+    return status;
+}
+
+/* Looks at all names that stand in the folder of a store, at any time. */
+static enum lcrvm_status look_at_all(int folder, struct lcrvm_fault *fault)
+{
+    enum lcrvm_status status = look_at(folder, size_name, fault);
+
     if (status == LCRVM_OK)
-        status = lock_folder(folder, fault);
-    for (uint32_t place = 0; place < areas && status == LCRVM_OK; place++) {
-        name_of(geometry, place, name);
-        if (!make_file(folder, name, len_of(geometry, place)))
-            status = system_failed(fault);
-    }
+        status = look_at_areas(folder, "", fault);
+    if (status == LCRVM_OK)
+        status = look_at(folder, mark, fault);
+    return status == LCRVM_OK ? look_at_areas(folder, ".new", fault) : status;
+}
+
+/* Makes the files of a store, or none: where it fails, those that were made are taken away, the last first. */
+static enum lcrvm_status make_files(int folder, const struct lcrvm_geometry *geometry, struct lcrvm_fault *fault)
+{
+    uint32_t files = 1 + areas_of(geometry), made = 0;
+    char name[NAME_BYTES];
+    enum lcrvm_status status = LCRVM_OK;
+
+    while (made < files && (status = make_file(folder, geometry, made, fault)) == LCRVM_OK)
+        made++;
     if (status == LCRVM_OK && !sync_names(folder))
         status = system_failed(fault);
+    while (status != LCRVM_OK && made > 0) {
+        name_of_new(geometry, --made, name);
+        take_away(folder, name, fault);
+    }
     return status;
+}
+
+/* Makes a store in a folder that is open. All names are looked at before the first file is made. */
+static enum lcrvm_status create_in(int folder, const struct lcrvm_geometry *geometry, struct lcrvm_fault *fault)
+{
+    enum lcrvm_status status = look_at_all(folder, fault);
+
+    if (status == LCRVM_OK)
+        status = lock_folder(folder, fault);
+    return status == LCRVM_OK ? make_files(folder, geometry, fault) : status;
 }
 
 enum lcrvm_status lcrvm_create(const char *folder, const struct lcrvm_options *options, struct lcrvm_fault *fault)
@@ -399,8 +533,8 @@ enum lcrvm_status lcrvm_create(const char *folder, const struct lcrvm_options *o
     if (opened < 0)
         system_failed(&said);
     else
-        make_files(opened, geometry, &said);
-    unlock_folder(opened);
+        create_in(opened, geometry, &said);
+    unlock(opened);
     close_file(opened);
     return tell(fault, &said);
 }
@@ -431,7 +565,7 @@ static enum lcrvm_status find_row(int folder, const char *kind, uint32_t first, 
         write_name(kind, first + place, name);
         if (fstatat(folder, name, &at, 0) != 0) {
             if (errno != ENOENT)
-                return system_failed(fault);
+                return file_failed(fault, name);
             continue;
         }
         if (row->count < place)
@@ -473,17 +607,33 @@ static enum lcrvm_status find_size(int folder, struct lcrvm_geometry *found, str
 
 /* Opening. */
 
-/* Opens the file of an area. */
-static enum lcrvm_status open_file(struct lcrvm_store *store, uint32_t place, const char *name)
+/* Opens a file of a store, which has to be a regular one: under its descriptor, or -1. */
+static int open_regular(int folder, const char *name, int access, struct lcrvm_fault *fault)
 {
     struct stat at;
+    int file;
 
-    if (fstatat(store->folder, name, &at, 0) != 0)
-        return system_failed(&store->known.last);
-    if (!S_ISREG(at.st_mode))
-        return failed(store, LCRVM_DEVICE_FAULT, "not a regular file");
-    store->files[place] = beside_standard_streams(openat(store->folder, name, O_RDWR | O_CLOEXEC));
-    return store->files[place] < 0 ? system_failed(&store->known.last) : LCRVM_OK;
+    if (fstatat(folder, name, &at, 0) != 0) {
+        file_failed(fault, name);
+        return -1;
+    }
+    if (!S_ISREG(at.st_mode)) {
+        fault_of_file(fault, LCRVM_DEVICE_FAULT, name, "not a regular file");
+        return -1;
+    }
+    file = beside_standard_streams(openat(folder, name, access | O_CLOEXEC));
+    if (file < 0)
+        file_failed(fault, name);
+    return file;
+}
+
+/* Opens the file of an area, and locks it. */
+static enum lcrvm_status open_file(struct lcrvm_store *store, uint32_t place, const char *name)
+{
+    struct lcrvm_fault *fault = &store->known.last;
+
+    store->files[place] = open_regular(store->folder, name, O_RDWR, fault);
+    return store->files[place] < 0 ? fault->status : lock_file(store->files[place], name, fault);
 }
 
 /* Looks at the names of a kind above those of the geometry: EXISTS where one is taken, and its file is opened. */
@@ -530,7 +680,7 @@ static size_t room_of(const struct lcrvm_geometry *geometry)
 }
 
 /* Reads a file, and adds its area; of one that is too long one byte too much, which the start refuses. */
-static enum lcrvm_status read_file(struct lcrvm_store *store, uint32_t place)
+static enum lcrvm_status read_file(struct lcrvm_store *store, uint32_t place, const char *name)
 {
     struct stat at;
     uint8_t *bytes;
@@ -538,7 +688,7 @@ static enum lcrvm_status read_file(struct lcrvm_store *store, uint32_t place)
     enum lcrvm_status status;
 
     if (fstat(store->files[place], &at) != 0)
-        return system_failed(&store->known.last);
+        return file_failed(&store->known.last, name);
     len = at.st_size > (off_t)len ? len + 1 : (size_t)at.st_size;
     bytes = malloc(len + 1);
     if (bytes == NULL)
@@ -546,7 +696,7 @@ static enum lcrvm_status read_file(struct lcrvm_store *store, uint32_t place)
     if (read_whole(store->files[place], bytes, len))
         status = add_area(store, bytes, len);
     else
-        status = system_failed(&store->known.last);
+        status = file_failed(&store->known.last, name);
     free(bytes);
     return status;
 }
@@ -559,7 +709,7 @@ static enum lcrvm_status add_file(struct lcrvm_store *store, uint32_t place)
 
     name_of(&store->known.geometry, place, name);
     status = open_file(store, place, name);
-    return status == LCRVM_OK ? read_file(store, place) : status;
+    return status == LCRVM_OK ? read_file(store, place, name) : status;
 }
 
 /* Begins a session for a store of this size, and adds its files. */
@@ -572,7 +722,7 @@ static enum lcrvm_status add_files(struct lcrvm_store *store)
 
     if (status != LCRVM_OK)
         return failed(store, status, "");
-    store->areas = geometry->nodes + geometry->segments;
+    store->areas = areas_of(geometry);
     store->bytes = malloc(room_of(geometry));
     if (store->bytes == NULL)
         return failed(store, LCRVM_CLIENT_MEMORY, "");
@@ -581,18 +731,31 @@ static enum lcrvm_status add_files(struct lcrvm_store *store)
     return status == LCRVM_OK ? add_beyond(store) : status;
 }
 
+/* The areas become a store, where they have the lengths of its size. */
+static enum lcrvm_status start(struct lcrvm_store *store)
+{
+    struct answer answer = {0};
+
+    lcrvm_session_start(&store->session, &answer);
+    return refused(store, &answer);
+}
+
 static enum lcrvm_status recover(struct lcrvm_store *store)
 {
     struct answer answer = {0};
-    enum lcrvm_status status;
+    enum lcrvm_status status = LCRVM_OK;
 
-    lcrvm_session_start(&store->session, &answer);
-    status = refused(store, &answer);
     while (status == LCRVM_OK && answer.reply != RECOVERED) {
         lcrvm_session_recover_step(&store->session, &answer);
         status = mirrored(store, &answer);
     }
     return status;
+}
+
+/* Makes the names of the files stable: those of a store whose creation was cut, or of a copy, need not be. */
+static enum lcrvm_status sync_folder(struct lcrvm_store *store)
+{
+    return make_stable(store->folder, fsync) ? LCRVM_OK : system_failed(&store->known.last);
 }
 
 /* Where a mark stands, a file had failed: what the system has of it in memory alone may be lost. */
@@ -605,14 +768,97 @@ static enum lcrvm_status look_for_mark(struct lcrvm_store *store)
     return failed(store, LCRVM_DEVICE_FAULT, "a file had failed: lcrvm recover copies the files first");
 }
 
+/* The size that a folder states. */
+
+/* Takes the size from its file, which has nothing else. */
+static enum lcrvm_status take_stated(int file, struct lcrvm_geometry *stated, struct lcrvm_fault *fault)
+{
+    char text[SIZE_BYTES] = "";
+    struct stat at;
+    size_t len;
+
+    if (fstat(file, &at) != 0)
+        return file_failed(fault, size_name);
+    len = at.st_size < (off_t)sizeof text ? (size_t)at.st_size : 0;
+    if (!read_whole(file, (uint8_t *)text, len))
+        return file_failed(fault, size_name);
+    if (!read_size(text, len, stated))
+        return fault_of_file(fault, LCRVM_DEVICE_FAULT, size_name, "not the size of a store");
+    return LCRVM_OK;
+}
+
+static enum lcrvm_status read_stated(struct lcrvm_store *store)
+{
+    struct lcrvm_fault *fault = &store->known.last;
+    enum lcrvm_status status = look_at(store->folder, size_name, fault);
+    int file;
+
+    if (status != LCRVM_EXISTS)
+        return status;
+    file = open_regular(store->folder, size_name, O_RDONLY, fault);
+    status = file < 0 ? fault->status : take_stated(file, &store->stated, fault);
+    close_file(file);
+    return status;
+}
+
+/* Whether the files of two sizes have one name and length at a place. Where one has no more they have not. */
+static bool is_same_at(const struct lcrvm_geometry *one, const struct lcrvm_geometry *other, uint32_t place)
+{
+    char name[NAME_BYTES], other_name[NAME_BYTES];
+
+    if (place >= areas_of(one) || place >= areas_of(other))
+        return false;
+    name_of(one, place, name);
+    name_of(other, place, other_name);
+    return strcmp(name, other_name) == 0 && len_of(one, place) == len_of(other, place);
+}
+
+/* The geometry is not that which is stated, from an area on: a file of the other is missing, or it is said. */
+static enum lcrvm_status other_than_stated(struct lcrvm_store *store, uint32_t area)
+{
+    const struct lcrvm_geometry *stated = &store->stated;
+    struct lcrvm_fault *fault = &store->known.last;
+    enum lcrvm_status status = LCRVM_EXISTS;
+    char name[NAME_BYTES];
+
+    for (uint32_t place = 0; place < areas_of(stated) && status == LCRVM_EXISTS; place++) {
+        name_of(stated, place, name);
+        status = look_at(store->folder, name, fault);
+    }
+    fill_fault(fault, LCRVM_BAD_GEOMETRY, "");
+    fault->area = area;
+    if (status == LCRVM_OK)
+        snprintf(fault->text, sizeof fault->text, "%s is missing", name);
+    else
+        snprintf(fault->text, sizeof fault->text, "%s: nodes %u segments %u pages %u words %u", size_name,
+                 (unsigned)stated->nodes, (unsigned)stated->segments, (unsigned)stated->pages, (unsigned)stated->words);
+    return LCRVM_BAD_GEOMETRY;
+}
+
+static enum lcrvm_status compare_to_stated(struct lcrvm_store *store)
+{
+    const struct lcrvm_geometry *geometry = &store->known.geometry, *stated = &store->stated;
+    uint32_t place = 0;
+
+    while (is_same_at(geometry, stated, place))
+        place++;
+    if (stated->nodes == 0 || (place == areas_of(geometry) && place == areas_of(stated)))
+        return LCRVM_OK;
+    return other_than_stated(store, place);
+}
+
+/* The size is that of the caller, or else that which is stated, or else that of the files. */
 static enum lcrvm_status take_size(struct lcrvm_store *store, const struct lcrvm_options *options)
 {
-    if (options->geometry != NULL) {
-        store->known.geometry = *options->geometry;
-        return LCRVM_OK;
-    }
-    store->known.geometry.threads = threads_of(options);
-    return find_size(store->folder, &store->known.geometry, &store->known.last);
+    struct lcrvm_geometry *geometry = &store->known.geometry;
+    enum lcrvm_status status;
+
+    store->stated.threads = threads_of(options);
+    status = read_stated(store);
+    if (status != LCRVM_OK)
+        return status;
+    *geometry = options->geometry != NULL ? *options->geometry : store->stated;
+    return geometry->nodes > 0 ? LCRVM_OK : find_size(store->folder, geometry, &store->known.last);
 }
 
 /* Fills a store whose folder and session are none yet. As found, no file is in a folder that is not there. */
@@ -626,13 +872,19 @@ static enum lcrvm_status open_in(struct lcrvm_store *store, const char *folder, 
         return no_store(fault, log_kind, 0, "is missing");
     if (store->folder < 0)
         return system_failed(fault);
-    status = take_size(store, options);
+    status = lock_folder(store->folder, fault);
     if (status == LCRVM_OK)
-        status = lock_folder(store->folder, fault);
+        status = take_size(store, options);
     if (status == LCRVM_OK)
         status = look_for_mark(store);
     if (status == LCRVM_OK)
         status = add_files(store);
+    if (status == LCRVM_OK)
+        status = start(store);
+    if (status == LCRVM_OK)
+        status = compare_to_stated(store);
+    if (status == LCRVM_OK)
+        status = sync_folder(store);
     return status == LCRVM_OK ? recover(store) : status;
 }
 
@@ -649,14 +901,20 @@ static struct lcrvm_store *new_store(void)
     return store;
 }
 
+/* Closes a file of the store, or its folder. */
+static void let_go(const struct lcrvm_store *store, int file)
+{
+    if (store->process == getpid())
+        unlock(file);
+    close_file(file);
+}
+
 static void free_store(struct lcrvm_store *store)
 {
     lcrvm_session_free(store->session);
     for (uint32_t place = 0; place < MOST_AREAS; place++)
-        close_file(store->files[place]);
-    if (store->process == getpid())
-        unlock_folder(store->folder);
-    close_file(store->folder);
+        let_go(store, store->files[place]);
+    let_go(store, store->folder);
     free(store->bytes);
     free(store);
 }
