@@ -390,13 +390,15 @@ static void beside(const char *folder, const char *end, char path[BESIDE_BYTES])
 
 static struct lcrvm_store *opened_as(const char *folder, const struct lcrvm_geometry *geometry, bool truncates)
 {
-    const struct lcrvm_options options = {.geometry = geometry, .truncate_when_full = truncates};
+    const struct lcrvm_options options = {
+        .geometry = geometry, .truncate_when_full = truncates, .threads = geometry != NULL ? 99 : 0};
     struct lcrvm_store *store;
     struct lcrvm_fault fault;
 
     ANSWERS(lcrvm_open(folder, &options, &store, &fault), LCRVM_OK);
     if (store == NULL)
         exit(1);
+    CHECK(lcrvm_fault_of(store)->status == LCRVM_OK && lcrvm_fault_of(store)->text[0] == '\0');
     return store;
 }
 
