@@ -1,6 +1,7 @@
 #define _POSIX_C_SOURCE 200809L
 
 #include "lcrvm.h"
+#include "stated_size.h"
 #include "statuses.h"
 #include "transactions.h"
 
@@ -282,10 +283,25 @@ static void wait_for(struct run *run, bool bounded)
         ;
 }
 
-/* What the program said on standard error, without the last line feed. */
+/* Whether the next line says that the size is only as found, which is no fault. */
+static bool is_note_next(FILE *errors)
+{
+    static const char note[] = ": the size is only as found: it has no lcrvm.store";
+    char end[sizeof note] = "";
+    int byte;
+    while ((byte = getc(errors)) != EOF && byte != '\n') {
+        memmove(end, end + 1, sizeof end - 2);
+        end[sizeof end - 2] = (char)byte;
+    }
+    return strcmp(end, note) == 0;
+}
+
+/* What the program said on standard error of a fault, without the last line feed. */
 static void read_errors(struct run *run, char *text, size_t size)
 {
     rewind(run->errors);
+    if (!is_note_next(run->errors))
+        rewind(run->errors);
     size_t length = fread(text, 1, size - 1, run->errors);
     while (length > 0 && text[length - 1] == '\n')
         length--;
@@ -595,6 +611,7 @@ static enum lcrvm_status start(struct lcrvm_store *store)
         /* A recovery that is refused ends the program. */
         close_file(&store->run.input);
         wait_for(&store->run, true);
+        read_errors(&store->run, store->known.last.text, sizeof store->known.last.text);
         close_run(&store->run);
         store->known.dead = true;
     }
@@ -968,10 +985,23 @@ static long long length_of_file(const char *folder, const char *name, unsigned n
     return is_there ? (long long)found.st_size : -1;
 }
 
-/* The geometry that the lengths of a store's files tell. */
+/* Takes the size from the file of the folder that states it, if there is one. */
+static bool read_stated(const char *folder, struct lcrvm_geometry *stated)
+{
+    char text[SIZE_BYTES] = "", *path = joined(folder, "/lcrvm.store");
+    int file = path != NULL ? open(path, O_RDONLY | O_NONBLOCK | O_CLOEXEC) : -1;
+    ssize_t length = file >= 0 ? read(file, text, sizeof text - 1) : -1;
+    close_file(&file);
+    free(path);
+    return length >= 0 && read_size(text, (size_t)length, stated);
+}
+
+/* The geometry that the folder states, or else that the lengths of its files tell. */
 static struct lcrvm_geometry found_geometry(const char *folder, uint32_t threads)
 {
     struct lcrvm_geometry geometry = {0, threads, 0, 0, 0};
+    if (read_stated(folder, &geometry))
+        return geometry;
     while (geometry.nodes < MOST_NODES && length_of_file(folder, "log", geometry.nodes) >= 0)
         geometry.nodes++;
     while (geometry.segments < MOST_SEGMENTS && length_of_file(folder, "seg", geometry.segments + 1) >= 0)
@@ -989,10 +1019,12 @@ static void read_creation(struct run *run, struct lcrvm_fault *fault)
     read_line(run, text, 0);
     wait_for(run, false);
     read_end(run, text, fault);
-    if (exit_of(run) == 0)
+    if (exit_of(run) == 0) {
         fill_fault(fault, LCRVM_OK, "");
-    else if (strcmp(text, "refused Exists") == 0)
-        fill_fault(fault, LCRVM_EXISTS, "");
+    } else if (strcmp(text, "refused Exists") == 0) {
+        fault->status = LCRVM_EXISTS;
+        fault->exit_status = 0;
+    }
 }
 
 /* Runs the program to make a store. */
