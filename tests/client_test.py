@@ -63,7 +63,7 @@ class ClientTest(unittest.TestCase):
         return store
 
     @contextlib.contextmanager
-    def refused(self, kind: type, **fields: Optional[int]) -> Iterator[None]:
+    def refused(self, kind: type, **fields: object) -> Iterator[None]:
         with self.assertRaises(kind) as raised:
             yield
         for name, value in fields.items():
@@ -249,6 +249,26 @@ class ClientTest(unittest.TestCase):
         with lcrvm.open(self.folder, threads=2, program=program) as store:
             self.assertEqual(store.geometry, TWO_NODES)
             self.assertEqual(self.commit(store, 1, 1, 0, b"x"), lcrvm.Commit(0, 8))
+
+    def test_a_size_that_is_stated(self) -> None:
+        self.create(lcrvm.Geometry())
+        program = self.script("read -r line; echo nothing; read -r line; exit 0")
+        by_lengths = (1, 1, 1, 64)
+        for text, size in (
+            ("format 1\nnodes 8\nsegments 16\npages 1024\nwords 4096\n", (8, 16, 1024, 4096)),
+            ("format 1\nnodes 2\nsegments 1\npages 3\nwords 70\n", (2, 1, 3, 70)),
+            ("format 1\nnodes 2\nsegments 1\npages 3\nwords 70", by_lengths),
+            ("format 1\nnodes 2\nsegments 1\npages 3\nwords 70\n\n", by_lengths),
+            ("format 1\nnodes 9\nsegments 1\npages 3\nwords 70\n", by_lengths),
+            ("format 1\nnodes 02\nsegments 1\npages 3\nwords 70\n", by_lengths),
+            ("format 1\nnodes 2\nsegments 1\npages 3\nwords 63\n", by_lengths),
+        ):
+            with self.subTest(text=text):
+                with open(os.path.join(self.folder, "lcrvm.store"), "w") as file:
+                    file.write(text)
+                with lcrvm.open(self.folder, threads=3, program=program) as store:
+                    nodes, segments, pages, words = size
+                    self.assertEqual(store.geometry, lcrvm.Geometry(nodes, 3, segments, pages, words))
 
     def test_files_that_do_not_fit_together(self) -> None:
         with self.assertRaises(lcrvm.NoStore) as raised:
@@ -526,6 +546,9 @@ class ClientTest(unittest.TestCase):
     def test_a_recovery_that_is_refused(self) -> None:
         with self.refused(lcrvm.Gap, segment=1, sequence=2):
             lcrvm.open(self.folder, lcrvm.Geometry(), program=self.script("echo refused Gap 1 2; exit 1"))
+        says = self.script("echo refused BadGeometry 1; echo 'lcrvm: store/log1: is missing' >&2; exit 1")
+        with self.refused(lcrvm.BadGeometry, area=1, reason="lcrvm: store/log1: is missing"):
+            lcrvm.open(self.folder, lcrvm.Geometry(), program=says)
 
     def test_a_device_that_fails(self) -> None:
         store = self.told(["device fault"], "echo 'lcrvm: store/log0: Input/output error' >&2; exit 3")
@@ -535,6 +558,23 @@ class ClientTest(unittest.TestCase):
         self.dead(store, lcrvm.DeviceFault)
         with self.assertRaises(lcrvm.DeviceFault):
             lcrvm.open(self.folder, lcrvm.Geometry(), program=PROGRAM)
+
+    def test_a_size_that_is_only_as_found_is_no_fault(self) -> None:
+        self.create(lcrvm.Geometry())
+        note = f"echo 'lcrvm: {self.folder}: the size is only as found: it has no lcrvm.store' >&2"
+        said = f"lcrvm: {self.folder}/log0: Input/output error\nlcrvm: {self.folder}/fault: not made: unmount it"
+        ends = f"read -r line; echo 'device fault'; echo '{said}' >&2; exit 3"
+        store = lcrvm.open(self.folder, program=self.script(f"{note}; read -r line; echo nothing; {ends}"))
+        with self.assertRaises(lcrvm.DeviceFault) as raised:
+            store.flush(0)
+        self.assertEqual(raised.exception.reason, said)
+        with self.assertRaises(lcrvm.Died) as died:
+            lcrvm.open(self.folder, program=self.script(f"{note}; exit 7"))
+        self.assertEqual(died.exception.reason, "")
+        with self.assertRaises(lcrvm.Exists) as exists:
+            says = self.script("echo refused Exists; echo 'lcrvm: store/log1: File exists' >&2; exit 1")
+            lcrvm.create(self.folder, program=says)
+        self.assertEqual(str(exists.exception), "lcrvm: store/log1: File exists")
 
     def test_a_sync_that_fails(self) -> None:
         if CALLS is None:
