@@ -389,6 +389,43 @@ static void test_a_size_that_is_stated(struct test *test)
     }
 }
 
+/* Gives the file another path, or stops. */
+static void move(const char *from, const char *to)
+{
+    if (rename(from, to) == 0)
+        return;
+    perror(from);
+    exit(1);
+}
+
+/* Each file is missing in turn: no size opens the store, as found or not. */
+static void test_a_file_that_is_missing(struct test *test)
+{
+    static const char *const names[] = {"log0", "log1", "seg1", "seg2"};
+    const struct lcrvm_geometry one_log = {1, 2, 2, 2, 64}, one_segment = {2, 2, 1, 2, 64};
+    const struct lcrvm_geometry *const sizes[] = {NULL, &two_nodes, &one_log, &one_segment};
+    char path[PATH_BYTES + 16], aside[PATH_BYTES];
+    struct lcrvm_fault fault;
+    struct lcrvm_store *store;
+    create(test, &two_nodes);
+    snprintf(aside, sizeof aside, "%s/aside", test->room);
+    for (int i = 0; i < 4; i++) {
+        snprintf(path, sizeof path, "%s/%s", test->folder, names[i]);
+        move(path, aside);
+        for (int size = 0; size < 4; size++) {
+            const struct lcrvm_options options = {.program = test->program, .geometry = sizes[size]};
+            bool is_other = (i == 1 && size == 2) || (i == 3 && size == 3);
+            ANSWERS(test, lcrvm_open(test->folder, &options, &store, &fault),
+                    is_other ? LCRVM_BAD_GEOMETRY : LCRVM_DEVICE_FAULT);
+            CHECK(test, fault.area == (is_other ? (uint64_t)i : 0));
+            if (store != NULL)
+                lcrvm_close(store, NULL);
+        }
+        move(aside, path);
+    }
+    close_well(test, opened_by(test, test->program, NULL, false));
+}
+
 /* ---- logs that are full */
 
 /* Eight commits of eight words fill a log of 64. */
@@ -769,9 +806,9 @@ static void test_a_sync_that_fails(struct test *test)
     if (test->calls == NULL)
         return;
     create(test, &one);
-    /* A recovery of one node and one segment makes three syncs; the next is that of a flush. */
+    /* A recovery syncs the log once; the next sync of it is that of a flush. */
     snprintf(text, sizeof text,
-             "exec env LD_PRELOAD='%s' CALLS_FOLDER='%s' CALLS_KIND=sync CALLS_FAILED=4 CALLS_ERROR=5 "
+             "exec env LD_PRELOAD='%s' CALLS_FOLDER='%s/log0' CALLS_KIND=sync CALLS_FAILED=2 CALLS_ERROR=5 "
              "CALLS_MARK='%s/mark' '%s' \"$@\"",
              test->calls, test->folder, test->room, test->program);
     script(test, path, text);
@@ -797,6 +834,7 @@ static const struct {
     {"a size of no store", test_a_size_of_no_store},
     {"a store as found", test_a_store_as_found},
     {"a size that is stated", test_a_size_that_is_stated},
+    {"a file that is missing", test_a_file_that_is_missing},
     {"a full log", test_a_full_log},
     {"a full log is truncated", test_a_full_log_is_truncated},
     {"a full log that stays full", test_a_full_log_that_stays_full},

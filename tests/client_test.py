@@ -288,9 +288,55 @@ class ClientTest(unittest.TestCase):
         with lcrvm.open(self.folder, threads=2, program=PROGRAM) as store:
             self.assertEqual(store.geometry, TWO_NODES)
             self.assertEqual(self.commit(store, 1, 1, 0, b"x"), lcrvm.Commit(0, 8))
-        os.remove(os.path.join(self.folder, "log0"))
+        # A folder that states no size has that of its files, which have to fit together.
+        for name in ("lcrvm.store", "log0"):
+            with contextlib.suppress(FileNotFoundError):
+                os.remove(os.path.join(self.folder, name))
         with self.assertRaises(lcrvm.NoStore):
             lcrvm.open(self.folder, program=PROGRAM)
+
+    def test_a_file_that_is_missing(self) -> None:
+        self.create(TWO_NODES)
+        aside = os.path.join(self.room, "aside")
+        for name in ("log0", "log1", "seg1", "seg2"):
+            path = os.path.join(self.folder, name)
+            os.rename(path, aside)
+            for size in (None, TWO_NODES):
+                with self.subTest(name=name, size=size):
+                    with self.assertRaises(lcrvm.DeviceFault) as raised:
+                        lcrvm.open(self.folder, size, program=PROGRAM)
+                    self.assertIn(name, raised.exception.reason)
+            if name == "log1":
+                with self.refused(lcrvm.BadGeometry, area=1):
+                    lcrvm.open(self.folder, TWO_NODES._replace(nodes=1), program=PROGRAM)
+            if name == "seg2":
+                with self.refused(lcrvm.BadGeometry, area=3):
+                    lcrvm.open(self.folder, TWO_NODES._replace(segments=1), program=PROGRAM)
+            os.rename(aside, path)
+        with lcrvm.open(self.folder, threads=2, program=PROGRAM) as store:
+            self.assertEqual(store.geometry, TWO_NODES)
+
+    def test_a_creation_beside_others(self) -> None:
+        os.mkdir(self.folder)
+        for name in ("lcrvm.store", "log1", "log7", "seg16", "fault", "seg3.new"):
+            path = os.path.join(self.folder, name)
+            os.symlink("nowhere", path)
+            with self.subTest(name=name), self.assertRaises(lcrvm.Exists):
+                lcrvm.create(self.folder, program=PROGRAM)
+            self.assertEqual(os.listdir(self.folder), [name])
+            os.remove(path)
+
+    def test_files_of_two_folders(self) -> None:
+        self.create(lcrvm.Geometry())
+        linked = os.path.join(self.room, "linked")
+        os.mkdir(linked)
+        for name in os.listdir(self.folder):
+            os.link(os.path.join(self.folder, name), os.path.join(linked, name))
+        store = self.opened(lcrvm.Geometry())
+        with self.assertRaises(lcrvm.StoreInUse):
+            lcrvm.open(linked, program=PROGRAM)
+        store.close()
+        lcrvm.open(linked, program=PROGRAM).close()
 
     # ---- logs that are full
 
@@ -580,13 +626,13 @@ class ClientTest(unittest.TestCase):
         if CALLS is None:
             self.skipTest("no library of traced calls")
         self.create(lcrvm.Geometry())
-        # A recovery of one node and one segment makes three syncs; the next is that of a flush.
+        # A recovery syncs the log once; the next sync of it is that of a flush.
         calls = {
             "LD_PRELOAD": CALLS,
-            "CALLS_FOLDER": self.folder,
+            "CALLS_FOLDER": os.path.join(self.folder, "log0"),
             "CALLS_MARK": os.path.join(self.room, "mark"),
             "CALLS_KIND": "sync",
-            "CALLS_FAILED": "4",
+            "CALLS_FAILED": "2",
             "CALLS_ERROR": "5",
         }
         settings = " ".join(f"{name}={shlex.quote(value)}" for name, value in calls.items())
