@@ -49,6 +49,7 @@ static int wrong;
 /* The writes and syncs of files, in place of the C library's. Of a write that fails half the bytes are written. In
    front of one of them the process ends. */
 static long made, failing, ending;
+static int failure = EIO;
 
 static bool fails_now(void)
 {
@@ -65,7 +66,7 @@ static int sync_by(long call, int file)
 
     folder_syncs += fstat(file, &at) == 0 && S_ISDIR(at.st_mode);
     if (fails_now()) {
-        errno = EIO;
+        errno = failure;
         return -1;
     }
     return (int)syscall(call, file);
@@ -118,7 +119,7 @@ ssize_t pwrite(int file, const void *bytes, size_t len, off_t at)
     if (fails_now()) {
         if (len > 1)
             (void)!syscall(SYS_pwrite64, file, bytes, len / 2, at);
-        errno = EIO;
+        errno = failure;
         return -1;
     }
     return syscall(SYS_pwrite64, file, bytes, len, at);
@@ -745,7 +746,7 @@ static void test_missing_files(const char *folder)
 /* All files are there as the caller says, and the size that is stated is another. As found they are not as it says. */
 static void test_another_size(const char *folder)
 {
-    static const struct lcrvm_geometry size = {2, 3, 2, 2, 64};
+    static const struct lcrvm_geometry size = {2, 3, 2, 2, 64}, alike = {1, 1, 2, 1, 67};
     static const struct {
         const char *text, *said;
         int by_size, as_found; /* the area; below 0 a file is missing */
@@ -760,6 +761,9 @@ static void test_another_size(const char *folder)
         {"format 1\nnodes 2\nsegments 2\npages 2\nwords 4096\n", "nodes 2 segments 2 pages 2 words 4096", 0, 0, NULL},
     };
 
+    static const char swapped[] = "format 1\nnodes 2\nsegments 1\npages 1\nwords 67\n";
+    char other[BESIDE_BYTES];
+
     close_well(made_as(folder, &size, false));
     for (size_t i = 0; i < sizeof sizes / sizeof sizes[0]; i++) {
         char wanted[128];
@@ -773,6 +777,11 @@ static void test_another_size(const char *folder)
         else
             opens_not(folder, NULL, LCRVM_BAD_GEOMETRY, (uint64_t)sizes[i].as_found, "");
     }
+    /* A log is as long as a segment, so that the files differ by their names alone. */
+    beside(folder, "alike", other);
+    close_well(made_as(other, &alike, false));
+    write_text(below(other, "lcrvm.store"), swapped, strlen(swapped));
+    opens_not(other, &alike, LCRVM_BAD_GEOMETRY, 1, "log1 is missing");
 }
 
 /* The file of the size has to be a regular one, with the text of a size and nothing else. */
@@ -792,6 +801,8 @@ static void test_texts_of_no_size(const char *folder)
         TEXT("format 1\r\nnodes 1\r\nsegments 2\r\npages 4\r\nwords 64\r\n"),
         TEXT(" format 1\nnodes 1\nsegments 2\npages 4\nwords 64\n"),
         TEXT("format 1\nnodes  1\nsegments 2\npages 4\nwords 64\n"),
+        TEXT("format 1\nnodes\t1\nsegments 2\npages 4\nwords 64\n"),
+        TEXT("format 1\nnodes 1\nsegments 2\npages 4\nwords 64 "),
         TEXT("format 2\nnodes 1\nsegments 2\npages 4\nwords 64\n"),
         TEXT("format 1\nnodes 01\nsegments 2\npages 4\nwords 64\n"),
         TEXT("format 1\nnodes +1\nsegments 2\npages 4\nwords 64\n"),
@@ -896,14 +907,16 @@ static void test_creation_that_fails(const char *folder)
     ANSWERS(lcrvm_create(folder, &options, NULL), LCRVM_EXISTS);
     CHECK(remove(below(folder, "seg1")) == 0 && remove(below(folder, "log0")) == 0);
     CHECK(remove(below(folder, "lcrvm.store")) == 0);
-    removals_error = EROFS;
+    /* With another line the text would be full. */
+    removals_error = failure = EROFS;
     failing = made + 2 * 25;
     ANSWERS(lcrvm_create(folder, &most_options, &fault), LCRVM_DEVICE_FAULT);
-    snprintf(wanted, sizeof wanted, "seg16: %s\nseg16: left in place\nseg15: left in place\n", strerror(EIO));
+    snprintf(wanted, sizeof wanted, "seg16: %s\nseg16: left in place\nseg15: left in place\n", strerror(EROFS));
     CHECK(strncmp(fault.text, wanted, strlen(wanted)) == 0 && strlen(fault.text) < sizeof fault.text);
-    CHECK(strcmp(fault.text + strlen(fault.text) - strlen(" place\n.."), " place\n..") == 0);
-    removals_error = 0;
+    CHECK(strcmp(fault.text + strlen(fault.text) - strlen("seg7: left in place\n.."), "seg7: left in place\n..") == 0);
     CHECK(standing(folder) == 25);
+    removals_error = 0;
+    failure = EIO;
     failing = 0;
 }
 
