@@ -798,6 +798,9 @@ static void test_what_is_said_of_a_fault(struct test *test)
     script(test, path, "echo device fault; echo 'lcrvm: store/log1: store in use' >&2; exit 3");
     ANSWERS(test, lcrvm_open(test->folder, &options, &store, &fault), LCRVM_STORE_IN_USE);
     CHECK(test, strcmp(fault.text, "lcrvm: store/log1: store in use") == 0);
+    snprintf(text, sizeof text, "echo device fault; echo 'lcrvm: %s: store in use' >&2; exit 3", folder);
+    script(test, path, text);
+    ANSWERS(test, lcrvm_open(test->folder, &options, &store, &fault), LCRVM_STORE_IN_USE);
 }
 
 static void test_a_sync_that_fails(struct test *test)

@@ -125,12 +125,6 @@ static bool is_refusal(const char *text, struct lcrvm_fault *fault)
     return *text == '\0';
 }
 
-static bool ends_with(const char *text, const char *end)
-{
-    size_t length = strlen(text), end_length = strlen(end);
-    return length >= end_length && strcmp(text + length - end_length, end) == 0;
-}
-
 /* ---- the program */
 
 /* The same file under a number that no standard descriptor has, closed in programs that are started. */
@@ -283,24 +277,35 @@ static void wait_for(struct run *run, bool bounded)
         ;
 }
 
-/* Whether the next line says that the size is only as found, which is no fault. */
-static bool is_note_next(FILE *errors)
+/* Reads a line, however long, and says whether it ends so. */
+static bool next_line_ends(FILE *file, const char *end)
 {
-    static const char note[] = ": the size is only as found: it has no lcrvm.store";
-    char end[sizeof note] = "";
+    char last[LINE_BYTES] = "";
+    size_t length = strlen(end);
     int byte;
-    while ((byte = getc(errors)) != EOF && byte != '\n') {
-        memmove(end, end + 1, sizeof end - 2);
-        end[sizeof end - 2] = (char)byte;
+    while ((byte = getc(file)) != EOF && byte != '\n') {
+        memmove(last, last + 1, length - 1);
+        last[length - 1] = (char)byte;
     }
-    return strcmp(end, note) == 0;
+    return memcmp(last, end, length) == 0;
 }
 
-/* What the program said on standard error of a fault, without the last line feed. */
+/* Whether the program said on standard error that another process has the store. */
+static bool is_in_use(struct run *run)
+{
+    bool is = false;
+    rewind(run->errors);
+    while (!is && !feof(run->errors) && !ferror(run->errors))
+        is = next_line_ends(run->errors, ": store in use");
+    return is;
+}
+
+/* What the program said on standard error of a fault, without the last line feed. That the size is only as found is
+   none. */
 static void read_errors(struct run *run, char *text, size_t size)
 {
     rewind(run->errors);
-    if (!is_note_next(run->errors))
+    if (!next_line_ends(run->errors, ": the size is only as found: it has no lcrvm.store"))
         rewind(run->errors);
     size_t length = fread(text, 1, size - 1, run->errors);
     while (length > 0 && text[length - 1] == '\n')
@@ -321,7 +326,7 @@ static void read_end(struct run *run, const char *last, struct lcrvm_fault *faul
     read_errors(run, fault->text, sizeof fault->text);
     if (strcmp(last, "refused NoMemory") == 0) {
         fault->status = LCRVM_NO_MEMORY;
-    } else if (ends_with(fault->text, ": store in use")) {
+    } else if (is_in_use(run)) {
         fault->status = LCRVM_STORE_IN_USE;
     } else if (strcmp(last, "device fault") == 0 || exit_of(run) == DEVICE_FAULT_STATUS) {
         fault->status = LCRVM_DEVICE_FAULT;
