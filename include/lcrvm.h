@@ -69,21 +69,22 @@ enum lcrvm_status {
     LCRVM_UNCLEAN = 22,         /* a record of the log may not be on the pages: segment, sequence */
     LCRVM_ROUNDS_SPENT = 23,    /* the log has had its last round */
     LCRVM_DEVICE_FAULT = 24,    /* a file failed, or could not be made or opened; the store is over: text */
-    LCRVM_BAD_GEOMETRY = 25,    /* an area has another length, or a record in it is of another node: area */
+    LCRVM_BAD_GEOMETRY = 25,    /* an area has another length, or a record in it is of another node: area; or the folder
+                                   states another size, whose files differ from that area on: area, text */
     LCRVM_TWICE = 26,           /* two records have the same number: segment, sequence */
     LCRVM_GAP = 27,             /* a number is missing: segment, sequence */
     LCRVM_READ_ONLY = 28,       /* the segment is locked for reading alone: segment */
 
     /* The store is over, but for NO_MEMORY of the library. */
     LCRVM_NO_MEMORY = 64, /* the program had no memory, or the library none for this call */
-    LCRVM_STORE_IN_USE,   /* the store is open already: text */
+    LCRVM_STORE_IN_USE,   /* the store is open already, or one of its files by another folder: text */
     LCRVM_DIED,           /* of the client: the program ended by itself: exit_status, signal, text */
     LCRVM_NOT_STARTED,    /* of the client: the program could not be started: text */
     LCRVM_NOT_A_REPLY,    /* of the client: the program printed what is no reply to its line: text */
     LCRVM_NO_STORE,       /* the files do not fit together, so there is no store as found: text */
 
     LCRVM_SPENT = 96,   /* of the client: the lines of this run are used up; the store goes on */
-    LCRVM_EXISTS,       /* something stands under the name of a file that lcrvm_create is to make */
+    LCRVM_EXISTS,       /* of lcrvm_create: something stands under a name that a store has: text */
     LCRVM_CLIENT_MEMORY /* lcrvm_open or lcrvm_create had no memory of its own */
 };
 
@@ -93,8 +94,8 @@ struct lcrvm_fault {
     bool has_area; /* of LCRVM_OUT_OF_SEGMENT, which may have an area or none */
     uint64_t segment, sequence, applied, area, words, tail, need;
     int exit_status, signal;
-    /* The system's reason; of the client what the program said on standard error, or the line that is no reply; cut
-       short. */
+    /* The system's reason, behind the name of the file that failed, and a line of each other file that something is to
+       be said of; of the client what the program said on standard error, or the line that is no reply. Cut short. */
     char text[256];
 };
 
@@ -134,13 +135,16 @@ struct lcrvm_delivered {
 struct lcrvm_store;
 
 /* Makes a new store, of zeros, in a folder that is there. Options and fault may be NULL. Beside what a run of the
-   client ends of: UNKNOWN where a number of the geometry is outside its range; EXISTS, and then nothing is made;
-   STORE_IN_USE; DEVICE_FAULT, and what was made before it stays. */
+   client ends of: UNKNOWN where a number of the geometry is outside its range; EXISTS where a name is taken that a
+   store of any size may have; STORE_IN_USE; DEVICE_FAULT. Then nothing is made, or what was made is taken away again;
+   what could not be, the fault says. */
 enum lcrvm_status lcrvm_create(const char *folder, const struct lcrvm_options *options, struct lcrvm_fault *fault);
 
 /* Opens the store in a folder and recovers it. *store is NULL where it is not opened, and the fault, which may be NULL,
    says why: beside what ends a store, UNKNOWN where a number of the options is outside its range, BAD_GEOMETRY, GAP,
-   TWICE or OUT_OF_SEGMENT of a recovery that is refused, and NO_STORE. Options may be NULL. A file that failed has left
+   TWICE or OUT_OF_SEGMENT of a recovery that is refused, and NO_STORE. Options may be NULL. As found a store has the
+   size that its file lcrvm.store states, and then none of its files may be missing; or else, in a folder without that
+   file, the size of the files which there are. A file that failed has left
    a mark in the folder, behind which the files are to be copied first: in the client the program does that; the library
    answers DEVICE_FAULT until `lcrvm recover` has done it. */
 enum lcrvm_status lcrvm_open(const char *folder, const struct lcrvm_options *options, struct lcrvm_store **store,

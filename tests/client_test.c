@@ -354,6 +354,78 @@ static void test_a_store_as_found(struct test *test)
     close_well(test, store);
 }
 
+/* Writes a text into a file of the store. */
+static void lay(struct test *test, const char *name, const char *text)
+{
+    char path[PATH_BYTES + 16];
+    snprintf(path, sizeof path, "%s/%s", test->folder, name);
+    FILE *file = fopen(path, "w");
+    CHECK(test, file != NULL && fputs(text, file) >= 0 && fclose(file) == 0);
+}
+
+/* As found a store is as large as its folder states, where it does so in just that text. */
+static void test_a_size_that_is_stated(struct test *test)
+{
+    static const struct {
+        const char *text;
+        struct lcrvm_geometry size;
+    } rows[] = {
+        {"format 1\nnodes 8\nsegments 16\npages 1024\nwords 4096\n", {8, 3, 16, 1024, 4096}},
+        {"format 1\nnodes 2\nsegments 1\npages 3\nwords 70\n", {2, 3, 1, 3, 70}},
+        {"format 1\nnodes 2\nsegments 1\npages 3\nwords 70", {1, 3, 1, 1, 64}},
+        {"format 1\nnodes 9\nsegments 1\npages 3\nwords 70\n", {1, 3, 1, 1, 64}},
+        {"format 1\nnodes 02\nsegments 1\npages 3\nwords 70\n", {1, 3, 1, 1, 64}},
+    };
+    char path[PATH_BYTES];
+    const struct lcrvm_options options = {.program = path, .threads = 3};
+    create(test, &one);
+    script(test, path, "read -r line; echo nothing; read -r line; exit 0");
+    for (size_t i = 0; i < sizeof rows / sizeof rows[0]; i++) {
+        struct lcrvm_store *store;
+        lay(test, "lcrvm.store", rows[i].text);
+        ANSWERS(test, lcrvm_open(test->folder, &options, &store, NULL), LCRVM_OK);
+        CHECK(test, memcmp(lcrvm_geometry_of(store), &rows[i].size, sizeof one) == 0);
+        close_well(test, store);
+    }
+}
+
+/* Gives the file another path, or stops. */
+static void move(const char *from, const char *to)
+{
+    if (rename(from, to) == 0)
+        return;
+    perror(from);
+    exit(1);
+}
+
+/* Each file is missing in turn: no size opens the store, as found or not. */
+static void test_a_file_that_is_missing(struct test *test)
+{
+    static const char *const names[] = {"log0", "log1", "seg1", "seg2"};
+    const struct lcrvm_geometry one_log = {1, 2, 2, 2, 64}, one_segment = {2, 2, 1, 2, 64};
+    const struct lcrvm_geometry *const sizes[] = {NULL, &two_nodes, &one_log, &one_segment};
+    char path[PATH_BYTES + 16], aside[PATH_BYTES];
+    struct lcrvm_fault fault;
+    struct lcrvm_store *store;
+    create(test, &two_nodes);
+    snprintf(aside, sizeof aside, "%s/aside", test->room);
+    for (int i = 0; i < 4; i++) {
+        snprintf(path, sizeof path, "%s/%s", test->folder, names[i]);
+        move(path, aside);
+        for (int size = 0; size < 4; size++) {
+            const struct lcrvm_options options = {.program = test->program, .geometry = sizes[size]};
+            bool is_other = (i == 1 && size == 2) || (i == 3 && size == 3);
+            ANSWERS(test, lcrvm_open(test->folder, &options, &store, &fault),
+                    is_other ? LCRVM_BAD_GEOMETRY : LCRVM_DEVICE_FAULT);
+            CHECK(test, fault.area == (is_other ? (uint64_t)i : 0));
+            if (store != NULL)
+                lcrvm_close(store, NULL);
+        }
+        move(aside, path);
+    }
+    close_well(test, opened_by(test, test->program, NULL, false));
+}
+
 /* ---- logs that are full */
 
 /* Eight commits of eight words fill a log of 64. */
@@ -691,15 +763,55 @@ static void test_programs_that_end(struct test *test)
     ANSWERS(test, lcrvm_create(test->folder, &options, NULL), LCRVM_NOT_STARTED);
 }
 
+/* What is said on standard error of a fault is its text, and nothing is said of a size that is only as found. */
+static void test_what_is_said_of_a_fault(struct test *test)
+{
+    static const char said[] = "lcrvm: store/log0: Input/output error\nlcrvm: store/fault: not made: unmount it";
+    char path[PATH_BYTES], text[TEXT_BYTES], folder[PATH_BYTES];
+    const struct lcrvm_options options = {.program = path};
+    struct lcrvm_store *store;
+    struct lcrvm_fault fault;
+    create(test, &one);
+    memset(folder, 'x', sizeof folder - 1);
+    folder[sizeof folder - 1] = '\0';
+    for (int is_long = 0; is_long < 2; is_long++) {
+        snprintf(text, sizeof text,
+                 "echo 'lcrvm: %s: the size is only as found: it has no lcrvm.store' >&2; read -r line; echo nothing\n"
+                 "read -r line; echo 'device fault'; echo '%s' >&2; exit 3",
+                 is_long ? folder : "store", said);
+        script(test, path, text);
+        ANSWERS(test, lcrvm_open(test->folder, &options, &store, NULL), LCRVM_OK);
+        ANSWERS(test, lcrvm_flush(store, 0, NULL), LCRVM_DEVICE_FAULT);
+        CHECK(test, strcmp(fault_of(store)->text, said) == 0);
+        dead(test, store, LCRVM_DEVICE_FAULT);
+    }
+    script(test, path,
+           "echo 'lcrvm: store: the size is only as found: it has no lcrvm.store' >&2; read -r line; exit 7");
+    ANSWERS(test, lcrvm_open(test->folder, &options, &store, &fault), LCRVM_DIED);
+    CHECK(test, fault.exit_status == 7 && fault.text[0] == '\0');
+    script(test, path, "echo refused BadGeometry 1; echo 'lcrvm: store/log1: is missing' >&2; exit 1");
+    ANSWERS(test, lcrvm_open(test->folder, &options, &store, &fault), LCRVM_BAD_GEOMETRY);
+    CHECK(test, fault.area == 1 && strcmp(fault.text, "lcrvm: store/log1: is missing") == 0);
+    script(test, path, "echo refused Exists; echo 'lcrvm: store/log1: File exists' >&2; exit 1");
+    ANSWERS(test, lcrvm_create(test->folder, &options, &fault), LCRVM_EXISTS);
+    CHECK(test, strcmp(fault.text, "lcrvm: store/log1: File exists") == 0 && fault.exit_status == 0);
+    script(test, path, "echo device fault; echo 'lcrvm: store/log1: store in use' >&2; exit 3");
+    ANSWERS(test, lcrvm_open(test->folder, &options, &store, &fault), LCRVM_STORE_IN_USE);
+    CHECK(test, strcmp(fault.text, "lcrvm: store/log1: store in use") == 0);
+    snprintf(text, sizeof text, "echo device fault; echo 'lcrvm: %s: store in use' >&2; exit 3", folder);
+    script(test, path, text);
+    ANSWERS(test, lcrvm_open(test->folder, &options, &store, &fault), LCRVM_STORE_IN_USE);
+}
+
 static void test_a_sync_that_fails(struct test *test)
 {
     char path[PATH_BYTES], text[TEXT_BYTES], wanted[PATH_BYTES + 64];
     if (test->calls == NULL)
         return;
     create(test, &one);
-    /* A recovery of one node and one segment makes three syncs; the next is that of a flush. */
+    /* A recovery syncs the log once; the next sync of it is that of a flush. */
     snprintf(text, sizeof text,
-             "exec env LD_PRELOAD='%s' CALLS_FOLDER='%s' CALLS_KIND=sync CALLS_FAILED=4 CALLS_ERROR=5 "
+             "exec env LD_PRELOAD='%s' CALLS_FOLDER='%s/log0' CALLS_KIND=sync CALLS_FAILED=2 CALLS_ERROR=5 "
              "CALLS_MARK='%s/mark' '%s' \"$@\"",
              test->calls, test->folder, test->room, test->program);
     script(test, path, text);
@@ -724,6 +836,8 @@ static const struct {
     {"a store that is there", test_a_store_that_is_there},
     {"a size of no store", test_a_size_of_no_store},
     {"a store as found", test_a_store_as_found},
+    {"a size that is stated", test_a_size_that_is_stated},
+    {"a file that is missing", test_a_file_that_is_missing},
     {"a full log", test_a_full_log},
     {"a full log is truncated", test_a_full_log_is_truncated},
     {"a full log that stays full", test_a_full_log_that_stays_full},
@@ -737,6 +851,7 @@ static const struct {
     {"what is no reply", test_what_is_no_reply},
     {"each refusal as it is printed", test_each_refusal_as_it_is_printed},
     {"programs that end", test_programs_that_end},
+    {"what is said of a fault", test_what_is_said_of_a_fault},
     {"a sync that fails", test_a_sync_that_fails},
 };
 

@@ -63,7 +63,7 @@ class ClientTest(unittest.TestCase):
         return store
 
     @contextlib.contextmanager
-    def refused(self, kind: type, **fields: Optional[int]) -> Iterator[None]:
+    def refused(self, kind: type, **fields: object) -> Iterator[None]:
         with self.assertRaises(kind) as raised:
             yield
         for name, value in fields.items():
@@ -250,6 +250,26 @@ class ClientTest(unittest.TestCase):
             self.assertEqual(store.geometry, TWO_NODES)
             self.assertEqual(self.commit(store, 1, 1, 0, b"x"), lcrvm.Commit(0, 8))
 
+    def test_a_size_that_is_stated(self) -> None:
+        self.create(lcrvm.Geometry())
+        program = self.script("read -r line; echo nothing; read -r line; exit 0")
+        by_lengths = (1, 1, 1, 64)
+        for text, size in (
+            ("format 1\nnodes 8\nsegments 16\npages 1024\nwords 4096\n", (8, 16, 1024, 4096)),
+            ("format 1\nnodes 2\nsegments 1\npages 3\nwords 70\n", (2, 1, 3, 70)),
+            ("format 1\nnodes 2\nsegments 1\npages 3\nwords 70", by_lengths),
+            ("format 1\nnodes 2\nsegments 1\npages 3\nwords 70\n\n", by_lengths),
+            ("format 1\nnodes 9\nsegments 1\npages 3\nwords 70\n", by_lengths),
+            ("format 1\nnodes 02\nsegments 1\npages 3\nwords 70\n", by_lengths),
+            ("format 1\nnodes 2\nsegments 1\npages 3\nwords 63\n", by_lengths),
+        ):
+            with self.subTest(text=text):
+                with open(os.path.join(self.folder, "lcrvm.store"), "w") as file:
+                    file.write(text)
+                with lcrvm.open(self.folder, threads=3, program=program) as store:
+                    nodes, segments, pages, words = size
+                    self.assertEqual(store.geometry, lcrvm.Geometry(nodes, 3, segments, pages, words))
+
     def test_files_that_do_not_fit_together(self) -> None:
         with self.assertRaises(lcrvm.NoStore) as raised:
             lcrvm.open(self.folder, program=self.script("read -r line; echo seg2 is missing; exit 1"))
@@ -268,9 +288,55 @@ class ClientTest(unittest.TestCase):
         with lcrvm.open(self.folder, threads=2, program=PROGRAM) as store:
             self.assertEqual(store.geometry, TWO_NODES)
             self.assertEqual(self.commit(store, 1, 1, 0, b"x"), lcrvm.Commit(0, 8))
-        os.remove(os.path.join(self.folder, "log0"))
+        # A folder that states no size has that of its files, which have to fit together.
+        for name in ("lcrvm.store", "log0"):
+            with contextlib.suppress(FileNotFoundError):
+                os.remove(os.path.join(self.folder, name))
         with self.assertRaises(lcrvm.NoStore):
             lcrvm.open(self.folder, program=PROGRAM)
+
+    def test_a_file_that_is_missing(self) -> None:
+        self.create(TWO_NODES)
+        aside = os.path.join(self.room, "aside")
+        for name in ("log0", "log1", "seg1", "seg2"):
+            path = os.path.join(self.folder, name)
+            os.rename(path, aside)
+            for size in (None, TWO_NODES):
+                with self.subTest(name=name, size=size):
+                    with self.assertRaises(lcrvm.DeviceFault) as raised:
+                        lcrvm.open(self.folder, size, program=PROGRAM)
+                    self.assertIn(name, raised.exception.reason)
+            if name == "log1":
+                with self.refused(lcrvm.BadGeometry, area=1):
+                    lcrvm.open(self.folder, TWO_NODES._replace(nodes=1), program=PROGRAM)
+            if name == "seg2":
+                with self.refused(lcrvm.BadGeometry, area=3):
+                    lcrvm.open(self.folder, TWO_NODES._replace(segments=1), program=PROGRAM)
+            os.rename(aside, path)
+        with lcrvm.open(self.folder, threads=2, program=PROGRAM) as store:
+            self.assertEqual(store.geometry, TWO_NODES)
+
+    def test_a_creation_beside_others(self) -> None:
+        os.mkdir(self.folder)
+        for name in ("lcrvm.store", "log1", "log7", "seg16", "fault", "seg3.new"):
+            path = os.path.join(self.folder, name)
+            os.symlink("nowhere", path)
+            with self.subTest(name=name), self.assertRaises(lcrvm.Exists):
+                lcrvm.create(self.folder, program=PROGRAM)
+            self.assertEqual(os.listdir(self.folder), [name])
+            os.remove(path)
+
+    def test_files_of_two_folders(self) -> None:
+        self.create(lcrvm.Geometry())
+        linked = os.path.join(self.room, "linked")
+        os.mkdir(linked)
+        for name in os.listdir(self.folder):
+            os.link(os.path.join(self.folder, name), os.path.join(linked, name))
+        store = self.opened(lcrvm.Geometry())
+        with self.assertRaises(lcrvm.StoreInUse):
+            lcrvm.open(linked, program=PROGRAM)
+        store.close()
+        lcrvm.open(linked, program=PROGRAM).close()
 
     # ---- logs that are full
 
@@ -526,6 +592,9 @@ class ClientTest(unittest.TestCase):
     def test_a_recovery_that_is_refused(self) -> None:
         with self.refused(lcrvm.Gap, segment=1, sequence=2):
             lcrvm.open(self.folder, lcrvm.Geometry(), program=self.script("echo refused Gap 1 2; exit 1"))
+        says = self.script("echo refused BadGeometry 1; echo 'lcrvm: store/log1: is missing' >&2; exit 1")
+        with self.refused(lcrvm.BadGeometry, area=1, reason="lcrvm: store/log1: is missing"):
+            lcrvm.open(self.folder, lcrvm.Geometry(), program=says)
 
     def test_a_device_that_fails(self) -> None:
         store = self.told(["device fault"], "echo 'lcrvm: store/log0: Input/output error' >&2; exit 3")
@@ -536,17 +605,34 @@ class ClientTest(unittest.TestCase):
         with self.assertRaises(lcrvm.DeviceFault):
             lcrvm.open(self.folder, lcrvm.Geometry(), program=PROGRAM)
 
+    def test_a_size_that_is_only_as_found_is_no_fault(self) -> None:
+        self.create(lcrvm.Geometry())
+        note = f"echo 'lcrvm: {self.folder}: the size is only as found: it has no lcrvm.store' >&2"
+        said = f"lcrvm: {self.folder}/log0: Input/output error\nlcrvm: {self.folder}/fault: not made: unmount it"
+        ends = f"read -r line; echo 'device fault'; echo '{said}' >&2; exit 3"
+        store = lcrvm.open(self.folder, program=self.script(f"{note}; read -r line; echo nothing; {ends}"))
+        with self.assertRaises(lcrvm.DeviceFault) as raised:
+            store.flush(0)
+        self.assertEqual(raised.exception.reason, said)
+        with self.assertRaises(lcrvm.Died) as died:
+            lcrvm.open(self.folder, program=self.script(f"{note}; exit 7"))
+        self.assertEqual(died.exception.reason, "")
+        with self.assertRaises(lcrvm.Exists) as exists:
+            says = self.script("echo refused Exists; echo 'lcrvm: store/log1: File exists' >&2; exit 1")
+            lcrvm.create(self.folder, program=says)
+        self.assertEqual(str(exists.exception), "lcrvm: store/log1: File exists")
+
     def test_a_sync_that_fails(self) -> None:
         if CALLS is None:
             self.skipTest("no library of traced calls")
         self.create(lcrvm.Geometry())
-        # A recovery of one node and one segment makes three syncs; the next is that of a flush.
+        # A recovery syncs the log once; the next sync of it is that of a flush.
         calls = {
             "LD_PRELOAD": CALLS,
-            "CALLS_FOLDER": self.folder,
+            "CALLS_FOLDER": os.path.join(self.folder, "log0"),
             "CALLS_MARK": os.path.join(self.room, "mark"),
             "CALLS_KIND": "sync",
-            "CALLS_FAILED": "4",
+            "CALLS_FAILED": "2",
             "CALLS_ERROR": "5",
         }
         settings = " ".join(f"{name}={shlex.quote(value)}" for name, value in calls.items())

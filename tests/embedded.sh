@@ -2,8 +2,8 @@
 # Compiles a C program with a store in its own process (clients/c/embedded.c), and tries it: the calls, with what they refuse;
 # kills in the midst of its commits, behind which the program lcrvm, and the C program by turns, have to find each commit that was
 # acknowledged; each of its writes and syncs failing in turn, behind which `lcrvm recover` has to find them; each write and sync
-# of the making of a store failing in turn; each allocation refused in turn, behind which the call is done once more; and each
-# choice of standard descriptors closed, of which no file of the store may take the place.
+# of the making of a store failing in turn, behind which nothing is left; each allocation refused in turn, behind which the call
+# is done once more; and each choice of standard descriptors closed, of which no file of the store may take the place.
 #
 # usage: tests/embedded.sh [PROGRAM [LIBRARY [HEAP]]]
 #   PROGRAM   default: crates/lcrvm/out/lcrvm

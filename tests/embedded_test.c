@@ -40,18 +40,33 @@ enum {
     HAS_FAILED = 3,
     IS_MADE = 4,
     PATH_BYTES = 512,
+    BESIDE_BYTES = 256,
     MOST_BYTES = 8192
 };
 
 static int wrong;
 
-/* The writes and syncs of files, in place of the C library's. Of a write that fails half the bytes are written. */
-static long made, failing;
+/* The writes and syncs of files, in place of the C library's. Of a write that fails half the bytes are written. In
+   front of one of them the process ends. */
+static long made, failing, ending;
+static int failure = EIO;
+
+static bool fails_now(void)
+{
+    if (++made == ending)
+        _exit(0);
+    return made == failing;
+}
+
+static int folder_syncs;
 
 static int sync_by(long call, int file)
 {
-    if (++made == failing) {
-        errno = EIO;
+    struct stat at;
+
+    folder_syncs += fstat(file, &at) == 0 && S_ISDIR(at.st_mode);
+    if (fails_now()) {
+        errno = failure;
         return -1;
     }
     return (int)syscall(call, file);
@@ -67,12 +82,44 @@ int fsync(int file)
     return sync_by(SYS_fsync, file);
 }
 
+/* What else a test refuses, in place of the C library's: marks, and the removal of files, by these errors; and the next
+   locks, which are interrupted. */
+static int marks_error, removals_error, interrupted_locks;
+
+int mknodat(int folder, const char *name, mode_t mode, dev_t device)
+{
+    if (marks_error != 0) {
+        errno = marks_error;
+        return -1;
+    }
+    return (int)syscall(SYS_mknodat, folder, name, mode, device);
+}
+
+int unlinkat(int folder, const char *name, int flags)
+{
+    if (removals_error != 0) {
+        errno = removals_error;
+        return -1;
+    }
+    return (int)syscall(SYS_unlinkat, folder, name, flags);
+}
+
+int flock(int file, int operation)
+{
+    if (operation != LOCK_UN && interrupted_locks > 0) {
+        interrupted_locks--;
+        errno = EINTR;
+        return -1;
+    }
+    return (int)syscall(SYS_flock, file, operation);
+}
+
 ssize_t pwrite(int file, const void *bytes, size_t len, off_t at)
 {
-    if (++made == failing) {
+    if (fails_now()) {
         if (len > 1)
             (void)!syscall(SYS_pwrite64, file, bytes, len / 2, at);
-        errno = EIO;
+        errno = failure;
         return -1;
     }
     return syscall(SYS_pwrite64, file, bytes, len, at);
@@ -188,9 +235,13 @@ static int commits(const char *folder)
     return 1;
 }
 
+/* Of a file its name stands in front. */
 static bool is_failure(const struct lcrvm_fault *fault)
 {
-    return fault->status == LCRVM_DEVICE_FAULT && strcmp(fault->text, strerror(EIO)) == 0;
+    const char *name_end = strstr(fault->text, ": ");
+
+    return fault->status == LCRVM_DEVICE_FAULT &&
+           strcmp(name_end != NULL ? name_end + 2 : fault->text, strerror(EIO)) == 0;
 }
 
 /* A file of the store has failed: all is refused, also with arguments that are wrong, and no call is made of a file. */
@@ -253,24 +304,30 @@ static int faults(const char *folder, const char *number)
         given_up(store);
     else
         CHECK(is_failure(&fault));
-    ANSWERS(lcrvm_open(folder, NULL, &store, &fault), LCRVM_DEVICE_FAULT);
-    CHECK(store == NULL && strstr(fault.text, "lcrvm recover") != NULL);
+    status = lcrvm_open(folder, NULL, &store, &fault);
+    if (failing == 1) {
+        /* The sync of the folder, in front of all that is written: it leaves no mark. */
+        ANSWERS(status, LCRVM_OK);
+        lcrvm_close(store, NULL);
+    } else {
+        ANSWERS(status, LCRVM_DEVICE_FAULT);
+        CHECK(store == NULL && strstr(fault.text, "lcrvm recover") != NULL);
+    }
     CHECK(descriptors() == before);
     return wrong == 0 ? HAS_FAILED : 1;
 }
 
-/* How many of the files of a store of two nodes and two segments stand. */
-static int standing(const char *folder)
+/* How many names a folder has. */
+static int standing(const char *path)
 {
-    static const char *const names[] = {"log0", "log1", "seg1", "seg2"};
+    DIR *folder = opendir(path);
     int count = 0;
 
-    for (int i = 0; i < 4; i++) {
-        char path[PATH_BYTES];
-
-        snprintf(path, sizeof path, "%s/%s", folder, names[i]);
-        count += access(path, F_OK) == 0;
-    }
+    if (folder == NULL)
+        return -1;
+    for (const struct dirent *entry; (entry = readdir(folder)) != NULL;)
+        count += entry->d_name[0] != '.';
+    closedir(folder);
     return count;
 }
 
@@ -287,17 +344,17 @@ static int creates(const char *folder, const char *number)
     CHECK(fault.status == status);
     CHECK(descriptors() == before);
     if (made < failing) {
-        /* A write and a sync of each of four files, and the syncs of two folders. */
-        CHECK(made == 4 * 2 + 2);
+        /* A write and a sync of each of five files, and the syncs of two folders. */
+        CHECK(made == 5 * 2 + 2);
         return status == LCRVM_OK && wrong == 0 ? 0 : 1;
     }
     /* That the folder which it stands in is not synced is no fault. */
     if (status == LCRVM_OK)
-        return standing(folder) == 4 && wrong == 0 ? IS_MADE : 1;
+        return standing(folder) == 5 && wrong == 0 ? IS_MADE : 1;
     CHECK(is_failure(&fault));
-    CHECK(standing(folder) == (failing <= 8 ? (failing + 1) / 2 : 4));
+    CHECK(standing(folder) == 0);
     failing = 0;
-    ANSWERS(lcrvm_create(folder, &options, NULL), LCRVM_EXISTS);
+    ANSWERS(lcrvm_create(folder, &options, NULL), LCRVM_OK);
     return wrong == 0 ? HAS_FAILED : 1;
 }
 
@@ -326,15 +383,23 @@ static const char *below(const char *folder, const char *name)
     return path;
 }
 
+/* The path of a folder that stands beside this one. */
+static void beside(const char *folder, const char *end, char path[BESIDE_BYTES])
+{
+    snprintf(path, BESIDE_BYTES, "%.200s.%s", folder, end);
+}
+
 static struct lcrvm_store *opened_as(const char *folder, const struct lcrvm_geometry *geometry, bool truncates)
 {
-    const struct lcrvm_options options = {.geometry = geometry, .truncate_when_full = truncates};
+    const struct lcrvm_options options = {
+        .geometry = geometry, .truncate_when_full = truncates, .threads = geometry != NULL ? 99 : 0};
     struct lcrvm_store *store;
     struct lcrvm_fault fault;
 
     ANSWERS(lcrvm_open(folder, &options, &store, &fault), LCRVM_OK);
     if (store == NULL)
         exit(1);
+    CHECK(lcrvm_fault_of(store)->status == LCRVM_OK && lcrvm_fault_of(store)->text[0] == '\0');
     return store;
 }
 
@@ -571,6 +636,15 @@ static void test_sizes(const char *folder)
     ANSWERS(lcrvm_open(folder, NULL, &store, NULL), LCRVM_NO_STORE);
 }
 
+/* A file could not be opened, since nothing stands under its name. */
+static bool is_missing(const struct lcrvm_fault *fault, const char *name)
+{
+    char wanted[PATH_BYTES];
+
+    snprintf(wanted, sizeof wanted, "%s: %s", name, strerror(ENOENT));
+    return fault->status == LCRVM_DEVICE_FAULT && strcmp(fault->text, wanted) == 0;
+}
+
 /* What is opened has to have the size that is asked for, and as found its files have to fit together. */
 static void test_openings(const char *folder)
 {
@@ -580,13 +654,15 @@ static void test_openings(const char *folder)
     struct lcrvm_fault fault;
 
     close_well(store);
+    /* The folder states no size. */
+    CHECK(unlink(below(folder, "lcrvm.store")) == 0);
     /* What stands above the geometry has to be a file, too. */
     CHECK(mkdir(below(folder, "seg3"), 0777) == 0);
     ANSWERS(lcrvm_open(folder, &as_one, &store, &fault), LCRVM_DEVICE_FAULT);
-    CHECK(strcmp(fault.text, "not a regular file") == 0 && rmdir(below(folder, "seg3")) == 0);
+    CHECK(strcmp(fault.text, "seg3: not a regular file") == 0 && rmdir(below(folder, "seg3")) == 0);
     CHECK(symlink("nowhere", below(folder, "seg3")) == 0);
     ANSWERS(lcrvm_open(folder, NULL, &store, &fault), LCRVM_DEVICE_FAULT);
-    CHECK(strcmp(fault.text, strerror(ENOENT)) == 0 && unlink(below(folder, "seg3")) == 0);
+    CHECK(is_missing(&fault, "seg3") && unlink(below(folder, "seg3")) == 0);
     ANSWERS(lcrvm_open(folder, &as_fewer, &store, &fault), LCRVM_BAD_GEOMETRY);
     CHECK(fault.area == 2);
     ANSWERS(lcrvm_open(folder, &as_longer, &store, &fault), LCRVM_BAD_GEOMETRY);
@@ -600,6 +676,393 @@ static void test_openings(const char *folder)
     CHECK(unlink(below(folder, "seg1")) == 0);
     ANSWERS(lcrvm_open(folder, NULL, &store, &fault), LCRVM_NO_STORE);
     CHECK(store == NULL && strcmp(fault.text, "seg1 is missing") == 0);
+}
+
+/* A file with this text, or with nothing. */
+static void write_text(const char *path, const char *bytes, size_t len)
+{
+    FILE *file = fopen(path, "w");
+
+    CHECK(file != NULL && fwrite(bytes, 1, len, file) == len && fclose(file) == 0);
+}
+
+/* An opening by this size, or as found, is answered so. */
+static void opens_not(const char *folder, const struct lcrvm_geometry *geometry, enum lcrvm_status status,
+                      uint64_t area, const char *text)
+{
+    const struct lcrvm_options options = {.geometry = geometry};
+    struct lcrvm_store *store;
+    struct lcrvm_fault fault = {.status = LCRVM_OK};
+
+    ANSWERS(lcrvm_open(folder, &options, &store, &fault), status);
+    CHECK(store == NULL && fault.area == area && strcmp(fault.text, text) == 0);
+    if (store != NULL || fault.area != area || strcmp(fault.text, text) != 0)
+        fprintf(stderr, "area %d, '%s', and not %d, '%s'\n", (int)fault.area, fault.text, (int)area, text);
+    if (store != NULL)
+        lcrvm_close(store, NULL);
+}
+
+/* The size stands in a file of its own. Where a file of the store is missing it is not opened, neither by that size, as
+   found or not, nor by that of the files which are left. */
+static void test_missing_files(const char *folder)
+{
+    static const struct lcrvm_geometry size = {2, 1, 2, 1, 64}, one_log = {1, 1, 2, 1, 64};
+    static const struct lcrvm_geometry one_segment = {2, 1, 1, 1, 64};
+    static const char *const names[] = {"log0", "log1", "seg1", "seg2"};
+    char text[MOST_BYTES], aside[BESIDE_BYTES];
+    struct lcrvm_store *store = made_as(folder, &size, false);
+
+    ANSWERS(commit(store, 1, 1, 0, "kept"), LCRVM_OK);
+    ANSWERS(lcrvm_flush(store, 1, NULL), LCRVM_OK);
+    close_well(store);
+    CHECK(read_bytes(below(folder, "lcrvm.store"), text) == 45);
+    CHECK(memcmp(text, "format 1\nnodes 2\nsegments 2\npages 1\nwords 64\n", 45) == 0);
+    beside(folder, "aside", aside);
+    for (int i = 0; i < 4; i++) {
+        char wanted[64];
+
+        snprintf(wanted, sizeof wanted, "%s: %s", names[i], strerror(ENOENT));
+        CHECK(rename(below(folder, names[i]), aside) == 0);
+        opens_not(folder, NULL, LCRVM_DEVICE_FAULT, 0, wanted);
+        opens_not(folder, &size, LCRVM_DEVICE_FAULT, 0, wanted);
+        if (i == 1)
+            opens_not(folder, &one_log, LCRVM_BAD_GEOMETRY, 1, "log1 is missing");
+        if (i == 3)
+            opens_not(folder, &one_segment, LCRVM_BAD_GEOMETRY, 3, "seg2 is missing");
+        CHECK(rename(aside, below(folder, names[i])) == 0);
+    }
+    store = opened_as(folder, NULL, false);
+    CHECK(holds(store, 1, 1, 0, "kept"));
+    close_well(store);
+    /* A folder that states no size is as its files say. */
+    CHECK(unlink(below(folder, "lcrvm.store")) == 0);
+    store = opened_as(folder, NULL, false);
+    CHECK(lcrvm_geometry_of(store)->nodes == 2 && holds(store, 1, 1, 0, "kept"));
+    close_well(store);
+    store = opened_as(folder, &size, false);
+    close_well(store);
+}
+
+/* All files are there as the caller says, and the size that is stated is another. As found they are not as it says. */
+static void test_another_size(const char *folder)
+{
+    static const struct lcrvm_geometry size = {2, 3, 2, 2, 64}, alike = {1, 1, 2, 1, 67};
+    static const struct {
+        const char *text, *said;
+        int by_size, as_found; /* the area; below 0 a file is missing */
+        const char *missing;
+    } sizes[] = {
+        {"format 1\nnodes 1\nsegments 2\npages 2\nwords 64\n", "nodes 1 segments 2 pages 2 words 64", 1, 3, NULL},
+        {"format 1\nnodes 3\nsegments 2\npages 2\nwords 64\n", "log2 is missing", 2, -1, "log2"},
+        {"format 1\nnodes 2\nsegments 1\npages 2\nwords 64\n", "nodes 2 segments 1 pages 2 words 64", 3, 3, NULL},
+        {"format 1\nnodes 2\nsegments 16\npages 2\nwords 64\n", "seg3 is missing", 4, -1, "seg3"},
+        {"format 1\nnodes 2\nsegments 2\npages 1\nwords 64\n", "nodes 2 segments 2 pages 1 words 64", 2, 2, NULL},
+        {"format 1\nnodes 2\nsegments 2\npages 1024\nwords 64\n", "nodes 2 segments 2 pages 1024 words 64", 2, 2, NULL},
+        {"format 1\nnodes 2\nsegments 2\npages 2\nwords 4096\n", "nodes 2 segments 2 pages 2 words 4096", 0, 0, NULL},
+    };
+
+    static const char swapped[] = "format 1\nnodes 2\nsegments 1\npages 1\nwords 67\n";
+    char other[BESIDE_BYTES];
+
+    close_well(made_as(folder, &size, false));
+    for (size_t i = 0; i < sizeof sizes / sizeof sizes[0]; i++) {
+        char wanted[128];
+
+        write_text(below(folder, "lcrvm.store"), sizes[i].text, strlen(sizes[i].text));
+        snprintf(wanted, sizeof wanted, "%s%s", sizes[i].missing != NULL ? "" : "lcrvm.store: ", sizes[i].said);
+        opens_not(folder, &size, LCRVM_BAD_GEOMETRY, (uint64_t)sizes[i].by_size, wanted);
+        snprintf(wanted, sizeof wanted, "%s: %s", sizes[i].missing != NULL ? sizes[i].missing : "", strerror(ENOENT));
+        if (sizes[i].missing != NULL)
+            opens_not(folder, NULL, LCRVM_DEVICE_FAULT, 0, wanted);
+        else
+            opens_not(folder, NULL, LCRVM_BAD_GEOMETRY, (uint64_t)sizes[i].as_found, "");
+    }
+    /* A log is as long as a segment, so that the files differ by their names alone. */
+    beside(folder, "alike", other);
+    close_well(made_as(other, &alike, false));
+    write_text(below(other, "lcrvm.store"), swapped, strlen(swapped));
+    opens_not(other, &alike, LCRVM_BAD_GEOMETRY, 1, "log1 is missing");
+}
+
+/* The file of the size has to be a regular one, with the text of a size and nothing else. */
+static void test_texts_of_no_size(const char *folder)
+{
+#define TEXT(bytes) {bytes, sizeof bytes - 1}
+    static const struct {
+        const char *bytes;
+        size_t len;
+    } texts[] = {
+        TEXT(""),
+        TEXT("\n"),
+        TEXT("format 1\nnodes 1\nsegments 2\npages 4\nwords 64"),
+        TEXT("format 1\nnodes 1\nsegments 2\npages 4\nwords 64\n\n"),
+        TEXT("format 1\nnodes 1\nsegments 2\npages 4\nwords 64\n\0"),
+        TEXT("format 1\nnodes 1\nsegments 2\npages 4\nwords 64\nformat 1\nnodes 1\nsegments 2\npages 4\nwords 64\n"),
+        TEXT("format 1\r\nnodes 1\r\nsegments 2\r\npages 4\r\nwords 64\r\n"),
+        TEXT(" format 1\nnodes 1\nsegments 2\npages 4\nwords 64\n"),
+        TEXT("format 1\nnodes  1\nsegments 2\npages 4\nwords 64\n"),
+        TEXT("format 1\nnodes\t1\nsegments 2\npages 4\nwords 64\n"),
+        TEXT("format 1\nnodes 1\nsegments 2\npages 4\nwords 64 "),
+        TEXT("format 2\nnodes 1\nsegments 2\npages 4\nwords 64\n"),
+        TEXT("format 1\nnodes 01\nsegments 2\npages 4\nwords 64\n"),
+        TEXT("format 1\nnodes +1\nsegments 2\npages 4\nwords 64\n"),
+        TEXT("format 1\nnodes -1\nsegments 2\npages 4\nwords 64\n"),
+        TEXT("format 1\nnodes 0\nsegments 2\npages 4\nwords 64\n"),
+        TEXT("format 1\nnodes 9\nsegments 2\npages 4\nwords 64\n"),
+        TEXT("format 1\nnodes 1\nsegments 17\npages 4\nwords 64\n"),
+        TEXT("format 1\nnodes 1\nsegments 2\npages 1025\nwords 64\n"),
+        TEXT("format 1\nnodes 1\nsegments 2\npages 4\nwords 63\n"),
+        TEXT("format 1\nnodes 1\nsegments 2\npages 4\nwords 4097\n"),
+        TEXT("format 1\nnodes 4294967297\nsegments 2\npages 4\nwords 64\n"),
+        TEXT("format 1\nsegments 2\nnodes 1\npages 4\nwords 64\n"),
+        TEXT("format 1\nnodes 1\nthreads 2\nsegments 2\npages 4\nwords 64\n"),
+    };
+#undef TEXT
+    static const char no_size[] = "lcrvm.store: not the size of a store", no_file[] = "lcrvm.store: not a regular file";
+    char path[PATH_BYTES], missing[64];
+    int before;
+
+    close_well(made_as(folder, &one, false));
+    before = descriptors();
+    snprintf(path, sizeof path, "%s/lcrvm.store", folder);
+    for (size_t i = 0; i < sizeof texts / sizeof texts[0]; i++) {
+        write_text(path, texts[i].bytes, texts[i].len);
+        opens_not(folder, NULL, LCRVM_DEVICE_FAULT, 0, no_size);
+        opens_not(folder, &one, LCRVM_DEVICE_FAULT, 0, no_size);
+    }
+    CHECK(unlink(path) == 0 && mkfifo(path, 0666) == 0);
+    alarm(60);
+    opens_not(folder, NULL, LCRVM_DEVICE_FAULT, 0, no_file);
+    opens_not(folder, &one, LCRVM_DEVICE_FAULT, 0, no_file);
+    alarm(0);
+    CHECK(unlink(path) == 0 && mkdir(path, 0777) == 0);
+    opens_not(folder, NULL, LCRVM_DEVICE_FAULT, 0, no_file);
+    CHECK(rmdir(path) == 0 && symlink("nowhere", path) == 0);
+    snprintf(missing, sizeof missing, "lcrvm.store: %s", strerror(ENOENT));
+    opens_not(folder, NULL, LCRVM_DEVICE_FAULT, 0, missing);
+    opens_not(folder, &one, LCRVM_DEVICE_FAULT, 0, missing);
+    CHECK(unlink(path) == 0);
+    CHECK(descriptors() == before);
+}
+
+/* A file, a folder or a link to nothing under this name lets no store be made. */
+static void creates_not_beside(const char *folder, const char *name)
+{
+    const struct lcrvm_options options = {.geometry = &one};
+    struct lcrvm_fault fault;
+
+    for (int kind = 0; kind < 3; kind++) {
+        if (kind == 0)
+            write_text(below(folder, name), "", 0);
+        else
+            CHECK((kind == 1 ? mkdir(below(folder, name), 0777) : symlink("nowhere", below(folder, name))) == 0);
+        ANSWERS(lcrvm_create(folder, &options, &fault), LCRVM_EXISTS);
+        CHECK(strcmp(fault.text, name) == 0 && standing(folder) == 1);
+        CHECK(remove(below(folder, name)) == 0);
+    }
+}
+
+/* All names that a store may have are looked at, whatever its size, before one is made. */
+static void test_creation_beside_others(const char *folder)
+{
+    char name[16];
+
+    CHECK(mkdir(folder, 0777) == 0);
+    creates_not_beside(folder, "lcrvm.store");
+    creates_not_beside(folder, "fault");
+    for (int number = 0; number < 8; number++) {
+        snprintf(name, sizeof name, "log%d", number);
+        creates_not_beside(folder, name);
+        strcat(name, ".new");
+        creates_not_beside(folder, name);
+    }
+    for (int number = 1; number <= 16; number++) {
+        snprintf(name, sizeof name, "seg%d", number);
+        creates_not_beside(folder, name);
+        strcat(name, ".new");
+        creates_not_beside(folder, name);
+    }
+    write_text(below(folder, "log8"), "", 0);
+    write_text(below(folder, "seg0"), "", 0);
+    ANSWERS(lcrvm_create(folder, NULL, NULL), LCRVM_OK);
+    CHECK(standing(folder) == 2 + 3);
+}
+
+/* What a creation that fails has made is taken away, and what it cannot take away is said, as far as there is room. */
+static void test_creation_that_fails(const char *folder)
+{
+    static const struct lcrvm_geometry most = {8, 1, 16, 1, 64};
+    const struct lcrvm_options options = {.geometry = &one}, most_options = {.geometry = &most};
+    struct lcrvm_fault fault;
+    char wanted[256];
+
+    CHECK(mkdir(folder, 0777) == 0);
+    removals_error = EROFS;
+    failing = made + 2 * 2 + 1;
+    ANSWERS(lcrvm_create(folder, &options, &fault), LCRVM_DEVICE_FAULT);
+    snprintf(wanted, sizeof wanted, "seg1: %s\nseg1: left in place\nlog0: left in place\nlcrvm.store: left in place",
+             strerror(EIO));
+    CHECK(strcmp(fault.text, wanted) == 0 && standing(folder) == 3);
+    removals_error = 0;
+    ANSWERS(lcrvm_create(folder, &options, NULL), LCRVM_EXISTS);
+    CHECK(remove(below(folder, "seg1")) == 0 && remove(below(folder, "log0")) == 0);
+    CHECK(remove(below(folder, "lcrvm.store")) == 0);
+    /* With another line the text would be full. */
+    removals_error = failure = EROFS;
+    failing = made + 2 * 25;
+    ANSWERS(lcrvm_create(folder, &most_options, &fault), LCRVM_DEVICE_FAULT);
+    snprintf(wanted, sizeof wanted, "seg16: %s\nseg16: left in place\nseg15: left in place\n", strerror(EROFS));
+    CHECK(strncmp(fault.text, wanted, strlen(wanted)) == 0 && strlen(fault.text) < sizeof fault.text);
+    CHECK(strcmp(fault.text + strlen(fault.text) - strlen("seg7: left in place\n.."), "seg7: left in place\n..") == 0);
+    CHECK(standing(folder) == 25);
+    removals_error = 0;
+    failure = EIO;
+    failing = 0;
+}
+
+/* A creation that was cut leaves no store, up to its last write. */
+static void test_creation_that_is_cut(const char *folder)
+{
+    static const struct lcrvm_geometry size = {2, 1, 2, 1, 64};
+    const struct lcrvm_options options = {.geometry = &size};
+    char path[BESIDE_BYTES], number[16];
+
+    for (int call = 1; call <= 10; call++) {
+        struct lcrvm_store *store;
+        pid_t child;
+
+        snprintf(number, sizeof number, "%d", call);
+        beside(folder, number, path);
+        CHECK(mkdir(path, 0777) == 0);
+        child = fork();
+        if (child == 0) {
+            ending = made + call;
+            lcrvm_create(path, &options, NULL);
+            _exit(1);
+        }
+        CHECK(waitpid(child, NULL, 0) == child && standing(path) == (call + 1) / 2);
+        CHECK((lcrvm_open(path, NULL, &store, NULL) == LCRVM_OK) == (call == 10));
+        if (store != NULL)
+            lcrvm_close(store, NULL);
+        CHECK((lcrvm_open(path, &options, &store, NULL) == LCRVM_OK) == (call == 10));
+        if (store != NULL)
+            lcrvm_close(store, NULL);
+        ANSWERS(lcrvm_create(path, &options, NULL), LCRVM_EXISTS);
+    }
+}
+
+/* Gives the files of a store names in another folder too. */
+static void link_files(const char *from, const char *to, const char *const names[])
+{
+    char path[PATH_BYTES];
+
+    for (; *names != NULL; names++) {
+        snprintf(path, sizeof path, "%s/%s", to, *names);
+        CHECK(link(below(from, *names), path) == 0);
+    }
+}
+
+/* A file is of one store that is open, by whatever folder it has its name. */
+static void test_files_of_two_folders(const char *folder)
+{
+    static const char *const all[] = {"lcrvm.store", "log0", "seg1", "seg2", NULL}, *const last[] = {"seg2", NULL};
+    static const struct lcrvm_geometry two_logs = {2, 1, 1, 1, 64};
+    struct lcrvm_store *store = made_as(folder, &one, false);
+    char linked[BESIDE_BYTES], partly[BESIDE_BYTES], twice[BESIDE_BYTES], path[PATH_BYTES];
+
+    beside(folder, "linked", linked);
+    CHECK(mkdir(linked, 0777) == 0);
+    link_files(folder, linked, all);
+    beside(folder, "partly", partly);
+    close_well(made_as(partly, &one, false));
+    CHECK(unlink(below(partly, "seg2")) == 0);
+    link_files(folder, partly, last);
+    opens_not(linked, NULL, LCRVM_STORE_IN_USE, 0, "log0: store in use");
+    opens_not(linked, &one, LCRVM_STORE_IN_USE, 0, "log0: store in use");
+    opens_not(partly, NULL, LCRVM_STORE_IN_USE, 0, "seg2: store in use");
+    ANSWERS(commit(store, 0, 1, 0, "kept"), LCRVM_OK);
+    ANSWERS(lcrvm_flush(store, 0, NULL), LCRVM_OK);
+    close_well(store);
+    store = opened_as(linked, NULL, false);
+    CHECK(holds(store, 0, 1, 0, "kept"));
+    opens_not(folder, NULL, LCRVM_STORE_IN_USE, 0, "log0: store in use");
+    close_well(store);
+    /* Nor is it two areas of one store. */
+    beside(folder, "twice", twice);
+    close_well(made_as(twice, &two_logs, false));
+    snprintf(path, sizeof path, "%s/log1", twice);
+    CHECK(unlink(path) == 0 && link(below(twice, "log0"), path) == 0);
+    opens_not(twice, NULL, LCRVM_STORE_IN_USE, 0, "log1: store in use");
+}
+
+/* A lock that is interrupted is taken all the same. */
+static void test_interrupted_locks(const char *folder)
+{
+    const struct lcrvm_options options = {.geometry = &one};
+    struct lcrvm_store *store;
+
+    CHECK(mkdir(folder, 0777) == 0);
+    interrupted_locks = 2;
+    ANSWERS(lcrvm_create(folder, &options, NULL), LCRVM_OK);
+    CHECK(interrupted_locks == 0);
+    interrupted_locks = 2;
+    store = opened_as(folder, NULL, false);
+    CHECK(interrupted_locks == 0);
+    opens_not(folder, NULL, LCRVM_STORE_IN_USE, 0, "store in use");
+    close_well(store);
+}
+
+/* An opening syncs the folder before it writes; where that fails nothing is written, and no mark is left. */
+static void test_opening_syncs_the_folder(const char *folder)
+{
+    struct lcrvm_store *store = made_as(folder, &one, false);
+    char log[MOST_BYTES], now[MOST_BYTES];
+    size_t len;
+
+    ANSWERS(commit(store, 0, 1, 0, "kept"), LCRVM_OK);
+    ANSWERS(lcrvm_flush(store, 0, NULL), LCRVM_OK);
+    close_well(store);
+    len = read_bytes(below(folder, "log0"), log);
+    folder_syncs = 0;
+    failing = made + 1;
+    opens_not(folder, NULL, LCRVM_DEVICE_FAULT, 0, strerror(EIO));
+    CHECK(folder_syncs == 1 && made == failing);
+    CHECK(read_bytes(below(folder, "log0"), now) == len && memcmp(log, now, len) == 0);
+    CHECK(access(below(folder, "fault"), F_OK) != 0);
+    folder_syncs = 0;
+    store = opened_as(folder, NULL, false);
+    CHECK(folder_syncs == 1 && holds(store, 0, 1, 0, "kept"));
+    close_well(store);
+    failing = 0;
+}
+
+/* The log fails, and no mark can be made: that is said, unless one stands. */
+static void test_marks_that_are_not_made(const char *folder)
+{
+    static const char asked[] = "unmount the file system before the store is opened again";
+    struct lcrvm_store *store = made_as(folder, &one, false);
+    struct lcrvm_fault fault;
+    char wanted[256];
+
+    ANSWERS(commit(store, 0, 1, 0, "lost"), LCRVM_OK);
+    marks_error = EROFS;
+    failing = made + 1;
+    ANSWERS(lcrvm_flush(store, 0, NULL), LCRVM_DEVICE_FAULT);
+    snprintf(wanted, sizeof wanted, "log0: %s\nfault: not made: %s", strerror(EIO), asked);
+    CHECK(strcmp(lcrvm_fault_of(store)->text, wanted) == 0);
+    ANSWERS(lcrvm_begin_transaction(store, 0, 0, NULL, 0, NULL, 0), LCRVM_DEVICE_FAULT);
+    ANSWERS(lcrvm_close(store, &fault), LCRVM_DEVICE_FAULT);
+    CHECK(strcmp(fault.text, wanted) == 0 && access(below(folder, "fault"), F_OK) != 0);
+    marks_error = 0;
+    store = opened_as(folder, NULL, false);
+    ANSWERS(commit(store, 0, 1, 0, "lost"), LCRVM_OK);
+    CHECK(mkdir(below(folder, "fault"), 0777) == 0);
+    failing = made + 1;
+    ANSWERS(lcrvm_flush(store, 0, NULL), LCRVM_DEVICE_FAULT);
+    ANSWERS(lcrvm_close(store, &fault), LCRVM_DEVICE_FAULT);
+    snprintf(wanted, sizeof wanted, "log0: %s", strerror(EIO));
+    CHECK(strcmp(fault.text, wanted) == 0);
+    failing = 0;
 }
 
 /* Commits with a record and resets are counted from the opening on. */
@@ -878,7 +1341,8 @@ static void test_trimmed(const char *folder)
     for (uint32_t round = 0; round < 40; round++) {
         uint64_t count = 0;
 
-        if (round == 10)
+        /* What grows to the double is as large as it has to be by then. */
+        if (round == 20)
             end = sbrk(0);
         for (uint32_t number = 0; number < 100; number++)
             ANSWERS(commit(store, 0, 1, number, "x"), LCRVM_OK);
@@ -919,20 +1383,28 @@ static void test_greatest(const char *folder)
     close_well(store);
 }
 
-/* A child of a fork neither gives the lock back nor keeps it, also where it has come to no exec yet. */
+/* A child of a fork neither gives the locks back nor keeps them, also where it has come to no exec yet. */
 static void test_children(const char *folder)
 {
-    struct lcrvm_store *store = made_as(folder, &one, false), *other;
+    static const char *const last[] = {"seg2", NULL};
+    struct lcrvm_store *store = made_as(folder, &one, false);
+    char partly[BESIDE_BYTES];
     int ends[2];
     char byte;
-    pid_t child = fork();
+    pid_t child;
 
+    beside(folder, "partly", partly);
+    close_well(made_as(partly, &one, false));
+    CHECK(unlink(below(partly, "seg2")) == 0);
+    link_files(folder, partly, last);
+    child = fork();
     if (child == 0) {
         lcrvm_close(store, NULL);
         _exit(0);
     }
     CHECK(waitpid(child, NULL, 0) == child);
-    ANSWERS(lcrvm_open(folder, NULL, &other, NULL), LCRVM_STORE_IN_USE);
+    opens_not(folder, NULL, LCRVM_STORE_IN_USE, 0, "store in use");
+    opens_not(partly, NULL, LCRVM_STORE_IN_USE, 0, "seg2: store in use");
     CHECK(pipe(ends) == 0);
     child = fork();
     if (child == 0) {
@@ -940,8 +1412,8 @@ static void test_children(const char *folder)
         _exit((int)read(ends[0], &byte, 1));
     }
     close_well(store);
-    store = opened_as(folder, &one, false);
-    close_well(store);
+    close_well(opened_as(folder, &one, false));
+    close_well(opened_as(partly, &one, false));
     close(ends[0]);
     close(ends[1]);
     CHECK(waitpid(child, NULL, 0) == child);
@@ -957,6 +1429,16 @@ static const struct {
     {"refused_creation", test_creation_is_refused},
     {"sizes", test_sizes},
     {"openings", test_openings},
+    {"missing_files", test_missing_files},
+    {"another_size", test_another_size},
+    {"texts_of_no_size", test_texts_of_no_size},
+    {"creation_beside_others", test_creation_beside_others},
+    {"creation_that_fails", test_creation_that_fails},
+    {"creation_that_is_cut", test_creation_that_is_cut},
+    {"files_of_two_folders", test_files_of_two_folders},
+    {"interrupted_locks", test_interrupted_locks},
+    {"opening_syncs_the_folder", test_opening_syncs_the_folder},
+    {"marks_that_are_not_made", test_marks_that_are_not_made},
     {"counts", test_counts},
     {"full", test_full_is_made_again},
     {"full_with_another", test_full_where_another_has_ranges},

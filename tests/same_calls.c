@@ -6,15 +6,18 @@
                                                               `full` the store truncates a log that is full
 
    A line is the call with its arguments, what it hands out, `->` and its status, and then all fields of the last fault. Of what
-   the system says, whose words are not those of both, it says whether there is a text. */
+   each says in words of its own, it says whether there is a text, or nothing. */
 #define _POSIX_C_SOURCE 200809L
 
 #include "lcrvm.h"
 
+#include <dirent.h>
 #include <inttypes.h>
+#include <signal.h>
 #include <stdio.h>
 #include <stdlib.h>
 #include <string.h>
+#include <sys/resource.h>
 #include <sys/stat.h>
 #include <unistd.h>
 
@@ -50,14 +53,23 @@ struct row {
 
 /* ---- what is printed */
 
-static bool is_of_the_system(enum lcrvm_status status)
+static const char *words_of(const struct lcrvm_fault *fault)
 {
-    return status == LCRVM_DEVICE_FAULT || status == LCRVM_STORE_IN_USE;
+    switch (fault->status) {
+    case LCRVM_DEVICE_FAULT:
+    case LCRVM_STORE_IN_USE:
+        return fault->text[0] != '\0' ? "(a text)" : "";
+    case LCRVM_BAD_GEOMETRY:
+    case LCRVM_EXISTS:
+        return "";
+    default:
+        return fault->text;
+    }
 }
 
 static void print_fault(const struct lcrvm_fault *fault)
 {
-    const char *text = is_of_the_system(fault->status) && fault->text[0] != '\0' ? "(a text)" : fault->text;
+    const char *text = words_of(fault);
     printf("; %s %d %" PRIu64 " %" PRIu64 " %" PRIu64 " %" PRIu64, lcrvm_status_text(fault->status), fault->has_area,
            fault->segment, fault->sequence, fault->applied, fault->area);
     printf(" %" PRIu64 " %" PRIu64 " %" PRIu64 " %d %d %s\n", fault->words, fault->tail, fault->need,
@@ -598,6 +610,14 @@ static void try_open(const char *folder, const char *name, const struct lcrvm_op
         do_close(store);
 }
 
+/* Makes an empty file. */
+static void make(const char *path)
+{
+    FILE *file = fopen(path, "w");
+    if (file == NULL || fclose(file) != 0)
+        exit(1);
+}
+
 /* Writes bytes into a file. */
 static void lay(const char *path, const void *bytes, size_t length)
 {
@@ -646,6 +666,141 @@ static void try_sizes(const char *folder, const char *program)
     do_create(path_of(folder, "nowhere", ""), &few);
 }
 
+/* How many names a folder has. */
+static void print_names(const char *path)
+{
+    DIR *folder = opendir(path);
+    int count = 0;
+    if (folder == NULL)
+        exit(1);
+    for (const struct dirent *entry; (entry = readdir(folder)) != NULL;)
+        count += entry->d_name[0] != '.';
+    closedir(folder);
+    printf("names = %d -> ok;\n", count);
+}
+
+/* Each file is missing in turn. The store has the size that it states, and not that of the files which are left. */
+static void try_missing(const char *folder, const char *program)
+{
+    static const char *const names[] = {"log0", "log1", "seg1", "seg2"};
+    const struct lcrvm_geometry size = {2, 1, 2, 1, 64}, one_log = {1, 1, 2, 1, 64}, one_segment = {2, 1, 1, 1, 64};
+    const struct lcrvm_options options = {.program = program, .geometry = &size}, found = {.program = program};
+    const struct lcrvm_options as_one_log = {.program = program, .geometry = &one_log};
+    const struct lcrvm_options as_one_segment = {.program = program, .geometry = &one_segment};
+    do_close(new_store(folder, "missing", &options));
+    for (int i = 0; i < 4; i++) {
+        if (rename(path_of(folder, "missing", names[i]), path_of(folder, "missing", "aside")) != 0)
+            exit(1);
+        try_open(folder, "missing", &found);
+        try_open(folder, "missing", &options);
+        try_open(folder, "missing", &as_one_log);
+        try_open(folder, "missing", &as_one_segment);
+        if (rename(path_of(folder, "missing", "aside"), path_of(folder, "missing", names[i])) != 0)
+            exit(1);
+    }
+    try_open(folder, "missing", &found);
+    unlink(path_of(folder, "missing", "lcrvm.store"));
+    try_open(folder, "missing", &found);
+    unlink(path_of(folder, "missing", "log1"));
+    try_open(folder, "missing", &found);
+    try_open(folder, "missing", &as_one_log);
+}
+
+/* The size that is stated is another than that of the files, or none. */
+static void try_stated(const char *folder, const char *program)
+{
+    static const char *const texts[] = {
+        "format 1\nnodes 1\nsegments 2\npages 2\nwords 64\n",  "format 1\nnodes 3\nsegments 2\npages 2\nwords 64\n",
+        "format 1\nnodes 2\nsegments 1\npages 2\nwords 64\n",  "format 1\nnodes 2\nsegments 3\npages 2\nwords 64\n",
+        "format 1\nnodes 2\nsegments 2\npages 1\nwords 64\n",  "format 1\nnodes 2\nsegments 2\npages 2\nwords 65\n",
+        "format 1\nnodes 2\nsegments 2\npages 2\nwords 64\n",  "",
+        "format 1\nnodes 2\nsegments 2\npages 2\nwords 64",    "format 1\nnodes 2\nsegments 2\npages 2\nwords 64\n\n",
+        "format 1\nnodes 02\nsegments 2\npages 2\nwords 64\n", "format 2\nnodes 2\nsegments 2\npages 2\nwords 64\n",
+        "format 1\nnodes 9\nsegments 2\npages 2\nwords 64\n",  "format 1\nnodes 2\nsegments 2\npages 2\nwords 63\n",
+    };
+    const struct lcrvm_geometry size = {2, 3, 2, 2, 64};
+    const struct lcrvm_options options = {.program = program, .geometry = &size}, found = {.program = program};
+    const char *path;
+    do_close(new_store(folder, "stated", &options));
+    for (size_t i = 0; i < sizeof texts / sizeof texts[0]; i++) {
+        path = path_of(folder, "stated", "lcrvm.store");
+        unlink(path);
+        make(path);
+        lay(path, texts[i], strlen(texts[i]));
+        try_open(folder, "stated", &found);
+        try_open(folder, "stated", &options);
+    }
+    path = path_of(folder, "stated", "lcrvm.store");
+    if (unlink(path) != 0 || mkfifo(path, 0666) != 0)
+        exit(1);
+    try_open(folder, "stated", &found);
+    if (unlink(path) != 0 || symlink("nowhere", path) != 0)
+        exit(1);
+    try_open(folder, "stated", &found);
+    try_open(folder, "stated", &options);
+}
+
+/* A store is made beside nothing that a store may have. */
+static void try_names(const char *folder, const char *program)
+{
+    static const char *const names[] = {"lcrvm.store", "log0",     "log7",     "seg1",     "seg16",     "fault",
+                                        "log0.new",    "log7.new", "seg1.new", "seg3.new", "seg16.new", "log8"};
+    const struct lcrvm_options options = {.program = program};
+    if (mkdir(path_of(folder, "names", ""), 0777) != 0)
+        exit(1);
+    for (size_t i = 0; i < sizeof names / sizeof names[0]; i++) {
+        const char *path = path_of(folder, "names", names[i]);
+        if (symlink("nowhere", path) != 0)
+            exit(1);
+        do_create(path_of(folder, "names", ""), &options);
+        print_names(path_of(folder, "names", ""));
+        unlink(path_of(folder, "names", names[i]));
+    }
+}
+
+/* A creation whose segments are longer than a file may be leaves nothing. */
+static void try_a_creation_that_fails(const char *folder, const char *program)
+{
+    const struct lcrvm_geometry size = {2, 1, 2, 8, 64};
+    const struct lcrvm_options options = {.program = program, .geometry = &size};
+    struct rlimit limit;
+    if (mkdir(path_of(folder, "fails", ""), 0777) != 0 || getrlimit(RLIMIT_FSIZE, &limit) != 0)
+        exit(1);
+    const struct rlimit shorter = {.rlim_cur = 7 * PAGE_AREA_BYTES, .rlim_max = limit.rlim_max};
+    fflush(stdout);
+    signal(SIGXFSZ, SIG_IGN);
+    setrlimit(RLIMIT_FSIZE, &shorter);
+    do_create(path_of(folder, "fails", ""), &options);
+    setrlimit(RLIMIT_FSIZE, &limit);
+    print_names(path_of(folder, "fails", ""));
+    do_create(path_of(folder, "fails", ""), &options);
+}
+
+/* Two folders have the same files, which are open in one of them. */
+static void try_links(const char *folder, const char *program)
+{
+    static const char *const names[] = {"lcrvm.store", "log0", "seg1"};
+    const struct lcrvm_options options = {.program = program};
+    struct lcrvm_store *store = new_store(folder, "linked", &options);
+    if (mkdir(path_of(folder, "links", ""), 0777) != 0)
+        exit(1);
+    for (int i = 0; i < 3; i++)
+        if (link(path_of(folder, "linked", names[i]), path_of(folder, "links", names[i])) != 0)
+            exit(1);
+    try_open(folder, "links", &options);
+    commit(store, 0, 0);
+    do_close(store);
+    try_open(folder, "links", &options);
+    do_close(new_store(folder, "partly", &options));
+    if (unlink(path_of(folder, "partly", "seg1")) != 0)
+        exit(1);
+    if (link(path_of(folder, "linked", "seg1"), path_of(folder, "partly", "seg1")) != 0)
+        exit(1);
+    store = do_open(path_of(folder, "linked", ""), &options);
+    try_open(folder, "partly", &options);
+    do_close(store);
+}
+
 /* Files that are there already, missing, or of other lengths. */
 static void try_files(const char *folder, const char *program)
 {
@@ -670,6 +825,8 @@ static void try_files(const char *folder, const char *program)
     unlink(path_of(folder, "files", "log1"));
     try_open(folder, "files", &found);
     try_open(folder, "files", &as_other);
+    unlink(path_of(folder, "files", "lcrvm.store"));
+    try_open(folder, "files", &found);
     do_create(path_of(folder, "files", ""), &options);
 }
 
@@ -745,6 +902,11 @@ static int try_stores(const char *folder, const char *program)
 {
     try_sizes(folder, program);
     try_files(folder, program);
+    try_missing(folder, program);
+    try_stated(folder, program);
+    try_names(folder, program);
+    try_a_creation_that_fails(folder, program);
+    try_links(folder, program);
     try_numbers(folder, program);
     try_records(folder, program);
     try_a_long_record(folder, program);

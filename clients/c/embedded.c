@@ -4,33 +4,25 @@
    Each event of the store makes at most one call on one of its areas in memory: a write, or a sync. The same call is made on
    the area's file, by pwrite or fdatasync, before the event is answered; but a sync makes none where all that was written to
    the file is stable. Where a call fails the store is given up: this call and each later one answer LCRVM_DEVICE_FAULT, a file
-   `fault` is left in the folder, and a recovery has what was acknowledged. */
+   `fault` is left in the folder, and a recovery has what was acknowledged.
+
+   The size of a store stands in a file of its own, which is made before the others. So a store whose creation was cut,
+   or that has lost a file, is not opened. */
 
 /* flock is no POSIX function. */
 #define _DEFAULT_SOURCE
 
 #include "lcrvm.h"
 #include "statuses.h"
+#include "store_files.h"
 #include "transactions.h"
 
 #include <errno.h>
 #include <fcntl.h>
-#include <stdio.h>
 #include <stdlib.h>
-#include <string.h>
-#include <sys/file.h>
 #include <sys/stat.h>
 #include <sys/types.h>
 #include <unistd.h>
-
-enum {
-    MOST_AREAS = MOST_NODES + MOST_SEGMENTS,
-    PIECE_BYTES = 4096, /* of a new file, that are written at once */
-    NAME_BYTES = 16,
-    LEAST_DESCRIPTOR = 3
-};
-
-static const char log_kind[] = "log", segment_kind[] = "seg", mark[] = "fault";
 
 /* What crosses to the library, as lc_c declares it. */
 
@@ -105,7 +97,8 @@ void lcrvm_session_free(struct handle handle);
 struct lcrvm_store {
     struct handle session;
     struct known known;
-    pid_t process; /* whose store it is: a child of its fork leaves it the lock */
+    struct lcrvm_geometry stated; /* by the folder; of no nodes where it states none */
+    pid_t process;                /* whose store it is: a child of its fork leaves it the locks */
     int folder, files[MOST_AREAS];
     uint32_t areas;
     uint64_t calls[MOST_AREAS];                /* of each area, those that its file has had */
@@ -118,12 +111,6 @@ struct lcrvm_store {
 static enum lcrvm_status failed(struct lcrvm_store *store, enum lcrvm_status status, const char *text)
 {
     return fill_fault(&store->known.last, status, text);
-}
-
-/* The system has refused something. */
-static enum lcrvm_status system_failed(struct lcrvm_fault *fault)
-{
-    return fill_fault(fault, LCRVM_DEVICE_FAULT, strerror(errno));
 }
 
 static enum lcrvm_status refused(struct lcrvm_store *store, const struct answer *answer)
@@ -142,69 +129,6 @@ static enum lcrvm_status refused(struct lcrvm_store *store, const struct answer 
         .need = answer->need,
     };
     return store->known.last.status;
-}
-
-/* A file has failed: the store is given up, and a mark is left for whoever opens it next. That takes no descriptor, of
-   which the caller may have none left. */
-static enum lcrvm_status given_up(struct lcrvm_store *store, const char *reason)
-{
-    mknodat(store->folder, mark, S_IFREG | 0666, 0);
-    lcrvm_session_give_up(&store->session);
-    store->known.dead = true;
-    return failed(store, LCRVM_DEVICE_FAULT, reason);
-}
-
-static bool write_whole(int file, const uint8_t *bytes, size_t len, uint64_t at)
-{
-    while (len > 0) {
-        ssize_t written = pwrite(file, bytes, len, (off_t)at);
-
-        if (written < 0) {
-            if (errno == EINTR)
-                continue;
-            return false;
-        }
-        if (written == 0) {
-            errno = EIO;
-            return false;
-        }
-        bytes += written;
-        at += (uint64_t)written;
-        len -= (size_t)written;
-    }
-    return true;
-}
-
-static bool read_whole(int file, uint8_t *bytes, size_t len)
-{
-    off_t at = 0;
-
-    while (len > 0) {
-        ssize_t got = pread(file, bytes, len, at);
-
-        if (got < 0) {
-            if (errno == EINTR)
-                continue;
-            return false;
-        }
-        if (got == 0) {
-            errno = EIO;
-            return false;
-        }
-        bytes += got;
-        at += got;
-        len -= (size_t)got;
-    }
-    return true;
-}
-
-/* Makes what was written to a file stable, by fdatasync or fsync. */
-static bool make_stable(int file, int (*sync)(int file))
-{
-    while (sync(file) != 0)
-        if (errno != EINTR)
-            return false;
-    return true;
 }
 
 static bool write_area(struct lcrvm_store *store, uint32_t place, size_t at, size_t len)
@@ -235,6 +159,21 @@ static bool mirror_call(struct lcrvm_store *store, uint32_t place, const struct 
     }
 }
 
+/* The file of an area has failed: the store is given up, and a mark is left for whoever opens it next. That takes no
+   descriptor, of which the caller may have none left. */
+static enum lcrvm_status given_up(struct lcrvm_store *store, uint32_t place)
+{
+    char name[NAME_BYTES];
+
+    name_of(&store->known.geometry, place, name);
+    file_failed(&store->known.last, name);
+    if (mknodat(store->folder, mark, S_IFREG | 0666, 0) != 0 && errno != EEXIST)
+        add_line(&store->known.last, mark, "not made: unmount the file system before the store is opened again");
+    lcrvm_session_give_up(&store->session);
+    store->known.dead = true;
+    return store->known.last.status;
+}
+
 /* Behind an event: what was called of an area is called of its file, and only then the answer is given. */
 static enum lcrvm_status mirrored(struct lcrvm_store *store, const struct answer *answer)
 {
@@ -247,145 +186,13 @@ static enum lcrvm_status mirrored(struct lcrvm_store *store, const struct answer
             continue;
         errno = EIO;
         if (call.calls - store->calls[place] != 1 || !mirror_call(store, place, &call))
-            return given_up(store, strerror(errno));
+            return given_up(store, place);
         store->calls[place] = call.calls;
     }
     return refused(store, answer);
 }
 
-/* The files of a store. */
-
-static void write_name(const char *kind, uint32_t number, char name[NAME_BYTES])
-{
-    snprintf(name, NAME_BYTES, "%s%u", kind, (unsigned)number);
-}
-
-static void name_of(const struct lcrvm_geometry *geometry, uint32_t place, char name[NAME_BYTES])
-{
-    if (place < geometry->nodes)
-        write_name(log_kind, place, name);
-    else
-        write_name(segment_kind, place - geometry->nodes + 1, name);
-}
-
-static size_t len_of(const struct lcrvm_geometry *geometry, uint32_t place)
-{
-    if (place < geometry->nodes)
-        return ((size_t)geometry->words + 1) * WORD_BYTES;
-    return (size_t)geometry->pages * PAGE_AREA_BYTES;
-}
-
-/* OK where nothing stands under a name, EXISTS where something does. A link counts, wherever it leads. */
-static enum lcrvm_status look_at(int folder, const char *name, struct lcrvm_fault *fault)
-{
-    struct stat at;
-
-    if (fstatat(folder, name, &at, AT_SYMLINK_NOFOLLOW) == 0)
-        return fill_fault(fault, LCRVM_EXISTS, "");
-    return errno == ENOENT ? LCRVM_OK : system_failed(fault);
-}
-
-static void close_file(int file)
-{
-    int reason = errno;
-
-    if (file >= 0)
-        close(file);
-    errno = reason;
-}
-
-/* The file is under no descriptor of the standard streams: what is printed would be written into it. */
-static int beside_standard_streams(int file)
-{
-    int other;
-
-    if (file < 0 || file >= LEAST_DESCRIPTOR)
-        return file;
-    other = fcntl(file, F_DUPFD_CLOEXEC, LEAST_DESCRIPTOR);
-    close_file(file);
-    return other;
-}
-
-static int open_folder(int beside, const char *path)
-{
-    return beside_standard_streams(openat(beside, path, O_RDONLY | O_DIRECTORY | O_CLOEXEC));
-}
-
-/* No other process makes or opens a store in the folder until it is closed. */
-static enum lcrvm_status lock_folder(int folder, struct lcrvm_fault *fault)
-{
-    if (flock(folder, LOCK_EX | LOCK_NB) == 0)
-        return LCRVM_OK;
-    return errno == EWOULDBLOCK ? fill_fault(fault, LCRVM_STORE_IN_USE, "store in use") : system_failed(fault);
-}
-
-/* A child of a fork has the folder too until its exec, and so the lock: it is given back here, and not with the descriptor. */
-static void unlock_folder(int folder)
-{
-    if (folder >= 0)
-        flock(folder, LOCK_UN);
-}
-
 /* New stores. */
-
-static bool write_zeros(int file, size_t len)
-{
-    static const uint8_t zeros[PIECE_BYTES];
-    size_t piece;
-
-    for (size_t at = 0; at < len; at += piece) {
-        piece = len - at < sizeof zeros ? len - at : sizeof zeros;
-        if (!write_whole(file, zeros, piece, at))
-            return false;
-    }
-    return true;
-}
-
-static bool make_file(int folder, const char *name, size_t len)
-{
-    int file = beside_standard_streams(openat(folder, name, O_RDWR | O_CREAT | O_EXCL | O_CLOEXEC, 0666));
-    bool made = file >= 0 && write_zeros(file, len) && make_stable(file, fsync);
-
-    close_file(file);
-    return made;
-}
-
-/* Makes the names in a folder stable, and then its own. That the folder which it stands in cannot be synced is no fault. */
-static bool sync_names(int folder)
-{
-    int parent;
-
-    if (!make_stable(folder, fsync))
-        return false;
-    parent = open_folder(folder, "..");
-    if (parent >= 0)
-        make_stable(parent, fsync);
-    close_file(parent);
-    return true;
-}
-
-/* Makes the files of a store, unless something stands under one of their names: all are looked at before the first is made. */
-static enum lcrvm_status make_files(int folder, const struct lcrvm_geometry *geometry, struct lcrvm_fault *fault)
-{
-    uint32_t areas = geometry->nodes + geometry->segments;
-    char name[NAME_BYTES];
-    enum lcrvm_status status = LCRVM_OK;
-
-    for (uint32_t place = 0; place < areas && status == LCRVM_OK; place++) {
-        name_of(geometry, place, name);
-        status = look_at(folder, name, fault);
-    }
-    if (status == LCRVM_OK)
-        status = lock_folder(folder, fault);
-    for (uint32_t place = 0; place < areas && status == LCRVM_OK; place++) {
-        name_of(geometry, place, name);
-        if (!make_file(folder, name, len_of(geometry, place)))
-            status = system_failed(fault);
-    }
-    if (status == LCRVM_OK && !sync_names(folder))
-        status = system_failed(fault);
-    return status;
-}
 
 enum lcrvm_status lcrvm_create(const char *folder, const struct lcrvm_options *options, struct lcrvm_fault *fault)
 {
@@ -399,91 +206,21 @@ enum lcrvm_status lcrvm_create(const char *folder, const struct lcrvm_options *o
     if (opened < 0)
         system_failed(&said);
     else
-        make_files(opened, geometry, &said);
-    unlock_folder(opened);
+        create_in(opened, geometry, &said);
+    unlock(opened);
     close_file(opened);
     return tell(fault, &said);
 }
 
-/* The size of a store by its files. */
-
-struct row {
-    uint32_t count;
-    uint64_t len;
-};
-
-static enum lcrvm_status no_store(struct lcrvm_fault *fault, const char *kind, uint32_t number, const char *why)
-{
-    fill_fault(fault, LCRVM_NO_STORE, "");
-    snprintf(fault->text, sizeof fault->text, "%s%u %s", kind, (unsigned)number, why);
-    return LCRVM_NO_STORE;
-}
-
-/* How many files of a kind there are, from the first on, each as long as the first. */
-static enum lcrvm_status find_row(int folder, const char *kind, uint32_t first, uint32_t most, struct row *row,
-                                  struct lcrvm_fault *fault)
-{
-    char name[NAME_BYTES];
-    struct stat at;
-
-    *row = (struct row){0};
-    for (uint32_t place = 0; place < most; place++) {
-        write_name(kind, first + place, name);
-        if (fstatat(folder, name, &at, 0) != 0) {
-            if (errno != ENOENT)
-                return system_failed(fault);
-            continue;
-        }
-        if (row->count < place)
-            return no_store(fault, kind, first + row->count, "is missing");
-        if (place > 0 && (uint64_t)at.st_size != row->len)
-            return no_store(fault, kind, first + place, "has another length than the first");
-        *row = (struct row){.count = place + 1, .len = (uint64_t)at.st_size};
-    }
-    return row->count > 0 ? LCRVM_OK : no_store(fault, kind, first, "is missing");
-}
-
-/* How many things of so many bytes there are in this length, if they fill it. */
-static bool count_in(uint64_t len, uint64_t each, uint64_t least_count, uint64_t most_count, uint32_t *count)
-{
-    if (len % each != 0 || len / each < least_count || len / each > most_count)
-        return false;
-    *count = (uint32_t)(len / each);
-    return true;
-}
-
-static enum lcrvm_status find_size(int folder, struct lcrvm_geometry *found, struct lcrvm_fault *fault)
-{
-    struct row logs, segments;
-    enum lcrvm_status status = find_row(folder, log_kind, 0, MOST_NODES, &logs, fault);
-
-    if (status == LCRVM_OK)
-        status = find_row(folder, segment_kind, 1, MOST_SEGMENTS, &segments, fault);
-    if (status != LCRVM_OK)
-        return status;
-    if (!count_in(logs.len, WORD_BYTES, LEAST_WORDS + 1, MOST_WORDS + 1, &found->words))
-        return no_store(fault, log_kind, 0, "has a length of no store");
-    if (!count_in(segments.len, PAGE_AREA_BYTES, 1, MOST_PAGES, &found->pages))
-        return no_store(fault, segment_kind, 1, "has a length of no store");
-    found->words--;
-    found->nodes = logs.count;
-    found->segments = segments.count;
-    return LCRVM_OK;
-}
-
 /* Opening. */
 
-/* Opens the file of an area. */
+/* Opens the file of an area, and locks it. */
 static enum lcrvm_status open_file(struct lcrvm_store *store, uint32_t place, const char *name)
 {
-    struct stat at;
+    struct lcrvm_fault *fault = &store->known.last;
 
-    if (fstatat(store->folder, name, &at, 0) != 0)
-        return system_failed(&store->known.last);
-    if (!S_ISREG(at.st_mode))
-        return failed(store, LCRVM_DEVICE_FAULT, "not a regular file");
-    store->files[place] = beside_standard_streams(openat(store->folder, name, O_RDWR | O_CLOEXEC));
-    return store->files[place] < 0 ? system_failed(&store->known.last) : LCRVM_OK;
+    store->files[place] = open_regular(store->folder, name, O_RDWR, fault);
+    return store->files[place] < 0 ? fault->status : lock_file(store->files[place], name, fault);
 }
 
 /* Looks at the names of a kind above those of the geometry: EXISTS where one is taken, and its file is opened. */
@@ -530,7 +267,7 @@ static size_t room_of(const struct lcrvm_geometry *geometry)
 }
 
 /* Reads a file, and adds its area; of one that is too long one byte too much, which the start refuses. */
-static enum lcrvm_status read_file(struct lcrvm_store *store, uint32_t place)
+static enum lcrvm_status read_file(struct lcrvm_store *store, uint32_t place, const char *name)
 {
     struct stat at;
     uint8_t *bytes;
@@ -538,7 +275,7 @@ static enum lcrvm_status read_file(struct lcrvm_store *store, uint32_t place)
     enum lcrvm_status status;
 
     if (fstat(store->files[place], &at) != 0)
-        return system_failed(&store->known.last);
+        return file_failed(&store->known.last, name);
     len = at.st_size > (off_t)len ? len + 1 : (size_t)at.st_size;
     bytes = malloc(len + 1);
     if (bytes == NULL)
@@ -546,7 +283,7 @@ static enum lcrvm_status read_file(struct lcrvm_store *store, uint32_t place)
     if (read_whole(store->files[place], bytes, len))
         status = add_area(store, bytes, len);
     else
-        status = system_failed(&store->known.last);
+        status = file_failed(&store->known.last, name);
     free(bytes);
     return status;
 }
@@ -559,7 +296,7 @@ static enum lcrvm_status add_file(struct lcrvm_store *store, uint32_t place)
 
     name_of(&store->known.geometry, place, name);
     status = open_file(store, place, name);
-    return status == LCRVM_OK ? read_file(store, place) : status;
+    return status == LCRVM_OK ? read_file(store, place, name) : status;
 }
 
 /* Begins a session for a store of this size, and adds its files. */
@@ -572,7 +309,7 @@ static enum lcrvm_status add_files(struct lcrvm_store *store)
 
     if (status != LCRVM_OK)
         return failed(store, status, "");
-    store->areas = geometry->nodes + geometry->segments;
+    store->areas = areas_of(geometry);
     store->bytes = malloc(room_of(geometry));
     if (store->bytes == NULL)
         return failed(store, LCRVM_CLIENT_MEMORY, "");
@@ -581,18 +318,31 @@ static enum lcrvm_status add_files(struct lcrvm_store *store)
     return status == LCRVM_OK ? add_beyond(store) : status;
 }
 
+/* The areas become a store, where they have the lengths of its size. */
+static enum lcrvm_status start(struct lcrvm_store *store)
+{
+    struct answer answer = {0};
+
+    lcrvm_session_start(&store->session, &answer);
+    return refused(store, &answer);
+}
+
 static enum lcrvm_status recover(struct lcrvm_store *store)
 {
     struct answer answer = {0};
-    enum lcrvm_status status;
+    enum lcrvm_status status = LCRVM_OK;
 
-    lcrvm_session_start(&store->session, &answer);
-    status = refused(store, &answer);
     while (status == LCRVM_OK && answer.reply != RECOVERED) {
         lcrvm_session_recover_step(&store->session, &answer);
         status = mirrored(store, &answer);
     }
     return status;
+}
+
+/* Makes the names of the files stable: those of a store whose creation was cut, or of a copy, need not be. */
+static enum lcrvm_status sync_folder(struct lcrvm_store *store)
+{
+    return make_stable(store->folder, fsync) ? LCRVM_OK : system_failed(&store->known.last);
 }
 
 /* Where a mark stands, a file had failed: what the system has of it in memory alone may be lost. */
@@ -605,14 +355,18 @@ static enum lcrvm_status look_for_mark(struct lcrvm_store *store)
     return failed(store, LCRVM_DEVICE_FAULT, "a file had failed: lcrvm recover copies the files first");
 }
 
+/* The size is that of the caller, or else that which is stated, or else that of the files. */
 static enum lcrvm_status take_size(struct lcrvm_store *store, const struct lcrvm_options *options)
 {
-    if (options->geometry != NULL) {
-        store->known.geometry = *options->geometry;
-        return LCRVM_OK;
-    }
-    store->known.geometry.threads = threads_of(options);
-    return find_size(store->folder, &store->known.geometry, &store->known.last);
+    struct lcrvm_geometry *geometry = &store->known.geometry;
+    enum lcrvm_status status;
+
+    store->stated.threads = options->geometry != NULL ? options->geometry->threads : threads_of(options);
+    status = read_stated(store->folder, &store->stated, &store->known.last);
+    if (status != LCRVM_OK)
+        return status;
+    *geometry = options->geometry != NULL ? *options->geometry : store->stated;
+    return geometry->nodes > 0 ? LCRVM_OK : find_size(store->folder, geometry, &store->known.last);
 }
 
 /* Fills a store whose folder and session are none yet. As found, no file is in a folder that is not there. */
@@ -626,13 +380,19 @@ static enum lcrvm_status open_in(struct lcrvm_store *store, const char *folder, 
         return no_store(fault, log_kind, 0, "is missing");
     if (store->folder < 0)
         return system_failed(fault);
-    status = take_size(store, options);
+    status = lock_folder(store->folder, fault);
     if (status == LCRVM_OK)
-        status = lock_folder(store->folder, fault);
+        status = take_size(store, options);
     if (status == LCRVM_OK)
         status = look_for_mark(store);
     if (status == LCRVM_OK)
         status = add_files(store);
+    if (status == LCRVM_OK)
+        status = start(store);
+    if (status == LCRVM_OK && store->stated.nodes > 0)
+        status = compare_to_stated(store->folder, &store->known.geometry, &store->stated, fault);
+    if (status == LCRVM_OK)
+        status = sync_folder(store);
     return status == LCRVM_OK ? recover(store) : status;
 }
 
@@ -649,14 +409,20 @@ static struct lcrvm_store *new_store(void)
     return store;
 }
 
+/* Closes a file of the store, or its folder. */
+static void let_go(const struct lcrvm_store *store, int file)
+{
+    if (store->process == getpid())
+        unlock(file);
+    close_file(file);
+}
+
 static void free_store(struct lcrvm_store *store)
 {
     lcrvm_session_free(store->session);
     for (uint32_t place = 0; place < MOST_AREAS; place++)
-        close_file(store->files[place]);
-    if (store->process == getpid())
-        unlock_folder(store->folder);
-    close_file(store->folder);
+        let_go(store, store->files[place]);
+    let_go(store, store->folder);
     free(store->bytes);
     free(store);
 }
@@ -680,6 +446,7 @@ enum lcrvm_status lcrvm_open(const char *folder, const struct lcrvm_options *opt
         free_store(opened);
         return status;
     }
+    say(&opened->known.last, LCRVM_OK);
     place_tokens(&opened->known);
     opened->known.truncate_when_full = wanted->truncate_when_full;
     *store = opened;

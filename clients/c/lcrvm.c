@@ -1,6 +1,7 @@
 #define _POSIX_C_SOURCE 200809L
 
 #include "lcrvm.h"
+#include "stated_size.h"
 #include "statuses.h"
 #include "transactions.h"
 
@@ -122,12 +123,6 @@ static bool is_refusal(const char *text, struct lcrvm_fault *fault)
         memcpy((char *)fault + refusals[i].fields[f], &value, sizeof value);
     }
     return *text == '\0';
-}
-
-static bool ends_with(const char *text, const char *end)
-{
-    size_t length = strlen(text), end_length = strlen(end);
-    return length >= end_length && strcmp(text + length - end_length, end) == 0;
 }
 
 /* ---- the program */
@@ -282,10 +277,36 @@ static void wait_for(struct run *run, bool bounded)
         ;
 }
 
-/* What the program said on standard error, without the last line feed. */
+/* Reads a line, however long, and says whether it ends so. */
+static bool next_line_ends(FILE *file, const char *end)
+{
+    char last[LINE_BYTES] = "";
+    size_t length = strlen(end);
+    int byte;
+    while ((byte = getc(file)) != EOF && byte != '\n') {
+        memmove(last, last + 1, length - 1);
+        last[length - 1] = (char)byte;
+    }
+    return memcmp(last, end, length) == 0;
+}
+
+/* Whether the program said on standard error that another process has the store. */
+static bool is_in_use(struct run *run)
+{
+    bool is = false;
+    rewind(run->errors);
+    while (!is && !feof(run->errors) && !ferror(run->errors))
+        is = next_line_ends(run->errors, ": store in use");
+    return is;
+}
+
+/* What the program said on standard error of a fault, without the last line feed. That the size is only as found is
+   none. */
 static void read_errors(struct run *run, char *text, size_t size)
 {
     rewind(run->errors);
+    if (!next_line_ends(run->errors, ": the size is only as found: it has no lcrvm.store"))
+        rewind(run->errors);
     size_t length = fread(text, 1, size - 1, run->errors);
     while (length > 0 && text[length - 1] == '\n')
         length--;
@@ -305,7 +326,7 @@ static void read_end(struct run *run, const char *last, struct lcrvm_fault *faul
     read_errors(run, fault->text, sizeof fault->text);
     if (strcmp(last, "refused NoMemory") == 0) {
         fault->status = LCRVM_NO_MEMORY;
-    } else if (ends_with(fault->text, ": store in use")) {
+    } else if (is_in_use(run)) {
         fault->status = LCRVM_STORE_IN_USE;
     } else if (strcmp(last, "device fault") == 0 || exit_of(run) == DEVICE_FAULT_STATUS) {
         fault->status = LCRVM_DEVICE_FAULT;
@@ -595,6 +616,7 @@ static enum lcrvm_status start(struct lcrvm_store *store)
         /* A recovery that is refused ends the program. */
         close_file(&store->run.input);
         wait_for(&store->run, true);
+        read_errors(&store->run, store->known.last.text, sizeof store->known.last.text);
         close_run(&store->run);
         store->known.dead = true;
     }
@@ -968,10 +990,23 @@ static long long length_of_file(const char *folder, const char *name, unsigned n
     return is_there ? (long long)found.st_size : -1;
 }
 
-/* The geometry that the lengths of a store's files tell. */
+/* Takes the size from the file of the folder that states it, if there is one. */
+static bool read_stated(const char *folder, struct lcrvm_geometry *stated)
+{
+    char text[SIZE_BYTES] = "", *path = joined(folder, "/lcrvm.store");
+    int file = path != NULL ? open(path, O_RDONLY | O_NONBLOCK | O_CLOEXEC) : -1;
+    ssize_t length = file >= 0 ? read(file, text, sizeof text - 1) : -1;
+    close_file(&file);
+    free(path);
+    return length >= 0 && read_size(text, (size_t)length, stated);
+}
+
+/* The geometry that the folder states, or else that the lengths of its files tell. */
 static struct lcrvm_geometry found_geometry(const char *folder, uint32_t threads)
 {
     struct lcrvm_geometry geometry = {0, threads, 0, 0, 0};
+    if (read_stated(folder, &geometry))
+        return geometry;
     while (geometry.nodes < MOST_NODES && length_of_file(folder, "log", geometry.nodes) >= 0)
         geometry.nodes++;
     while (geometry.segments < MOST_SEGMENTS && length_of_file(folder, "seg", geometry.segments + 1) >= 0)
@@ -989,10 +1024,12 @@ static void read_creation(struct run *run, struct lcrvm_fault *fault)
     read_line(run, text, 0);
     wait_for(run, false);
     read_end(run, text, fault);
-    if (exit_of(run) == 0)
+    if (exit_of(run) == 0) {
         fill_fault(fault, LCRVM_OK, "");
-    else if (strcmp(text, "refused Exists") == 0)
-        fill_fault(fault, LCRVM_EXISTS, "");
+    } else if (strcmp(text, "refused Exists") == 0) {
+        fault->status = LCRVM_EXISTS;
+        fault->exit_status = 0;
+    }
 }
 
 /* Runs the program to make a store. */

@@ -19,6 +19,7 @@ import contextlib
 import enum
 import operator
 import os
+import re
 import subprocess
 import tempfile
 from typing import ClassVar, Dict, Iterable, Iterator, List, NamedTuple, NoReturn, Optional, Sequence, Set, Tuple, Type
@@ -42,6 +43,15 @@ PAGE_BYTES = 256
 # Bytes of a page in its file, which has two slots for it.
 PAGE_AREA_BYTES = 544
 WORD_BYTES = 8
+# The file of a store's folder that states its size, and what stands in it.
+SIZE_FILE = "lcrvm.store"
+SIZE_TEXT = re.compile(
+    rb"format 1\nnodes ([1-9]\d*)\nsegments ([1-9]\d*)\npages ([1-9]\d*)\nwords ([1-9]\d*)\n"
+)
+# More bytes than it has.
+SIZE_BYTES = 64
+# The end of a line on standard error that is no fault.
+NOTE = ": the size is only as found: it has no lcrvm.store"
 # Seconds in which a run that is over has to end.
 GRACE = 10.0
 
@@ -54,9 +64,10 @@ class Refused(Fault):
     """The program refused the line: nothing has changed, and the store goes on.
 
     Each subclass is a refusal: its name is that of the class, `code` its number, and its fields are attributes, in the
-    order in which they are printed.
+    order in which they are printed. Of an opening, `reason` is what the program said on standard error.
     """
 
+    reason: str = ""
     code: ClassVar[int]
     fields: ClassVar[Tuple[str, ...]] = ()
     named: ClassVar[Dict[str, Type[Refused]]] = {}
@@ -322,7 +333,7 @@ class Closed(Dead):
 
 
 class Exists(Fault):
-    """A store cannot be made: something stands under the name of one of its files."""
+    """A store cannot be made: something stands under a name that a store has."""
 
 
 class Geometry(NamedTuple):
@@ -342,6 +353,9 @@ class Geometry(NamedTuple):
     def segment_bytes(self) -> int:
         """How many bytes a segment has."""
         return self.pages * PAGE_BYTES
+
+
+GREATEST = Geometry(nodes=8, threads=16, segments=16, pages=1024, words=4096)
 
 
 class Commit(NamedTuple):
@@ -407,6 +421,12 @@ def _options(geometry: Geometry) -> List[str]:
     return [f"--{name}={value}" for name, value in zip(geometry._fields, geometry)]
 
 
+def _reason(errors: bytes) -> str:
+    """What the program said on standard error of a fault."""
+    lines = errors.decode("utf-8", "replace").split("\n")
+    return "\n".join(line for line in lines if not line.endswith(NOTE)).strip()
+
+
 class _Run:
     """One run of the program. Each line has one reply; those of lines that were sent ahead are read with the next."""
 
@@ -454,6 +474,10 @@ class _Run:
         if self._process.returncode not in (0, 1):
             raise self._why("")
         self._errors.close()
+
+    def last_words(self) -> str:
+        """What the program says on standard error, which ends by itself."""
+        return self._over("").reason
 
     def is_given_up(self) -> bool:
         """Whether the program ends by itself, as one does that finds no store."""
@@ -507,7 +531,7 @@ class _Run:
 
     def _why(self, last: str) -> Dead:
         self._errors.seek(0)
-        reason = self._errors.read().decode("utf-8", "replace").strip()
+        reason = _reason(self._errors.read())
         self._errors.close()
         if last == "refused NoMemory\n":
             return NoMemory(reason)
@@ -957,9 +981,9 @@ class Store:
             self._die(dead)
         try:
             reply = self._ask(_line("flush", 0), 0)
-        except Refused:
+        except Refused as refused:
             # A recovery that is refused ends the program.
-            self._run.kill()
+            refused.reason = self._run.last_words()
             raise
         if reply == "nothing":
             return
@@ -968,8 +992,31 @@ class Store:
         self._fail(reply)
 
 
+def _stated(folder: str, threads: int) -> Optional[Geometry]:
+    """The geometry that the folder states in a file of its own, if there is one."""
+    try:
+        file = os.open(os.path.join(folder, SIZE_FILE), os.O_RDONLY | os.O_NONBLOCK)
+    except OSError:
+        return None
+    try:
+        found = SIZE_TEXT.fullmatch(os.read(file, SIZE_BYTES))
+    except OSError:
+        return None
+    finally:
+        os.close(file)
+    if found is None:
+        return None
+    nodes, segments, pages, words = map(int, found.groups())
+    geometry = Geometry(nodes, threads, segments, pages, words)
+    is_size = all(low <= number <= high for low, number, high in zip(Geometry(), geometry, GREATEST))
+    return geometry if is_size else None
+
+
 def _found(folder: str, threads: int) -> Geometry:
-    """The geometry that the lengths of a store's files tell."""
+    """The geometry that the folder states, or else that the lengths of its files tell."""
+    stated = _stated(folder, threads)
+    if stated is not None:
+        return stated
 
     def lengths(name: str, number: int) -> Iterator[int]:
         with contextlib.suppress(FileNotFoundError):
@@ -984,7 +1031,7 @@ def _found(folder: str, threads: int) -> Geometry:
 def create(folder: str, geometry: Geometry = Geometry(), *, program: str = "lcrvm") -> None:
     """Makes a new store, of zeros, in a folder that is there.
 
-    Raises Exists, DeviceFault, StoreInUse, NotStarted or Died.
+    Raises Exists where a name is taken that a store of any size may have, DeviceFault, StoreInUse, NotStarted or Died.
     """
     try:
         command = [program, "init", folder, *_options(geometry)]
@@ -995,7 +1042,7 @@ def create(folder: str, geometry: Geometry = Geometry(), *, program: str = "lcrv
     if done.returncode == 0:
         return
     if done.stdout == b"refused Exists\n":
-        raise Exists(folder)
+        raise Exists(reason or folder)
     if reason.endswith(": store in use"):
         raise StoreInUse(reason)
     raise DeviceFault(reason) if done.returncode == 3 else Died(done.returncode, reason)
@@ -1011,8 +1058,8 @@ def open(
 ) -> Store:
     """Opens the store in a folder, and recovers it.
 
-    Without a geometry it is as the files say, with so many threads a node. With `truncate_when_full` a commit that
-    finds the log full empties it (`Store.end_transaction`).
+    Without a geometry it is as large as its file lcrvm.store states, or else as the files say that are there, with so
+    many threads a node. With `truncate_when_full` a commit that finds the log full empties it (`Store.end_transaction`).
 
     Raises BadGeometry, Gap, Twice or OutOfSegment where the recovery is refused, NoStore where the files do not fit
     together; DeviceFault, StoreInUse, NotStarted, NoMemory, Died or NotAReply where there is no run.
