@@ -385,6 +385,71 @@ fn the_first_error_is_noted(rt: HostRuntime) -> Result<(), Fail> {
             .error()
             .is_some_and(|error| error.kind() == ErrorKind::Interrupted)
     );
+    // The read is made again, and does not fail.
+    assert!(rt; matches!(reader.read(&mut byte), Ok(1)) && byte == [b'b']);
+    assert!(rt; reader.error().is_none());
+    Ok(())
+}
+
+// A writer of which each call meets the next of these, where it is an error.
+#[derive(Drop)]
+struct Stumbling<'a> {
+    errors: &'a [Option<ErrorKind>],
+}
+
+impl Write for Stumbling<'_> {
+    fn write(&mut self, buf: &[u8]) -> io::Result<usize> {
+        let Some((error, errors)) = self.errors.split_first() else {
+            return Ok(buf.len());
+        };
+        self.errors = errors;
+        match *error {
+            Some(kind) => Err(Error::from(kind)),
+            None => Ok(buf.len()),
+        }
+    }
+
+    fn flush(&mut self) -> io::Result<()> {
+        self.write(b"")?;
+        Ok(())
+    }
+}
+
+const INTERRUPTED: Option<ErrorKind> = Some(ErrorKind::Interrupted);
+
+const FULL: Option<ErrorKind> = Some(ErrorKind::StorageFull);
+
+// What a write or a flush meets, by turns, and what is noted behind it.
+const STUMBLES: [(Option<ErrorKind>, Option<ErrorKind>); 8] = [
+    (None, None),
+    (INTERRUPTED, INTERRUPTED),
+    (None, None),
+    (INTERRUPTED, INTERRUPTED),
+    (FULL, FULL),
+    (None, FULL),
+    (INTERRUPTED, FULL),
+    (Some(ErrorKind::Other), FULL),
+];
+
+#[test]
+fn an_interrupted_call_is_noted_until_the_next(rt: HostRuntime) -> Result<(), Fail> {
+    let met = STUMBLES.map(|stumble| stumble.0);
+    let mut writer = Noted::new(Stumbling { errors: &met });
+    for (call, (error, noted)) in STUMBLES.iter().enumerate() {
+        let done = if call % 2 == 0 {
+            writer.write(b"a").map(|_| ())
+        } else {
+            writer.flush()
+        };
+        assert!(rt; done.err().map(|met| met.kind()) == *error, "{call}");
+        assert!(rt; writer.error().map(|met| met.kind()) == *noted, "{call}");
+    }
+    // std's loop tries an interrupted write again, and the fault behind it is what is noted.
+    let mut writer = Noted::new(Stumbling {
+        errors: &[INTERRUPTED, INTERRUPTED, FULL],
+    });
+    assert!(rt; writer.write_all(b"a").is_err());
+    assert!(rt; writer.error().map(|met| met.kind()) == FULL);
     Ok(())
 }
 

@@ -1,7 +1,7 @@
 //! All clients side by side on one node.
 ghost use Rattle.lc_stage.specs.Seats.{commit_view, IsSeatOf, IsIdle};
 
-use crate::request::{CLIENTS, request_of};
+use crate::request::{CLIENTS, Request};
 use lc_disk::Area;
 use lc_names::{Answer, Ask, SEGMENT};
 use lc_node::{Gate, Mode, Node, NodeFault};
@@ -29,7 +29,7 @@ pub(crate) fn serve<R: AllocGlobal + Print + Threads + Wait + Sync, D: Area + Dr
     rt: &R,
     node: &Node<D>,
     mut first: CommitSeat,
-    text: &str,
+    requests: &[Request<'_>],
 ) -> io::Result<bool>
     requires own { IsSeatOf node.now.stage first }
     requires idle { IsIdle (commit_view first) }
@@ -38,7 +38,7 @@ pub(crate) fn serve<R: AllocGlobal + Print + Threads + Wait + Sync, D: Area + Dr
     for number in 0..CLIENTS {
         clients.push((number, node.split(&mut first)))?;
     }
-    let run = |(number, seat)| serve_client(rt, node, seat, text, number);
+    let run = |(number, seat)| serve_client(rt, node, seat, requests, number);
     let told = map_vec(rt, clients, &run)?;
     let is_truncated = node.truncate(rt, rt.alloc()).is_ok();
     for told in told {
@@ -47,12 +47,13 @@ pub(crate) fn serve<R: AllocGlobal + Print + Threads + Wait + Sync, D: Area + Dr
     Ok(is_truncated)
 }
 
-// Serves one client: what it is told, a line for each reply. A change is durable before the next, and a full log is truncated.
+// Serves one client: what it is told, a line for each reply. A change is durable before the next, and a full log is
+// truncated.
 fn serve_client<R: AllocGlobal + Wait, D: Area + Drop>(
     rt: &R,
     node: &Node<D>,
     mut seat: CommitSeat,
-    text: &str,
+    requests: &[Request<'_>],
     number: u8,
 ) -> Result<String, AllocError>
     requires own { IsSeatOf node.now.stage seat }
@@ -61,13 +62,14 @@ fn serve_client<R: AllocGlobal + Wait, D: Area + Drop>(
     let (alloc, mode, locks) = (rt.alloc(), Mode::Flush, [SEGMENT]);
     let lossy = |bytes: &[u8]| String::from_utf8_lossy(alloc, bytes);
     let mut told = format!(in alloc; "client {number}\n")?;
-    for line in text.lines() {
-        let Some((_, verb, command)) = request_of(line).filter(|request| request.0 == number) else {
+    for request in requests {
+        if request.client != number {
             continue;
-        };
+        }
+        let verb = request.verb;
         let mut ask = Ask {
             len: TABLE,
-            command,
+            command: request.command,
             answer: None,
         };
         let mut tried = node.transact(rt, alloc, seat, &locks, &mut ask, mode, TRIES, &Open);
