@@ -94,7 +94,7 @@ where
     }
 
     /// Opens the store of this size that is in the folder, for this process alone: no other opens the folder or one of the files, under
-    /// whatever name, while the guard and the areas are kept. The names in the folder are stable.
+    /// whatever name, while the guard and the areas are kept. The names in the folder are stable, and so is the file of the size.
     ///
     /// A name of a store's file above those of the geometry (up to `log7` and `seg16`) that is taken is one area more than the
     /// geometry has, so that a store is not run with fewer nodes or segments than it has. Where a fault has left its mark,
@@ -108,6 +108,7 @@ where
     pub fn open(&self, geometry: &Geometry) -> Result<OpenStore<'_, R>, Unopened> {
         let guard = self.noted(Place::Folder, self.lock())?;
         let areas = self.renewed_areas(geometry)?;
+        self.noted(Place::Name(StoreName::Size), self.sync_size())?;
         self.noted(Place::Folder, guard.sync_all())?;
         Ok(OpenStore { areas, guard })
     }

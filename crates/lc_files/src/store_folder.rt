@@ -331,6 +331,16 @@ where
         Ok(Some(bytes))
     }
 
+    // Makes the file that says the size stable, where there is one: who copied it may not have.
+    pub(crate) fn sync_size(&self) -> io::Result<()> {
+        let path = self.path_of(StoreName::Size)?;
+        if self.standing(&path)?.is_none() {
+            return Ok(());
+        }
+        let mut options = OpenOptions::new();
+        self.open_plain(&path, options.read(true))?.0.sync_all()
+    }
+
     // The first file of a store of this size that is not there, or has another length, is noted.
     pub(crate) fn note_lacking(&self, geometry: &Geometry) {
         for area in 0..geometry.nodes as usize + geometry.segments as usize {

@@ -304,11 +304,11 @@ fn a_store_in_use_is_not_opened(rt: HostRuntime) -> Result<(), Fail> {
     check_all(&rt, rt.alloc(), &Shelf::new(rt.alloc()), &NOT_SHARED)
 }
 
-// Behind the sync of the folder and the two of the recovery: that of the group.
+// Behind the syncs of the size and of the folder and the two of the recovery: that of the group.
 const SYNC_FAILS: Step = Step {
     ask: Ask::Run(ONE),
     script: COMMIT,
-    trouble: Trouble::Sync(4),
+    trouble: Trouble::Sync(5),
     printed: "ok\nok\nok\nclosed 0 8\ndevice fault\n",
     status: 3,
     calls: Some(&[

@@ -123,8 +123,9 @@ open store/log0\nlock store/log0\nopen store/seg1\nlock store/seg1\n";
 pub(crate) const READING_SIZE: &str =
     "look store/lcrvm.store\nopen store/lcrvm.store\nread store/lcrvm.store\n";
 
-// The names in the folder are stable before the first reply.
-pub(crate) const SYNCING: &str = "sync store\n";
+// The size and the names in the folder are stable before the first reply.
+pub(crate) const SYNCING: &str =
+    "look store/lcrvm.store\nopen store/lcrvm.store\nsync store/lcrvm.store\nsync store\n";
 
 // The opening of it where it is locked by another process.
 pub(crate) const LOCKED: &str = "open store\nlock store\n";
