@@ -1,9 +1,11 @@
 -- Records as one list of words with places: what each change leaves of them.
-use Rattle.std.proofs.Common.{◌≡◌, ℕ, zero, suc, ◌+◌, ◌-◌, ◌<◌, ◌≤◌, ◌^◌, Bool, true, false, List, [], ◌∷◌, ◌++◌, map, length, take, drop, slice_set, slice_index_or, slice_get, Some, get_or, refl, sym, ap, ◌∙◌, arith}
+use Rattle.std.proofs.Common.{◌≡◌, ℕ, zero, suc, ◌+◌, ◌-◌, ◌<◌, ◌≤◌, ◌^◌, Bool, true, false, List, [], ◌∷◌, ◌++◌, map, length, take, drop, slice_set, slice_index_or, slice_get, Some, get_or, cond, refl, sym, ap, ◌∙◌, arith}
 use Rattle.std.specs.Prelude.{if◌then◌else◌}
+use Rattle.std.specs.List.{count_by}
 use Rattle.std.proofs.lemmas.Bool.{lt-ltb, le-ltb}
 use Rattle.std.proofs.lemmas.List.{length-append, take_at, drop_at, take-append-drop, append-nil, length-map, drop-map, map-append, map-set, length-drop, drop-drop, drop-append-le}
 use Rattle.std.proofs.lemmas.List.Concat.{flat_map-append}
+use Rattle.std.proofs.lemmas.List.Sums.{sum_by-cons}
 use Rattle.lc_model.specs.History.{leading}
 use Rattle.lc_core.specs.Places.{same_some}
 use Rattle.lc_core.specs.declared.place.Place.{Place}
@@ -419,3 +421,15 @@ span_adjacent k from mid to kept first second =
 pub length-span : (k : Kept) (from mid to : ℕ) → k.before ≤ from → from ≤ mid → mid ≤ to → length (span_of k from to) ≡ length (span_of k from mid) + length (span_of k mid to)
 length-span k from mid to kept first second =
     ap length (span_adjacent k from mid to kept first second) ∙ length-append (span_of k from mid) (span_of k mid to)
+
+-- as many of the places are of closed records as records are closed, from the same place on
+pub closed_places : (start : ℕ) (rs : List Spelled) (from : ℕ)
+    → count_by (λ (p : Place). p.closed) (drop from (places_of start rs)) ≡ count_by (λ (r : Spelled). r.closed) (drop from rs)
+closed_places start [] zero = refl
+closed_places start [] (suc from) = refl
+closed_places start (r ∷ rs) zero =
+    let more = closed_places (start + length r.words) rs zero in
+    sum_by-cons (λ (p : Place). cond p.closed 1 0) (record { end = start + length r.words; closed = r.closed }) (places_of (start + length r.words) rs)
+    ∙ ap (λ (n : ℕ). cond r.closed 1 0 + n) more
+    ∙ sym (sum_by-cons (λ (r : Spelled). cond r.closed 1 0) r rs)
+closed_places start (r ∷ rs) (suc from) = closed_places (start + length r.words) rs from

@@ -79,3 +79,4 @@ pub mod Readings
 pub mod Cluster
 pub mod Answered
 pub mod Layers
+pub mod Unfinished

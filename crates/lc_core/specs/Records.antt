@@ -1,6 +1,6 @@
 -- The records that a node reserved, as contracts see them, and how they are kept: all words in one list, with places.
 use Rattle.std.specs.Prelude.{◌≡◌, ℕ, zero, suc, ◌+◌, ◌-◌, ◌<◌, ◌≤◌, ◌^◌, nat_lt, if◌then◌else◌, Bool, true, List, [], ◌∷◌, map, length, take, drop}
-use Rattle.std.specs.List.{flat_map}
+use Rattle.std.specs.List.{count_by, flat_map}
 use Rattle.lc_model.specs.History.{leading}
 use Rattle.lc_core.specs.declared.place.Place.{Place}
 
@@ -28,6 +28,10 @@ count_of k = k.before + length k.records
 -- how many stand in front of the first that is not closed
 abbrev pub front_of : Kept → ℕ
 front_of k = k.before + leading (marks_of k.records)
+
+-- how many are closed from this number on
+abbrev pub closed_from : ℕ → Kept → ℕ
+closed_from number k = count_by (λ r. r.closed) (drop (number - k.before) k.records)
 
 -- the words of the records from one number up to another
 abbrev pub span_of : Kept → ℕ → ℕ → List ℕ

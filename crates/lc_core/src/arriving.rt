@@ -20,7 +20,7 @@ impl Desk {
         ensures arrives { ForSome (slice_get self.old.here.slots.items (token.segment - 1)) (λ slot.
             Arrives token slot self.old result self.new) }
     {
-        let slot = &mut self.here.slots[token.segment as usize - 1];
+        let slot = &mut self.here.slots[token.segment() as usize - 1];
         slot.token.arrive(token, &slot.parts)
     }
 }

@@ -54,12 +54,8 @@ fn blank_token(alloc: Global, segment: u32, pages: u32) -> Result<Token, AllocEr
     ensures pages { IfOk result (λ token. length token.pages ≡ pages) }
 {
     let texts = vec![in alloc; UNWRITTEN; pages as usize]?;
-    Ok(Token {
-        segment,
-        seq: 0,
-        clean: 0,
-        pages: PageVector::new(alloc, texts.as_slice())?,
-    })
+    let pages = PageVector::new(alloc, texts.as_slice())?;
+    Ok(Token::recovered(segment, 0, pages))
 }
 
 // The slots of all segments at a node.

@@ -115,9 +115,9 @@ impl Slot {
         let Some(token) = self.token.token() else {
             return false;
         };
-        if page as usize >= token.pages.len() {
+        if page as usize >= token.pages().len() {
             return false;
         }
-        under_way.unwrap_or(token.pages.stable(page)) < token.pages.touched(page)
+        under_way.unwrap_or(token.pages().stable(page)) < token.pages().touched(page)
     }
 }

@@ -22,11 +22,11 @@ impl Desk {
     {
         let slot = &self.here.slots[segment as usize - 1];
         let token = slot.token.token()?;
-        if page as usize >= token.pages.len() || !is_sequence(token.seq) {
+        if page as usize >= token.pages().len() || !is_sequence(token.seq()) {
             return None;
         }
         let bytes = copy_of(page_in(slot.image.bytes(), page));
-        PageWrite::begin(&token.pages, page, &bytes, token.seq).ok()
+        PageWrite::begin(token.pages(), page, &bytes, token.seq()).ok()
     }
 
     /// Notes that a page of a segment, from 1, was written under a number, where the segment's token stands here. It takes no
@@ -42,7 +42,7 @@ impl Desk {
         let Some(token) = slot.token.token() else {
             return;
         };
-        if (page as usize) < token.pages.len() {
+        if (page as usize) < token.pages().len() {
             slot.token.written(page, number);
         }
     }

@@ -87,7 +87,7 @@ impl Slot {
         ensures { result ≡ due_of page begun self.now.token.token }
     {
         match self.token.token() {
-            Some(token) => is_dirty(&token.pages, page) || begun,
+            Some(token) => is_dirty(token.pages(), page) || begun,
             None => false,
         }
     }

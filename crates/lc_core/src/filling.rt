@@ -15,7 +15,7 @@ use lc_disk::Area;
 use lc_page::PageVector;
 use lc_record::PAGE;
 use lc_recover::Recovered;
-use lc_token::{HoldBack, TokenPlace};
+use lc_token::{HoldBack, Token, TokenPlace};
 use lc_tx::Image;
 use std::alloc::Global;
 
@@ -59,13 +59,12 @@ fn filled<D: Area>(place: &mut TokenPlace, segment: u32, recovered: &Recovered<D
     ensures segment { result.segment ≡ segment }
     ensures token { result.token ≡ (if is_some place.old.token then Some (fresh_token recovered.now segment) else None) }
 {
-    let Ok(mut token) = place.leave(false, false, 0, 0) else {
+    let Ok(token) = place.leave(false, false, 0, 0) else {
         return TokenPlace::new(segment, None);
     };
-    let number = recovered.sequence(segment);
-    fill_pages(&mut token.pages, segment, recovered);
-    token.seq = number;
-    token.clean = number;
+    let mut pages = token.into_pages();
+    fill_pages(&mut pages, segment, recovered);
+    let token = Token::recovered(segment, recovered.sequence(segment), pages);
     TokenPlace::new(segment, Some(token))
 }
 

@@ -32,7 +32,7 @@ impl Images for Here {
         }
         let slot = self.slots.get(segment as usize - 1)?;
         let token = slot.token.token()?;
-        Some(token.seq)
+        Some(token.seq())
     }
 
     fn image(&mut self, segment: u32) -> &mut Image {

@@ -74,7 +74,7 @@ impl ReadParts {
     {
         let at = place as usize;
         let holder = self.holders[at];
-        if !are_applied(nodes, at, self.tokens[at].seq, node_of(holder)) {
+        if !are_applied(nodes, at, self.tokens[at].seq(), node_of(holder)) {
             return Ok(None);
         }
         let Some(bytes) = self.replayed(alloc, place, first, records)? else {
@@ -118,7 +118,7 @@ impl ReadParts {
         let agrees = replay_segment(
             place + 1,
             first,
-            self.tokens[at].seq,
+            self.tokens[at].seq(),
             records,
             self.areas[at].as_slice(),
             self.geometry.pages,

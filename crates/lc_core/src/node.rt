@@ -143,11 +143,11 @@ impl<D: Area + Drop> Node<D> {
         ensures stands { (slot : Slot) → slice_get self.old.desk.here.slots.items (token.segment - 1) ≡ Some slot → IsSome slot.token.token
             → (result ≡ Err (token, Refusal.OutOfTurn)) × (self.new ≡ self.old) }
     {
-        let slot = &self.desk.here.slots[token.segment as usize - 1];
+        let segment = token.segment();
+        let slot = &self.desk.here.slots[segment as usize - 1];
         if !slot.token.is_empty() {
             return Err((token, Refusal::OutOfTurn));
         }
-        let segment = token.segment;
         match self.desk.arrive(token) {
             Ok(()) => {
                 self.see(segment);

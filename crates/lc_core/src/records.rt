@@ -1,7 +1,7 @@
 //! The records that a node reserved, in the order of their reservations.
-ghost use Rattle.std.specs.Prelude.{◌≡◌, ◌+◌, ◌-◌, ◌<◌, ◌≤◌, ◌^◌, ℕ, List, [], ◌∷◌, ◌++◌, map, length, take, drop, true, false, Some, IfOk, OnErr, All, slice_get};
+ghost use Rattle.std.specs.Prelude.{◌≡◌, ◌+◌, ◌-◌, ◌<◌, ◌≤◌, ◌^◌, ℕ, List, [], ◌∷◌, ◌++◌, map, length, take, drop, true, false, Some, IfOk, OnErr, All, slice_get, count_by};
 ghost use Rattle.lc_model.specs.History.{leading};
-ghost use Rattle.lc_core.specs.Records.{Lie, Spelled, all_words, count_of, front_of, span_of, places_of, shifted, closed_at};
+ghost use Rattle.lc_core.specs.Records.{Lie, Spelled, all_words, closed_from, count_of, front_of, span_of, places_of, shifted, closed_at};
 
 use crate::place::Place;
 use std::alloc::{AllocError, Global};
@@ -83,6 +83,15 @@ impl Records {
         ensures { result ≡ front_of self.now }
     {
         self.first + self.leading as u64
+    }
+
+    /// How many are closed from this number on.
+    pub(crate) fn closed_from(&self, number: u64) -> u64
+        requires { self.now.before ≤ number }
+        ensures { result ≡ closed_from number self.now }
+    {
+        let from = (number - self.first) as usize;
+        closed_among(self.places.as_slice(), from) as u64
     }
 
     /// Adds a record of these words, which is not closed, and answers its number. It takes memory for each, and where memory
@@ -227,6 +236,13 @@ fn leading_from(places: &[Place], known: usize) -> usize
         count += 1;
     }
     count
+}
+
+// How many of the places from this one on are of records that are closed.
+fn closed_among(places: &[Place], from: usize) -> usize
+    ensures { result ≡ count_by (λ p. p.closed) (drop from places.now) }
+{
+    places.iter().skip(from).filter(|p| p.closed).count()
 }
 
 // The places are moved to the front by so many words.

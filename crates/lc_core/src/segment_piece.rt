@@ -22,7 +22,7 @@ impl SegmentPiece {
         ensures { result ≡ number_of self.now standing.now }
     {
         match standing {
-            Some(token) => token.seq,
+            Some(token) => token.seq(),
             None => self.stable,
         }
     }

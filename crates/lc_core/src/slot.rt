@@ -29,7 +29,7 @@ impl Slot {
         let Some(token) = self.token.token() else {
             return false;
         };
-        let seq = token.seq;
+        let seq = token.seq();
         if seq >= MAX_SEQ || seq != self.parts.applied() {
             return false;
         }
@@ -47,7 +47,7 @@ impl Slot {
             return;
         };
         let end = offset as usize + len as usize;
-        let behind = end.div_ceil(PAGE_BYTES).min(token.pages.len());
+        let behind = end.div_ceil(PAGE_BYTES).min(token.pages().len());
         for page in offset as usize / PAGE_BYTES..behind {
             self.token.touch(page as u32);
         }

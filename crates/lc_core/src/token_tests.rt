@@ -65,8 +65,8 @@ pub(crate) fn node_of(holder: Holder) -> u16
 fn is_token(geometry: &Geometry, segment: u32, token: &Token, holder: Holder) -> bool
     ensures { IsTrue result ↔ IsTokenIn geometry.now segment token.now holder }
 {
-    token.segment == segment
-        && token.pages.len() == geometry.pages as usize
+    token.segment() == segment
+        && token.pages().len() == geometry.pages as usize
         && node_of(holder) < geometry.nodes
 }
 
@@ -84,7 +84,7 @@ fn keeps_first(
     ensures keeps { IfOk result (λ tested. IfSome tested (λ _. KeepsTokenIn read.now.segment read.now.pages read.now.token.now read.now.holder read.now.area.now (logs_of logs.now) counts.now)) }
     ensures fails { IfOk result (λ tested. IfNone tested (KeepsTokenIn read.now.segment read.now.pages read.now.token.now read.now.holder read.now.area.now (logs_of logs.now) counts.now → ⊥)) }
 {
-    let (segment, seq) = (read.segment, read.token.seq);
+    let (segment, seq) = (read.segment, read.token.seq());
     let Some(first) = first_number(segment, seq, logs) else {
         return Ok(None);
     };

@@ -58,7 +58,7 @@ pub fn keeps_known(known: &KnownClean, tokens: &[Token]) -> bool
     ensures { IsTrue result ↔ ((k : ℕ) (token : TheToken) → slice_get tokens.now k ≡ Some token → known_of known.now (k + 1) ≤ token.clean) }
 {
     for (place, token) in tokens.iter().enumerate() {
-        if known.known_clean(place as u32 + 1) > token.clean {
+        if known.known_clean(place as u32 + 1) > token.clean() {
             return false;
         }
     }

@@ -17,8 +17,8 @@ fn keeps_page(read: &SegmentRead<'_>, number: u64, page: u32) -> bool
     requires page { page < length read.now.token.now.pages }
     ensures { IsTrue result ↔ IsKeptPage number read.now.token.now.clean read.now.area.now read.now.token.now.pages page }
 {
-    number <= read.token.pages.touched(page)
-        && (number > read.token.clean || number <= read_page(read.area, page).seq)
+    number <= read.token.pages().touched(page)
+        && (number > read.token.clean() || number <= read_page(read.area, page).seq)
 }
 
 // Whether it is so with each page on which the range has a byte.
@@ -207,7 +207,7 @@ fn is_read(read: &SegmentRead<'_>, page: u32, least: u64) -> bool
     ensures { IsTrue result ↔ IsReadPage least read.now.area.now read.now.token.now.pages page }
 {
     let text = read_page(read.area, page);
-    text.seq < least && is_same_text(&read.token.pages.entry(page).text(), &text)
+    text.seq < least && is_same_text(&read.token.pages().entry(page).text(), &text)
 }
 
 // Whether it is so with all pages.
@@ -235,12 +235,13 @@ pub fn keeps_token(read: &SegmentRead<'_>, stable: &[usize], logs: &[Vec<Record>
     ensures { IsTrue result ↔ IsKeptToken read.now.segment read.now.pages read.now.token.now read.now.holder (logs_of logs.now) stable.now read.now.area.now }
 {
     let token = read.token;
-    if token.seq > MAX_SEQ || token.clean > token.seq || token.pages.len() < read.pages as usize {
+    let (seq, clean) = (token.seq(), token.clean());
+    if seq > MAX_SEQ || clean > seq || token.pages().len() < read.pages as usize {
         return false;
     }
-    let Some(first) = first_number(read.segment, token.seq, logs) else {
+    let Some(first) = first_number(read.segment, seq, logs) else {
         return false;
     };
-    let least = least_waiting(read.segment, token.seq, logs, stable);
+    let least = least_waiting(read.segment, seq, logs, stable);
     is_reached(read, first) && are_read(read, least) && keeps_logs(read, least, stable, logs)
 }

@@ -4,5 +4,4 @@ pub mod HoldBack
 pub mod Token
 pub mod Standing
 pub mod TokenPlace
-pub mod Lending
 pub mod Calls

@@ -4,6 +4,10 @@ use Rattle.lc_page.specs.declared.entry.Entry.{Entry}
 use Rattle.lc_page.specs.PageVector.{entry_at, is_dirty, settled}
 use Rattle.lc_token.specs.declared.token.Token.{Token}
 
+-- the token of a segment all of whose records, up to this number, are on these pages on the disk
+abbrev pub recovered_token : ℕ → ℕ → List Entry → Token
+recovered_token segment number pages = record { segment = segment; seq = number; clean = number; pages = pages }
+
 -- the page is one of these, and dirty; a page's number has 32 bits
 abbrev pub IsDirtyPage : List Entry → ℕ → Type 0
 IsDirtyPage pages page = (page < length pages) × (page < 2 ^ 32) × (is_dirty (entry_at pages page) ≡ true)

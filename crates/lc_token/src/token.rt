@@ -8,18 +8,69 @@ use lc_page::PageVector;
 /// it is placed or sent, and a dropped one is lost until the next recovery.
 #[derive(Drop)]
 pub struct Token {
-    /// The segment, from 1.
-    pub segment: u32,
-    /// The number of the last record of the segment.
-    pub seq: u64,
-    /// The number up to which the records of the segment are on its pages on the disk.
-    pub clean: u64,
-    /// What is kept of its pages.
-    pub pages: PageVector,
+    pub(crate) segment: u32,
+    pub(crate) seq: u64,
+    pub(crate) clean: u64,
+    pub(crate) pages: PageVector,
 }
 
 impl Token {
-    ghost use Rattle.lc_token.specs.Token.{IsWritten};
+    ghost use Rattle.lc_token.specs.Token.{IsWritten, recovered_token};
+
+    /// The token of a segment, from 1, behind a recovery that has put the records of the segment up to a number on its
+    /// pages on the disk: that is its last record, and up to it all is clean. It takes no memory.
+    pub fn recovered(segment: u32, seq: u64, pages: PageVector) -> Token
+        ensures { result ≡ recovered_token segment seq pages }
+    {
+        Token {
+            segment,
+            seq,
+            clean: seq,
+            pages,
+        }
+    }
+
+    /// The segment, from 1.
+    pub fn segment(&self) -> u32
+        ensures { result ≡ self.now.segment }
+    {
+        self.segment
+    }
+
+    /// The number of the last record of the segment; 0 where there was none.
+    pub fn seq(&self) -> u64
+        ensures { result ≡ self.now.seq }
+    {
+        self.seq
+    }
+
+    /// The number up to which the records of the segment are on its pages on the disk.
+    pub fn clean(&self) -> u64
+        ensures { result ≡ self.now.clean }
+    {
+        self.clean
+    }
+
+    /// What is kept of its pages.
+    pub fn pages(&self) -> &PageVector
+        ensures { result.now ≡ self.now.pages }
+    {
+        &self.pages
+    }
+
+    /// Ends the token, and hands out what was kept of its pages: for a recovery that makes the segment's token anew. It
+    /// takes no memory.
+    pub fn into_pages(self) -> PageVector
+        ensures { result ≡ self.pages }
+    {
+        let Token {
+            segment: _,
+            seq: _,
+            clean: _,
+            pages,
+        } = self;
+        pages
+    }
 
     /// Notes that a page was written under a number: `clean` rises to the least number that a dirty page has on the
     /// disk, and where no page is dirty to the token's own. It takes no memory. It looks at the

@@ -1,10 +1,8 @@
 //! The place of a segment's token at a node.
 ghost use Rattle.std.specs.Prelude.{◌≡◌, ◌+◌, ◌<◌, ◌≤◌, ◌^◌, ◌↔◌, true, false, [], length, slice_set, IfOk, IsOk, IsSome, IsSomeAnd, IsTrue, OnOk, OnErr};
-ghost use Rattle.std.specs.Option.{ForSome, option_copied, option_copied_mut};
-ghost use Rattle.std.specs.Borrow.{sem};
+ghost use Rattle.std.specs.Option.{ForSome, option_copied};
 
 use crate::{HoldBack, Token, TokenFault};
-use lc_page::PageVector;
 use std::marker::Model;
 
 /// The place of one segment's token at a node: the token stands there, or it is empty. Contracts see it as a `Standing`.
@@ -30,7 +28,6 @@ impl Model for TokenPlace {
 impl TokenPlace {
     ghost use Rattle.lc_page.specs.PageVector.{entry_at, touched_at};
     ghost use Rattle.lc_token.specs.Token.{IsWritten};
-    ghost use Rattle.lc_token.specs.Lending.{LendsPages};
 
     /// The place of a segment, with its token or without.
     pub fn new(segment: u32, token: Option<Token>) -> TokenPlace
@@ -54,16 +51,6 @@ impl TokenPlace {
         ensures segment { ForSome self.now.token (λ t. t.segment ≡ self.now.segment) }
     {
         self.token.as_ref()
-    }
-
-    /// What is kept of the pages of the token that stands here, to be changed.
-    pub fn pages_mut(&mut self) -> &mut PageVector
-        requires { IsSome self.old.token }
-        ensures* writes_back { sem 𝓛 (LendsPages self.entry result) }
-        ensures pages { ForSome self.old.token (λ t. result.now ≡ t.pages) }
-    {
-        let token = self.token.as_mut().unwrap();
-        &mut token.pages
     }
 
     /// Counts a record of the segment that is closed here: the token's number rises by one. A token stands here, and has

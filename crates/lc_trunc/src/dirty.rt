@@ -12,12 +12,13 @@ pub fn dirty_pages(alloc: Global, token: &Token) -> Result<Vec<u32>, AllocError>
     ensures pages { IfOk result (λ numbers. AreDirtyPages token.now.pages numbers.items) }
     ensures memory { OnErr result ((page : ℕ) × IsDirtyPage token.now.pages page) }
 {
+    let pages = token.pages();
     let mut numbers = Vec::new(alloc);
-    for place in 0..token.pages.len() {
+    for place in 0..pages.len() {
         let Ok(page) = u32::try_from(place) else {
             break;
         };
-        if token.pages.dirty(page) {
+        if pages.dirty(page) {
             numbers.push(page)?;
         }
     }

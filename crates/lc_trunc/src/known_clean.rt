@@ -38,8 +38,8 @@ impl KnownClean {
         requires last { token.now.segment ≤ 16 }
         ensures { Sees self.old token.now self.new }
     {
-        let place = token.segment as usize - 1;
-        self.numbers[place] = self.numbers[place].max(token.clean);
+        let place = token.segment() as usize - 1;
+        self.numbers[place] = self.numbers[place].max(token.clean());
     }
 
     /// The greatest `clean` that was seen of this segment; 0 where none was, and for a number that no segment has.

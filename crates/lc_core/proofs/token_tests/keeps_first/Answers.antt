@@ -15,7 +15,7 @@ returns-then-keeps_token-clause-keeps c =
     let first : c.in-Some.first ≡ seq - count_on segment (logs_of c.args.logs.now) = (let some = c.in-Some.ensures.some in omega (arith, some)) in
     record {
       numbered = subst (λ (n : ℕ). AreNumbered segment n seq (flat_map (λ (log : List Record). log) (logs_of c.args.logs.now))) first
-          (subst (λ (rs : List Record). AreNumbered segment c.in-Some.first seq rs) (joined_flat c.args.logs.now) (c.in_ok-keeps_numbers.ensures.0 c.if-branch.true));
+          (subst (λ (rs : List Record). AreNumbered segment c.in-Some.first seq rs) (joined_flat c.args.logs.now) (rw c.seq-seq.ensures at (c.in_ok-keeps_numbers.ensures.0 c.if-branch.true)));
       kept = c.keeps_token.ensures.0 c.if-keeps_token.true;
     }
 
@@ -27,5 +27,5 @@ returns-clause-fails c = λ keeps.
     elim c.else-branch.branch [
       | else-branch-via-then-branch+else-keeps_token w ↦ true≢false (sym (w.keeps_token.ensures.1 keeps.kept) ∙ w.if-keeps_token.false)
       | else-branch-via-else-branch w ↦
-          true≢false (sym (c.in_ok-keeps_numbers.ensures.1 (subst (λ (rs : List Record). AreNumbered segment c.in-Some.first seq rs) (sym (joined_flat c.args.logs.now)) (subst (λ (n : ℕ). AreNumbered segment n seq (flat_map (λ (log : List Record). log) (logs_of c.args.logs.now))) (sym first) keeps.numbered))) ∙ w.if-branch.false)
+          true≢false (sym (c.in_ok-keeps_numbers.ensures.1 (rw c.seq-seq.ensures (subst (λ (rs : List Record). AreNumbered segment c.in-Some.first seq rs) (sym (joined_flat c.args.logs.now)) (subst (λ (n : ℕ). AreNumbered segment n seq (flat_map (λ (log : List Record). log) (logs_of c.args.logs.now))) (sym first) keeps.numbered)))) ∙ w.if-branch.false)
     ])

@@ -1,6 +1,9 @@
-use Rattle.std.proofs.Common.{◌≡◌, ◌-◌, ◌<◌, [], refl, sym, ◌∙◌, arith}
+use Rattle.std.proofs.Common.{◌≡◌, ◌-◌, ◌<◌, ℕ, [], Some, refl, sym, ap, ◌∙◌, arith}
+use Rattle.std.specs.Prelude.{slice_get}
+use Rattle.std.specs.Vec.{with_item}
 use Rattle.std.proofs.lemmas.Option.{slice_get_read}
 use Rattle.lc_core.specs.Here.{beside}
+use Rattle.lc_core.specs.declared.here.Here.{Here}
 use Rattle.lc_core.proofs.Closes.{get-map}
 use Rattle.lc_core.proofs.Arrived.{arrives, runs_came, same_came}
 use Rattle.lc_core.proofs.Shortness.{in_place_moved, short_moved}
@@ -11,10 +14,10 @@ module _ (c : goal.After-arrive-arg-2-1) where
   its =
       let w = c.args.self.now in
       let slot = c.index_mut-slot.result.now in
-      let within : c.args.token.segment - 1 < w.here.slots.len = omega (arith, c.requires.first, c.requires.slot) in
-      let at = slice_get_read w.here.slots.items w.here.slots.len (c.args.token.segment - 1) slot w.here.slots.ok.0 within c.index_mut-slot.ensures.value in
-      let place = w.in_place (c.args.token.segment - 1) (beside slot) (get-map beside w.here.slots.items (c.args.token.segment - 1) slot at) in
-      (omega (arith, place.0, c.requires.first), omega (arith, place.1, c.requires.first), place.2)
+      let within : c.segment.result - 1 < w.here.slots.len = omega (arith, c.segment.ensures, c.requires.first, c.requires.slot) in
+      let at = slice_get_read w.here.slots.items w.here.slots.len (c.segment.result - 1) slot w.here.slots.ok.0 within c.index_mut-slot.ensures.value in
+      let place = w.in_place (c.segment.result - 1) (beside slot) (get-map beside w.here.slots.items (c.segment.result - 1) slot at) in
+      (omega (arith, place.0, c.segment.ensures, c.requires.first), omega (arith, place.1, c.segment.ensures, c.requires.first), place.2)
 
 pub arrive-requires-clause-none_due : goal.arrive-requires-clause-none_due
 arrive-requires-clause-none_due c = (its c).2
@@ -29,9 +32,9 @@ pub invariant_of-self-clause-runs : goal.invariant_of-self-clause-runs
 invariant_of-self-clause-runs c =
     let w = c.args.self.now in
     let slot = c.index_mut-slot.result.now in
-    let within : c.args.token.segment - 1 < w.here.slots.len = omega (arith, c.requires.first, c.requires.slot) in
-    let at = slice_get_read w.here.slots.items w.here.slots.len (c.args.token.segment - 1) slot w.here.slots.ok.0 within c.index_mut-slot.ensures.value in
-    runs_came w.here (c.args.token.segment - 1) slot w.seats.items c.arrive.new.self slot.parts.applied c.args.token c.arrive.result at (c.requires.empty slot at)
+    let within : c.segment.result - 1 < w.here.slots.len = omega (arith, c.segment.ensures, c.requires.first, c.requires.slot) in
+    let at = slice_get_read w.here.slots.items w.here.slots.len (c.segment.result - 1) slot w.here.slots.ok.0 within c.index_mut-slot.ensures.value in
+    runs_came w.here (c.segment.result - 1) slot w.seats.items c.arrive.new.self slot.parts.applied c.args.token c.arrive.result at (c.requires.empty slot (rw c.segment.ensures at at))
     (record {
       behind = c.arrive.ensures.behind;
       done = c.arrive.ensures.done;
@@ -44,31 +47,32 @@ pub returns : goal.returns
 returns c =
     let w = c.args.self.now in
     let slot = c.index_mut-slot.result.now in
-    let within : c.args.token.segment - 1 < w.here.slots.len = omega (arith, c.requires.first, c.requires.slot) in
-    let at = slice_get_read w.here.slots.items w.here.slots.len (c.args.token.segment - 1) slot w.here.slots.ok.0 within c.index_mut-slot.ensures.value in
+    let within : c.segment.result - 1 < w.here.slots.len = omega (arith, c.segment.ensures, c.requires.first, c.requires.slot) in
+    let at = slice_get_read w.here.slots.items w.here.slots.len (c.segment.result - 1) slot w.here.slots.ok.0 within c.index_mut-slot.ensures.value in
+    let there : slice_get w.here.slots.items (c.args.token.segment - 1) ≡ Some slot = rw c.segment.ensures at at in
     record {
-      arrives = arrives w _ c.args.token c.requires.first slot at (c.requires.empty slot at) c.arrive.new.self c.arrive.result
+      arrives = arrives w _ c.args.token c.requires.first slot there (c.requires.empty slot there) c.arrive.new.self c.arrive.result
           (record {
             behind = c.arrive.ensures.behind;
             done = c.arrive.ensures.done;
             placed_is = c.arrive.ensures.placed;
             err = c.arrive.ensures.err;
           })
-          refl refl;
+          (ap (λ (n : ℕ). let here : Here = record w.here { slots = with_item w.here.slots (n - 1) (record slot { token = c.arrive.new.self }) } in here) c.segment.ensures) refl;
     }
 
 pub invariant_of-self-clause-in_place : goal.invariant_of-self-clause-in_place
 invariant_of-self-clause-in_place c =
     let w = c.args.self.now in
     let slot = c.index_mut-slot.result.now in
-    let within : c.args.token.segment - 1 < w.here.slots.len = omega (arith, c.requires.first, c.requires.slot) in
-    let at = slice_get_read w.here.slots.items w.here.slots.len (c.args.token.segment - 1) slot w.here.slots.ok.0 within c.index_mut-slot.ensures.value in
-    in_place_moved w.here (c.args.token.segment - 1) slot c.arrive.new.self at (same_came slot.token c.arrive.new.self c.args.token c.arrive.result c.arrive.ensures.placed c.arrive.ensures.err) w.in_place
+    let within : c.segment.result - 1 < w.here.slots.len = omega (arith, c.segment.ensures, c.requires.first, c.requires.slot) in
+    let at = slice_get_read w.here.slots.items w.here.slots.len (c.segment.result - 1) slot w.here.slots.ok.0 within c.index_mut-slot.ensures.value in
+    in_place_moved w.here (c.segment.result - 1) slot c.arrive.new.self at (same_came slot.token c.arrive.new.self c.args.token c.arrive.result c.arrive.ensures.placed c.arrive.ensures.err) w.in_place
 
 pub invariant_of-self-clause-short : goal.invariant_of-self-clause-short
 invariant_of-self-clause-short c =
     let w = c.args.self.now in
     let slot = c.index_mut-slot.result.now in
-    let within : c.args.token.segment - 1 < w.here.slots.len = omega (arith, c.requires.first, c.requires.slot) in
-    let at = slice_get_read w.here.slots.items w.here.slots.len (c.args.token.segment - 1) slot w.here.slots.ok.0 within c.index_mut-slot.ensures.value in
-    short_moved w.here (c.args.token.segment - 1) slot c.arrive.new.self at w.short
+    let within : c.segment.result - 1 < w.here.slots.len = omega (arith, c.segment.ensures, c.requires.first, c.requires.slot) in
+    let at = slice_get_read w.here.slots.items w.here.slots.len (c.segment.result - 1) slot w.here.slots.ok.0 within c.index_mut-slot.ensures.value in
+    short_moved w.here (c.segment.result - 1) slot c.arrive.new.self at w.short

@@ -67,7 +67,7 @@ returns-else-page-len-clause-notes c =
     (λ token stands within.
     let same : c.in-Some.token.now ≡ token = same_some _ token (sym stood ∙ stands) in
     let long = ap (λ (t : Token). length t.pages) same in
-    absurd (omega (arith, within, long, c.if-page-len.false, c.len.ensures)))
+    absurd (omega (arith, within, long, c.if-page-len.false, c.len.ensures, ap length c.pages.ensures)))
 
 pub invariant_of-self-then-page-len-clause-runs : goal.invariant_of-self-then-page-len-clause-runs
 invariant_of-self-then-page-len-clause-runs c =

@@ -22,7 +22,7 @@ arrive-requires-clause-empty g c = λ other got.
     let w = c.args.self.now in
     let slot = c.index-slot.result.now in
     let within : c.args.token.segment - 1 < w.desk.here.slots.len = omega (arith, c.requires.first, c.requires.slot) in
-    let at = slice_get_read w.desk.here.slots.items w.desk.here.slots.len (c.args.token.segment - 1) slot w.desk.here.slots.ok.0 within c.index-slot.ensures in
+    let at = slice_get_read w.desk.here.slots.items w.desk.here.slots.len (c.args.token.segment - 1) slot w.desk.here.slots.ok.0 within (rw c.segment-segment.ensures at c.index-slot.ensures) in
     subst (λ (s : Slot). s.token.token ≡ None) (same_some slot other (sym at ∙ got)) (c.is_empty.ensures.0 c.if-not-is_empty.false)
 
 -- the place has the token that came
@@ -37,9 +37,9 @@ see-requires-clause-slot g c =
     let w = c.args.self.now in
     let slot = c.index-slot.result.now in
     let within : c.args.token.segment - 1 < w.desk.here.slots.len = omega (arith, c.requires.first, c.requires.slot) in
-    let at = slice_get_read w.desk.here.slots.items w.desk.here.slots.len (c.args.token.segment - 1) slot w.desk.here.slots.ok.0 within c.index-slot.ensures in
+    let at = slice_get_read w.desk.here.slots.items w.desk.here.slots.len (c.args.token.segment - 1) slot w.desk.here.slots.ok.0 within (rw c.segment-segment.ensures at c.index-slot.ensures) in
     let moved = (c.in-Ok.ensures.arrives slot at).1 in
-    subst (λ (h : Here). c.args.token.segment ≤ vec_len h.slots) (sym moved.here) c.requires.slot
+    rw c.segment-segment.ensures (subst (λ (h : Here). c.args.token.segment ≤ vec_len h.slots) (sym moved.here) c.requires.slot)
 
 pub returns-in-Ok : goal.returns-in-Ok
 returns-in-Ok g c = record {
@@ -47,23 +47,23 @@ returns-in-Ok g c = record {
       let w = c.args.self.now in
       let slot = c.index-slot.result.now in
       let within : c.args.token.segment - 1 < w.desk.here.slots.len = omega (arith, c.requires.first, c.requires.slot) in
-      let at = slice_get_read w.desk.here.slots.items w.desk.here.slots.len (c.args.token.segment - 1) slot w.desk.here.slots.ok.0 within c.index-slot.ensures in
+      let at = slice_get_read w.desk.here.slots.items w.desk.here.slots.len (c.args.token.segment - 1) slot w.desk.here.slots.ok.0 within (rw c.segment-segment.ensures at c.index-slot.ensures) in
       let came = c.in-Ok.ensures.arrives slot at in
-      let sees = subst (λ (o : Option Slot). SeesStanding o w.known c.see.new.self.known) (came_there c.args.token slot w.desk c.arrive.new.self at came.1) c.see.ensures.sees in
+      let sees = subst (λ (o : Option Slot). SeesStanding o w.known c.see.new.self.known) (came_there c.args.token slot w.desk c.arrive.new.self at came.1) (rw c.segment-segment.ensures at c.see.ensures.sees) in
       rw (c.see.ensures.desk, c.see.ensures.journal)
       (token_arrives g.D.Area m n s x sound w h c.arrive.new.self c.args.token c.requires.first slot at (c.is_empty.ensures.0 c.if-not-is_empty.false) travels its c.see.new.self.known sees came);
   whole =
       let w = c.args.self.now in
       let slot = c.index-slot.result.now in
       let within : c.args.token.segment - 1 < w.desk.here.slots.len = omega (arith, c.requires.first, c.requires.slot) in
-      let at = slice_get_read w.desk.here.slots.items w.desk.here.slots.len (c.args.token.segment - 1) slot w.desk.here.slots.ok.0 within c.index-slot.ensures in
+      let at = slice_get_read w.desk.here.slots.items w.desk.here.slots.len (c.args.token.segment - 1) slot w.desk.here.slots.ok.0 within (rw c.segment-segment.ensures at c.index-slot.ensures) in
       let moved = (c.in-Ok.ensures.arrives slot at).1 in
       rw c.see.ensures.desk (record { seats = ap vec_len moved.seats; slots = ap (λ (h : Here). vec_len h.slots) moved.here });
   stands = λ other got some.
       let w = c.args.self.now in
       let slot = c.index-slot.result.now in
       let within : c.args.token.segment - 1 < w.desk.here.slots.len = omega (arith, c.requires.first, c.requires.slot) in
-      let at = slice_get_read w.desk.here.slots.items w.desk.here.slots.len (c.args.token.segment - 1) slot w.desk.here.slots.ok.0 within c.index-slot.ensures in
+      let at = slice_get_read w.desk.here.slots.items w.desk.here.slots.len (c.args.token.segment - 1) slot w.desk.here.slots.ok.0 within (rw c.segment-segment.ensures at c.index-slot.ensures) in
       absurd (unseen slot other _ at got (c.is_empty.ensures.0 c.if-not-is_empty.false) some);
   answer = tt;
   log = ap (λ j. j.log) c.see.ensures.journal;
@@ -74,7 +74,7 @@ returns-in-Some g c =
     let w = c.args.self.now in
     let slot = c.index-slot.result.now in
     let within : c.args.token.segment - 1 < w.desk.here.slots.len = omega (arith, c.requires.first, c.requires.slot) in
-    let at = slice_get_read w.desk.here.slots.items w.desk.here.slots.len (c.args.token.segment - 1) slot w.desk.here.slots.ok.0 within c.index-slot.ensures in
+    let at = slice_get_read w.desk.here.slots.items w.desk.here.slots.len (c.args.token.segment - 1) slot w.desk.here.slots.ok.0 within (rw c.segment-segment.ensures at c.index-slot.ensures) in
     let came = c.in-Err.ensures.arrives slot at in
     record {
       follows = (
@@ -88,7 +88,7 @@ returns-in-Some g c =
           let w = c.args.self.now in
           let slot = c.index-slot.result.now in
           let within : c.args.token.segment - 1 < w.desk.here.slots.len = omega (arith, c.requires.first, c.requires.slot) in
-          let at = slice_get_read w.desk.here.slots.items w.desk.here.slots.len (c.args.token.segment - 1) slot w.desk.here.slots.ok.0 within c.index-slot.ensures in
+          let at = slice_get_read w.desk.here.slots.items w.desk.here.slots.len (c.args.token.segment - 1) slot w.desk.here.slots.ok.0 within (rw c.segment-segment.ensures at c.index-slot.ensures) in
           absurd (unseen slot other _ at got (c.is_empty.ensures.0 c.if-not-is_empty.false) some);
       answer = token_own c.in-Err.fault c.in-Some.refusal (sym c.token_refusal.ensures ∙ c.in-Some.is);
       log = refl;
@@ -102,7 +102,7 @@ returns-then-not-is_empty g c = record {
         let w = c.args.self.now in
         let slot = c.index-slot.result.now in
         let within : c.args.token.segment - 1 < w.desk.here.slots.len = omega (arith, c.requires.first, c.requires.slot) in
-        let at = slice_get_read w.desk.here.slots.items w.desk.here.slots.len (c.args.token.segment - 1) slot w.desk.here.slots.ok.0 within c.index-slot.ensures in
+        let at = slice_get_read w.desk.here.slots.items w.desk.here.slots.len (c.args.token.segment - 1) slot w.desk.here.slots.ok.0 within (rw c.segment-segment.ensures at c.index-slot.ensures) in
         absurd (stands_here m n w.desk s c.args.token.segment slot h.desk c.requires.first at (λ none. true≢false (sym (c.is_empty.ensures.1 none) ∙ c.if-not-is_empty.true)) travels),
   );
   whole = record { seats = refl; slots = refl };

@@ -23,7 +23,7 @@ returns-then-not-are_applied-clause-fails c = λ turns order keeps.
     let token = index_at no_token c.index.result.now r.tokens.items place (omega (arith, c.requires.place, r.all_tokens, r.tokens.ok.0)) c.index.ensures in
     let holder = index_at (Left 0) c.index-holder.result.now r.holders.items place (omega (arith, c.requires.place, r.all_holders, r.holders.ok.0)) c.index-holder.ensures in
     let are = are_applied r turns rs place c.args.first c.index.result.now c.index-holder.result.now order c.requires.first token holder c.args.nodes.now keeps in
-    true≢false (sym (c.are_applied.ensures.1 (subst (λ (n : ℕ). AreApplied c.args.nodes.now (place + 1) c.index.result.now.seq n) (sym c.node_of.ensures) are)) ∙ c.if-not-are_applied.true))
+    true≢false (sym (c.are_applied.ensures.1 (rw c.seq.ensures (subst (λ (n : ℕ). AreApplied c.args.nodes.now (place + 1) c.index.result.now.seq n) (sym c.node_of.ensures) are))) ∙ c.if-not-are_applied.true))
 
 pub replayed-requires-clause-small : goal.replayed-requires-clause-small
 replayed-requires-clause-small c =
@@ -73,7 +73,7 @@ returns-clause-keeps c = λ turns order.
     let holder = index_at (Left 0) c.index-holder.result.now r.holders.items place (omega (arith, c.requires.place, r.all_holders, r.holders.ok.0)) c.index-holder.ensures in
     let bytes : c.in-Some.bytes.items ≡ bytes_after (place + 1) rs start = rw c.in-Some.is at c.in_ok-bytes.ensures.bytes in
     let are : AreApplied nodes (place + 1) c.index.result.now.seq (node_of c.index-holder.result.now) =
-    subst (λ (n : ℕ). AreApplied nodes (place + 1) c.index.result.now.seq n) c.node_of.ensures (c.are_applied.ensures.0 c.if-not-are_applied.false) in
+    subst (λ (n : ℕ). AreApplied nodes (place + 1) c.index.result.now.seq n) c.node_of.ensures (rw c.seq.ensures at (c.are_applied.ensures.0 c.if-not-are_applied.false)) in
     let up : (n : ℕ) (node : NodeImages) → slice_get nodes n ≡ Some node → ComesUp place rs node c.as_slice.result.now = c.in_ok-all_come_up.ensures.0 c.if-not-branch.false in
     pictures_kept r turns rs place c.args.first c.index.result.now c.index-holder.result.now order c.requires.first token holder nodes c.as_slice.result.now are
     (rw c.in-Some.is at c.in_ok-bytes.ensures.replay) (c.as_slice.ensures.value ∙ bytes) up)

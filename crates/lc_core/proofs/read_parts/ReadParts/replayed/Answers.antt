@@ -39,6 +39,7 @@ returns-clause-fails c =
     let area : at_segment [] (items_of r.areas.items) (place + 1) ≡ c.as_slice-2.result.now =
     items_at c.index-3.result.now r.areas.items place (omega (arith, c.requires.place, r.all_areas, r.areas.ok.0)) c.index-3.ensures ∙ sym c.as_slice-2.ensures.value in
     none_then c.replay_segment-agrees.result _ c.then_some.result _ c.then_some.ensures (λ replay. c.replay_segment-agrees.ensures.replay.1
+    (subst (λ (n : ℕ). IsReplay (place + 1) c.args.first n rs c.as_mut_slice.result.now c.as_slice-2.result.now r.geometry.pages) (sym c.seq.ensures)
     (subst (λ (t : Token). IsReplay (place + 1) c.args.first t.seq rs c.as_mut_slice.result.now c.as_slice-2.result.now r.geometry.pages) token
     (subst (λ (l : List ℕ). IsReplay (place + 1) c.args.first (at_segment no_token r.tokens.items (place + 1)).seq rs l c.as_slice-2.result.now r.geometry.pages) start
-    (subst (λ (l : List ℕ). IsReplay (place + 1) c.args.first (at_segment no_token r.tokens.items (place + 1)).seq rs (at_segment [] (items_of r.bytes.items) (place + 1)) l r.geometry.pages) area replay))))
+    (subst (λ (l : List ℕ). IsReplay (place + 1) c.args.first (at_segment no_token r.tokens.items (place + 1)).seq rs (at_segment [] (items_of r.bytes.items) (place + 1)) l r.geometry.pages) area replay)))))

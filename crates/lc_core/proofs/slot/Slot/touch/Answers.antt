@@ -11,14 +11,14 @@ use Rattle.lc_core.proofs.slot.Slot.touch.Goals as goal
 pub touch-requires : goal.touch-requires
 touch-requires c =
     let h = c.loop-page.invariant.0 c.in-Some.token.now (sym c.in-Some.ensures.token) in
-    let among : c.loop-page.page < length h.after.pages = omega (arith, h.between.same_count, c.loop-page-test.true, c.min-behind.ensures, c.len.ensures) in
+    let among : c.loop-page.page < length h.after.pages = omega (arith, h.between.same_count, c.loop-page-test.true, c.min-behind.ensures, c.len.ensures, ap length c.pages.ensures) in
     subst (λ (o : Option Token). IsSomeAnd o (λ t. c.loop-page.page < length t.pages)) (sym (ap (λ (s : Slot). s.token.token) h.slot_is)) among
 
 pub loop-page-preserved : goal.loop-page-preserved
 loop-page-preserved c = (
   λ x is.
       let same : x ≡ c.in-Some.token.now = same_some _ _ (sym is ∙ sym c.in-Some.ensures.token) in
-      let among : c.loop-page.page < length x.pages = omega (arith, ap (λ (t : Token). length t.pages) same, c.loop-page-test.true, c.min-behind.ensures, c.len.ensures) in
+      let among : c.loop-page.page < length x.pages = omega (arith, ap (λ (t : Token). length t.pages) same, c.loop-page-test.true, c.min-behind.ensures, c.len.ensures, ap length c.pages.ensures) in
       touching_step _ _ x c.args.self.now c.loop-page.self c.touch.new.self (c.loop-page.invariant.0 x is) c.loop-page.auto.page among c.touch.ensures,
   λ _. omega (arith, c.loop-page-test.true, c.min-behind.ensures, c.div_ceil.ensures),
 )
@@ -27,7 +27,7 @@ pub returns : goal.returns
 returns c =
     let token = c.in-Some.token.now in
     let h = c.loop-page.invariant.0 token (sym c.in-Some.ensures.token) in
-    let is : c.min-behind.result ≡ min (div_ceil (c.args.offset + c.args.len) 256) (length token.pages) = omega (arith, c.min-behind.ensures, c.div_ceil.ensures, c.len.ensures) in
+    let is : c.min-behind.result ≡ min (div_ceil (c.args.offset + c.args.len) 256) (length token.pages) = omega (arith, c.min-behind.ensures, c.div_ceil.ensures, c.len.ensures, ap length c.pages.ensures) in
     subst
     (λ (o : Option Token). MatchOption o (c.loop-page.self ≡ c.args.self.now) (λ token. TouchesSlot c.args.offset c.args.len token c.args.self.now c.loop-page.self))
     c.in-Some.ensures.token
