@@ -261,12 +261,17 @@ mkdir -p other
 rm -f other/*
 ln store/* other/
 mkfifo hold
+# Starts a run that has the store open until descriptor 3 is closed.
+hold_store() {
+    rm -f held
+    "$program" run --follow --store store $full < hold > held 2>&1 &
+    holding=$!
+    exec 3> hold
+    echo 'begin 0 0 2' >&3
+    while [ ! -s held ]; do kill -0 $holding || break; sleep 0.1; done
+}
 name='two folders of the same files'
-"$program" run --follow --store store $full < hold > held 2>&1 &
-holding=$!
-exec 3> hold
-echo 'begin 0 0 2' >&3
-while [ ! -s held ]; do kill -0 $holding || break; sleep 0.1; done
+hold_store
 lcrvm run --store other $full
 ends 3 'device fault' 'lcrvm: other/log0: store in use'
 for how in 'check other' 'dump other 1 0' 'draw other'; do
@@ -289,11 +294,7 @@ ends 0 ok
 name='two folders of the same files behind a mark'
 new_store
 : > store/fault
-"$program" run --follow --store store $full < hold > held 2>&1 &
-holding=$!
-exec 3> hold
-echo 'begin 0 0 2' >&3
-while [ ! -s held ]; do kill -0 $holding || break; sleep 0.1; done
+hold_store
 rm -rf other
 mkdir other
 ln store/* other/
