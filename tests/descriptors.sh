@@ -27,6 +27,7 @@ fail() {
 
 size='--words 256'
 files='lcrvm.store log0 seg1'
+areas='log0 seg1'
 printf 'begin 0 0 1\nrange 0 0 1 0 4\nwrite 0 0 1 0 a1a2a3a4\nend 0 0\nflush 0\n' > before.script
 {
     printf 'begin 0 0 1\nrange 0 0 1 8 4\nwrite 0 0 1 8 b1b2b3b4\nend 0 0\nflush 0\n'
@@ -137,7 +138,8 @@ for which in none 0 1 2 01 02 12 012; do
         *) [ $status -eq 0 ] || fail "$name: status $status" ;;
     esac
     whole "$name"
-    for file in $files; do
+    printf 'format 1\nnodes 1\nsegments 1\npages 1\nwords 256\n' | cmp -s - store/lcrvm.store || fail "$name: lcrvm.store says another size"
+    for file in $areas; do
         tr -d '\0' < store/$file | cmp -s - /dev/null || fail "$name: $file is not of zeros"
     done
     done_with "$name"
@@ -151,7 +153,7 @@ for which in none 0 1 2 01 02 12 012; do
     closed $which after.script run --store store $size
     [ $status -eq 3 ] || fail "$name: status $status"
     cmp -s base/log0 store/log0 || fail "$name: log0 is another"
-    [ "$(ls store)" = log0 ] || fail "$name: other files are there"
+    [ "$(ls store | tr '\n' ' ')" = 'lcrvm.store log0 ' ] || fail "$name: other files are there"
     done_with "$name"
 
     # The same where standard input is a folder, which nobody can read as a script.

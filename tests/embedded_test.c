@@ -305,14 +305,8 @@ static int faults(const char *folder, const char *number)
     else
         CHECK(is_failure(&fault));
     status = lcrvm_open(folder, NULL, &store, &fault);
-    if (failing == 1) {
-        /* The sync of the folder, in front of all that is written: it leaves no mark. */
-        ANSWERS(status, LCRVM_OK);
-        lcrvm_close(store, NULL);
-    } else {
-        ANSWERS(status, LCRVM_DEVICE_FAULT);
-        CHECK(store == NULL && strstr(fault.text, "lcrvm recover") != NULL);
-    }
+    ANSWERS(status, LCRVM_DEVICE_FAULT);
+    CHECK(store == NULL && strstr(fault.text, "lcrvm recover") != NULL);
     CHECK(descriptors() == before);
     return wrong == 0 ? HAS_FAILED : 1;
 }
@@ -1012,9 +1006,10 @@ static void test_interrupted_locks(const char *folder)
     close_well(store);
 }
 
-/* An opening syncs the folder before it writes; where that fails nothing is written, and no mark is left. */
+/* An opening syncs the size and the folder before it writes; where one fails nothing is written, and a mark is left. */
 static void test_opening_syncs_the_folder(const char *folder)
 {
+    enum { SIZE_AND_FOLDER = 2 };
     struct lcrvm_store *store = made_as(folder, &one, false);
     char log[MOST_BYTES], now[MOST_BYTES];
     size_t len;
@@ -1023,12 +1018,14 @@ static void test_opening_syncs_the_folder(const char *folder)
     ANSWERS(lcrvm_flush(store, 0, NULL), LCRVM_OK);
     close_well(store);
     len = read_bytes(below(folder, "log0"), log);
-    folder_syncs = 0;
-    failing = made + 1;
-    opens_not(folder, NULL, LCRVM_DEVICE_FAULT, 0, strerror(EIO));
-    CHECK(folder_syncs == 1 && made == failing);
-    CHECK(read_bytes(below(folder, "log0"), now) == len && memcmp(log, now, len) == 0);
-    CHECK(access(below(folder, "fault"), F_OK) != 0);
+    for (int sync = 1; sync <= SIZE_AND_FOLDER; sync++) {
+        folder_syncs = 0;
+        failing = made + sync;
+        opens_not(folder, NULL, LCRVM_DEVICE_FAULT, 0, sync == 1 ? "lcrvm.store: Input/output error" : strerror(EIO));
+        CHECK(folder_syncs == sync - 1 && made == failing);
+        CHECK(read_bytes(below(folder, "log0"), now) == len && memcmp(log, now, len) == 0);
+        CHECK(unlink(below(folder, "fault")) == 0);
+    }
     folder_syncs = 0;
     store = opened_as(folder, NULL, false);
     CHECK(folder_syncs == 1 && holds(store, 0, 1, 0, "kept"));

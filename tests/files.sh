@@ -89,8 +89,8 @@ while [ $number -le $scripts ]; do
     random_script $((seed * 1000 + 500 + number)) 40 > second
     mkdir store
     lcrvm init store $size || fail "no store was made"
-    run --store store < first > halves
-    run --store store < second >> halves
+    run --store store < first > halves 2> /dev/null
+    run --store store < second >> halves 2> /dev/null
     { cat first; echo 'stop keep'; echo recover; cat second; } > whole
     run < whole | grep -v -x -e down -e recovered > memory || true
     grep -q 'not understood' halves memory && fail "a line of script $number is not understood"
@@ -153,7 +153,7 @@ check_store() {
     [ "$kept" -ge "$2" ] || fail "kill $1: $2 commits were acknowledged, and $kept are there"
     [ "$kept" -le $commits ] || fail "kill $1: more commits than were made"
     { echo "begin 0 0$all_segments"; for s in $all_segments; do echo "read 0 0 $s 0 2"; done; } > look
-    lcrvm run --store store $store_size < look > looked || fail "kill $1: the store cannot be read"
+    lcrvm run --store store $store_size < look > looked 2> /dev/null || fail "kill $1: the store cannot be read"
     want=$(printf 'bytes %04x' "$kept")
     [ "$(grep -c -x "$want" looked)" -eq $segments ] || fail "kill $1: the bytes are not those of commit $kept"
 }

@@ -159,16 +159,21 @@ static bool mirror_call(struct lcrvm_store *store, uint32_t place, const struct 
     }
 }
 
-/* The file of an area has failed: the store is given up, and a mark is left for whoever opens it next. That takes no
-   descriptor, of which the caller may have none left. */
+/* Leaves a mark for whoever opens the store next. It takes no descriptor, of which the caller may have none left. */
+static void leave_mark(struct lcrvm_store *store)
+{
+    if (mknodat(store->folder, mark, S_IFREG | 0666, 0) != 0 && errno != EEXIST)
+        add_line(&store->known.last, mark, "not made: unmount the file system before the store is opened again");
+}
+
+/* The file of an area has failed: the store is given up. */
 static enum lcrvm_status given_up(struct lcrvm_store *store, uint32_t place)
 {
     char name[NAME_BYTES];
 
     name_of(&store->known.geometry, place, name);
     file_failed(&store->known.last, name);
-    if (mknodat(store->folder, mark, S_IFREG | 0666, 0) != 0 && errno != EEXIST)
-        add_line(&store->known.last, mark, "not made: unmount the file system before the store is opened again");
+    leave_mark(store);
     lcrvm_session_give_up(&store->session);
     store->known.dead = true;
     return store->known.last.status;
@@ -339,10 +344,36 @@ static enum lcrvm_status recover(struct lcrvm_store *store)
     return status;
 }
 
-/* Makes the names of the files stable: those of a store whose creation was cut, or of a copy, need not be. */
+/* Makes the file that states the size stable. */
+static enum lcrvm_status sync_size(struct lcrvm_store *store)
+{
+    struct lcrvm_fault *fault = &store->known.last;
+    enum lcrvm_status status = LCRVM_OK;
+    int file;
+
+    if (store->stated.nodes == 0)
+        return LCRVM_OK;
+    file = open_regular(store->folder, size_name, O_RDONLY, fault);
+    if (file < 0)
+        return fault->status;
+    if (!make_stable(file, fsync)) {
+        status = file_failed(fault, size_name);
+        leave_mark(store);
+    }
+    close_file(file);
+    return status;
+}
+
+/* Makes the size and the names of the files stable: those of a store whose creation was cut, or of a copy, need not be. */
 static enum lcrvm_status sync_folder(struct lcrvm_store *store)
 {
-    return make_stable(store->folder, fsync) ? LCRVM_OK : system_failed(&store->known.last);
+    enum lcrvm_status status = sync_size(store);
+
+    if (status == LCRVM_OK && !make_stable(store->folder, fsync)) {
+        status = system_failed(&store->known.last);
+        leave_mark(store);
+    }
+    return status;
 }
 
 /* Where a mark stands, a file had failed: what the system has of it in memory alone may be lost. */

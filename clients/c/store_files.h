@@ -436,7 +436,7 @@ static enum lcrvm_status find_size(int folder, struct lcrvm_geometry *found, str
 
 /* The size that a folder states. */
 
-/* Takes the size from its file, which has nothing else, and makes it stable: that of a copy need not be. */
+/* Takes the size from its file, which has nothing else. */
 static enum lcrvm_status take_stated(int file, struct lcrvm_geometry *stated, struct lcrvm_fault *fault)
 {
     char text[SIZE_BYTES] = "";
@@ -450,7 +450,7 @@ static enum lcrvm_status take_stated(int file, struct lcrvm_geometry *stated, st
         return file_failed(fault, size_name);
     if (!read_size(text, len, stated))
         return fault_of_file(fault, LCRVM_DEVICE_FAULT, size_name, "not the size of a store");
-    return make_stable(file, fsync) ? LCRVM_OK : file_failed(fault, size_name);
+    return LCRVM_OK;
 }
 
 /* Takes the size that a folder states; where it states none, that stays as it was. */

@@ -1,3 +1,4 @@
 pub mod Names
 pub mod Makes
 pub mod Keeps
+pub mod SizeLines

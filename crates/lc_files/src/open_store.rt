@@ -108,9 +108,20 @@ where
     pub fn open(&self, geometry: &Geometry) -> Result<OpenStore<'_, R>, Unopened> {
         let guard = self.noted(Place::Folder, self.lock())?;
         let areas = self.renewed_areas(geometry)?;
-        self.noted(Place::Name(StoreName::Size), self.sync_size())?;
-        self.noted(Place::Folder, guard.sync_all())?;
+        if let Some(file) = self.noted(Place::Name(StoreName::Size), self.size_file())? {
+            self.make_stable(Place::Name(StoreName::Size), &file)?;
+        }
+        self.make_stable(Place::Folder, &guard)?;
         Ok(OpenStore { areas, guard })
+    }
+
+    // Syncs the folder, or the file of the size. A sync that fails leaves the mark: the system does not tell of it again.
+    fn make_stable(&self, place: Place, file: &R::File) -> Result<(), FolderFault> {
+        let synced = file.sync_all();
+        if synced.is_err() {
+            self.mark(&self.noted(Place::Name(StoreName::Mark), self.path_of(StoreName::Mark))?);
+        }
+        self.noted(place, synced)
     }
 
     // The areas of the store's files. Where a fault has left its mark the files are copied before.

@@ -1,13 +1,11 @@
 //! The lines of the file that says a store's size.
-ghost use Rattle.std.specs.Prelude.{◌≡◌, IfOk, IfSome, Some};
-ghost use Rattle.lc_files.specs.SizeText.{size_file_text};
+ghost use Rattle.std.specs.Prelude.{◌≡◌, ◌++◌, ◌∷◌, ◌<◌, ◌^◌, ℕ, List, decimal, IfOk, IfSome, MatchOption, None, Some};
+ghost use Rattle.lc_record.specs.declared.geometry.Geometry.{Geometry as Sizes};
+ghost use Rattle.lc_files.specs.SizeText.{IsSameSize, size_file_text};
 
 use lc_record::Geometry;
 use std::alloc::{AllocError, Global};
 use std::fmt;
-
-// The first line.
-const FORMAT: &str = "format 1";
 
 /// The lines that say how large a store is, as they are printed: the format, nodes, segments, pages of a segment, and words of a log.
 /// This project's own.
@@ -35,6 +33,7 @@ impl fmt::Display for SizeText {
 pub(crate) fn size_said(alloc: Global, bytes: &[u8]) -> Result<Option<Geometry>, AllocError>
     ensures said { IfOk result (λ said. IfSome said (λ g. bytes.now ≡ size_file_text g)) }
     ensures threads { IfOk result (λ said. IfSome said (λ g. g.threads ≡ 1)) }
+    ensures none { IfOk result (λ said. said ≡ None → (g : Sizes) → bytes.now ≡ size_file_text g → ⊥) }
 {
     let Some(geometry) = size_in(bytes) else {
         return Ok(None);
@@ -47,17 +46,29 @@ pub(crate) fn size_said(alloc: Global, bytes: &[u8]) -> Result<Option<Geometry>,
     }
 }
 
-// The size that lines say which may be spelled otherwise.
+// The size that lines say, which may be spelled otherwise.
 fn size_in(bytes: &[u8]) -> Option<Geometry>
-    ensures { IfSome result (λ g. g.threads ≡ 1) }
+    ensures threads { IfSome result (λ g. g.threads ≡ 1) }
+    ensures found { (g : Sizes) → bytes.now ≡ size_file_text g → MatchOption result ⊥ (λ found. IsSameSize found g) }
 {
-    let mut lines = str::from_utf8(bytes).ok()?.lines();
-    if lines.next()? != FORMAT {
+    let Ok(text) = str::from_utf8(bytes) else {
         return None;
-    }
-    let nodes = lines.next()?.strip_prefix("nodes ")?.parse().ok()?;
-    let segments = lines.next()?.strip_prefix("segments ")?.parse().ok()?;
-    let pages = lines.next()?.strip_prefix("pages ")?.parse().ok()?;
-    let words = lines.next()?.strip_prefix("words ")?.parse().ok()?;
+    };
+    let (nodes, text) = number_in(text, "format 1\nnodes ")?;
+    let (segments, text) = number_in(text, "segments ")?;
+    let (pages, text) = number_in(text, "pages ")?;
+    let (words, _) = number_in(text, "words ")?;
+    let Ok(nodes) = u16::try_from(nodes) else {
+        return None;
+    };
     Geometry::new(nodes, 1, segments, pages, words)
+}
+
+// The number with which a text goes on behind these words, up to the end of the line, and what stands behind that.
+fn number_in<'a>(text: &'a str, words: &str) -> Option<(u32, &'a str)>
+    ensures { (n : ℕ) (rest : List ℕ) → n < 2 ^ 32 → text.now ≡ words.now ++ (decimal n ++ 10 ∷ rest)
+        → MatchOption result ⊥ (λ found. (found.0 ≡ n) × (found.1.now ≡ rest)) }
+{
+    let (number, rest) = text.strip_prefix(words)?.split_once('\n')?;
+    Some((number.parse().ok()?, rest))
 }

@@ -331,14 +331,15 @@ where
         Ok(Some(bytes))
     }
 
-    // Makes the file that says the size stable, where there is one: who copied it may not have.
-    pub(crate) fn sync_size(&self) -> io::Result<()> {
+    // The file that says the size, where there is one, open to be made stable: who copied it may not have done so.
+    pub(crate) fn size_file(&self) -> io::Result<Option<R::File>> {
         let path = self.path_of(StoreName::Size)?;
         if self.standing(&path)?.is_none() {
-            return Ok(());
+            return Ok(None);
         }
         let mut options = OpenOptions::new();
-        self.open_plain(&path, options.read(true))?.0.sync_all()
+        let (file, _) = self.open_plain(&path, options.read(true))?;
+        Ok(Some(file))
     }
 
     // The first file of a store of this size that is not there, or has another length, is noted.
