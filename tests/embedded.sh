@@ -41,7 +41,7 @@ fails() {
 
 # The greatest number in the first 256 bytes of segment 1, as the program reads them.
 number_by_program() {
-    printf 'begin 0 0 r1\nread 0 0 1 0 256\n' | "$program" run --as-found --store "$1" |
+    printf 'begin 0 0 r1\nread 0 0 1 0 256\n' | "$program" run --as-found --store "$1" 2> /dev/null |
         awk '$1 == "bytes" {
             greatest = 0
             for (place = 0; place < 32; place++) {

@@ -288,10 +288,11 @@ where
         }
     }
 
-    // A file of the store, open to be copied, with its length, which no other process can open so until this is closed.
+    // A file of the store, open to be copied, with its length, which no other process can open so until this is closed. Some systems
+    // want a file that is locked so to be open for writing.
     pub(crate) fn open_to_copy(&self, name: FileName) -> io::Result<(R::File, u64)> {
         let mut options = OpenOptions::new();
-        let (file, len) = self.open_file(name, options.read(true))?;
+        let (file, len) = self.open_file(name, options.read(true).write(true))?;
         locked(file.try_lock())?;
         Ok((file, len))
     }

@@ -1,0 +1,89 @@
+#!/bin/sh
+# Runs the scripts of this folder over what was built, side by side, each with a limit of its own, and the look at what the documents
+# name. What each said is shown where it failed; the last line counts them: 'N passed, M failed, K skipped'. A script that lacks a tool,
+# or has to be root, is skipped, by name, and never passed.
+#
+# usage: tests/all.sh [-j N] [NAME..]     (default: a script for each processor; all)
+#
+# The program, the library and the tests have to be built:
+#   (cd crates/lcrvm && rt run -- lines)   (cd crates/lc_c && rt lib)   (cd crates/lc_tests && rt test)
+# LCRVM, LC_C and LC_TESTS may name them elsewhere. `cc` and `python3` are wanted. Some scripts take more cuts, kills or seeds by an argument
+# of their own: see their first lines.
+set -eu
+
+top=$(cd "$(dirname "$0")/.." && pwd)
+export LCRVM="${LCRVM:-$top/crates/lcrvm/out/lcrvm}"
+export LC_C="${LC_C:-$top/crates/lc_c/out/liblc_c.a}"
+export LC_TESTS="${LC_TESTS:-$top/crates/lc_tests/out/lc_tests_tests}"
+lanes=$(nproc)
+if [ "${1:-}" = -j ]; then
+    lanes=$2
+    shift 2
+fi
+
+# The longest first: how many seconds each may take, its name, and the command.
+rows='
+900 embedded tests/embedded.sh $LCRVM $LC_C
+900 power tests/power.sh $LCRVM 1 500
+900 same_calls tests/same_calls.sh $LCRVM $LC_C
+900 refused_growths tests/refused_growths.sh
+600 faults tests/faults.sh $LCRVM
+600 objects tests/objects.sh $LCRVM 20
+600 files tests/files.sh $LCRVM
+600 clients tests/clients.sh $LCRVM
+300 processes tests/processes.sh $LCRVM 40
+300 failed_sync tests/failed_sync.sh $LCRVM
+300 progress tests/progress.sh $LCRVM
+300 folders tests/folders.sh $LCRVM
+300 descriptors tests/descriptors.sh $LCRVM
+60 proved python3 tests/proved.py
+60 edits tests/edits.sh --fits
+'
+
+work=$(mktemp -d "${TMPDIR:-/tmp}/lcrvm-all.XXXXXX")
+trap 'rm -rf "$work"' EXIT
+trap 'exit 1' HUP INT TERM
+export work
+cd "$top"
+
+# One row: what it says, and its status, which is 124 behind its limit.
+cat > "$work/row" <<'ROW'
+read -r limit name command <<LINE
+$1
+LINE
+begun=$(date +%s)
+status=0
+eval "timeout -k 5 $limit $command" > "$work/$name.out" 2>&1 < /dev/null || status=$?
+echo "$status $(($(date +%s) - begun))" > "$work/$name.end"
+ROW
+
+wanted=" $* "
+names=''
+echo "$rows" | while read -r limit name command; do
+    [ -n "$name" ] || continue
+    case $wanted in '  ' | *" $name "*) echo "$limit $name $command" ;; esac
+done > "$work/rows"
+[ -s "$work/rows" ] || { echo "no such script:$wanted"; echo '0 passed, 1 failed, 0 skipped'; exit 1; }
+xargs -d '\n' -n 1 -P "$lanes" sh "$work/row" < "$work/rows"
+
+passed=0
+failed=0
+skipped=0
+while read -r limit name command; do
+    read -r status seconds < "$work/$name.end"
+    last=$(tail -n 1 "$work/$name.out")
+    if [ "$status" -eq 0 ] && grep -q '^skipped: ' "$work/$name.out"; then
+        skipped=$((skipped + 1))
+        echo "$name: $(grep '^skipped: ' "$work/$name.out")"
+    elif [ "$status" -eq 0 ]; then
+        passed=$((passed + 1))
+        echo "$name: $last ($seconds s)"
+    else
+        failed=$((failed + 1))
+        [ "$status" -ne 124 ] || last="not at its end behind $limit seconds: $last"
+        echo "$name: FAILED, status $status ($seconds s): $last"
+        tail -n 40 "$work/$name.out" | sed "s/^/$name | /"
+    fi
+done < "$work/rows"
+echo "$passed passed, $failed failed, $skipped skipped"
+[ $failed -eq 0 ]
