@@ -25,7 +25,7 @@ impl<D: Area + Drop> SegSide<D> {
         if !self.may_arrive(&journey) {
             return Err(journey);
         }
-        self.since = journey.token.seq + 1;
+        self.since = journey.token.seq() + 1;
         self.stay(journey);
         Ok(())
     }
@@ -86,8 +86,8 @@ impl<D: Area + Drop> SegSide<D> {
         ensures { IsTrue result ↔ MayArrive self.now journey.now }
     {
         self.token.is_empty()
-            && journey.token.segment == self.segment
-            && journey.token.seq == self.hold_back.applied()
-            && self.base.bytes().len() == journey.token.pages.len() * PAGE_BYTES
+            && journey.token.segment() == self.segment
+            && journey.token.seq() == self.hold_back.applied()
+            && self.base.bytes().len() == journey.token.pages().len() * PAGE_BYTES
     }
 }

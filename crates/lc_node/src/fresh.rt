@@ -40,12 +40,7 @@ impl FreshSegment {
         let image = bytes_of(alloc, segment, recovered)?;
         let base = bytes_of(alloc, segment, recovered)?;
         let pages = pages_of(alloc, segment, recovered)?;
-        let token = Token {
-            segment,
-            seq: number,
-            clean: number,
-            pages,
-        };
+        let token = Token::recovered(segment, number, pages);
         Ok(FreshSegment { image, base, token })
     }
 
@@ -58,14 +53,14 @@ impl FreshSegment {
         ensures { result ≡ fresh_side self area result.room }
     {
         let FreshSegment { image, base, token } = self;
-        let segment = token.segment;
+        let segment = token.segment();
         SegSide {
             segment,
             image: Some(Image::new(image)),
             base: Image::new(base),
             applied: Vec::new(alloc),
             stored: 0,
-            hold_back: HoldBack::new(alloc, segment, token.seq),
+            hold_back: HoldBack::new(alloc, segment, token.seq()),
             token: TokenPlace::new(segment, Some(token)),
             pages: PageArea::Serves(area),
             since: 0,
@@ -82,14 +77,14 @@ impl FreshSegment {
         ensures { result ≡ elsewhere_side self result.room }
     {
         let FreshSegment { image, base, token } = self;
-        let segment = token.segment;
+        let segment = token.segment();
         SegSide {
             segment,
             image: Some(Image::new(image)),
             base: Image::new(base),
             applied: Vec::new(alloc),
             stored: 0,
-            hold_back: HoldBack::new(alloc, segment, token.seq),
+            hold_back: HoldBack::new(alloc, segment, token.seq()),
             token: TokenPlace::new(segment, None),
             pages: PageArea::Elsewhere,
             since: 0,

@@ -64,7 +64,7 @@ impl<D: Area + Drop> Travelling<D> {
     pub fn segment(&self) -> u32
         ensures { result ≡ self.now.token.segment }
     {
-        self.token.segment
+        self.token.segment()
     }
 
     /// The token's number.
@@ -72,7 +72,7 @@ impl<D: Area + Drop> Travelling<D> {
         ensures number { result ≡ self.now.token.seq }
         ensures small { result ≤ 2 ^ 60 }
     {
-        self.token.seq
+        self.token.seq()
     }
 
     /// The number of the node that the token left.

@@ -40,7 +40,7 @@ pub(crate) fn in_order<D: Area + Drop>(
     }
     match tokens.first() {
         None => Ok(parts),
-        Some(part) => Err(Part::Token(part.token.segment).into()),
+        Some(part) => Err(Part::Token(part.token.segment()).into()),
     }
 }
 
@@ -65,7 +65,7 @@ fn take_token<D: Area + Drop>(
     };
     let part = tokens.remove(place);
     let pages = geometry.pages as usize;
-    if part.token.pages.len() != pages || part.area.len() != 2 * SLOT_BYTES * pages {
+    if part.token.pages().len() != pages || part.area.len() != 2 * SLOT_BYTES * pages {
         return Err(Part::Token(segment).into());
     }
     Ok(part)
@@ -75,5 +75,7 @@ fn take_token<D: Area + Drop>(
 fn place_of<D: Area>(tokens: &[SegmentPart<D>], segment: u32) -> Option<usize>
     ensures { result ≡ position (λ part. part.token.segment == segment) tokens.now }
 {
-    tokens.iter().position(|part| part.token.segment == segment)
+    tokens
+        .iter()
+        .position(|part| part.token.segment() == segment)
 }

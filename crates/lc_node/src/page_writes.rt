@@ -81,8 +81,9 @@ fn begin_all<D: Area>(
     ensures counted { OnOk result (D.failures area.new ≡ D.failures area.old) }
     ensures fault { IfErr result (λ fault. (fault ≡ DeviceFault) × (D.failures area.new ≡ D.failures area.old + 1)) }
 {
-    for page in 0..token.pages.len() as u32 {
-        if token.pages.dirty(page) {
+    let pages = token.pages();
+    for page in 0..pages.len() as u32 {
+        if pages.dirty(page) {
             let write = begin_page(area, token, bytes, page)?;
             writes.push_back_reserved(write);
         }
@@ -114,7 +115,7 @@ fn begin_page<D: Area>(
     let start = page as usize * PAGE_BYTES;
     let mut content = [0; PAGE_BYTES];
     content.copy_from_slice(&bytes[start..start + PAGE_BYTES]);
-    let Ok(write) = PageWrite::begin(&token.pages, page, &content, token.seq) else {
+    let Ok(write) = PageWrite::begin(token.pages(), page, &content, token.seq()) else {
         unreachable!()
     };
     Writing::begin(write, area)
@@ -147,8 +148,8 @@ fn note_written(place: &mut TokenPlace)
     let Some(token) = place.token() else {
         unreachable!()
     };
-    let seq = token.seq;
-    for page in 0..token.pages.len() as u32 {
+    let seq = token.seq();
+    for page in 0..token.pages().len() as u32 {
         if is_dirty(place, page) {
             place.written(page, seq);
         }
@@ -163,5 +164,5 @@ fn is_dirty(place: &TokenPlace, page: u32) -> bool
     let Some(token) = place.token() else {
         unreachable!()
     };
-    token.pages.dirty(page)
+    token.pages().dirty(page)
 }

@@ -8,7 +8,7 @@ use lc_token::Token;
 
 impl<D: Area + Drop> LogSide<D> {
     /// Takes in what a token calls clean. Its segment is from 1 to 16. It takes no memory.
-    pub fn see(&mut self, token: &Token)
+    pub(crate) fn see(&mut self, token: &Token)
         requires first { 1 ≤ token.now.segment }
         requires last { token.now.segment ≤ 16 }
         ensures sees { Sees self.old.known token.now self.new.known }

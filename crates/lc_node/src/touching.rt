@@ -33,7 +33,7 @@ fn touch_range(place: &mut TokenPlace, range: &RangeData)
     if bytes.is_empty() {
         return;
     }
-    let pages = place.token().unwrap().pages.len();
+    let pages = place.token().unwrap().pages().len();
     let offset = range.offset as usize;
     let behind = (offset + bytes.len()).div_ceil(PAGE_BYTES).min(pages);
     for page in offset / PAGE_BYTES..behind {

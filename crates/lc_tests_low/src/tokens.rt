@@ -112,17 +112,13 @@ fn a_token_is_written_leaves_and_arrives(rt: HostRuntime) -> Result<(), Fail> {
     };
     let pages = PageVector::new(rt.alloc(), &[text])?;
     assert!(rt; pages.len() == 1);
-    let mut token = Token {
-        segment: 1,
-        seq: 5,
-        clean: 2,
-        pages,
-    };
-    token.pages.touch(0, 4);
-    token.written(0, 4);
-    assert!(rt; token.clean == 5);
-    let mut place = TokenPlace::new(1, Some(token));
+    let mut place = TokenPlace::new(1, Some(Token::recovered(1, 4, pages)));
+    place.count_record();
+    place.touch(0);
+    place.written(0, 5);
     let token = place.leave(false, false, 8, 8)?;
+    assert!(rt; token.seq() == 5);
+    assert!(rt; token.clean() == 5);
     let mut other = TokenPlace::new(1, None);
     assert!(rt;
         other

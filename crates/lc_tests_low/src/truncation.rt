@@ -2,7 +2,7 @@
 ghost use Rattle.std.specs.Prelude.{◌≡◌, ◌≤◌, IfOk, length};
 
 use lc_page::{PageText, PageVector};
-use lc_token::Token;
+use lc_token::{Token, TokenPlace};
 use lc_trunc::{KnownClean, Unclean, dirty_pages, may_reset};
 use std::alloc::{AllocError, Global};
 use std::test::Fail;
@@ -37,6 +37,7 @@ const LOG: [u64; 21] = [
 // A token of the segment with three pages, which have number 2 on the disk.
 fn token_of(alloc: Global, segment: u32, clean: u64) -> Result<Token, AllocError>
     ensures segment { IfOk result (λ token. token.segment ≡ segment) }
+    ensures seq { IfOk result (λ token. token.seq ≡ clean) }
     ensures pages { IfOk result (λ token. length token.pages ≡ 3) }
 {
     let text = PageText {
@@ -44,12 +45,8 @@ fn token_of(alloc: Global, segment: u32, clean: u64) -> Result<Token, AllocError
         slot: None,
         gates: [false, false],
     };
-    Ok(Token {
-        segment,
-        seq: 9,
-        clean,
-        pages: PageVector::new(alloc, &[text, text, text])?,
-    })
+    let pages = PageVector::new(alloc, &[text, text, text])?;
+    Ok(Token::recovered(segment, clean, pages))
 }
 
 #[test]
@@ -84,11 +81,14 @@ fn behind_the_last_record_there_is_no_lock(rt: HostRuntime) {
 #[test]
 fn pages_that_were_changed_are_dirty(rt: HostRuntime) -> Result<(), Fail> {
     let alloc = rt.alloc();
-    let mut token = token_of(alloc, 1, 2)?;
+    let mut place = TokenPlace::new(1, Some(token_of(alloc, 1, 2)?));
     // A page that was changed under the number that is on the disk is clean.
-    token.pages.touch(1, 2);
-    token.pages.touch(2, 5);
-    token.pages.touch(0, 3);
+    place.touch(1);
+    place.count_record();
+    place.touch(0);
+    place.count_record();
+    place.touch(2);
+    let token = place.leave(false, false, 4, 4)?;
     let dirty = match dirty_pages(alloc, &token) {
         Ok(pages) => pages,
         // Once more where there was no memory.

@@ -81,5 +81,5 @@ returns-clause-refused g c =
     let now = c.loop-place.tokens.items in
     let whole : place ≡ c.args.geometry.now.segments = omega arith in
     let first : slice_get now 0 ≡ Some c.in-Some.part.now = ap (λ (l : List (SegmentPart g.row.D.Denot)). slice_get l 0) (sym c.deref.ensures.value) ∙ sym c.in-Some.ensures.value in
-    subst (StopsTokens g.D.Area c.args.geometry.now all) (sym c.into.ensures)
+    subst (StopsTokens g.D.Area c.args.geometry.now all) (sym (rw c.segment.ensures at c.into.ensures))
     (inr ((λ segment from within. inv.has segment from (omega (arith, whole, within))), is_left_over c.args.geometry.now place all now c.in-Some.part.now whole inv.left first))

@@ -36,7 +36,7 @@ returns-then-len-pages-clause-refused g c =
       λ has.
           (let pages = token_at g.D.Area c.args.geometry.now c.args.segment all part first has in
           elim c.then-len-pages.branch [
-            | then-len-pages-via-then-len-pages w ↦ w.if-len-pages.true (c.len.ensures ∙ pages.entries)
+            | then-len-pages-via-then-len-pages w ↦ w.if-len-pages.true ((c.len.ensures ∙ ap length c.pages.ensures) ∙ pages.entries)
             | then-len-pages-via-else-len-pages+then-len-pages-2 w ↦ w.if-len-pages-2.true (omega (arith, w.len-else-len-pages.ensures.len, pages.area))
           ]),
     )
@@ -58,7 +58,7 @@ returns-clause-has g c =
     has_token g.D.Area c.args.geometry.now c.args.segment c.args.tokens.now.items c.remove-part.result
     (first_found c.args.segment c.in-Some.place c.args.tokens.now.items c.as_slice.result.now c.place_of.result c.remove-part.result c.place_of.ensures c.as_slice.ensures.value c.in-Some.is within c.remove-part.ensures.value)
     (record {
-      entries = sym c.len.ensures ∙ c.if-len-pages.false;
+      entries = sym (c.len.ensures ∙ ap length c.pages.ensures) ∙ c.if-len-pages.false;
       area = (let long : length (g.D.Area.now c.remove-part.result.area) ≡ 2 * 272 * c.args.geometry.now.pages = omega (arith, c.len-else-len-pages.ensures.len, c.if-len-pages-2.false) in long);
     })
 
@@ -66,7 +66,7 @@ pub returns-clause-pages : goal.returns-clause-pages
 returns-clause-pages g c =
     let within : c.in-Some.place < length c.args.tokens.now.items = search rules in
     let settled : IsSettledPart g.D.Area c.remove-part.result = subst (IsSettledPart g.D.Area) (sym c.remove-part.ensures.value) (c.requires.settled c.in-Some.place c.remove-part.result within) in
-    keeps_pages g.D.Area c.args.geometry.now c.remove-part.result settled (sym c.len.ensures ∙ c.if-len-pages.false)
+    keeps_pages g.D.Area c.args.geometry.now c.remove-part.result settled (sym (c.len.ensures ∙ ap length c.pages.ensures) ∙ c.if-len-pages.false)
     (let long : length (g.D.Area.now c.remove-part.result.area) ≡ 2 * 272 * c.args.geometry.now.pages = omega (arith, c.len-else-len-pages.ensures.len, c.if-len-pages-2.false) in long)
 
 pub returns-clause-settled : goal.returns-clause-settled

@@ -13,7 +13,7 @@ begin_page-requires-clause-room g c = (c.loop-page.invariant.under_way c.require
 pub begin_page-requires-clause-settled : goal.begin_page-requires-clause-settled
 begin_page-requires-clause-settled g c =
     let under_way = c.loop-page.invariant.under_way c.requires.fits.0 c.requires.fits.1 in
-    (under_way.behind c.loop-page.page (omega arith) (let test = c.loop-page-test.true in let all = c.len-page-end.ensures in omega (arith, test, all))).settled_in
+    (under_way.behind c.loop-page.page (omega arith) (let test = c.loop-page-test.true in let all = c.len-page-end.ensures ∙ ap length c.pages-pages.ensures in omega (arith, test, all))).settled_in
 
 pub loop-page-preserved : goal.loop-page-preserved
 loop-page-preserved g c =
@@ -42,7 +42,7 @@ loop-page-preserved g c =
           let same : c.if-dirty.writes.items ≡ items = ap (λ q. q.items) w.writes-is in
           record {
             under_way = λ since fits. subst (λ (ws : List Writing). AreUnderWay a since c.if-dirty.area token bytes (page + 1) ws) (sym same)
-                (subst (λ area. AreUnderWay a since area token bytes (page + 1) items) (sym w.area-is) (passes a since c.loop-page.area token bytes page items (sym c.dirty.ensures ∙ w.if-dirty.false) (so_far.under_way since fits)));
+                (subst (λ area. AreUnderWay a since area token bytes (page + 1) items) (sym w.area-is) (passes a since c.loop-page.area token bytes page items (rw c.pages-pages.ensures at (sym c.dirty.ensures ∙ w.if-dirty.false)) (so_far.under_way since fits)));
             few = (let longer = ap deque_len w.writes-is in let few = so_far.few in omega (arith, longer, few));
             same_capacity = ap deque_capacity w.writes-is ∙ so_far.same_capacity;
             no_failure = ap a.failures w.area-is ∙ so_far.no_failure;
@@ -51,5 +51,5 @@ loop-page-preserved g c =
 
 pub returns-clause-under_way : goal.returns-clause-under_way
 returns-clause-under_way g c = λ since fits.
-    let end : c.loop-page.page ≡ length c.args.token.now.pages = (let test = c.loop-page-test.false in let all = c.len-page-end.ensures in let last = c.loop-page.auto.page-end in omega (arith, test, all, last)) in
+    let end : c.loop-page.page ≡ length c.args.token.now.pages = (let test = c.loop-page-test.false in let all = c.len-page-end.ensures ∙ ap length c.pages-pages.ensures in let last = c.loop-page.auto.page-end in omega (arith, test, all, last)) in
     subst (λ (n : ℕ). AreUnderWay g.D.Area since c.loop-page.area c.args.token.now c.args.bytes.now n c.loop-page.writes.items) end (c.loop-page.invariant.under_way since fits)

@@ -18,8 +18,8 @@ returns-clause-under_way g c =
     let bytes = c.args.bytes.now in
     let page = c.args.page in
     let write = c.in-Ok.write in
-    let draft_is = c.in-Ok.ensures.draft in
-    let begun = c.in-Ok.ensures.begun in
+    let draft_is = rw (c.pages.ensures, c.seq.ensures) at c.in-Ok.ensures.draft in
+    let begun = rw c.pages.ensures at c.in-Ok.ensures.begun in
     let count : (page * 256 + 256) - page * 256 ≡ 256 = omega arith in
     let content : write.draft.bytes ≡ page_bytes bytes page = ap (λ (d : Draft). d.bytes) draft_is ∙ c.copy_from_slice.ensures.after ∙ ap (λ (n : ℕ). take n (drop (page * 256) bytes)) count in
     elim c.begin-2.result as (λ (r : Result Writing PageFault). IfOk r (λ w. draft_of w ≡ write.draft)

@@ -19,7 +19,7 @@ pub touch-requires : goal.touch-requires
 touch-requires c =
     let here : Some c.unwrap.result.now ≡ c.args.place.now.token = ap option_copied (sym c.unwrap.ensures) ∙ c.token.ensures.token in
     let h = c.loop-page.invariant c.unwrap.result.now (sym here) in
-    let among : c.loop-page.page < length h.pages = omega (arith, h.touched.same_count, c.loop-page-test.true, c.min-behind.ensures, c.len-pages.ensures) in
+    let among : c.loop-page.page < length h.pages = omega (arith, h.touched.same_count, c.loop-page-test.true, c.min-behind.ensures, c.len-pages.ensures, ap length c.pages.ensures) in
     subst (λ (o : Option Token). IsSomeAnd o (λ t. c.loop-page.page < length t.pages)) (sym (ap (λ (p : Standing). p.token) h.is)) among
 
 pub loop-page-preserved : goal.loop-page-preserved
@@ -32,7 +32,7 @@ loop-page-preserved c = λ t is.
     let begins : range.offset < page * 256 + 256 = omega arith in
     let ends : page * 256 < range.offset + length range.bytes = omega (arith, c.loop-page-test.true, c.min-behind.ensures, c.div_ceil.ensures, bytes) in
     let same : c.unwrap.result.now ≡ t = some_same _ _ (here ∙ is) in
-    let among : page < length t.pages = omega (arith, ap (λ (t : Token). length t.pages) same, c.loop-page-test.true, c.min-behind.ensures, c.len-pages.ensures) in
+    let among : page < length t.pages = omega (arith, ap (λ (t : Token). length t.pages) same, c.loop-page-test.true, c.min-behind.ensures, c.len-pages.ensures, ap length c.pages.ensures) in
     touching_step range page t c.args.place.now c.loop-page.place c.touch.new.self (c.loop-page.invariant t is) some begins ends among c.touch.ensures
 
 pub returns : goal.returns
@@ -42,4 +42,4 @@ returns c = λ t is.
     let bytes : length c.as_slice-bytes.result.now ≡ length range.bytes = ap (λ bytes. length bytes) c.as_slice-bytes.ensures in
     let same : c.unwrap.result.now ≡ t = some_same _ _ (here ∙ is) in
     let count : length c.unwrap.result.now.pages ≡ length t.pages = ap (λ (t : Token). length t.pages) same in
-    touching_end range page t c.args.place.now c.loop-page.place (c.loop-page.invariant t is) (λ q le among. omega (arith, c.loop-page-test.false, c.min-behind.ensures, c.div_ceil.ensures, c.len-pages.ensures, count, bytes))
+    touching_end range page t c.args.place.now c.loop-page.place (c.loop-page.invariant t is) (λ q le among. omega (arith, c.loop-page-test.false, c.min-behind.ensures, c.div_ceil.ensures, c.len-pages.ensures, ap length c.pages.ensures, count, bytes))

@@ -16,4 +16,4 @@ stay-requires-clause-fits g c = let inside = c.self.inside in let its = c.journe
     let pages : length its.token.pages ≡ length c.args.journey.token.pages = ap (λ (j : Journey g.row.D.Denot). length j.token.pages) same in
     let base : length inside.base.bytes.items ≡ length c.args.self.now.base = search rules in
     let long : length bytes ≡ length its.token.pages * 256 = (let all = may.3 in let laid = length-laid_parts inside.applied.items inside.base.bytes.items in omega arith) in
-    subst (λ (j : Journey g.row.D.Denot). FitsToken g.D.Area (its.token.seq + 1) j.area j.token bytes) same (arrives_fitting g.D.Area its bytes c.journey.invariant long)
+    rw c.seq.ensures (subst (λ (j : Journey g.row.D.Denot). FitsToken g.D.Area (its.token.seq + 1) j.area j.token bytes) same (arrives_fitting g.D.Area its bytes c.journey.invariant long))
