@@ -37,7 +37,7 @@ SLOT = 272
 GATE = 0xA5
 LAST_SEQUENCE = 1 << 60
 ABORTED = 0xEE
-NAMES = [f"log{n}" for n in range(NODES)] + [f"seg{s}" for s in range(1, SEGMENTS + 1)]
+NAMES = ["lcrvm.store"] + [f"log{n}" for n in range(NODES)] + [f"seg{s}" for s in range(1, SEGMENTS + 1)]
 WAIT = 60
 
 

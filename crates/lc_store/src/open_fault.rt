@@ -4,8 +4,8 @@ ghost use Rattle.lc_store.specs.Opening.{of_recovery, of_size, of_unopened};
 ghost use Rattle.lc_store.specs.declared.open_fault.OpenFault.TheVariants.{NotUp};
 
 use lc_core::{CallFault, recovery_refusal};
-use lc_recover::RecoverFault;
 use lc_files::{FolderFault, Misfit, SizeFault, Unopened};
+use lc_recover::RecoverFault;
 use std::fmt;
 use thiserror::Error;
 

@@ -8,10 +8,10 @@ use crate::finding::found;
 use crate::recovering::recovered_on;
 use lc_core::CallFault;
 use lc_disk::Area;
+use lc_files::{OpenStore, SharedFile, StoreArea, StoreFolder};
 use lc_node::Node;
 use lc_record::Geometry;
 use lc_stage::CommitSeat;
-use lc_files::{OpenStore, SharedFile, StoreArea, StoreFolder};
 use std::alloc::Global;
 use std::rt::Files;
 

@@ -10,8 +10,8 @@ use crate::bringing_up::up_on;
 use crate::finding::found;
 use lc_core::World;
 use lc_disk::Area;
-use lc_record::Geometry;
 use lc_files::{OpenStore, SharedFile, StoreArea, StoreFolder};
+use lc_record::Geometry;
 use std::alloc::Global;
 use std::rt::Files;
 

@@ -94,7 +94,7 @@ pub(crate) fn run_told<D: Stoppable + Drop, T: Teller, R: Read, W: Write>(
     run_recovered(alloc, manner, teller, &mut world, reader, writer)
 }
 
-// Reads the script and runs it on a store that is recovered. What it leaves that is lost is told.
+// Reads the script and runs it on a store that is recovered. What it leaves that is lost is told, unless a device has failed.
 fn run_recovered<D: Stoppable + Drop, T: Teller, R: Read, W: Write>(
     alloc: Global,
     manner: Manner,
@@ -110,8 +110,10 @@ fn run_recovered<D: Stoppable + Drop, T: Teller, R: Read, W: Write>(
     ensures memory { result ≢ Err ToolFault.NoMemory }
 {
     let ended = run_read(alloc, manner, world, reader, writer);
-    let left = world.unfinished();
-    teller.left(left.commits, left.transactions);
+    if ended != Ok(FAULTED) {
+        let left = world.unfinished();
+        teller.left(left.commits, left.transactions);
+    }
     ended
 }
 

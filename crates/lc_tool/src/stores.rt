@@ -52,7 +52,8 @@ fn tell_unmade<R: Files + Eprint>(
     directory: &Directory<'_, R>,
     geometry: &Geometry,
     unmade: &Unmade,
-) where
+)
+where
     R::File: SharedFile,
 {
     if let Cause::Exists(name) = unmade.cause {
@@ -143,15 +144,7 @@ where
                 guard: _guard,
             } = store;
             let teller = PageTeller::new(alloc, rt, errors, &geometry, areas.as_mut_slice());
-            run_told(
-                alloc,
-                geometry,
-                manner,
-                areas,
-                &teller,
-                reader,
-                writer,
-            )
+            run_told(alloc, geometry, manner, areas, &teller, reader, writer)
         }
         Err(fault) => not_opened(writer, fault),
     }

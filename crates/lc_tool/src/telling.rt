@@ -73,7 +73,9 @@ impl<R: Eprint> Teller for PageTeller<'_, R> {
 
     fn left(&self, commits: u64, transactions: u64) {
         if commits > 0 || transactions > 0 {
-            let _ = eprintln!(self.rt; "lcrvm: {commits} commits not flushed, {transactions} transactions open");
+            let _ = eprintln!(self.rt;
+                "lcrvm: {commits} commits not flushed, {transactions} transactions open"
+            );
         }
     }
 }
