@@ -37,6 +37,7 @@ rows='
 300 folders tests/folders.sh $LCRVM
 300 descriptors tests/descriptors.sh $LCRVM
 60 proved python3 tests/proved.py
+60 statements python3 tests/statements.py
 60 edits tests/edits.sh --fits
 '
 
