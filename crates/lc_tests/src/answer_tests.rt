@@ -20,6 +20,8 @@ write store/seg2 0 1\nsync store/seg2\n";
 const SECOND_OF_2: &str = "write store/seg2 545 271\nsync store/seg2\n\
 write store/seg2 544 1\nsync store/seg2\n";
 
+const ONE_OPEN: &str = "lcrvm: 0 commits not flushed, 1 transactions open\n";
+
 static USED: [Step; 6] = [
     STEP,
     Step {
@@ -58,6 +60,7 @@ static USED: [Step; 6] = [
         script: "begin 0 0 1\nread 0 0 1 3 5\nread 0 0 2 3 5\nabort 1 0\n",
         printed: "ok\nbytes 68656c6c6f\nrefused Unknown\nrefused Unknown\n",
         status: 1,
+        said: ONE_OPEN,
         calls: Some(&[OPENING_FILES, READING_SIZE, SYNCING, RECOVERING]),
         ..STEP
     },
@@ -490,6 +493,7 @@ static FAR: [Step; 4] = [
         ask: Ask::Run(LONG_SEGMENT),
         script: "begin 0 0 1\nread 0 0 1 262139 5\nread 0 0 1 0 1\n",
         printed: "ok\nbytes 68656c6c6f\nbytes 00\n",
+        said: ONE_OPEN,
         calls: None,
         ..STEP
     },

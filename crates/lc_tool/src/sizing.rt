@@ -85,19 +85,25 @@ where
 {
     match size {
         Size::Given(geometry) => Ok(*geometry),
-        Size::AsFound(wanted) => {
-            let folder = StoreFolder::new(alloc, rt, folder);
-            let found = size_found(alloc, &folder);
-            folder.tell();
-            match found {
-                Ok(found) => match wanted.over(&found) {
-                    Some(geometry) => Ok(geometry),
-                    None => Err(Sizeless::NoStore),
-                },
-                Err(fault) => Err(Sizeless::Untold(fault)),
-            }
-        }
+        Size::AsFound(wanted) => match told_size(alloc, rt, folder) {
+            Ok(found) => match wanted.over(&found) {
+                Some(geometry) => Ok(geometry),
+                None => Err(Sizeless::NoStore),
+            },
+            Err(fault) => Err(Sizeless::Untold(fault)),
+        },
     }
+}
+
+// The size that this folder tells. What there is to say of its files is said on standard error.
+fn told_size<R: Files + Eprint>(alloc: Global, rt: &R, folder: &str) -> Result<Geometry, SizeFault>
+where
+    R::File: SharedFile,
+{
+    let folder = StoreFolder::new(alloc, rt, folder);
+    let found = size_found(alloc, &folder);
+    folder.tell();
+    found
 }
 
 // Says why a store is of no size, and answers the status.
