@@ -12,6 +12,8 @@ use Rattle.lc_core.specs.Numbers.{Numbers}
 use Rattle.lc_core.specs.World.{FitsWorld}
 use Rattle.lc_core.specs.declared.world.World.{World}
 use Rattle.lc_look.specs.Printed.{NoMemory, Adds}
+use Rattle.lc_look.specs.Recovers.{TellsRecovery}
+use Rattle.lc_recover.specs.declared.fault.RecoverFault.TheVariants.{BadGeometry as NoArea, DeviceFault as NoDevice, NoMemory as RecoverMemory}
 use Rattle.lc_tool.specs.Files.{NotOpened}
 use Rattle.lc_tool.specs.Fits.{FollowsAll, IsRefused, RefusesAll}
 use Rattle.lc_tool.specs.Outcome.{EndsWith, IsGivenUp, IsRecovered, OpensStore, RefusesFirst, RunsRecovered}
@@ -134,6 +136,18 @@ module _ {D : Type 0} (a : Ghosts D) (g : Geometry) (areas : List D) (world : Wo
       let up = opens.0 m (first_state g) x (start_fits fits m x same known) in
       let run = runs m up.0 up.1 up.3 in
       (run.0, recovered m (first_state g) x script up.0 up.1 run.0 status up.2 run.1, keeps_then held mid holds run.0 opens.1 run.2)
+
+-- a recovery of files that could not be opened
+module _ (g : Geometry) (held holds : Option (List ℕ)) (status : ℕ) where
+  pub not_opened_recovers : Adds NotOpened held holds status → Adds (TellsRecovery g) held holds status
+  not_opened_recovers stop =
+      elim stop.1 [
+        | inl stops ↦ elim stops [
+          | inl device ↦ (stop.0, inr (NoDevice, device.0, device.1), stop.2)
+          | inr memory ↦ (stop.0, inr (RecoverMemory, memory.0, memory.1), stop.2)
+        ]
+        | inr other ↦ (stop.0, inr (NoArea other.0, other.1, other.2), stop.2)
+      ]
 
 -- The same of any areas
 module _ (g : Geometry) (held holds : Option (List ℕ)) (status : ℕ) (script : Given) where

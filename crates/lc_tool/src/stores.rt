@@ -82,7 +82,27 @@ where
     ensures reads { result ≢ Err ToolFault.Read }
 {
     let folder = StoreFolder::new(alloc, rt, folder);
-    let ended = match folder.open(&geometry) {
+    let ended = recover_in(alloc, rt, errors, &folder, geometry, writer);
+    folder.tell();
+    ended
+}
+
+// The same, but for why something failed.
+fn recover_in<R: Files + Eprint, W: Write>(
+    alloc: Global,
+    rt: &R,
+    errors: ErrorOutput,
+    folder: &StoreFolder<'_, R>,
+    geometry: Geometry,
+    writer: &mut W,
+) -> Result<u8, ToolFault>
+where
+    R::File: SharedFile,
+    ensures tells { IfOk result (λ status. Adds (TellsRecovery geometry) (W.contents writer.old) (W.contents writer.new) status) }
+    ensures memory { result ≢ Err ToolFault.NoMemory }
+    ensures reads { result ≢ Err ToolFault.Read }
+{
+    match folder.open(&geometry) {
         Ok(store) => {
             let OpenStore {
                 mut areas,
@@ -92,9 +112,7 @@ where
             recover_told(alloc, geometry, areas, &teller, writer)
         }
         Err(fault) => not_opened(writer, fault),
-    };
-    folder.tell();
-    ended
+    }
 }
 
 /// Runs a script on the store in a folder: as `run_script` over the areas of its files, as they are opened
