@@ -115,7 +115,12 @@ fn a_token_is_written_leaves_and_arrives(rt: HostRuntime) -> Result<(), Fail> {
     let mut place = TokenPlace::new(1, Some(Token::recovered(1, 4, pages)));
     place.count_record();
     place.touch(0);
+    assert!(rt; place.segment() == 1);
+    let token = place.leave(false, false, 8, 8)?;
+    assert!(rt; token.pages().len() == 1);
+    let mut place = TokenPlace::new(1, Some(token));
     place.written(0, 5);
+    assert!(rt; place.segment() == 1);
     let token = place.leave(false, false, 8, 8)?;
     assert!(rt; token.seq() == 5);
     assert!(rt; token.clean() == 5);

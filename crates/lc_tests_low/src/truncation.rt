@@ -5,6 +5,7 @@ use lc_page::{PageText, PageVector};
 use lc_token::{Token, TokenPlace};
 use lc_trunc::{KnownClean, Unclean, dirty_pages, may_reset};
 use std::alloc::{AllocError, Global};
+use std::process::Abort;
 use std::test::Fail;
 
 // The record of node 0 under locks 1:5 and 2:7, with the byte 11 at 0 in segment 1 and 22 at 0 in segment 2, in
@@ -78,17 +79,31 @@ fn behind_the_last_record_there_is_no_lock(rt: HostRuntime) {
     assert!(rt; may_reset(&LOG[..20], &known) == Err(Unclean { segment: 1, seq: 5 }));
 }
 
+// The token behind a change of a page under its number.
+fn touched(rt: &impl Abort, token: Token, page: u32) -> Result<Token, Fail> {
+    assert!(rt; token.segment() == 1);
+    assert!(rt; (page as usize) < token.pages().len());
+    let mut place = TokenPlace::new(1, Some(token));
+    place.touch(page);
+    Ok(place.leave(false, false, 4, 4)?)
+}
+
+// The token behind one record more.
+fn counted(rt: &impl Abort, token: Token) -> Result<Token, Fail> {
+    assert!(rt; token.segment() == 1);
+    assert!(rt; token.seq() < 10);
+    let mut place = TokenPlace::new(1, Some(token));
+    place.count_record();
+    Ok(place.leave(false, false, 4, 4)?)
+}
+
 #[test]
 fn pages_that_were_changed_are_dirty(rt: HostRuntime) -> Result<(), Fail> {
     let alloc = rt.alloc();
-    let mut place = TokenPlace::new(1, Some(token_of(alloc, 1, 2)?));
     // A page that was changed under the number that is on the disk is clean.
-    place.touch(1);
-    place.count_record();
-    place.touch(0);
-    place.count_record();
-    place.touch(2);
-    let token = place.leave(false, false, 4, 4)?;
+    let token = touched(&rt, token_of(alloc, 1, 2)?, 1)?;
+    let token = touched(&rt, counted(&rt, token)?, 0)?;
+    let token = touched(&rt, counted(&rt, token)?, 2)?;
     let dirty = match dirty_pages(alloc, &token) {
         Ok(pages) => pages,
         // Once more where there was no memory.
