@@ -5,3 +5,4 @@ pub mod Making
 pub mod Renewing
 pub mod Found
 pub mod Sizes
+pub mod Growth

@@ -78,9 +78,7 @@ where
     // Makes the file that says the size.
     fn make_size(&self, path: &str, geometry: Geometry) -> io::Result<()> {
         let text = SizeText { geometry }.to_string(self.folder.alloc)?;
-        let file = exclusive()
-            .open(self.folder.rt, path)?
-            .beside_standard_streams()?;
+        let file = self.make_at(path)?;
         file.write_all_at(text.as_bytes(), 0)?;
         file.sync_all()
     }
@@ -101,9 +99,31 @@ where
     // A new file for a copy.
     fn make_copy(&self, name: FileName) -> io::Result<R::File> {
         let path = self.folder.copy_path(name)?;
+        self.make_at(&path)
+    }
+
+    /// A new file of this name, which is empty.
+    pub(crate) fn make_empty(&self, name: StoreName) -> io::Result<R::File> {
+        let path = self.folder.path_of(name)?;
+        self.make_at(&path)
+    }
+
+    fn make_at(&self, path: &str) -> io::Result<R::File> {
         exclusive()
-            .open(self.folder.rt, &path)?
+            .open(self.folder.rt, path)?
             .beside_standard_streams()
+    }
+
+    /// What became of the making of a file. Its error is noted, unless something stood under its name.
+    pub(crate) fn told(&self, name: StoreName, made: io::Result<()>) -> Result<(), MakeFault> {
+        match made {
+            Ok(()) => Ok(()),
+            Err(error) if error.kind() == ErrorKind::AlreadyExists => Err(MakeFault::Exists),
+            Err(error) => {
+                let fault = self.folder.fault_of(Place::Name(name), error);
+                Err(MakeFault::Begun(fault))
+            }
+        }
     }
 }
 
@@ -130,14 +150,8 @@ where
     }
 
     fn make(&mut self, file: NewFile) -> Result<(), MakeFault> {
-        match self.try_make(file) {
-            Ok(()) => Ok(()),
-            Err(error) if error.kind() == ErrorKind::AlreadyExists => Err(MakeFault::Exists),
-            Err(error) => {
-                let place = Place::Name(file.name());
-                Err(MakeFault::Begun(self.folder.fault_of(place, error)))
-            }
-        }
+        let made = self.try_make(file);
+        self.told(file.name(), made)
     }
 
     fn remove(&mut self, name: StoreName) -> Result<(), FolderFault> {

@@ -2,6 +2,7 @@
 //! copies change no file's bytes.
 #![tactic(auto)]
 
+mod copy_directory;
 mod copying;
 mod directory;
 mod file_fault;
@@ -9,6 +10,7 @@ mod file_lens;
 mod file_name;
 mod file_row;
 mod folder;
+mod growth;
 mod making;
 mod misfit;
 mod new_file;
@@ -24,11 +26,13 @@ mod store_folder;
 mod store_name;
 mod watch;
 
+pub use copy_directory::CopyDirectory;
 pub use directory::Directory;
 pub use file_fault::{FileFault, Place};
 pub use file_lens::FileLens;
 pub use file_name::FileName;
 pub use folder::{Folder, FolderFault, MakeFault};
+pub use growth::first_lacking;
 pub use making::{Cause, Unmade, make_store};
 pub use misfit::{Misfit, write_misfit};
 pub use new_file::NewFile;

@@ -17,7 +17,7 @@ use lc_disk::{Area, FileArea, HeldFile};
 use lc_record::{Geometry, MAX_NODE, MAX_SEGMENT};
 use std::alloc::AllocError;
 use std::fs::{OpenFile, OpenOptions};
-use std::io;
+use std::io::{self, Error, ErrorKind};
 use std::rt::Files;
 
 // What a file is opened for.
@@ -91,6 +91,18 @@ where
         }
         agrees(self.alloc, self, geometry)?;
         Ok(areas)
+    }
+
+    /// Looks that no fault has left its mark, behind which what the system has of the files is not to be trusted.
+    ///
+    /// # Errors
+    ///
+    /// `Failed` where the mark stands, or the system refused the look; `fault` says what, and why.
+    pub fn look_unmarked(&self) -> Result<(), FolderFault> {
+        if self.stands(StoreName::Mark)? {
+            return Err(self.fault_of(Place::Name(StoreName::Mark), marked()));
+        }
+        Ok(())
     }
 
     /// Opens the store of this size that is in the folder, for this process alone: no other opens the folder or one of the files, under
@@ -275,6 +287,12 @@ where
     fn stands(&self, name: StoreName) -> Result<bool, FolderFault> {
         self.noted(Place::Name(name), self.is_taken(name))
     }
+}
+
+// Why a store with the mark of a fault is not copied.
+fn marked() -> Error {
+    let why = "a file had failed: recover the store first";
+    Error::new(ErrorKind::InvalidData, why)
 }
 
 // Whether these are as many areas as the geometry has, each as long as it says.

@@ -108,7 +108,7 @@ fn a_whole_log_is_inspected_both_ways(rt: HostRuntime) -> Result<(), Fail> {
     check_all(&rt, rt.alloc(), &Shelf::new(rt.alloc()), &INSPECTED)
 }
 
-static NOT_OPENED: [Step; 3] = [
+static NOT_OPENED: [Step; 4] = [
     Step {
         ask: Ask::RunInMemory(ONE),
         script: COMMIT,
@@ -123,10 +123,18 @@ static NOT_OPENED: [Step; 3] = [
         ..STEP
     },
     Step {
+        ask: Ask::Faulty,
+        status: 2,
+        calls: Some(&[]),
+        said: "command line not understood\nwhy\n",
+        ..STEP
+    },
+    Step {
         ask: Ask::NotUnderstood,
         status: 2,
         calls: Some(&[]),
-        said: "command line not understood\n",
+        said: "command line not understood\n\
+--as-found: a store in memory has no files; --store DIR names one that has\n",
         ..STEP
     },
 ];
@@ -184,6 +192,7 @@ static MISFITS: [Misfit; 5] = [
             "look store/log1\nlook store/fault\nopen store/log0\nlock store/log0\nopen store/seg1\nlock store/seg1\nopen store/log1\nlock store/log1\n",
             READING_SIZE,
             SYNCING,
+            READING_SIZE,
         ],
     },
     Misfit {
@@ -196,6 +205,7 @@ static MISFITS: [Misfit; 5] = [
             "open store/log0\nlock store/log0\nopen store/log1\nlock store/log1\nopen store/seg1\nlock store/seg1\nopen store/seg2\nlock store/seg2\n",
             READING_SIZE,
             SYNCING,
+            READING_SIZE,
         ],
     },
     Misfit {
@@ -207,6 +217,7 @@ static MISFITS: [Misfit; 5] = [
             "open store/log0\nlock store/log0\nopen store/seg1\nlock store/seg1\nopen store/seg2\nlock store/seg2\nopen store/log1\nlock store/log1\n",
             READING_SIZE,
             SYNCING,
+            READING_SIZE,
         ],
     },
     Misfit {
@@ -217,6 +228,7 @@ static MISFITS: [Misfit; 5] = [
             "look store/log1\nlook store/fault\nopen store/log0\nlock store/log0\nopen store/seg1\nlock store/seg1\nopen store/log1\nlock store/log1\n",
             READING_SIZE,
             SYNCING,
+            READING_SIZE,
         ],
     },
     Misfit {
@@ -230,6 +242,7 @@ static MISFITS: [Misfit; 5] = [
             "open store/log0\nlock store/log0\nopen store/log1\nlock store/log1\nopen store/seg1\nlock store/seg1\nopen store/seg2\nlock store/seg2\n",
             READING_SIZE,
             SYNCING,
+            READING_SIZE,
         ],
     },
 ];
@@ -247,7 +260,8 @@ fn check_misfit(
         printed: misfit.printed,
         status: 1,
         calls: Some(misfit.calls),
-        said: "lcrvm: store/lcrvm.store: nodes 2 segments 2 pages 1 words 64\n",
+        said: "lcrvm: store/lcrvm.store: nodes 2 segments 2 pages 1 words 64\n\
+lcrvm: store: --as-found takes nodes 2 segments 2 pages 1 words 64\n",
         ..STEP
     };
     check(rt, alloc, shelf, &run)?;

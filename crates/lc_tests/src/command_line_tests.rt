@@ -1,12 +1,15 @@
 //! The command line: what its words ask for, and the help.
 use lc_record::Geometry;
-use lc_words::{Asked, RunStore, Size, read_command_line};
+use lc_words::{Asked, RunStore, Size, Wanted as Numbers, read_command_line};
 use std::alloc::{AllocError, Global};
 use std::test::*;
 
-// Words that ask for nothing.
-static REFUSED: [&[&str]; 52] = [
-    &["lcrvm", "run", "--as-found"],
+// Words that have a fault.
+static REFUSED: [&[&str]; 55] = [
+    &["lcrvm", "copy", "d"],
+    &["lcrvm", "copy", "d", "e", "f"],
+    &["lcrvm", "copy", "d", "e", "--pages", "0"],
+    &["lcrvm", "copy", "d", "e", "--as-found"],
     &["lcrvm", "init", "d", "--as-found"],
     &["lcrvm", "dump", "d", "1"],
     &["lcrvm", "check", "d", "e"],
@@ -61,10 +64,32 @@ static REFUSED: [&[&str]; 52] = [
 ];
 
 #[test]
-fn words_that_ask_for_nothing(rt: HostRuntime) -> Result<(), AllocError> {
+fn words_with_a_fault(rt: HostRuntime) -> Result<(), AllocError> {
     for words in &REFUSED {
         let asked = read_command_line(rt.alloc(), *words)?;
-        assert!(rt; matches!(asked, Asked::NotUnderstood), "{words:?}");
+        assert!(rt; matches!(asked, Asked::Faulty(_)), "{words:?}");
+    }
+    Ok(())
+}
+
+// A store in memory has no files.
+#[test]
+fn no_size_is_found_in_memory(rt: HostRuntime) -> Result<(), AllocError> {
+    let asked = read_command_line(rt.alloc(), &["lcrvm", "run", "--as-found"])?;
+    assert!(rt; matches!(asked, Asked::NotUnderstood));
+    Ok(())
+}
+
+// What the parser says of a fault names the option and its bounds.
+#[test]
+fn a_fault_is_said(rt: HostRuntime) -> Result<(), AllocError> {
+    let asked = read_command_line(rt.alloc(), &["lcrvm", "run", "--pages", "1025"])?;
+    let Asked::Faulty(reason) = asked else {
+        assert!(rt; false, "no fault");
+        return Ok(());
+    };
+    for part in ["--pages", "1025", "1..=1024"] {
+        assert!(rt; reason.as_str().contains(part), "{reason}");
     }
     Ok(())
 }
@@ -88,7 +113,7 @@ fn a_store_has_bounds_when_it_is_made_and_recovered(rt: HostRuntime) -> Result<(
     for option in BEYOND {
         for name in ["init", "recover"] {
             let asked = read_command_line(rt.alloc(), &["lcrvm", name, "bank", option])?;
-            assert!(rt; matches!(asked, Asked::NotUnderstood), "{name} {option}");
+            assert!(rt; matches!(asked, Asked::Faulty(_)), "{name} {option}");
         }
     }
     Ok(())
@@ -106,6 +131,8 @@ enum Wanted {
     CheckFound(&'static str, [Option<u32>; 4]),
     Dump(&'static str, u32, u32),
     Draw(&'static str),
+    // A copy into a folder, of the size that is found but for these numbers.
+    Copy(&'static str, &'static str, [Option<u32>; 4]),
     Inspect(&'static str, bool),
     // A run in memory of the least size: whether it follows, and whether it numbers.
     Manner(bool, bool),
@@ -132,15 +159,17 @@ fn is_given(size: &Size, numbers: [u32; 5]) -> bool {
 fn is_found(size: &Size, numbers: [Option<u32>; 4]) -> bool {
     match size {
         Size::Given(_) => false,
-        Size::AsFound(wanted) => {
-            let [nodes, segments, pages, words] = numbers;
-            wanted.nodes == nodes
-                && wanted.segments == segments
-                && wanted.pages == pages
-                && wanted.words == words
-                && wanted.threads == 1
-        }
+        Size::AsFound(wanted) => are_wanted(wanted, numbers),
     }
+}
+
+fn are_wanted(wanted: &Numbers, numbers: [Option<u32>; 4]) -> bool {
+    let [nodes, segments, pages, words] = numbers;
+    wanted.nodes == nodes
+        && wanted.segments == segments
+        && wanted.pages == pages
+        && wanted.words == words
+        && wanted.threads == 1
 }
 
 // Whether the words ask for this. No store is the store without a name.
@@ -188,6 +217,9 @@ fn asks(asked: &Asked, wanted: Wanted) -> bool {
             Wanted::Dump(name, of, at),
         ) => folder.as_str() == name && *segment == of && *page == at,
         (Asked::Draw { folder }, Wanted::Draw(name)) => folder.as_str() == name,
+        (Asked::Copy { folder, to, wanted }, Wanted::Copy(name, other, numbers)) => {
+            folder.as_str() == name && to.as_str() == other && are_wanted(wanted, numbers)
+        }
         (Asked::Lines, Wanted::Lines) => true,
         (Asked::Version(text), Wanted::Version) => text.as_str() == "lcrvm 0.1.0\n",
         (Asked::Init { folder, geometry }, Wanted::Init(name, size)) => {
@@ -207,7 +239,7 @@ const LEAST: [u32; 5] = [1, 1, 1, 1, 64];
 
 const MOST: [u32; 5] = [8, 16, 16, 1024, 4096];
 
-static ASKED: [(&[&str], Wanted); 33] = [
+static ASKED: [(&[&str], Wanted); 35] = [
     (
         &["lcrvm", "recover", "bank", "--as-found", "--pages", "1"],
         Wanted::Found("bank", [None, None, Some(1), None]),
@@ -229,6 +261,22 @@ static ASKED: [(&[&str], Wanted); 33] = [
         Wanted::Dump("bank", 17, 0),
     ),
     (&["lcrvm", "draw", "bank"], Wanted::Draw("bank")),
+    (
+        &["lcrvm", "copy", "bank", "other"],
+        Wanted::Copy("bank", "other", [None, None, None, None]),
+    ),
+    (
+        &[
+            "lcrvm",
+            "copy",
+            "bank",
+            "other",
+            "--pages=8",
+            "--segments",
+            "2",
+        ],
+        Wanted::Copy("bank", "other", [None, Some(2), Some(8), None]),
+    ),
     (&["lcrvm", "run", "--follow"], Wanted::Manner(true, false)),
     (&["lcrvm", "run", "--number"], Wanted::Manner(false, true)),
     (
@@ -358,7 +406,7 @@ fn helps(asked: &Asked, parts: &[&str]) -> bool {
     }
 }
 
-const COMMANDS: [&str; 9] = [
+const COMMANDS: [&str; 10] = [
     "Usage: lcrvm <COMMAND>",
     "  run ",
     "  init ",
@@ -366,6 +414,7 @@ const COMMANDS: [&str; 9] = [
     "  check ",
     "  dump ",
     "  draw ",
+    "  copy ",
     "  inspect ",
     "  lines ",
 ];
@@ -383,7 +432,7 @@ const SIZES: [&str; 9] = [
 ];
 
 // The usage, an option or a word of its own, and the example of each command.
-static HELPS: [(&str, &[&str], &[&str]); 8] = [
+static HELPS: [(&str, &[&str], &[&str]); 9] = [
     (
         "run",
         &[
@@ -440,6 +489,14 @@ static HELPS: [(&str, &[&str], &[&str]); 8] = [
             "Example:\n  lcrvm draw bank > bank.svg",
         ],
         &[],
+    ),
+    (
+        "copy",
+        &[
+            "Usage: lcrvm copy [OPTIONS] <DIR> <TO>",
+            "Example:\n  lcrvm copy bank larger --pages 64",
+        ],
+        &SIZES,
     ),
     (
         "inspect",

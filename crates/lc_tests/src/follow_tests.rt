@@ -119,3 +119,83 @@ fn a_script_that_is_read_whole_gives_no_reply(rt: HostRuntime) -> Result<(), Fai
     assert!(rt; status == Err(ToolFault::Read));
     Ok(())
 }
+
+// The bytes of the longest line, with its end.
+const LONGEST_LINE: usize = 1_048_576;
+
+// A comment of so many bytes with its end, so many times, and then a line that prints something. It gives at most so many bytes at once.
+#[derive(Drop)]
+struct Comments {
+    len: usize,
+    left: usize,
+    at: usize,
+}
+
+impl Read for Comments {
+    fn read(&mut self, buf: &mut [u8]) -> io::Result<usize> {
+        if self.left == 0 {
+            return Ok(0);
+        }
+        let Some(rest) = self.len.checked_sub(self.at) else {
+            return Err(Error::from(ErrorKind::Other));
+        };
+        let count = rest.min(buf.len());
+        let Some(room) = buf.get_mut(..count) else {
+            return Err(Error::from(ErrorKind::Other));
+        };
+        room.fill(b'#');
+        self.at = self.at.saturating_add(count);
+        if self.at == self.len {
+            if let Some(last) = room.last_mut() {
+                *last = b'\n';
+            }
+            self.at = 0;
+            self.left = self.left.saturating_sub(1);
+        }
+        Ok(count)
+    }
+}
+
+// What comes of so many comments of so many bytes each, and then of a line that begins a transaction.
+fn commented(
+    rt: &impl AllocGlobal,
+    len: usize,
+    count: usize,
+) -> Result<(Vec<u8>, Result<u8, ToolFault>), Fail> {
+    let alloc = rt.alloc();
+    let comments = Comments {
+        len,
+        left: count,
+        at: 0,
+    };
+    let mut script = comments.chain("begin 0 0 1\n".as_bytes());
+    let mut text = Vec::new(alloc);
+    let areas = zero_areas(alloc, &ONE)?;
+    let status = run_script(alloc, ONE, FOLLOW, areas, &mut script, &mut text);
+    Ok((text, status))
+}
+
+#[test]
+fn a_run_that_is_followed_has_any_length(rt: HostRuntime) -> Result<(), Fail> {
+    let (text, status) = commented(&rt, 1024, 5000)?;
+    assert!(rt;
+        text.as_slice() == "ok\n".as_bytes(),
+        "{} bytes",
+        text.len()
+    );
+    assert!(rt; status == Ok(0), "{:?}", status.is_ok());
+    Ok(())
+}
+
+#[test]
+fn a_line_that_is_followed_has_a_limit(rt: HostRuntime) -> Result<(), Fail> {
+    for (len, wanted, ending) in [
+        (LONGEST_LINE, "ok\n", 0),
+        (LONGEST_LINE + 1, "script too long\n", 2),
+    ] {
+        let (text, status) = commented(&rt, len, 3)?;
+        assert!(rt; text.as_slice() == wanted.as_bytes(), "{len}");
+        assert!(rt; status == Ok(ending), "{len}");
+    }
+    Ok(())
+}

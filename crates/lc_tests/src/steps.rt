@@ -16,7 +16,7 @@ pub(crate) struct Size {
     pub(crate) words: u32,
 }
 
-// What is asked: of a store in the folder, but for the last three.
+// What is asked: of a store in the folder, but for the last four.
 #[derive(Clone, Copy)]
 pub(crate) enum Ask {
     Init(Size),
@@ -30,6 +30,7 @@ pub(crate) enum Ask {
     Inspect { reverse: bool },
     RunInMemory(Size),
     Help,
+    Faulty,
     NotUnderstood,
 }
 
@@ -230,6 +231,7 @@ pub(crate) fn asked_of(alloc: Global, ask: Ask, folder: String) -> Result<Asked,
             number: false,
         },
         Ask::Help => Asked::Help(String::from_str(alloc, "help\n")?),
+        Ask::Faulty => Asked::Faulty(String::from_str(alloc, "why\n")?),
         Ask::NotUnderstood => Asked::NotUnderstood,
     })
 }

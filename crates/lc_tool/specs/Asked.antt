@@ -5,6 +5,7 @@ use Rattle.lc_record.specs.declared.geometry.Geometry.{Geometry}
 use Rattle.lc_model.specs.Recovered.{zero_content}
 use Rattle.lc_model.specs.State.{first_state}
 use Rattle.lc_core.specs.Numbers.{Numbers}
+use Rattle.lc_tool.specs.Copied.{TellsCopied}
 use Rattle.lc_tool.specs.Files.{TellsInit, TellsInspection}
 use Rattle.lc_look.specs.Recovers.{TellsRecovery}
 use Rattle.lc_tool.specs.Script.{Given, RunsScript, given_as}
@@ -14,7 +15,7 @@ use Rattle.lc_tool.specs.declared.line_list.TheConstants.{LINE_LIST}
 use Rattle.lc_tool.specs.Found.{TellsDrawn, AnswersSized, TellsChecked, TellsDumped}
 use Rattle.lc_words.specs.declared.run_store.RunStore.TheVariants.{New, InFolder}
 use Rattle.lc_words.specs.declared.asked.Asked.{Asked}
-use Rattle.lc_words.specs.declared.asked.Asked.TheVariants.{Run, Init, Recover, Check, Dump, Draw, Inspect, Lines, Help, Version, NotUnderstood}
+use Rattle.lc_words.specs.declared.asked.Asked.TheVariants.{Run, Init, Recover, Check, Dump, Draw, Copy, Inspect, Lines, Help, Version, Faulty, NotUnderstood}
 
 -- a script on a new store of zeros: what the plain machine allows from its first state on, with no numbers used
 abbrev pub RunsNew : Geometry → Given → Option (List ℕ) → Option (List ℕ) → ℕ → Type 0
@@ -39,8 +40,10 @@ AnswersAsked (Recover folder size) input held holds status = AnswersSized size (
 AnswersAsked (Check folder size) input held holds status = Adds (TellsChecked size) held holds status
 AnswersAsked (Dump folder segment page) input held holds status = Adds (TellsDumped segment page) held holds status
 AnswersAsked (Draw folder) input held holds status = Adds TellsDrawn held holds status
+AnswersAsked (Copy folder to wanted) input held holds status = Adds TellsCopied held holds status
 AnswersAsked (Inspect file reverse) input held holds status = TellsInspection reverse held holds status
 AnswersAsked Lines input held holds status = PrintsHelp LINE_LIST.now held holds status
 AnswersAsked (Help text) input held holds status = PrintsHelp (string_bytes text) held holds status
 AnswersAsked (Version text) input held holds status = PrintsHelp (string_bytes text) held holds status
+AnswersAsked (Faulty reason) input held holds status = (status ≡ 2) × Keeps held holds
 AnswersAsked NotUnderstood input held holds status = (status ≡ 2) × Keeps held holds

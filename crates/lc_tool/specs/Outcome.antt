@@ -14,7 +14,7 @@ use Rattle.lc_tool.specs.Answers.{Finishes}
 use Rattle.lc_tool.specs.Fits.{Leads, IsRefused}
 use Rattle.lc_text.specs.Line.{is_skipped, line_of}
 use Rattle.lc_text.specs.Lines.{script_lines}
-use Rattle.lc_tool.specs.Following.{lines_within}
+use Rattle.lc_tool.specs.Following.{lines_followed}
 use Rattle.lc_tool.specs.Script.{Follows, Front, Given, Runs, RunsRead, RunsWhole}
 use Rattle.lc_look.specs.Printed.{NoMemory, Adds}
 use Rattle.lc_tool.specs.Session.{Does}
@@ -100,9 +100,9 @@ module _ {D : Type 0} (a : Ghosts D) where
   RunsAll front old script held holds status =
       (m : Setting) (s : State) (x : Numbers) → FitsWorld a m old s x → Adds (λ text end. NoMemory text end ⊎ RunsWhole front m s x script text end) held holds status
 
-  abbrev pub FollowsLines : Front → World D a → ℕ → List ℕ → Option (List ℕ) → Option (List ℕ) → ℕ → Type 0
-  FollowsLines front old left script held holds status =
-      (m : Setting) (s : State) (x : Numbers) → FitsWorld a m old s x → Adds (Follows front m s x 1 false (lines_within left script)) held holds status
+  abbrev pub FollowsLines : Front → World D a → List ℕ → Option (List ℕ) → Option (List ℕ) → ℕ → Type 0
+  FollowsLines front old script held holds status =
+      (m : Setting) (s : State) (x : Numbers) → FitsWorld a m old s x → Adds (Follows front m s x 1 false (lines_followed script)) held holds status
 
   -- the script, on a store that is recovered; there may be no memory for it
   abbrev pub RunsRecovered : World D a → Given → Option (List ℕ) → Option (List ℕ) → ℕ → Type 0

@@ -7,7 +7,7 @@ use Rattle.lc_core.specs.Numbers.{Numbers}
 use Rattle.lc_text.specs.Lines.{script_lines}
 use Rattle.lc_look.specs.Printed.{NoMemory}
 use Rattle.lc_tool.specs.Answers.{Finishes}
-use Rattle.lc_tool.specs.Following.{lines_within}
+use Rattle.lc_tool.specs.Following.{lines_followed}
 use Rattle.lc_tool.specs.Memory.{LineAsksMemory}
 use Rattle.lc_tool.specs.declared.manner.Manner.{Manner}
 use Rattle.lc_text.specs.Line.{line_of}
@@ -93,7 +93,7 @@ RunsWhole front m s x script text status = MatchBool (nat_lt 1048576 (length scr
 -- read line by line, or as a whole
 abbrev pub RunsRead : Setting → State → Numbers → Given → List ℕ → ℕ → Type 0
 RunsRead m s x script text status = MatchBool script.manner.follow
-    (Follows (front_of script.manner.number) m s x 1 false (lines_within 1048576 script.bytes) text status)
+    (Follows (front_of script.manner.number) m s x 1 false (lines_followed script.bytes) text status)
     (RunsWhole (front_of script.manner.number) m s x script.bytes text status)
 
 -- behind the recovery that comes first, which says nothing where it is done: where it is refused nothing more is done

@@ -16,7 +16,7 @@ use Rattle.lc_core.specs.Geometries.{is_delivery}
 use Rattle.lc_text.specs.Line.{is_skipped, line_of}
 use Rattle.lc_tool.specs.Outcome.{EndsWith, GoesBehind}
 use Rattle.lc_text.specs.Lines.{script_lines}
-use Rattle.lc_tool.specs.Following.{lines_within}
+use Rattle.lc_tool.specs.Following.{lines_followed}
 use Rattle.lc_tool.specs.Script.{Front, Given, GoesOn, Rest, front_of}
 use Rattle.lc_look.specs.Printed.{NoMemory, Adds}
 use Rattle.lc_tool.specs.Session.{Says, end_text, truncate_text}
@@ -135,7 +135,7 @@ TellsAll front g script text status = NoMemory text status ⊎ TellsWhole front 
 -- read line by line, or as a whole
 abbrev pub TellsRead : Geometry → Given → List ℕ → ℕ → Type 0
 TellsRead g script text status = MatchBool script.manner.follow
-    (TellsFollowed (front_of script.manner.number) g 1 false (lines_within 1048576 script.bytes) text status)
+    (TellsFollowed (front_of script.manner.number) g 1 false (lines_followed script.bytes) text status)
     (TellsWhole (front_of script.manner.number) g script.bytes text status)
 
 -- behind the recovery: there may be no memory for the script

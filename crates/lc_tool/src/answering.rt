@@ -4,6 +4,7 @@ ghost use Rattle.lc_tool.specs.Asked.{AnswersAsked, PrintsHelp, RunsNew};
 ghost use Rattle.lc_tool.specs.Script.{given_as};
 
 use crate::ToolFault;
+use crate::copying::copy_store;
 use crate::line_list::LINE_LIST;
 use crate::log_file::inspect_file;
 use crate::looking::{check_store, draw_store, dump_page};
@@ -20,6 +21,10 @@ use lc_words::{Asked, RunStore};
 use std::alloc::{AllocError, Global};
 use std::io::{Read, Write};
 use std::rt::Files;
+
+// Why a store in memory is of no size that is found.
+const NO_FILES: &str = "--as-found: a store in memory has no files; --store DIR names one that has
+";
 
 /// Does what a command line asks for, and answers the status that the program ends with: 0 where it came to its end and nothing
 /// was refused, 1 where something was refused or there was no memory, 2 where something was not understood, 3 where a device
@@ -65,14 +70,22 @@ where
             page,
         } => dump_page(alloc, rt, folder, *segment, *page, writer),
         Asked::Draw { folder } => draw_store(alloc, rt, folder, writer),
+        Asked::Copy { folder, to, wanted } => copy_store(alloc, rt, folder, to, wanted, writer),
         Asked::Inspect { file, reverse } => inspect_file(alloc, rt, file, *reverse, writer),
         Asked::Lines => help(LINE_LIST, writer),
         Asked::Help(text) | Asked::Version(text) => help(text, writer),
-        Asked::NotUnderstood => {
-            let _ = rt.eprintln("command line not understood");
-            Ok(NOT_UNDERSTOOD)
-        }
+        Asked::Faulty(reason) => Ok(not_understood(rt, reason)),
+        Asked::NotUnderstood => Ok(not_understood(rt, NO_FILES)),
     }
+}
+
+// Says on standard error that the command line is not understood, and why.
+fn not_understood<R: Eprint>(rt: &R, reason: &str) -> u8
+    ensures { result ≡ 2 }
+{
+    let _ = rt.eprintln("command line not understood");
+    let _ = rt.eprint(reason);
+    NOT_UNDERSTOOD
 }
 
 // Runs a script on a new store in memory, zeros.

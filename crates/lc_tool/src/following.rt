@@ -3,13 +3,14 @@ ghost use Rattle.std.specs.Prelude.{◌≡◌, ◌≢◌, false, IfOk, IfSome};
 ghost use Rattle.std.specs.Option.{ForSome};
 ghost use Rattle.lc_core.specs.Geometries.{phase_geometry};
 ghost use Rattle.lc_tool.specs.Coming.{lines_left};
-ghost use Rattle.lc_tool.specs.Following.{lines_within};
+ghost use Rattle.lc_tool.specs.Following.{lines_followed};
 ghost use Rattle.lc_tool.specs.Outcome.{FollowsLines};
 ghost use Rattle.lc_tool.specs.Script.{front_of};
 ghost use Rattle.lc_look.specs.Printed.{Adds};
 ghost use Rattle.lc_tool.specs.Tells.{TellsFollowed};
 
 use crate::ToolFault;
+use crate::line_telling::LineTeller;
 use crate::outcome::Outcome;
 use crate::script_lines::ScriptLines;
 use crate::scripts::{LONGEST, no_memory, run_line, status_of, too_long};
@@ -19,41 +20,45 @@ use lc_text::first_line;
 use std::alloc::Global;
 use std::io::{Read, Write};
 
-/// Runs each line on a store that is recovered before the next is read.
-pub(crate) fn follow_script<D: Stoppable + Drop, R: Read, W: Write>(
+// Of a line more there is no number.
+const LAST_NUMBER: u64 = u64::MAX;
+
+/// Runs each line on a store that is recovered before the next is read. A line has the bytes of the longest script at most.
+pub(crate) fn follow_script<D: Stoppable + Drop, L: LineTeller, R: Read, W: Write>(
     alloc: Global,
     numbered: bool,
+    teller: &L,
     world: &mut World<D>,
     reader: &mut R,
     writer: &mut W,
 ) -> Result<u8, ToolFault>
     ensures runs { IfOk result (λ status. IfSome (R.remaining reader.old) (λ script.
-        FollowsLines D.Area (front_of numbered) world.old LONGEST script (W.contents writer.old) (W.contents writer.new) status)) }
+        FollowsLines D.Area (front_of numbered) world.old script (W.contents writer.old) (W.contents writer.new) status)) }
     ensures tells { IfOk result (λ status. IfSome (R.remaining reader.old) (λ script.
-        ForSome (phase_geometry D.Area world.old.phase) (λ g. Adds (TellsFollowed (front_of numbered) g 1 false (lines_within LONGEST script)) (W.contents writer.old) (W.contents writer.new) status))) }
+        ForSome (phase_geometry D.Area world.old.phase) (λ g. Adds (TellsFollowed (front_of numbered) g 1 false (lines_followed script)) (W.contents writer.old) (W.contents writer.new) status))) }
     ensures memory { result ≢ Err ToolFault.NoMemory }
 {
     match ScriptLines::new(alloc, reader) {
-        Ok(mut lines) => follow_lines(alloc, numbered, world, &mut lines, writer),
+        Ok(mut lines) => follow_lines(alloc, numbered, teller, world, &mut lines, writer),
         Err(_) => no_memory(writer),
     }
 }
 
 // Each line in turn, as it comes.
-fn follow_lines<D: Stoppable + Drop, R: Read, W: Write>(
+fn follow_lines<D: Stoppable + Drop, L: LineTeller, R: Read, W: Write>(
     alloc: Global,
     numbered: bool,
+    teller: &L,
     world: &mut World<D>,
     lines: &mut ScriptLines<'_, R>,
     writer: &mut W,
 ) -> Result<u8, ToolFault>
     ensures runs { IfOk result (λ status. IfSome (lines_left R.remaining lines.old) (λ script.
-        FollowsLines D.Area (front_of numbered) world.old LONGEST script (W.contents writer.old) (W.contents writer.new) status)) }
+        FollowsLines D.Area (front_of numbered) world.old script (W.contents writer.old) (W.contents writer.new) status)) }
     ensures tells { IfOk result (λ status. IfSome (lines_left R.remaining lines.old) (λ script.
-        ForSome (phase_geometry D.Area world.old.phase) (λ g. Adds (TellsFollowed (front_of numbered) g 1 false (lines_within LONGEST script)) (W.contents writer.old) (W.contents writer.new) status))) }
+        ForSome (phase_geometry D.Area world.old.phase) (λ g. Adds (TellsFollowed (front_of numbered) g 1 false (lines_followed script)) (W.contents writer.old) (W.contents writer.new) status))) }
     ensures memory { result ≢ Err ToolFault.NoMemory }
 {
-    let mut left = LONGEST;
     let mut number = 1;
     let mut refused = false;
     loop {
@@ -65,15 +70,17 @@ fn follow_lines<D: Stoppable + Drop, R: Read, W: Write>(
         if raw.is_empty() {
             return Ok(status_of(refused));
         }
-        if raw.len() > left {
+        if raw.len() > LONGEST {
+            return too_long(writer);
+        }
+        if number == LAST_NUMBER {
             return too_long(writer);
         }
         let (line, _) = first_line(&raw);
-        match run_line(alloc, numbered, world, line, number, writer)? {
+        match run_line(alloc, numbered, teller, world, line, number, writer)? {
             Outcome::Goes { refused: was } => refused |= was,
             Outcome::Ends(status) => return Ok(status),
         }
-        left -= raw.len();
         number += 1;
     }
 }

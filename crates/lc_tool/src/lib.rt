@@ -3,8 +3,10 @@
 
 mod answering;
 mod commands;
+mod copying;
 mod following;
 mod line_list;
+mod line_telling;
 mod log_file;
 mod looking;
 mod making;
@@ -15,6 +17,7 @@ mod program;
 mod repeating;
 mod script_lines;
 mod scripts;
+mod size_hint;
 mod sizing;
 mod source;
 mod stop;
@@ -26,6 +29,7 @@ mod view;
 mod zeros;
 
 pub use answering::answer;
+pub use copying::copy_store;
 pub use lc_text::ToolFault;
 pub use log_file::inspect_file;
 pub use looking::{check_store, draw_store, dump_page};

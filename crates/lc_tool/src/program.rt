@@ -44,7 +44,7 @@ fn asked_for<R: AllocGlobal + Env>(alloc: Global, rt: &R) -> Result<Asked, Alloc
             read_command_line(alloc, words.as_slice())
         }
         Err(error) if error.kind() == ErrorKind::OutOfMemory => Err(AllocError),
-        Err(_) => Ok(Asked::NotUnderstood),
+        Err(_) => Ok(Asked::Faulty(String::from_str(alloc, "a word is no text\n")?)),
     }
 }
 

@@ -18,6 +18,7 @@ ghost use Rattle.lc_text.specs.Text.{no_memory_text, refusal_text, reply_text, t
 use crate::ToolFault;
 use crate::commands::perform;
 use crate::following::follow_script;
+use crate::line_telling::LineTeller;
 use crate::manner::Manner;
 use crate::outcome::Outcome;
 use crate::repeating::recover;
@@ -67,7 +68,7 @@ pub fn run_script<D: Stoppable + Drop, R: Read, W: Write>(
 }
 
 /// The same, and how far its recovery is is told.
-pub(crate) fn run_told<D: Stoppable + Drop, T: Teller, R: Read, W: Write>(
+pub(crate) fn run_told<D: Stoppable + Drop, T: Teller + LineTeller, R: Read, W: Write>(
     alloc: Global,
     geometry: Geometry,
     manner: Manner,
@@ -95,7 +96,7 @@ pub(crate) fn run_told<D: Stoppable + Drop, T: Teller, R: Read, W: Write>(
 }
 
 // Reads the script and runs it on a store that is recovered. What it leaves that is lost is told, unless a device has failed.
-fn run_recovered<D: Stoppable + Drop, T: Teller, R: Read, W: Write>(
+fn run_recovered<D: Stoppable + Drop, T: Teller + LineTeller, R: Read, W: Write>(
     alloc: Global,
     manner: Manner,
     teller: &T,
@@ -109,7 +110,7 @@ fn run_recovered<D: Stoppable + Drop, T: Teller, R: Read, W: Write>(
         ForSome (phase_geometry D.Area world.old.phase) (λ g. Adds (TellsRecovered g (given_as manner script)) (W.contents writer.old) (W.contents writer.new) status))) }
     ensures memory { result ≢ Err ToolFault.NoMemory }
 {
-    let ended = run_read(alloc, manner, world, reader, writer);
+    let ended = run_read(alloc, manner, teller, world, reader, writer);
     if ended != Ok(FAULTED) {
         let left = world.unfinished();
         teller.left(left.commits, left.transactions);
@@ -118,9 +119,10 @@ fn run_recovered<D: Stoppable + Drop, T: Teller, R: Read, W: Write>(
 }
 
 // Reads the script and runs it on a store that is recovered.
-fn run_read<D: Stoppable + Drop, R: Read, W: Write>(
+fn run_read<D: Stoppable + Drop, L: LineTeller, R: Read, W: Write>(
     alloc: Global,
     manner: Manner,
+    teller: &L,
     world: &mut World<D>,
     reader: &mut R,
     writer: &mut W,
@@ -132,16 +134,17 @@ fn run_read<D: Stoppable + Drop, R: Read, W: Write>(
     ensures memory { result ≢ Err ToolFault.NoMemory }
 {
     if manner.follow {
-        follow_script(alloc, manner.number, world, reader, writer)
+        follow_script(alloc, manner.number, teller, world, reader, writer)
     } else {
-        run_whole(alloc, manner.number, world, reader, writer)
+        run_whole(alloc, manner.number, teller, world, reader, writer)
     }
 }
 
 // Reads the script as a whole and runs it on a store that is recovered.
-fn run_whole<D: Stoppable + Drop, R: Read, W: Write>(
+fn run_whole<D: Stoppable + Drop, L: LineTeller, R: Read, W: Write>(
     alloc: Global,
     numbered: bool,
+    teller: &L,
     world: &mut World<D>,
     reader: &mut R,
     writer: &mut W,
@@ -160,7 +163,7 @@ fn run_whole<D: Stoppable + Drop, R: Read, W: Write>(
     if script.len() > LONGEST {
         return too_long(writer);
     }
-    run_lines(alloc, numbered, world, &script, writer)
+    run_lines(alloc, numbered, teller, world, &script, writer)
 }
 
 // Recovers the store, and says nothing where that is done: otherwise the status is answered.
@@ -229,9 +232,10 @@ fn read_script<R: Read>(alloc: Global, reader: &mut R) -> Result<Vec<u8>, ToolFa
 }
 
 // Each line in turn.
-fn run_lines<D: Stoppable + Drop, W: Write>(
+fn run_lines<D: Stoppable + Drop, L: LineTeller, W: Write>(
     alloc: Global,
     numbered: bool,
+    teller: &L,
     world: &mut World<D>,
     script: &[u8],
     writer: &mut W,
@@ -246,7 +250,7 @@ fn run_lines<D: Stoppable + Drop, W: Write>(
     let mut refused = false;
     while !rest.is_empty() {
         let (line, behind) = first_line(rest);
-        match run_line(alloc, numbered, world, line, number, writer)? {
+        match run_line(alloc, numbered, teller, world, line, number, writer)? {
             Outcome::Goes { refused: was } => refused |= was,
             Outcome::Ends(status) => return Ok(status),
         }
@@ -264,10 +268,11 @@ pub(crate) fn status_of(refused: bool) -> u8
 }
 
 /// One line, of which all that is printed has gone out before the next is begun; its number stands in front of that where
-/// numbers are asked for.
-pub(crate) fn run_line<D: Stoppable + Drop, W: Write>(
+/// numbers are asked for. Of a line that is not understood the teller is told.
+pub(crate) fn run_line<D: Stoppable + Drop, L: LineTeller, W: Write>(
     alloc: Global,
     numbered: bool,
+    teller: &L,
     world: &mut World<D>,
     line: &[u8],
     number: u64,
@@ -279,7 +284,7 @@ pub(crate) fn run_line<D: Stoppable + Drop, W: Write>(
     ensures memory { result ≢ Err ToolFault.NoMemory }
     ensures reads { result ≢ Err ToolFault.Read }
 {
-    let outcome = number_line(alloc, numbered, world, line, number, writer)?;
+    let outcome = number_line(alloc, numbered, teller, world, line, number, writer)?;
     match writer.flush() {
         Ok(()) => Ok(outcome),
         Err(_) => Err(ToolFault::Write),
@@ -287,9 +292,10 @@ pub(crate) fn run_line<D: Stoppable + Drop, W: Write>(
 }
 
 // One line, in front of which its number stands where numbers are asked for, and which prints something.
-fn number_line<D: Stoppable + Drop, W: Write>(
+fn number_line<D: Stoppable + Drop, L: LineTeller, W: Write>(
     alloc: Global,
     numbered: bool,
+    teller: &L,
     world: &mut World<D>,
     line: &[u8],
     number: u64,
@@ -305,7 +311,7 @@ fn number_line<D: Stoppable + Drop, W: Write>(
         return Ok(Outcome::Goes { refused: false });
     }
     show_number(numbered, number, writer)?;
-    do_line(alloc, world, line, number, writer)
+    do_line(alloc, teller, world, line, number, writer)
 }
 
 // The number of a line, where numbers are asked for.
@@ -324,8 +330,9 @@ fn show_number<W: Write>(numbered: bool, number: u64, writer: &mut W) -> Result<
 }
 
 // One line.
-fn do_line<D: Stoppable + Drop, W: Write>(
+fn do_line<D: Stoppable + Drop, L: LineTeller, W: Write>(
     alloc: Global,
+    teller: &L,
     world: &mut World<D>,
     line: &[u8],
     number: u64,
@@ -342,10 +349,13 @@ fn do_line<D: Stoppable + Drop, W: Write>(
     };
     match read {
         Line::Skipped => Ok(Outcome::Goes { refused: false }),
-        Line::NotUnderstood => match write_not_understood(writer, number) {
-            Ok(()) => Ok(Outcome::Ends(NOT_UNDERSTOOD)),
-            Err(_) => Err(ToolFault::Write),
-        },
+        Line::NotUnderstood => {
+            teller.not_understood(number, line);
+            match write_not_understood(writer, number) {
+                Ok(()) => Ok(Outcome::Ends(NOT_UNDERSTOOD)),
+                Err(_) => Err(ToolFault::Write),
+            }
+        }
         Line::Command(command) => do_command(alloc, world, &command, writer),
     }
 }

@@ -10,11 +10,15 @@ use crate::ToolFault;
 use crate::making::{not_opened, told_of_making};
 use crate::manner::Manner;
 use crate::scripts::run_told;
+use crate::size_hint::{are_of_size, tell_size_found};
 use crate::telling::{ErrorOutput, PageTeller};
-use lc_files::{Cause, Directory, OpenStore, SharedFile, StoreFolder, Unmade, make_store};
+use lc_files::{
+    Cause, Directory, OpenStore, SharedFile, StoreFolder, Unmade, Unopened, make_store,
+};
 use lc_look::recover_told;
 use lc_record::Geometry;
 use std::alloc::Global;
+use std::cell::Cell;
 use std::io::{Read, Write};
 use std::rt::Files;
 
@@ -46,8 +50,8 @@ where
     told_of_making(writer, made)
 }
 
-// Says on standard error which name is taken, and which files are left.
-fn tell_unmade<R: Files + Eprint>(
+/// Says on standard error which name is taken, and which files are left.
+pub(crate) fn tell_unmade<R: Files + Eprint>(
     folder: &StoreFolder<'_, R>,
     directory: &Directory<'_, R>,
     geometry: &Geometry,
@@ -81,19 +85,25 @@ where
     ensures memory { result ≢ Err ToolFault.NoMemory }
     ensures reads { result ≢ Err ToolFault.Read }
 {
-    let folder = StoreFolder::new(alloc, rt, folder);
-    let ended = recover_in(alloc, rt, errors, &folder, geometry, writer);
+    let path = folder;
+    let folder = StoreFolder::new(alloc, rt, path);
+    let misfits = Cell::new(false);
+    let ended = recover_in(alloc, rt, errors, &folder, geometry, &misfits, writer);
     folder.tell();
+    if misfits.get() {
+        tell_size_found(alloc, rt, path, &folder);
+    }
     ended
 }
 
-// The same, but for why something failed.
+// The same, but for why something failed; and whether the store is one of another size.
 fn recover_in<R: Files + Eprint, W: Write>(
     alloc: Global,
     rt: &R,
     errors: ErrorOutput,
     folder: &StoreFolder<'_, R>,
     geometry: Geometry,
+    misfits: &Cell<bool>,
     writer: &mut W,
 ) -> Result<u8, ToolFault>
 where
@@ -108,10 +118,14 @@ where
                 mut areas,
                 guard: _guard,
             } = store;
+            misfits.set(!are_of_size(&geometry, areas.as_slice()));
             let teller = PageTeller::new(alloc, rt, errors, &geometry, areas.as_mut_slice());
             recover_told(alloc, geometry, areas, &teller, writer)
         }
-        Err(fault) => not_opened(writer, fault),
+        Err(fault) => {
+            misfits.set(matches!(fault, Unopened::OtherSize { .. }));
+            not_opened(writer, fault)
+        }
     }
 }
 
@@ -133,13 +147,20 @@ where
     ensures tells { IfOk result (λ status. IfSome (I.remaining reader.old) (λ script. Adds (TellsScript geometry (given_as manner script)) (W.contents writer.old) (W.contents writer.new) status)) }
     ensures memory { result ≢ Err ToolFault.NoMemory }
 {
-    let folder = StoreFolder::new(alloc, rt, folder);
-    let ended = run_in(alloc, rt, errors, &folder, geometry, manner, reader, writer);
+    let path = folder;
+    let folder = StoreFolder::new(alloc, rt, path);
+    let misfits = Cell::new(false);
+    let ended = run_in(
+        alloc, rt, errors, &folder, geometry, manner, &misfits, reader, writer,
+    );
     folder.tell();
+    if misfits.get() {
+        tell_size_found(alloc, rt, path, &folder);
+    }
     ended
 }
 
-// The same, but for why something failed.
+// The same, but for why something failed; and whether the store is one of another size.
 fn run_in<R: Files + Eprint, I: Read, W: Write>(
     alloc: Global,
     rt: &R,
@@ -147,6 +168,7 @@ fn run_in<R: Files + Eprint, I: Read, W: Write>(
     folder: &StoreFolder<'_, R>,
     geometry: Geometry,
     manner: Manner,
+    misfits: &Cell<bool>,
     reader: &mut I,
     writer: &mut W,
 ) -> Result<u8, ToolFault>
@@ -161,9 +183,13 @@ where
                 mut areas,
                 guard: _guard,
             } = store;
+            misfits.set(!are_of_size(&geometry, areas.as_slice()));
             let teller = PageTeller::new(alloc, rt, errors, &geometry, areas.as_mut_slice());
             run_told(alloc, geometry, manner, areas, &teller, reader, writer)
         }
-        Err(fault) => not_opened(writer, fault),
+        Err(fault) => {
+            misfits.set(matches!(fault, Unopened::OtherSize { .. }));
+            not_opened(writer, fault)
+        }
     }
 }

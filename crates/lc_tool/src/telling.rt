@@ -1,4 +1,5 @@
-//! How far a long recovery is, and what a run leaves.
+//! How far a long recovery is, which line is not understood, and what a run leaves.
+use crate::line_telling::{LineTeller, tell_line};
 use lc_disk::Area;
 use lc_look::Teller;
 use lc_record::Geometry;
@@ -77,6 +78,12 @@ impl<R: Eprint> Teller for PageTeller<'_, R> {
                 "lcrvm: {commits} commits not flushed, {transactions} transactions open"
             );
         }
+    }
+}
+
+impl<R: Eprint> LineTeller for PageTeller<'_, R> {
+    fn not_understood(&self, number: u64, line: &[u8]) {
+        tell_line(self.rt, number, line);
     }
 }
 

@@ -13,10 +13,10 @@ use Rattle.clap.specs.declared.parser.matches.ArgMatches.TheViews.{out-ArgMatche
 use Rattle.clap.specs.declared.error.kind.ErrorKind.{ErrorKind}
 use Rattle.clap.specs.declared.error.kind.ErrorKind.TheVariants.{DisplayHelp, DisplayVersion, OutOfMemory}
 use Rattle.clap.proofs.OnLiterals.{clap_on_literals}
-use Rattle.lc_words.proofs.FaultlessWords.{IsSubcommand, entered_run, entered_init, entered_recover, entered_inspect, entered_lines, entered_check, entered_dump, entered_draw, faultless_words}
-use Rattle.lc_words.specs.CommandLine.{HasCheckedSize, HasNoFiles, HasNumberIn, HasNumbersAt, HasSize, HasSizeAt, HasText, HasWord, IsAskedBy, IsCallOf, IsCheckOf, IsDrawOf, IsDumpOf, IsInitOf, IsInspectOf, IsLike, IsLinesOf, IsReadOf, IsRecoverOf, IsRunOf, options_of, program_app}
+use Rattle.lc_words.proofs.FaultlessWords.{IsSubcommand, entered_run, entered_init, entered_recover, entered_inspect, entered_lines, entered_check, entered_dump, entered_draw, entered_copy, faultless_words}
+use Rattle.lc_words.specs.CommandLine.{HasCheckedSize, HasNoFiles, HasNumberIn, HasNumbersAt, HasSize, HasSizeAt, HasText, HasWord, IsAskedBy, IsCallOf, IsCheckOf, IsCopyOf, IsDrawOf, IsDumpOf, IsInitOf, IsInspectOf, IsLike, IsLinesOf, IsReadOf, IsRecoverOf, IsRunOf, IsWantedAt, options_of, program_app}
 use Rattle.lc_words.specs.declared.asked.Asked.{Asked}
-use Rattle.lc_words.specs.declared.asked.Asked.TheVariants.{Run, Init, Recover, Check, Dump, Draw, Inspect, Lines, NotUnderstood}
+use Rattle.lc_words.specs.declared.asked.Asked.TheVariants.{Run, Init, Recover, Check, Dump, Draw, Copy, Inspect, Lines, NotUnderstood}
 
 pub program_is_free : is_simple_and_free program_app ≡ true
 unfolding clap_on_literals
@@ -51,7 +51,7 @@ run_asked (Run store follow number) rows words met read size =
     let same = rows_are (codes "run") rows words met in
     let all = subst (λ (rs : List Row). IsRunOf rs (Run store follow number)) same read in
     (is_call (codes "run") rows words met, all.0, all.1, all.2)
-run_asked NotUnderstood rows words met read size = inl (is_call (codes "run") rows words met, subst HasNoFiles (rows_are (codes "run") rows words met) (read size))
+run_asked NotUnderstood rows words met read size = (is_call (codes "run") rows words met, subst HasNoFiles (rows_are (codes "run") rows words met) (read size))
 run_asked _ rows words met read size = absurd read
 
 init_asked : (asked : Asked) (rows : List Row) (words : List Text) → IsMet (codes "init") rows words → IsInitOf rows asked → HasSizeAt rows
@@ -115,6 +115,18 @@ draw_asked (Draw folder) rows words met read word =
 draw_asked NotUnderstood rows words met read word = absurd (read word)
 draw_asked _ rows words met read word = absurd read
 
+copy_asked : (asked : Asked) (rows : List Row) (words : List Text) → IsMet (codes "copy") rows words → IsCopyOf rows asked → HasSizeAt rows
+    → HasWord (codes "folder") rows → HasWord (codes "to") rows → IsAskedBy words asked
+copy_asked (Copy folder to wanted) rows words met read size word other =
+    let same = rows_are (codes "copy") rows words met in (
+      is_call (codes "copy") rows words met,
+      subst (λ (rs : List Row). HasText (codes "folder") rs (Some folder)) same read.0,
+      subst (λ (rs : List Row). HasText (codes "to") rs (Some to)) same read.1,
+      subst (λ (rs : List Row). IsWantedAt rs wanted) same read.2,
+    )
+copy_asked NotUnderstood rows words met read size word other = absurd (read size word other)
+copy_asked _ rows words met read size word other = absurd read
+
 pub asked : (asked : Asked) (found : Option (Text × List Row)) (words : List Text) → IsReadOf found asked → found ≡ subcommand_of program_app words
     → fault_of program_app words ≡ [] → IsAskedBy words asked
 asked given found words read same none = go (faultless_words words none)
@@ -128,6 +140,7 @@ asked given found words read same none = go (faultless_words words none)
     go (entered_check h) = check_asked given h.0 words (none, h.1) (read.5 h.0 (same ∙ h.1)) h.2 h.3
     go (entered_dump h) = dump_asked given h.0 words (none, h.1) (read.6 h.0 (same ∙ h.1)) h.2 h.3 h.4
     go (entered_draw h) = draw_asked given h.0 words (none, h.1) (read.7 h.0 (same ∙ h.1)) h.2
+    go (entered_copy h) = copy_asked given h.0 words (none, h.1) (read.8 h.0 (same ∙ h.1)) h.2 h.3 h.4
 
 pub no_fault : (c : Command) (words : List Text) → app_of c ≡ program_app → fault_of (app_of c) words ≡ []
     → fault_of program_app words ≡ []

@@ -48,8 +48,11 @@ dump = sub 6
 abbrev draw : Shape
 draw = sub 7
 
+abbrev copy : Shape
+copy = sub 8
+
 abbrev help : Shape
-help = sub 8
+help = sub 9
 
 -- what the option of a subcommand takes
 abbrev taken : Shape → Text → ValueParser
@@ -206,6 +209,30 @@ dump_fits = (
 draw_fits : AllFit (taken draw) draw.rules
 draw_fits = (word_fits draw 1 (codes "folder") refl, (inr (record { action = refl; defaults = refl }), tt))
 
+copy_fits : AllFit (taken copy) copy.rules
+copy_fits = (
+  word_fits copy 1 (codes "folder") refl,
+  (
+    word_fits copy 2 (codes "to") refl,
+    (
+      number_fits copy 3 (codes "nodes") (codes "1") 1 8 refl refl,
+      (
+        number_fits copy 3 (codes "threads") (codes "1") 1 16 refl refl,
+        (
+          number_fits copy 3 (codes "segments") (codes "1") 1 16 refl refl,
+          (
+            number_fits copy 3 (codes "pages") (codes "1") 1 1024 refl refl,
+            (
+              number_fits copy 3 (codes "words") (codes "64") 64 4096 refl refl,
+              (inr (record { action = refl; defaults = refl }), tt),
+            ),
+          ),
+        ),
+      ),
+    ),
+  ),
+)
+
 inspect_fits : AllFit (taken inspect) inspect.rules
 inspect_fits = (
   word_fits inspect 1 (codes "file") refl,
@@ -289,6 +316,9 @@ IsDump found = (rows : List Row) × (found ≡ Some (codes "dump", rows)) × Has
 abbrev pub IsDraw : Found → Type 0
 IsDraw found = (rows : List Row) × (found ≡ Some (codes "draw", rows)) × HasWord (codes "folder") rows
 
+abbrev pub IsCopy : Found → Type 0
+IsCopy found = (rows : List Row) × (found ≡ Some (codes "copy", rows)) × HasSizeAt rows × HasWord (codes "folder") rows × HasWord (codes "to") rows
+
 -- one of the subcommands, with what it wants
 pub data IsSubcommand (found : Option (Text × List Row)) : Type 0 where
   entered_run : IsRun found → IsSubcommand found
@@ -299,6 +329,7 @@ pub data IsSubcommand (found : Option (Text × List Row)) : Type 0 where
   entered_check : IsCheck found → IsSubcommand found
   entered_dump : IsDump found → IsSubcommand found
   entered_draw : IsDraw found → IsSubcommand found
+  entered_copy : IsCopy found → IsSubcommand found
 
 or_false : (b : Bool) → (b || false) ≡ true → b ≡ true
 or_false true e = refl
@@ -351,6 +382,15 @@ draw_at words none = (
   word_at draw draw_fits (codes "folder") words none refl refl,
 )
 
+copy_at : (words : List Text) → level_fault copy [] nothing_held words false [] ≡ [] → IsCopy (Some (rows_at copy words))
+copy_at words none = (
+  rows_after copy.rules [] words,
+  refl,
+  size_at copy copy_fits words none (refl, refl) (refl, refl) (refl, refl) (refl, refl) (refl, refl),
+  word_at copy copy_fits (codes "folder") words none refl refl,
+  word_at copy copy_fits (codes "to") words none refl refl,
+)
+
 inspect_at : (words : List Text) → level_fault inspect [] nothing_held words false [] ≡ [] → IsInspect (Some (rows_at inspect words))
 inspect_at words none = (
   rows_after inspect.rules [] words,
@@ -363,28 +403,29 @@ subcommand_entered : (stop : Option (Text × List Text)) → StopsElse stop → 
     → IsSubcommand (entered program stop)
 subcommand_entered None stops has none = cc
 subcommand_entered (Some p) stops has none =
-    go (answers p.0 0) (answers p.0 1) (answers p.0 2) (answers p.0 3) (answers p.0 4) (answers p.0 5) (answers p.0 6) (answers p.0 7) (answers p.0 8) refl has none
+    go (answers p.0 0) (answers p.0 1) (answers p.0 2) (answers p.0 3) (answers p.0 4) (answers p.0 5) (answers p.0 6) (answers p.0 7) (answers p.0 8) (answers p.0 9) refl has none
   where
     answers : Text → ℕ → Bool
     answers word i = answers_to word (label_of (sub i))
 
-    met : Bool → Bool → Bool → Bool → Bool → Bool → Bool → Bool → Bool → Option Shape
-    met a b c d e f g h i =
-        cond a (Some run) (cond b (Some init) (cond c (Some recover) (cond d (Some inspect) (cond e (Some lines) (cond f (Some check) (cond g (Some dump) (cond h (Some draw) (cond i (Some help) None))))))))
+    met : Bool → Bool → Bool → Bool → Bool → Bool → Bool → Bool → Bool → Bool → Option Shape
+    met a b c d e f g h i j =
+        cond a (Some run) (cond b (Some init) (cond c (Some recover) (cond d (Some inspect) (cond e (Some lines) (cond f (Some check) (cond g (Some dump) (cond h (Some draw) (cond i (Some copy) (cond j (Some help) None)))))))))
 
-    go : (a b c d e f g h i : Bool) → answers_to p.0 (label_of help) ≡ i → is_some (option_map (λ s. rows_at s p.1) (met a b c d e f g h i)) ≡ true
-        → option_map_or (λ s. level_fault s [] nothing_held p.1 false []) (met a b c d e f g h i) [] ≡ []
-        → IsSubcommand (option_map (λ s. rows_at s p.1) (met a b c d e f g h i))
-    go true b c d e f g h i is some ok = entered_run (run_at p.1 ok)
-    go false true c d e f g h i is some ok = entered_init (init_at p.1 ok)
-    go false false true d e f g h i is some ok = entered_recover (recover_at p.1 ok)
-    go false false false true e f g h i is some ok = entered_inspect (inspect_at p.1 ok)
-    go false false false false true f g h i is some ok = entered_lines (rows_after lines.rules [] p.1, refl)
-    go false false false false false true g h i is some ok = entered_check (check_at p.1 ok)
-    go false false false false false false true h i is some ok = entered_dump (dump_at p.1 ok)
-    go false false false false false false false true i is some ok = entered_draw (draw_at p.1 ok)
-    go false false false false false false false false false is some ok = cc
-    go false false false false false false false false true is some ok =
+    go : (a b c d e f g h i j : Bool) → answers_to p.0 (label_of help) ≡ j → is_some (option_map (λ s. rows_at s p.1) (met a b c d e f g h i j)) ≡ true
+        → option_map_or (λ s. level_fault s [] nothing_held p.1 false []) (met a b c d e f g h i j) [] ≡ []
+        → IsSubcommand (option_map (λ s. rows_at s p.1) (met a b c d e f g h i j))
+    go true b c d e f g h i j is some ok = entered_run (run_at p.1 ok)
+    go false true c d e f g h i j is some ok = entered_init (init_at p.1 ok)
+    go false false true d e f g h i j is some ok = entered_recover (recover_at p.1 ok)
+    go false false false true e f g h i j is some ok = entered_inspect (inspect_at p.1 ok)
+    go false false false false true f g h i j is some ok = entered_lines (rows_after lines.rules [] p.1, refl)
+    go false false false false false true g h i j is some ok = entered_check (check_at p.1 ok)
+    go false false false false false false true h i j is some ok = entered_dump (dump_at p.1 ok)
+    go false false false false false false false true i j is some ok = entered_draw (draw_at p.1 ok)
+    go false false false false false false false false true j is some ok = entered_copy (copy_at p.1 ok)
+    go false false false false false false false false false false is some ok = cc
+    go false false false false false false false false false true is some ok =
         let same : codes "help" ≡ p.0 = (bytes_eq-Decides (codes "help") p.0).0 (or_false _ is) in
         let bad : bytes_eq p.0 (codes "help") ≡ true = (bytes_eq-Decides p.0 (codes "help")).1 (sym same) in
         cc

@@ -1,5 +1,5 @@
 -- What a command line asks for.
-use Rattle.std.specs.Prelude.{◌≡◌, ◌⊎◌, ◌≤◌, ◌^◌, ◌&&◌, ◌||◌, not, ℕ, Bool, pos, List, [], ◌∷◌, Option, Some, None, true, false, codes, nat_lt, if◌then◌else◌, option_and_then, option_map, find, String, string_bytes}
+use Rattle.std.specs.Prelude.{◌≡◌, ◌≤◌, ◌^◌, ◌&&◌, ◌||◌, not, ℕ, Bool, pos, List, [], ◌∷◌, Option, Some, None, true, false, codes, nat_lt, if◌then◌else◌, option_and_then, option_map, find, String, string_bytes}
 use Rattle.std.specs.Option.{option_map_or}
 use Rattle.std.specs.Str.{bytes_eq}
 use Rattle.std.specs.Str.Parse.{digits_value, without_leading_plus}
@@ -16,7 +16,7 @@ use Rattle.clap.specs.declared.parser.matches.ValueSource.{ValueSource}
 use Rattle.clap.specs.declared.parser.matches.ValueSource.TheVariants.{CommandLine}
 use Rattle.lc_record.specs.declared.geometry.Geometry.{Geometry}
 use Rattle.lc_words.specs.declared.asked.Asked.{Asked}
-use Rattle.lc_words.specs.declared.asked.Asked.TheVariants.{Run, Init, Recover, Check, Dump, Draw, Inspect, Lines, Help, Version, NotUnderstood}
+use Rattle.lc_words.specs.declared.asked.Asked.TheVariants.{Run, Init, Recover, Check, Dump, Draw, Copy, Inspect, Lines, Help, Version, Faulty, NotUnderstood}
 use Rattle.lc_words.specs.declared.run_store.RunStore.{RunStore}
 use Rattle.lc_words.specs.declared.run_store.RunStore.TheVariants.{New, InFolder}
 use Rattle.lc_words.specs.declared.size.Size.{Size}
@@ -92,6 +92,9 @@ dump_app = with_rule (with_rule (folder_app (codes "dump")) (number_rule (codes 
 abbrev pub draw_app : App
 draw_app = folder_app (codes "draw")
 
+abbrev pub copy_app : App
+copy_app = with_sizes (with_rule (folder_app (codes "copy")) (word_rule (codes "to")))
+
 abbrev pub inspect_app : App
 inspect_app = with_rule (with_rule (new_app (codes "inspect")) (word_rule (codes "file"))) (flag_rule (codes "reverse"))
 
@@ -107,8 +110,8 @@ top_app = record {
 
 -- the whole command line
 abbrev pub program_app : App
-program_app = with_subcommand (with_subcommand (with_subcommand (with_subcommand (with_subcommand (with_subcommand (with_subcommand (with_subcommand top_app
-    run_app.top) init_app.top) recover_app.top) inspect_app.top) lines_app.top) check_app.top) dump_app.top) draw_app.top
+program_app = with_subcommand (with_subcommand (with_subcommand (with_subcommand (with_subcommand (with_subcommand (with_subcommand (with_subcommand (with_subcommand top_app
+    run_app.top) init_app.top) recover_app.top) inspect_app.top) lines_app.top) check_app.top) dump_app.top) draw_app.top) copy_app.top
 
 -- a command that is read so, and has no argument for its subcommands too
 abbrev pub IsLike : Command → App → Type 0
@@ -218,8 +221,8 @@ abbrev pub IsFoundInMemory : List Text → Type 0
 IsFoundInMemory words = IsCallOf (codes "run") words × HasNoFiles (options_of words)
 
 -- a subcommand is asked for by words with no fault that name it, and has their numbers, texts and flags; help and the
--- version by words that ask for it; words that are not understood have another fault, or want of a
--- store in memory the size that is found
+-- version by words that ask for it; faulty words have another fault; words that are not understood want of a store in memory the
+-- size that is found
 abbrev pub IsAskedBy : List Text → Asked → Type 0
 IsAskedBy words (Run store follow number) = IsCallOf (codes "run") words × HasRunStore (options_of words) store
     × (follow ≡ is_among_words (codes "follow") (options_of words)) × (number ≡ is_among_words (codes "number") (options_of words))
@@ -232,13 +235,15 @@ IsAskedBy words (Check folder size) = IsCallOf (codes "check") words × HasCheck
 IsAskedBy words (Dump folder segment page) = IsCallOf (codes "dump") words × HasText (codes "folder") (options_of words) (Some folder)
     × (number_at (codes "segment") (options_of words) ≡ Some segment) × (number_at (codes "page") (options_of words) ≡ Some page)
 IsAskedBy words (Draw folder) = IsCallOf (codes "draw") words × HasText (codes "folder") (options_of words) (Some folder)
+IsAskedBy words (Copy folder to wanted) = IsCallOf (codes "copy") words × HasText (codes "folder") (options_of words) (Some folder)
+    × HasText (codes "to") (options_of words) (Some to) × IsWantedAt (options_of words) wanted
 IsAskedBy words (Inspect file reverse) = IsCallOf (codes "inspect") words
     × HasText (codes "file") (options_of words) (Some file) × (reverse ≡ is_among_words (codes "reverse") (options_of words))
 IsAskedBy words Lines = IsCallOf (codes "lines") words
 IsAskedBy words (Help text) = IsAmong DisplayHelp (fault_of program_app words)
 IsAskedBy words (Version text) = IsAmong DisplayVersion (fault_of program_app words)
+IsAskedBy words (Faulty reason) = (kind : ErrorKind) × IsAmong kind (fault_of program_app words) × (kind ≡ DisplayHelp → ⊥) × (kind ≡ DisplayVersion → ⊥)
 IsAskedBy words NotUnderstood = IsFoundInMemory words
-    ⊎ ((kind : ErrorKind) × IsAmong kind (fault_of program_app words) × (kind ≡ DisplayHelp → ⊥) × (kind ≡ DisplayVersion → ⊥))
 
 -- what the options of each subcommand ask for
 abbrev pub IsRunOf : List Row → Asked → Type 0
@@ -273,6 +278,11 @@ IsDrawOf rows (Draw folder) = HasText (codes "folder") rows (Some folder)
 IsDrawOf rows NotUnderstood = HasWord (codes "folder") rows → ⊥
 IsDrawOf rows _ = ⊥
 
+abbrev pub IsCopyOf : List Row → Asked → Type 0
+IsCopyOf rows (Copy folder to wanted) = HasText (codes "folder") rows (Some folder) × HasText (codes "to") rows (Some to) × IsWantedAt rows wanted
+IsCopyOf rows NotUnderstood = HasSizeAt rows → HasWord (codes "folder") rows → HasWord (codes "to") rows → ⊥
+IsCopyOf rows _ = ⊥
+
 abbrev pub IsInspectOf : List Row → Asked → Type 0
 IsInspectOf rows (Inspect file reverse) = HasText (codes "file") rows (Some file) × (reverse ≡ is_among_words (codes "reverse") rows)
 IsInspectOf rows NotUnderstood = HasWord (codes "file") rows → ⊥
@@ -292,3 +302,4 @@ IsReadOf found asked = ((rows : List Row) → found ≡ Some (codes "run", rows)
     × ((rows : List Row) → found ≡ Some (codes "check", rows) → IsCheckOf rows asked)
     × ((rows : List Row) → found ≡ Some (codes "dump", rows) → IsDumpOf rows asked)
     × ((rows : List Row) → found ≡ Some (codes "draw", rows) → IsDrawOf rows asked)
+    × ((rows : List Row) → found ≡ Some (codes "copy", rows) → IsCopyOf rows asked)

@@ -1,6 +1,6 @@
 //! What a command line asks for.
 
-use crate::{RunStore, Size};
+use crate::{RunStore, Size, Wanted};
 use lc_record::Geometry;
 
 /// What a command line asks for. Each word is kept as it was written, an empty one too.
@@ -50,6 +50,15 @@ pub enum Asked {
         /// The word behind `draw`.
         folder: String,
     },
+    /// A copy of the store in this folder, of the size that is found or of another.
+    Copy {
+        /// The word behind `copy`.
+        folder: String,
+        /// The folder of the copy.
+        to: String,
+        /// The numbers of the size that the copy is to have.
+        wanted: Wanted,
+    },
     /// The records of this log file, the last one first where `reverse` is set.
     Inspect {
         /// The word behind `inspect`.
@@ -63,6 +72,8 @@ pub enum Asked {
     Help(String),
     /// This line, the version.
     Version(String),
-    /// Nothing that is known.
+    /// Words with a fault, and what it is, as the parser says it, with line feeds.
+    Faulty(String),
+    /// Words without a fault that ask for nothing: a run in memory, of the size that is found.
     NotUnderstood,
 }

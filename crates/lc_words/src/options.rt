@@ -1,7 +1,7 @@
 //! What the options of a subcommand ask for.
 ghost use Rattle.std.specs.Prelude.{◌≡◌, IfOk, IfSome, IsNone, Some, None, if◌then◌else◌};
 ghost use Rattle.clap.specs.Words.{found_of, rows_of, subcommand_rows_of};
-ghost use Rattle.lc_words.specs.CommandLine.{HasCheckedSize, HasNumbersAt, HasSize, HasSizeAt, HasText, IsCheckOf, IsDrawOf, IsDumpOf, IsInitOf, IsInspectOf, IsReadOf, IsRecoverOf, IsRunOf, IsWantedAt, is_among_words, is_any_given, number_at};
+ghost use Rattle.lc_words.specs.CommandLine.{HasCheckedSize, HasNumbersAt, HasSize, HasSizeAt, HasText, IsCheckOf, IsCopyOf, IsDrawOf, IsDumpOf, IsInitOf, IsInspectOf, IsReadOf, IsRecoverOf, IsRunOf, IsWantedAt, is_among_words, is_any_given, number_at};
 
 use crate::{Asked, RunStore, Size, Wanted};
 use clap::ArgMatches;
@@ -25,6 +25,7 @@ pub fn asked_of(alloc: Global, matches: &ArgMatches<'_>) -> Result<Asked, AllocE
         "check" => check_of(alloc, options),
         "dump" => dump_of(alloc, options),
         "draw" => draw_of(alloc, options),
+        "copy" => copy_of(alloc, options),
         _ => Ok(Asked::NotUnderstood),
     }
 }
@@ -110,6 +111,22 @@ fn draw_of(alloc: Global, options: &ArgMatches<'_>) -> Result<Asked, AllocError>
 {
     match text_of(alloc, options, "folder")? {
         Some(folder) => Ok(Asked::Draw { folder }),
+        None => Ok(Asked::NotUnderstood),
+    }
+}
+
+fn copy_of(alloc: Global, options: &ArgMatches<'_>) -> Result<Asked, AllocError>
+    ensures { IfOk result (IsCopyOf (rows_of (found_of options.now))) }
+{
+    let Some(geometry) = geometry_of(options) else {
+        return Ok(Asked::NotUnderstood);
+    };
+    let wanted = wanted_of(options, geometry);
+    let Some(folder) = text_of(alloc, options, "folder")? else {
+        return Ok(Asked::NotUnderstood);
+    };
+    match text_of(alloc, options, "to")? {
+        Some(to) => Ok(Asked::Copy { folder, to, wanted }),
         None => Ok(Asked::NotUnderstood),
     }
 }

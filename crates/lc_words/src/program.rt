@@ -1,7 +1,7 @@
 //! The subcommands of the program, with their options and their help.
 ghost use Rattle.std.specs.Prelude.{◌≡◌, IfOk, codes, false};
 ghost use Rattle.clap.specs.Words.{App, app_of, new_app, rule_of, with_rule, with_subcommand};
-ghost use Rattle.lc_words.specs.CommandLine.{IsLike, check_app, draw_app, dump_app, flag_rule, folder_app, init_app, inspect_app, lines_app, number_rule, option_rule, program_app, recover_app, run_app, sized_app, store_rule, top_app, with_sizes, word_rule};
+ghost use Rattle.lc_words.specs.CommandLine.{IsLike, check_app, copy_app, draw_app, dump_app, flag_rule, folder_app, init_app, inspect_app, lines_app, number_rule, option_rule, program_app, recover_app, run_app, sized_app, store_rule, top_app, with_sizes, word_rule};
 
 use clap::builder::ValueParser;
 use clap::{Arg, ArgAction, Command, value_parser};
@@ -63,6 +63,19 @@ const DRAW_HELP: &str = "Statuses:
 Example:
   lcrvm draw bank > bank.svg";
 
+const COPY_HELP: &str =
+    "A number of the size that is not given is that of the store. The copy may have more pages in each segment,
+or more segments, all zeros.
+
+Statuses:
+  0  the copy is made, and stable
+  1  the files do not fit together, the copy would be too small, a file of a store is there already, or there was no memory
+  2  the command line was not understood
+  3  a device failed, or the store is in use
+
+Example:
+  lcrvm copy bank larger --pages 64";
+
 const INSPECT_HELP: &str = "Statuses:
   0  the records are printed
   1  the file has not the length of a log, or there was no memory
@@ -97,7 +110,8 @@ pub fn program<'a>(alloc: Global) -> Result<Command<'a>, AllocError>
     let command = with_subcommand(command, lines(alloc))?;
     let command = with_subcommand(command, check(alloc))?;
     let command = with_subcommand(command, dump(alloc))?;
-    with_subcommand(command, draw(alloc))
+    let command = with_subcommand(command, draw(alloc))?;
+    with_subcommand(command, copy(alloc))
 }
 
 // The program, without its subcommands.
@@ -228,6 +242,20 @@ fn draw<'a>(alloc: Global) -> Result<Command<'a>, AllocError>
         DRAW_HELP,
         STORE_FOLDER,
     )
+}
+
+fn copy<'a>(alloc: Global) -> Result<Command<'a>, AllocError>
+    ensures { IfOk result (λ command. IsLike command copy_app) }
+{
+    let command = over_folder(
+        alloc,
+        "copy",
+        "Copies a store that is at rest, also into a larger one, and changes nothing of it",
+        COPY_HELP,
+        STORE_FOLDER,
+    )?;
+    let command = command.arg(word(alloc, "to", "TO", "Folder that the copy is made in"))?;
+    with_size_options(alloc, command)
 }
 
 fn inspect<'a>(alloc: Global) -> Result<Command<'a>, AllocError>

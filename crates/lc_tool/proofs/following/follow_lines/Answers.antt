@@ -4,11 +4,11 @@ use Rattle.std.specs.Io.BufRead.{drop_through, take_through}
 use Rattle.lc_text.specs.Lines.{script_lines}
 use Rattle.lc_text.specs.Text.{no_memory_text, too_long_text}
 use Rattle.lc_tool.specs.Coming.{lines_left}
-use Rattle.lc_tool.specs.Following.{lines_within}
+use Rattle.lc_tool.specs.Following.{lines_followed, lines_within}
 use Rattle.lc_tool.specs.Outcome.{fronted}
 use Rattle.lc_tool.specs.Script.{Follows, front_of}
 use Rattle.lc_tool.specs.Tells.{TellsFollowed}
-use Rattle.lc_tool.proofs.Comings.{line_comes, line_passes, none_through}
+use Rattle.lc_tool.proofs.Comings.{line_comes, line_passes, none_comes, none_through}
 use Rattle.lc_tool.proofs.Follows.{breaks_off, ends, goes_further, passes_limit, some_at, some_by, tells_end, tells_further, tells_limit, tells_off, tells_want, wants}
 use Rattle.lc_tool.proofs.ScriptLemmas.{at_first, further, over, to_end}
 use Rattle.lc_tool.proofs.following.follow_lines.Goals as goal
@@ -20,8 +20,8 @@ loop-raw-init g c = record {
   read = λ script is. (
     script,
     is,
-    (λ h same. at_first (TellsFollowed (front_of c.args.numbered) h 1 false (lines_within 1048576 script)) (g.W.Write.contents c.args.writer.now)),
-    (λ m first start fits. (first, start, fits, at_first (Follows (front_of c.args.numbered) m first start 1 false (lines_within 1048576 script)) (g.W.Write.contents c.args.writer.now))),
+    (λ h same. at_first (TellsFollowed (front_of c.args.numbered) h 1 false (lines_followed script)) (g.W.Write.contents c.args.writer.now)),
+    (λ m first start fits. (first, start, fits, at_first (Follows (front_of c.args.numbered) m first start 1 false (lines_followed script)) (g.W.Write.contents c.args.writer.now))),
   );
 }
 
@@ -31,18 +31,18 @@ returns-in-Err-NoMemory-clause-runs g c =
     some_by (lines_left g.R.Read.remaining c.args.lines.now) _ (λ script is m first start fits.
     let read = c.loop-raw.invariant.read script is in
     let before = read.3 m first start fits in
-    to_end (Follows (front_of c.args.numbered) m first start 1 false (lines_within 1048576 script)) (g.W.Write.contents c.args.writer.now)
-    (Follows (front_of c.args.numbered) m before.0 before.1 c.loop-raw.number c.loop-raw.refused (lines_within c.loop-raw.left read.0)) (g.W.Write.contents c.loop-raw.writer) (g.W.Write.contents c.no_memory.new.writer)
-    before.3 no_memory_text shown.1 status (wants (front_of c.args.numbered) c.loop-raw.number c.loop-raw.refused m before.0 before.1 (lines_within c.loop-raw.left read.0) status shown.0))) c.no_memory.ensures.shown
+    to_end (Follows (front_of c.args.numbered) m first start 1 false (lines_followed script)) (g.W.Write.contents c.args.writer.now)
+    (Follows (front_of c.args.numbered) m before.0 before.1 c.loop-raw.number c.loop-raw.refused (lines_within (18446744073709551615 - c.loop-raw.number) read.0)) (g.W.Write.contents c.loop-raw.writer) (g.W.Write.contents c.no_memory.new.writer)
+    before.3 no_memory_text shown.1 status (wants (front_of c.args.numbered) c.loop-raw.number c.loop-raw.refused m before.0 before.1 (lines_within (18446744073709551615 - c.loop-raw.number) read.0) status shown.0))) c.no_memory.ensures.shown
 
 pub returns-in-Err-NoMemory-clause-tells : goal.returns-in-Err-NoMemory-clause-tells
 returns-in-Err-NoMemory-clause-tells g c =
     IfOk-weaker c.no_memory.result _ _ (λ status shown.
     some_by (lines_left g.R.Read.remaining c.args.lines.now) _ (λ script is h same.
     let read = c.loop-raw.invariant.read script is in
-    to_end (TellsFollowed (front_of c.args.numbered) h 1 false (lines_within 1048576 script)) (g.W.Write.contents c.args.writer.now)
-    (TellsFollowed (front_of c.args.numbered) h c.loop-raw.number c.loop-raw.refused (lines_within c.loop-raw.left read.0)) (g.W.Write.contents c.loop-raw.writer) (g.W.Write.contents c.no_memory.new.writer)
-    (read.2 h same) no_memory_text shown.1 status (tells_want (front_of c.args.numbered) c.loop-raw.number c.loop-raw.refused h (lines_within c.loop-raw.left read.0) status shown.0))) c.no_memory.ensures.shown
+    to_end (TellsFollowed (front_of c.args.numbered) h 1 false (lines_followed script)) (g.W.Write.contents c.args.writer.now)
+    (TellsFollowed (front_of c.args.numbered) h c.loop-raw.number c.loop-raw.refused (lines_within (18446744073709551615 - c.loop-raw.number) read.0)) (g.W.Write.contents c.loop-raw.writer) (g.W.Write.contents c.no_memory.new.writer)
+    (read.2 h same) no_memory_text shown.1 status (tells_want (front_of c.args.numbered) c.loop-raw.number c.loop-raw.refused h (lines_within (18446744073709551615 - c.loop-raw.number) read.0) status shown.0))) c.no_memory.ensures.shown
 
 nil_of : (xs : List ℕ) → length xs ≡ 0 → xs ≡ []
 nil_of [] e = refl
@@ -52,6 +52,9 @@ some_of : (n : ℕ) → false ≡ (n == 0) → 1 ≤ n
 some_of zero e = absurd cc
 some_of (suc n) e = omega arith
 
+zero_of : (n : ℕ) → true ≡ (n == 0) → n ≡ 0
+zero_of n e = eqb-true n 0 (sym e)
+
 none_left : (bytes rest : List ℕ) (count : ℕ) → bytes ≡ take_through 10 rest → count ≡ length bytes → true ≡ (count == 0) → rest ≡ []
 none_left bytes rest count through long none = none_through rest (sym through ∙ nil_of bytes (sym long ∙ eqb-true count 0 (sym none)))
 
@@ -59,92 +62,124 @@ pub returns-then-is_empty-clause-runs : goal.returns-then-is_empty-clause-runs
 returns-then-is_empty-clause-runs g c =
     some_by (lines_left g.R.Read.remaining c.args.lines.now) _ (λ script is m first start fits.
     let read = c.loop-raw.invariant.read script is in
-    let through = some_at (lines_left g.R.Read.remaining c.loop-raw.lines) read.0 (λ xs. c.in-Ok.raw.items ≡ take_through 10 xs) read.1 c.in-Ok.ensures.line in
+    let through = (some_at (lines_left g.R.Read.remaining c.loop-raw.lines) read.0 (λ xs. (c.in-Ok.raw.items ≡ take_through 10 xs) × (lines_left g.R.Read.remaining c.next.new.self ≡ Some (drop_through 10 xs))) read.1 (c.in-Ok.ensures.line (omega (arith, c.in-Ok.raw.ok.0, zero_of c.in-Ok.raw.len c.if-is_empty.ensures)))).0 in
     let none = none_left c.in-Ok.raw.items read.0 c.in-Ok.raw.len through c.in-Ok.raw.ok.0 c.if-is_empty.ensures in
     let before = read.3 m first start fits in
-    over (Follows (front_of c.args.numbered) m first start 1 false (lines_within 1048576 script)) (g.W.Write.contents c.args.writer.now)
-    (Follows (front_of c.args.numbered) m before.0 before.1 c.loop-raw.number c.loop-raw.refused (lines_within c.loop-raw.left read.0)) (g.W.Write.contents c.loop-raw.writer) c.status_of.result before.3
-    (subst (λ (rest : List ℕ). Follows (front_of c.args.numbered) m before.0 before.1 c.loop-raw.number c.loop-raw.refused (lines_within c.loop-raw.left rest) [] c.status_of.result) (sym none)
+    over (Follows (front_of c.args.numbered) m first start 1 false (lines_followed script)) (g.W.Write.contents c.args.writer.now)
+    (Follows (front_of c.args.numbered) m before.0 before.1 c.loop-raw.number c.loop-raw.refused (lines_within (18446744073709551615 - c.loop-raw.number) read.0)) (g.W.Write.contents c.loop-raw.writer) c.status_of.result before.3
+    (subst (λ (rest : List ℕ). Follows (front_of c.args.numbered) m before.0 before.1 c.loop-raw.number c.loop-raw.refused (lines_within (18446744073709551615 - c.loop-raw.number) rest) [] c.status_of.result) (sym none)
     (ends (front_of c.args.numbered) c.loop-raw.number c.loop-raw.refused m before.0 before.1 c.status_of.result c.status_of.ensures)))
 
 pub returns-then-is_empty-clause-tells : goal.returns-then-is_empty-clause-tells
 returns-then-is_empty-clause-tells g c =
     some_by (lines_left g.R.Read.remaining c.args.lines.now) _ (λ script is h same.
     let read = c.loop-raw.invariant.read script is in
-    let through = some_at (lines_left g.R.Read.remaining c.loop-raw.lines) read.0 (λ xs. c.in-Ok.raw.items ≡ take_through 10 xs) read.1 c.in-Ok.ensures.line in
+    let through = (some_at (lines_left g.R.Read.remaining c.loop-raw.lines) read.0 (λ xs. (c.in-Ok.raw.items ≡ take_through 10 xs) × (lines_left g.R.Read.remaining c.next.new.self ≡ Some (drop_through 10 xs))) read.1 (c.in-Ok.ensures.line (omega (arith, c.in-Ok.raw.ok.0, zero_of c.in-Ok.raw.len c.if-is_empty.ensures)))).0 in
     let none = none_left c.in-Ok.raw.items read.0 c.in-Ok.raw.len through c.in-Ok.raw.ok.0 c.if-is_empty.ensures in
-    over (TellsFollowed (front_of c.args.numbered) h 1 false (lines_within 1048576 script)) (g.W.Write.contents c.args.writer.now)
-    (TellsFollowed (front_of c.args.numbered) h c.loop-raw.number c.loop-raw.refused (lines_within c.loop-raw.left read.0)) (g.W.Write.contents c.loop-raw.writer) c.status_of.result (read.2 h same)
-    (subst (λ (rest : List ℕ). TellsFollowed (front_of c.args.numbered) h c.loop-raw.number c.loop-raw.refused (lines_within c.loop-raw.left rest) [] c.status_of.result) (sym none)
+    over (TellsFollowed (front_of c.args.numbered) h 1 false (lines_followed script)) (g.W.Write.contents c.args.writer.now)
+    (TellsFollowed (front_of c.args.numbered) h c.loop-raw.number c.loop-raw.refused (lines_within (18446744073709551615 - c.loop-raw.number) read.0)) (g.W.Write.contents c.loop-raw.writer) c.status_of.result (read.2 h same)
+    (subst (λ (rest : List ℕ). TellsFollowed (front_of c.args.numbered) h c.loop-raw.number c.loop-raw.refused (lines_within (18446744073709551615 - c.loop-raw.number) rest) [] c.status_of.result) (sym none)
     (tells_end (front_of c.args.numbered) c.loop-raw.number c.loop-raw.refused h c.status_of.result c.status_of.ensures)))
 
-cut_off : (bytes rest : List ℕ) (left count : ℕ) → bytes ≡ take_through 10 rest → count ≡ length bytes → left < count → lines_within left rest ≡ None ∷ []
-cut_off bytes rest left count through long many = line_passes left [] rest (omega (arith, ap length through, long, many))
-
-pub returns-then-len-left-clause-runs : goal.returns-then-len-left-clause-runs
-returns-then-len-left-clause-runs g c =
+pub returns-then-len-gt-LONGEST-clause-runs : goal.returns-then-len-gt-LONGEST-clause-runs
+returns-then-len-gt-LONGEST-clause-runs g c =
     IfOk-weaker c.too_long.result _ _ (λ status shown.
     some_by (lines_left g.R.Read.remaining c.args.lines.now) _ (λ script is m first start fits.
     let read = c.loop-raw.invariant.read script is in
-    let through = some_at (lines_left g.R.Read.remaining c.loop-raw.lines) read.0 (λ xs. c.in-Ok.raw.items ≡ take_through 10 xs) read.1 c.in-Ok.ensures.line in
-    let cut = cut_off c.in-Ok.raw.items read.0 c.loop-raw.left c.in-Ok.raw.len through c.in-Ok.raw.ok.0 (omega (arith, c.if-len-left.true, c.len.ensures)) in
+    let cut = line_passes (18446744073709551615 - c.loop-raw.number) 1048576 [] read.0
+    (some_at (lines_left g.R.Read.remaining c.loop-raw.lines) read.0 (λ xs. 1048576 < length (take_through 10 xs)) read.1 (c.in-Ok.ensures.long (omega (arith, c.in-Ok.raw.ok.0, c.if-len-gt-LONGEST.true, c.len.ensures)))) in
     let before = read.3 m first start fits in
-    to_end (Follows (front_of c.args.numbered) m first start 1 false (lines_within 1048576 script)) (g.W.Write.contents c.args.writer.now)
-    (Follows (front_of c.args.numbered) m before.0 before.1 c.loop-raw.number c.loop-raw.refused (lines_within c.loop-raw.left read.0)) (g.W.Write.contents c.loop-raw.writer) (g.W.Write.contents c.too_long.new.writer)
+    to_end (Follows (front_of c.args.numbered) m first start 1 false (lines_followed script)) (g.W.Write.contents c.args.writer.now)
+    (Follows (front_of c.args.numbered) m before.0 before.1 c.loop-raw.number c.loop-raw.refused (lines_within (18446744073709551615 - c.loop-raw.number) read.0)) (g.W.Write.contents c.loop-raw.writer) (g.W.Write.contents c.too_long.new.writer)
     before.3 too_long_text shown.1 status
     (subst (λ (lines : List (Option (List ℕ))). Follows (front_of c.args.numbered) m before.0 before.1 c.loop-raw.number c.loop-raw.refused lines too_long_text status) (sym cut)
     (passes_limit (front_of c.args.numbered) c.loop-raw.number c.loop-raw.refused m before.0 before.1 status shown.0)))) c.too_long.ensures.shown
 
-pub returns-then-len-left-clause-tells : goal.returns-then-len-left-clause-tells
-returns-then-len-left-clause-tells g c =
+pub returns-then-len-gt-LONGEST-clause-tells : goal.returns-then-len-gt-LONGEST-clause-tells
+returns-then-len-gt-LONGEST-clause-tells g c =
     IfOk-weaker c.too_long.result _ _ (λ status shown.
     some_by (lines_left g.R.Read.remaining c.args.lines.now) _ (λ script is h same.
     let read = c.loop-raw.invariant.read script is in
-    let through = some_at (lines_left g.R.Read.remaining c.loop-raw.lines) read.0 (λ xs. c.in-Ok.raw.items ≡ take_through 10 xs) read.1 c.in-Ok.ensures.line in
-    let cut = cut_off c.in-Ok.raw.items read.0 c.loop-raw.left c.in-Ok.raw.len through c.in-Ok.raw.ok.0 (omega (arith, c.if-len-left.true, c.len.ensures)) in
-    to_end (TellsFollowed (front_of c.args.numbered) h 1 false (lines_within 1048576 script)) (g.W.Write.contents c.args.writer.now)
-    (TellsFollowed (front_of c.args.numbered) h c.loop-raw.number c.loop-raw.refused (lines_within c.loop-raw.left read.0)) (g.W.Write.contents c.loop-raw.writer) (g.W.Write.contents c.too_long.new.writer)
+    let cut = line_passes (18446744073709551615 - c.loop-raw.number) 1048576 [] read.0
+    (some_at (lines_left g.R.Read.remaining c.loop-raw.lines) read.0 (λ xs. 1048576 < length (take_through 10 xs)) read.1 (c.in-Ok.ensures.long (omega (arith, c.in-Ok.raw.ok.0, c.if-len-gt-LONGEST.true, c.len.ensures)))) in
+    to_end (TellsFollowed (front_of c.args.numbered) h 1 false (lines_followed script)) (g.W.Write.contents c.args.writer.now)
+    (TellsFollowed (front_of c.args.numbered) h c.loop-raw.number c.loop-raw.refused (lines_within (18446744073709551615 - c.loop-raw.number) read.0)) (g.W.Write.contents c.loop-raw.writer) (g.W.Write.contents c.too_long.new.writer)
     (read.2 h same) too_long_text shown.1 status
     (subst (λ (lines : List (Option (List ℕ))). TellsFollowed (front_of c.args.numbered) h c.loop-raw.number c.loop-raw.refused lines too_long_text status) (sym cut)
     (tells_limit (front_of c.args.numbered) c.loop-raw.number c.loop-raw.refused h status shown.0)))) c.too_long.ensures.shown
 
-comes : (bytes rest line behind : List ℕ) (left count : ℕ) → bytes ≡ take_through 10 rest → count ≡ length bytes → count ≤ left → script_lines bytes ≡ line ∷ script_lines behind
-    → lines_within left rest ≡ Some line ∷ lines_within (left - count) (drop_through 10 rest)
-comes bytes rest line behind left count through long few lines =
+-- behind the last number no line comes
+none_numbered : (bytes rest : List ℕ) (number count : ℕ) → number ≡ 18446744073709551615 → bytes ≡ take_through 10 rest → count ≡ length bytes → 1 ≤ count → lines_within (18446744073709551615 - number) rest ≡ None ∷ []
+none_numbered bytes rest number count last through long some =
+    let none : 18446744073709551615 - number ≡ 0 = omega (arith, last) in
+    ap (λ (n : ℕ). lines_within n rest) none
+    ∙ none_comes 1048576 [] rest (λ empty. (let no : length bytes ≡ 0 = ap length (through ∙ ap (take_through 10) empty) in absurd (omega (arith, no, long, some))))
+
+pub returns-then-number-clause-runs : goal.returns-then-number-clause-runs
+returns-then-number-clause-runs g c =
+    IfOk-weaker c.too_long-then-number.result _ _ (λ status shown.
+    some_by (lines_left g.R.Read.remaining c.args.lines.now) _ (λ script is m first start fits.
+    let read = c.loop-raw.invariant.read script is in
+    let through = (some_at (lines_left g.R.Read.remaining c.loop-raw.lines) read.0 (λ xs. (c.in-Ok.raw.items ≡ take_through 10 xs) × (lines_left g.R.Read.remaining c.next.new.self ≡ Some (drop_through 10 xs))) read.1 (c.in-Ok.ensures.line (omega (arith, c.in-Ok.raw.ok.0, c.if-len-gt-LONGEST.false, c.len.ensures)))).0 in
+    let cut = none_numbered c.in-Ok.raw.items read.0 c.loop-raw.number c.in-Ok.raw.len (omega (arith, c.if-number.true)) through c.in-Ok.raw.ok.0 (some_of c.in-Ok.raw.len c.if-is_empty.ensures) in
+    let before = read.3 m first start fits in
+    to_end (Follows (front_of c.args.numbered) m first start 1 false (lines_followed script)) (g.W.Write.contents c.args.writer.now)
+    (Follows (front_of c.args.numbered) m before.0 before.1 c.loop-raw.number c.loop-raw.refused (lines_within (18446744073709551615 - c.loop-raw.number) read.0)) (g.W.Write.contents c.loop-raw.writer) (g.W.Write.contents c.too_long-then-number.new.writer)
+    before.3 too_long_text shown.1 status
+    (subst (λ (lines : List (Option (List ℕ))). Follows (front_of c.args.numbered) m before.0 before.1 c.loop-raw.number c.loop-raw.refused lines too_long_text status) (sym cut)
+    (passes_limit (front_of c.args.numbered) c.loop-raw.number c.loop-raw.refused m before.0 before.1 status shown.0)))) c.too_long-then-number.ensures.shown
+
+pub returns-then-number-clause-tells : goal.returns-then-number-clause-tells
+returns-then-number-clause-tells g c =
+    IfOk-weaker c.too_long-then-number.result _ _ (λ status shown.
+    some_by (lines_left g.R.Read.remaining c.args.lines.now) _ (λ script is h same.
+    let read = c.loop-raw.invariant.read script is in
+    let through = (some_at (lines_left g.R.Read.remaining c.loop-raw.lines) read.0 (λ xs. (c.in-Ok.raw.items ≡ take_through 10 xs) × (lines_left g.R.Read.remaining c.next.new.self ≡ Some (drop_through 10 xs))) read.1 (c.in-Ok.ensures.line (omega (arith, c.in-Ok.raw.ok.0, c.if-len-gt-LONGEST.false, c.len.ensures)))).0 in
+    let cut = none_numbered c.in-Ok.raw.items read.0 c.loop-raw.number c.in-Ok.raw.len (omega (arith, c.if-number.true)) through c.in-Ok.raw.ok.0 (some_of c.in-Ok.raw.len c.if-is_empty.ensures) in
+    to_end (TellsFollowed (front_of c.args.numbered) h 1 false (lines_followed script)) (g.W.Write.contents c.args.writer.now)
+    (TellsFollowed (front_of c.args.numbered) h c.loop-raw.number c.loop-raw.refused (lines_within (18446744073709551615 - c.loop-raw.number) read.0)) (g.W.Write.contents c.loop-raw.writer) (g.W.Write.contents c.too_long-then-number.new.writer)
+    (read.2 h same) too_long_text shown.1 status
+    (subst (λ (lines : List (Option (List ℕ))). TellsFollowed (front_of c.args.numbered) h c.loop-raw.number c.loop-raw.refused lines too_long_text status) (sym cut)
+    (tells_limit (front_of c.args.numbered) c.loop-raw.number c.loop-raw.refused h status shown.0)))) c.too_long-then-number.ensures.shown
+
+comes : (bytes rest line behind : List ℕ) (number count : ℕ) → (number ≡ 18446744073709551615 → ⊥) → number ≤ 18446744073709551615 → bytes ≡ take_through 10 rest → count ≡ length bytes → count ≤ 1048576
+    → script_lines bytes ≡ line ∷ script_lines behind → lines_within (18446744073709551615 - number) rest ≡ Some line ∷ lines_within (18446744073709551615 - (number + 1)) (drop_through 10 rest)
+comes bytes rest line behind number count not most through long few lines =
     let same : length (take_through 10 rest) ≡ count = ap length (sym through) ∙ sym long in
-    line_comes left [] rest line (script_lines behind) (ap script_lines (sym through) ∙ lines) (omega (arith, same, few))
-    ∙ ap (λ (n : ℕ). Some line ∷ lines_within (left - n) (drop_through 10 rest)) same
+    let more : 18446744073709551615 - number ≡ suc (18446744073709551615 - (number + 1)) = omega (arith, not, most) in
+    ap (λ (n : ℕ). lines_within n rest) more
+    ∙ line_comes (18446744073709551615 - (number + 1)) 1048576 [] rest line (script_lines behind) (ap script_lines (sym through) ∙ lines) (omega (arith, same, few))
 
 pub returns-in-Ends-clause-runs : goal.returns-in-Ends-clause-runs
 returns-in-Ends-clause-runs g c =
     some_by (lines_left g.R.Read.remaining c.args.lines.now) _ (λ script is m first start fits.
     let read = c.loop-raw.invariant.read script is in
-    let through = some_at (lines_left g.R.Read.remaining c.loop-raw.lines) read.0 (λ xs. c.in-Ok.raw.items ≡ take_through 10 xs) read.1 c.in-Ok.ensures.line in
+    let through = (some_at (lines_left g.R.Read.remaining c.loop-raw.lines) read.0 (λ xs. (c.in-Ok.raw.items ≡ take_through 10 xs) × (lines_left g.R.Read.remaining c.next.new.self ≡ Some (drop_through 10 xs))) read.1 (c.in-Ok.ensures.line (omega (arith, c.in-Ok.raw.ok.0, c.if-len-gt-LONGEST.false, c.len.ensures)))).0 in
     let line = c.first_line.result.0.now in
-    let come = comes c.in-Ok.raw.items read.0 line c.first_line.result.1.now c.loop-raw.left c.in-Ok.raw.len through c.in-Ok.raw.ok.0 (omega (arith, c.if-len-left.false, c.len.ensures))
+    let come = comes c.in-Ok.raw.items read.0 line c.first_line.result.1.now c.loop-raw.number c.in-Ok.raw.len c.if-number.false c.loop-raw.invariant.count.1 through c.in-Ok.raw.ok.0 (omega (arith, c.if-len-gt-LONGEST.false, c.len.ensures))
     (ap script_lines (sym c.deref.ensures.value) ∙ c.first_line.ensures.lines) in
     let before = read.3 m first start fits in
     let end = (rw c.in-Ends.is at c.in_ok-was.ensures.leaves).1 m before.0 before.1 before.2 in
-    to_end (Follows (front_of c.args.numbered) m first start 1 false (lines_within 1048576 script)) (g.W.Write.contents c.args.writer.now)
-    (Follows (front_of c.args.numbered) m before.0 before.1 c.loop-raw.number c.loop-raw.refused (lines_within c.loop-raw.left read.0)) (g.W.Write.contents c.loop-raw.writer) (g.W.Write.contents c.run_line.new.writer)
+    to_end (Follows (front_of c.args.numbered) m first start 1 false (lines_followed script)) (g.W.Write.contents c.args.writer.now)
+    (Follows (front_of c.args.numbered) m before.0 before.1 c.loop-raw.number c.loop-raw.refused (lines_within (18446744073709551615 - c.loop-raw.number) read.0)) (g.W.Write.contents c.loop-raw.writer) (g.W.Write.contents c.run_line.new.writer)
     before.3 (front_of c.args.numbered c.loop-raw.number ++ end.0) end.2 c.in-Ends.status
     (subst (λ (lines : List (Option (List ℕ))). Follows (front_of c.args.numbered) m before.0 before.1 c.loop-raw.number c.loop-raw.refused lines (front_of c.args.numbered c.loop-raw.number ++ end.0) c.in-Ends.status) (sym come)
-    (breaks_off (front_of c.args.numbered) c.loop-raw.number c.loop-raw.refused m before.0 before.1 line end.0 (lines_within (c.loop-raw.left - c.in-Ok.raw.len) (drop_through 10 read.0)) c.in-Ends.status end.1)))
+    (breaks_off (front_of c.args.numbered) c.loop-raw.number c.loop-raw.refused m before.0 before.1 line end.0 (lines_within (18446744073709551615 - (c.loop-raw.number + 1)) (drop_through 10 read.0)) c.in-Ends.status end.1)))
 
 pub returns-in-Ends-clause-tells : goal.returns-in-Ends-clause-tells
 returns-in-Ends-clause-tells g c =
     some_by (lines_left g.R.Read.remaining c.args.lines.now) _ (λ script is h same.
     let read = c.loop-raw.invariant.read script is in
-    let through = some_at (lines_left g.R.Read.remaining c.loop-raw.lines) read.0 (λ xs. c.in-Ok.raw.items ≡ take_through 10 xs) read.1 c.in-Ok.ensures.line in
+    let through = (some_at (lines_left g.R.Read.remaining c.loop-raw.lines) read.0 (λ xs. (c.in-Ok.raw.items ≡ take_through 10 xs) × (lines_left g.R.Read.remaining c.next.new.self ≡ Some (drop_through 10 xs))) read.1 (c.in-Ok.ensures.line (omega (arith, c.in-Ok.raw.ok.0, c.if-len-gt-LONGEST.false, c.len.ensures)))).0 in
     let line = c.first_line.result.0.now in
-    let come = comes c.in-Ok.raw.items read.0 line c.first_line.result.1.now c.loop-raw.left c.in-Ok.raw.len through c.in-Ok.raw.ok.0 (omega (arith, c.if-len-left.false, c.len.ensures))
+    let come = comes c.in-Ok.raw.items read.0 line c.first_line.result.1.now c.loop-raw.number c.in-Ok.raw.len c.if-number.false c.loop-raw.invariant.count.1 through c.in-Ok.raw.ok.0 (omega (arith, c.if-len-gt-LONGEST.false, c.len.ensures))
     (ap script_lines (sym c.deref.ensures.value) ∙ c.first_line.ensures.lines) in
     let end = rw c.in-Ends.is at (c.in_ok-was.ensures.tells h (c.loop-raw.invariant.geometry ∙ same)) in
-    to_end (TellsFollowed (front_of c.args.numbered) h 1 false (lines_within 1048576 script)) (g.W.Write.contents c.args.writer.now)
-    (TellsFollowed (front_of c.args.numbered) h c.loop-raw.number c.loop-raw.refused (lines_within c.loop-raw.left read.0)) (g.W.Write.contents c.loop-raw.writer) (g.W.Write.contents c.run_line.new.writer)
+    to_end (TellsFollowed (front_of c.args.numbered) h 1 false (lines_followed script)) (g.W.Write.contents c.args.writer.now)
+    (TellsFollowed (front_of c.args.numbered) h c.loop-raw.number c.loop-raw.refused (lines_within (18446744073709551615 - c.loop-raw.number) read.0)) (g.W.Write.contents c.loop-raw.writer) (g.W.Write.contents c.run_line.new.writer)
     (read.2 h same) end.0 end.2 c.in-Ends.status
     (subst (λ (lines : List (Option (List ℕ))). TellsFollowed (front_of c.args.numbered) h c.loop-raw.number c.loop-raw.refused lines end.0 c.in-Ends.status) (sym come)
-    (tells_off (front_of c.args.numbered) c.loop-raw.number c.loop-raw.refused h line end.0 (lines_within (c.loop-raw.left - c.in-Ok.raw.len) (drop_through 10 read.0)) c.in-Ends.status end.1)))
+    (tells_off (front_of c.args.numbered) c.loop-raw.number c.loop-raw.refused h line end.0 (lines_within (18446744073709551615 - (c.loop-raw.number + 1)) (drop_through 10 read.0)) c.in-Ends.status end.1)))
 
 pub loop-raw-preserved : goal.loop-raw-preserved
 loop-raw-preserved g c =
@@ -156,26 +191,24 @@ loop-raw-preserved g c =
     let held = g.W.Write.contents c.args.writer.now in
     let mid = g.W.Write.contents c.loop-raw.writer in
     let holds = g.W.Write.contents c.run_line.new.writer in
-    let few : c.in-Ok.raw.len ≤ c.loop-raw.left = omega (arith, c.if-len-left.false, c.len.ensures) in
-    let less : c.loop-raw.left - c.in-Ok.raw.len ≡ c.loop-raw.left - c.len-left.result = omega (arith, c.len-left.ensures) in
+    let few : c.in-Ok.raw.len ≤ 1048576 = omega (arith, c.if-len-gt-LONGEST.false, c.len.ensures) in
+    let short : length c.in-Ok.raw.items ≤ 1048576 = omega (arith, c.in-Ok.raw.ok.0, few) in
     record {
-      count = omega (arith, c.loop-raw.invariant.count, some_of c.in-Ok.raw.len c.if-is_empty.ensures, few, c.len-left.ensures);
+      count = (omega (arith, c.loop-raw.invariant.count.0), omega (arith, c.loop-raw.invariant.count.1, c.if-number.false));
       geometry = c.run_line.ensures.geometry ∙ c.loop-raw.invariant.geometry;
       read = λ script is.
           let read = c.loop-raw.invariant.read script is in
-          let through = some_at (lines_left g.R.Read.remaining c.loop-raw.lines) read.0 (λ xs. c.in-Ok.raw.items ≡ take_through 10 xs) read.1 c.in-Ok.ensures.line in
+          let both = some_at (lines_left g.R.Read.remaining c.loop-raw.lines) read.0 (λ xs. (c.in-Ok.raw.items ≡ take_through 10 xs) × (lines_left g.R.Read.remaining c.next.new.self ≡ Some (drop_through 10 xs))) read.1 (c.in-Ok.ensures.line short) in
           let rest = drop_through 10 read.0 in
-          let behind = some_at (lines_left g.R.Read.remaining c.loop-raw.lines) read.0 (λ xs. lines_left g.R.Read.remaining c.next.new.self ≡ Some (drop_through 10 xs)) read.1 c.in-Ok.ensures.rest in
-          let come : lines_within c.loop-raw.left read.0 ≡ Some line ∷ lines_within (c.loop-raw.left - c.len-left.result) rest =
-          comes c.in-Ok.raw.items read.0 line c.first_line.result.1.now c.loop-raw.left c.in-Ok.raw.len through c.in-Ok.raw.ok.0 few
-          (ap script_lines (sym c.deref.ensures.value) ∙ c.first_line.ensures.lines)
-          ∙ ap (λ (n : ℕ). Some line ∷ lines_within n rest) less in
-          let lines = lines_within (c.loop-raw.left - c.len-left.result) rest in (
+          let come : lines_within (18446744073709551615 - c.loop-raw.number) read.0 ≡ Some line ∷ lines_within (18446744073709551615 - (number + 1)) rest =
+          comes c.in-Ok.raw.items read.0 line c.first_line.result.1.now c.loop-raw.number c.in-Ok.raw.len c.if-number.false c.loop-raw.invariant.count.1 both.0 c.in-Ok.raw.ok.0 few
+          (ap script_lines (sym c.deref.ensures.value) ∙ c.first_line.ensures.lines) in
+          let lines = lines_within (18446744073709551615 - (number + 1)) rest in (
             rest,
-            behind,
+            both.1,
             (λ h same.
                 let goes = rw c.in-Goes.is at (c.in_ok-was.ensures.tells h (c.loop-raw.invariant.geometry ∙ same)) in
-                further (TellsFollowed front h 1 false (lines_within 1048576 script)) held (TellsFollowed front h number refused (lines_within c.loop-raw.left read.0)) mid holds (read.2 h same) goes.0 goes.2
+                further (TellsFollowed front h 1 false (lines_followed script)) held (TellsFollowed front h number refused (lines_within (18446744073709551615 - c.loop-raw.number) read.0)) mid holds (read.2 h same) goes.0 goes.2
                 (TellsFollowed front h (number + 1) (refused || was) lines)
                 (λ after status run. subst (λ (ls : List (Option (List ℕ))). TellsFollowed front h number refused ls (goes.0 ++ after) status) (sym come)
                 (tells_further front number refused h line goes.0 was lines after status goes.1 run))),
@@ -185,7 +218,7 @@ loop-raw-preserved g c =
                   goes.0,
                   goes.1,
                   goes.3,
-                  further (Follows front m first start 1 false (lines_within 1048576 script)) held (Follows front m before.0 before.1 number refused (lines_within c.loop-raw.left read.0)) mid holds before.3
+                  further (Follows front m first start 1 false (lines_followed script)) held (Follows front m before.0 before.1 number refused (lines_within (18446744073709551615 - c.loop-raw.number) read.0)) mid holds before.3
                       (fronted front number line ++ goes.2.0) goes.2.2 (Follows front m goes.0 goes.1 (number + 1) (refused || was) lines)
                       (λ after status run. subst (λ (ls : List (Option (List ℕ))). Follows front m before.0 before.1 number refused ls ((fronted front number line ++ goes.2.0) ++ after) status) (sym come)
                       (goes_further front number refused m before.0 before.1 line goes.2.0 was goes.0 goes.1 lines after status goes.2.1 run)),

@@ -1,4 +1,4 @@
-use Rattle.std.proofs.Common.{◌∙◌, ap, inr, map, rules}
+use Rattle.std.proofs.Common.{◌∙◌, ap, map, rules}
 use Rattle.std.proofs.lemmas.Result.{IfOk-weaker}
 use Rattle.clap.specs.Words.{is_simple_and_free}
 use Rattle.clap.specs.declared.error.kind.ErrorKind.TheVariants.{DisplayHelp, DisplayVersion}
@@ -26,5 +26,5 @@ returns-in-DisplayVersion g c =
 pub returns : goal.returns
 returns g c =
     let is = c.in_ok-command.ensures in
-    inr (has_other_fault c.in_ok-command.command (map g.S.AsStr.text c.args.words.now) _ c.kind.result is c.kind.ensures c.in_default.not-OutOfMemory c.in_default.not-DisplayHelp c.in_default.not-DisplayVersion
+    (has_other_fault c.in_ok-command.command (map g.S.AsStr.text c.args.words.now) _ c.kind.result is c.kind.ensures c.in_default.not-OutOfMemory c.in_default.not-DisplayHelp c.in_default.not-DisplayVersion
     (c.in-Err.ensures.kinds (ap is_simple_and_free is ∙ program_is_free)))

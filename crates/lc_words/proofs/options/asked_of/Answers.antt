@@ -13,4 +13,5 @@ returns-in_default-name c =
       λ rows is size word. other.not-check (name _ rows c.in-Some.ensures.name is),
       λ rows is word segment page. other.not-dump (name _ rows c.in-Some.ensures.name is),
       λ rows is word. other.not-draw (name _ rows c.in-Some.ensures.name is),
+      λ rows is size word to. other.not-copy (name _ rows c.in-Some.ensures.name is),
     )

@@ -1,6 +1,6 @@
 use Rattle.std.proofs.lemmas.Result.{IfOk-weaker}
 use Rattle.clap.specs.Words.{App, with_subcommand}
-use Rattle.lc_words.specs.CommandLine.{check_app, draw_app, dump_app, init_app, inspect_app, lines_app, recover_app, run_app, top_app}
+use Rattle.lc_words.specs.CommandLine.{check_app, copy_app, draw_app, dump_app, init_app, inspect_app, lines_app, recover_app, run_app, top_app}
 use Rattle.lc_words.proofs.program.program.Goals as goal
 
 pub returns : goal.returns
@@ -19,4 +19,6 @@ returns c =
     let like_five = c.in_ok-command-5.ensures four lines_app like_four c.lines.ensures in
     let like_six = c.in_ok-command-6.ensures five check_app like_five c.check.ensures in
     let like_seven = c.in_ok-command-7.ensures six dump_app like_six c.dump.ensures in
-    IfOk-weaker c.with_subcommand-8.result _ _ (λ m like. like.0) (c.with_subcommand-8.ensures seven draw_app like_seven c.draw.ensures)
+    let eight : App = with_subcommand seven draw_app.top in
+    let like_eight = c.in_ok-command-8.ensures seven draw_app like_seven c.draw.ensures in
+    IfOk-weaker c.with_subcommand-9.result _ _ (λ m like. like.0) (c.with_subcommand-9.ensures eight copy_app like_eight c.copy.ensures)
