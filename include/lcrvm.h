@@ -1,35 +1,40 @@
-/* Recoverable virtual memory from C, by C11 and POSIX.
+/* Recoverable virtual memory from C, by C11 and POSIX: transactions on bytes that outlive a crash, in the program's
+   own process.
 
-   Two files have these calls, and a program links one of them:
+   A store is a folder of files. It has segments, which are bytes in pages of 256, numbered from 1. A transaction
+   locks segments, says which bytes it is about to change, writes them, and commits. A commit appends a record to the
+   log of a node; a flush makes the records stable; a truncation writes the pages and empties the log. Most programs
+   have one node, number 0, and need lcrvm_open, lcrvm_begin, lcrvm_put, lcrvm_read, lcrvm_commit, lcrvm_abort and
+   lcrvm_close.
 
-   - clients/c/lcrvm.c, the client: the store is in a process beside. lcrvm_open starts `lcrvm run --follow` on the
-   store in a folder and speaks its script lines.
-   - clients/c/embedded.c with liblc_c.a, the library: the store is in the program's own process, which reads and writes
-   the files of the folder itself.
+   Answers. Each call answers LCRVM_OK, or why it did nothing; lcrvm_fault_of has the fields.
 
-   The files are the same, so what one leaves the other opens. What is said here holds for both where it names neither.
-   A call answers LCRVM_OK, or why it did nothing:
+   - LCRVM_DOWN to LCRVM_READ_ONLY, but for LCRVM_DEVICE_FAULT: the store refused the call. Nothing has changed, and
+     the store goes on.
+   - LCRVM_NO_MEMORY, LCRVM_MISUSE: nothing has changed, and the store goes on.
+   - LCRVM_DEVICE_FAULT of an open store: a file failed, and the store is over; each later call answers the same.
+     Whether a commit that was not acknowledged is there, only the next lcrvm_open tells. Of lcrvm_copy see there.
+   - LCRVM_FORKED: this process is a forked child of the one that opened the store.
 
-   - LCRVM_DOWN to LCRVM_READ_ONLY but LCRVM_DEVICE_FAULT: the store refused the call. Nothing has changed, and the
-   store goes on.
-   - LCRVM_SPENT, of the client: the lines of this run are used up. What is open can still be ended or aborted, flushed
-   and closed.
-   - LCRVM_NO_MEMORY of the library: nothing has changed, and the store goes on.
-   - The others: the store is over, and with it the client's run; each later call answers the same.
+   Numbers. Offsets and lengths are in bytes, places and lengths in a log in words of 8 bytes, times in milliseconds.
+   Of no segments, or of no bytes, the pointer may be NULL. A store that is NULL, and a pointer that is NULL and may
+   not be, are LCRVM_MISUSE.
 
-   lcrvm_fault_of has the fields of the last answer that was not LCRVM_OK. DIED, NOT_STARTED, NOT_A_REPLY and SPENT are
-   of a run of the program, so the library never answers them.
+   Threads. Each call may come from any thread, but none on a store after its lcrvm_close has begun. A transaction is
+   used by one thread at a time, and stays open where its thread ends. Threads that flush at once share one flush, and
+   others commit in memory while it waits for the device. What a transaction reads may be of a commit that is not
+   stable yet: an end with `flush` makes stable all that it may have seen. No thread may be cancelled within a call.
 
-   The client sends lines ahead that cannot be refused, and reads their replies with the next one that is waited for: a
-   begin, a set_range, a write and an end together are one write and one read. A line that it is not sure of is waited
-   for, so a refusal is answered by the very call that it is of. In the library a call is done when it answers.
+   Forks. A child of fork closes its copies of the descriptors, and each of its calls on the store answers
+   LCRVM_FORKED; it may open stores of its own. The parent's store goes on, and its locks end with the parent, also
+   where the child lives. A fork waits for no call: at most until a file is opened or closed. A child that is made by
+   vfork or posix_spawn calls nothing before its exec.
 
-   In the client no call takes memory but lcrvm_open and lcrvm_create. In the library lcrvm_open does, and set_range,
-   end_transaction and deliver may. A store is used by one thread at a time, and that of the library by no child of a
-   fork.
+   Signals. No call may come from a signal's handler. A call that a signal interrupts goes on.
 
-   cc -std=c11 -Wall -Wextra -O2 -c clients/c/lcrvm.c
-   cc -std=c11 -Wall -Wextra -O2 -c clients/c/embedded.c */
+   Memory. lcrvm_create, lcrvm_open and lcrvm_copy take memory; lcrvm_set_range, lcrvm_put, lcrvm_deliver and commits
+   may. Of a transaction beside which a log was emptied the next set_range, put, write, read or commit may too. All
+   that a store has taken is given back by lcrvm_close. */
 #ifndef LCRVM_H
 #define LCRVM_H
 
@@ -44,12 +49,12 @@ extern "C" {
 enum lcrvm_status {
     LCRVM_OK = 0,
 
-    /* Refusals, by their numbers. Behind each are its fields. */
+    /* Refusals, by their numbers. After the colon are the fields of the fault that each has. */
     LCRVM_DOWN = 1,             /* the store is down */
     LCRVM_UNKNOWN = 2,          /* a number is outside the geometry, or no record has it */
     LCRVM_HALTED = 3,           /* a device of the node has failed */
     LCRVM_OUT_OF_TURN = 4,      /* a transaction is open already, or none is; so it is with tokens */
-    LCRVM_BUSY = 5,             /* another transaction has the segment's lock: segment */
+    LCRVM_BUSY = 5,             /* another transaction has the segment's lock: segment, or 0 where no thread is free */
     LCRVM_NOT_HERE = 6,         /* the segment's token is not at the node: segment */
     LCRVM_NOT_LOCKED = 7,       /* the transaction did not lock the segment */
     LCRVM_EMPTY_RANGE = 8,      /* the range has no bytes */
@@ -59,7 +64,7 @@ enum lcrvm_status {
     LCRVM_SEQUENCE_SPENT = 12,  /* the segment has had its last number: segment */
     LCRVM_TOO_LONG = 13,        /* the record would have more than 4,096 words: words */
     LCRVM_SEALED = 14,          /* the log is being emptied */
-    LCRVM_FULL = 15,            /* the log has no room, and the transaction is still open: tail, need */
+    LCRVM_FULL = 15,            /* the log has no room and could not be emptied: tail, need */
     LCRVM_HELD = 16,            /* a transaction holds the segment */
     LCRVM_WRITING = 17,         /* a page of the segment is being written */
     LCRVM_UNFLUSHED = 18,       /* a record of the node is not stable */
@@ -68,24 +73,19 @@ enum lcrvm_status {
     LCRVM_NOT_NEWER = 21,       /* the page on the device has all of the segment's numbers */
     LCRVM_UNCLEAN = 22,         /* a record of the log may not be on the pages: segment, sequence */
     LCRVM_ROUNDS_SPENT = 23,    /* the log has had its last round */
-    LCRVM_DEVICE_FAULT = 24,    /* a file failed, or could not be made or opened; the store is over: text */
+    LCRVM_DEVICE_FAULT = 24,    /* a file failed, or could not be made or opened: text */
     LCRVM_BAD_GEOMETRY = 25,    /* an area has another length, or a record in it is of another node: area; or the folder
                                    states another size, whose files differ from that area on: area, text */
     LCRVM_TWICE = 26,           /* two records have the same number: segment, sequence */
     LCRVM_GAP = 27,             /* a number is missing: segment, sequence */
     LCRVM_READ_ONLY = 28,       /* the segment is locked for reading alone: segment */
 
-    /* The store is over, but for NO_MEMORY of the library. */
-    LCRVM_NO_MEMORY = 64, /* the program had no memory, or the library none for this call */
-    LCRVM_STORE_IN_USE,   /* the store is open already, or one of its files by another folder: text */
-    LCRVM_DIED,           /* of the client: the program ended by itself: exit_status, signal, text */
-    LCRVM_NOT_STARTED,    /* of the client: the program could not be started: text */
-    LCRVM_NOT_A_REPLY,    /* of the client: the program printed what is no reply to its line: text */
-    LCRVM_NO_STORE,       /* the files do not fit together, so there is no store as found: text */
-
-    LCRVM_SPENT = 96,   /* of the client: the lines of this run are used up; the store goes on */
-    LCRVM_EXISTS,       /* of lcrvm_create: something stands under a name that a store has: text */
-    LCRVM_CLIENT_MEMORY /* lcrvm_open or lcrvm_create had no memory of its own */
+    LCRVM_NO_MEMORY = 64,    /* there is no memory for this call */
+    LCRVM_STORE_IN_USE = 65, /* the store is open already, or one of its files by another folder: text */
+    LCRVM_NO_STORE = 66,     /* the files do not fit together, so there is no store as found: text */
+    LCRVM_EXISTS = 67,       /* something stands under a name that a store has: text */
+    LCRVM_MISUSE = 68,       /* an argument is NULL that may not be */
+    LCRVM_FORKED = 69        /* the store is that of a process of which this one is a forked child */
 };
 
 /* Why a call did nothing. Fields that its status does not name are 0, and the text is empty. */
@@ -93,29 +93,24 @@ struct lcrvm_fault {
     enum lcrvm_status status;
     bool has_area; /* of LCRVM_OUT_OF_SEGMENT, which may have an area or none */
     uint64_t segment, sequence, applied, area, words, tail, need;
-    int exit_status, signal;
-    /* The system's reason, behind the name of the file that failed, and a line of each other file that something is to
-       be said of; of the client what the program said on standard error, or the line that is no reply. Cut short. */
+    /* The name of the file that failed and the system's reason, and a line of each other file that something is to be
+       said of. Cut short. */
     char text[256];
 };
 
 /* How large a store is. */
 struct lcrvm_geometry {
     uint32_t nodes;    /* 1 to 8 */
-    uint32_t threads;  /* of a node: 1 to 16 */
+    uint32_t threads;  /* of a node, as many transactions as may be open there: 1 to 16 */
     uint32_t segments; /* 1 to 16 */
     uint32_t pages;    /* of a segment, 256 bytes each: 1 to 1024 */
     uint32_t words;    /* of a log, 8 bytes each: 64 to 4096 */
 };
 
 struct lcrvm_options {
-    /* NULL: lcrvm, as the path has it. The library does not read it. */
-    const char *program;
-    /* NULL: as the files say; of lcrvm_create the least. */
+    /* NULL: as the store says; of lcrvm_create 1 node, 16 threads, 4 segments of 64 pages, and 4,096 words. */
     const struct lcrvm_geometry *geometry;
-    /* See lcrvm_end_transaction. */
-    bool truncate_when_full;
-    /* Where there is no geometry, the threads of a node; 0 for one. */
+    /* Where there is no geometry, the threads of a node, which no file says; 0 for 16. */
     uint32_t threads;
 };
 
@@ -132,36 +127,90 @@ struct lcrvm_delivered {
     uint64_t applied;
 };
 
+/* The thread of no transaction. */
+enum { LCRVM_NO_THREAD = 0xffff };
+
 struct lcrvm_store;
 
-/* Makes a new store, of zeros, in a folder that is there. Options and fault may be NULL. Beside what a run of the
-   client ends of: UNKNOWN where a number of the geometry is outside its range; EXISTS where a name is taken that a
-   store of any size may have; STORE_IN_USE; DEVICE_FAULT. Then nothing is made, or what was made is taken away again;
-   what could not be, the fault says. */
+/* ---- Stores */
+
+/* Makes a new store, of zeros. The folder is made where it is missing, but not the one that it stands in. Options
+   and fault may be NULL. MISUSE; UNKNOWN where a number of the options is outside its range; EXISTS where a name
+   is taken that a store of any size may have; STORE_IN_USE; NO_MEMORY; DEVICE_FAULT. Then nothing is made, or what
+   was made is taken away again, the folder too; what could not be, the fault's text says: `NAME: left in place`.
+   After LCRVM_OK the store is stable, its names and its folder's. */
 enum lcrvm_status lcrvm_create(const char *folder, const struct lcrvm_options *options, struct lcrvm_fault *fault);
 
-/* Opens the store in a folder and recovers it. *store is NULL where it is not opened, and the fault, which may be NULL,
-   says why: beside what ends a store, UNKNOWN where a number of the options is outside its range, BAD_GEOMETRY, GAP,
-   TWICE or OUT_OF_SEGMENT of a recovery that is refused, and NO_STORE. Options may be NULL. As found a store has the
-   size that its file lcrvm.store states, and then none of its files may be missing; or else, in a folder without that
-   file, the size of the files which there are. A file that failed has left
-   a mark in the folder, behind which the files are to be copied first: in the client the program does that; the library
-   answers DEVICE_FAULT until `lcrvm recover` has done it. */
+/* Opens the store in a folder, for this process alone, and recovers it: each commit that was acknowledged is there.
+   Options and fault may be NULL. Where it is not opened *store is NULL, and the fault says why: MISUSE; UNKNOWN where
+   a number of the options is outside its range; NO_STORE; STORE_IN_USE; NO_MEMORY; DEVICE_FAULT; BAD_GEOMETRY, GAP,
+   TWICE or OUT_OF_SEGMENT where the recovery is refused. An opening that is refused can be tried again.
+
+   Without a geometry the store has the size that its file lcrvm.store states, and then none of its files may be
+   missing; in a folder without that file, the size of the files which there are. Where a file has failed before,
+   which a file `fault` in the folder marks, each file is copied first, and the copy put in its place: of a link
+   where it leads to. What is no regular file under a copy's name, NAME.new, is a DEVICE_FAULT that names it. */
 enum lcrvm_status lcrvm_open(const char *folder, const struct lcrvm_options *options, struct lcrvm_store **store,
                              struct lcrvm_fault *fault);
 
-/* Ends the store and frees it, whatever the answer: what it died of, or LCRVM_OK. The fault may be NULL. A transaction
-   that is open is given up, and so is a commit that was not flushed. */
+/* Ends the store and frees it. All commits are made stable; transactions that are open are aborted; and each log is
+   emptied where that can be, so that the next opening has no page to write. Of NULL it does nothing, and is OK. The
+   fault may be NULL.
+
+   BUSY: another thread is within a call, or has a transaction that it began by lcrvm_begin. Nothing has changed then,
+   and the store is still open. After any other answer it is freed: OK, or DEVICE_FAULT of a store that is over. A
+   commit that was acknowledged is there all the same. FORKED in a child, which does not use the store again. */
 enum lcrvm_status lcrvm_close(struct lcrvm_store *store, struct lcrvm_fault *fault);
 
-/* Begins a transaction of a thread, and locks segments for writing and others for reading.
-   UNKNOWN, OUT_OF_TURN, NOT_HERE, BUSY. */
+/* Makes a store of its own in another folder, as this one is now, with each commit that was acknowledged before the
+   call. It flushes all nodes; transactions that are open go on, and what they have changed is not in the copy. The
+   folder is made where it is missing. MISUSE; EXISTS where one of its names is taken that a store of any size may have;
+   STORE_IN_USE; NO_MEMORY. DEVICE_FAULT is of this store where a flush failed, which ends it, and else of the copy,
+   and then the store goes on. What was made is taken away again as by lcrvm_create; a copy that was cut is no store. */
+enum lcrvm_status lcrvm_copy(struct lcrvm_store *store, const char *folder);
+
+/* ---- Transactions of a program's threads */
+
+/* Begins a transaction at a node, locks segments for writing and others for reading, and hands out its thread: one
+   that no other transaction of the node has. Where another transaction has one of the segments, or all threads of
+   the node are taken, it waits, so many milliseconds at most: 0 for not at all, UINT32_MAX for as long as it
+   takes. Who came first is served first. UNKNOWN, NOT_HERE; BUSY where the time is over, and at once where the
+   calling thread would wait for itself: for a transaction of its own, or for a thread that waits for one. Then
+   *thread is LCRVM_NO_THREAD. */
+enum lcrvm_status lcrvm_begin(struct lcrvm_store *store, uint32_t node, uint32_t *thread, const uint32_t *segments,
+                              size_t count, const uint32_t *reading, size_t reading_count, uint32_t milliseconds);
+
+/* Says that the transaction is about to change these bytes of a segment, and writes them: lcrvm_set_range and
+   lcrvm_write in one, or neither of them. Of no bytes nothing is asked of the store. */
+enum lcrvm_status lcrvm_put(struct lcrvm_store *store, uint32_t node, uint32_t thread, uint32_t segment,
+                            uint32_t offset, const void *bytes, uint32_t length);
+
+/* Commits the transaction; *thread is LCRVM_NO_THREAD then. With `flush` it answers once the commit is stable, and
+   all that the transaction may have read. `commit` may be NULL. UNKNOWN, OUT_OF_TURN where there is no such
+   transaction. SEQUENCE_SPENT, TOO_LONG, SEALED, FULL, NO_MEMORY: the transaction is open as before, and so is
+   *thread. DEVICE_FAULT: the store is over, and with it the transaction; *thread is LCRVM_NO_THREAD.
+
+   A log that is full is emptied first, also beside other transactions that are open, to which it is as if nothing
+   had been. So FULL is the answer only where that cannot help: the record is longer than the log, or the
+   truncation is refused, as UNCLEAN where a token is elsewhere. */
+enum lcrvm_status lcrvm_commit(struct lcrvm_store *store, uint32_t node, uint32_t *thread, bool flush,
+                               struct lcrvm_commit *commit);
+
+/* Ends the transaction without a commit: the bytes are as before it, and *thread is LCRVM_NO_THREAD. It takes no
+   memory. UNKNOWN, OUT_OF_TURN where there is no such transaction, and then *thread is as before. */
+enum lcrvm_status lcrvm_abort(struct lcrvm_store *store, uint32_t node, uint32_t *thread);
+
+/* ---- Transactions, by threads of the caller's choice or of lcrvm_begin */
+
+/* Begins a transaction of a thread, from 0 on, and locks segments for writing and others for reading. It does not
+   wait, and takes no memory. The transaction belongs to no thread of the program. UNKNOWN, OUT_OF_TURN, NOT_HERE,
+   BUSY. */
 enum lcrvm_status lcrvm_begin_transaction(struct lcrvm_store *store, uint32_t node, uint32_t thread,
                                           const uint32_t *segments, size_t count, const uint32_t *reading,
                                           size_t reading_count);
 
 /* Says that the transaction is about to change these bytes of a segment that it locked for writing.
-   UNKNOWN, OUT_OF_TURN, NOT_LOCKED, READ_ONLY, EMPTY_RANGE, OUT_OF_SEGMENT, TOO_MANY_RANGES. */
+   UNKNOWN, OUT_OF_TURN, NOT_LOCKED, READ_ONLY, EMPTY_RANGE, OUT_OF_SEGMENT, TOO_MANY_RANGES, NO_MEMORY. */
 enum lcrvm_status lcrvm_set_range(struct lcrvm_store *store, uint32_t node, uint32_t thread, uint32_t segment,
                                   uint32_t offset, uint32_t length);
 
@@ -170,20 +219,13 @@ enum lcrvm_status lcrvm_set_range(struct lcrvm_store *store, uint32_t node, uint
 enum lcrvm_status lcrvm_write(struct lcrvm_store *store, uint32_t node, uint32_t thread, uint32_t segment,
                               uint32_t offset, const void *bytes, uint32_t length);
 
-/* Reads bytes of a segment that the transaction locked, with what it wrote.
-   UNKNOWN, OUT_OF_TURN, NOT_LOCKED, OUT_OF_SEGMENT. */
+/* Reads bytes of a segment that the transaction locked, with what it wrote. Where it is refused `bytes` are as
+   before. UNKNOWN, OUT_OF_TURN, NOT_LOCKED, OUT_OF_SEGMENT. */
 enum lcrvm_status lcrvm_read(struct lcrvm_store *store, uint32_t node, uint32_t thread, uint32_t segment,
                              uint32_t offset, void *bytes, uint32_t length);
 
-/* Commits the transaction. With `flush` the node's log is flushed in the same call, so the commit is stable behind it;
-   it is flushed also where the commit is refused. `commit` may be NULL. UNKNOWN, OUT_OF_TURN; still open behind
-   SEQUENCE_SPENT, TOO_LONG, SEALED, FULL.
-
-   Where the store was opened with truncate_when_full, FULL is answered by an abort, a truncation and the same
-   transaction again, once. FULL is the answer all the same where another transaction of the node has ranges, where the
-   truncation is refused, where it does not help, and in the client where too few lines are left of its run; this
-   transaction is open then as before. What ends the store meanwhile is the answer; so is NO_MEMORY where the library
-   has none to make the transaction again, which is aborted then. */
+/* Commits the transaction, as lcrvm_commit does. With `flush` the node's log is flushed also where the commit is
+   refused, and what the commit answered is answered. */
 enum lcrvm_status lcrvm_end_transaction(struct lcrvm_store *store, uint32_t node, uint32_t thread, bool flush,
                                         struct lcrvm_commit *commit);
 
@@ -191,15 +233,23 @@ enum lcrvm_status lcrvm_end_transaction(struct lcrvm_store *store, uint32_t node
    UNKNOWN, OUT_OF_TURN. */
 enum lcrvm_status lcrvm_abort_transaction(struct lcrvm_store *store, uint32_t node, uint32_t thread);
 
+/* ---- Logs */
+
 /* Makes all commits of the node stable; `records`, which may be NULL, is how many it has had since the store was
    opened. UNKNOWN. */
 enum lcrvm_status lcrvm_flush(struct lcrvm_store *store, uint32_t node, uint64_t *records);
 
 /* Flushes the node's log, writes its pages and empties the log; `rounds`, which may be NULL, is how often it was
-   emptied since the store was opened, but for what a run of the client that follows another does to it. UNKNOWN,
-   UNCOMMITTED, UNFLUSHED, UNCLEAN, ROUNDS_SPENT. What was done in front of the refusal stays done; of UNCOMMITTED that
-   is the flush alone. */
+   emptied since the store was opened. UNKNOWN, UNCOMMITTED, UNFLUSHED, UNCLEAN, ROUNDS_SPENT. What was done before
+   the refusal stays done; of UNCOMMITTED, where an open transaction has a range on a page that is to be written,
+   that is the flush alone. */
 enum lcrvm_status lcrvm_truncate(struct lcrvm_store *store, uint32_t node, uint64_t *rounds);
+
+/* Drops the node's stable records that all nodes have applied; `count`, which may be NULL, is how many these were.
+   Until then a record stays in memory. A store of one node does it by itself after each truncation. UNKNOWN. */
+enum lcrvm_status lcrvm_trim(struct lcrvm_store *store, uint32_t node, uint64_t *count);
+
+/* ---- Several nodes. Each segment has a token, which is at one node, and there alone it can be locked. */
 
 /* Takes the segment's token from the node.
    UNKNOWN, NOT_HERE, HELD, WRITING, UNFLUSHED. */
@@ -209,23 +259,19 @@ enum lcrvm_status lcrvm_leave(struct lcrvm_store *store, uint32_t node, uint32_t
    UNKNOWN, OUT_OF_TURN, BEHIND. */
 enum lcrvm_status lcrvm_arrive(struct lcrvm_store *store, uint32_t node, uint32_t segment);
 
-/* Brings a stable record of a node, by its number from 1 on, to another node, for one segment. `delivered` may be NULL.
-   UNKNOWN. */
+/* Brings a stable record of a node, by its number from 1 on, to another node, for one segment. `delivered` may be
+   NULL. UNKNOWN, NO_MEMORY. */
 enum lcrvm_status lcrvm_deliver(struct lcrvm_store *store, uint32_t node, uint64_t record, uint32_t segment,
                                 uint32_t to, struct lcrvm_delivered *delivered);
 
-/* Drops the node's stable records that all nodes have applied; `count`, which may be NULL, is how many these were.
-   Until then a record stays in memory, also behind a truncation, and where there is one node. UNKNOWN. */
-enum lcrvm_status lcrvm_trim(struct lcrvm_store *store, uint32_t node, uint64_t *count);
+/* ---- What is asked of no store */
 
-/* The fault of the last call that did not answer LCRVM_OK. */
+/* The fault of the last call of the calling thread, on whatever store, that did not answer LCRVM_OK; of none, one
+   with LCRVM_OK. The store may be NULL. It is the thread's own, and good until its next call. */
 const struct lcrvm_fault *lcrvm_fault_of(const struct lcrvm_store *store);
 
-/* How large the store is. */
+/* How large the store is; of NULL, NULL. */
 const struct lcrvm_geometry *lcrvm_geometry_of(const struct lcrvm_store *store);
-
-/* The number of the process that serves the store now; in the library the caller's own. */
-long lcrvm_process_of(const struct lcrvm_store *store);
 
 /* A status in words, as `Full` or `store in use`. */
 const char *lcrvm_status_text(enum lcrvm_status status);

@@ -1,9 +1,10 @@
 #!/bin/sh
 # Compiles a C program with a store in its own process (clients/c/embedded.c), and tries it: the calls, with what they refuse;
-# kills in the midst of its commits, behind which the program lcrvm, and the C program by turns, have to find each commit that was
-# acknowledged; each of its writes and syncs failing in turn, behind which `lcrvm recover` has to find them; each write and sync
-# of the making of a store failing in turn, behind which nothing is left; each allocation refused in turn, behind which the call
-# is done once more; and each choice of standard descriptors closed, of which no file of the store may take the place.
+# kills amid its commits, after which the program lcrvm, and the C program by turns, have to find each commit that was
+# acknowledged; each of its writes and syncs failing in turn, after which `lcrvm recover`, and the library itself by turns, have
+# to find them; each write and sync of the making of a store, of a copy, and of an opening that copies its files failing in turn,
+# after which nothing is left of it; each allocation refused in turn, after which the call is done once more and all memory is
+# given back; and each choice of standard descriptors closed, of which no file of the store may take the place.
 #
 # usage: tests/embedded.sh [PROGRAM [LIBRARY [HEAP]]]
 #   PROGRAM   default: crates/lcrvm/out/lcrvm
@@ -24,9 +25,10 @@ work=$(mktemp -d "${TMPDIR:-/tmp}/lcrvm-embedded.XXXXXX")
 trap 'rm -rf "$work"' EXIT
 trap 'exit 1' HUP INT TERM
 
-cc -std=c11 -Wall -Wextra -Werror -O2 -c "$top/clients/c/embedded.c" -o "$work/embedded.o"
-cc -std=c11 -Wall -Wextra -Werror -O2 -I"$top/include" "$top/tests/embedded_test.c" "$work/embedded.o" "$library" "$heap" \
-    -o "$work/test"
+command -v cc > /dev/null || { echo 'skipped: embedded: there is no cc'; exit 0; }
+cc -std=c11 -Wall -Wextra -Werror -O2 -pthread -c "$top/clients/c/embedded.c" -o "$work/embedded.o"
+cc -std=c11 -Wall -Wextra -Werror -O2 -pthread -I"$top/include" "$top/tests/embedded_test.c" "$work/embedded.o" \
+    "$library" "$heap" -o "$work/test"
 cc -shared -fPIC -O2 -o "$work/refuse.so" "$top/tests/refused_allocation.c" -ldl
 
 passed=0
@@ -91,34 +93,64 @@ while :; do
     "$work/test" faults "$work/faults" $call > "$work/told" || status=$?
     [ $status -ne 0 ] || break
     told=$(tail -n 1 "$work/told")
-    "$program" recover "$work/faults" --as-found > "$work/recovered" || fails "call $call: not recovered"
+    if [ $((call % 2)) -eq 0 ]; then
+        "$program" recover "$work/faults" --as-found > "$work/recovered" || fails "call $call: not recovered"
+    fi
     found=$("$work/test" shows "$work/faults")
+    left=$(ls "$work/faults" | tr '\n' ' ')
+    if [ "$left" = 'lcrvm.store log0 seg1 seg2 ' ]; then passes; else fails "call $call: the folder has $left"; fi
     if [ $status -eq 3 ] && has_commits "${told:-0}" "$found"; then passes; else fails "call $call: status $status, ${told:-0} acknowledged, $found found"; fi
     call=$((call + 1))
 done
 echo "$((call - 1)) writes and syncs failed in turn"
 
-call=1
-made=0
-while :; do
-    rm -rf "$work/created"
-    mkdir "$work/created"
-    status=0
-    "$work/test" creates "$work/created" $call || status=$?
-    case $status in
-        0) break ;;
-        3) passes ;;
-        4) made=$((made + 1)) ;;
-        *) fails "call $call of a creation: status $status"; break ;;
-    esac
-    call=$((call + 1))
+# Each write and sync in turn of the making of a store, in a folder that is there or is made with it.
+for folder in there made; do
+    call=1
+    made=0
+    while :; do
+        rm -rf "$work/created"
+        [ $folder = made ] || mkdir "$work/created"
+        status=0
+        "$work/test" creates "$work/created" $call || status=$?
+        case $status in
+            0) break ;;
+            3) passes ;;
+            4) made=$((made + 1)) ;;
+            *) fails "call $call of a creation: status $status"; break ;;
+        esac
+        call=$((call + 1))
+    done
+    "$program" check "$work/created" --as-found > "$work/checked" || fails "a store that was made: $(cat "$work/checked")"
+    wanted=0
+    [ $folder = made ] || wanted=1
+    if [ $made -eq $wanted ]; then passes; else fails "$made creations in spite of a failure, and not $wanted"; fi
+    echo "$((call - 1)) writes and syncs of a creation failed in turn"
 done
-"$program" check "$work/created" --as-found > "$work/checked" || fails "a store that was made: $(cat "$work/checked")"
-if [ $made -eq 1 ]; then passes; else fails "$made creations in spite of a failure, and not 1"; fi
-echo "$((call - 1)) writes and syncs of a creation failed in turn"
+
+# The same of a copy, and of an opening that copies the files.
+for mode in copies renews; do
+    call=1
+    while :; do
+        rm -rf "$work/one" "$work/one.copy"
+        "$work/test" makes "$work/one" || fails "$mode: no store"
+        status=0
+        "$work/test" $mode "$work/one" $call || status=$?
+        case $status in
+            0) break ;;
+            3) passes ;;
+            *) fails "call $call of $mode: status $status"; break ;;
+        esac
+        "$work/test" shows "$work/one" > "$work/shown" || fails "call $call of $mode: not opened"
+        left=$(ls "$work/one" | tr '\n' ' ')
+        if [ "$left" = 'lcrvm.store log0 seg1 seg2 ' ]; then passes; else fails "call $call of $mode: the folder has $left"; fi
+        call=$((call + 1))
+    done
+    echo "$((call - 1)) writes and syncs of $mode failed in turn"
+done
 
 mkdir "$work/memory"
-"$work/test" memory "$work/memory" > "$work/whole" || fails "memory: $(tail -n 1 "$work/whole")"
+LD_PRELOAD=$work/refuse.so "$work/test" memory "$work/memory" > "$work/whole" || fails "memory: $(tail -n 1 "$work/whole")"
 number=1
 while :; do
     rm -rf "$work/memory" "$work/mark"
@@ -135,7 +167,7 @@ echo "$((number - 1)) allocations were refused in turn"
 
 # What each store holds is what the first holds, of which no descriptor was closed.
 for input in '< /dev/null' '<&-'; do for output in '> /dev/null' '>&-'; do for errors in '2> /dev/null' '2>&-'; do
-    rm -rf "$work/closed"
+    rm -rf "$work/closed" "$work/closed.copy"
     mkdir "$work/closed"
     status=0
     eval "\"\$work/test\" closed \"\$work/closed\" $input $output $errors" || status=$?

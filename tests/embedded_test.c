@@ -1,20 +1,25 @@
 /* A program with a store in its own process (clients/c/embedded.c), for tests/embedded.sh.
 
-   usage: embedded_test commits FOLDER     makes commits and prints the number of each once it is stable, until it is killed
-          embedded_test calls FOLDER       tries each call on new stores in folders below this one; its last line is `N wrong`
-          embedded_test shows FOLDER       prints the number that the store has
-          embedded_test faults FOLDER N    makes twenty commits, of whose writes and syncs of files the Nth fails, and no file can
-                                           be opened then: status 3 where it came to it, and each later call was refused too; 0
-                                           where there are fewer
-          embedded_test creates FOLDER N   makes a store, of whose writes and syncs the Nth fails: status 3 where that was answered,
-                                           4 where it is made all the same, 0 where there are fewer
-          embedded_test memory FOLDER      makes a store, works on it and prints what came of it; what finds no memory is done
-                                           once more
-          embedded_test closed FOLDER      makes a store, and commits to it between prints; a standard descriptor that is closed
-                                           has to stay so
+   usage: embedded_test MODE FOLDER [N]
 
-   A commit writes its number, from 1 on, into eight bytes of segment 1 and into the same place of segment 2, which the next
-   numbers pass by turns; every sixteenth empties the log. */
+          commits     makes commits and prints the number of each once it is stable, until it is killed
+          calls       tries each call on new stores in folders below this one; its last line is `N wrong`
+          shows       prints the number that the store has
+          faults      makes twenty commits, of whose writes and syncs of files the Nth fails, and no file can be opened
+                      then: status 3 where it came to it, and each later call was refused too; 0 where there are fewer
+          creates     makes a store, of whose writes and syncs the Nth fails: status 3 where that was answered, 4 where
+                      it is made all the same, 0 where there are fewer
+          copies      the same of the copy of a store
+          renews      opens a store that has the mark of a fault, of whose writes and syncs the Nth fails: status 3
+                      where that was answered, 0 where there are fewer
+          memory      makes a store, works on it and prints what came of it; what finds no memory is done once more.
+                      All memory has to be given back
+          makes       makes a store with a commit, for `copies` and `renews`
+          closed      makes a store, and commits to it between prints; a standard descriptor that is closed has to stay
+                      so
+
+   A commit writes its number, from 1 on, into eight bytes of segment 1 and into the same place of segment 2, which the
+   next numbers pass by turns; every sixteenth empties the log. */
 #define _GNU_SOURCE
 #include "lcrvm.h"
 
@@ -22,6 +27,7 @@
 #include <errno.h>
 #include <fcntl.h>
 #include <inttypes.h>
+#include <signal.h>
 #include <stdio.h>
 #include <stdlib.h>
 #include <string.h>
@@ -58,7 +64,7 @@ static bool fails_now(void)
     return made == failing;
 }
 
-static int folder_syncs;
+static int folder_syncs, writes;
 
 static int sync_by(long call, int file)
 {
@@ -82,8 +88,8 @@ int fsync(int file)
     return sync_by(SYS_fsync, file);
 }
 
-/* What else a test refuses, in place of the C library's: marks, and the removal of files, by these errors; and the next
-   locks, which are interrupted. */
+/* What else a test refuses, in place of the C library's: marks, and the removal of files, by these errors; and the
+   next locks, which are interrupted. */
 static int marks_error, removals_error, interrupted_locks;
 
 int mknodat(int folder, const char *name, mode_t mode, dev_t device)
@@ -116,6 +122,7 @@ int flock(int file, int operation)
 
 ssize_t pwrite(int file, const void *bytes, size_t len, off_t at)
 {
+    writes++;
     if (fails_now()) {
         if (len > 1)
             (void)!syscall(SYS_pwrite64, file, bytes, len / 2, at);
@@ -169,7 +176,8 @@ static struct lcrvm_store *opened(const char *folder)
     return store;
 }
 
-/* The greatest number at any place of both segments, where they agree; 0 where there is none, and -1 where they differ. */
+/* The greatest number at any place of both segments, where they agree; 0 where there is none, and -1 where they
+   differ. */
 static int64_t number_in(struct lcrvm_store *store)
 {
     static const uint32_t both[] = {1, 2};
@@ -244,11 +252,13 @@ static bool is_failure(const struct lcrvm_fault *fault)
            strcmp(name_end != NULL ? name_end + 2 : fault->text, strerror(EIO)) == 0;
 }
 
-/* A file of the store has failed: all is refused, also with arguments that are wrong, and no call is made of a file. */
+/* A file of the store has failed: all is refused, also with arguments that are wrong, and no call is made of a
+   file. */
 static void given_up(struct lcrvm_store *store)
 {
     static const uint32_t first[] = {1};
     char bytes[1];
+    uint32_t thread = 0;
     struct lcrvm_fault fault;
 
     ANSWERS(lcrvm_begin_transaction(store, 0, 0, first, 1, NULL, 0), LCRVM_DEVICE_FAULT);
@@ -265,11 +275,23 @@ static void given_up(struct lcrvm_store *store)
     ANSWERS(lcrvm_arrive(store, 0, 1), LCRVM_DEVICE_FAULT);
     ANSWERS(lcrvm_deliver(store, 0, 1, 1, 0, NULL), LCRVM_DEVICE_FAULT);
     ANSWERS(lcrvm_trim(store, 0, NULL), LCRVM_DEVICE_FAULT);
+    ANSWERS(lcrvm_begin(store, 0, &thread, first, 1, NULL, 0, 1000), LCRVM_DEVICE_FAULT);
+    CHECK(thread == LCRVM_NO_THREAD);
+    thread = 0;
+    ANSWERS(lcrvm_commit(store, 0, &thread, true, NULL), LCRVM_DEVICE_FAULT);
+    CHECK(thread == LCRVM_NO_THREAD);
+    thread = 0;
+    ANSWERS(lcrvm_abort(store, 0, &thread), LCRVM_DEVICE_FAULT);
+    CHECK(thread == LCRVM_NO_THREAD);
+    ANSWERS(lcrvm_put(store, 0, 0, 1, 0, "x", 1), LCRVM_DEVICE_FAULT);
+    ANSWERS(lcrvm_copy(store, "/nowhere/at/all"), LCRVM_DEVICE_FAULT);
     CHECK(is_failure(lcrvm_fault_of(store)));
     ANSWERS(lcrvm_close(store, &fault), LCRVM_DEVICE_FAULT);
     CHECK(is_failure(&fault));
     CHECK(made == failing);
 }
+
+static const char *below(const char *folder, const char *name);
 
 /* Lets no descriptor more be opened, or lets them again. */
 static void let_descriptors(bool more)
@@ -293,22 +315,34 @@ static int faults(const char *folder, const char *number)
     let_descriptors(false);
     if (store != NULL)
         status = commits_in(store, FEW_COMMITS);
-    let_descriptors(true);
-    if (status == LCRVM_OK && made < failing) {
-        ANSWERS(lcrvm_close(store, &fault), LCRVM_OK);
-        CHECK(fault.status == LCRVM_OK);
-        return wrong != 0;
+    if (status == LCRVM_OK) {
+        status = lcrvm_close(store, &fault);
+        store = NULL;
+        CHECK(fault.status == status);
     }
+    let_descriptors(true);
+    CHECK(descriptors() == before + (store != NULL ? 4 : 0));
+    if (status == LCRVM_OK && made < failing)
+        return wrong != 0;
     ANSWERS(status, LCRVM_DEVICE_FAULT);
     if (store != NULL)
         given_up(store);
     else
-        CHECK(is_failure(&fault));
-    status = lcrvm_open(folder, NULL, &store, &fault);
-    ANSWERS(status, LCRVM_DEVICE_FAULT);
-    CHECK(store == NULL && strstr(fault.text, "lcrvm recover") != NULL);
+        CHECK(is_failure(&fault) && made == failing);
     CHECK(descriptors() == before);
+    CHECK(access(below(folder, "fault"), F_OK) == 0);
     return wrong == 0 ? HAS_FAILED : 1;
+}
+
+/* A child ends by itself, with this status. */
+static void exits(pid_t child, int wanted)
+{
+    int status = -1;
+
+    CHECK(child > 0 && waitpid(child, &status, 0) == child);
+    CHECK(WIFEXITED(status) && WEXITSTATUS(status) == wanted);
+    if (!WIFEXITED(status) || WEXITSTATUS(status) != wanted)
+        fprintf(stderr, "a child: status %x, and not %d\n", (unsigned)status, wanted);
 }
 
 /* How many names a folder has. */
@@ -332,6 +366,7 @@ static int creates(const char *folder, const char *number)
     struct lcrvm_fault fault;
     enum lcrvm_status status;
     int before = descriptors();
+    bool was_there = standing(folder) == 0;
 
     failing = strtol(number, NULL, 10);
     status = lcrvm_create(folder, &options, &fault);
@@ -342,11 +377,11 @@ static int creates(const char *folder, const char *number)
         CHECK(made == 5 * 2 + 2);
         return status == LCRVM_OK && wrong == 0 ? 0 : 1;
     }
-    /* That the folder which it stands in is not synced is no fault. */
+    /* That the folder which it stands in is not synced is no fault, where this one was there. */
     if (status == LCRVM_OK)
-        return standing(folder) == 5 && wrong == 0 ? IS_MADE : 1;
+        return was_there && standing(folder) == 5 && wrong == 0 ? IS_MADE : 1;
     CHECK(is_failure(&fault));
-    CHECK(standing(folder) == 0);
+    CHECK(standing(folder) == (was_there ? 0 : -1));
     failing = 0;
     ANSWERS(lcrvm_create(folder, &options, NULL), LCRVM_OK);
     return wrong == 0 ? HAS_FAILED : 1;
@@ -383,28 +418,28 @@ static void beside(const char *folder, const char *end, char path[BESIDE_BYTES])
     snprintf(path, BESIDE_BYTES, "%.200s.%s", folder, end);
 }
 
-static struct lcrvm_store *opened_as(const char *folder, const struct lcrvm_geometry *geometry, bool truncates)
+static struct lcrvm_store *opened_as(const char *folder, const struct lcrvm_geometry *geometry)
 {
-    const struct lcrvm_options options = {
-        .geometry = geometry, .truncate_when_full = truncates, .threads = geometry != NULL ? 99 : 0};
+    const struct lcrvm_options options = {.geometry = geometry, .threads = geometry != NULL ? 99 : 0};
     struct lcrvm_store *store;
     struct lcrvm_fault fault;
 
     ANSWERS(lcrvm_open(folder, &options, &store, &fault), LCRVM_OK);
-    if (store == NULL)
+    if (store == NULL) {
+        fprintf(stderr, "not opened: %s\n", fault.text);
         exit(1);
-    CHECK(lcrvm_fault_of(store)->status == LCRVM_OK && lcrvm_fault_of(store)->text[0] == '\0');
+    }
+    CHECK(fault.status == LCRVM_OK && fault.text[0] == '\0');
     return store;
 }
 
 /* A new store. */
-static struct lcrvm_store *made_as(const char *folder, const struct lcrvm_geometry *geometry, bool truncates)
+static struct lcrvm_store *made_as(const char *folder, const struct lcrvm_geometry *geometry)
 {
     const struct lcrvm_options options = {.geometry = geometry};
 
-    CHECK(mkdir(folder, 0777) == 0);
     ANSWERS(lcrvm_create(folder, &options, NULL), LCRVM_OK);
-    return opened_as(folder, geometry, truncates);
+    return opened_as(folder, geometry);
 }
 
 static void close_well(struct lcrvm_store *store)
@@ -490,7 +525,7 @@ static size_t read_bytes(const char *path, char bytes[MOST_BYTES])
 static void test_calls(const char *folder)
 {
     static const uint32_t first[] = {1}, third[] = {3};
-    struct lcrvm_store *store = made_as(folder, &two_nodes, false), *other;
+    struct lcrvm_store *store = made_as(folder, &two_nodes), *other;
     struct lcrvm_commit commit;
     struct lcrvm_delivered delivered;
     struct lcrvm_fault fault;
@@ -498,7 +533,6 @@ static void test_calls(const char *folder)
     char bytes[5] = "";
 
     CHECK(lcrvm_geometry_of(store)->nodes == 2);
-    CHECK(lcrvm_process_of(store) == (long)getpid());
     ANSWERS(lcrvm_open(folder, NULL, &other, &fault), LCRVM_STORE_IN_USE);
     CHECK(other == NULL && fault.text[0] != '\0');
     ANSWERS(lcrvm_begin_transaction(store, 2, 0, NULL, 0, NULL, 0), LCRVM_UNKNOWN);
@@ -546,6 +580,11 @@ static void test_status_text(const char *folder)
     CHECK(strcmp(lcrvm_status_text(LCRVM_DEVICE_FAULT), "device fault") == 0);
     CHECK(strcmp(lcrvm_status_text(LCRVM_STORE_IN_USE), "store in use") == 0);
     CHECK(strcmp(lcrvm_status_text(LCRVM_EXISTS), "Exists") == 0);
+    CHECK(strcmp(lcrvm_status_text(LCRVM_MISUSE), "misuse") == 0);
+    CHECK(strcmp(lcrvm_status_text(LCRVM_FORKED), "forked") == 0);
+    CHECK(strcmp(lcrvm_status_text((enum lcrvm_status)70), "no status") == 0);
+    CHECK(LCRVM_READ_ONLY == 28 && LCRVM_NO_MEMORY == 64 && LCRVM_STORE_IN_USE == 65 && LCRVM_NO_STORE == 66);
+    CHECK(LCRVM_EXISTS == 67 && LCRVM_MISUSE == 68 && LCRVM_FORKED == 69);
 }
 
 /* A file has this length and holds zeros alone. */
@@ -557,6 +596,13 @@ static bool is_zeros(const char *path, size_t len)
     return read_bytes(path, bytes) == len && memcmp(bytes, zeros, len) == 0;
 }
 
+static bool has_length(const char *path, off_t len)
+{
+    struct stat at;
+
+    return stat(path, &at) == 0 && at.st_size == len;
+}
+
 static void test_creation(const char *folder)
 {
     const struct lcrvm_options options = {.geometry = &one};
@@ -564,9 +610,8 @@ static void test_creation(const char *folder)
     struct lcrvm_store *store;
     int before = descriptors();
 
-    ANSWERS(lcrvm_create(folder, &options, &fault), LCRVM_DEVICE_FAULT);
-    CHECK(strcmp(fault.text, strerror(ENOENT)) == 0);
-    CHECK(mkdir(folder, 0777) == 0);
+    ANSWERS(lcrvm_create(below(folder, "further"), &options, &fault), LCRVM_DEVICE_FAULT);
+    CHECK(strcmp(fault.text, strerror(ENOENT)) == 0 && standing(folder) == -1);
     ANSWERS(lcrvm_create(folder, &options, &fault), LCRVM_OK);
     CHECK(fault.status == LCRVM_OK && fault.text[0] == '\0');
     CHECK(is_zeros(below(folder, "log0"), 65 * 8));
@@ -576,8 +621,11 @@ static void test_creation(const char *folder)
     ANSWERS(lcrvm_create(below(folder, "log0"), &options, &fault), LCRVM_DEVICE_FAULT);
     CHECK(strcmp(fault.text, strerror(ENOTDIR)) == 0);
     ANSWERS(lcrvm_create("", &options, NULL), LCRVM_DEVICE_FAULT);
-    store = opened_as(folder, NULL, false);
-    CHECK(lcrvm_geometry_of(store)->pages == 4 && lcrvm_geometry_of(store)->threads == 1);
+    CHECK(symlink("nowhere", below(folder, "link")) == 0);
+    ANSWERS(lcrvm_create(below(folder, "link"), &options, NULL), LCRVM_DEVICE_FAULT);
+    CHECK(unlink(below(folder, "link")) == 0 && standing(folder) == 4);
+    store = opened_as(folder, NULL);
+    CHECK(lcrvm_geometry_of(store)->pages == 4 && lcrvm_geometry_of(store)->threads == 16);
     close_well(store);
     CHECK(descriptors() == before);
 }
@@ -600,10 +648,10 @@ static void test_creation_is_refused(const char *folder)
     ANSWERS(lcrvm_create(folder, &options, &fault), LCRVM_STORE_IN_USE);
     CHECK(fault.text[0] != '\0' && access(below(folder, "log0"), F_OK) != 0);
     close(locked);
-    /* With no options it has one of each, and 64 words. */
+    /* With no options it has one node, four segments of 64 pages, and 4,096 words. */
     ANSWERS(lcrvm_create(folder, NULL, NULL), LCRVM_OK);
-    CHECK(is_zeros(below(folder, "log0"), 65 * 8) && is_zeros(below(folder, "seg1"), 544));
-    CHECK(access(below(folder, "seg2"), F_OK) != 0);
+    CHECK(has_length(below(folder, "log0"), 4097 * 8) && has_length(below(folder, "seg4"), 64 * 544));
+    CHECK(standing(folder) == 1 + 1 + 4);
     CHECK(descriptors() == before);
 }
 
@@ -644,7 +692,7 @@ static void test_openings(const char *folder)
 {
     const struct lcrvm_geometry fewer = {1, 2, 1, 4, 64}, longer = {1, 2, 2, 4, 65};
     const struct lcrvm_options as_one = {.geometry = &one}, as_fewer = {.geometry = &fewer}, as_longer = {.geometry = &longer};
-    struct lcrvm_store *store = made_as(folder, &one, false);
+    struct lcrvm_store *store = made_as(folder, &one);
     struct lcrvm_fault fault;
 
     close_well(store);
@@ -696,15 +744,15 @@ static void opens_not(const char *folder, const struct lcrvm_geometry *geometry,
         lcrvm_close(store, NULL);
 }
 
-/* The size stands in a file of its own. Where a file of the store is missing it is not opened, neither by that size, as
-   found or not, nor by that of the files which are left. */
+/* The size stands in a file of its own. Where a file of the store is missing it is not opened, neither by that
+   size, as found or not, nor by that of the files which are left. */
 static void test_missing_files(const char *folder)
 {
     static const struct lcrvm_geometry size = {2, 1, 2, 1, 64}, one_log = {1, 1, 2, 1, 64};
     static const struct lcrvm_geometry one_segment = {2, 1, 1, 1, 64};
     static const char *const names[] = {"log0", "log1", "seg1", "seg2"};
     char text[MOST_BYTES], aside[BESIDE_BYTES];
-    struct lcrvm_store *store = made_as(folder, &size, false);
+    struct lcrvm_store *store = made_as(folder, &size);
 
     ANSWERS(commit(store, 1, 1, 0, "kept"), LCRVM_OK);
     ANSWERS(lcrvm_flush(store, 1, NULL), LCRVM_OK);
@@ -725,19 +773,20 @@ static void test_missing_files(const char *folder)
             opens_not(folder, &one_segment, LCRVM_BAD_GEOMETRY, 3, "seg2 is missing");
         CHECK(rename(aside, below(folder, names[i])) == 0);
     }
-    store = opened_as(folder, NULL, false);
+    store = opened_as(folder, NULL);
     CHECK(holds(store, 1, 1, 0, "kept"));
     close_well(store);
     /* A folder that states no size is as its files say. */
     CHECK(unlink(below(folder, "lcrvm.store")) == 0);
-    store = opened_as(folder, NULL, false);
+    store = opened_as(folder, NULL);
     CHECK(lcrvm_geometry_of(store)->nodes == 2 && holds(store, 1, 1, 0, "kept"));
     close_well(store);
-    store = opened_as(folder, &size, false);
+    store = opened_as(folder, &size);
     close_well(store);
 }
 
-/* All files are there as the caller says, and the size that is stated is another. As found they are not as it says. */
+/* All files are there as the caller says, and the size that is stated is another. As found they are not as it
+   says. */
 static void test_another_size(const char *folder)
 {
     static const struct lcrvm_geometry size = {2, 3, 2, 2, 64}, alike = {1, 1, 2, 1, 67};
@@ -758,7 +807,7 @@ static void test_another_size(const char *folder)
     static const char swapped[] = "format 1\nnodes 2\nsegments 1\npages 1\nwords 67\n";
     char other[BESIDE_BYTES];
 
-    close_well(made_as(folder, &size, false));
+    close_well(made_as(folder, &size));
     for (size_t i = 0; i < sizeof sizes / sizeof sizes[0]; i++) {
         char wanted[128];
 
@@ -773,7 +822,7 @@ static void test_another_size(const char *folder)
     }
     /* A log is as long as a segment, so that the files differ by their names alone. */
     beside(folder, "alike", other);
-    close_well(made_as(other, &alike, false));
+    close_well(made_as(other, &alike));
     write_text(below(other, "lcrvm.store"), swapped, strlen(swapped));
     opens_not(other, &alike, LCRVM_BAD_GEOMETRY, 1, "log1 is missing");
 }
@@ -816,7 +865,7 @@ static void test_texts_of_no_size(const char *folder)
     char path[PATH_BYTES], missing[64];
     int before;
 
-    close_well(made_as(folder, &one, false));
+    close_well(made_as(folder, &one));
     before = descriptors();
     snprintf(path, sizeof path, "%s/lcrvm.store", folder);
     for (size_t i = 0; i < sizeof texts / sizeof texts[0]; i++) {
@@ -879,10 +928,11 @@ static void test_creation_beside_others(const char *folder)
     write_text(below(folder, "log8"), "", 0);
     write_text(below(folder, "seg0"), "", 0);
     ANSWERS(lcrvm_create(folder, NULL, NULL), LCRVM_OK);
-    CHECK(standing(folder) == 2 + 3);
+    CHECK(standing(folder) == 2 + 6);
 }
 
-/* What a creation that fails has made is taken away, and what it cannot take away is said, as far as there is room. */
+/* What a creation that fails has made is taken away, and what it cannot take away is said, as far as there is
+   room. */
 static void test_creation_that_fails(const char *folder)
 {
     static const struct lcrvm_geometry most = {8, 1, 16, 1, 64};
@@ -961,14 +1011,14 @@ static void test_files_of_two_folders(const char *folder)
 {
     static const char *const all[] = {"lcrvm.store", "log0", "seg1", "seg2", NULL}, *const last[] = {"seg2", NULL};
     static const struct lcrvm_geometry two_logs = {2, 1, 1, 1, 64};
-    struct lcrvm_store *store = made_as(folder, &one, false);
+    struct lcrvm_store *store = made_as(folder, &one);
     char linked[BESIDE_BYTES], partly[BESIDE_BYTES], twice[BESIDE_BYTES], path[PATH_BYTES];
 
     beside(folder, "linked", linked);
     CHECK(mkdir(linked, 0777) == 0);
     link_files(folder, linked, all);
     beside(folder, "partly", partly);
-    close_well(made_as(partly, &one, false));
+    close_well(made_as(partly, &one));
     CHECK(unlink(below(partly, "seg2")) == 0);
     link_files(folder, partly, last);
     opens_not(linked, NULL, LCRVM_STORE_IN_USE, 0, "log0: store in use");
@@ -977,13 +1027,13 @@ static void test_files_of_two_folders(const char *folder)
     ANSWERS(commit(store, 0, 1, 0, "kept"), LCRVM_OK);
     ANSWERS(lcrvm_flush(store, 0, NULL), LCRVM_OK);
     close_well(store);
-    store = opened_as(linked, NULL, false);
+    store = opened_as(linked, NULL);
     CHECK(holds(store, 0, 1, 0, "kept"));
     opens_not(folder, NULL, LCRVM_STORE_IN_USE, 0, "log0: store in use");
     close_well(store);
     /* Nor is it two areas of one store. */
     beside(folder, "twice", twice);
-    close_well(made_as(twice, &two_logs, false));
+    close_well(made_as(twice, &two_logs));
     snprintf(path, sizeof path, "%s/log1", twice);
     CHECK(unlink(path) == 0 && link(below(twice, "log0"), path) == 0);
     opens_not(twice, NULL, LCRVM_STORE_IN_USE, 0, "log1: store in use");
@@ -1000,17 +1050,18 @@ static void test_interrupted_locks(const char *folder)
     ANSWERS(lcrvm_create(folder, &options, NULL), LCRVM_OK);
     CHECK(interrupted_locks == 0);
     interrupted_locks = 2;
-    store = opened_as(folder, NULL, false);
+    store = opened_as(folder, NULL);
     CHECK(interrupted_locks == 0);
     opens_not(folder, NULL, LCRVM_STORE_IN_USE, 0, "store in use");
     close_well(store);
 }
 
-/* An opening syncs the size and the folder before it writes; where one fails nothing is written, and a mark is left. */
+/* An opening syncs the size and the folder before it writes; where one fails nothing is written, and a mark is
+   left. */
 static void test_opening_syncs_the_folder(const char *folder)
 {
     enum { SIZE_AND_FOLDER = 2 };
-    struct lcrvm_store *store = made_as(folder, &one, false);
+    struct lcrvm_store *store = made_as(folder, &one);
     char log[MOST_BYTES], now[MOST_BYTES];
     size_t len;
 
@@ -1027,7 +1078,7 @@ static void test_opening_syncs_the_folder(const char *folder)
         CHECK(unlink(below(folder, "fault")) == 0);
     }
     folder_syncs = 0;
-    store = opened_as(folder, NULL, false);
+    store = opened_as(folder, NULL);
     CHECK(folder_syncs == 1 && holds(store, 0, 1, 0, "kept"));
     close_well(store);
     failing = 0;
@@ -1037,7 +1088,7 @@ static void test_opening_syncs_the_folder(const char *folder)
 static void test_marks_that_are_not_made(const char *folder)
 {
     static const char asked[] = "unmount the file system before the store is opened again";
-    struct lcrvm_store *store = made_as(folder, &one, false);
+    struct lcrvm_store *store = made_as(folder, &one);
     struct lcrvm_fault fault;
     char wanted[256];
 
@@ -1051,7 +1102,7 @@ static void test_marks_that_are_not_made(const char *folder)
     ANSWERS(lcrvm_close(store, &fault), LCRVM_DEVICE_FAULT);
     CHECK(strcmp(fault.text, wanted) == 0 && access(below(folder, "fault"), F_OK) != 0);
     marks_error = 0;
-    store = opened_as(folder, NULL, false);
+    store = opened_as(folder, NULL);
     ANSWERS(commit(store, 0, 1, 0, "lost"), LCRVM_OK);
     CHECK(mkdir(below(folder, "fault"), 0777) == 0);
     failing = made + 1;
@@ -1065,7 +1116,7 @@ static void test_marks_that_are_not_made(const char *folder)
 /* Commits with a record and resets are counted from the opening on. */
 static void test_counts(const char *folder)
 {
-    struct lcrvm_store *store = made_as(folder, &one, false);
+    struct lcrvm_store *store = made_as(folder, &one);
     uint64_t records = 7, rounds = 7;
 
     ANSWERS(lcrvm_flush(store, 0, &records), LCRVM_OK);
@@ -1088,18 +1139,19 @@ static void test_counts(const char *folder)
     ANSWERS(lcrvm_truncate(store, 1, &rounds), LCRVM_UNKNOWN);
     CHECK(rounds == 2);
     close_well(store);
-    store = opened_as(folder, &one, false);
+    store = opened_as(folder, &one);
     ANSWERS(lcrvm_flush(store, 0, &records), LCRVM_OK);
     ANSWERS(lcrvm_truncate(store, 0, &rounds), LCRVM_OK);
     CHECK(records == 0 && rounds == 0);
     close_well(store);
 }
 
-/* A transaction whose log is full is made again, with all its ranges, and what they hold where nothing was written. */
+/* A transaction whose log is full is made again, with all its ranges, and what they hold where nothing was
+   written. */
 static void test_full_is_made_again(const char *folder)
 {
     static const uint32_t both[] = {2, 1};
-    struct lcrvm_store *store = made_as(folder, &one, true);
+    struct lcrvm_store *store = made_as(folder, &one);
     struct lcrvm_commit commit;
     uint64_t records = 0, rounds = 0;
 
@@ -1119,7 +1171,7 @@ static void test_full_is_made_again(const char *folder)
     ANSWERS(lcrvm_truncate(store, 0, &rounds), LCRVM_OK);
     CHECK(rounds == 2);
     close_well(store);
-    store = opened_as(folder, &one, true);
+    store = opened_as(folder, &one);
     CHECK(holds(store, 0, 1, 0, "nineed") && holds(store, 0, 1, 8, "filled") && holds(store, 0, 2, 300, "other"));
     close_well(store);
 }
@@ -1142,27 +1194,52 @@ static void put_two(struct lcrvm_store *store, uint32_t node, uint32_t segment)
     ANSWERS(put(store, node, segment, 40, "second"), LCRVM_OK);
 }
 
+/* The log is emptied beside another transaction, which keeps its locks, its ranges and what it wrote, in the way
+   of a page that is to be written and elsewhere. */
 static void test_full_where_another_has_ranges(const char *folder)
 {
     static const uint32_t second[] = {2};
-    struct lcrvm_store *store = made_as(folder, &one, true);
+    struct lcrvm_store *store = made_as(folder, &one);
+    struct lcrvm_commit placed;
+    char bytes[8];
     uint64_t rounds = 7;
 
-    fill(store);
+    ANSWERS(commit(store, 0, 2, 901, "filled"), LCRVM_OK);
+    for (uint32_t number = 1; number < 8; number++)
+        ANSWERS(commit(store, 0, 1, 8 * number, "filled"), LCRVM_OK);
     ANSWERS(lcrvm_begin_transaction(store, 0, 1, second, 1, NULL, 0), LCRVM_OK);
-    ANSWERS(lcrvm_set_range(store, 0, 1, 2, 900, 1), LCRVM_OK);
+    ANSWERS(lcrvm_set_range(store, 0, 1, 2, 900, 8), LCRVM_OK);
+    ANSWERS(lcrvm_write(store, 0, 1, 2, 902, "open", 4), LCRVM_OK);
+    ANSWERS(lcrvm_set_range(store, 0, 1, 2, 100, 1), LCRVM_OK);
+    ANSWERS(lcrvm_truncate(store, 0, NULL), LCRVM_UNCOMMITTED);
     ANSWERS(begin(store, 0, 0, 1), LCRVM_OK);
     put_two(store, 0, 1);
-    ANSWERS(lcrvm_end_transaction(store, 0, 0, false, NULL), LCRVM_FULL);
-    stays_open(store, 0, 1, TWO_RANGES, 64);
-    /* Without a range it is in nobody's way. */
-    ANSWERS(lcrvm_abort_transaction(store, 0, 1), LCRVM_OK);
-    ANSWERS(lcrvm_begin_transaction(store, 0, 1, second, 1, NULL, 0), LCRVM_OK);
-    ANSWERS(lcrvm_end_transaction(store, 0, 0, false, NULL), LCRVM_OK);
-    ANSWERS(lcrvm_abort_transaction(store, 0, 1), LCRVM_OK);
+    ANSWERS(lcrvm_end_transaction(store, 0, 0, false, &placed), LCRVM_OK);
+    CHECK(placed.place == 0 && placed.words == TWO_RANGES);
+    CHECK(lcrvm_fault_of(store)->status == LCRVM_UNCOMMITTED);
     CHECK(holds(store, 0, 1, 0, "first") && holds(store, 0, 1, 40, "second"));
+    ANSWERS(begin(store, 0, 0, 2), LCRVM_BUSY);
+    ANSWERS(lcrvm_begin_transaction(store, 0, 1, NULL, 0, NULL, 0), LCRVM_OUT_OF_TURN);
+    ANSWERS(lcrvm_write(store, 0, 1, 2, 908, "x", 1), LCRVM_NO_RANGE);
+    ANSWERS(lcrvm_read(store, 0, 1, 2, 900, bytes, 8), LCRVM_OK);
+    CHECK(memcmp(bytes, "\0fopend\0", 8) == 0);
+    ANSWERS(lcrvm_write(store, 0, 1, 2, 100, "y", 1), LCRVM_OK);
+    ANSWERS(lcrvm_end_transaction(store, 0, 1, true, NULL), LCRVM_OK);
+    CHECK(holds(store, 0, 2, 901, "fopend") && holds(store, 0, 2, 100, "y"));
+    /* What is aborted is as it was before. */
+    for (uint32_t number = 0; number < 5; number++)
+        ANSWERS(commit(store, 0, 1, 8 * number, "filled"), LCRVM_OK);
+    ANSWERS(lcrvm_begin_transaction(store, 0, 1, second, 1, NULL, 0), LCRVM_OK);
+    ANSWERS(lcrvm_set_range(store, 0, 1, 2, 901, 2), LCRVM_OK);
+    ANSWERS(lcrvm_write(store, 0, 1, 2, 901, "no", 2), LCRVM_OK);
+    ANSWERS(commit(store, 0, 1, 0, "filled"), LCRVM_OK);
+    ANSWERS(lcrvm_abort_transaction(store, 0, 1), LCRVM_OK);
+    CHECK(holds(store, 0, 2, 901, "fopend"));
     ANSWERS(lcrvm_truncate(store, 0, &rounds), LCRVM_OK);
-    CHECK(rounds == 2);
+    CHECK(rounds == 3);
+    close_well(store);
+    store = opened_as(folder, &one);
+    CHECK(holds(store, 0, 2, 901, "fopend") && holds(store, 0, 2, 100, "y") && holds(store, 0, 1, 0, "filled"));
     close_well(store);
 }
 
@@ -1171,7 +1248,7 @@ static void test_full_where_the_truncation_is_refused(const char *folder)
 {
     static const struct lcrvm_geometry size = {2, 2, 5, 1, 64};
     static const uint32_t third[] = {3}, fifth[] = {5};
-    struct lcrvm_store *store = made_as(folder, &size, true);
+    struct lcrvm_store *store = made_as(folder, &size);
     uint64_t rounds = 7;
 
     for (uint32_t number = 0; number < 7; number++)
@@ -1201,7 +1278,7 @@ static void test_full_where_the_truncation_is_refused(const char *folder)
 
 static void test_full_where_it_does_not_help(const char *folder)
 {
-    struct lcrvm_store *store = made_as(folder, &one, true);
+    struct lcrvm_store *store = made_as(folder, &one);
     uint64_t rounds = 7;
 
     ANSWERS(commit(store, 0, 2, 0, "x"), LCRVM_OK);
@@ -1237,13 +1314,13 @@ static bool is_held(const char *folder, const struct held *held)
            memcmp(held->bytes[1], now.bytes[1], held->lens[1]) == 0;
 }
 
-/* A truncation with an open range on a page that is to be written writes none, also none in front of it, and flushes; a
-   range on another page is in nobody's way. */
+/* A truncation with an open range on a page that is to be written writes none, also none in front of it, and
+   flushes; a range on another page is in nobody's way. */
 static void test_uncommitted(const char *folder)
 {
     static const uint32_t second[] = {2};
     static struct held held;
-    struct lcrvm_store *store = made_as(folder, &one, false);
+    struct lcrvm_store *store = made_as(folder, &one);
     char log[MOST_BYTES];
     uint64_t rounds = 7;
 
@@ -1268,7 +1345,7 @@ static void test_uncommitted(const char *folder)
     ANSWERS(lcrvm_truncate(store, 0, &rounds), LCRVM_OK);
     CHECK(rounds == 1 && is_held(folder, &held));
     close_well(store);
-    store = opened_as(folder, &one, false);
+    store = opened_as(folder, &one);
     CHECK(holds(store, 0, 1, 508, "bytes") && holds(store, 0, 2, 600, "second"));
     close_well(store);
 }
@@ -1276,7 +1353,7 @@ static void test_uncommitted(const char *folder)
 /* A page that is to be written goes with its segment's token, and is written where that is. */
 static void test_pages_go_with_tokens(const char *folder)
 {
-    struct lcrvm_store *store = made_as(folder, &two_nodes, false);
+    struct lcrvm_store *store = made_as(folder, &two_nodes);
     char before[MOST_BYTES], now[MOST_BYTES];
     uint64_t rounds = 7;
 
@@ -1297,7 +1374,7 @@ static void test_pages_go_with_tokens(const char *folder)
     ANSWERS(lcrvm_truncate(store, 1, &rounds), LCRVM_OK);
     CHECK(rounds == 1);
     close_well(store);
-    store = opened_as(folder, &two_nodes, false);
+    store = opened_as(folder, &two_nodes);
     CHECK(holds(store, 1, 1, 0, "one"));
     close_well(store);
 }
@@ -1305,7 +1382,7 @@ static void test_pages_go_with_tokens(const char *folder)
 /* The pages of a segment are written side by side: of each file three syncs, however many they are. */
 static void test_syncs_of_a_truncation(const char *folder)
 {
-    struct lcrvm_store *store = made_as(folder, &one, false);
+    struct lcrvm_store *store = made_as(folder, &one);
     long before;
 
     for (uint32_t page = 0; page < 4; page++)
@@ -1314,7 +1391,8 @@ static void test_syncs_of_a_truncation(const char *folder)
     ANSWERS(lcrvm_flush(store, 0, NULL), LCRVM_OK);
     before = made;
     ANSWERS(lcrvm_truncate(store, 0, NULL), LCRVM_OK);
-    /* A gate that stands closed is closed by a write of no bytes: of each page two writes, of the segment two syncs; and the log. */
+    /* A gate that stands closed is closed by a write of no bytes: of each page two writes, of the segment two
+       syncs; and the log. */
     CHECK(made - before == (4 * 2 + 2) + (1 * 2 + 2) + 2);
     for (uint32_t page = 0; page < 4; page++)
         ANSWERS(commit(store, 0, 1, 256 * page, "page"), LCRVM_OK);
@@ -1328,26 +1406,25 @@ static void test_syncs_of_a_truncation(const char *folder)
     close_well(store);
 }
 
-/* Where records are trimmed, the heap does not grow. */
+/* A store of one node trims by itself, so that the heap does not grow. */
 static void test_trimmed(const char *folder)
 {
     static const struct lcrvm_geometry size = {1, 1, 1, 1, 4096};
-    struct lcrvm_store *store = made_as(folder, &size, true);
+    struct lcrvm_store *store = made_as(folder, &size);
     const void *end = NULL;
+    uint64_t count = 7;
 
     for (uint32_t round = 0; round < 40; round++) {
-        uint64_t count = 0;
-
         /* What grows to the double is as large as it has to be by then. */
         if (round == 20)
             end = sbrk(0);
-        for (uint32_t number = 0; number < 100; number++)
-            ANSWERS(commit(store, 0, 1, number, "x"), LCRVM_OK);
-        ANSWERS(lcrvm_flush(store, 0, NULL), LCRVM_OK);
-        ANSWERS(lcrvm_trim(store, 0, &count), LCRVM_OK);
-        CHECK(count == 100);
+        for (uint32_t number = 0; number < 600; number++)
+            ANSWERS(commit(store, 0, 1, number % 250, "x"), LCRVM_OK);
     }
     CHECK(sbrk(0) == end);
+    ANSWERS(lcrvm_truncate(store, 0, NULL), LCRVM_OK);
+    ANSWERS(lcrvm_trim(store, 0, &count), LCRVM_OK);
+    CHECK(count == 0);
     close_well(store);
 }
 
@@ -1358,7 +1435,7 @@ static void test_greatest(const char *folder)
     /* Past 16 KiB a range has 3 words. */
     static char bytes[8 * (4096 - 3 - 2 - 3)], found[sizeof bytes];
     const uint32_t at = 1024 * 256 - sizeof bytes, last = 16;
-    struct lcrvm_store *store = made_as(folder, &greatest, false);
+    struct lcrvm_store *store = made_as(folder, &greatest);
     struct lcrvm_commit commit;
     uint64_t records = 0, rounds = 0;
 
@@ -1373,47 +1450,478 @@ static void test_greatest(const char *folder)
     ANSWERS(lcrvm_truncate(store, 0, &rounds), LCRVM_OK);
     CHECK(records == 1 && rounds == 1);
     close_well(store);
-    store = opened_as(folder, &greatest, false);
+    store = opened_as(folder, &greatest);
     ANSWERS(lcrvm_begin_transaction(store, 0, 15, NULL, 0, &last, 1), LCRVM_OK);
     ANSWERS(lcrvm_read(store, 0, 15, last, at, found, sizeof found), LCRVM_OK);
     CHECK(memcmp(bytes, found, sizeof bytes) == 0);
     close_well(store);
 }
 
+/* NULL is answered, and not followed. */
+static void test_misuse(const char *folder)
+{
+    static const uint32_t first[] = {1};
+    struct lcrvm_store *store = made_as(folder, &one), *other = store;
+    struct lcrvm_fault fault;
+    char bytes[1];
+    uint32_t thread = 5;
+
+    ANSWERS(lcrvm_create(NULL, NULL, &fault), LCRVM_MISUSE);
+    CHECK(fault.status == LCRVM_MISUSE && lcrvm_fault_of(NULL)->status == LCRVM_MISUSE);
+    ANSWERS(lcrvm_open(NULL, NULL, &other, &fault), LCRVM_MISUSE);
+    CHECK(fault.status == LCRVM_MISUSE && other == NULL);
+    ANSWERS(lcrvm_open(folder, NULL, NULL, NULL), LCRVM_MISUSE);
+    ANSWERS(lcrvm_close(NULL, &fault), LCRVM_OK);
+    CHECK(fault.status == LCRVM_OK && lcrvm_geometry_of(NULL) == NULL);
+    for (int turn = 0; turn < 2; turn++) {
+        struct lcrvm_store *none = turn == 0 ? NULL : store;
+
+        ANSWERS(lcrvm_begin(none, 0, NULL, first, 1, NULL, 0, 0), LCRVM_MISUSE);
+        ANSWERS(lcrvm_begin(none, 0, &thread, NULL, 1, NULL, 0, 0), LCRVM_MISUSE);
+        ANSWERS(lcrvm_begin(none, 0, &thread, NULL, 0, NULL, 1, 0), LCRVM_MISUSE);
+        ANSWERS(lcrvm_begin_transaction(none, 0, 0, NULL, 1, NULL, 0), LCRVM_MISUSE);
+        ANSWERS(lcrvm_begin_transaction(none, 0, 0, NULL, 0, NULL, 1), LCRVM_MISUSE);
+        ANSWERS(lcrvm_commit(none, 0, NULL, true, NULL), LCRVM_MISUSE);
+        ANSWERS(lcrvm_abort(none, 0, NULL), LCRVM_MISUSE);
+        ANSWERS(lcrvm_put(none, 0, 0, 1, 0, NULL, 1), LCRVM_MISUSE);
+        ANSWERS(lcrvm_write(none, 0, 0, 1, 0, NULL, 1), LCRVM_MISUSE);
+        ANSWERS(lcrvm_read(none, 0, 0, 1, 0, NULL, 1), LCRVM_MISUSE);
+        ANSWERS(lcrvm_copy(none, NULL), LCRVM_MISUSE);
+    }
+    ANSWERS(lcrvm_begin(NULL, 0, &thread, first, 1, NULL, 0, 0), LCRVM_MISUSE);
+    ANSWERS(lcrvm_begin_transaction(NULL, 0, 0, first, 1, NULL, 0), LCRVM_MISUSE);
+    ANSWERS(lcrvm_set_range(NULL, 0, 0, 1, 0, 1), LCRVM_MISUSE);
+    ANSWERS(lcrvm_put(NULL, 0, 0, 1, 0, "x", 1), LCRVM_MISUSE);
+    ANSWERS(lcrvm_write(NULL, 0, 0, 1, 0, "x", 1), LCRVM_MISUSE);
+    ANSWERS(lcrvm_read(NULL, 0, 0, 1, 0, bytes, 1), LCRVM_MISUSE);
+    ANSWERS(lcrvm_commit(NULL, 0, &thread, true, NULL), LCRVM_MISUSE);
+    ANSWERS(lcrvm_abort(NULL, 0, &thread), LCRVM_MISUSE);
+    ANSWERS(lcrvm_end_transaction(NULL, 0, 0, true, NULL), LCRVM_MISUSE);
+    ANSWERS(lcrvm_abort_transaction(NULL, 0, 0), LCRVM_MISUSE);
+    ANSWERS(lcrvm_flush(NULL, 0, NULL), LCRVM_MISUSE);
+    ANSWERS(lcrvm_truncate(NULL, 0, NULL), LCRVM_MISUSE);
+    ANSWERS(lcrvm_trim(NULL, 0, NULL), LCRVM_MISUSE);
+    ANSWERS(lcrvm_leave(NULL, 0, 1), LCRVM_MISUSE);
+    ANSWERS(lcrvm_arrive(NULL, 0, 1), LCRVM_MISUSE);
+    ANSWERS(lcrvm_deliver(NULL, 0, 1, 1, 0, NULL), LCRVM_MISUSE);
+    ANSWERS(lcrvm_copy(NULL, folder), LCRVM_MISUSE);
+    /* The store goes on, and of nothing the pointer may be NULL. */
+    ANSWERS(lcrvm_begin(store, 0, &thread, NULL, 0, first, 1, 0), LCRVM_OK);
+    ANSWERS(lcrvm_read(store, 0, thread, 1, 0, NULL, 0), LCRVM_OK);
+    ANSWERS(lcrvm_put(store, 0, thread, 1, 0, NULL, 0), LCRVM_OK);
+    ANSWERS(lcrvm_commit(store, 0, &thread, true, NULL), LCRVM_OK);
+    close_well(store);
+}
+
+/* The transactions of a program's threads: which threads they have, and what becomes of them. */
+static void test_threads_of_transactions(const char *folder)
+{
+    static const uint32_t first[] = {1}, second[] = {2}, ninth[] = {9};
+    struct lcrvm_store *store = made_as(folder, &one);
+    struct lcrvm_commit placed = {7, 7};
+    uint32_t one_thread = 7, other = 7, third = 7;
+
+    ANSWERS(lcrvm_begin(store, 1, &one_thread, first, 1, NULL, 0, 0), LCRVM_UNKNOWN);
+    CHECK(one_thread == LCRVM_NO_THREAD);
+    ANSWERS(lcrvm_begin(store, 0, &one_thread, ninth, 1, NULL, 0, 10000), LCRVM_UNKNOWN);
+    ANSWERS(lcrvm_begin(store, 0, &one_thread, first, 1, NULL, 0, 0), LCRVM_OK);
+    ANSWERS(lcrvm_begin(store, 0, &other, second, 1, NULL, 0, 0), LCRVM_OK);
+    CHECK(one_thread == 0 && other == 1);
+    /* Both threads of the node are taken, by this thread itself. */
+    alarm(60);
+    ANSWERS(lcrvm_begin(store, 0, &third, NULL, 0, NULL, 0, UINT32_MAX), LCRVM_BUSY);
+    CHECK(third == LCRVM_NO_THREAD && lcrvm_fault_of(store)->segment == 0);
+    ANSWERS(lcrvm_put(store, 0, one_thread, 1, 0, "one", 3), LCRVM_OK);
+    ANSWERS(lcrvm_put(store, 0, one_thread, 2, 0, "one", 3), LCRVM_NOT_LOCKED);
+    ANSWERS(lcrvm_put(store, 0, one_thread, 1, 1022, "one", 3), LCRVM_OUT_OF_SEGMENT);
+    ANSWERS(lcrvm_put(store, 0, one_thread, 1, UINT32_MAX, "one", 3), LCRVM_OUT_OF_SEGMENT);
+    ANSWERS(lcrvm_set_range(store, 0, one_thread, 1, 1, UINT32_MAX), LCRVM_OUT_OF_SEGMENT);
+    ANSWERS(lcrvm_put(store, 0, one_thread, UINT32_MAX, 0, "one", 3), LCRVM_UNKNOWN);
+    ANSWERS(lcrvm_put(store, UINT32_MAX, one_thread, 1, 0, "one", 3), LCRVM_UNKNOWN);
+    ANSWERS(lcrvm_put(store, 0, UINT32_MAX, 1, 0, "one", 3), LCRVM_UNKNOWN);
+    ANSWERS(lcrvm_put(store, 0, other, 2, 0, "two", 3), LCRVM_OK);
+    ANSWERS(lcrvm_abort(store, 0, &other), LCRVM_OK);
+    CHECK(other == LCRVM_NO_THREAD);
+    ANSWERS(lcrvm_begin(store, 0, &other, NULL, 0, first, 1, UINT32_MAX), LCRVM_BUSY);
+    CHECK(lcrvm_fault_of(store)->segment == 1);
+    alarm(0);
+    ANSWERS(lcrvm_abort(store, 0, &other), LCRVM_UNKNOWN);
+    ANSWERS(lcrvm_commit(store, 0, &other, true, NULL), LCRVM_UNKNOWN);
+    other = 1;
+    ANSWERS(lcrvm_commit(store, 0, &other, true, NULL), LCRVM_OUT_OF_TURN);
+    CHECK(other == 1);
+    ANSWERS(lcrvm_commit(store, 0, &one_thread, true, &placed), LCRVM_OK);
+    CHECK(one_thread == LCRVM_NO_THREAD && placed.place == 0 && placed.words == 8);
+    CHECK(holds(store, 0, 1, 0, "one") && holds(store, 0, 2, 0, "\0\0"));
+    /* What is begun by the caller's own number nobody has: it is waited for. */
+    ANSWERS(begin(store, 0, 0, 1), LCRVM_OK);
+    ANSWERS(lcrvm_begin(store, 0, &third, first, 1, NULL, 0, 20), LCRVM_BUSY);
+    CHECK(lcrvm_fault_of(store)->segment == 1);
+    ANSWERS(lcrvm_abort_transaction(store, 0, 0), LCRVM_OK);
+    close_well(store);
+}
+
+/* What is too long stays open, by either way of ending it; a record that is longer than the log is full at once. */
+static void test_commits_that_are_refused(const char *folder)
+{
+    static const struct lcrvm_geometry size = {1, 2, 1, 1024, 4096};
+    static char bytes[40000];
+    const uint32_t first[] = {1};
+    struct lcrvm_store *store = made_as(folder, &size);
+    uint32_t thread = 7;
+
+    ANSWERS(lcrvm_begin(store, 0, &thread, first, 1, NULL, 0, 0), LCRVM_OK);
+    memset(bytes, 'x', sizeof bytes);
+    ANSWERS(lcrvm_put(store, 0, thread, 1, 0, bytes, sizeof bytes), LCRVM_OK);
+    ANSWERS(lcrvm_commit(store, 0, &thread, true, NULL), LCRVM_TOO_LONG);
+    CHECK(thread == 0 && lcrvm_fault_of(store)->words == 3 + 2 + 3 + 5000);
+    ANSWERS(lcrvm_end_transaction(store, 0, thread, true, NULL), LCRVM_TOO_LONG);
+    ANSWERS(lcrvm_read(store, 0, thread, 1, 39999, bytes, 1), LCRVM_OK);
+    CHECK(bytes[0] == 'x');
+    ANSWERS(lcrvm_abort(store, 0, &thread), LCRVM_OK);
+    close_well(store);
+}
+
+/* A reading transaction that ends with a flush makes stable what it has seen; without one nothing is called. */
+static void test_what_readers_see(const char *folder)
+{
+    const uint32_t first[] = {1};
+    struct lcrvm_store *store = made_as(folder, &one);
+    uint32_t thread;
+    char bytes[4];
+    long before;
+
+    ANSWERS(commit(store, 0, 1, 0, "lazy"), LCRVM_OK);
+    before = made;
+    ANSWERS(lcrvm_begin(store, 0, &thread, NULL, 0, first, 1, 0), LCRVM_OK);
+    ANSWERS(lcrvm_read(store, 0, thread, 1, 0, bytes, 4), LCRVM_OK);
+    CHECK(memcmp(bytes, "lazy", 4) == 0);
+    ANSWERS(lcrvm_commit(store, 0, &thread, false, NULL), LCRVM_OK);
+    CHECK(made == before);
+    ANSWERS(lcrvm_begin(store, 0, &thread, NULL, 0, first, 1, 0), LCRVM_OK);
+    ANSWERS(lcrvm_commit(store, 0, &thread, true, NULL), LCRVM_OK);
+    CHECK(made == before + 4);
+    /* All is stable, so nothing is to be done. */
+    ANSWERS(lcrvm_begin(store, 0, &thread, NULL, 0, first, 1, 0), LCRVM_OK);
+    ANSWERS(lcrvm_commit(store, 0, &thread, true, NULL), LCRVM_OK);
+    ANSWERS(lcrvm_flush(store, 0, NULL), LCRVM_OK);
+    CHECK(made == before + 4);
+    close_well(store);
+}
+
+/* A close makes what is lazy stable, aborts what is open, and empties the log: the next opening writes nothing,
+   and syncs each file once, and the folder. */
+static void test_clean_close(const char *folder)
+{
+    static const char *const names[] = {"lcrvm.store", "log0", "seg1", "seg2"};
+    static char before[4][MOST_BYTES], now[MOST_BYTES];
+    const uint32_t second[] = {2};
+    struct lcrvm_store *store = made_as(folder, &one);
+    uint32_t thread;
+    size_t lens[4];
+    long calls;
+
+    ANSWERS(commit(store, 0, 1, 0, "lazy"), LCRVM_OK);
+    ANSWERS(lcrvm_begin(store, 0, &thread, second, 1, NULL, 0, 0), LCRVM_OK);
+    ANSWERS(lcrvm_put(store, 0, thread, 2, 0, "open", 4), LCRVM_OK);
+    ANSWERS(begin(store, 0, 1, 1), LCRVM_OK);
+    ANSWERS(lcrvm_set_range(store, 0, 1, 1, 0, 4), LCRVM_OK);
+    close_well(store);
+    for (int i = 0; i < 4; i++)
+        lens[i] = read_bytes(below(folder, names[i]), before[i]);
+    calls = made;
+    folder_syncs = writes = 0;
+    store = opened_as(folder, NULL);
+    CHECK(writes == 0 && made - calls == 1 + 3 + 1 && folder_syncs == 1);
+    if (writes != 0 || made - calls != 5)
+        fprintf(stderr, "an opening: %d writes, and %ld calls\n", writes, made - calls);
+    CHECK(holds(store, 0, 1, 0, "lazy") && holds(store, 0, 2, 0, "\0\0\0"));
+    calls = made;
+    close_well(store);
+    CHECK(made == calls);
+    for (int i = 0; i < 4; i++)
+        CHECK(read_bytes(below(folder, names[i]), now) == lens[i] && memcmp(before[i], now, lens[i]) == 0);
+}
+
+/* The logs of all nodes are emptied, also where a token has gone from one to another. */
+static void test_clean_close_of_two(const char *folder)
+{
+    struct lcrvm_store *store = made_as(folder, &two_nodes);
+
+    ANSWERS(commit(store, 0, 2, 0, "two"), LCRVM_OK);
+    ANSWERS(commit(store, 1, 1, 0, "one"), LCRVM_OK);
+    ANSWERS(lcrvm_flush(store, 1, NULL), LCRVM_OK);
+    ANSWERS(lcrvm_leave(store, 1, 1), LCRVM_OK);
+    ANSWERS(lcrvm_deliver(store, 1, 1, 1, 0, NULL), LCRVM_OK);
+    ANSWERS(lcrvm_arrive(store, 0, 1), LCRVM_OK);
+    ANSWERS(commit(store, 0, 1, 100, "again"), LCRVM_OK);
+    close_well(store);
+    writes = 0;
+    store = opened_as(folder, NULL);
+    CHECK(holds(store, 1, 1, 0, "one") && holds(store, 1, 1, 100, "again") && holds(store, 0, 2, 0, "two"));
+    close_well(store);
+}
+
+/* Copies. */
+
+/* A copy is a store of its own, with what was committed and nothing of what is open, which goes on. */
+static void test_copy(const char *folder)
+{
+    struct lcrvm_store *store = made_as(folder, &one), *copy;
+    const uint32_t second[] = {2};
+    char path[BESIDE_BYTES];
+    uint32_t thread;
+    int before = descriptors();
+
+    beside(folder, "copy", path);
+    ANSWERS(commit(store, 0, 1, 0, "lazy"), LCRVM_OK);
+    ANSWERS(lcrvm_begin(store, 0, &thread, second, 1, NULL, 0, 0), LCRVM_OK);
+    ANSWERS(lcrvm_put(store, 0, thread, 2, 0, "open", 4), LCRVM_OK);
+    ANSWERS(lcrvm_copy(store, path), LCRVM_OK);
+    CHECK(standing(path) == 4 && descriptors() == before);
+    copy = opened_as(path, NULL);
+    CHECK(holds(copy, 0, 1, 0, "lazy") && holds(copy, 0, 2, 0, "\0\0"));
+    ANSWERS(commit(copy, 0, 1, 0, "other"), LCRVM_OK);
+    ANSWERS(lcrvm_copy(store, path), LCRVM_EXISTS);
+    CHECK(strcmp(lcrvm_fault_of(store)->text, "lcrvm.store") == 0);
+    ANSWERS(lcrvm_copy(store, folder), LCRVM_EXISTS);
+    close_well(copy);
+    ANSWERS(lcrvm_copy(store, ""), LCRVM_DEVICE_FAULT);
+    CHECK(strcmp(lcrvm_fault_of(store)->text, strerror(ENOENT)) == 0);
+    ANSWERS(lcrvm_copy(store, below(folder, "none/below")), LCRVM_DEVICE_FAULT);
+    ANSWERS(lcrvm_copy(store, below(folder, "log0")), LCRVM_DEVICE_FAULT);
+    CHECK(strcmp(lcrvm_fault_of(store)->text, strerror(ENOTDIR)) == 0);
+    /* The store goes on. */
+    ANSWERS(lcrvm_commit(store, 0, &thread, true, NULL), LCRVM_OK);
+    CHECK(holds(store, 0, 2, 0, "open") && holds(store, 0, 1, 0, "lazy"));
+    close_well(store);
+    CHECK(standing(folder) == 4);
+}
+
+/* A copy that is cut is no store, until its last file is stable. */
+static void test_copy_that_is_cut(const char *folder)
+{
+    enum { LAST = 4 * 2 + 1 };
+    struct lcrvm_store *store = made_as(folder, &one);
+    char path[BESIDE_BYTES], number[16];
+
+    ANSWERS(commit(store, 0, 1, 0, "kept"), LCRVM_OK);
+    close_well(store);
+    for (int call = 1; call <= LAST; call++) {
+        pid_t child;
+
+        snprintf(number, sizeof number, "%d", call);
+        beside(folder, number, path);
+        child = fork();
+        if (child == 0) {
+            store = opened(folder);
+            ending = made + call;
+            lcrvm_copy(store, path);
+            _exit(1);
+        }
+        exits(child, 0);
+        CHECK((lcrvm_open(path, NULL, &store, NULL) == LCRVM_OK) == (call == LAST));
+        if (store == NULL)
+            continue;
+        CHECK(holds(store, 0, 1, 0, "kept"));
+        close_well(store);
+    }
+}
+
+/* Copies of folders that are marked. */
+
+static void mark_fault(const char *folder)
+{
+    int file = open(below(folder, "fault"), O_WRONLY | O_CREAT, 0666);
+
+    CHECK(file >= 0 && close(file) == 0);
+}
+
+/* Behind a mark each file is copied, with its owner and mode, and the copy put in its place: by a link, where it
+   leads to. */
+static void test_renewed(const char *folder)
+{
+    struct lcrvm_store *store = made_as(folder, &one);
+    char away[BESIDE_BYTES], path[PATH_BYTES];
+    struct stat before, after, link_at;
+    int count = descriptors();
+
+    ANSWERS(commit(store, 0, 1, 0, "kept"), LCRVM_OK);
+    close_well(store);
+    count -= 4;
+    beside(folder, "away", away);
+    CHECK(mkdir(away, 0777) == 0);
+    snprintf(path, sizeof path, "%s/another", away);
+    CHECK(rename(below(folder, "seg2"), path) == 0);
+    snprintf(path, sizeof path, "../%s/another", strrchr(away, '/') + 1);
+    CHECK(symlink(path, below(folder, "seg2")) == 0);
+    CHECK(geteuid() != 0 || chown(below(folder, "log0"), 4242, 4243) == 0);
+    CHECK(chmod(below(folder, "log0"), 0640) == 0);
+    write_text(below(folder, "log0.new"), "left of a stop", 14);
+    mark_fault(folder);
+    CHECK(stat(below(folder, "log0"), &before) == 0);
+    CHECK(stat(below(folder, "seg2"), &link_at) == 0);
+    store = opened_as(folder, NULL);
+    CHECK(holds(store, 0, 1, 0, "kept"));
+    opens_not(folder, NULL, LCRVM_STORE_IN_USE, 0, "store in use");
+    ANSWERS(commit(store, 0, 2, 0, "more"), LCRVM_OK);
+    close_well(store);
+    CHECK(stat(below(folder, "log0"), &after) == 0);
+    CHECK(after.st_ino != before.st_ino && (after.st_mode & 07777) == 0640 && after.st_size == before.st_size);
+    CHECK(after.st_uid == before.st_uid && after.st_gid == before.st_gid);
+    CHECK(lstat(below(folder, "seg2"), &after) == 0 && S_ISLNK(after.st_mode));
+    CHECK(stat(below(folder, "seg2"), &after) == 0 && after.st_ino != link_at.st_ino);
+    CHECK(standing(folder) == 4 && standing(away) == 1);
+    CHECK(access(below(folder, "fault"), F_OK) != 0 && descriptors() == count);
+    store = opened_as(folder, NULL);
+    CHECK(holds(store, 0, 1, 0, "kept") && holds(store, 0, 2, 0, "more"));
+    close_well(store);
+}
+
+/* What is no regular file under the name of a copy, or of the mark, is neither followed nor removed. */
+static void test_renewed_beside_others(const char *folder)
+{
+    static const char *const names[] = {"log0.new", "seg1.new", "seg2.new", "fault"};
+    char target[BESIDE_BYTES], wanted[64];
+    struct lcrvm_store *store = made_as(folder, &one);
+    struct stat before, after;
+
+    ANSWERS(commit(store, 0, 1, 0, "kept"), LCRVM_OK);
+    close_well(store);
+    beside(folder, "target", target);
+    write_text(target, "another's", 9);
+    for (int i = 0; i < 4; i++) {
+        unlink(below(folder, "fault"));
+        for (int kind = 0; kind < 3; kind++) {
+            char path[PATH_BYTES];
+
+            snprintf(path, sizeof path, "%s/%s", folder, names[i]);
+            if (i < 3)
+                mark_fault(folder);
+            CHECK(stat(target, &before) == 0);
+            if (kind == 0)
+                CHECK(symlink(target, path) == 0);
+            else
+                CHECK((kind == 1 ? mkdir(path, 0777) : mkfifo(path, 0666)) == 0);
+            snprintf(wanted, sizeof wanted, "%s: not a regular file", names[i]);
+            alarm(60);
+            opens_not(folder, NULL, LCRVM_DEVICE_FAULT, 0, wanted);
+            alarm(0);
+            CHECK(access(below(folder, "fault"), F_OK) == 0 || kind == 0);
+            CHECK(lstat(path, &after) == 0 && remove(path) == 0);
+            CHECK(stat(target, &after) == 0 && after.st_ino == before.st_ino && after.st_size == 9);
+        }
+    }
+    unlink(below(folder, "fault"));
+    store = opened_as(folder, NULL);
+    CHECK(holds(store, 0, 1, 0, "kept") && standing(folder) == 4);
+    close_well(store);
+}
+
+/* Of files that are not those of the size nothing is copied, and the mark stays. */
+static void test_not_renewed(const char *folder)
+{
+    struct lcrvm_store *store = made_as(folder, &one);
+    const struct lcrvm_geometry longer = {1, 2, 2, 4, 65};
+    struct stat before, after;
+
+    close_well(store);
+    mark_fault(folder);
+    CHECK(stat(below(folder, "log0"), &before) == 0);
+    opens_not(folder, &longer, LCRVM_BAD_GEOMETRY, 0, "");
+    write_text(below(folder, "seg3"), "", 0);
+    opens_not(folder, NULL, LCRVM_BAD_GEOMETRY, 3, "");
+    CHECK(unlink(below(folder, "seg3")) == 0 && truncate(below(folder, "seg2"), 544) == 0);
+    opens_not(folder, NULL, LCRVM_BAD_GEOMETRY, 2, "");
+    CHECK(stat(below(folder, "log0"), &after) == 0 && after.st_ino == before.st_ino);
+    CHECK(access(below(folder, "fault"), F_OK) == 0 && standing(folder) == 5);
+}
+
+/* Leaves so many descriptors. */
+static void leave_descriptors(int count)
+{
+    struct rlimit limit;
+    int next = open("/dev/null", O_RDONLY);
+
+    CHECK(next >= 0 && close(next) == 0 && getrlimit(RLIMIT_NOFILE, &limit) == 0);
+    limit.rlim_cur = (rlim_t)(next + count);
+    CHECK(setrlimit(RLIMIT_NOFILE, &limit) == 0);
+}
+
+/* With too few descriptors nothing is made, opened or copied, and nothing is left of it. */
+static void test_few_descriptors(const char *folder)
+{
+    const struct lcrvm_options options = {.geometry = &one};
+    struct lcrvm_store *store = NULL;
+    struct lcrvm_fault fault;
+    enum lcrvm_status status = LCRVM_DEVICE_FAULT;
+    char copy[BESIDE_BYTES];
+    int before = descriptors(), count = 0;
+
+    for (count = 0; status != LCRVM_OK && count < 20; count++) {
+        leave_descriptors(count);
+        status = lcrvm_create(folder, &options, &fault);
+        let_descriptors(true);
+        CHECK(status == LCRVM_OK || (status == LCRVM_DEVICE_FAULT && standing(folder) == -1));
+    }
+    CHECK(status == LCRVM_OK && count > 2);
+    mark_fault(folder);
+    status = LCRVM_DEVICE_FAULT;
+    for (count = 0; status != LCRVM_OK && count < 20; count++) {
+        leave_descriptors(count);
+        status = lcrvm_open(folder, NULL, &store, &fault);
+        let_descriptors(true);
+        CHECK(status == LCRVM_OK || (status == LCRVM_DEVICE_FAULT && standing(folder) == 5));
+    }
+    CHECK(status == LCRVM_OK && standing(folder) == 4 && count > 4);
+    if (store == NULL)
+        return;
+    beside(folder, "copy", copy);
+    status = LCRVM_DEVICE_FAULT;
+    for (count = 0; status != LCRVM_OK && count < 20; count++) {
+        leave_descriptors(count);
+        status = lcrvm_copy(store, copy);
+        let_descriptors(true);
+        CHECK(status == LCRVM_OK || (status == LCRVM_DEVICE_FAULT && standing(copy) == -1));
+    }
+    CHECK(status == LCRVM_OK && count > 2);
+    close_well(store);
+    CHECK(descriptors() == before);
+}
+
 /* A child of a fork neither gives the locks back nor keeps them, also where it has come to no exec yet. */
 static void test_children(const char *folder)
 {
     static const char *const last[] = {"seg2", NULL};
-    struct lcrvm_store *store = made_as(folder, &one, false);
+    struct lcrvm_store *store = made_as(folder, &one);
     char partly[BESIDE_BYTES];
     int ends[2];
     char byte;
     pid_t child;
 
     beside(folder, "partly", partly);
-    close_well(made_as(partly, &one, false));
+    close_well(made_as(partly, &one));
     CHECK(unlink(below(partly, "seg2")) == 0);
     link_files(folder, partly, last);
     child = fork();
-    if (child == 0) {
-        lcrvm_close(store, NULL);
-        _exit(0);
-    }
-    CHECK(waitpid(child, NULL, 0) == child);
+    if (child == 0)
+        _exit(lcrvm_close(store, NULL) != LCRVM_FORKED);
+    exits(child, 0);
     opens_not(folder, NULL, LCRVM_STORE_IN_USE, 0, "store in use");
     opens_not(partly, NULL, LCRVM_STORE_IN_USE, 0, "seg2: store in use");
+    /* A child as of vfork, which no handler is told of, has all descriptors. */
     CHECK(pipe(ends) == 0);
-    child = fork();
+    child = (pid_t)syscall(SYS_clone, SIGCHLD, 0, 0, 0, 0);
     if (child == 0) {
         close(ends[1]);
         _exit((int)read(ends[0], &byte, 1));
     }
     close_well(store);
-    close_well(opened_as(folder, &one, false));
-    close_well(opened_as(partly, &one, false));
+    close_well(opened_as(folder, &one));
+    close_well(opened_as(partly, &one));
     close(ends[0]);
     close(ends[1]);
-    CHECK(waitpid(child, NULL, 0) == child);
+    exits(child, 0);
 }
 
 static const struct {
@@ -1446,6 +1954,18 @@ static const struct {
     {"syncs", test_syncs_of_a_truncation},
     {"trimmed", test_trimmed},
     {"greatest", test_greatest},
+    {"misuse", test_misuse},
+    {"threads_of_transactions", test_threads_of_transactions},
+    {"refused_commits", test_commits_that_are_refused},
+    {"readers", test_what_readers_see},
+    {"clean_close", test_clean_close},
+    {"clean_close_of_two", test_clean_close_of_two},
+    {"copy", test_copy},
+    {"copy_that_is_cut", test_copy_that_is_cut},
+    {"renewed", test_renewed},
+    {"renewed_beside_others", test_renewed_beside_others},
+    {"not_renewed", test_not_renewed},
+    {"few_descriptors", test_few_descriptors},
     {"children", test_children},
 };
 
@@ -1487,10 +2007,11 @@ static int closed(const char *folder)
     const struct lcrvm_options options = {.geometry = &one};
     const int before = closed_streams();
     struct lcrvm_store *store;
+    char copy[BESIDE_BYTES];
 
     ANSWERS(lcrvm_create(folder, &options, NULL), LCRVM_OK);
     print_to_all();
-    store = opened_as(folder, &one, false);
+    store = opened_as(folder, &one);
     CHECK(closed_streams() == before);
     for (uint32_t number = 0; number < 4; number++) {
         ANSWERS(commit(store, 0, 1, 8 * number, "before"), LCRVM_OK);
@@ -1500,99 +2021,229 @@ static int closed(const char *folder)
     ANSWERS(commit(store, 0, 1, 0, "behind"), LCRVM_OK);
     ANSWERS(lcrvm_flush(store, 0, NULL), LCRVM_OK);
     print_to_all();
+    beside(folder, "copy", copy);
+    ANSWERS(lcrvm_copy(store, copy), LCRVM_OK);
+    print_to_all();
+    close_well(store);
+    mark_fault(folder);
+    store = opened_as(folder, &one);
+    print_to_all();
+    CHECK(closed_streams() == before);
+    CHECK(holds(store, 0, 1, 0, "behind") && holds(store, 0, 1, 24, "before"));
     close_well(store);
     CHECK(closed_streams() == before);
+    store = opened_as(copy, &one);
+    CHECK(holds(store, 0, 1, 0, "behind") && holds(store, 0, 1, 24, "before"));
+    close_well(store);
     return wrong != 0;
 }
 
 /* Want of memory. What is answered NO_MEMORY has changed nothing, and is done once more. */
 
-static bool misses_memory(enum lcrvm_status status)
-{
-    return status == LCRVM_NO_MEMORY || status == LCRVM_CLIENT_MEMORY;
-}
-
 #define DONE(call)                                                                                                     \
     do {                                                                                                               \
         enum lcrvm_status first = (call);                                                                              \
                                                                                                                        \
-        ANSWERS(misses_memory(first) ? (call) : first, LCRVM_OK);                                                      \
+        ANSWERS(first == LCRVM_NO_MEMORY ? (call) : first, LCRVM_OK);                                                  \
     } while (0)
 
 enum { MANY_RANGES = 20 };
 
-/* A commit of many ranges, whose end may find the log full, and no memory to make the transaction again: then it was aborted. */
+/* How many blocks of memory are taken and not given back, where they are counted. */
+long blocks_taken(void) __attribute__((weak));
+
+static long taken(void)
+{
+    return blocks_taken != NULL ? blocks_taken() : 0;
+}
+
+/* A commit of many ranges, whose end may find the log full, and no memory to empty it: it is open as before. */
 static void commit_all(struct lcrvm_store *store, uint32_t number)
 {
     char text[8];
-    bool open = false;
 
     snprintf(text, sizeof text, "c%u", (unsigned)number);
-    for (int attempt = 0; attempt < 2; attempt++) {
-        enum lcrvm_status status;
-
-        if (!open)
-            DONE(begin(store, 1, 0, 1));
-        for (uint32_t range = 0; range < MANY_RANGES && !open; range++)
-            DONE(put(store, 1, 1, 40 * range + number, text));
-        status = lcrvm_end_transaction(store, 1, 0, false, NULL);
-        if (status == LCRVM_OK)
-            return;
-        ANSWERS(status, LCRVM_NO_MEMORY);
-        open = lcrvm_begin_transaction(store, 1, 0, NULL, 0, NULL, 0) == LCRVM_OUT_OF_TURN;
-        if (!open)
-            ANSWERS(lcrvm_abort_transaction(store, 1, 0), LCRVM_OK);
-    }
-    CHECK(false);
+    DONE(begin(store, 1, 0, 1));
+    for (uint32_t range = 0; range < MANY_RANGES; range++)
+        DONE(put(store, 1, 1, 40 * range + number, text));
+    DONE(lcrvm_end_transaction(store, 1, 0, false, NULL));
 }
 
-static int memory(const char *folder)
+/* A transaction that stays open has what it wrote, in the way of the pages that are written meanwhile. */
+static void begin_beside(struct lcrvm_store *store)
 {
-    static const struct lcrvm_geometry size = {2, 1, 2, 4, 256};
-    const struct lcrvm_options options = {.geometry = &size, .truncate_when_full = true};
-    struct lcrvm_store *store;
+    const uint32_t third[] = {3};
+
+    DONE(begin(store, 1, 0, 3));
+    DONE(put(store, 1, 3, 1000, "z"));
+    DONE(lcrvm_end_transaction(store, 1, 0, false, NULL));
+    DONE(lcrvm_begin_transaction(store, 1, 1, third, 1, NULL, 0));
+    for (uint32_t range = 0; range < MANY_RANGES; range++) {
+        DONE(lcrvm_set_range(store, 1, 1, 3, 50 * range, 20));
+        DONE(lcrvm_write(store, 1, 1, 3, 50 * range + 5, "beside", 6));
+    }
+}
+
+static void look_beside(struct lcrvm_store *store)
+{
+    char bytes[20];
+
+    for (uint32_t range = 0; range < MANY_RANGES; range++) {
+        DONE(lcrvm_read(store, 1, 1, 3, 50 * range, bytes, sizeof bytes));
+        CHECK(memcmp(bytes, "\0\0\0\0\0beside\0\0\0\0\0\0\0\0\0", sizeof bytes) == 0);
+    }
+}
+
+static void work_on(struct lcrvm_store *store, const char *path)
+{
     struct lcrvm_delivered held, applied;
     uint64_t records = 0, rounds = 0;
     char bytes[1024];
 
-    DONE(lcrvm_create(folder, &options, NULL));
-    DONE(lcrvm_open(folder, &options, &store, NULL));
-    if (store == NULL)
-        return 1;
+    begin_beside(store);
     for (uint32_t number = 0; number < 12; number++)
         commit_all(store, number);
     DONE(lcrvm_flush(store, 1, &records));
-    DONE(lcrvm_deliver(store, 1, 2, 1, 0, &held));
-    DONE(lcrvm_deliver(store, 1, 1, 1, 0, &applied));
+    DONE(lcrvm_copy(store, path));
+    DONE(lcrvm_deliver(store, 1, 3, 1, 0, &held));
+    DONE(lcrvm_deliver(store, 1, 2, 1, 0, &applied));
     CHECK(held.delivery == LCRVM_HELD_BACK && applied.delivery == LCRVM_APPLIED && applied.applied == 2);
+    look_beside(store);
+    DONE(lcrvm_end_transaction(store, 1, 1, true, NULL));
     DONE(lcrvm_truncate(store, 1, &rounds));
     DONE(begin(store, 1, 0, 1));
     DONE(lcrvm_read(store, 1, 0, 1, 0, bytes, sizeof bytes));
-    close_well(store);
     printf("%" PRIu64 " records, %" PRIu64 " rounds\n", records, rounds);
     for (size_t i = 0; i < sizeof bytes; i++)
         putchar(bytes[i] != '\0' ? bytes[i] : '.');
+    DONE(lcrvm_begin_transaction(store, 1, 1, NULL, 0, (const uint32_t[]){3}, 1));
+    look_beside(store);
+}
+
+static int memory(const char *folder)
+{
+    static const struct lcrvm_geometry size = {2, 2, 3, 4, 256};
+    static char buffer[BUFSIZ];
+    const struct lcrvm_options options = {.geometry = &size};
+    char path[BESIDE_BYTES], copy[PATH_BYTES];
+    struct lcrvm_store *store;
+    long before;
+
+    setvbuf(stdout, buffer, _IOFBF, sizeof buffer);
+    before = taken();
+    snprintf(path, sizeof path, "%.200s/store", folder);
+    snprintf(copy, sizeof copy, "%.200s/copy", folder);
+    DONE(lcrvm_create(path, &options, NULL));
+    DONE(lcrvm_open(path, &options, &store, NULL));
+    if (store == NULL)
+        return 1;
+    work_on(store, copy);
+    close_well(store);
+    CHECK(taken() == before);
+    mark_fault(path);
+    DONE(lcrvm_open(path, NULL, &store, NULL));
+    /* One is left as it is with a transaction in each state. */
+    begin_beside(store);
+    close_well(store);
+    DONE(lcrvm_open(copy, NULL, &store, NULL));
+    close_well(store);
+    CHECK(taken() == before);
+    if (taken() != before)
+        fprintf(stderr, "%ld blocks are not given back\n", taken() - before);
     printf("\n%d wrong\n", wrong);
     return wrong != 0;
 }
 
+/* Each write and sync of a copy fails in turn: nothing is left of it, and the store goes on, unless its own flush
+   has failed. */
+static int copies(const char *folder, const char *number)
+{
+    struct lcrvm_store *store = opened(folder);
+    char path[BESIDE_BYTES];
+    enum lcrvm_status status;
+    long before;
+
+    if (store == NULL)
+        return 1;
+    beside(folder, "copy", path);
+    ANSWERS(commit(store, 0, 1, 0, "lazy"), LCRVM_OK);
+    before = made;
+    failing = made + strtol(number, NULL, 10);
+    status = lcrvm_copy(store, path);
+    if (made < failing) {
+        /* A flush, a write and a sync of each of four files, and the syncs of two folders. */
+        CHECK(made - before == 4 + 4 * 2 + 2);
+        failing = 0;
+        ANSWERS(status, LCRVM_OK);
+        close_well(store);
+        close_well(opened(path));
+        return wrong != 0;
+    }
+    ANSWERS(status, LCRVM_DEVICE_FAULT);
+    CHECK(is_failure(lcrvm_fault_of(store)));
+    CHECK(standing(path) == -1);
+    ANSWERS(lcrvm_close(store, NULL), made - before <= 4 ? LCRVM_DEVICE_FAULT : LCRVM_OK);
+    return wrong == 0 ? HAS_FAILED : 1;
+}
+
+/* Of an opening that copies the files, each write and sync fails in turn: the mark stays, and the next one does
+   all. */
+static int renews(const char *folder, const char *number)
+{
+    struct lcrvm_store *store;
+    struct lcrvm_fault fault;
+    enum lcrvm_status status;
+    int before = descriptors();
+
+    mark_fault(folder);
+    failing = strtol(number, NULL, 10);
+    status = lcrvm_open(folder, NULL, &store, &fault);
+    if (made < failing) {
+        /* A write and a sync of each of three copies, a sync of the folder; and of the opening two, and three of areas. */
+        CHECK(made == 3 * 2 + 1 + 2 + 3);
+        ANSWERS(status, LCRVM_OK);
+        CHECK(holds(store, 0, 1, 0, "kept") && access(below(folder, "fault"), F_OK) != 0 && standing(folder) == 4);
+        failing = 0;
+        close_well(store);
+        return wrong != 0;
+    }
+    ANSWERS(status, LCRVM_DEVICE_FAULT);
+    CHECK(is_failure(&fault) && access(below(folder, "fault"), F_OK) == 0 && standing(folder) == 5);
+    CHECK(descriptors() == before);
+    return wrong == 0 ? HAS_FAILED : 1;
+}
+
+/* A store for `copies` and `renews`. */
+static int makes(const char *folder)
+{
+    struct lcrvm_store *store = made_as(folder, &one);
+
+    ANSWERS(commit(store, 0, 1, 0, "kept"), LCRVM_OK);
+    close_well(store);
+    return wrong != 0;
+}
+
+static const struct {
+    const char *name;
+    int (*run)(const char *folder);
+} modes[] = {
+    {"commits", commits}, {"calls", calls}, {"shows", shows}, {"memory", memory}, {"closed", closed}, {"makes", makes},
+};
+
+static const struct {
+    const char *name;
+    int (*run)(const char *folder, const char *number);
+} numbered[] = {{"faults", faults}, {"creates", creates}, {"copies", copies}, {"renews", renews}};
+
 int main(int count, char **arguments)
 {
-    if (count == 3 && strcmp(arguments[1], "commits") == 0)
-        return commits(arguments[2]);
-    if (count == 3 && strcmp(arguments[1], "calls") == 0)
-        return calls(arguments[2]);
-    if (count == 3 && strcmp(arguments[1], "shows") == 0)
-        return shows(arguments[2]);
-    if (count == 3 && strcmp(arguments[1], "memory") == 0)
-        return memory(arguments[2]);
-    if (count == 3 && strcmp(arguments[1], "closed") == 0)
-        return closed(arguments[2]);
-    if (count == 4 && strcmp(arguments[1], "faults") == 0)
-        return faults(arguments[2], arguments[3]);
-    if (count == 4 && strcmp(arguments[1], "creates") == 0)
-        return creates(arguments[2], arguments[3]);
-    fprintf(stderr,
-            "usage: embedded_test commits|calls|shows|memory|closed FOLDER, embedded_test faults|creates FOLDER N\n");
+    for (size_t i = 0; count == 3 && i < sizeof modes / sizeof modes[0]; i++)
+        if (strcmp(arguments[1], modes[i].name) == 0)
+            return modes[i].run(arguments[2]);
+    for (size_t i = 0; count == 4 && i < sizeof numbered / sizeof numbered[0]; i++)
+        if (strcmp(arguments[1], numbered[i].name) == 0)
+            return numbered[i].run(arguments[2], arguments[3]);
+    fprintf(stderr, "usage: embedded_test commits|calls|shows|memory|closed|makes FOLDER,\n"
+                    "       embedded_test faults|creates|copies|renews FOLDER N\n");
     return 2;
 }

@@ -1,18 +1,18 @@
-/* Measures transactions by the calls of lcrvm.h, of the client or of the library, each beside the same changes by hand on
-   two files, in alternating rounds.
+/* Measures transactions by the calls of lcrvm.h, each beside the same changes by hand on two files, in alternating
+   rounds.
 
-   usage: bench [--short] PROGRAM [FOLDER]     (PROGRAM: lcrvm, which the library does not read; FOLDER: where the files
-                                               stand, by itself where it runs)
+   usage: bench [--short] [FOLDER]     (FOLDER: where the files stand, by itself where it runs)
 
    The store has 64 pages of 256 bytes and a log of 4,096 words; a change is 5 bytes at a random place, from a fixed
    seed. By hand a commit keeps the old bytes, sets the new ones in memory and makes a record of 64 bytes; a flush is
    four calls on a file of records: the records but for their first byte, a sync, that byte, a sync. An emptied log is
-   one write of all pages and a sync, and one byte of the log and a sync. Both change the same bytes in the same order,
-   and at the end they are compared. It takes half a minute or more; with --short, a few seconds.
+   one write of all pages and a sync, and one byte of the log and a sync. Both change the same bytes in the same
+   order, and at the end they are compared. Before an opening with commits in the log a child commits, and ends
+   without a close. With glibc the allocations of a lazy commit are counted. It takes some seconds.
 
-   cc -std=c11 -O2 -I../../include bench.c lcrvm.c -o bench
-   cc -std=c11 -O2 -I../../include bench.c embedded.c ../../crates/lc_c/out/liblc_c.a KIT/c/liblibc_c.a -o bench */
-#define _POSIX_C_SOURCE 200809L
+   cc -std=c11 -O2 -pthread -I../../include bench.c embedded.c ../../crates/lc_c/out/liblc_c.a KIT/c/liblibc_c.a \
+       -o bench */
+#define _DEFAULT_SOURCE
 
 #include "lcrvm.h"
 
@@ -22,6 +22,7 @@
 #include <stdlib.h>
 #include <string.h>
 #include <sys/stat.h>
+#include <sys/wait.h>
 #include <time.h>
 #include <unistd.h>
 
@@ -44,7 +45,8 @@ struct change {
     unsigned char bytes[CHANGE_BYTES];
 };
 
-/* What is done by hand: files of records and of pages, the bytes in memory, and the records that are in no file yet. */
+/* What is done by hand: files of records and of pages, the bytes in memory, and the records that are in no file
+   yet. */
 struct hand {
     int log, pages;
     char log_path[PATH_BYTES], pages_path[PATH_BYTES];
@@ -70,6 +72,26 @@ struct work {
     void (*by_store)(struct bench *bench, int count);
     void (*by_hand)(struct bench *bench, int count);
 };
+
+/* How often memory was asked for, where that is known. */
+static long asked;
+
+#ifdef __GLIBC__
+void *__libc_malloc(size_t size);
+void *__libc_realloc(void *block, size_t size);
+
+void *malloc(size_t size)
+{
+    asked++;
+    return __libc_malloc(size);
+}
+
+void *realloc(void *block, size_t size)
+{
+    asked++;
+    return __libc_realloc(block, size);
+}
+#endif
 
 static void stop(const char *what)
 {
@@ -129,20 +151,21 @@ static void close_store(struct bench *bench)
     need(bench, status);
 }
 
-static void store_change(struct bench *bench, const struct change *change)
+static uint32_t store_change(struct bench *bench, const struct change *change)
 {
     const uint32_t segment = 1;
-    need(bench, lcrvm_begin_transaction(bench->store, 0, 0, &segment, 1, NULL, 0));
-    need(bench, lcrvm_set_range(bench->store, 0, 0, segment, change->offset, CHANGE_BYTES));
-    need(bench, lcrvm_write(bench->store, 0, 0, segment, change->offset, change->bytes, CHANGE_BYTES));
+    uint32_t thread;
+    need(bench, lcrvm_begin(bench->store, 0, &thread, &segment, 1, NULL, 0, 0));
+    need(bench, lcrvm_put(bench->store, 0, thread, segment, change->offset, change->bytes, CHANGE_BYTES));
+    return thread;
 }
 
-/* Commits the changes, and flushes behind each group of so many; of none, never. */
+/* Commits the changes, and flushes after each group of so many; of none, never. */
 static void store_commits(struct bench *bench, int count, int group)
 {
     for (int i = 0; i < count; i++) {
-        store_change(bench, &bench->changes[i]);
-        need(bench, lcrvm_end_transaction(bench->store, 0, 0, group > 0 && (i + 1) % group == 0, NULL));
+        uint32_t thread = store_change(bench, &bench->changes[i]);
+        need(bench, lcrvm_commit(bench->store, 0, &thread, group > 0 && (i + 1) % group == 0, NULL));
     }
 }
 
@@ -154,11 +177,9 @@ static void store_lazy(struct bench *bench, int count)
 static void store_aborts(struct bench *bench, int count)
 {
     for (int i = 0; i < count; i++) {
-        store_change(bench, &bench->changes[i]);
-        need(bench, lcrvm_abort_transaction(bench->store, 0, 0));
+        uint32_t thread = store_change(bench, &bench->changes[i]);
+        need(bench, lcrvm_abort(bench->store, 0, &thread));
     }
-    /* Lines that are sent ahead are done behind the reply of one that is waited for. */
-    need(bench, lcrvm_flush(bench->store, 0, NULL));
 }
 
 static void store_durable(struct bench *bench, int count)
@@ -287,11 +308,10 @@ static void hand_groups(struct bench *bench, int count)
     hand_commits(bench, count, GROUP);
 }
 
-/* Reads the pages and the records, does these, writes the pages, and empties the log. */
-static void hand_reopen(struct bench *bench, int count)
+/* Reads the pages and the records, and does these; how many there were. */
+static size_t hand_read(struct bench *bench)
 {
     struct hand *hand = &bench->hand;
-    (void)count;
     hand_open(hand);
     ssize_t read_pages = pread(hand->pages, hand->memory, SEGMENT_BYTES, 0);
     ssize_t length = pread(hand->log, hand->records, LOG_BYTES + 8, 0);
@@ -304,7 +324,15 @@ static void hand_reopen(struct bench *bench, int count)
         memcpy(&offset, hand->records + hand->tail + 32, sizeof offset);
         memcpy(hand->memory + offset, hand->records + hand->tail + 48, CHANGE_BYTES);
     }
-    hand_empty(hand);
+    return hand->tail / RECORD_BYTES;
+}
+
+/* Where there were records, it writes the pages and empties the log. */
+static void hand_reopen(struct bench *bench, int count)
+{
+    (void)count;
+    if (hand_read(bench) > 0)
+        hand_empty(&bench->hand);
 }
 
 /* ---- before a round */
@@ -316,12 +344,29 @@ static void empty_both(struct bench *bench, int count)
     hand_empty(&bench->hand);
 }
 
-static void leave_commits(struct bench *bench, int count)
+static void close_both(struct bench *bench, int count)
 {
     empty_both(bench, count);
-    store_commits(bench, count, 0);
-    need(bench, lcrvm_flush(bench->store, 0, NULL));
     close_store(bench);
+    hand_close(&bench->hand);
+}
+
+/* A child commits, and ends as if it were killed. */
+static void leave_commits(struct bench *bench, int count)
+{
+    int status = 1;
+    empty_both(bench, count);
+    close_store(bench);
+    fflush(stdout);
+    pid_t child = fork();
+    if (child == 0) {
+        open_store(bench);
+        store_commits(bench, count, 0);
+        need(bench, lcrvm_flush(bench->store, 0, NULL));
+        _exit(0);
+    }
+    if (child < 0 || waitpid(child, &status, 0) != child || status != 0)
+        stop("child");
     hand_commits(bench, count, 0);
     hand_flush(&bench->hand);
     hand_close(&bench->hand);
@@ -334,7 +379,8 @@ static const struct work works[] = {
     {"aborts", "abort", 400, 40, 1, empty_both, store_aborts, hand_aborts},
     {"durable commits", "commit", 32, 4, 1, empty_both, store_durable, hand_durable},
     {"durable commits, 8 to a flush", "8 commits", 256, 16, GROUP, empty_both, store_groups, hand_groups},
-    {"reopening with 400 commits behind", "opening", 400, 400, 400, leave_commits, store_reopen, hand_reopen},
+    {"opening after a clean close", "opening", 1, 1, 1, close_both, store_reopen, hand_reopen},
+    {"opening with 400 commits in the log", "opening", 400, 400, 400, leave_commits, store_reopen, hand_reopen},
     {"sustained, 8 to a flush, with truncations", "commit", 1200, 600, 1, empty_both, store_groups, hand_groups},
 };
 
@@ -374,13 +420,16 @@ static void measure(struct bench *bench, const struct work *work, int rounds, bo
     fflush(stdout);
 }
 
-/* How many calls a second are answered that have nothing to do; for the client each is a round trip. */
-static void measure_round_trips(struct bench *bench, int count)
+/* How often lazy commits ask for memory, once the store has had as many. */
+static void measure_allocations(struct bench *bench, int count)
 {
-    double start = now();
-    for (int i = 0; i < count; i++)
-        need(bench, lcrvm_flush(bench->store, 0, NULL));
-    printf("\n%.0f round trips a second\n", count / (now() - start) * 1e6);
+    empty_both(bench, count);
+    choose_changes(bench, count);
+    long before = asked;
+    store_commits(bench, count, 0);
+    if (asked > 0)
+        printf("\n%d lazy commits ask for memory %ld times\n", count, asked - before);
+    hand_commits(bench, count, 0);
 }
 
 /* Whether the store has the bytes that were made by hand. */
@@ -415,20 +464,18 @@ int main(int count, char *words[])
     char room[PATH_BYTES / 2];
     bool is_short = count > 1 && strcmp(words[1], "--short") == 0;
     int first = is_short ? 2 : 1, rounds = is_short ? 3 : MOST_ROUNDS;
-    if (count <= first || count > first + 2) {
-        fprintf(stderr, "usage: bench [--short] PROGRAM [FOLDER]\n");
+    if (count > first + 1) {
+        fprintf(stderr, "usage: bench [--short] [FOLDER]\n");
         return 2;
     }
-    snprintf(room, sizeof room, "%.200s/bench.XXXXXX", count > first + 1 ? words[first + 1] : ".");
+    snprintf(room, sizeof room, "%.200s/bench.XXXXXX", count > first ? words[first] : ".");
     if (mkdtemp(room) == NULL)
         stop(room);
     snprintf(bench.folder, sizeof bench.folder, "%s/store", room);
     snprintf(bench.hand.log_path, sizeof bench.hand.log_path, "%s/log", room);
     snprintf(bench.hand.pages_path, sizeof bench.hand.pages_path, "%s/pages", room);
-    bench.options = (struct lcrvm_options){.program = words[first], .geometry = &geometry, .truncate_when_full = true};
+    bench.options = (struct lcrvm_options){.geometry = &geometry};
     bench.seed = UINT64_C(0x9e3779b97f4a7c15);
-    if (mkdir(bench.folder, 0777) != 0)
-        stop(bench.folder);
     need(&bench, lcrvm_create(bench.folder, &bench.options, NULL));
     open_store(&bench);
     hand_open(&bench.hand);
@@ -437,7 +484,7 @@ int main(int count, char *words[])
     printf("%-42s %-10s %11s %11s %11s %11s %8s\n", "", "one", "median", "least", "by hand", "least", "ratio");
     for (size_t i = 0; i < sizeof works / sizeof works[0]; i++)
         measure(&bench, &works[i], rounds, is_short);
-    measure_round_trips(&bench, is_short ? 1000 : 20000);
+    measure_allocations(&bench, works[0].changes);
     bool same = agree(&bench);
     printf("%s\n", same ? "both have the same bytes" : "failed: the bytes differ");
     close_store(&bench);

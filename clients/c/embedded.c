@@ -1,231 +1,62 @@
-/* The library: recoverable virtual memory in a C program's own process, by the calls of lcrvm.h. The store is a static library,
-   liblc_c.a, and its files are read and written here.
+/* The library: recoverable virtual memory in a program's own process, by the calls of lcrvm.h. The store is a proved
+   static library, liblc_c.a, and its files are read and written here.
 
-   Each event of the store makes at most one call on one of its areas in memory: a write, or a sync. The same call is made on
-   the area's file, by pwrite or fdatasync, before the event is answered; but a sync makes none where all that was written to
-   the file is stable. Where a call fails the store is given up: this call and each later one answer LCRVM_DEVICE_FAULT, a file
-   `fault` is left in the folder, and a recovery has what was acknowledged.
+   Each event of the store makes at most one call on one of its areas in memory: a write, or a sync. The same call is
+   made on the area's file, by pwrite or fdatasync, before the event is answered; but a sync makes none where all that
+   was written to the file is stable. Where a call fails the store is given up: this call and each later one answer
+   LCRVM_DEVICE_FAULT, a file `fault` is left in the folder, and a recovery has what was acknowledged.
 
-   The size of a store stands in a file of its own, which is made before the others. So a store whose creation was cut,
-   or that has lost a file, is not opened. */
+   The size of a store stands in a file of its own, which is made before the others. So a store whose creation was
+   cut, or that has lost a file, is not opened.
+
+   cc -std=c11 -Wall -Wextra -O2 -pthread -c clients/c/embedded.c */
 
 /* flock is no POSIX function. */
 #define _DEFAULT_SOURCE
 
-#include "lcrvm.h"
+#include "../../include/lcrvm.h"
+#include "descriptors.h"
+#include "emptying.h"
+#include "logs.h"
+#include "new_files.h"
+#include "renewed_files.h"
+#include "session.h"
 #include "statuses.h"
+#include "store.h"
 #include "store_files.h"
 #include "transactions.h"
+#include "waiting.h"
 
 #include <errno.h>
 #include <fcntl.h>
+#include <pthread.h>
 #include <stdlib.h>
+#include <string.h>
 #include <sys/stat.h>
 #include <sys/types.h>
 #include <unistd.h>
 
-/* What crosses to the library, as lc_c declares it. */
-
-struct handle {
-    void *at;
-    bool held;
-};
-
-enum reply {
-    DONE,
-    RESERVED,
-    ENDED,
-    STEPPED,
-    ACKED,
-    NOTHING,
-    APPLIED,
-    HELD_BACK,
-    IGNORED,
-    TRIMMED,
-    WRITTEN,
-    RESET,
-    RECOVERED,
-    BYTES,
-    DOWN
-};
-
-struct answer {
-    uint32_t status, reply;
-    bool has_area;
-    uint32_t segment, area, words, tail, need, place;
-    uint64_t sequence, applied, count;
-};
-
-enum kind { NO_CALL, WRITE, SYNC };
-
-struct last_call {
-    uint32_t kind;
-    uint64_t calls, at, len;
-};
-
-uint32_t lcrvm_session_new(uint16_t nodes, uint16_t threads, uint32_t segments, uint32_t pages, uint32_t words,
-                           struct handle *handle);
-uint32_t lcrvm_session_area(struct handle *handle, const uint8_t *bytes, size_t len);
-uint32_t lcrvm_session_start(struct handle *handle, struct answer *answer);
-uint32_t lcrvm_session_recover_step(struct handle *handle, struct answer *answer);
-uint32_t lcrvm_session_begin(struct handle *handle, uint16_t node, uint16_t thread, const uint32_t *writing,
-                             size_t writing_count, const uint32_t *reading, size_t reading_count,
-                             struct answer *answer);
-uint32_t lcrvm_session_set_range(struct handle *handle, uint16_t node, uint16_t thread, uint32_t segment,
-                                 uint32_t offset, uint32_t len, struct answer *answer);
-uint32_t lcrvm_session_write(struct handle *handle, uint16_t node, uint16_t thread, uint32_t segment, uint32_t offset,
-                             const uint8_t *bytes, size_t len, struct answer *answer);
-uint32_t lcrvm_session_read(struct handle *handle, uint16_t node, uint16_t thread, uint32_t segment, uint32_t offset,
-                            uint8_t *buffer, size_t len, struct answer *answer);
-uint32_t lcrvm_session_abort(struct handle *handle, uint16_t node, uint16_t thread, struct answer *answer);
-uint32_t lcrvm_session_reserve(struct handle *handle, uint16_t node, uint16_t thread, struct answer *answer);
-uint32_t lcrvm_session_close_record(struct handle *handle, uint16_t node, uint16_t thread, struct answer *answer);
-uint32_t lcrvm_session_flush_step(struct handle *handle, uint16_t node, struct answer *answer);
-uint32_t lcrvm_session_page_step(struct handle *handle, uint16_t node, uint32_t segment, uint32_t page,
-                                 struct answer *answer);
-uint32_t lcrvm_session_reset_step(struct handle *handle, uint16_t node, struct answer *answer);
-uint32_t lcrvm_session_leave(struct handle *handle, uint16_t node, uint32_t segment, struct answer *answer);
-uint32_t lcrvm_session_arrive(struct handle *handle, uint16_t node, uint32_t segment, struct answer *answer);
-uint32_t lcrvm_session_deliver(struct handle *handle, uint16_t sender, uint64_t number, uint32_t segment, uint16_t to,
-                               struct answer *answer);
-uint32_t lcrvm_session_trim(struct handle *handle, uint16_t node, struct answer *answer);
-bool lcrvm_session_last_call(struct handle *handle, uint32_t place, struct last_call *call);
-bool lcrvm_session_bytes(struct handle *handle, uint32_t place, size_t at, uint8_t *buffer, size_t len);
-void lcrvm_session_give_up(struct handle *handle);
-void lcrvm_session_free(struct handle handle);
-
-struct lcrvm_store {
-    struct handle session;
-    struct known known;
-    struct lcrvm_geometry stated; /* by the folder; of no nodes where it states none */
-    pid_t process;                /* whose store it is: a child of its fork leaves it the locks */
-    int folder, files[MOST_AREAS];
-    uint32_t areas;
-    uint64_t calls[MOST_AREAS];                /* of each area, those that its file has had */
-    bool stable[MOST_AREAS];                   /* of each file, whether all that was written to it is */
-    bool dirty[MOST_SEGMENTS + 1][MOST_PAGES]; /* whether a record is newer than the page in its file */
-    uint8_t *bytes;                            /* room for what one call writes */
-};
-
-/* Keeps why a call did nothing. */
-static enum lcrvm_status failed(struct lcrvm_store *store, enum lcrvm_status status, const char *text)
-{
-    return fill_fault(&store->known.last, status, text);
-}
-
-static enum lcrvm_status refused(struct lcrvm_store *store, const struct answer *answer)
-{
-    if (answer->status == LCRVM_OK)
-        return LCRVM_OK;
-    store->known.last = (struct lcrvm_fault){
-        .status = (enum lcrvm_status)answer->status,
-        .has_area = answer->has_area,
-        .segment = answer->segment,
-        .sequence = answer->sequence,
-        .applied = answer->applied,
-        .area = answer->area,
-        .words = answer->words,
-        .tail = answer->tail,
-        .need = answer->need,
-    };
-    return store->known.last.status;
-}
-
-static bool write_area(struct lcrvm_store *store, uint32_t place, size_t at, size_t len)
-{
-    if (len > 0)
-        store->stable[place] = false;
-    return lcrvm_session_bytes(&store->session, place, at, store->bytes, len) &&
-           write_whole(store->files[place], store->bytes, len, at);
-}
-
-static bool sync_area(struct lcrvm_store *store, uint32_t place)
-{
-    if (!store->stable[place])
-        store->stable[place] = make_stable(store->files[place], fdatasync);
-    return store->stable[place];
-}
-
-/* Makes on the file of an area the call that was made on the area. */
-static bool mirror_call(struct lcrvm_store *store, uint32_t place, const struct last_call *call)
-{
-    switch (call->kind) {
-    case WRITE:
-        return write_area(store, place, call->at, call->len);
-    case SYNC:
-        return sync_area(store, place);
-    default:
-        return true;
-    }
-}
-
-/* Leaves a mark for whoever opens the store next. It takes no descriptor, of which the caller may have none left. */
-static void leave_mark(struct lcrvm_store *store)
-{
-    if (mknodat(store->folder, mark, S_IFREG | 0666, 0) != 0 && errno != EEXIST)
-        add_line(&store->known.last, mark, "not made: unmount the file system before the store is opened again");
-}
-
-/* The file of an area has failed: the store is given up. */
-static enum lcrvm_status given_up(struct lcrvm_store *store, uint32_t place)
-{
-    char name[NAME_BYTES];
-
-    name_of(&store->known.geometry, place, name);
-    file_failed(&store->known.last, name);
-    leave_mark(store);
-    lcrvm_session_give_up(&store->session);
-    store->known.dead = true;
-    return store->known.last.status;
-}
-
-/* Behind an event: what was called of an area is called of its file, and only then the answer is given. */
-static enum lcrvm_status mirrored(struct lcrvm_store *store, const struct answer *answer)
-{
-    if (store->known.dead)
-        return store->known.last.status;
-    for (uint32_t place = 0; place < store->areas; place++) {
-        struct last_call call = {0};
-
-        if (!lcrvm_session_last_call(&store->session, place, &call) || call.calls == store->calls[place])
-            continue;
-        errno = EIO;
-        if (call.calls - store->calls[place] != 1 || !mirror_call(store, place, &call))
-            return given_up(store, place);
-        store->calls[place] = call.calls;
-    }
-    return refused(store, answer);
-}
-
-/* New stores. */
+/* ---- new stores */
 
 enum lcrvm_status lcrvm_create(const char *folder, const struct lcrvm_options *options, struct lcrvm_fault *fault)
 {
-    const struct lcrvm_geometry *geometry = size_of(options != NULL ? options : &no_options);
-    struct lcrvm_fault said = {.status = LCRVM_OK};
-    int opened;
+    const struct lcrvm_options *wanted = options != NULL ? options : &no_options;
 
-    if (!is_size(geometry))
-        return say(fault, LCRVM_UNKNOWN);
-    opened = open_folder(AT_FDCWD, folder);
-    if (opened < 0)
-        system_failed(&said);
-    else
-        create_in(opened, geometry, &said);
-    unlock(opened);
-    close_file(opened);
-    return tell(fault, &said);
+    if (folder == NULL)
+        return told_to(failed(LCRVM_MISUSE, ""), fault);
+    if (!is_wanted(wanted))
+        return told_to(failed(LCRVM_UNKNOWN, ""), fault);
+    return told_to(make_store(folder, size_of(wanted), NULL, &fault_here), fault);
 }
 
-/* Opening. */
+/* ---- opening */
 
 /* Opens the file of an area, and locks it. */
 static enum lcrvm_status open_file(struct lcrvm_store *store, uint32_t place, const char *name)
 {
-    struct lcrvm_fault *fault = &store->known.last;
+    int file = open_regular(&store->kept, (int)place, name, O_RDWR, &fault_here);
 
-    store->files[place] = open_regular(store->folder, name, O_RDWR, fault);
-    return store->files[place] < 0 ? fault->status : lock_file(store->files[place], name, fault);
+    return file < 0 ? fault_here.status : lock_file(file, name, &fault_here);
 }
 
 /* Looks at the names of a kind above those of the geometry: EXISTS where one is taken, and its file is opened. */
@@ -236,10 +67,10 @@ static enum lcrvm_status look_beyond(struct lcrvm_store *store, const char *kind
 
     for (uint32_t number = first; number <= last && status == LCRVM_OK; number++) {
         write_name(kind, number, name);
-        status = look_at(store->folder, name, &store->known.last);
+        status = look_at(store->kept.of[FOLDER], name, &fault_here);
     }
     if (status == LCRVM_EXISTS && open_file(store, store->areas, name) != LCRVM_OK)
-        return store->known.last.status;
+        return fault_here.status;
     return status;
 }
 
@@ -248,14 +79,14 @@ static enum lcrvm_status add_area(struct lcrvm_store *store, const uint8_t *byte
 {
     enum lcrvm_status status = (enum lcrvm_status)lcrvm_session_area(&store->session, bytes, len);
 
-    return status == LCRVM_OK ? LCRVM_OK : failed(store, status, "");
+    return status == LCRVM_OK ? LCRVM_OK : failed(status, "");
 }
 
 /* A file above those of the geometry is an area too many, which the start refuses. */
 static enum lcrvm_status add_beyond(struct lcrvm_store *store)
 {
     static const uint8_t none = 0;
-    const struct lcrvm_geometry *geometry = &store->known.geometry;
+    const struct lcrvm_geometry *geometry = &store->geometry;
     enum lcrvm_status status = look_beyond(store, log_kind, geometry->nodes, MOST_NODES - 1);
 
     if (status == LCRVM_OK)
@@ -276,19 +107,19 @@ static enum lcrvm_status read_file(struct lcrvm_store *store, uint32_t place, co
 {
     struct stat at;
     uint8_t *bytes;
-    size_t len = len_of(&store->known.geometry, place);
+    size_t len = len_of(&store->geometry, place);
     enum lcrvm_status status;
 
-    if (fstat(store->files[place], &at) != 0)
-        return file_failed(&store->known.last, name);
+    if (fstat(store->kept.of[place], &at) != 0)
+        return file_failed(&fault_here, name);
     len = at.st_size > (off_t)len ? len + 1 : (size_t)at.st_size;
     bytes = malloc(len + 1);
     if (bytes == NULL)
-        return failed(store, LCRVM_CLIENT_MEMORY, "");
-    if (read_whole(store->files[place], bytes, len))
+        return failed(LCRVM_NO_MEMORY, "");
+    if (read_whole(store->kept.of[place], bytes, len, 0))
         status = add_area(store, bytes, len);
     else
-        status = file_failed(&store->known.last, name);
+        status = file_failed(&fault_here, name);
     free(bytes);
     return status;
 }
@@ -299,37 +130,64 @@ static enum lcrvm_status add_file(struct lcrvm_store *store, uint32_t place)
     char name[NAME_BYTES];
     enum lcrvm_status status;
 
-    name_of(&store->known.geometry, place, name);
+    name_of(&store->geometry, place, name);
     status = open_file(store, place, name);
     return status == LCRVM_OK ? read_file(store, place, name) : status;
 }
 
-/* Begins a session for a store of this size, and adds its files. */
 static enum lcrvm_status add_files(struct lcrvm_store *store)
 {
-    const struct lcrvm_geometry *geometry = &store->known.geometry;
-    enum lcrvm_status status = (enum lcrvm_status)lcrvm_session_new(
-        bounded(geometry->nodes), bounded(geometry->threads), geometry->segments, geometry->pages, geometry->words,
-        &store->session);
+    enum lcrvm_status status = LCRVM_OK;
 
-    if (status != LCRVM_OK)
-        return failed(store, status, "");
-    store->areas = areas_of(geometry);
-    store->bytes = malloc(room_of(geometry));
-    if (store->bytes == NULL)
-        return failed(store, LCRVM_CLIENT_MEMORY, "");
     for (uint32_t place = 0; place < store->areas && status == LCRVM_OK; place++)
         status = add_file(store, place);
     return status == LCRVM_OK ? add_beyond(store) : status;
 }
 
-/* The areas become a store, where they have the lengths of its size. */
-static enum lcrvm_status start(struct lcrvm_store *store)
+/* Begins a session for a store of this size, adds its files, and makes them a store, where they have the lengths
+   of its size and that is the one which is stated. */
+static enum lcrvm_status load(struct lcrvm_store *store)
 {
+    const struct lcrvm_geometry *geometry = &store->geometry;
     struct answer answer = {0};
+    enum lcrvm_status status = (enum lcrvm_status)lcrvm_session_new(
+        bounded(geometry->nodes), bounded(geometry->threads), geometry->segments, geometry->pages, geometry->words,
+        &store->session);
 
+    if (status != LCRVM_OK)
+        return failed(status, "");
+    status = add_files(store);
+    if (status != LCRVM_OK)
+        return status;
     lcrvm_session_start(&store->session, &answer);
-    return refused(store, &answer);
+    status = refused(&answer);
+    if (status == LCRVM_OK && store->stated.nodes > 0)
+        status = compare_to_stated(store->kept.of[FOLDER], geometry, &store->stated, &fault_here);
+    return status;
+}
+
+static void unload(struct lcrvm_store *store)
+{
+    lcrvm_session_free(store->session);
+    store->session = (struct handle){0};
+    for (uint32_t place = 0; place < store->areas; place++)
+        unlock_kept(&store->kept, (int)place);
+}
+
+/* Where a fault has left its mark each file is copied, and only what is on the device is read. Of areas that are
+   not those of the geometry nothing is copied. */
+static enum lcrvm_status load_renewed(struct lcrvm_store *store)
+{
+    enum lcrvm_status marked = look_at(store->kept.of[FOLDER], mark, &fault_here), status;
+
+    if (marked != LCRVM_OK && marked != LCRVM_EXISTS)
+        return marked;
+    status = load(store);
+    if (status != LCRVM_OK || marked == LCRVM_OK)
+        return status;
+    status = renew_files(&store->kept, &store->geometry, &fault_here);
+    unload(store);
+    return status == LCRVM_OK ? load(store) : status;
 }
 
 static enum lcrvm_status recover(struct lcrvm_store *store)
@@ -339,7 +197,7 @@ static enum lcrvm_status recover(struct lcrvm_store *store)
 
     while (status == LCRVM_OK && answer.reply != RECOVERED) {
         lcrvm_session_recover_step(&store->session, &answer);
-        status = mirrored(store, &answer);
+        status = all_mirrored(store, &answer);
     }
     return status;
 }
@@ -347,81 +205,70 @@ static enum lcrvm_status recover(struct lcrvm_store *store)
 /* Makes the file that states the size stable. */
 static enum lcrvm_status sync_size(struct lcrvm_store *store)
 {
-    struct lcrvm_fault *fault = &store->known.last;
     enum lcrvm_status status = LCRVM_OK;
     int file;
 
     if (store->stated.nodes == 0)
         return LCRVM_OK;
-    file = open_regular(store->folder, size_name, O_RDONLY, fault);
+    file = open_regular(&store->kept, ONE_FILE, size_name, O_RDONLY, &fault_here);
     if (file < 0)
-        return fault->status;
+        return fault_here.status;
     if (!make_stable(file, fsync)) {
-        status = file_failed(fault, size_name);
-        leave_mark(store);
+        status = file_failed(&fault_here, size_name);
+        leave_mark(store->kept.of[FOLDER], &fault_here);
     }
-    close_file(file);
+    close_kept(&store->kept, ONE_FILE);
     return status;
 }
 
-/* Makes the size and the names of the files stable: those of a store whose creation was cut, or of a copy, need not be. */
+/* Makes the size and the names of the files stable: those of a store whose creation was cut, or of a copy, need
+   not be. */
 static enum lcrvm_status sync_folder(struct lcrvm_store *store)
 {
     enum lcrvm_status status = sync_size(store);
 
-    if (status == LCRVM_OK && !make_stable(store->folder, fsync)) {
-        status = system_failed(&store->known.last);
-        leave_mark(store);
+    if (status == LCRVM_OK && !make_stable(store->kept.of[FOLDER], fsync)) {
+        status = system_failed(&fault_here);
+        leave_mark(store->kept.of[FOLDER], &fault_here);
     }
     return status;
-}
-
-/* Where a mark stands, a file had failed: what the system has of it in memory alone may be lost. */
-static enum lcrvm_status look_for_mark(struct lcrvm_store *store)
-{
-    enum lcrvm_status status = look_at(store->folder, mark, &store->known.last);
-
-    if (status != LCRVM_EXISTS)
-        return status;
-    return failed(store, LCRVM_DEVICE_FAULT, "a file had failed: lcrvm recover copies the files first");
 }
 
 /* The size is that of the caller, or else that which is stated, or else that of the files. */
 static enum lcrvm_status take_size(struct lcrvm_store *store, const struct lcrvm_options *options)
 {
-    struct lcrvm_geometry *geometry = &store->known.geometry;
     enum lcrvm_status status;
 
     store->stated.threads = options->geometry != NULL ? options->geometry->threads : threads_of(options);
-    status = read_stated(store->folder, &store->stated, &store->known.last);
+    status = read_stated(&store->kept, &store->stated, &fault_here);
     if (status != LCRVM_OK)
         return status;
-    *geometry = options->geometry != NULL ? *options->geometry : store->stated;
-    return geometry->nodes > 0 ? LCRVM_OK : find_size(store->folder, geometry, &store->known.last);
+    store->geometry = options->geometry != NULL ? *options->geometry : store->stated;
+    if (store->geometry.nodes == 0)
+        status = find_size(store->kept.of[FOLDER], &store->geometry, &fault_here);
+    store->areas = areas_of(&store->geometry);
+    return status;
 }
 
 /* Fills a store whose folder and session are none yet. As found, no file is in a folder that is not there. */
-static enum lcrvm_status open_in(struct lcrvm_store *store, const char *folder, const struct lcrvm_options *options)
+static enum lcrvm_status open_in(struct lcrvm_store *store, const char *path, const struct lcrvm_options *options)
 {
-    struct lcrvm_fault *fault = &store->known.last;
+    int folder = open_folder(&store->kept, FOLDER, AT_FDCWD, path);
     enum lcrvm_status status;
 
-    store->folder = open_folder(AT_FDCWD, folder);
-    if (store->folder < 0 && errno == ENOENT && options->geometry == NULL)
-        return no_store(fault, log_kind, 0, "is missing");
-    if (store->folder < 0)
-        return system_failed(fault);
-    status = lock_folder(store->folder, fault);
+    if (folder < 0 && errno == ENOENT && options->geometry == NULL)
+        return no_store(&fault_here, log_kind, 0, "is missing");
+    if (folder < 0)
+        return system_failed(&fault_here);
+    status = lock_folder(folder, &fault_here);
     if (status == LCRVM_OK)
         status = take_size(store, options);
-    if (status == LCRVM_OK)
-        status = look_for_mark(store);
-    if (status == LCRVM_OK)
-        status = add_files(store);
-    if (status == LCRVM_OK)
-        status = start(store);
-    if (status == LCRVM_OK && store->stated.nodes > 0)
-        status = compare_to_stated(store->folder, &store->known.geometry, &store->stated, fault);
+    if (status != LCRVM_OK)
+        return status;
+    store->bytes = malloc(room_of(&store->geometry));
+    if (store->bytes == NULL)
+        return failed(LCRVM_NO_MEMORY, "");
+    status = load_renewed(store);
     if (status == LCRVM_OK)
         status = sync_folder(store);
     return status == LCRVM_OK ? recover(store) : status;
@@ -429,33 +276,34 @@ static enum lcrvm_status open_in(struct lcrvm_store *store, const char *folder, 
 
 static struct lcrvm_store *new_store(void)
 {
-    struct lcrvm_store *store = calloc(1, sizeof *store);
+    struct lcrvm_store *store = follows_forks ? calloc(1, sizeof *store) : NULL;
 
     if (store == NULL)
         return NULL;
-    store->process = getpid();
-    store->folder = -1;
-    for (uint32_t place = 0; place < MOST_AREAS; place++)
-        store->files[place] = -1;
+    store->forks = forks;
+    pthread_mutex_init(&store->events, NULL);
+    pthread_cond_init(&store->idle, NULL);
+    keep_descriptors(&store->kept);
     return store;
 }
 
-/* Closes a file of the store, or its folder. */
-static void let_go(const struct lcrvm_store *store, int file)
+/* Frees what a store has in memory. */
+static void free_memory(struct lcrvm_store *store)
 {
-    if (store->process == getpid())
-        unlock(file);
-    close_file(file);
+    lcrvm_session_free(store->session);
+    for (uint32_t node = 0; node < MOST_NODES; node++)
+        for (uint32_t thread = 0; thread < MOST_THREADS; thread++)
+            forget_bytes(&store->begun[node][thread]);
+    free(store->bytes);
+    free(store);
 }
 
 static void free_store(struct lcrvm_store *store)
 {
-    lcrvm_session_free(store->session);
-    for (uint32_t place = 0; place < MOST_AREAS; place++)
-        let_go(store, store->files[place]);
-    let_go(store, store->folder);
-    free(store->bytes);
-    free(store);
+    release_descriptors(&store->kept);
+    pthread_cond_destroy(&store->idle);
+    pthread_mutex_destroy(&store->events);
+    free_memory(store);
 }
 
 enum lcrvm_status lcrvm_open(const char *folder, const struct lcrvm_options *options, struct lcrvm_store **store,
@@ -465,116 +313,139 @@ enum lcrvm_status lcrvm_open(const char *folder, const struct lcrvm_options *opt
     struct lcrvm_store *opened;
     enum lcrvm_status status;
 
+    if (store == NULL)
+        return told_to(failed(LCRVM_MISUSE, ""), fault);
     *store = NULL;
+    if (folder == NULL)
+        return told_to(failed(LCRVM_MISUSE, ""), fault);
     if (!is_wanted(wanted))
-        return say(fault, LCRVM_UNKNOWN);
+        return told_to(failed(LCRVM_UNKNOWN, ""), fault);
     opened = new_store();
     if (opened == NULL)
-        return say(fault, LCRVM_CLIENT_MEMORY);
+        return told_to(failed(LCRVM_NO_MEMORY, ""), fault);
     status = open_in(opened, folder, wanted);
     if (status != LCRVM_OK) {
-        tell(fault, &opened->known.last);
         free_store(opened);
-        return status;
+        return told_to(status, fault);
     }
-    say(&opened->known.last, LCRVM_OK);
-    place_tokens(&opened->known);
-    opened->known.truncate_when_full = wanted->truncate_when_full;
+    place_tokens(opened);
     *store = opened;
-    return LCRVM_OK;
+    return told_to(LCRVM_OK, fault);
 }
 
-enum lcrvm_status lcrvm_close(struct lcrvm_store *store, struct lcrvm_fault *fault)
-{
-    enum lcrvm_status status = store->known.dead ? tell(fault, &store->known.last) : say(fault, LCRVM_OK);
+/* ---- the way into a store and out of it */
 
-    free_store(store);
-    return status;
+/* Whether this process may call the store at all. No lock is taken of a store of the parent. */
+static enum lcrvm_status look_at_store(const struct lcrvm_store *store)
+{
+    if (store == NULL)
+        return failed(LCRVM_MISUSE, "");
+    return store->forks == forks ? LCRVM_OK : failed(LCRVM_FORKED, "");
 }
 
-/* The calls, each an event or a row of events. A slice of nothing has an address all the same. */
-
-enum lcrvm_status lcrvm_begin_transaction(struct lcrvm_store *store, uint32_t node, uint32_t thread,
-                                          const uint32_t *segments, size_t count, const uint32_t *reading,
-                                          size_t reading_count)
+/* Whether a call may begin: it has the lock then, and gives it back by `done`. Else it answers `not_entered`. */
+static bool enter(struct lcrvm_store *store)
 {
-    static const uint32_t none = 0;
-    struct answer answer = {0};
-    enum lcrvm_status status;
-    bool outside;
+    enum lcrvm_status status = look_at_store(store);
 
-    lcrvm_session_begin(&store->session, bounded(node), bounded(thread), count > 0 ? segments : &none, count,
-                        reading_count > 0 ? reading : &none, reading_count, &answer);
-    status = mirrored(store, &answer);
-    if (status == LCRVM_OK) {
-        uint32_t writing = set_of(segments, count, &outside);
-
-        note_begun(&store->known, node, thread, writing, set_of(reading, reading_count, &outside) & ~writing);
+    if (status != LCRVM_OK) {
+        told(status);
+        return false;
     }
-    return status;
+    atomic_fetch_add(&store->within, 1);
+    pthread_mutex_lock(&store->events);
+    if (!store->over)
+        return true;
+    told(is_over(store));
+    atomic_fetch_sub(&store->within, 1);
+    pthread_mutex_unlock(&store->events);
+    return false;
 }
 
-enum lcrvm_status lcrvm_set_range(struct lcrvm_store *store, uint32_t node, uint32_t thread, uint32_t segment,
-                                  uint32_t offset, uint32_t length)
+static enum lcrvm_status not_entered(void)
+{
+    return fault_told.status;
+}
+
+/* What a call answers that has entered. */
+static enum lcrvm_status done(struct lcrvm_store *store, enum lcrvm_status status)
+{
+    if (store->over)
+        serve_waiters(store);
+    atomic_fetch_sub(&store->within, 1);
+    pthread_mutex_unlock(&store->events);
+    return told(status);
+}
+
+/* ---- events, by a thread that has the lock. A slice of nothing has an address all the same. */
+
+static enum lcrvm_status set_range_now(struct lcrvm_store *store, uint32_t node, uint32_t thread, uint32_t segment,
+                                       uint32_t offset, uint32_t length)
 {
     struct answer answer = {0};
-    enum lcrvm_status status;
+    enum lcrvm_status status = restore(store, node, thread);
 
+    if (status != LCRVM_OK)
+        return status;
     lcrvm_session_set_range(&store->session, bounded(node), bounded(thread), segment, offset, length, &answer);
-    status = mirrored(store, &answer);
+    status = answered(store, &answer);
     if (status == LCRVM_OK)
-        add_range(&store->known.begun[node][thread], (struct range){segment, offset, offset + length});
+        add_range(&store->begun[node][thread], (struct range){segment, offset, offset + length});
     return status;
 }
 
-enum lcrvm_status lcrvm_write(struct lcrvm_store *store, uint32_t node, uint32_t thread, uint32_t segment,
-                              uint32_t offset, const void *bytes, uint32_t length)
+static enum lcrvm_status write_now(struct lcrvm_store *store, uint32_t node, uint32_t thread, uint32_t segment,
+                                   uint32_t offset, const void *bytes, uint32_t length)
 {
     struct answer answer = {0};
+    enum lcrvm_status status = length > 0 ? restore(store, node, thread) : LCRVM_OK;
 
-    if (length > 0)
-        lcrvm_session_write(&store->session, bounded(node), bounded(thread), segment, offset, bytes, length, &answer);
-    return mirrored(store, &answer);
+    if (status != LCRVM_OK || length == 0)
+        return status;
+    lcrvm_session_write(&store->session, bounded(node), bounded(thread), segment, offset, bytes, length, &answer);
+    return answered(store, &answer);
 }
 
-enum lcrvm_status lcrvm_read(struct lcrvm_store *store, uint32_t node, uint32_t thread, uint32_t segment,
-                             uint32_t offset, void *bytes, uint32_t length)
+static enum lcrvm_status put_now(struct lcrvm_store *store, uint32_t node, uint32_t thread, uint32_t segment,
+                                 uint32_t offset, const void *bytes, uint32_t length)
+{
+    enum lcrvm_status status = length > 0 ? set_range_now(store, node, thread, segment, offset, length) : LCRVM_OK;
+
+    return status == LCRVM_OK ? write_now(store, node, thread, segment, offset, bytes, length) : status;
+}
+
+static enum lcrvm_status read_now(struct lcrvm_store *store, uint32_t node, uint32_t thread, uint32_t segment,
+                                  uint32_t offset, void *bytes, uint32_t length)
 {
     uint8_t none = 0;
     struct answer answer = {0};
+    enum lcrvm_status status = restore(store, node, thread);
 
+    if (status != LCRVM_OK)
+        return status;
     lcrvm_session_read(&store->session, bounded(node), bounded(thread), segment, offset, length > 0 ? bytes : &none,
                        length, &answer);
-    return mirrored(store, &answer);
+    return answered(store, &answer);
 }
 
-enum lcrvm_status lcrvm_abort_transaction(struct lcrvm_store *store, uint32_t node, uint32_t thread)
+static enum lcrvm_status abort_now(struct lcrvm_store *store, uint32_t node, uint32_t thread)
 {
     struct answer answer = {0};
     enum lcrvm_status status;
 
     lcrvm_session_abort(&store->session, bounded(node), bounded(thread), &answer);
-    status = mirrored(store, &answer);
-    if (status == LCRVM_OK)
-        store->known.begun[node][thread].open = false;
+    status = answered(store, &answer);
+    if (status == LCRVM_OK) {
+        end_begun(store, &store->begun[node][thread]);
+        serve_waiters(store);
+    }
     return status;
-}
-
-/* The pages that a range touches, the last of them too. */
-static uint32_t first_page(const struct range *range)
-{
-    return range->low / PAGE_BYTES;
-}
-
-static uint32_t last_page(const struct range *range)
-{
-    return (range->high - 1) / PAGE_BYTES;
 }
 
 /* The transaction is over, and its record is newer than the pages that its ranges touch. */
 static void note_commit(struct lcrvm_store *store, uint32_t node, uint32_t thread)
 {
-    struct begun *begun = &store->known.begun[node][thread];
+    struct begun *begun = &store->begun[node][thread];
 
     for (size_t i = 0; i < begun->count; i++) {
         const struct range *range = &begun->ranges[i];
@@ -582,8 +453,9 @@ static void note_commit(struct lcrvm_store *store, uint32_t node, uint32_t threa
         for (uint32_t page = first_page(range); page <= last_page(range); page++)
             store->dirty[range->segment][page] = true;
     }
-    store->known.records[node] += begun->count > 0;
-    begun->open = false;
+    store->records[node] += begun->count > 0;
+    end_begun(store, begun);
+    serve_waiters(store);
 }
 
 /* Gives the transaction its place in the log, and completes its record. */
@@ -591,157 +463,337 @@ static enum lcrvm_status commit_now(struct lcrvm_store *store, uint32_t node, ui
                                     struct lcrvm_commit *placed)
 {
     struct answer answer = {0};
-    enum lcrvm_status status;
+    enum lcrvm_status status = restore(store, node, thread);
 
+    *placed = (struct lcrvm_commit){0, 0};
+    if (status != LCRVM_OK)
+        return status;
     lcrvm_session_reserve(&store->session, bounded(node), bounded(thread), &answer);
-    status = mirrored(store, &answer);
+    status = answered(store, &answer);
     if (status == LCRVM_OK && answer.reply == RESERVED) {
         *placed = (struct lcrvm_commit){.place = answer.place, .words = answer.words};
         lcrvm_session_close_record(&store->session, bounded(node), bounded(thread), &answer);
-        status = mirrored(store, &answer);
+        status = answered(store, &answer);
     }
     if (status == LCRVM_OK)
         note_commit(store, node, thread);
     return status;
 }
 
-static enum lcrvm_status flush_now(struct lcrvm_store *store, uint32_t node)
+/* Commits by a thread that is at the files, and empties the log where it is still full. */
+static enum lcrvm_status commit_at_files(struct lcrvm_store *store, uint32_t node, uint32_t thread,
+                                         struct lcrvm_commit *placed)
 {
-    struct answer answer = {0};
+    enum lcrvm_status status = commit_now(store, node, thread, placed);
+    struct lcrvm_fault full;
+
+    if (status != LCRVM_FULL)
+        return status;
+    full = fault_here;
+    status = empty_log(store, node);
+    if (status == LCRVM_OK)
+        return commit_now(store, node, thread, placed);
+    if (store->over || status == LCRVM_NO_MEMORY)
+        return status;
+    fault_here = full;
+    return LCRVM_FULL;
+}
+
+/* Commits, and empties the log first where it is full and has room for the record then. */
+static enum lcrvm_status commit_with_room(struct lcrvm_store *store, uint32_t node, uint32_t thread,
+                                          struct lcrvm_commit *placed)
+{
+    enum lcrvm_status status = commit_now(store, node, thread, placed);
+
+    if (status != LCRVM_FULL || fault_here.need > store->geometry.words)
+        return status;
+    status = take_files(store);
+    if (status != LCRVM_OK)
+        return status;
+    status = commit_at_files(store, node, thread, placed);
+    give_files(store);
+    return status;
+}
+
+/* ---- the end of a store */
+
+static void abort_all(struct lcrvm_store *store)
+{
+    for (uint32_t node = 0; node < store->geometry.nodes; node++)
+        for (uint32_t thread = 0; thread < store->geometry.threads; thread++)
+            if (store->begun[node][thread].open && !store->over)
+                abort_now(store, node, thread);
+}
+
+/* Flushes each log, and empties it where that can be: not where the token of a segment has gone to another node. */
+static void empty_all(struct lcrvm_store *store)
+{
+    for (uint32_t node = 0; node < store->geometry.nodes && !store->over; node++)
+        truncate_now(store, node);
+}
+
+/* In a child: what another thread of the parent was changing is left as it was, and is not freed. */
+static void forget_store(struct lcrvm_store *store)
+{
+    if (atomic_load(&store->within) == 0)
+        free_memory(store);
+}
+
+enum lcrvm_status lcrvm_close(struct lcrvm_store *store, struct lcrvm_fault *fault)
+{
     enum lcrvm_status status;
 
-    do {
-        lcrvm_session_flush_step(&store->session, bounded(node), &answer);
-        status = mirrored(store, &answer);
-    } while (status == LCRVM_OK && answer.reply == STEPPED);
+    if (store == NULL)
+        return told_to(LCRVM_OK, fault);
+    status = look_at_store(store);
+    if (status != LCRVM_OK) {
+        forget_store(store);
+        return told_to(status, fault);
+    }
+    pthread_mutex_lock(&store->events);
+    if (atomic_load(&store->within) > 0 || (!store->over && has_begun(store, this_thread(), true))) {
+        pthread_mutex_unlock(&store->events);
+        return told_to(failed(LCRVM_BUSY, ""), fault);
+    }
+    abort_all(store);
+    empty_all(store);
+    status = store->over ? is_over(store) : LCRVM_OK;
+    pthread_mutex_unlock(&store->events);
+    free_store(store);
+    return told_to(status, fault);
+}
+
+/* ---- copies */
+
+/* Takes what all areas hold, one after another, after a flush: each is as a stop at this moment would leave it. */
+static enum lcrvm_status take_bytes(struct lcrvm_store *store, uint8_t **bytes)
+{
+    enum lcrvm_status status = LCRVM_OK;
+
+    for (uint32_t node = 0; node < store->geometry.nodes && status == LCRVM_OK; node++)
+        status = flush_shared(store, node);
+    if (status != LCRVM_OK)
+        return status;
+    *bytes = malloc(bytes_before(&store->geometry, store->areas));
+    if (*bytes == NULL)
+        return failed(LCRVM_NO_MEMORY, "");
+    for (uint32_t place = 0; place < store->areas; place++)
+        lcrvm_session_bytes(&store->session, place, 0, *bytes + bytes_before(&store->geometry, place),
+                            len_of(&store->geometry, place));
+    return LCRVM_OK;
+}
+
+enum lcrvm_status lcrvm_copy(struct lcrvm_store *store, const char *folder)
+{
+    struct lcrvm_geometry geometry;
+    uint8_t *bytes = NULL;
+    enum lcrvm_status status;
+
+    if (folder == NULL)
+        return misused();
+    if (!enter(store))
+        return not_entered();
+    geometry = store->geometry;
+    status = done(store, take_bytes(store, &bytes));
+    if (status == LCRVM_OK)
+        status = told(make_store(folder, &geometry, bytes, &fault_here));
+    free(bytes);
+    return status;
+}
+
+/* ---- the calls */
+
+/* Whether there are as many things as are counted. */
+static bool are_there(const void *things, size_t count)
+{
+    return things != NULL || count == 0;
+}
+
+static struct wish wish_of(uint32_t node, const uint32_t *segments, size_t count, const uint32_t *reading,
+                           size_t reading_count)
+{
+    return (struct wish){
+        .node = node,
+        .segments = segments,
+        .reading = reading,
+        .count = count,
+        .reading_count = reading_count,
+        .owner = NOBODY,
+        .writes = set_of(segments, count),
+        .reads = set_of(reading, reading_count),
+    };
+}
+
+enum lcrvm_status lcrvm_begin(struct lcrvm_store *store, uint32_t node, uint32_t *thread, const uint32_t *segments,
+                              size_t count, const uint32_t *reading, size_t reading_count, uint32_t milliseconds)
+{
+    struct wish wish;
+
+    if (thread == NULL || !are_there(segments, count) || !are_there(reading, reading_count))
+        return misused();
+    *thread = LCRVM_NO_THREAD;
+    if (!enter(store))
+        return not_entered();
+    wish = wish_of(node, segments, count, reading, reading_count);
+    wish.owner = this_thread();
+    wish.has_another = has_begun(store, wish.owner, false);
+    return done(store, begin_waiting(store, &wish, thread, milliseconds));
+}
+
+enum lcrvm_status lcrvm_begin_transaction(struct lcrvm_store *store, uint32_t node, uint32_t thread,
+                                          const uint32_t *segments, size_t count, const uint32_t *reading,
+                                          size_t reading_count)
+{
+    struct wish wish;
+
+    if (!are_there(segments, count) || !are_there(reading, reading_count))
+        return misused();
+    wish = wish_of(node, segments, count, reading, reading_count);
+    return enter(store) ? done(store, begin_now(store, thread, &wish)) : not_entered();
+}
+
+enum lcrvm_status lcrvm_set_range(struct lcrvm_store *store, uint32_t node, uint32_t thread, uint32_t segment,
+                                  uint32_t offset, uint32_t length)
+{
+    return enter(store) ? done(store, set_range_now(store, node, thread, segment, offset, length)) : not_entered();
+}
+
+enum lcrvm_status lcrvm_write(struct lcrvm_store *store, uint32_t node, uint32_t thread, uint32_t segment,
+                              uint32_t offset, const void *bytes, uint32_t length)
+{
+    if (!are_there(bytes, length))
+        return misused();
+    return enter(store) ? done(store, write_now(store, node, thread, segment, offset, bytes, length)) : not_entered();
+}
+
+enum lcrvm_status lcrvm_put(struct lcrvm_store *store, uint32_t node, uint32_t thread, uint32_t segment,
+                            uint32_t offset, const void *bytes, uint32_t length)
+{
+    if (!are_there(bytes, length))
+        return misused();
+    return enter(store) ? done(store, put_now(store, node, thread, segment, offset, bytes, length)) : not_entered();
+}
+
+enum lcrvm_status lcrvm_read(struct lcrvm_store *store, uint32_t node, uint32_t thread, uint32_t segment,
+                             uint32_t offset, void *bytes, uint32_t length)
+{
+    if (!are_there(bytes, length))
+        return misused();
+    return enter(store) ? done(store, read_now(store, node, thread, segment, offset, bytes, length)) : not_entered();
+}
+
+enum lcrvm_status lcrvm_abort_transaction(struct lcrvm_store *store, uint32_t node, uint32_t thread)
+{
+    return enter(store) ? done(store, abort_now(store, node, thread)) : not_entered();
+}
+
+enum lcrvm_status lcrvm_abort(struct lcrvm_store *store, uint32_t node, uint32_t *thread)
+{
+    enum lcrvm_status status;
+
+    if (thread == NULL)
+        return misused();
+    status = lcrvm_abort_transaction(store, node, *thread);
+    if (status == LCRVM_OK || status == LCRVM_DEVICE_FAULT)
+        *thread = LCRVM_NO_THREAD;
+    return status;
+}
+
+/* Makes stable what a transaction committed, and all that it may have read: whatever its node has committed by
+   now. What others commit comes after it in the log, and a commit of another node is read only once it is stable. */
+static enum lcrvm_status flush_after(struct lcrvm_store *store, uint32_t node, bool flush)
+{
+    return flush && !store->over ? flush_shared(store, node) : LCRVM_OK;
+}
+
+static enum lcrvm_status commit_and_flush(struct lcrvm_store *store, uint32_t node, uint32_t *thread, bool flush,
+                                          struct lcrvm_commit *commit)
+{
+    struct lcrvm_commit placed;
+    enum lcrvm_status status = commit_with_room(store, node, *thread, &placed);
+
+    if (status == LCRVM_OK) {
+        *thread = LCRVM_NO_THREAD;
+        status = flush_after(store, node, flush);
+    }
+    if (status == LCRVM_OK && commit != NULL)
+        *commit = placed;
+    return status;
+}
+
+enum lcrvm_status lcrvm_commit(struct lcrvm_store *store, uint32_t node, uint32_t *thread, bool flush,
+                               struct lcrvm_commit *commit)
+{
+    enum lcrvm_status status;
+
+    if (thread == NULL)
+        return misused();
+    status = enter(store) ? done(store, commit_and_flush(store, node, thread, flush, commit)) : not_entered();
+    if (status == LCRVM_DEVICE_FAULT)
+        *thread = LCRVM_NO_THREAD;
     return status;
 }
 
 /* Commits, and flushes whatever became of the commit, which is answered first. */
-static enum lcrvm_status end_now(struct lcrvm_store *store, uint32_t node, uint32_t thread, bool flush,
-                                 struct lcrvm_commit *commit)
+static enum lcrvm_status end_and_flush(struct lcrvm_store *store, uint32_t node, uint32_t thread, bool flush,
+                                       struct lcrvm_commit *commit)
 {
-    struct lcrvm_commit placed = {0, 0};
-    enum lcrvm_status ended = commit_now(store, node, thread, &placed);
-    enum lcrvm_status flushed = flush ? flush_now(store, node) : LCRVM_OK;
+    struct lcrvm_commit placed;
+    enum lcrvm_status ended = commit_with_room(store, node, thread, &placed), flushed;
+    const struct lcrvm_fault why = fault_here;
 
-    if (store->known.dead)
-        return store->known.last.status;
-    if (ended == LCRVM_OK && commit != NULL)
+    flushed = flush_after(store, node, flush);
+    if (store->over)
+        return is_over(store);
+    if (ended == LCRVM_OK && flushed == LCRVM_OK && commit != NULL)
         *commit = placed;
-    return ended == LCRVM_OK ? flushed : ended;
+    if (ended == LCRVM_OK)
+        return flushed;
+    fault_here = why;
+    return ended;
 }
 
 enum lcrvm_status lcrvm_end_transaction(struct lcrvm_store *store, uint32_t node, uint32_t thread, bool flush,
                                         struct lcrvm_commit *commit)
 {
-    const struct lcrvm_fault before = store->known.last;
-    enum lcrvm_status status = end_now(store, node, thread, flush, commit);
-
-    if (status == LCRVM_FULL && may_make_again(&store->known, node, thread)) {
-        status = make_again(store, &store->known, node, thread, &before);
-        if (status == LCRVM_OK)
-            status = end_now(store, node, thread, flush, commit);
-    }
-    return status;
+    return enter(store) ? done(store, end_and_flush(store, node, thread, flush, commit)) : not_entered();
 }
 
 enum lcrvm_status lcrvm_flush(struct lcrvm_store *store, uint32_t node, uint64_t *records)
 {
-    enum lcrvm_status status = flush_now(store, node);
+    enum lcrvm_status status;
+    uint64_t known;
 
+    if (!enter(store))
+        return not_entered();
+    known = node < MOST_NODES ? store->records[node] : 0;
+    status = done(store, flush_shared(store, node));
     if (status == LCRVM_OK && records != NULL)
-        *records = store->known.records[node];
+        *records = known;
     return status;
 }
 
-/* A page is due at a node where its segment's token is there, and a record is newer than the page in its file. */
-static bool is_due(const struct lcrvm_store *store, uint32_t node, uint32_t segment, uint32_t page)
+static enum lcrvm_status truncate_alone(struct lcrvm_store *store, uint32_t node, uint64_t *rounds)
 {
-    return store->known.tokens[segment] == (int)node && store->dirty[segment][page];
-}
+    enum lcrvm_status status = take_files(store);
 
-/* Whether a range of a transaction that is open touches a page that is due. */
-static bool blocks(const struct lcrvm_store *store, uint32_t node, const struct begun *begun)
-{
-    for (size_t i = 0; i < begun->count; i++) {
-        const struct range *range = &begun->ranges[i];
-
-        for (uint32_t page = first_page(range); page <= last_page(range); page++)
-            if (is_due(store, node, range->segment, page))
-                return true;
-    }
-    return false;
-}
-
-static bool some_blocks(const struct lcrvm_store *store, uint32_t node)
-{
-    for (uint32_t thread = 0; thread < store->known.geometry.threads; thread++)
-        if (store->known.begun[node][thread].open && blocks(store, node, &store->known.begun[node][thread]))
-            return true;
-    return false;
-}
-
-/* Makes the next call of each page of a segment that is due; whether one was. */
-static enum lcrvm_status call_pages(struct lcrvm_store *store, uint32_t node, uint32_t segment, bool *some)
-{
-    *some = false;
-    for (uint32_t page = 0; page < store->known.geometry.pages; page++) {
-        struct answer answer = {0};
-        enum lcrvm_status status;
-
-        if (!is_due(store, node, segment, page))
-            continue;
-        *some = true;
-        lcrvm_session_page_step(&store->session, bounded(node), segment, page, &answer);
-        status = mirrored(store, &answer);
-        if (status != LCRVM_OK)
-            return status;
-        if (answer.reply == WRITTEN)
-            store->dirty[segment][page] = false;
-    }
-    return LCRVM_OK;
-}
-
-/* Writes the pages of a segment that are due side by side, so that a sync of the file serves all of them. */
-static enum lcrvm_status write_pages(struct lcrvm_store *store, uint32_t node, uint32_t segment)
-{
-    enum lcrvm_status status;
-    bool some;
-
-    do
-        status = call_pages(store, node, segment, &some);
-    while (status == LCRVM_OK && some);
-    return status;
-}
-
-static enum lcrvm_status reset(struct lcrvm_store *store, uint32_t node)
-{
-    struct answer answer = {0};
-    enum lcrvm_status status;
-
-    do {
-        lcrvm_session_reset_step(&store->session, bounded(node), &answer);
-        status = mirrored(store, &answer);
-    } while (status == LCRVM_OK && answer.reply == STEPPED);
-    if (status == LCRVM_OK && answer.reply == RESET)
-        store->known.rounds[node]++;
+    if (status != LCRVM_OK)
+        return status;
+    status = truncate_now(store, node);
+    if (status == LCRVM_OK && rounds != NULL)
+        *rounds = store->rounds[node];
+    give_files(store);
     return status;
 }
 
 enum lcrvm_status lcrvm_truncate(struct lcrvm_store *store, uint32_t node, uint64_t *rounds)
 {
-    enum lcrvm_status status = flush_now(store, node);
+    return enter(store) ? done(store, truncate_alone(store, node, rounds)) : not_entered();
+}
 
-    if (status == LCRVM_OK && some_blocks(store, node))
-        status = failed(store, LCRVM_UNCOMMITTED, "");
-    for (uint32_t segment = 1; segment <= store->known.geometry.segments && status == LCRVM_OK; segment++)
-        status = write_pages(store, node, segment);
-    if (status == LCRVM_OK)
-        status = reset(store, node);
-    if (status == LCRVM_OK && rounds != NULL)
-        *rounds = store->known.rounds[node];
-    return status;
+enum lcrvm_status lcrvm_trim(struct lcrvm_store *store, uint32_t node, uint64_t *count)
+{
+    return enter(store) ? done(store, trim_now(store, node, count)) : not_entered();
 }
 
 enum lcrvm_status lcrvm_leave(struct lcrvm_store *store, uint32_t node, uint32_t segment)
@@ -749,11 +801,13 @@ enum lcrvm_status lcrvm_leave(struct lcrvm_store *store, uint32_t node, uint32_t
     struct answer answer = {0};
     enum lcrvm_status status;
 
+    if (!enter(store))
+        return not_entered();
     lcrvm_session_leave(&store->session, bounded(node), segment, &answer);
-    status = mirrored(store, &answer);
+    status = answered(store, &answer);
     if (status == LCRVM_OK)
-        store->known.tokens[segment] = ON_ITS_WAY;
-    return status;
+        store->tokens[segment] = ON_ITS_WAY;
+    return done(store, status);
 }
 
 enum lcrvm_status lcrvm_arrive(struct lcrvm_store *store, uint32_t node, uint32_t segment)
@@ -761,11 +815,18 @@ enum lcrvm_status lcrvm_arrive(struct lcrvm_store *store, uint32_t node, uint32_
     struct answer answer = {0};
     enum lcrvm_status status;
 
+    if (!enter(store))
+        return not_entered();
     lcrvm_session_arrive(&store->session, bounded(node), segment, &answer);
-    status = mirrored(store, &answer);
+    status = answered(store, &answer);
     if (status == LCRVM_OK)
-        store->known.tokens[segment] = (int)node;
-    return status;
+        store->tokens[segment] = (int)node;
+    return done(store, status);
+}
+
+static enum lcrvm_delivery delivery_of(uint32_t reply)
+{
+    return reply == APPLIED ? LCRVM_APPLIED : reply == HELD_BACK ? LCRVM_HELD_BACK : LCRVM_IGNORED;
 }
 
 enum lcrvm_status lcrvm_deliver(struct lcrvm_store *store, uint32_t node, uint64_t record, uint32_t segment,
@@ -774,37 +835,16 @@ enum lcrvm_status lcrvm_deliver(struct lcrvm_store *store, uint32_t node, uint64
     struct answer answer = {0};
     enum lcrvm_status status;
 
+    if (!enter(store))
+        return not_entered();
     lcrvm_session_deliver(&store->session, bounded(node), record, segment, bounded(to), &answer);
-    status = mirrored(store, &answer);
+    status = done(store, answered(store, &answer));
     if (status == LCRVM_OK && delivered != NULL)
-        *delivered = (struct lcrvm_delivered){
-            .delivery = answer.reply == APPLIED     ? LCRVM_APPLIED
-                        : answer.reply == HELD_BACK ? LCRVM_HELD_BACK
-                                                    : LCRVM_IGNORED,
-            .applied = answer.count,
-        };
+        *delivered = (struct lcrvm_delivered){.delivery = delivery_of(answer.reply), .applied = answer.count};
     return status;
 }
 
-enum lcrvm_status lcrvm_trim(struct lcrvm_store *store, uint32_t node, uint64_t *count)
-{
-    struct answer answer = {0};
-    enum lcrvm_status status;
-
-    lcrvm_session_trim(&store->session, bounded(node), &answer);
-    status = mirrored(store, &answer);
-    if (status == LCRVM_OK && count != NULL)
-        *count = answer.count;
-    return status;
-}
-
-/* What is asked of no session. */
-
-long lcrvm_process_of(const struct lcrvm_store *store)
-{
-    (void)store;
-    return (long)getpid();
-}
+/* ---- what is asked of no session */
 
 const char *lcrvm_status_text(enum lcrvm_status status)
 {
@@ -813,10 +853,11 @@ const char *lcrvm_status_text(enum lcrvm_status status)
 
 const struct lcrvm_fault *lcrvm_fault_of(const struct lcrvm_store *store)
 {
-    return &store->known.last;
+    (void)store;
+    return &fault_told;
 }
 
 const struct lcrvm_geometry *lcrvm_geometry_of(const struct lcrvm_store *store)
 {
-    return &store->known.geometry;
+    return store != NULL ? &store->geometry : NULL;
 }

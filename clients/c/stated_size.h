@@ -1,8 +1,8 @@
-/* The file of a store's folder that states its size, for both implementations of lcrvm.h. */
+/* The file of a store's folder that states its size. */
 #ifndef LCRVM_STATED_SIZE_H
 #define LCRVM_STATED_SIZE_H
 
-#include "lcrvm.h"
+#include "../../include/lcrvm.h"
 #include "transactions.h"
 
 #include <inttypes.h>

@@ -1,75 +1,67 @@
-/* The names of the statuses, and faults, for both implementations of lcrvm.h. */
+/* The names of the statuses, and faults. */
 #ifndef LCRVM_STATUSES_H
 #define LCRVM_STATUSES_H
 
-#include "lcrvm.h"
+#include "../../include/lcrvm.h"
 
-#include <stddef.h>
 #include <stdio.h>
 #include <string.h>
 
 static const struct {
-    const char *name;
     enum lcrvm_status status;
-    size_t fields[2]; /* where they stand in a fault; 0 for none */
-} refusals[] = {
-#define FIELD(name) offsetof(struct lcrvm_fault, name)
-    {"Down", LCRVM_DOWN, {0}},
-    {"Unknown", LCRVM_UNKNOWN, {0}},
-    {"Halted", LCRVM_HALTED, {0}},
-    {"OutOfTurn", LCRVM_OUT_OF_TURN, {0}},
-    {"Busy", LCRVM_BUSY, {FIELD(segment)}},
-    {"NotHere", LCRVM_NOT_HERE, {FIELD(segment)}},
-    {"NotLocked", LCRVM_NOT_LOCKED, {0}},
-    {"EmptyRange", LCRVM_EMPTY_RANGE, {0}},
-    {"OutOfSegment", LCRVM_OUT_OF_SEGMENT, {FIELD(area)}},
-    {"NoRange", LCRVM_NO_RANGE, {0}},
-    {"TooManyRanges", LCRVM_TOO_MANY_RANGES, {0}},
-    {"SequenceSpent", LCRVM_SEQUENCE_SPENT, {FIELD(segment)}},
-    {"TooLong", LCRVM_TOO_LONG, {FIELD(words)}},
-    {"Sealed", LCRVM_SEALED, {0}},
-    {"Full", LCRVM_FULL, {FIELD(tail), FIELD(need)}},
-    {"Held", LCRVM_HELD, {0}},
-    {"Writing", LCRVM_WRITING, {0}},
-    {"Unflushed", LCRVM_UNFLUSHED, {0}},
-    {"Behind", LCRVM_BEHIND, {FIELD(applied), FIELD(sequence)}},
-    {"Uncommitted", LCRVM_UNCOMMITTED, {0}},
-    {"NotNewer", LCRVM_NOT_NEWER, {0}},
-    {"Unclean", LCRVM_UNCLEAN, {FIELD(segment), FIELD(sequence)}},
-    {"RoundsSpent", LCRVM_ROUNDS_SPENT, {0}},
-    {"BadGeometry", LCRVM_BAD_GEOMETRY, {FIELD(area)}},
-    {"Twice", LCRVM_TWICE, {FIELD(segment), FIELD(sequence)}},
-    {"Gap", LCRVM_GAP, {FIELD(segment), FIELD(sequence)}},
-    {"ReadOnly", LCRVM_READ_ONLY, {FIELD(segment)}},
-#undef FIELD
+    const char *name;
+} names[] = {
+    {LCRVM_OK, "ok"},
+    {LCRVM_DOWN, "Down"},
+    {LCRVM_UNKNOWN, "Unknown"},
+    {LCRVM_HALTED, "Halted"},
+    {LCRVM_OUT_OF_TURN, "OutOfTurn"},
+    {LCRVM_BUSY, "Busy"},
+    {LCRVM_NOT_HERE, "NotHere"},
+    {LCRVM_NOT_LOCKED, "NotLocked"},
+    {LCRVM_EMPTY_RANGE, "EmptyRange"},
+    {LCRVM_OUT_OF_SEGMENT, "OutOfSegment"},
+    {LCRVM_NO_RANGE, "NoRange"},
+    {LCRVM_TOO_MANY_RANGES, "TooManyRanges"},
+    {LCRVM_SEQUENCE_SPENT, "SequenceSpent"},
+    {LCRVM_TOO_LONG, "TooLong"},
+    {LCRVM_SEALED, "Sealed"},
+    {LCRVM_FULL, "Full"},
+    {LCRVM_HELD, "Held"},
+    {LCRVM_WRITING, "Writing"},
+    {LCRVM_UNFLUSHED, "Unflushed"},
+    {LCRVM_BEHIND, "Behind"},
+    {LCRVM_UNCOMMITTED, "Uncommitted"},
+    {LCRVM_NOT_NEWER, "NotNewer"},
+    {LCRVM_UNCLEAN, "Unclean"},
+    {LCRVM_ROUNDS_SPENT, "RoundsSpent"},
+    {LCRVM_DEVICE_FAULT, "device fault"},
+    {LCRVM_BAD_GEOMETRY, "BadGeometry"},
+    {LCRVM_TWICE, "Twice"},
+    {LCRVM_GAP, "Gap"},
+    {LCRVM_READ_ONLY, "ReadOnly"},
+    {LCRVM_NO_MEMORY, "NoMemory"},
+    {LCRVM_STORE_IN_USE, "store in use"},
+    {LCRVM_NO_STORE, "no store"},
+    {LCRVM_EXISTS, "Exists"},
+    {LCRVM_MISUSE, "misuse"},
+    {LCRVM_FORKED, "forked"},
 };
 
-enum { REFUSALS = sizeof refusals / sizeof refusals[0] };
+/* Why something was not done in the call of this thread; and why its last call did nothing that did nothing. */
+static _Thread_local struct lcrvm_fault fault_here, fault_told;
 
 /* What lcrvm_status_text answers. */
-static inline const char *text_of(enum lcrvm_status status)
+static const char *text_of(enum lcrvm_status status)
 {
-    for (size_t i = 0; i < REFUSALS; i++)
-        if (refusals[i].status == status)
-            return refusals[i].name;
-    switch (status) {
-    case LCRVM_OK: return "ok";
-    case LCRVM_DEVICE_FAULT: return "device fault";
-    case LCRVM_NO_MEMORY: return "NoMemory";
-    case LCRVM_STORE_IN_USE: return "store in use";
-    case LCRVM_DIED: return "the program ended";
-    case LCRVM_NOT_STARTED: return "not started";
-    case LCRVM_NOT_A_REPLY: return "not a reply";
-    case LCRVM_NO_STORE: return "no store";
-    case LCRVM_SPENT: return "the lines of this run are used up";
-    case LCRVM_EXISTS: return "Exists";
-    case LCRVM_CLIENT_MEMORY: return "no memory in the client";
-    default: return "no status";
-    }
+    for (size_t i = 0; i < sizeof names / sizeof names[0]; i++)
+        if (names[i].status == status)
+            return names[i].name;
+    return "no status";
 }
 
 /* Fills a fault, and answers its status. */
-static inline enum lcrvm_status fill_fault(struct lcrvm_fault *fault, enum lcrvm_status status, const char *text)
+static enum lcrvm_status fill_fault(struct lcrvm_fault *fault, enum lcrvm_status status, const char *text)
 {
     memset(fault, 0, sizeof *fault);
     fault->status = status;
@@ -77,18 +69,33 @@ static inline enum lcrvm_status fill_fault(struct lcrvm_fault *fault, enum lcrvm
     return status;
 }
 
-/* Hands a fault out, where the caller wants it, and answers its status. */
-static inline enum lcrvm_status tell(struct lcrvm_fault *to, const struct lcrvm_fault *from)
+/* Keeps why something was not done. */
+static enum lcrvm_status failed(enum lcrvm_status status, const char *text)
 {
-    if (to != NULL)
-        *to = *from;
-    return from->status;
+    return fill_fault(&fault_here, status, text);
 }
 
-/* The same of a status with no fields and no text. */
-static inline enum lcrvm_status say(struct lcrvm_fault *to, enum lcrvm_status status)
+/* What a call answers; of one that did nothing the fault is kept for lcrvm_fault_of. */
+static enum lcrvm_status told(enum lcrvm_status status)
 {
-    return to != NULL ? fill_fault(to, status, "") : status;
+    if (status != LCRVM_OK)
+        fault_told = fault_here;
+    return status;
+}
+
+/* The same, and the fault is handed out where the caller wants it. */
+static enum lcrvm_status told_to(enum lcrvm_status status, struct lcrvm_fault *fault)
+{
+    if (fault != NULL && status != LCRVM_OK)
+        *fault = fault_here;
+    else if (fault != NULL)
+        fill_fault(fault, LCRVM_OK, "");
+    return told(status);
+}
+
+static enum lcrvm_status misused(void)
+{
+    return told(failed(LCRVM_MISUSE, ""));
 }
 
 #endif

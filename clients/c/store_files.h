@@ -1,8 +1,8 @@
-/* The files of a store in its folder, for embedded.c: their names and locks, how they are made, and what size they have. */
+/* The files of a store in its folder: their names and locks, and what size they have. */
 #ifndef LCRVM_STORE_FILES_H
 #define LCRVM_STORE_FILES_H
 
-#include "lcrvm.h"
+#include "descriptors.h"
 #include "stated_size.h"
 #include "statuses.h"
 #include "transactions.h"
@@ -16,17 +16,12 @@
 #include <sys/types.h>
 #include <unistd.h>
 
-enum {
-    MOST_AREAS = MOST_NODES + MOST_SEGMENTS,
-    PIECE_BYTES = 4096, /* of a new file, that are written at once */
-    NAME_BYTES = 16,
-    LEAST_DESCRIPTOR = 3
-};
+enum { NAME_BYTES = 16 };
 
 static const char log_kind[] = "log", segment_kind[] = "seg", mark[] = "fault", in_use[] = "store in use";
-static const struct lcrvm_geometry greatest = {MOST_NODES, MOST_THREADS, MOST_SEGMENTS, MOST_PAGES, MOST_WORDS};
+static const char copy_end[] = ".new"; /* the end of the name of a file that is not whole yet */
 
-/* What failed. */
+/* ---- what failed */
 
 /* The system has refused something. */
 static enum lcrvm_status system_failed(struct lcrvm_fault *fault)
@@ -64,7 +59,7 @@ static void add_line(struct lcrvm_fault *fault, const char *name, const char *wh
         strcpy(fault->text + used, dots);
 }
 
-/* Calls on files. */
+/* ---- calls on files */
 
 static bool write_whole(int file, const uint8_t *bytes, size_t len, uint64_t at)
 {
@@ -87,12 +82,10 @@ static bool write_whole(int file, const uint8_t *bytes, size_t len, uint64_t at)
     return true;
 }
 
-static bool read_whole(int file, uint8_t *bytes, size_t len)
+static bool read_whole(int file, uint8_t *bytes, size_t len, uint64_t at)
 {
-    off_t at = 0;
-
     while (len > 0) {
-        ssize_t got = pread(file, bytes, len, at);
+        ssize_t got = pread(file, bytes, len, (off_t)at);
 
         if (got < 0) {
             if (errno == EINTR)
@@ -104,7 +97,7 @@ static bool read_whole(int file, uint8_t *bytes, size_t len)
             return false;
         }
         bytes += got;
-        at += got;
+        at += (uint64_t)got;
         len -= (size_t)got;
     }
     return true;
@@ -119,33 +112,12 @@ static bool make_stable(int file, int (*sync)(int file))
     return true;
 }
 
-static void close_file(int file)
+static int open_folder(struct descriptors *kept, int slot, int beside, const char *path)
 {
-    int reason = errno;
-
-    if (file >= 0)
-        close(file);
-    errno = reason;
+    return open_kept(kept, slot, beside, path, O_RDONLY | O_DIRECTORY);
 }
 
-/* The file is under no descriptor of the standard streams: what is printed would be written into it. */
-static int beside_standard_streams(int file)
-{
-    int other;
-
-    if (file < 0 || file >= LEAST_DESCRIPTOR)
-        return file;
-    other = fcntl(file, F_DUPFD_CLOEXEC, LEAST_DESCRIPTOR);
-    close_file(file);
-    return other;
-}
-
-static int open_folder(int beside, const char *path)
-{
-    return beside_standard_streams(openat(beside, path, O_RDONLY | O_DIRECTORY | O_CLOEXEC));
-}
-
-/* Names. */
+/* ---- names */
 
 static void write_name(const char *kind, uint32_t number, char name[NAME_BYTES])
 {
@@ -160,20 +132,8 @@ static void name_of(const struct lcrvm_geometry *geometry, uint32_t place, char 
         write_name(segment_kind, place - geometry->nodes + 1, name);
 }
 
-static uint32_t areas_of(const struct lcrvm_geometry *geometry)
-{
-    return geometry->nodes + geometry->segments;
-}
-
-static size_t len_of(const struct lcrvm_geometry *geometry, uint32_t place)
-{
-    if (place < geometry->nodes)
-        return ((size_t)geometry->words + 1) * WORD_BYTES;
-    return (size_t)geometry->pages * PAGE_AREA_BYTES;
-}
-
-/* OK where nothing stands under a name, EXISTS where something does, and then the name is said. A link counts, wherever
-   it leads. */
+/* OK where nothing stands under a name, EXISTS where something does, and then the name is said. A link counts,
+   wherever it leads. */
 static enum lcrvm_status look_at(int folder, const char *name, struct lcrvm_fault *fault)
 {
     struct stat at;
@@ -184,26 +144,29 @@ static enum lcrvm_status look_at(int folder, const char *name, struct lcrvm_faul
 }
 
 /* Opens a file of a store, which has to be a regular one: under its descriptor, or -1. */
-static int open_regular(int folder, const char *name, int access, struct lcrvm_fault *fault)
+static int open_regular(struct descriptors *kept, int slot, const char *name, int access, struct lcrvm_fault *fault)
 {
     struct stat at;
     int file;
 
-    if (fstatat(folder, name, &at, 0) != 0) {
+    if (fstatat(kept->of[FOLDER], name, &at, 0) != 0) {
         file_failed(fault, name);
         return -1;
     }
-    if (!S_ISREG(at.st_mode)) {
+    file = S_ISREG(at.st_mode) ? open_kept(kept, slot, kept->of[FOLDER], name, access) : -1;
+    if (S_ISREG(at.st_mode) && file < 0) {
+        file_failed(fault, name);
+        return -1;
+    }
+    if (file < 0 || fstat(file, &at) != 0 || !S_ISREG(at.st_mode)) {
         fault_of_file(fault, LCRVM_DEVICE_FAULT, name, "not a regular file");
+        close_kept(kept, slot);
         return -1;
     }
-    file = beside_standard_streams(openat(folder, name, access | O_CLOEXEC));
-    if (file < 0)
-        file_failed(fault, name);
     return file;
 }
 
-/* Locks. */
+/* ---- locks */
 
 /* Locks what is open until it is unlocked, unless it is locked already. */
 static bool lock(int file)
@@ -230,145 +193,7 @@ static enum lcrvm_status lock_file(int file, const char *name, struct lcrvm_faul
     return errno == EWOULDBLOCK ? fault_of_file(fault, LCRVM_STORE_IN_USE, name, in_use) : file_failed(fault, name);
 }
 
-/* A child of a fork has what is open too until its exec, and so the lock: it is given back here, and not with the
-   descriptor. */
-static void unlock(int file)
-{
-    if (file >= 0)
-        flock(file, LOCK_UN);
-}
-
-/* New stores. */
-
-static bool write_zeros(int file, size_t len)
-{
-    static const uint8_t zeros[PIECE_BYTES];
-    size_t piece;
-
-    for (size_t at = 0; at < len; at += piece) {
-        piece = len - at < sizeof zeros ? len - at : sizeof zeros;
-        if (!write_whole(file, zeros, piece, at))
-            return false;
-    }
-    return true;
-}
-
-/* The files of a new store in the order in which they are made: that of the size, and then those of the areas. */
-
-static void name_of_new(const struct lcrvm_geometry *geometry, uint32_t number, char name[NAME_BYTES])
-{
-    if (number == 0)
-        snprintf(name, NAME_BYTES, "%s", size_name);
-    else
-        name_of(geometry, number - 1, name);
-}
-
-static bool fill_file(int file, const struct lcrvm_geometry *geometry, uint32_t number)
-{
-    char text[SIZE_BYTES];
-
-    if (number > 0)
-        return write_zeros(file, len_of(geometry, number - 1));
-    return write_whole(file, (const uint8_t *)text, write_size(geometry, text), 0);
-}
-
-/* Takes a file away that was made; where it cannot, it says so. */
-static void take_away(int folder, const char *name, struct lcrvm_fault *fault)
-{
-    if (unlinkat(folder, name, 0) != 0 && errno != ENOENT)
-        add_line(fault, name, "left in place");
-}
-
-/* Makes a file, or none. */
-static enum lcrvm_status make_file(int folder, const struct lcrvm_geometry *geometry, uint32_t number,
-                                   struct lcrvm_fault *fault)
-{
-    char name[NAME_BYTES];
-    enum lcrvm_status status = LCRVM_OK;
-    int file;
-
-    name_of_new(geometry, number, name);
-    file = openat(folder, name, O_RDWR | O_CREAT | O_EXCL | O_CLOEXEC, 0666);
-    if (file < 0)
-        return file_failed(fault, name);
-    file = beside_standard_streams(file);
-    if (file < 0 || !fill_file(file, geometry, number) || !make_stable(file, fsync)) {
-        status = file_failed(fault, name);
-        take_away(folder, name, fault);
-    }
-    close_file(file);
-    return status;
-}
-
-/* Makes the names in a folder stable, and then its own. That the folder which it stands in cannot be synced is no fault. */
-static bool sync_names(int folder)
-{
-    int parent;
-
-    if (!make_stable(folder, fsync))
-        return false;
-    parent = open_folder(folder, "..");
-    if (parent >= 0)
-        make_stable(parent, fsync);
-    close_file(parent);
-    return true;
-}
-
-/* Looks at the names of all areas that a store may have, with this behind each. */
-static enum lcrvm_status look_at_areas(int folder, const char *end, struct lcrvm_fault *fault)
-{
-    char name[NAME_BYTES];
-    enum lcrvm_status status = LCRVM_OK;
-
-    for (uint32_t place = 0; place < MOST_AREAS && status == LCRVM_OK; place++) {
-        name_of(&greatest, place, name);
-        strcat(name, end);
-        status = look_at(folder, name, fault);
-    }
-    return status;
-}
-
-/* Looks at all names that stand in the folder of a store, at any time. */
-static enum lcrvm_status look_at_all(int folder, struct lcrvm_fault *fault)
-{
-    enum lcrvm_status status = look_at(folder, size_name, fault);
-
-    if (status == LCRVM_OK)
-        status = look_at_areas(folder, "", fault);
-    if (status == LCRVM_OK)
-        status = look_at(folder, mark, fault);
-    return status == LCRVM_OK ? look_at_areas(folder, ".new", fault) : status;
-}
-
-/* Makes the files of a store, or none: where it fails, those that were made are taken away, the last first. */
-static enum lcrvm_status make_files(int folder, const struct lcrvm_geometry *geometry, struct lcrvm_fault *fault)
-{
-    uint32_t files = 1 + areas_of(geometry), made = 0;
-    char name[NAME_BYTES];
-    enum lcrvm_status status = LCRVM_OK;
-
-    while (made < files && (status = make_file(folder, geometry, made, fault)) == LCRVM_OK)
-        made++;
-    if (status == LCRVM_OK && !sync_names(folder))
-        status = system_failed(fault);
-    while (status != LCRVM_OK && made > 0) {
-        name_of_new(geometry, --made, name);
-        take_away(folder, name, fault);
-    }
-    return status;
-}
-
-/* Makes a store in a folder that is open. All names are looked at before the first file is made. */
-static enum lcrvm_status create_in(int folder, const struct lcrvm_geometry *geometry, struct lcrvm_fault *fault)
-{
-    enum lcrvm_status status = look_at_all(folder, fault);
-
-    if (status == LCRVM_OK)
-        status = lock_folder(folder, fault);
-    return status == LCRVM_OK ? make_files(folder, geometry, fault) : status;
-}
-
-/* The size of a store by its files. */
+/* ---- the size of a store by its files */
 
 struct row {
     uint32_t count;
@@ -434,7 +259,7 @@ static enum lcrvm_status find_size(int folder, struct lcrvm_geometry *found, str
     return LCRVM_OK;
 }
 
-/* The size that a folder states. */
+/* ---- the size that a folder states */
 
 /* Takes the size from its file, which has nothing else. */
 static enum lcrvm_status take_stated(int file, struct lcrvm_geometry *stated, struct lcrvm_fault *fault)
@@ -446,7 +271,7 @@ static enum lcrvm_status take_stated(int file, struct lcrvm_geometry *stated, st
     if (fstat(file, &at) != 0)
         return file_failed(fault, size_name);
     len = at.st_size < (off_t)sizeof text ? (size_t)at.st_size : 0;
-    if (!read_whole(file, (uint8_t *)text, len))
+    if (!read_whole(file, (uint8_t *)text, len, 0))
         return file_failed(fault, size_name);
     if (!read_size(text, len, stated))
         return fault_of_file(fault, LCRVM_DEVICE_FAULT, size_name, "not the size of a store");
@@ -454,16 +279,16 @@ static enum lcrvm_status take_stated(int file, struct lcrvm_geometry *stated, st
 }
 
 /* Takes the size that a folder states; where it states none, that stays as it was. */
-static enum lcrvm_status read_stated(int folder, struct lcrvm_geometry *stated, struct lcrvm_fault *fault)
+static enum lcrvm_status read_stated(struct descriptors *kept, struct lcrvm_geometry *stated, struct lcrvm_fault *fault)
 {
-    enum lcrvm_status status = look_at(folder, size_name, fault);
+    enum lcrvm_status status = look_at(kept->of[FOLDER], size_name, fault);
     int file;
 
     if (status != LCRVM_EXISTS)
         return status;
-    file = open_regular(folder, size_name, O_RDONLY, fault);
+    file = open_regular(kept, ONE_FILE, size_name, O_RDONLY, fault);
     status = file < 0 ? fault->status : take_stated(file, stated, fault);
-    close_file(file);
+    close_kept(kept, ONE_FILE);
     return status;
 }
 

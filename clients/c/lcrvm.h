@@ -1,2 +1,0 @@
-/* The header of the client and of the library. */
-#include "../../include/lcrvm.h"

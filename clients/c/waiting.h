@@ -1,0 +1,285 @@
+/* Transactions that wait to begin. They are served in the order in which they came, by who ends one: no later one
+   takes a segment that an earlier one waits for. A thread that has a transaction already need not wait for its
+   turn, since those in front of it may wait for that one. */
+#ifndef LCRVM_WAITING_H
+#define LCRVM_WAITING_H
+
+#include "store.h"
+
+#include <time.h>
+
+/* A transaction that is to begin. */
+struct wish {
+    uint32_t node;
+    const uint32_t *segments, *reading;
+    size_t count, reading_count;
+    uint64_t owner;
+    uint32_t writes, reads; /* the same segments as sets */
+    bool has_another;       /* the owner has a transaction that is open */
+};
+
+struct waiter {
+    struct wish wish;
+    bool served, looked_at;
+    enum lcrvm_status status;
+    struct lcrvm_fault fault;
+    uint32_t thread;
+    pthread_cond_t turn;
+    struct waiter *next;
+};
+
+/* The number of the calling thread, which no other thread has or has had. */
+static uint64_t this_thread(void)
+{
+    static atomic_uint_fast64_t last;
+    static _Thread_local uint64_t number;
+
+    if (number == NOBODY)
+        number = atomic_fetch_add(&last, 1) + 1;
+    return number;
+}
+
+/* Begins a transaction now, or not. It takes no memory. */
+static enum lcrvm_status begin_now(struct lcrvm_store *store, uint32_t thread, const struct wish *wish)
+{
+    static const uint32_t none = 0;
+    struct answer answer = {0};
+    struct begun *begun;
+    enum lcrvm_status status;
+
+    lcrvm_session_begin(&store->session, bounded(wish->node), bounded(thread), wish->count > 0 ? wish->segments : &none,
+                        wish->count, wish->reading_count > 0 ? wish->reading : &none, wish->reading_count, &answer);
+    status = answered(store, &answer);
+    if (status != LCRVM_OK)
+        return status;
+    begun = &store->begun[wish->node][thread];
+    begun->open = true;
+    begun->writing = wish->writes;
+    begun->reading = wish->reads & ~wish->writes;
+    begun->owner = wish->owner;
+    store->owned += wish->owner != NOBODY;
+    begun->count = begun->restored = 0;
+    return LCRVM_OK;
+}
+
+/* The first thread of a node that has no transaction, or as many as there are. */
+static uint32_t free_thread(const struct lcrvm_store *store, uint32_t node)
+{
+    uint32_t thread = 0;
+
+    while (node < store->geometry.nodes && thread < store->geometry.threads && store->begun[node][thread].open)
+        thread++;
+    return thread;
+}
+
+static enum lcrvm_status busy_at(uint32_t segments)
+{
+    uint32_t list_of_them[MOST_SEGMENTS];
+
+    failed(LCRVM_BUSY, "");
+    if (list_of(segments, list_of_them) > 0)
+        fault_here.segment = list_of_them[0];
+    return LCRVM_BUSY;
+}
+
+/* Begins a transaction by a free thread, unless it would take what these, which are in front of it, wait for. */
+static enum lcrvm_status try_begin(struct lcrvm_store *store, const struct wish *wish, uint32_t writing,
+                                   uint32_t reading, uint32_t *thread)
+{
+    uint32_t wanted = contested(wish->writes, wish->reads, writing, reading), free = free_thread(store, wish->node);
+    enum lcrvm_status status;
+
+    if (wanted != 0 && !wish->has_another)
+        return busy_at(wanted);
+    if (free == store->geometry.threads)
+        return busy_at(0);
+    status = begin_now(store, free, wish);
+    if (status == LCRVM_OK)
+        *thread = free;
+    return status;
+}
+
+/* Begins what waits, as far as it can, in turn; of a store that is over all are told so. */
+static void serve_waiters(struct lcrvm_store *store)
+{
+    struct waiter **at = &store->waiters;
+    struct lcrvm_fault kept;
+    uint32_t writing = 0, reading = 0;
+
+    if (*at == NULL)
+        return;
+    kept = fault_here;
+    while (*at != NULL) {
+        struct waiter *waiter = *at;
+
+        waiter->status = store->over ? is_over(store)
+                                     : try_begin(store, &waiter->wish, writing, reading, &waiter->thread);
+        waiter->fault = fault_here;
+        if (waiter->status == LCRVM_BUSY) {
+            writing |= waiter->wish.writes;
+            reading |= waiter->wish.reads;
+            at = &waiter->next;
+        } else {
+            waiter->served = true;
+            *at = waiter->next;
+            pthread_cond_signal(&waiter->turn);
+        }
+    }
+    fault_here = kept;
+}
+
+/* Begins a transaction that comes now, after all that wait. */
+static enum lcrvm_status begin_in_turn(struct lcrvm_store *store, const struct wish *wish, uint32_t *thread)
+{
+    uint32_t writing = 0, reading = 0;
+
+    for (const struct waiter *waiter = store->waiters; waiter != NULL; waiter = waiter->next) {
+        writing |= waiter->wish.writes;
+        reading |= waiter->wish.reads;
+    }
+    return try_begin(store, wish, writing, reading, thread);
+}
+
+/* Whether a thread has a transaction that lcrvm_begin began, or where `others`, whether another thread has one. */
+static bool has_begun(const struct lcrvm_store *store, uint64_t owner, bool others)
+{
+    for (uint32_t node = 0; store->owned > 0 && node < store->geometry.nodes; node++)
+        for (uint32_t thread = 0; thread < store->geometry.threads; thread++) {
+            const struct begun *begun = &store->begun[node][thread];
+
+            if (begun->open && begun->owner != NOBODY && (begun->owner == owner) != others)
+                return true;
+        }
+    return false;
+}
+
+/* ---- who waits for itself */
+
+static bool is_stuck(struct lcrvm_store *store, const struct wish *wish, uint64_t owner);
+
+/* Whether no transaction of this thread ends before the owner goes on: it is the owner, or waits for it. */
+static bool waits_for(struct lcrvm_store *store, uint64_t thread, uint64_t owner)
+{
+    if (thread == NOBODY || thread == owner)
+        return thread == owner;
+    for (struct waiter *waiter = store->waiters; waiter != NULL; waiter = waiter->next)
+        if (waiter->wish.owner == thread && !waiter->looked_at) {
+            waiter->looked_at = true;
+            return is_stuck(store, &waiter->wish, owner);
+        }
+    return false;
+}
+
+/* Whether what is wished for comes no sooner than the owner goes on: who has one of the segments waits for it, or
+   all that have the node's threads do. */
+static bool is_stuck(struct lcrvm_store *store, const struct wish *wish, uint64_t owner)
+{
+    bool all_wait = true;
+
+    for (uint32_t node = 0; node < store->geometry.nodes; node++)
+        for (uint32_t thread = 0; thread < store->geometry.threads; thread++) {
+            const struct begun *begun = &store->begun[node][thread];
+            bool waits = begun->open && waits_for(store, begun->owner, owner);
+
+            if (waits && contested(wish->writes, wish->reads, begun->writing, begun->reading) != 0)
+                return true;
+            if (node == wish->node && !waits)
+                all_wait = false;
+        }
+    return all_wait;
+}
+
+/* Whether the owner would wait for itself. Without a transaction nobody waits for it. */
+static bool waits_for_itself(struct lcrvm_store *store, const struct wish *wish)
+{
+    if (!wish->has_another)
+        return false;
+    for (struct waiter *waiter = store->waiters; waiter != NULL; waiter = waiter->next)
+        waiter->looked_at = false;
+    return is_stuck(store, wish, wish->owner);
+}
+
+/* ---- waiting */
+
+static struct timespec time_after(uint32_t milliseconds)
+{
+    struct timespec at;
+
+    clock_gettime(CLOCK_MONOTONIC, &at);
+    at.tv_sec += (time_t)(milliseconds / 1000);
+    at.tv_nsec += (long)(milliseconds % 1000) * 1000000;
+    if (at.tv_nsec >= 1000000000) {
+        at.tv_sec++;
+        at.tv_nsec -= 1000000000;
+    }
+    return at;
+}
+
+static void init_condition(pthread_cond_t *condition)
+{
+    pthread_condattr_t attributes;
+
+    pthread_condattr_init(&attributes);
+    pthread_condattr_setclock(&attributes, CLOCK_MONOTONIC);
+    pthread_cond_init(condition, &attributes);
+    pthread_condattr_destroy(&attributes);
+}
+
+/* Waits until the waiter is served, or the time is over. */
+static void wait_for_turn(struct lcrvm_store *store, struct waiter *waiter, uint32_t milliseconds)
+{
+    const struct timespec until = time_after(milliseconds);
+    int ended = 0;
+
+    while (!waiter->served && ended == 0) {
+        if (milliseconds == UINT32_MAX)
+            pthread_cond_wait(&waiter->turn, &store->events);
+        else
+            ended = pthread_cond_timedwait(&waiter->turn, &store->events, &until);
+    }
+}
+
+static void take_out(struct lcrvm_store *store, const struct waiter *waiter)
+{
+    struct waiter **at = &store->waiters;
+
+    while (*at != waiter)
+        at = &(*at)->next;
+    *at = waiter->next;
+}
+
+/* Waits after all others; what the first attempt answered is in fault_here. */
+static enum lcrvm_status wait_to_begin(struct lcrvm_store *store, const struct wish *wish, uint32_t *thread,
+                                       uint32_t milliseconds)
+{
+    struct waiter waiter = {.wish = *wish, .status = LCRVM_BUSY, .fault = fault_here};
+    struct waiter **last = &store->waiters;
+
+    init_condition(&waiter.turn);
+    while (*last != NULL)
+        last = &(*last)->next;
+    *last = &waiter;
+    wait_for_turn(store, &waiter, milliseconds);
+    if (!waiter.served) {
+        take_out(store, &waiter);
+        serve_waiters(store);
+    }
+    pthread_cond_destroy(&waiter.turn);
+    if (waiter.status == LCRVM_OK)
+        *thread = waiter.thread;
+    else
+        fault_here = waiter.fault;
+    return waiter.status;
+}
+
+static enum lcrvm_status begin_waiting(struct lcrvm_store *store, const struct wish *wish, uint32_t *thread,
+                                       uint32_t milliseconds)
+{
+    enum lcrvm_status status = begin_in_turn(store, wish, thread);
+
+    if (status != LCRVM_BUSY || milliseconds == 0 || waits_for_itself(store, wish))
+        return status;
+    return wait_to_begin(store, wish, thread, milliseconds);
+}
+
+#endif
