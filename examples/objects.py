@@ -1,5 +1,5 @@
 #!/usr/bin/env python3
-"""An object store in recoverable bytes, over the Python client: objects of up to 28 KiB under names of up to 47 bytes.
+"""An object store in recoverable bytes, over the Python package: objects of up to 28 KiB under names of up to 47 bytes.
 
 usage: examples/objects.py FOLDER make              makes an empty store in a new folder
        examples/objects.py FOLDER put NAME < FILE   puts an object, over one of the same name if there is one
@@ -7,10 +7,10 @@ usage: examples/objects.py FOLDER make              makes an empty store in a ne
        examples/objects.py FOLDER delete NAME
        examples/objects.py FOLDER list              prints a line for each object: its length in bytes and its name
 
-The program is `lcrvm`, or what the variable LCRVM says. Status 1 where there is no such object, no room, or no store; 2
+It needs the package lcrvm, as `pip install` has it. Status 1 where there is no such object, no room, or no store; 2
 where the command line is not understood.
 
-Each change is one transaction over map, index and data, and is flushed before it is answered. The store is one of
+Each change is one transaction over map, index and data, and is durable when it is answered. The store is one of
 lcrvm, of one node:
 
     segment 1   bytes 0 to 2047: the map, a bit for each chunk, the lowest bit of a byte first, set where an object has
@@ -29,17 +29,13 @@ An entry has, in little-endian numbers:
 """
 from __future__ import annotations
 
-import os
 import struct
 import sys
 import time
 from typing import Dict, List, NamedTuple, Optional
 
-sys.path.insert(0, os.path.join(os.path.dirname(os.path.abspath(__file__)), "..", "clients", "python"))
-import lcrvm  # noqa: E402
+import lcrvm
 
-NODE = 0
-THREAD = 0
 DIRECTORY = 1
 FIRST_DATA = 2
 DATA_SEGMENTS = 4
@@ -56,7 +52,7 @@ NAME_BYTES = 47
 # that it had and has, and for the record's own words.
 OBJECT_BYTES = 28_672
 
-# Seconds in which the program of a client that was killed sees the end of its input, and ends.
+# Seconds in which a process that has the store open, or was killed, ends.
 PATIENCE = 10.0
 
 
@@ -77,7 +73,7 @@ class Extent(NamedTuple):
 
     @property
     def end(self) -> int:
-        """The chunk behind its last."""
+        """The chunk after its last."""
         return self.first + -(-self.length // CHUNK_BYTES)
 
     @property
@@ -95,8 +91,8 @@ class Objects:
 
     def __init__(self, store: lcrvm.Store) -> None:
         self._store = store
-        with store.transaction(NODE, THREAD, reading=[DIRECTORY]) as transaction:
-            directory = transaction.read(DIRECTORY, 0, GEOMETRY.segment_bytes)
+        with store.transaction(reading=[DIRECTORY]) as transaction:
+            directory = transaction[DIRECTORY, :]
         # A byte for each chunk, 1 where it is taken.
         self._taken = bytearray(byte >> bit & 1 for byte in directory[:MAP_BYTES] for bit in range(8))
         self._extents: Dict[str, Extent] = {}
@@ -120,11 +116,11 @@ class Objects:
     def get(self, name: str) -> bytes:
         """The object's bytes."""
         extent = self._extent(name)
-        with self._store.transaction(NODE, THREAD, reading=[extent.segment]) as transaction:
+        with self._store.transaction(reading=[extent.segment]) as transaction:
             return transaction.read(extent.segment, extent.offset, extent.length)
 
     def put(self, name: str, data: bytes) -> None:
-        """Puts an object, in place of the one of this name if there is one. It is stable when this returns."""
+        """Puts an object, in place of the one of this name if there is one. It is durable when this returns."""
         encoded = name.encode("utf-8")
         if not 1 <= len(encoded) <= NAME_BYTES or len(data) > OBJECT_BYTES:
             raise ValueError(f"a name has 1 to {NAME_BYTES} bytes, and an object at most {OBJECT_BYTES}")
@@ -134,25 +130,24 @@ class Objects:
             raise NoRoom("no entry is free")
         new = Extent(old.entry if old is not None else self._free[-1], len(data), find_run(taken, len(data)))
         fill(taken, new, 1)
-        segments = {DIRECTORY, new.segment}
-        with self._store.transaction(NODE, THREAD, segments, flush=True) as transaction:
+        with self._store.transaction(DIRECTORY, new.segment) as transaction:
             change_map(transaction, taken, old)
             change_map(transaction, taken, new)
             entry = ENTRY.pack(len(encoded), encoded, new.length, new.first)
-            change(transaction, DIRECTORY, offset_of(new.entry), entry)
-            change(transaction, new.segment, new.offset, data)
+            transaction.write(DIRECTORY, offset_of(new.entry), entry)
+            transaction.write(new.segment, new.offset, data)
         self._taken = taken
         self._extents[name] = new
         if old is None:
             self._free.pop()
 
     def delete(self, name: str) -> None:
-        """Deletes an object. That is stable when this returns."""
+        """Deletes an object. That is durable when this returns."""
         old = self._extent(name)
         taken = self._without(old)
-        with self._store.transaction(NODE, THREAD, [DIRECTORY], flush=True) as transaction:
+        with self._store.transaction(DIRECTORY) as transaction:
             change_map(transaction, taken, old)
-            change(transaction, DIRECTORY, offset_of(old.entry), bytes(ENTRY.size))
+            transaction.write(DIRECTORY, offset_of(old.entry), bytes(ENTRY.size))
         self._taken = taken
         del self._extents[name]
         self._free.append(old.entry)
@@ -197,41 +192,32 @@ def offset_of(entry: int) -> int:
     return MAP_BYTES + entry * ENTRY.size
 
 
-def change(transaction: lcrvm.Transaction, segment: int, offset: int, data: bytes) -> None:
-    """Sets the range of these bytes and writes them."""
-    if data:
-        transaction.set_range(segment, offset, len(data))
-        transaction.write(segment, offset, data)
-
-
 def change_map(transaction: lcrvm.Transaction, taken: bytearray, extent: Optional[Extent]) -> None:
     """Writes the bytes of the map that have the extent's chunks."""
     if extent is None or extent.length == 0:
         return
     low, high = extent.first // 8, (extent.end + 7) // 8
     bits = bytes(sum(taken[8 * byte + bit] << bit for bit in range(8)) for byte in range(low, high))
-    change(transaction, DIRECTORY, low, bits)
+    transaction.write(DIRECTORY, low, bits)
 
 
-def open_store(folder: str, program: str) -> lcrvm.Store:
+def open_store(folder: str) -> lcrvm.Store:
     """Opens the store; where it is in use, it is tried again for a while."""
     end = time.monotonic() + PATIENCE
     while True:
         try:
-            return lcrvm.open(folder, GEOMETRY, program=program, truncate_when_full=True)
+            return lcrvm.open(folder, geometry=GEOMETRY)
         except lcrvm.StoreInUse:
             if time.monotonic() > end:
                 raise
             time.sleep(0.01)
 
 
-def command(words: List[str], program: str) -> None:
-    folder, what, names = words[0], words[1], words[2:]
+def command(folder: str, what: str, names: List[str]) -> None:
     if what == "make":
-        os.mkdir(folder)
-        lcrvm.create(folder, GEOMETRY, program=program)
+        lcrvm.create(folder, GEOMETRY)
         return
-    with open_store(folder, program) as store:
+    with open_store(folder) as store:
         objects = Objects(store)
         if what == "put":
             objects.put(names[0], sys.stdin.buffer.read())
@@ -250,9 +236,9 @@ def main(words: List[str]) -> int:
         print(__doc__, file=sys.stderr)
         return 2
     try:
-        command(words, os.environ.get("LCRVM", "lcrvm"))
-    except (NoObject, NoRoom, ValueError, OSError, lcrvm.Fault) as fault:
-        print(f"objects: {type(fault).__name__}: {fault}", file=sys.stderr)
+        command(words[0], words[1], words[2:])
+    except (NoObject, NoRoom, ValueError, OSError, lcrvm.Error) as error:
+        print(f"objects: {type(error).__name__}: {error}", file=sys.stderr)
         return 1
     return 0
 

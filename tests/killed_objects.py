@@ -1,13 +1,12 @@
 #!/usr/bin/env python3
-"""Kills the object store of examples/objects.py and its program in the midst of their work; tests/objects.sh starts it.
+"""Kills the object store of examples/objects.py in the midst of its work; tests/objects.sh starts it.
 
-usage: tests/killed_objects.py PROGRAM SEED KILLS OBJECTS
+usage: tests/killed_objects.py SEED KILLS OBJECTS
 
-A worker does the changes that it is told and says of each when it is acknowledged. It and its program are killed
-together: behind a random number of changes, and a random moment later, or while they open the store. Each time all
-objects are read: they are those of the acknowledged changes, byte for byte, and the change that was under way is there
-whole or not at all. Behind the last kill the objects that are left to do are put, and the command line shows them. It
-works in the folder where it runs.
+A worker does the changes that it is told and says of each when it is acknowledged. It is killed after a random number
+of changes, and a random moment later, or while it opens the store. Each time all objects are read: they are those of
+the acknowledged changes, byte for byte, and the change that was under way is there whole or not at all. After the last
+kill the objects that are left to do are put, and the command line shows them. It works in the folder where it runs.
 """
 from __future__ import annotations
 
@@ -33,7 +32,7 @@ CHANGES, SPARE = 100, 200
 # those that put one again; long ones.
 WHILE_OPENING, DELETED, DELETED_FROM_ALL, REPLACED, LONG = 10, 10, 60, 15, 1
 SHORT_BYTES, LONG_BYTES = 300, 20_000
-# Seconds: the latest moment of a kill behind an acknowledgement, and behind the start of a worker.
+# Seconds: the latest moment of a kill after an acknowledgement, and after the start of a worker.
 SOON, OPENING = 0.005, 0.15
 
 
@@ -94,10 +93,10 @@ class Plan:
         return chosen
 
 
-def work(program: str) -> None:
+def work() -> None:
     """Does the changes of standard input, and says `open` and, of each change, `done` when it is acknowledged."""
     changes = [change_of(line) for line in sys.stdin]
-    with example.open_store(FOLDER, program) as store:
+    with example.open_store(FOLDER) as store:
         objects = example.Objects(store)
         os.write(sys.stdout.fileno(), b"open\n")
         for change in changes:
@@ -108,13 +107,13 @@ def work(program: str) -> None:
             os.write(sys.stdout.fileno(), b"done\n")
 
 
-def run_worker(program: str, lines: List[str], chance: Optional[random.Random]) -> Tuple[int, bool]:
+def run_worker(lines: List[str], chance: Optional[random.Random]) -> Tuple[int, bool]:
     """Runs a worker on these changes, and kills it where there is a chance to.
 
     How many changes were acknowledged, and whether it was killed.
     """
-    words = [sys.executable, os.path.abspath(__file__), "--work", program]
-    worker = subprocess.Popen(words, stdin=subprocess.PIPE, stdout=subprocess.PIPE, start_new_session=True)
+    words = [sys.executable, os.path.abspath(__file__), "--work"]
+    worker = subprocess.Popen(words, stdin=subprocess.PIPE, stdout=subprocess.PIPE)
     assert worker.stdin is not None and worker.stdout is not None
     worker.stdin.write("".join(lines).encode())
     worker.stdin.close()
@@ -126,8 +125,7 @@ def run_worker(program: str, lines: List[str], chance: Optional[random.Random]) 
             for _ in range(1 + chance.randrange(CHANGES)):
                 said += worker.stdout.readline() == b"done\n"
             time.sleep(chance.random() * SOON)
-        # The worker leads the group, and its program is in it.
-        os.killpg(worker.pid, signal.SIGKILL)
+        worker.kill()
     said += worker.stdout.read().splitlines().count(b"done")
     status = worker.wait()
     worker.stdout.close()
@@ -137,25 +135,25 @@ def run_worker(program: str, lines: List[str], chance: Optional[random.Random]) 
 
 
 def applied(there: Dict[str, bytes], changes: List[Change]) -> Dict[str, bytes]:
-    """The objects behind these changes."""
-    after = dict(there)
+    """The objects after these changes."""
+    changed = dict(there)
     for name, data in changes:
-        after.pop(name, None)
+        changed.pop(name, None)
         if data is not None:
-            after[name] = data
-    return after
+            changed[name] = data
+    return changed
 
 
-def found(program: str) -> Tuple[Dict[str, bytes], bool]:
+def found() -> Tuple[Dict[str, bytes], bool]:
     """All objects of the store, and whether its map is that of these objects."""
-    with example.open_store(FOLDER, program) as store:
+    with example.open_store(FOLDER) as store:
         objects = example.Objects(store)
         return {name: objects.get(name) for name in objects.names()}, objects.is_consistent()
 
 
-def check(program: str, wanted: List[Dict[str, bytes]], what: str) -> Dict[str, bytes]:
+def check(wanted: List[Dict[str, bytes]], what: str) -> Dict[str, bytes]:
     """The objects that are there, which have to be one of these."""
-    there, consistent = found(program)
+    there, consistent = found()
     if there not in wanted:
         wrong = [name for name in sorted({*there, *wanted[0]}) if there.get(name) != wanted[0].get(name)]
         raise SystemExit(f"failed: {what}: other objects are there than were acknowledged: {' '.join(wrong[:10])}")
@@ -164,15 +162,12 @@ def check(program: str, wanted: List[Dict[str, bytes]], what: str) -> Dict[str, 
     return there
 
 
-def show(program: str, there: Dict[str, bytes]) -> None:
+def show(there: Dict[str, bytes]) -> None:
     """Looks at the objects by the command line."""
 
     def told(*words: str, given: bytes = b"") -> Tuple[int, bytes]:
         command = [sys.executable, EXAMPLE, FOLDER, *words]
-        environment = {**os.environ, "LCRVM": program}
-        done = subprocess.run(
-            command, input=given, stdout=subprocess.PIPE, stderr=subprocess.DEVNULL, env=environment
-        )
+        done = subprocess.run(command, input=given, stdout=subprocess.PIPE, stderr=subprocess.DEVNULL)
         return done.returncode, done.stdout
 
     listed = "".join(f"{len(there[name])} {name}\n" for name in sorted(there)).encode()
@@ -199,36 +194,35 @@ def show(program: str, there: Dict[str, bytes]) -> None:
             raise SystemExit(f"failed: command {number}: status {is_so[0]}")
 
 
-def main(program: str, seed: int, kills: int, count: int) -> None:
+def main(seed: int, kills: int, count: int) -> None:
     chance = random.Random(seed)
     plan = Plan(chance, count)
-    os.mkdir(FOLDER)
-    lcrvm.create(FOLDER, example.GEOMETRY, program=program)
+    lcrvm.create(FOLDER, example.GEOMETRY)
     there: Dict[str, bytes] = {}
     killed, acknowledged, whole, none = 0, 0, 0, 0
     while killed < kills:
         lines = plan.lines(there, CHANGES + SPARE)
         changes = [change_of(line) for line in lines]
-        said, was_killed = run_worker(program, lines, chance)
+        said, was_killed = run_worker(lines, chance)
         killed += was_killed
-        before, behind = applied(there, changes[:said]), applied(there, changes[: said + 1])
-        there = check(program, [before, behind], f"kill {killed}")
+        before, after = applied(there, changes[:said]), applied(there, changes[: said + 1])
+        there = check([before, after], f"kill {killed}")
         acknowledged += said
-        whole += was_killed and there == behind
+        whole += was_killed and there == after
         none += was_killed and there == before
     print(f"{kills} kills, {acknowledged} changes acknowledged, {len(there)} objects")
     print(f"of the changes that were under way {whole} are there, and {none} are not")
     while len(there) < count:
         lines = plan.lines(there, count - len(there))
-        run_worker(program, lines, None)
-        there = check(program, [applied(there, [change_of(line) for line in lines])], "without a kill")
-    show(program, there)
-    check(program, [there], "behind the command line")
+        run_worker(lines, None)
+        there = check([applied(there, [change_of(line) for line in lines])], "without a kill")
+    show(there)
+    check([there], "after the command line")
     print(f"{len(there)} objects of {sum(map(len, there.values()))} bytes are there")
 
 
 if __name__ == "__main__":
     if sys.argv[1] == "--work":
-        work(sys.argv[2])
+        work()
     else:
-        main(sys.argv[1], *map(int, sys.argv[2:]))
+        main(*map(int, sys.argv[1:]))
