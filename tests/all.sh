@@ -1,14 +1,15 @@
 #!/bin/sh
-# Runs the scripts of this folder over what was built, side by side, each with a limit of its own, and the look at what the documents
-# name. What each said is shown where it failed; the last line counts them: 'N passed, M failed, K skipped'. A script that lacks a tool,
-# or has to be root, is skipped, by name, and never passed.
+# Runs the scripts of this folder over what was built, side by side, each with a limit of its own, and the looks at
+# what the documents name. What each said is shown where it failed; the last line counts them: 'N passed, M failed, K
+# skipped'. A script that lacks a tool, for all of it or for a part, or has to be root, is skipped, by name, and never
+# passed.
 #
 # usage: tests/all.sh [-j N] [NAME..]     (default: a script for each processor; all)
 #
 # The program, the library and the tests have to be built:
-#   (cd crates/lcrvm && rt run -- lines)   (cd crates/lc_c && rt lib)   (cd crates/lc_tests && rt test)
-# LCRVM, LC_C and LC_TESTS may name them elsewhere. `cc` and `python3` are wanted. Some scripts take more cuts, kills or seeds by an argument
-# of their own: see their first lines.
+#   make prove   (cd crates/lc_tests && rt test)
+# LCRVM, LC_C and LC_TESTS may name them elsewhere. `make`, `cc` and `python3` are wanted. Some scripts take more
+# cuts, kills or seeds by an argument of their own: see their first lines.
 set -eu
 
 top=$(cd "$(dirname "$0")/.." && pwd)
@@ -25,17 +26,21 @@ fi
 rows='
 900 embedded tests/embedded.sh $LCRVM $LC_C
 900 power tests/power.sh $LCRVM 1 500
-900 same_calls tests/same_calls.sh $LCRVM $LC_C
+900 threads tests/threads.sh $LC_C
 900 refused_growths tests/refused_growths.sh
+600 python tests/python.sh $LC_C
 600 faults tests/faults.sh $LCRVM
-600 objects tests/objects.sh $LCRVM 20
+600 objects tests/objects.sh $LC_C 20
 600 files tests/files.sh $LCRVM
-600 clients tests/clients.sh $LCRVM
+600 wrappers tests/wrappers.sh $LCRVM $LC_C
+600 install tests/install.sh $LCRVM $LC_C
 300 processes tests/processes.sh $LCRVM 40
 300 failed_sync tests/failed_sync.sh $LCRVM
 300 progress tests/progress.sh $LCRVM
 300 folders tests/folders.sh $LCRVM
 300 descriptors tests/descriptors.sh $LCRVM
+300 coprocess tests/coprocess.sh $LCRVM
+300 copies tests/copies.sh $LCRVM
 60 proved python3 tests/proved.py
 60 statements python3 tests/statements.py
 60 edits tests/edits.sh --fits

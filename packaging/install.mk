@@ -1,0 +1,51 @@
+# Installs what was built, and takes it away again. The Makefile of the repository and that of an archive read it. They
+# say VERSION, and in `built` the folder of the program and the libraries.
+
+PREFIX ?= /usr/local
+BINDIR ?= $(PREFIX)/bin
+LIBDIR ?= $(PREFIX)/lib
+INCLUDEDIR ?= $(PREFIX)/include
+MANDIR ?= $(PREFIX)/share/man
+COMPLETIONDIR ?= $(PREFIX)/share/bash-completion/completions
+INSTALL ?= install
+
+soname := liblcrvm.so.$(firstword $(subst ., ,$(VERSION)))
+library := liblcrvm.so.$(VERSION)
+
+define pkgconfig
+prefix=$(PREFIX)
+libdir=$(LIBDIR)
+includedir=$(INCLUDEDIR)
+
+Name: lcrvm
+Description: Transactions on bytes that outlive a crash
+Version: $(VERSION)
+Libs: -L$${libdir} -llcrvm
+Libs.private: -pthread
+Cflags: -I$${includedir}
+endef
+export pkgconfig
+
+.PHONY: install uninstall
+install: $(built)/lcrvm $(built)/$(library) $(built)/liblcrvm.a
+	$(INSTALL) -d "$(DESTDIR)$(BINDIR)" "$(DESTDIR)$(LIBDIR)/pkgconfig" "$(DESTDIR)$(INCLUDEDIR)" \
+	    "$(DESTDIR)$(MANDIR)/man1" "$(DESTDIR)$(MANDIR)/man3" "$(DESTDIR)$(COMPLETIONDIR)"
+	$(INSTALL) -m 755 $(built)/lcrvm "$(DESTDIR)$(BINDIR)/lcrvm"
+	$(INSTALL) -m 644 $(built)/$(library) "$(DESTDIR)$(LIBDIR)/$(library)"
+	ln -sf $(library) "$(DESTDIR)$(LIBDIR)/$(soname)"
+	ln -sf $(soname) "$(DESTDIR)$(LIBDIR)/liblcrvm.so"
+	$(INSTALL) -m 644 $(built)/liblcrvm.a "$(DESTDIR)$(LIBDIR)/liblcrvm.a"
+	$(INSTALL) -m 644 include/lcrvm.h "$(DESTDIR)$(INCLUDEDIR)/lcrvm.h"
+	printf '%s\n' "$$pkgconfig" > "$(DESTDIR)$(LIBDIR)/pkgconfig/lcrvm.pc"
+	chmod 644 "$(DESTDIR)$(LIBDIR)/pkgconfig/lcrvm.pc"
+	$(INSTALL) -m 644 man/lcrvm.1 "$(DESTDIR)$(MANDIR)/man1/lcrvm.1"
+	$(INSTALL) -m 644 man/lcrvm.3 "$(DESTDIR)$(MANDIR)/man3/lcrvm.3"
+	$(INSTALL) -m 644 completion/lcrvm.bash "$(DESTDIR)$(COMPLETIONDIR)/lcrvm"
+	@[ -n "$(DESTDIR)" ] || echo "installed. Where the linker's cache has $(LIBDIR), ldconfig renews it."
+
+# Of the library each version with this soname goes.
+uninstall:
+	rm -f "$(DESTDIR)$(BINDIR)/lcrvm" "$(DESTDIR)$(LIBDIR)/liblcrvm.a" "$(DESTDIR)$(LIBDIR)/pkgconfig/lcrvm.pc" \
+	    "$(DESTDIR)$(LIBDIR)/liblcrvm.so" "$(DESTDIR)$(LIBDIR)/$(soname)" "$(DESTDIR)$(LIBDIR)/$(soname)".* \
+	    "$(DESTDIR)$(INCLUDEDIR)/lcrvm.h" "$(DESTDIR)$(MANDIR)/man1/lcrvm.1" "$(DESTDIR)$(MANDIR)/man3/lcrvm.3" \
+	    "$(DESTDIR)$(COMPLETIONDIR)/lcrvm"
