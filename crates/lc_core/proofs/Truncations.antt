@@ -1,6 +1,6 @@
 -- Pieces of work that follow one another, up to the first refusal; and events that want no memory.
-use Rattle.std.specs.Prelude.{List, Option, Some, None, MatchOption}
-use Rattle.std.proofs.Common.{◌≡◌, ◌<◌, ◌≤◌, ◌+◌, ◌-◌, ℕ, zero, suc, true, false, refl, sym, subst, arith}
+use Rattle.std.specs.Prelude.{List, Option, Some, None, MatchOption, ◌⊎◌, ⊤, ◌*◌}
+use Rattle.std.proofs.Common.{◌≡◌, ◌<◌, ◌≤◌, ◌+◌, ◌-◌, ℕ, zero, suc, true, false, refl, sym, ap, subst, arith, inl, inr, ◌∙◌}
 use Rattle.lc_disk.specs.declared.area.Area.{Ghosts}
 use Rattle.lc_disk.specs.declared.choice.Choice.{Choice}
 use Rattle.lc_model.specs.declared.event.Event.{Event}
@@ -8,7 +8,11 @@ use Rattle.lc_model.specs.declared.event.Event.TheVariants.{FlushStep, PageStep,
 use Rattle.lc_model.specs.declared.refusal.Refusal.{Refusal}
 use Rattle.lc_model.specs.declared.reply.Reply.{Reply}
 use Rattle.lc_model.specs.declared.reply.Reply.TheVariants.{Ok as IsDone, Bytes, Reserved, Ended, Stepped, Acked, Nothing, Applied, HeldBack, Ignored, Trimmed, Written, Reset, Down as IsDown, Recovered, Refused}
-use Rattle.lc_core.specs.Truncating.{empties, ending, CallsDue, CallsIf, EachFrom, Repeats, StepsTo, is_due, refusal_in, stopping}
+use Rattle.lc_core.specs.Truncating.{AsksFirst, empties, ending, CallsDue, CallsIf, EachFrom, Repeats, Round, StepsTo, WritesSegment, is_due, refusal_in, stopping}
+use Rattle.lc_core.specs.Truncation.{IsAtDue, IsFewer, IsNext, IsOn, Leads, Then, ThenCleans, ThenResets, WritesAt, WritesFrom, WritesIf, steps_if}
+use Rattle.lc_core.specs.declared.page_cursor.PageCursor.{PageCursor}
+use Rattle.lc_core.specs.declared.truncation_step.TruncationStep.{TruncationStep}
+use Rattle.lc_core.specs.declared.truncation_step.TruncationStep.TheVariants.{Continues, Ends}
 use Rattle.lc_core.specs.World.{AsksIn}
 use Rattle.lc_core.specs.declared.phase.Phase.{Phase}
 use Rattle.lc_core.specs.declared.phase.Phase.TheVariants.{Down, Up, Taken}
@@ -149,3 +153,200 @@ module _ {D : Type 0} (a : Ghosts D) (Does : ℕ → World D a → Option Refusa
   -- from the first on
   pub from_first : (n : ℕ) (w new : World D a) (refused : Option Refusal) → EachFrom a (n - 0) 0 Does w refused new → EachFrom a n 0 Does w refused new
   from_first n w new refused rest = subst (λ left. EachFrom a left 0 Does w refused new) (all_left n) rest
+
+-- One thing and then the other
+
+module _ {D : Type 0} (a : Ghosts D) where
+  -- the first may be another that leads to the same
+  pub then_first : (One Same Other : World D a → Option Refusal → World D a → Type 0) (w v : World D a)
+      → ((refused : Option Refusal) (new : World D a) → One w refused new → Same v refused new)
+      → (refused : Option Refusal) (new : World D a) → Then a One Other w refused new → Then a Same Other v refused new
+  then_first One Same Other w v leads refused new (first, mid, one, rest) = (first, mid, leads first mid one, rest)
+
+  module _ (Does : ℕ → World D a → Option Refusal → World D a → Type 0) (n k : ℕ) (lt : k < n) (w : World D a) where
+    -- a piece of work and those that follow it are the work from it on
+    pub gathered : (Other : World D a → Option Refusal → World D a → Type 0) (refused : Option Refusal) (new : World D a)
+        → Then a (Does k) (Then a (EachFrom a (n - (k + 1)) (k + 1) Does) Other) w refused new → Then a (EachFrom a (n - k) k Does) Other w refused new
+    gathered Other refused new (None, mid, does, (first, last, rest, end)) = (first, last, one_goes_on a Does n k w mid lt does first last rest, end)
+    gathered Other refused new (Some refusal, mid, does, ends) = (Some refusal, mid, one_refuses a Does n k w mid refusal lt does, ends)
+
+    pub begun : (refused : Option Refusal) (new : World D a) → Then a (Does k) (EachFrom a (n - (k + 1)) (k + 1) Does) w refused new → EachFrom a (n - k) k Does w refused new
+    begun refused new (None, mid, does, rest) = one_goes_on a Does n k w mid lt does refused new rest
+    begun refused new (Some refusal, mid, does, (is, same)) =
+        subst (λ v. EachFrom a (n - k) k Does w refused v) (sym same) (subst (λ r. EachFrom a (n - k) k Does w r mid) (sym is) (one_refuses a Does n k w mid refusal lt does))
+
+  module _ (node segments pages place round page : ℕ) (w mid : World D a) (reply : Reply) (within : page < pages) (due : is_due a w.phase node (place + 1) page ≡ true)
+      (step : StepsTo a w (PageStep node (place + 1) page) reply mid) where
+    -- a page that is due makes its call, and the rest is written from the next one on
+    pub one_written : refusal_in reply ≡ None → (refused : Option Refusal) (new : World D a)
+        → WritesFrom a node segments pages place round (page + 1) mid refused new → WritesFrom a node segments pages place round page w refused new
+    one_written not refused new (first, last, rest, end) = (
+      first,
+      last,
+      one_goes_on a (CallsDue a node (place + 1)) pages page w mid within
+          (subst (λ o. CallsDue a node (place + 1) page w o mid) not (called a node (place + 1) page w mid reply due step)) first last rest,
+      end,
+    )
+
+    -- or is refused
+    pub one_refused : (refusal : Refusal) → refusal_in reply ≡ Some refusal → WritesFrom a node segments pages place round page w (Some refusal) mid
+    one_refused refusal is = (
+      Some refusal,
+      mid,
+      one_refuses a (CallsDue a node (place + 1)) pages page w mid refusal within
+          (subst (λ o. CallsDue a node (place + 1) page w o mid) is (called a node (place + 1) page w mid reply due step)),
+      (refl, refl),
+    )
+
+  -- where no page of a segment is due, no round of it does anything
+  pub quiet : (node segment pages : ℕ) (w : World D a) → EachFrom a (pages - 0) 0 (CallsDue a node segment) w None w → WritesSegment a node segment pages w None w
+  quiet node segment pages w none = none_does a (λ round. Round a node segment pages) 13 0 w (λ j. from_first a (CallsDue a node segment) pages w w None none)
+
+  -- the work from a page of the first round on is that of its segment and of those that follow it
+  pub from_segment : (node segments pages place page : ℕ) (w : World D a) → place < segments
+      → ((refused : Option Refusal) (new : World D a) → EachFrom a (pages - page) page (CallsDue a node (place + 1)) w refused new → EachFrom a (pages - 0) 0 (CallsDue a node (place + 1)) w refused new)
+      → (refused : Option Refusal) (new : World D a) → WritesFrom a node segments pages place 0 page w refused new
+      → EachFrom a (segments - place) place (λ its. WritesSegment a node (its + 1) pages) w refused new
+  from_segment node segments pages place page w inside leads refused new writes =
+      begun (λ its. WritesSegment a node (its + 1) pages) segments place inside w refused new
+      (then_first (EachFrom a (13 - 0) 0 (λ its. Round a node (place + 1) pages)) (WritesSegment a node (place + 1) pages) Segments w w
+      (λ r v. from_first a (λ its. Round a node (place + 1) pages) 13 w v r) refused new
+      (gathered (λ its. Round a node (place + 1) pages) 13 0 (omega arith) w Segments refused new
+      (then_first (EachFrom a (pages - page) page (CallsDue a node (place + 1))) (Round a node (place + 1) pages) (Then a (EachFrom a (13 - (0 + 1)) (0 + 1) (λ its. Round a node (place + 1) pages)) Segments) w w
+      (λ r v each. from_first a (CallsDue a node (place + 1)) pages w v r (leads r v each)) refused new writes)))
+    where
+      Segments : World D a → Option Refusal → World D a → Type 0
+      Segments = EachFrom a (segments - (place + 1)) (place + 1) (λ its. WritesSegment a node (its + 1) pages)
+
+  -- the work from a page of the next round on is that of this round, which has no page that is due any more
+  pub from_round : (node segments pages place round page next : ℕ) (w : World D a) → round + 1 < 13
+      → EachFrom a (pages - page) page (CallsDue a node (place + 1)) w None w
+      → ((refused : Option Refusal) (new : World D a) → EachFrom a (pages - next) next (CallsDue a node (place + 1)) w refused new → EachFrom a (pages - 0) 0 (CallsDue a node (place + 1)) w refused new)
+      → (refused : Option Refusal) (new : World D a) → WritesFrom a node segments pages place (round + 1) next w refused new → WritesFrom a node segments pages place round page w refused new
+  from_round node segments pages place round page next w lt none leads refused new writes = (
+    None,
+    w,
+    none,
+    gathered (λ its. Round a node (place + 1) pages) 13 (round + 1) lt w Segments refused new
+        (then_first (EachFrom a (pages - next) next (CallsDue a node (place + 1))) (Round a node (place + 1) pages) (Then a (EachFrom a (13 - (round + 1 + 1)) (round + 1 + 1) (λ its. Round a node (place + 1) pages)) Segments) w w
+        (λ r v each. from_first a (CallsDue a node (place + 1)) pages w v r (leads r v each)) refused new writes),
+  )
+    where
+      Segments : World D a → Option Refusal → World D a → Type 0
+      Segments = EachFrom a (segments - (place + 1)) (place + 1) (λ its. WritesSegment a node (its + 1) pages)
+
+  -- the further segments, where the rounds of this one are over, or no page of it is due
+  pub past_segment : (node segments pages place round page : ℕ) (w : World D a)
+      → EachFrom a (pages - page) page (CallsDue a node (place + 1)) w None w
+      → (13 ≤ round + 1) ⊎ EachFrom a (pages - 0) 0 (CallsDue a node (place + 1)) w None w
+      → (refused : Option Refusal) (new : World D a) → EachFrom a (segments - (place + 1)) (place + 1) (λ its. WritesSegment a node (its + 1) pages) w refused new
+      → WritesFrom a node segments pages place round page w refused new
+  past_segment node segments pages place round page w none over refused new rest = (None, w, none, (None, w, rounds over, rest))
+    where
+      rounds : (13 ≤ round + 1) ⊎ EachFrom a (pages - 0) 0 (CallsDue a node (place + 1)) w None w → EachFrom a (13 - (round + 1)) (round + 1) (λ its. Round a node (place + 1) pages) w None w
+      rounds (inl past) = none_left a (λ its. Round a node (place + 1) pages) 13 (round + 1) w past
+      rounds (inr quiet) = none_does a (λ its. Round a node (place + 1) pages) (13 - (round + 1)) (round + 1) w (λ j. from_first a (CallsDue a node (place + 1)) pages w w None quiet)
+
+  -- a later page that is due, where those up to it are not
+  pub from_page : (node segments pages place round page next : ℕ) (w : World D a)
+      → ((refused : Option Refusal) (new : World D a) → EachFrom a (pages - next) next (CallsDue a node (place + 1)) w refused new → EachFrom a (pages - page) page (CallsDue a node (place + 1)) w refused new)
+      → (refused : Option Refusal) (new : World D a) → WritesFrom a node segments pages place round next w refused new → WritesFrom a node segments pages place round page w refused new
+  from_page node segments pages place round page next w leads refused new (first, mid, each, rest) = (first, mid, leads first mid each, rest)
+
+  -- Cursors
+
+  -- what is written from a cursor on
+  pub writes_on : (node round page : ℕ) (old new : PageCursor) → IsOn old round page new → WritesAt a node new ≡ WritesFrom a node old.segments old.pages old.place round page
+  writes_on node round page old new on =
+      ap (λ n. WritesFrom a node n new.pages new.place new.round new.page) on.segments
+      ∙ ap (λ n. WritesFrom a node old.segments n new.place new.round new.page) on.pages
+      ∙ ap (λ n. WritesFrom a node old.segments old.pages n new.round new.page) on.place
+      ∙ ap (λ n. WritesFrom a node old.segments old.pages old.place n new.page) on.round_is
+      ∙ ap (λ n. WritesFrom a node old.segments old.pages old.place round n) on.page_is
+
+  pub next_on : (node : ℕ) (Pages : World D a → Option Refusal → World D a → Type 0) (left : ℕ) (w : World D a) (old new : PageCursor) (round page : ℕ) → IsOn old round page new
+      → page < old.pages → is_due a w.phase node (old.place + 1) page ≡ true → (old.segments - old.place) * 32768 + (13 - round) * 2048 + (old.pages - page) ≤ left
+      → ((refused : Option Refusal) (v : World D a) → WritesFrom a node old.segments old.pages old.place round page w refused v → Pages w refused v)
+      → IsNext a node Pages left w (Some new)
+  next_on node Pages left w old new round page on within due few leads = (
+    record {
+      within = omega (arith, on.page_is, on.pages, within);
+      due = subst (λ p. is_due a w.phase node (p + 1) new.page ≡ true) (sym on.place) (subst (λ p. is_due a w.phase node (old.place + 1) p ≡ true) (sym on.page_is) due);
+    },
+    omega (arith, on.segments, on.pages, on.place, on.round_is, on.page_is, few),
+    λ refused v writes. leads refused v (subst (λ (P : World D a → Option Refusal → World D a → Type 0). P w refused v) (writes_on node round page old new on) writes),
+  )
+
+  -- more may be written, and more may be left
+  pub next_more : (node : ℕ) (Pages More : World D a → Option Refusal → World D a → Type 0) (left bound : ℕ) (w : World D a) (next : Option PageCursor) → left ≤ bound
+      → ((refused : Option Refusal) (v : World D a) → Pages w refused v → More w refused v) → IsNext a node Pages left w next → IsNext a node More bound w next
+  next_more node Pages More left bound w None few leads is = leads None w is
+  next_more node Pages More left bound w (Some cursor) few leads (at, left_few, begins) = (at, omega (arith, few, left_few), λ refused v writes. leads refused v (begins refused v writes))
+
+  -- what is written from the next page on is all that is written
+  pub if_next : (node : ℕ) (Pages : World D a → Option Refusal → World D a → Type 0) (left : ℕ) (w : World D a) (next : Option PageCursor) → IsNext a node Pages left w next
+      → (refused : Option Refusal) (v : World D a) → WritesIf a node next w refused v → Pages w refused v
+  if_next node Pages left w None is refused v (none, same) = subst (λ r. Pages w r v) (sym none) (subst (λ n. Pages w None n) (sym same) is)
+  if_next node Pages left w (Some cursor) is refused v writes = is.2 refused v writes
+
+  pub at_next : (node : ℕ) (Pages : World D a → Option Refusal → World D a → Type 0) (left : ℕ) (w : World D a) (next : Option PageCursor) → IsNext a node Pages left w next
+      → (cursor : PageCursor) → next ≡ Some cursor → IsAtDue a node w cursor
+  at_next node Pages left w None is cursor some = absurd cc
+  at_next node Pages left w (Some at) is cursor some = subst (λ o. MatchOption o ⊤ (λ its. IsAtDue a node w its)) some is.0
+
+  pub few_next : (node : ℕ) (Pages : World D a → Option Refusal → World D a → Type 0) (left : ℕ) (w : World D a) (next : Option PageCursor) → IsNext a node Pages left w next → steps_if next ≤ 5 + left
+  few_next node Pages left w None is = omega arith
+  few_next node Pages left w (Some cursor) is = omega (arith, is.1)
+
+  -- Steps
+
+  -- what remained may be more
+  pub leads_more : (Remained More : World D a → Reply → World D a → Type 0) (old mid : World D a) (step : TruncationStep)
+      → ((reply : Reply) (new : World D a) → Remained old reply new → More old reply new) → Leads a Remained old step mid → Leads a More old step mid
+  leads_more Remained More old mid (Continues next) more leads = λ reply new rest. more reply new (leads reply new rest)
+  leads_more Remained More old mid (Ends reply) more leads = more reply mid leads
+
+  -- and fewer steps than so many are fewer than more
+  pub fewer_more : (few many : ℕ) (step : TruncationStep) → few ≤ many → IsFewer a few step → IsFewer a many step
+  fewer_more few many (Continues next) le fewer = omega (arith, le, fewer)
+  fewer_more few many (Ends reply) le fewer = tt
+
+  -- a call goes on, with more to follow
+  pub more_calls : (more : ℕ) (event : Event) (w mid : World D a) (first : Reply) → 0 < more → ending first ≡ None → StepsTo a w event first mid
+      → (reply : Reply) (new : World D a) → Repeats a (more - 1) event mid reply new → Repeats a more event w reply new
+  more_calls more event w mid first some goes step reply new rest =
+      subst (λ left. Repeats a left event w reply new) (all_left more) (goes_on a more 0 event w mid first some goes step reply new rest)
+
+  -- or is the last
+  pub last_of : (more : ℕ) (event : Event) (w new : World D a) (reply : Reply) → ((calls : ℕ) → reply ≡ Stepped calls → more ≡ 0) → StepsTo a w event reply new → Repeats a more event w reply new
+  last_of zero event w new reply ends step = step
+  last_of (suc left) event w new reply ends step =
+      (reply, new, step, subst (λ o. MatchOption o (Repeats a left event new reply new) (λ last. (reply ≡ last) × (new ≡ new))) (sym (not_stepped reply (λ calls is. absurd (omega (arith, ends calls is))))) (refl, refl))
+
+  -- after the flush the pages are asked
+  pub flush_over : (more node : ℕ) (w mid : World D a) (first : Reply) → stopping first ≡ None → Repeats a more (FlushStep node) w first mid
+      → (reply : Reply) (new : World D a) → AsksFirst a node mid reply new → ThenCleans a more node w reply new
+  flush_over more node w mid first goes flushed reply new asks =
+      (first, mid, flushed, subst (λ o. MatchOption o (AsksFirst a node mid reply new) (λ last. (reply ≡ last) × (new ≡ mid))) (sym goes) asks)
+
+  -- or it is the end
+  pub flush_ends : (more node : ℕ) (w mid : World D a) (reply : Reply) → stopping reply ≡ Some reply → Repeats a more (FlushStep node) w reply mid → ThenCleans a more node w reply mid
+  flush_ends more node w mid reply ends flushed =
+      (reply, mid, flushed, subst (λ o. MatchOption o (AsksFirst a node mid reply mid) (λ last. (reply ≡ last) × (mid ≡ mid))) (sym ends) (refl, refl))
+
+  -- a call of the flush goes on
+  pub flush_on_first : (more node : ℕ) (w mid : World D a) (first : Reply) → 0 < more → ending first ≡ None → StepsTo a w (FlushStep node) first mid
+      → (reply : Reply) (new : World D a) → ThenCleans a (more - 1) node mid reply new → ThenCleans a more node w reply new
+  flush_on_first more node w mid first some goes step reply new (last, flushed, rest, asks) = (last, flushed, more_calls more (FlushStep node) w mid first some goes step last flushed rest, asks)
+
+  -- a page is written, and then what remains from past it
+  pub written_on : (node : ℕ) (at past : PageCursor) (w mid : World D a) (first : Reply) → IsOn at at.round (at.page + 1) past → at.page < at.pages
+      → is_due a w.phase node (at.place + 1) at.page ≡ true → StepsTo a w (PageStep node (at.place + 1) at.page) first mid → refusal_in first ≡ None
+      → (reply : Reply) (new : World D a) → ThenResets a node (WritesAt a node past) mid reply new → ThenResets a node (WritesAt a node at) w reply new
+  written_on node at past w mid first on within due step done reply new (refused, written, writes, ends) = (
+    refused,
+    written,
+    one_written node at.segments at.pages at.place at.round at.page w mid first within due step done refused written
+        (subst (λ (P : World D a → Option Refusal → World D a → Type 0). P mid refused written) (writes_on node at.round (at.page + 1) at past on) writes),
+    ends,
+  )

@@ -36,6 +36,7 @@ pub mod Refuses
 pub mod Published
 pub mod Trimming
 pub mod Truncating
+pub mod Truncation
 pub mod Receives
 pub mod InPlace
 pub mod Delivers

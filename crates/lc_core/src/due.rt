@@ -1,10 +1,12 @@
 //! Which pages are to be written at a node before its log can be emptied.
-ghost use Rattle.std.specs.Prelude.{◌≡◌, ◌≤◌, ◌-◌, slice_get};
+ghost use Rattle.std.specs.Prelude.{◌≡◌, ◌≤◌, ◌-◌, ◌+◌, ◌*◌, slice_get};
 ghost use Rattle.lc_page.specs.PageVector.{entry_at, is_dirty};
-ghost use Rattle.lc_core.specs.Truncating.{begun_at, begun_in, due_in, due_of, is_due, sizes_of};
+ghost use Rattle.lc_core.specs.Truncating.{EachFrom, WritesSegment, begun_at, begun_in, due_in, due_of, is_due, sizes_of};
+ghost use Rattle.lc_core.specs.Truncation.{IsFirstDue, IsNext, WritesAt, calls_left};
 ghost use Rattle.lc_core.specs.declared.phase.Phase.TheVariants.{Up as IsUp};
 
 use crate::node::Node;
+use crate::page_cursor::PageCursor;
 use crate::pages::Pages;
 use crate::phase::Phase;
 use crate::slot::Slot;
@@ -13,9 +15,12 @@ use crate::world::World;
 use lc_disk::Area;
 use lc_page::PageVector;
 
+// A write has six calls, one that was under way may have another behind it, and in the thirteenth round no page is due.
+const LAST_ROUND: u32 = 12;
+
 impl<D: Area + Drop> World<D> {
     /// Whether the token of a segment, from 1, stands at a node, and this page of it is dirty or a write of it has begun.
-    pub(crate) fn is_due(&self, node: u16, segment: u32, page: u32) -> bool
+    fn is_due(&self, node: u16, segment: u32, page: u32) -> bool
         requires first { 1 ≤ segment }
         ensures { result ≡ is_due D.Area self.now.phase node segment page }
     {
@@ -27,12 +32,75 @@ impl<D: Area + Drop> World<D> {
 
     /// How many segments it has, and pages each of them; none while it is down.
     pub(crate) fn sizes(&self) -> (u32, u32)
-        ensures { result ≡ sizes_of D.Area self.now.phase }
+        ensures sizes { result ≡ sizes_of D.Area self.now.phase }
+        ensures few_segments { result.0 ≤ 16 }
+        ensures few_pages { result.1 ≤ 1024 }
     {
         match &self.phase {
             Phase::Up(up) => (up.running.geometry.segments, up.running.geometry.pages),
             _ => (0, 0),
         }
+    }
+
+    /// The next page that is due, from where the cursor stands on.
+    pub(crate) fn next_due(&self, node: u16, cursor: PageCursor) -> Option<PageCursor>
+        ensures { IsNext D.Area node (WritesAt D.Area node cursor) (calls_left cursor) self.now result }
+    {
+        let PageCursor {
+            pages,
+            place,
+            round,
+            ..
+        } = cursor;
+        let segment = place + 1;
+        if let Some(page) = self.first_due(node, segment, cursor.page, pages) {
+            return Some(cursor.on(round, page));
+        }
+        if round < LAST_ROUND {
+            if let Some(page) = self.first_due(node, segment, 0, pages) {
+                return Some(cursor.on(round + 1, page));
+            }
+        }
+        self.first_due_from(node, segment, cursor.segments, pages)
+    }
+
+    /// The first page that is due in the segments from this place on, which is numbered from 0, of so many.
+    pub(crate) fn first_due_from(
+        &self,
+        node: u16,
+        from: u32,
+        segments: u32,
+        pages: u32,
+    ) -> Option<PageCursor>
+        requires few_segments { segments ≤ 16 }
+        requires few_pages { pages ≤ 1024 }
+        ensures { IsNext D.Area node (EachFrom D.Area (segments - from) from (λ place. WritesSegment D.Area node (place + 1) pages)) ((segments - from) * 32768 + 27648) self.now result }
+    {
+        for place in from..segments {
+            if let Some(page) = self.first_due(node, place + 1, 0, pages) {
+                return Some(PageCursor {
+                    segments,
+                    pages,
+                    place,
+                    round: 0,
+                    page,
+                });
+            }
+        }
+        None
+    }
+
+    // The first page of a segment, from 1, that is due, from this one on, of so many.
+    fn first_due(&self, node: u16, segment: u32, from: u32, pages: u32) -> Option<u32>
+        requires first { 1 ≤ segment }
+        ensures { IsFirstDue D.Area node segment from pages self.now result }
+    {
+        for page in from..pages {
+            if self.is_due(node, segment, page) {
+                return Some(page);
+            }
+        }
+        None
     }
 }
 

@@ -1,18 +1,22 @@
-//! How the log of a node is emptied by one call.
-ghost use Rattle.std.specs.Prelude.{◌≡◌, ◌≤◌, false, true, IfOk};
-ghost use Rattle.std.specs.Result.{result_err};
-ghost use Rattle.lc_core.specs.Truncating.{empties, sizes_of, Repeats, Round, StepsTo, Truncates, WritesPages, WritesSegment};
+//! How the log of a node is emptied, by one call or a device call at a time.
+ghost use Rattle.std.specs.Prelude.{◌≡◌, ◌+◌, true};
+ghost use Rattle.lc_model.specs.declared.event.Event.TheVariants.{ResetStep};
+ghost use Rattle.lc_core.specs.Truncating.{AsksFirst, Repeats, StepsTo, Truncates, empties};
+ghost use Rattle.lc_core.specs.Truncation.{IsAtDue, IsFewer, IsOf, Leads, MakesOne, MakesOneOf, Remains, ThenCleans, ThenResets, WritesIf, steps_if, steps_left};
+ghost use Rattle.lc_core.specs.declared.page_cursor.PageCursor.{PageCursor as Cursor};
+ghost use Rattle.lc_core.specs.declared.truncation_step.TruncationStep.TheVariants.{Continues};
 
+use crate::page_cursor::PageCursor;
+use crate::truncation::Truncation;
+use crate::truncation_stage::TruncationStage;
+use crate::truncation_step::TruncationStep;
 use crate::world::World;
 use crate::{Event, Refusal, Reply};
 use lc_disk::Stoppable;
 use std::alloc::Global;
 
-// The calls of a flush, and the steps of a reset.
-const MOST_STEPS: u32 = 4;
-
-// A write has six calls, one that was under way may have another behind it, and in the last round no page is due.
-const MOST_ROUNDS: u32 = 13;
+// The calls of a reset after the first.
+const MORE_CALLS: u32 = 3;
 
 impl<D: Stoppable + Drop> World<D> {
     /// Empties the log of a node: flushes it until all or nothing is acknowledged, writes each page that is dirty and whose
@@ -26,92 +30,104 @@ impl<D: Stoppable + Drop> World<D> {
     pub fn truncate(&mut self, alloc: Global, node: u16) -> Reply
         ensures { Truncates D.Area node self.old result self.new }
     {
-        match self.repeat(alloc, &Event::FlushStep { node }) {
-            Reply::Acked(_) | Reply::Nothing => {}
-            reply => return reply,
+        let mut truncation = Truncation::new(node);
+        loop {
+            match self.truncate_step(alloc, truncation) {
+                TruncationStep::Continues(next) => truncation = next,
+                TruncationStep::Ends(reply) => return reply,
+            }
         }
+    }
+
+    /// The next event of a truncation, which makes one device call at most: what remains after it is what remained. It is over
+    /// with no event where a page is blocked, and with the first refusal. It takes no memory.
+    ///
+    /// Idea: truncation (RVM: Satyanarayanan et al., TOCS 1994); a call at a time is this project's own.
+    pub fn truncate_step(&mut self, alloc: Global, truncation: Truncation) -> TruncationStep
+        ensures remains { Leads D.Area (Remains D.Area truncation) self.old result self.new }
+        ensures one { MakesOneOf D.Area truncation.node self.old result self.new }
+        ensures fewer { IsFewer D.Area (steps_left truncation) result }
+        ensures node { IsOf D.Area truncation.node result }
+    {
+        let Truncation { node, stage } = truncation;
+        match stage {
+            TruncationStage::Flushes { more } => self.flush_on(alloc, node, more),
+            TruncationStage::Asks => self.write_unblocked(alloc, node),
+            TruncationStage::Writes(cursor) => {
+                let next = self.next_due(node, cursor);
+                self.write_on(alloc, node, next)
+            }
+            TruncationStage::Resets { more } => self.reset_on(alloc, node, more),
+        }
+    }
+
+    // A call of the flush, which so many may follow.
+    fn flush_on(&mut self, alloc: Global, node: u16, more: u32) -> TruncationStep
+        ensures remains { Leads D.Area (ThenCleans D.Area more node) self.old result self.new }
+        ensures one { MakesOne D.Area self.old self.new }
+        ensures fewer { IsFewer D.Area (1048576 + more) result }
+        ensures node { IsOf D.Area node result }
+    {
+        match self.ask(alloc, &Event::FlushStep { node }) {
+            Reply::Stepped(calls) => {
+                if more > 0 {
+                    return continues(node, TruncationStage::Flushes { more: more - 1 });
+                }
+                TruncationStep::Ends(Reply::Stepped(calls))
+            }
+            Reply::Acked(_) | Reply::Nothing => continues(node, TruncationStage::Asks),
+            reply => TruncationStep::Ends(reply),
+        }
+    }
+
+    // The pages are asked, and the first that is due makes its call.
+    fn write_unblocked(&mut self, alloc: Global, node: u16) -> TruncationStep
+        ensures remains { Leads D.Area (AsksFirst D.Area node) self.old result self.new }
+        ensures one { MakesOneOf D.Area node self.old result self.new }
+        ensures fewer { IsFewer D.Area 1048575 result }
+        ensures node { IsOf D.Area node result }
+    {
         if self.has_blocked_page(node) {
-            return Reply::Refused(Refusal::Uncommitted);
+            return TruncationStep::Ends(Reply::Refused(Refusal::Uncommitted));
         }
-        match self.write_pages(alloc, node) {
-            Ok(()) => self.repeat(alloc, &Event::ResetStep { node }),
-            Err(refusal) => Reply::Refused(refusal),
-        }
-    }
-
-    // The event again and again, as long as more is to come; the last reply.
-    fn repeat(&mut self, alloc: Global, event: &Event) -> Reply
-        requires { empties event.now ≡ true }
-        ensures { Repeats D.Area 3 event.now self.old result self.new }
-    {
-        for _ in 1..MOST_STEPS {
-            match self.ask(alloc, event) {
-                Reply::Stepped(_) => {}
-                reply => return reply,
-            }
-        }
-        self.ask(alloc, event)
-    }
-
-    // Writes the pages of the node that are due.
-    fn write_pages(&mut self, alloc: Global, node: u16) -> Result<(), Refusal>
-        ensures { WritesPages D.Area node (sizes_of D.Area self.old.phase) self.old (result_err result) self.new }
-    {
         let (segments, pages) = self.sizes();
-        for place in 0..segments {
-            self.write_segment(alloc, node, place + 1, pages)?;
-        }
-        Ok(())
+        let next = self.first_due_from(node, 0, segments, pages);
+        self.write_on(alloc, node, next)
     }
 
-    // Writes those of a segment, from 1, side by side.
-    fn write_segment(
-        &mut self,
-        alloc: Global,
-        node: u16,
-        segment: u32,
-        pages: u32,
-    ) -> Result<(), Refusal>
-        requires { 1 ≤ segment }
-        ensures { WritesSegment D.Area node segment pages self.old (result_err result) self.new }
+    // The page that is due makes its call; with none the log is reset.
+    fn write_on(&mut self, alloc: Global, node: u16, next: Option<PageCursor>) -> TruncationStep
+        requires due { (cursor : Cursor) → next ≡ Some cursor → IsAtDue D.Area node self.old cursor }
+        ensures remains { Leads D.Area (ThenResets D.Area node (WritesIf D.Area node next)) self.old result self.new }
+        ensures one { MakesOne D.Area self.old self.new }
+        ensures fewer { IsFewer D.Area (steps_if next) result }
+        ensures node { IsOf D.Area node result }
     {
-        for _ in 0..MOST_ROUNDS {
-            let some = self.call_pages(alloc, node, segment, pages)?;
-            if !some {
-                break;
-            }
+        let Some(cursor) = next else {
+            return self.reset_on(alloc, node, MORE_CALLS);
+        };
+        match self.ask(alloc, &cursor.event(node)) {
+            Reply::Refused(refusal) => TruncationStep::Ends(Reply::Refused(refusal)),
+            _ => continues(node, TruncationStage::Writes(cursor.past())),
         }
-        Ok(())
     }
 
-    // Each page that is due makes its next call; whether one was due.
-    fn call_pages(
-        &mut self,
-        alloc: Global,
-        node: u16,
-        segment: u32,
-        pages: u32,
-    ) -> Result<bool, Refusal>
-        requires { 1 ≤ segment }
-        ensures round { Round D.Area node segment pages self.old (result_err result) self.new }
-        ensures none { IfOk result (λ some. some ≡ false → self.new ≡ self.old) }
+    // A call of the reset, which so many may follow.
+    fn reset_on(&mut self, alloc: Global, node: u16, more: u32) -> TruncationStep
+        ensures remains { Leads D.Area (Repeats D.Area more (ResetStep node)) self.old result self.new }
+        ensures one { MakesOne D.Area self.old self.new }
+        ensures fewer { IsFewer D.Area (more + 1) result }
+        ensures node { IsOf D.Area node result }
     {
-        let mut some = false;
-        for page in 0..pages {
-            if !self.is_due(node, segment, page) {
-                continue;
+        match self.ask(alloc, &Event::ResetStep { node }) {
+            Reply::Stepped(calls) => {
+                if more > 0 {
+                    return continues(node, TruncationStage::Resets { more: more - 1 });
+                }
+                TruncationStep::Ends(Reply::Stepped(calls))
             }
-            some = true;
-            let event = Event::PageStep {
-                node,
-                segment,
-                page,
-            };
-            if let Reply::Refused(refusal) = self.ask(alloc, &event) {
-                return Err(refusal);
-            }
+            reply => TruncationStep::Ends(reply),
         }
-        Ok(some)
     }
 
     // An event for which no memory is wanted.
@@ -124,4 +140,11 @@ impl<D: Stoppable + Drop> World<D> {
             Err(_) => unreachable!(),
         }
     }
+}
+
+// More of a node's truncation is to come, from this stage on.
+fn continues(node: u16, stage: TruncationStage) -> TruncationStep
+    ensures { result ≡ Continues (record { node = node; stage = stage }) }
+{
+    TruncationStep::Continues(Truncation { node, stage })
 }

@@ -13,7 +13,7 @@ loop-place-preserved g c = λ place before blocked. elim (cases_lt place c.loop-
 
 pub returns : goal.returns
 returns g c =
-    let sizes = c.sizes-segments.ensures in (
+    let sizes = c.sizes-segments.ensures.sizes in (
       λ is. absurd (true≢false (sym is)),
       λ some.
           absurd (c.loop-place.invariant some.place (omega (arith, some.inside, c.loop-place-test.false, ap (λ (pair : ℕ × ℕ). pair.0) sizes))

@@ -1,0 +1,12 @@
+//! What a step of a truncation has come to.
+use crate::Reply;
+use crate::truncation::Truncation;
+
+/// What a step of a truncation has come to.
+#[derive(Drop)]
+pub enum TruncationStep {
+    /// More is to come.
+    Continues(Truncation),
+    /// It is over, and this is its reply.
+    Ends(Reply),
+}
