@@ -37,6 +37,7 @@ pub mod Published
 pub mod Trimming
 pub mod Truncating
 pub mod Truncation
+pub mod OpenTransactions
 pub mod Receives
 pub mod InPlace
 pub mod Delivers

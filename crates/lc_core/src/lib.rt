@@ -50,6 +50,7 @@ mod node_part;
 mod node_piece;
 mod node_records;
 mod node_step;
+mod open_transaction;
 mod order_test;
 mod own_test;
 mod page_calls;

@@ -1,0 +1,46 @@
+//! Which transaction a thread has open.
+ghost use Rattle.std.specs.Prelude.{◌≡◌, slice_get};
+ghost use Rattle.lc_core.specs.OpenTransactions.{open_at, open_in_node, open_transaction};
+ghost use Rattle.lc_core.specs.Seat.{open_in};
+
+use crate::desk::Desk;
+use crate::phase::Phase;
+use crate::up::Up;
+use crate::world::World;
+use lc_disk::Area;
+use lc_tx::Tx;
+
+impl<D: Area + Drop> World<D> {
+    /// The transaction that a thread of a node has open: begun, and neither reserved nor over. None where the store is down,
+    /// or has no such node or thread. It changes nothing and takes no memory.
+    pub fn open_transaction(&self, node: u16, thread: u16) -> Option<&Tx>
+        ensures { open_in result ≡ open_transaction D.Area self.now.phase node thread }
+    {
+        match &self.phase {
+            Phase::Up(up) => up.open_transaction(node, thread),
+            _ => None,
+        }
+    }
+}
+
+impl<D: Area + Drop> Up<D> {
+    fn open_transaction(&self, node: u16, thread: u16) -> Option<&Tx>
+        ensures { open_in result ≡ open_in_node thread (slice_get self.now.running.nodes.items node) }
+    {
+        match self.running.nodes.get(node as usize) {
+            Some(node) => node.desk.open_transaction(thread),
+            None => None,
+        }
+    }
+}
+
+impl Desk {
+    fn open_transaction(&self, thread: u16) -> Option<&Tx>
+        ensures { open_in result ≡ open_at (slice_get self.now.seats.items thread) }
+    {
+        match self.seats.get(thread as usize) {
+            Some(seat) => seat.open(),
+            None => None,
+        }
+    }
+}
