@@ -1,4 +1,4 @@
--- Which transaction a thread has open.
+-- Which transaction a thread has open, and how many threads there are.
 use Rattle.std.specs.Prelude.{ℕ, Option, None, Some, slice_get}
 use Rattle.lc_disk.specs.declared.area.Area.{Ghosts}
 use Rattle.lc_tx.specs.declared.tx.Tx.{Tx}
@@ -23,3 +23,9 @@ module _ {D : Type 0} (a : Ghosts D) where
   open_transaction (Up up) node thread = open_in_node thread (slice_get up.running.nodes.items node)
   open_transaction (Down recovery) node thread = None
   open_transaction Taken node thread = None
+
+  -- how many threads each node of a store has that is up; none of one that is down
+  abbrev pub threads_of : Phase D a → ℕ
+  threads_of (Up up) = up.running.geometry.threads
+  threads_of (Down recovery) = 0
+  threads_of Taken = 0

@@ -1,6 +1,6 @@
-//! Which transaction a thread has open.
+//! Which transaction a thread has open, and how many threads there are.
 ghost use Rattle.std.specs.Prelude.{◌≡◌, slice_get};
-ghost use Rattle.lc_core.specs.OpenTransactions.{open_at, open_in_node, open_transaction};
+ghost use Rattle.lc_core.specs.OpenTransactions.{open_at, open_in_node, open_transaction, threads_of};
 ghost use Rattle.lc_core.specs.Seat.{open_in};
 
 use crate::desk::Desk;
@@ -19,6 +19,16 @@ impl<D: Area + Drop> World<D> {
         match &self.phase {
             Phase::Up(up) => up.open_transaction(node, thread),
             _ => None,
+        }
+    }
+
+    /// How many threads each node of a store that is up has, from 1 to 16; 0 where it is down.
+    pub fn threads(&self) -> u16
+        ensures { result ≡ threads_of D.Area self.now.phase }
+    {
+        match &self.phase {
+            Phase::Up(up) => up.running.geometry.threads,
+            _ => 0,
         }
     }
 }
