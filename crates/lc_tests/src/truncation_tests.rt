@@ -1,7 +1,7 @@
 //! What a truncation calls of the system.
 use crate::events::{play, up_on};
 use crate::listed_files::{Listed, Shelf};
-use lc_core::{Refusal, Reply};
+use lc_core::{Refusal, Reply, Truncation, TruncationStep};
 use lc_disk::{FileArea, OpenFault};
 use lc_record::Geometry;
 use std::test::*;
@@ -52,5 +52,35 @@ fn a_truncation_writes_pages_side_by_side(rt: HostRuntime) -> Result<(), Fail> {
     assert!(rt; matches!(world.truncate(alloc, 0), Reply::Nothing));
     assert!(rt; matches!(world.truncate(alloc, 1), Reply::Refused(Refusal::Unknown)));
     assert!(rt; shelf.calls()?.is_empty());
+    Ok(())
+}
+
+#[test]
+fn steps_of_a_truncation_make_its_calls_one_by_one(rt: HostRuntime) -> Result<(), Fail> {
+    let alloc = rt.alloc();
+    let shelf = Shelf::new(alloc);
+    let files = Listed(&shelf);
+    let log = FileArea::make(alloc, &files, "store/log0", 520).map_err(made)?;
+    let segment = FileArea::make(alloc, &files, "store/seg1", 1088).map_err(made)?;
+    let mut world = up_on(alloc, TWO_PAGES, vec![in alloc; log, segment]?)?;
+    play(&rt, alloc, &mut world, &COMMIT)?;
+    let _made = shelf.calls()?;
+    let mut truncation = Truncation::new(0);
+    let mut calls = String::new(alloc);
+    let mut last = None;
+    // Four calls of the flush, six of each page, two of the reset.
+    for step in 0..18 {
+        let at_the_pages = 5 <= step && step <= 16;
+        assert!(rt; truncation.segment().is_some() == at_the_pages, "step {step}");
+        match world.truncate_step(alloc, truncation) {
+            TruncationStep::Continues(next) => truncation = next,
+            TruncationStep::Ends(reply) => last = Some((step, reply)),
+        }
+        let made = shelf.calls()?;
+        assert!(rt; made.lines().count() <= 1, "step {step}: {made}");
+        calls.push_str(&made)?;
+    }
+    assert!(rt; matches!(last, Some((17, Reply::Reset))));
+    assert!(rt; calls.as_str() == CALLS, "{calls}");
     Ok(())
 }
