@@ -8,6 +8,7 @@ INCLUDEDIR ?= $(PREFIX)/include
 MANDIR ?= $(PREFIX)/share/man
 COMPLETIONDIR ?= $(PREFIX)/share/bash-completion/completions
 INSTALL ?= install
+LDCONFIG ?= ldconfig
 
 soname := liblcrvm.so.$(firstword $(subst ., ,$(VERSION)))
 library := liblcrvm.so.$(VERSION)
@@ -26,6 +27,13 @@ Cflags: -I$${includedir}
 endef
 export pkgconfig
 
+# The linker's cache is renewed by root alone; of a package, for which DESTDIR is given, by whoever installs that.
+define renew_cache
+@PATH="$$PATH:/usr/sbin:/sbin"; if [ -n "$(DESTDIR)" ]; then :; \
+    elif [ "$$(id -u)" -eq 0 ] && command -v $(LDCONFIG) > /dev/null; then $(LDCONFIG); \
+    else echo "Where the linker's cache has $(LIBDIR), ldconfig renews it."; fi
+endef
+
 .PHONY: install uninstall
 install: $(built)/lcrvm $(built)/$(library) $(built)/liblcrvm.a
 	$(INSTALL) -d "$(DESTDIR)$(BINDIR)" "$(DESTDIR)$(LIBDIR)/pkgconfig" "$(DESTDIR)$(INCLUDEDIR)" \
@@ -41,7 +49,7 @@ install: $(built)/lcrvm $(built)/$(library) $(built)/liblcrvm.a
 	$(INSTALL) -m 644 man/lcrvm.1 "$(DESTDIR)$(MANDIR)/man1/lcrvm.1"
 	$(INSTALL) -m 644 man/lcrvm.3 "$(DESTDIR)$(MANDIR)/man3/lcrvm.3"
 	$(INSTALL) -m 644 completion/lcrvm.bash "$(DESTDIR)$(COMPLETIONDIR)/lcrvm"
-	@[ -n "$(DESTDIR)" ] || echo "installed. Where the linker's cache has $(LIBDIR), ldconfig renews it."
+	$(renew_cache)
 
 # Of the library each version with this soname goes.
 uninstall:
@@ -49,3 +57,4 @@ uninstall:
 	    "$(DESTDIR)$(LIBDIR)/liblcrvm.so" "$(DESTDIR)$(LIBDIR)/$(soname)" "$(DESTDIR)$(LIBDIR)/$(soname)".* \
 	    "$(DESTDIR)$(INCLUDEDIR)/lcrvm.h" "$(DESTDIR)$(MANDIR)/man1/lcrvm.1" "$(DESTDIR)$(MANDIR)/man3/lcrvm.3" \
 	    "$(DESTDIR)$(COMPLETIONDIR)/lcrvm"
+	$(renew_cache)

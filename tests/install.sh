@@ -60,6 +60,17 @@ rm -f "$work"/top/clients/python/lcrvm/*.so "$work"/top/clients/python/lcrvm/*.s
 [ ! -e "$top/.git" ] || export GIT_DIR="$(cd "$top" && git rev-parse --absolute-git-dir)"
 cd "$work/top"
 version=$(sed -n 's/^__version__ = "\(.*\)"$/\1/p' clients/python/lcrvm/__init__.py)
+# The linker's cache of this system stays as it is: how often it would be renewed is counted.
+printf '#!/bin/sh\necho renewed >> %s\n' "$work/renewed" > "$work/ldconfig"
+chmod +x "$work/ldconfig"
+export LDCONFIG="$work/ldconfig"
+renewed() {
+    wanted=0
+    [ "$(id -u)" -ne 0 ] || wanted=$2
+    found=$(cat "$work/renewed" 2> /dev/null | wc -l)
+    if [ "$found" -eq "$wanted" ]; then passes; else fails "$1: ldconfig has run $found times, and not $wanted"; fi
+    rm -f "$work/renewed"
+}
 build() {
     make -s PROGRAM="$program" STORE="$library" HEAP="$heap" PROVED="$work/proved" "$@"
 }
@@ -120,6 +131,7 @@ touch "$work/root/usr/lib/liblcrvm.so.0.0.9"
 attempt 'make uninstall' build uninstall PREFIX=/usr DESTDIR="$work/root"
 files_of "$work/root" > "$work/found"
 same 'what uninstall leaves' /dev/null "$work/found"
+renewed 'a DESTDIR' 0
 attempt 'make install, with folders of its own' build install PREFIX="$work/root/a" LIBDIR="$work/root/b" \
     BINDIR="$work/root/c" MANDIR="$work/root/d"
 for file in a/include/lcrvm.h b/liblcrvm.so.0 b/pkgconfig/lcrvm.pc c/lcrvm d/man1/lcrvm.1 d/man3/lcrvm.3; do
@@ -129,7 +141,10 @@ done
 # ---- A C program, by pkg-config: the one of the manual page, which counts its runs.
 
 prefix=$work/prefix
+renewed 'an installation with folders of its own' 1
 attempt 'make install, to a PREFIX' build install PREFIX="$prefix"
+renewed 'an installation to a PREFIX' 1
+attempt 'make install, with no ldconfig' build install PREFIX="$prefix" LDCONFIG="$work/none"
 sed -n '/^#include <lcrvm.h>$/,/^\.fi$/p' man/lcrvm.3 | sed '/^\.fi$/d; s/\\e/\\/g' > "$work/counter.c"
 counts() {
     rm -rf "$work/counting"
@@ -151,6 +166,7 @@ if is_there pkg-config 'a C program by pkg-config'; then
     attempt 'the shared program' counts env LD_LIBRARY_PATH="$prefix/lib" "$work/shared"
     attempt 'the static program' counts "$work/static"
     attempt 'make uninstall, and then no library' build uninstall PREFIX="$prefix"
+    renewed 'make uninstall' 1
     attempt 'a program whose library is gone' sh -c "! LD_LIBRARY_PATH='$prefix/lib' '$work/shared'"
 fi
 
