@@ -13,6 +13,7 @@ import os
 import pickle
 import random
 import resource
+import shutil
 import signal
 import statistics
 import struct
@@ -450,6 +451,123 @@ class Errors(Case):
                 print(type(error).__name__)
             """)
         self.assertEqual(process.communicate()[0], "NoMemory\n")
+
+
+class Damage(Case):
+    """Files that no store leaves so: a file of another store, or of an older copy, has come among them."""
+
+    def left(self, name: str, geometry: lcrvm.Geometry, commit: Callable[[lcrvm.Store], None]) -> str:
+        """A folder as a kill leaves it, after commits: the records are in the logs."""
+        made, left = os.path.join(self.room, "made " + name), os.path.join(self.room, name)
+        with lcrvm.open(made, create=True, geometry=geometry) as store:
+            commit(store)
+            shutil.copytree(made, left)
+        return left
+
+    def refuses(self, folder: str, kind: Type[lcrvm.Error], **fields: object) -> None:
+        """It is refused each time, and no file is changed by it."""
+        before = self.bytes_of(folder)
+        for _ in range(2):
+            with self.raises(kind, **fields):
+                lcrvm.open(folder)
+        self.assertEqual(self.bytes_of(folder), before, f"{kind.__name__}: a file was changed")
+
+    @staticmethod
+    def bytes_of(folder: str) -> Dict[str, bytes]:
+        found = {}
+        for name in os.listdir(folder):
+            with open(os.path.join(folder, name), "rb") as file:
+                found[name] = file.read()
+        return found
+
+    @staticmethod
+    def put(store: lcrvm.Store, node: int, segment: int = 1, offset: int = 0) -> None:
+        with store.transaction(segment, node=node) as t:
+            t.write(segment, offset, b"put")
+
+    @staticmethod
+    def move(store: lcrvm.Store, node: int, to: int, segment: int = 1) -> None:
+        store.leave(node, segment)
+        store.arrive(to, segment)
+
+    def put_and_move(self, store: lcrvm.Store) -> None:
+        """Record 1 of segment 1 at node 1, and record 2 at node 0."""
+        self.put(store, 1)
+        store.leave(1, 1)
+        store.deliver(1, 1, 1, 0)
+        store.arrive(0, 1)
+        self.put(store, 0)
+
+    def move_and_put(self, store: lcrvm.Store) -> None:
+        """Record 1 of segment 1 at node 0."""
+        self.move(store, 1, 0)
+        self.put(store, 0)
+
+    def test_a_record_that_is_missing(self) -> None:
+        folder = self.left("lost", TWO_NODES, self.put_and_move)
+        log = os.path.join(folder, "log1")
+        size = os.path.getsize(log)
+        with open(log, "wb") as file:
+            file.write(bytes(size))
+        self.refuses(folder, lcrvm.Gap, segment=1, sequence=1)
+
+    def test_two_records_of_one_number(self) -> None:
+        folder = self.left("one", TWO_NODES, lambda store: self.put(store, 1))
+        other = self.left("other", TWO_NODES, self.move_and_put)
+        shutil.copy(os.path.join(other, "log0"), folder)
+        self.refuses(folder, lcrvm.Twice, segment=1, sequence=1)
+
+    def test_a_log_of_another_node(self) -> None:
+        folder = self.left("swapped", TWO_NODES, lambda store: self.put(store, 1))
+        shutil.copy(os.path.join(folder, "log1"), os.path.join(folder, "log0"))
+        self.refuses(folder, lcrvm.BadGeometry, area=0)
+
+    def test_a_log_of_a_store_with_more_pages(self) -> None:
+        one_page = lcrvm.Geometry(segments=1, pages=1, words=64)
+        longer = self.left("longer", one_page._replace(pages=2), lambda store: self.put(store, 0, offset=500))
+        folder = self.left("shorter", one_page, lambda store: self.put(store, 0))
+        shutil.copy(os.path.join(longer, "log0"), folder)
+        self.refuses(folder, lcrvm.OutOfSegment, area=0)
+
+    def test_a_segment_that_has_had_its_last_number(self) -> None:
+        self.opened().close()
+        with open(os.path.join(self.folder, "seg1"), "r+b") as file:
+            file.write(b"\xa5" + bytes(7) + NUMBER.pack(2**60))
+        store = self.opened()
+        with self.raises(lcrvm.SequenceSpent, segment=1):
+            self.put(store, 0)
+        self.put(store, 0, segment=2)
+        self.assertEqual(number_of(store, 1), 0, "the refused commit is seen")
+
+    def test_a_folder_without_a_store(self) -> None:
+        with self.raises(lcrvm.NoStore):
+            lcrvm.open(self.folder)
+        self.assertFalse(os.path.exists(self.folder), "an opening has made the folder")
+        self.opened().close()
+        os.remove(os.path.join(self.folder, "lcrvm.store"))
+        for name in ("seg2", "seg1"):
+            os.remove(os.path.join(self.folder, name))
+        with self.raises(lcrvm.NoStore, text="seg1 is missing"):
+            lcrvm.open(self.folder)
+
+    def test_a_log_that_waits_for_another_node(self) -> None:
+        """The token of segment 1 has gone, so the records of node 1 stay in its log: it is full in the end."""
+        store = self.opened(lcrvm.Geometry(segments=3, pages=1, words=64, nodes=2))
+        self.put(store, 1)
+        store.leave(1, 1)
+        store.deliver(1, 1, 1, 0)
+        store.arrive(0, 1)
+        with self.assertRaises(lcrvm.Full) as raised:
+            for _ in range(64):
+                self.put(store, 1, segment=3)
+        self.assertGreater(raised.exception.tail + raised.exception.need, 64, "there was room")
+        with self.raises(lcrvm.Unclean, segment=1, sequence=1):
+            store.truncate(1)
+        self.put(store, 0)
+        store.leave(0, 1)
+        store.deliver(0, 1, 1, 1)
+        store.arrive(1, 1)
+        self.put(store, 1, segment=3)
 
 
 class Arguments(Case):
