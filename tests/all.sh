@@ -34,6 +34,7 @@ rows='
 600 files tests/files.sh $LCRVM
 600 wrappers tests/wrappers.sh $LCRVM $LC_C
 600 install tests/install.sh $LCRVM $LC_C
+300 clean_close tests/clean_close.sh $LCRVM $LC_C
 300 processes tests/processes.sh $LCRVM 40
 300 failed_sync tests/failed_sync.sh $LCRVM
 300 progress tests/progress.sh $LCRVM

@@ -59,6 +59,11 @@ number_by_program() {
         }'
 }
 
+# What a folder has, but for the record of a close.
+names_in() {
+    ls "$1" | grep -v -x lcrvm.clean | tr '\n' ' '
+}
+
 # Whether a store has all that was acknowledged, and at most one commit more.
 has_commits() {
     [ -n "$2" ] && [ "$2" -ge "$1" ] && [ "$2" -le $(($1 + 1)) ]
@@ -97,7 +102,7 @@ while :; do
         "$program" recover "$work/faults" --as-found > "$work/recovered" || fails "call $call: not recovered"
     fi
     found=$("$work/test" shows "$work/faults")
-    left=$(ls "$work/faults" | tr '\n' ' ')
+    left=$(names_in "$work/faults")
     if [ "$left" = 'lcrvm.store log0 seg1 seg2 ' ]; then passes; else fails "call $call: the folder has $left"; fi
     if [ $status -eq 3 ] && has_commits "${told:-0}" "$found"; then passes; else fails "call $call: status $status, ${told:-0} acknowledged, $found found"; fi
     call=$((call + 1))
@@ -142,7 +147,7 @@ for mode in copies renews; do
             *) fails "call $call of $mode: status $status"; break ;;
         esac
         "$work/test" shows "$work/one" > "$work/shown" || fails "call $call of $mode: not opened"
-        left=$(ls "$work/one" | tr '\n' ' ')
+        left=$(names_in "$work/one")
         if [ "$left" = 'lcrvm.store log0 seg1 seg2 ' ]; then passes; else fails "call $call of $mode: the folder has $left"; fi
         call=$((call + 1))
     done
@@ -172,7 +177,7 @@ for input in '< /dev/null' '<&-'; do for output in '> /dev/null' '>&-'; do for e
     status=0
     eval "\"\$work/test\" closed \"\$work/closed\" $input $output $errors" || status=$?
     [ -e "$work/open" ] || cp -r "$work/closed" "$work/open"
-    if [ $status -eq 0 ] && diff -r "$work/open" "$work/closed" && "$program" check "$work/closed" --as-found > "$work/checked" &&
+    if [ $status -eq 0 ] && diff -r -x lcrvm.clean "$work/open" "$work/closed" && "$program" check "$work/closed" --as-found > "$work/checked" &&
         [ "$(tail -n 1 "$work/checked")" = recovered ]; then passes; else fails "closed: $input $output $errors: status $status"; fi
 done; done; done
 

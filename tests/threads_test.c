@@ -256,6 +256,8 @@ static void remove_store(const char *path)
         snprintf(name, sizeof name, "%s/%s", path, names[i]);
         CHECK(unlink(name) == 0);
     }
+    snprintf(name, sizeof name, "%s/lcrvm.clean", path);
+    unlink(name);
     CHECK(rmdir(path) == 0);
 }
 

@@ -446,7 +446,7 @@ static bool agree(struct bench *bench)
 static void remove_files(const struct bench *bench, const char *room)
 {
     char path[PATH_BYTES + 8];
-    const char *const names[] = {"lcrvm.store", "log0", "seg1"};
+    const char *const names[] = {"lcrvm.store", "lcrvm.clean", "log0", "seg1"};
     for (size_t i = 0; i < sizeof names / sizeof names[0]; i++) {
         snprintf(path, sizeof path, "%s/%s", bench->folder, names[i]);
         unlink(path);

@@ -15,6 +15,7 @@
 #define _DEFAULT_SOURCE
 
 #include "../../include/lcrvm.h"
+#include "clean_close.h"
 #include "descriptors.h"
 #include "emptying.h"
 #include "logs.h"
@@ -269,7 +270,7 @@ static enum lcrvm_status open_in(struct lcrvm_store *store, const char *path, co
     if (store->bytes == NULL)
         return failed(LCRVM_NO_MEMORY, "");
     status = load_renewed(store);
-    if (status == LCRVM_OK)
+    if (status == LCRVM_OK && !take_record(store))
         status = sync_folder(store);
     return status == LCRVM_OK ? recover(store) : status;
 }
@@ -558,6 +559,8 @@ enum lcrvm_status lcrvm_close(struct lcrvm_store *store, struct lcrvm_fault *fau
     abort_all(store);
     empty_all(store);
     status = store->over ? is_over(store) : LCRVM_OK;
+    if (status == LCRVM_OK)
+        leave_record(store);
     pthread_mutex_unlock(&store->events);
     free_store(store);
     return told_to(status, fault);

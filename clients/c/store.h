@@ -12,6 +12,7 @@
 #include <pthread.h>
 #include <stdatomic.h>
 #include <stdlib.h>
+#include <time.h>
 
 struct waiter;
 
@@ -19,6 +20,7 @@ struct lcrvm_store {
     struct handle session;
     struct descriptors kept;
     struct lcrvm_geometry geometry, stated; /* by the folder; of no nodes where it states none */
+    struct timespec names;                  /* when those in the folder changed last, as the opening found it */
     unsigned forks;                         /* as many as had led to this process when it opened the store */
     bool over;                              /* a file has failed: each call answers why */
     struct lcrvm_fault why;
