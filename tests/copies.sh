@@ -117,7 +117,7 @@ run=$!
 exec 3> lines
 printf 'begin 0 0 r1\n' >&3
 until [ -s replies ]; do sleep 0.05; done
-copies 3 'device fault' 'store in use' bank none
+copies 3 'device fault' "bank: store in use by process $run" bank none
 exec 3>&-
 wait $run || :
 is_same "$(ls none)" ''

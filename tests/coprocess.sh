@@ -61,7 +61,7 @@ for number in range(3000):  # some 500 bytes each; a script has at most 1 MiB, a
     data = number.to_bytes(4, "little") * 50
     store.put(1, 8, data)
 same("the last put", store.get(1, 8, 200), data)
-ended("a second process", "device fault; lcrvm: %s: store in use; status 3" % folder, Coprocess, folder, program)
+ended("a second process", "device fault; lcrvm: %s: store in use by process %d; status 3" % (folder, store.process.pid), Coprocess, folder, program)
 same("after the second process", store.get(1, 8, 4), data[:4])
 try:  # the number of the line hangs on how many went before
     same("a line that is none", store.ask("nonsense"), "Ended")

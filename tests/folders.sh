@@ -273,15 +273,15 @@ hold_store() {
 name='two folders of the same files'
 hold_store
 lcrvm run --store other $full
-ends 3 'device fault' 'lcrvm: other/log0: store in use'
+ends 3 'device fault' "lcrvm: other/log0: store in use by process $holding"
 for how in 'check other' 'dump other 1 0' 'draw other'; do
     name="two folders of the same files, $how"
     lcrvm $how
-    ends 3 'device fault' 'lcrvm: other/log0: store in use'
+    ends 3 'device fault' "lcrvm: other/log0: store in use by process $holding"
 done
 name='the same folder by two'
 lcrvm run --store store $full
-ends 3 'device fault' 'lcrvm: store: store in use'
+ends 3 'device fault' "lcrvm: store: store in use by process $holding"
 exec 3>&-
 wait $holding || fail "the first run ended with $?"
 name='two folders, one behind the other'
@@ -299,7 +299,7 @@ rm -rf other
 mkdir other
 ln store/* other/
 lcrvm run --store other $full
-ends 3 'device fault' 'lcrvm: other/log0: store in use'
+ends 3 'device fault' "lcrvm: other/log0: store in use by process $holding"
 exec 3>&-
 wait $holding || fail "the first run ended with $?"
 # Who looks lets others look.

@@ -49,7 +49,8 @@ ended() {
         0) runs=$((runs + 1)) ;;
         3)
             in_use=$((in_use + 1))
-            [ "$(cat "$1.err")" = 'lcrvm: store: store in use' ] || fail "$3: status 3, and on standard error: $(cat "$1.err")"
+            grep -qxE 'lcrvm: store: store in use( by process [1-9][0-9]*)?' "$1.err" && [ "$(wc -l < "$1.err")" -eq 1 ] ||
+                fail "$3: status 3, and on standard error: $(cat "$1.err")"
             [ "$(cat "$1.out")" = 'device fault' ] || fail "$3: a store in use is not a device fault alone"
             ;;
         *) fail "$3: status $2: $(tail -n 1 "$1.out")" ;;

@@ -11,6 +11,7 @@ mod file_name;
 mod file_row;
 mod folder;
 mod growth;
+mod lock_holder;
 mod making;
 mod misfit;
 mod new_file;

@@ -10,7 +10,7 @@ use crate::shared_file::SharedFile;
 use crate::size_source::SizeSource;
 use crate::sizing::{SizeFault, Unopened, agrees, size_found};
 use crate::store_file::StoreFile;
-use crate::store_folder::{StoreFolder, locked, no_size};
+use crate::store_folder::{StoreFolder, no_size};
 use crate::store_name::StoreName;
 use crate::watch::{FileWatch, StoreArea};
 use lc_disk::{Area, FileArea, HeldFile};
@@ -203,10 +203,11 @@ where
         let mut options = OpenOptions::new();
         options.read(true).write(access == Access::Change);
         let (file, len) = self.open_file(name, &options)?;
-        locked(match access {
+        let tried = match access {
             Access::Change => file.try_lock(),
             Access::Read => file.try_lock_shared(),
-        })?;
+        };
+        self.locked(&file, tried)?;
         let area = FileArea::of_file(file, len)?;
         Ok(area.witnessed_by(FileWatch::new(self, name, mark)))
     }

@@ -5,6 +5,7 @@ ghost use Rattle.std.specs.Fs.{asks_create_new, asks_write};
 use crate::file_fault::{FileFault, Place};
 use crate::file_name::FileName;
 use crate::folder::FolderFault;
+use crate::lock_holder::{LockHolder, lock_holder};
 use crate::shared_file::SharedFile;
 use crate::store_file::StoreFile;
 use crate::store_name::StoreName;
@@ -29,6 +30,7 @@ pub struct StoreFolder<'a, R> {
     pub(crate) rt: &'a R,
     path: &'a str,
     fault: OnceLock<FileFault>,
+    holder: OnceLock<u32>,
     other_size: OnceLock<Geometry>,
     is_unmarked: AtomicBool,
     is_unstated: AtomicBool,
@@ -41,6 +43,7 @@ impl<R> Drop for StoreFolder<'_, R> {
             rt: _rt,
             path: _path,
             fault: _fault,
+            holder: _holder,
             other_size: _other_size,
             is_unmarked: _is_unmarked,
             is_unstated: _is_unstated,
@@ -56,6 +59,7 @@ impl<'a, R> StoreFolder<'a, R> {
             rt,
             path,
             fault: OnceLock::new(),
+            holder: OnceLock::new(),
             other_size: OnceLock::new(),
             is_unmarked: AtomicBool::new(false),
             is_unstated: AtomicBool::new(false),
@@ -114,6 +118,14 @@ impl<'a, R> StoreFolder<'a, R> {
         Ok(format!(in self.alloc; "{folder}/..")?)
     }
 
+    // Who had the lock that was not to be had, where that is why this error came.
+    fn holder_behind(&self, error: Error) -> LockHolder {
+        LockHolder(match error.kind() {
+            ErrorKind::WouldBlock => self.holder.get().copied(),
+            _ => None,
+        })
+    }
+
     /// Says on standard error what failed first, that no mark of it could be made, and of the store's size that it is another than was
     /// asked for, or that no file says it.
     pub fn tell(&self)
@@ -122,11 +134,12 @@ impl<'a, R> StoreFolder<'a, R> {
     {
         let folder = self.path;
         if let Some(FileFault { place, error }) = self.fault() {
+            let holder = self.holder_behind(error);
             let _ = match place {
                 _ if folder.is_empty() => eprintln!(self.rt; "lcrvm: '': {error}"),
-                Place::Folder => eprintln!(self.rt; "lcrvm: {folder}: {error}"),
+                Place::Folder => eprintln!(self.rt; "lcrvm: {folder}: {error}{holder}"),
                 Place::Parent => eprintln!(self.rt; "lcrvm: {folder}/..: {error}"),
-                Place::Name(name) => eprintln!(self.rt; "lcrvm: {folder}/{name}: {error}"),
+                Place::Name(name) => eprintln!(self.rt; "lcrvm: {folder}/{name}: {error}{holder}"),
             };
         }
         if self.is_unmarked.load(Ordering::SeqCst) {
@@ -177,7 +190,7 @@ where
     // The folder, which no other process can open for itself alone until this is closed.
     pub(crate) fn lock_shared(&self) -> io::Result<R::File> {
         let folder = self.opened()?;
-        locked(folder.try_lock_shared())?;
+        self.locked(&folder, folder.try_lock_shared())?;
         Ok(folder)
     }
 }
@@ -215,8 +228,29 @@ where
     // The folder, which no other process can open so until this is closed.
     pub(crate) fn lock(&self) -> io::Result<R::File> {
         let folder = self.opened()?;
-        locked(folder.try_lock())?;
+        self.locked(&folder, folder.try_lock())?;
         Ok(folder)
+    }
+
+    // What became of a lock of this file. Who has it is noted, where that can be found.
+    pub(crate) fn locked(&self, file: &R::File, tried: Result<(), TryLockError>) -> io::Result<()> {
+        match tried {
+            Ok(()) => Ok(()),
+            Err(TryLockError::WouldBlock) => {
+                self.note_holder(file);
+                Err(Error::new(ErrorKind::WouldBlock, "store in use"))
+            }
+            Err(TryLockError::Error(error)) => Err(error),
+        }
+    }
+
+    fn note_holder(&self, file: &R::File) {
+        let Ok(metadata) = file.metadata() else {
+            return;
+        };
+        if let Ok(Some(process)) = lock_holder(self.alloc, self.rt, &metadata) {
+            let _ = self.holder.try_set(process);
+        }
     }
 
     // How long the file of this name is, where there is one.
@@ -293,7 +327,7 @@ where
     pub(crate) fn open_to_copy(&self, name: FileName) -> io::Result<(R::File, u64)> {
         let mut options = OpenOptions::new();
         let (file, len) = self.open_file(name, options.read(true).write(true))?;
-        locked(file.try_lock())?;
+        self.locked(&file, file.try_lock())?;
         Ok((file, len))
     }
 
@@ -398,15 +432,6 @@ pub(crate) fn exclusive() -> OpenOptions
     let mut options = OpenOptions::new();
     options.write(true).create_new(true);
     options
-}
-
-// What became of a lock.
-pub(crate) fn locked(tried: Result<(), TryLockError>) -> io::Result<()> {
-    match tried {
-        Ok(()) => Ok(()),
-        Err(TryLockError::WouldBlock) => Err(Error::new(ErrorKind::WouldBlock, "store in use")),
-        Err(TryLockError::Error(error)) => Err(error),
-    }
 }
 
 // Why the file of the size says none.

@@ -24,6 +24,8 @@ mod hostile_tests;
 #[cfg(test)]
 mod listed_files;
 #[cfg(test)]
+mod lock_holder_tests;
+#[cfg(test)]
 mod looking_tests;
 #[cfg(test)]
 mod recovering_tests;

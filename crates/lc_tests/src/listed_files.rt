@@ -79,8 +79,27 @@ impl Shelf {
 
     /// Puts an empty file there.
     pub(crate) fn put(&self, path: &str) -> io::Result<()> {
-        self.add(path)?;
+        self.put_text(path, "")
+    }
+
+    /// Puts a file with this text there.
+    pub(crate) fn put_text(&self, path: &str, text: &str) -> io::Result<()> {
+        let place = self.add(path)?;
+        let mut bytes = Vec::new(self.alloc);
+        bytes.extend_from_slice(text.as_bytes())?;
+        let mut entries = self.entries.try_borrow_mut()?;
+        if let Some(entry) = entries.get_mut(place) {
+            entry.bytes = bytes;
+        }
         Ok(())
+    }
+
+    /// Takes away the file of this path.
+    pub(crate) fn take(&self, path: &str) -> io::Result<()> {
+        match self.find(path)? {
+            Some(place) => self.name(place, ""),
+            None => Err(Error::from(ErrorKind::NotFound)),
+        }
     }
 
     fn list(&self, call: &str, path: &str) -> io::Result<()> {
@@ -205,6 +224,7 @@ impl<'a> Files for Listed<'a> {
             shelf: self.0,
             place,
             path: String::from_str(self.0.alloc, path)?,
+            at: 0,
         })
     }
 
@@ -265,6 +285,8 @@ pub(crate) struct ListedFile<'a> {
     shelf: &'a Shelf,
     place: Option<usize>,
     path: String,
+    // Where it is read from next.
+    at: u64,
 }
 
 impl Drop for ListedFile<'_> {
@@ -273,6 +295,7 @@ impl Drop for ListedFile<'_> {
             shelf: _shelf,
             place: _place,
             path: _path,
+            at: _at,
         } = self;
     }
 }
@@ -382,8 +405,10 @@ impl SharedFile for ListedFile<'_> {
 }
 
 impl Read for ListedFile<'_> {
-    fn read(&mut self, _buf: &mut [u8]) -> io::Result<usize> {
-        unsupported()
+    fn read(&mut self, buf: &mut [u8]) -> io::Result<usize> {
+        let moved = self.read_at(buf, self.at)?;
+        self.at = self.at.wrapping_add(moved as u64);
+        Ok(moved)
     }
 }
 
