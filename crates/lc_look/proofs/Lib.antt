@@ -1,5 +1,6 @@
 pub mod Refusals
 pub mod AreasRecovered
 mod ChecksShown
+mod JsonShown
 mod DumpsShown
 mod PicturesRead

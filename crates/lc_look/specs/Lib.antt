@@ -3,5 +3,6 @@ pub mod Printed
 pub mod Refused
 pub mod Recovers
 pub mod Checks
+pub mod Json
 pub mod Dumps
 pub mod Draws
