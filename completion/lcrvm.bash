@@ -14,7 +14,8 @@ _lcrvm() {
         help) kind=commands ;;
         run) options="$size --store --follow --number --as-found --help" ;;
         init | copy) options="$size --help"; kind=folder ;;
-        recover | check) options="$size --as-found --help"; kind=folder ;;
+        recover) options="$size --as-found --help"; kind=folder ;;
+        check) options="$size --as-found --json --help"; kind=folder ;;
         dump | draw) options='--help'; kind=folder ;;
         inspect) options='--reverse --help'; kind=file ;;
         lines) options='--help' ;;

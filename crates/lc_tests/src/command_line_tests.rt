@@ -129,6 +129,8 @@ enum Wanted {
     Found(&'static str, [Option<u32>; 4]),
     Check(&'static str, [u32; 5]),
     CheckFound(&'static str, [Option<u32>; 4]),
+    // The same as JSON.
+    CheckJson(&'static str, [Option<u32>; 4]),
     Dump(&'static str, u32, u32),
     Draw(&'static str),
     // A copy into a folder, of the size that is found but for these numbers.
@@ -202,12 +204,30 @@ fn asks(asked: &Asked, wanted: Wanted) -> bool {
         (Asked::Recover { folder, size }, Wanted::Found(name, numbers)) => {
             folder.as_str() == name && is_found(size, numbers)
         }
-        (Asked::Check { folder, size }, Wanted::CheckFound(name, numbers)) => {
-            folder.as_str() == name && is_found(size, numbers)
-        }
-        (Asked::Check { folder, size }, Wanted::Check(name, numbers)) => {
-            folder.as_str() == name && is_given(size, numbers)
-        }
+        (
+            Asked::Check {
+                folder,
+                size,
+                json: false,
+            },
+            Wanted::CheckFound(name, numbers),
+        ) => folder.as_str() == name && is_found(size, numbers),
+        (
+            Asked::Check {
+                folder,
+                size,
+                json: false,
+            },
+            Wanted::Check(name, numbers),
+        ) => folder.as_str() == name && is_given(size, numbers),
+        (
+            Asked::Check {
+                folder,
+                size,
+                json: true,
+            },
+            Wanted::CheckJson(name, numbers),
+        ) => folder.as_str() == name && is_found(size, numbers),
         (
             Asked::Dump {
                 folder,
@@ -239,7 +259,22 @@ const LEAST: [u32; 5] = [1, 1, 1, 1, 64];
 
 const MOST: [u32; 5] = [8, 16, 16, 1024, 4096];
 
-static ASKED: [(&[&str], Wanted); 35] = [
+static ASKED: [(&[&str], Wanted); 37] = [
+    (
+        &["lcrvm", "check", "bank", "--json"],
+        Wanted::CheckJson("bank", [None, None, None, None]),
+    ),
+    (
+        &[
+            "lcrvm",
+            "check",
+            "--json",
+            "--as-found",
+            "--pages=2",
+            "bank",
+        ],
+        Wanted::CheckJson("bank", [None, None, Some(2), None]),
+    ),
     (
         &["lcrvm", "recover", "bank", "--as-found", "--pages", "1"],
         Wanted::Found("bank", [None, None, Some(1), None]),

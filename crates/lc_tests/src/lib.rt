@@ -22,6 +22,8 @@ mod growth_tests;
 #[cfg(test)]
 mod hostile_tests;
 #[cfg(test)]
+mod json_tests;
+#[cfg(test)]
 mod listed_files;
 #[cfg(test)]
 mod lock_holder_tests;

@@ -25,6 +25,8 @@ pub(crate) enum Ask {
     RecoverAsFound,
     Check(Size),
     CheckAsFound,
+    CheckJson(Size),
+    CheckJsonAsFound,
     Dump { segment: u32, page: u32 },
     Draw,
     Inspect { reverse: bool },
@@ -210,10 +212,22 @@ pub(crate) fn asked_of(alloc: Global, ask: Ask, folder: String) -> Result<Asked,
         Ask::Check(size) => Asked::Check {
             folder,
             size: StoreSize::Given(geometry_of(size)?),
+            json: false,
         },
         Ask::CheckAsFound => Asked::Check {
             folder,
             size: StoreSize::AsFound(ALL_FOUND),
+            json: false,
+        },
+        Ask::CheckJson(size) => Asked::Check {
+            folder,
+            size: StoreSize::Given(geometry_of(size)?),
+            json: true,
+        },
+        Ask::CheckJsonAsFound => Asked::Check {
+            folder,
+            size: StoreSize::AsFound(ALL_FOUND),
+            json: true,
         },
         Ask::Dump { segment, page } => Asked::Dump {
             folder,

@@ -5,6 +5,7 @@ use Rattle.lc_record.specs.declared.geometry.Geometry.{Geometry}
 use Rattle.lc_model.specs.Recovered.{zero_content}
 use Rattle.lc_model.specs.State.{first_state}
 use Rattle.lc_core.specs.Numbers.{Numbers}
+use Rattle.lc_tool.specs.CheckedJson.{TellsCheck}
 use Rattle.lc_tool.specs.Copied.{TellsCopied}
 use Rattle.lc_tool.specs.Files.{TellsInit, TellsInspection}
 use Rattle.lc_look.specs.Recovers.{TellsRecovery}
@@ -12,7 +13,7 @@ use Rattle.lc_tool.specs.Script.{Given, RunsScript, given_as}
 use Rattle.lc_look.specs.Printed.{Adds}
 use Rattle.lc_tool.specs.Tells.{TellsScript}
 use Rattle.lc_tool.specs.declared.line_list.TheConstants.{LINE_LIST}
-use Rattle.lc_tool.specs.Found.{TellsDrawn, AnswersSized, TellsChecked, TellsDumped}
+use Rattle.lc_tool.specs.Found.{TellsDrawn, AnswersSized, TellsDumped}
 use Rattle.lc_words.specs.declared.run_store.RunStore.TheVariants.{New, InFolder}
 use Rattle.lc_words.specs.declared.asked.Asked.{Asked}
 use Rattle.lc_words.specs.declared.asked.Asked.TheVariants.{Run, Init, Recover, Check, Dump, Draw, Copy, Inspect, Lines, Help, Version, Faulty, NotUnderstood}
@@ -37,7 +38,7 @@ AnswersAsked (Run (InFolder folder size) follow number) input held holds status 
     IfSome input (λ bytes. AnswersSized size (λ g. Adds (TellsScript g (given follow number bytes)) held holds status) held holds status)
 AnswersAsked (Init folder g) input held holds status = Adds TellsInit held holds status
 AnswersAsked (Recover folder size) input held holds status = AnswersSized size (λ g. Adds (TellsRecovery g) held holds status) held holds status
-AnswersAsked (Check folder size) input held holds status = Adds (TellsChecked size) held holds status
+AnswersAsked (Check folder size json) input held holds status = Adds (TellsCheck json size) held holds status
 AnswersAsked (Dump folder segment page) input held holds status = Adds (TellsDumped segment page) held holds status
 AnswersAsked (Draw folder) input held holds status = Adds TellsDrawn held holds status
 AnswersAsked (Copy folder to wanted) input held holds status = Adds TellsCopied held holds status

@@ -15,6 +15,7 @@ pub mod Outcome
 pub mod Tells
 pub mod Files
 pub mod Found
+pub mod CheckedJson
 pub mod Copied
 pub mod View
 pub mod Asked

@@ -4,10 +4,11 @@ ghost use Rattle.lc_tool.specs.Asked.{AnswersAsked, PrintsHelp, RunsNew};
 ghost use Rattle.lc_tool.specs.Script.{given_as};
 
 use crate::ToolFault;
+use crate::checking_json::check_asked;
 use crate::copying::copy_store;
 use crate::line_list::LINE_LIST;
 use crate::log_file::inspect_file;
-use crate::looking::{check_store, draw_store, dump_page};
+use crate::looking::{draw_store, dump_page};
 use crate::manner::Manner;
 use crate::scripts::{no_memory, run_script};
 use crate::sizing::{recover_sized, run_sized};
@@ -63,7 +64,9 @@ where
         }
         Asked::Init { folder, geometry } => init_store(alloc, rt, folder, *geometry, writer),
         Asked::Recover { folder, size } => recover_sized(alloc, rt, errors, folder, size, writer),
-        Asked::Check { folder, size } => check_store(alloc, rt, folder, size, writer),
+        Asked::Check { folder, size, json } => {
+            check_asked(alloc, rt, folder, size, *json, writer)
+        }
         Asked::Dump {
             folder,
             segment,

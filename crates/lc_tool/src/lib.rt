@@ -2,6 +2,7 @@
 #![tactic(auto)]
 
 mod answering;
+mod checking_json;
 mod commands;
 mod copying;
 mod following;
@@ -29,6 +30,7 @@ mod view;
 mod zeros;
 
 pub use answering::answer;
+pub use checking_json::check_store_json;
 pub use copying::copy_store;
 pub use lc_text::ToolFault;
 pub use log_file::inspect_file;

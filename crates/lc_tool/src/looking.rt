@@ -176,7 +176,7 @@ fn write_size<W: Write>(writer: &mut W, geometry: &Geometry) -> io::Result<()>
 }
 
 // The size that a store is taken to have whose files tell this, or the status where it is of none.
-fn taken_of(view: View, found: &Result<Geometry, Misfit>) -> Result<Geometry, u8>
+pub(crate) fn taken_of(view: View, found: &Result<Geometry, Misfit>) -> Result<Geometry, u8>
     ensures taken { IfOk result (TakesSize view found.now) }
     ensures none { IfErr result (HasNoSize view found.now) }
 {

@@ -91,12 +91,10 @@ lines_asked _ rows words met read = absurd read
 
 check_asked : (asked : Asked) (rows : List Row) (words : List Text) → IsMet (codes "check") rows words → IsCheckOf rows asked → HasSizeAt rows
     → HasWord (codes "folder") rows → IsAskedBy words asked
-check_asked (Check folder size) rows words met read in_range word =
-    let same = rows_are (codes "check") rows words met in (
-      is_call (codes "check") rows words met,
-      subst (λ (rs : List Row). HasCheckedSize rs size) same read.0,
-      subst (λ (rs : List Row). HasText (codes "folder") rs (Some folder)) same read.1,
-    )
+check_asked (Check folder size json) rows words met read in_range word =
+    let same = rows_are (codes "check") rows words met in
+    let all = subst (λ (rs : List Row). IsCheckOf rs (Check folder size json)) same read in
+    (is_call (codes "check") rows words met, all.0, all.1, all.2)
 check_asked NotUnderstood rows words met read size word = absurd (read size word)
 check_asked _ rows words met read size word = absurd read
 

@@ -189,7 +189,10 @@ check_fits = (
           number_fits check 2 (codes "pages") (codes "1") 1 1024 refl refl,
           (
             number_fits check 2 (codes "words") (codes "64") 64 4096 refl refl,
-            (flag_fits check 2 (codes "as-found") refl, (inr (record { action = refl; defaults = refl }), tt)),
+            (
+              flag_fits check 2 (codes "as-found") refl,
+              (flag_fits check 2 (codes "json") refl, (inr (record { action = refl; defaults = refl }), tt)),
+            ),
           ),
         ),
       ),

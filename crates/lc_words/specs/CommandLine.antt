@@ -84,7 +84,7 @@ abbrev pub recover_app : App
 recover_app = sized_app (codes "recover")
 
 abbrev pub check_app : App
-check_app = sized_app (codes "check")
+check_app = with_rule (sized_app (codes "check")) (flag_rule (codes "json"))
 
 abbrev pub dump_app : App
 dump_app = with_rule (with_rule (folder_app (codes "dump")) (number_rule (codes "segment"))) (number_rule (codes "page"))
@@ -230,8 +230,8 @@ IsAskedBy words (Init folder geometry) = IsCallOf (codes "init") words × HasNum
     × HasText (codes "folder") (options_of words) (Some folder)
 IsAskedBy words (Recover folder size) = IsCallOf (codes "recover") words × HasSize (options_of words) size
     × HasText (codes "folder") (options_of words) (Some folder)
-IsAskedBy words (Check folder size) = IsCallOf (codes "check") words × HasCheckedSize (options_of words) size
-    × HasText (codes "folder") (options_of words) (Some folder)
+IsAskedBy words (Check folder size json) = IsCallOf (codes "check") words × HasCheckedSize (options_of words) size
+    × HasText (codes "folder") (options_of words) (Some folder) × (json ≡ is_among_words (codes "json") (options_of words))
 IsAskedBy words (Dump folder segment page) = IsCallOf (codes "dump") words × HasText (codes "folder") (options_of words) (Some folder)
     × (number_at (codes "segment") (options_of words) ≡ Some segment) × (number_at (codes "page") (options_of words) ≡ Some page)
 IsAskedBy words (Draw folder) = IsCallOf (codes "draw") words × HasText (codes "folder") (options_of words) (Some folder)
@@ -263,7 +263,8 @@ IsRecoverOf rows NotUnderstood = HasSizeAt rows → HasWord (codes "folder") row
 IsRecoverOf rows _ = ⊥
 
 abbrev pub IsCheckOf : List Row → Asked → Type 0
-IsCheckOf rows (Check folder size) = HasCheckedSize rows size × HasText (codes "folder") rows (Some folder)
+IsCheckOf rows (Check folder size json) = HasCheckedSize rows size × HasText (codes "folder") rows (Some folder)
+    × (json ≡ is_among_words (codes "json") rows)
 IsCheckOf rows NotUnderstood = HasSizeAt rows → HasWord (codes "folder") rows → ⊥
 IsCheckOf rows _ = ⊥
 

@@ -35,6 +35,8 @@ pub enum Asked {
         folder: String,
         /// The size that it is to have.
         size: Size,
+        /// Whether `--json` is there: it is printed as one JSON object.
+        json: bool,
     },
     /// A page of the store in this folder, as it would be behind a recovery.
     Dump {

@@ -81,8 +81,9 @@ fn check_of(alloc: Global, options: &ArgMatches<'_>) -> Result<Asked, AllocError
     let Some(size) = checked_size(options) else {
         return Ok(Asked::NotUnderstood);
     };
+    let json = has_flag(options, "json");
     match text_of(alloc, options, "folder")? {
-        Some(folder) => Ok(Asked::Check { folder, size }),
+        Some(folder) => Ok(Asked::Check { folder, size, json }),
         None => Ok(Asked::NotUnderstood),
     }
 }

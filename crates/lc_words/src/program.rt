@@ -43,7 +43,8 @@ const CHECK_HELP: &str = "Statuses:
   3  a device failed, or the store is in use
 
 Example:
-  lcrvm check bank";
+  lcrvm check bank
+  lcrvm check bank --json";
 
 const DUMP_HELP: &str = "Statuses:
   0  the page is printed
@@ -209,12 +210,18 @@ fn recover<'a>(alloc: Global) -> Result<Command<'a>, AllocError>
 fn check<'a>(alloc: Global) -> Result<Command<'a>, AllocError>
     ensures { IfOk result (λ command. IsLike command check_app) }
 {
-    over_sized(
+    let command = over_sized(
         alloc,
         "check",
         "Prints what a recovery of a store would say, and changes nothing; of a size that is not given, the one that is found",
         CHECK_HELP,
         "Takes each number of the size that is not given from the store's files, also where another one is given",
+    )?;
+    with_flag(
+        alloc,
+        command,
+        "json",
+        "Prints it as one JSON object, whatever the status",
     )
 }
 

@@ -10,7 +10,7 @@ pub returns-in-Recover-clause-answers : goal.returns-in-Recover-clause-answers
 returns-in-Recover-clause-answers g c = rw c.in-Recover.is c.recover_sized.ensures.tells
 
 pub returns-in-Check-clause-answers : goal.returns-in-Check-clause-answers
-returns-in-Check-clause-answers g c = rw c.in-Check.is c.check_store.ensures.tells
+returns-in-Check-clause-answers g c = rw c.in-Check.is c.check_asked.ensures.tells
 
 pub returns-in-Dump-clause-answers : goal.returns-in-Dump-clause-answers
 returns-in-Dump-clause-answers g c = rw c.in-Dump.is c.dump_page.ensures.tells
