@@ -292,9 +292,6 @@ static struct lcrvm_store *new_store(void)
 static void free_memory(struct lcrvm_store *store)
 {
     lcrvm_session_free(store->session);
-    for (uint32_t node = 0; node < MOST_NODES; node++)
-        for (uint32_t thread = 0; thread < MOST_THREADS; thread++)
-            forget_bytes(&store->begun[node][thread]);
     free(store->bytes);
     free(store);
 }
@@ -329,7 +326,6 @@ enum lcrvm_status lcrvm_open(const char *folder, const struct lcrvm_options *opt
         free_store(opened);
         return told_to(status, fault);
     }
-    place_tokens(opened);
     *store = opened;
     return told_to(LCRVM_OK, fault);
 }
@@ -389,10 +385,7 @@ static enum lcrvm_status set_range_now(struct lcrvm_store *store, uint32_t node,
     if (status != LCRVM_OK)
         return status;
     lcrvm_session_set_range(&store->session, bounded(node), bounded(thread), segment, offset, length, &answer);
-    status = answered(store, &answer);
-    if (status == LCRVM_OK)
-        add_range(&store->begun[node][thread], (struct range){segment, offset, offset + length});
-    return status;
+    return answered(store, &answer);
 }
 
 static enum lcrvm_status write_now(struct lcrvm_store *store, uint32_t node, uint32_t thread, uint32_t segment,
@@ -429,6 +422,16 @@ static enum lcrvm_status read_now(struct lcrvm_store *store, uint32_t node, uint
     return answered(store, &answer);
 }
 
+/* The transaction is over, and who waits for what it locked goes on. */
+static void over_now(struct lcrvm_store *store, uint32_t node, uint32_t thread)
+{
+    struct begun *begun = &store->begun[node][thread];
+
+    begun->open = false;
+    store->owned -= begun->owner != NOBODY;
+    serve_waiters(store);
+}
+
 static enum lcrvm_status abort_now(struct lcrvm_store *store, uint32_t node, uint32_t thread)
 {
     struct answer answer = {0};
@@ -436,27 +439,9 @@ static enum lcrvm_status abort_now(struct lcrvm_store *store, uint32_t node, uin
 
     lcrvm_session_abort(&store->session, bounded(node), bounded(thread), &answer);
     status = answered(store, &answer);
-    if (status == LCRVM_OK) {
-        end_begun(store, &store->begun[node][thread]);
-        serve_waiters(store);
-    }
+    if (status == LCRVM_OK)
+        over_now(store, node, thread);
     return status;
-}
-
-/* The transaction is over, and its record is newer than the pages that its ranges touch. */
-static void note_commit(struct lcrvm_store *store, uint32_t node, uint32_t thread)
-{
-    struct begun *begun = &store->begun[node][thread];
-
-    for (size_t i = 0; i < begun->count; i++) {
-        const struct range *range = &begun->ranges[i];
-
-        for (uint32_t page = first_page(range); page <= last_page(range); page++)
-            store->dirty[range->segment][page] = true;
-    }
-    store->records[node] += begun->count > 0;
-    end_begun(store, begun);
-    serve_waiters(store);
 }
 
 /* Gives the transaction its place in the log, and completes its record. */
@@ -475,9 +460,10 @@ static enum lcrvm_status commit_now(struct lcrvm_store *store, uint32_t node, ui
         *placed = (struct lcrvm_commit){.place = answer.place, .words = answer.words};
         lcrvm_session_close_record(&store->session, bounded(node), bounded(thread), &answer);
         status = answered(store, &answer);
+        store->records[node] += status == LCRVM_OK;
     }
     if (status == LCRVM_OK)
-        note_commit(store, node, thread);
+        over_now(store, node, thread);
     return status;
 }
 
@@ -802,29 +788,21 @@ enum lcrvm_status lcrvm_trim(struct lcrvm_store *store, uint32_t node, uint64_t 
 enum lcrvm_status lcrvm_leave(struct lcrvm_store *store, uint32_t node, uint32_t segment)
 {
     struct answer answer = {0};
-    enum lcrvm_status status;
 
     if (!enter(store))
         return not_entered();
     lcrvm_session_leave(&store->session, bounded(node), segment, &answer);
-    status = answered(store, &answer);
-    if (status == LCRVM_OK)
-        store->tokens[segment] = ON_ITS_WAY;
-    return done(store, status);
+    return done(store, answered(store, &answer));
 }
 
 enum lcrvm_status lcrvm_arrive(struct lcrvm_store *store, uint32_t node, uint32_t segment)
 {
     struct answer answer = {0};
-    enum lcrvm_status status;
 
     if (!enter(store))
         return not_entered();
     lcrvm_session_arrive(&store->session, bounded(node), segment, &answer);
-    status = answered(store, &answer);
-    if (status == LCRVM_OK)
-        store->tokens[segment] = (int)node;
-    return done(store, status);
+    return done(store, answered(store, &answer));
 }
 
 static enum lcrvm_delivery delivery_of(uint32_t reply)

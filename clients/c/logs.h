@@ -66,80 +66,6 @@ static enum lcrvm_status flush_shared(struct lcrvm_store *store, uint32_t node)
 
 /* ---- truncations */
 
-/* A page is due at a node where its segment's token is there, and a record is newer than the page in its file. */
-static bool is_due(const struct lcrvm_store *store, uint32_t node, uint32_t segment, uint32_t page)
-{
-    return store->tokens[segment] == (int)node && store->dirty[segment][page];
-}
-
-/* Whether a range of a transaction that is open touches a page that is due. */
-static bool blocks(const struct lcrvm_store *store, uint32_t node, const struct begun *begun)
-{
-    for (size_t i = 0; begun->open && !begun->set_aside && i < begun->count; i++) {
-        const struct range *range = &begun->ranges[i];
-
-        for (uint32_t page = first_page(range); page <= last_page(range); page++)
-            if (is_due(store, node, range->segment, page))
-                return true;
-    }
-    return false;
-}
-
-static bool some_blocks(const struct lcrvm_store *store, uint32_t node)
-{
-    for (uint32_t thread = 0; thread < store->geometry.threads; thread++)
-        if (blocks(store, node, &store->begun[node][thread]))
-            return true;
-    return false;
-}
-
-/* Makes the next call of each page of a segment that is due; whether one was. */
-static enum lcrvm_status call_pages(struct lcrvm_store *store, uint32_t node, uint32_t segment, bool *some)
-{
-    *some = false;
-    for (uint32_t page = 0; page < store->geometry.pages; page++) {
-        struct answer answer = {0};
-        enum lcrvm_status status;
-
-        if (!is_due(store, node, segment, page))
-            continue;
-        *some = true;
-        lcrvm_session_page_step(&store->session, bounded(node), segment, page, &answer);
-        status = mirrored(store, place_of(store, segment), &answer);
-        if (status != LCRVM_OK)
-            return status;
-        if (answer.reply == WRITTEN)
-            store->dirty[segment][page] = false;
-    }
-    return LCRVM_OK;
-}
-
-/* Writes the pages of a segment that are due side by side, so that a sync of the file serves all of them. */
-static enum lcrvm_status write_pages(struct lcrvm_store *store, uint32_t node, uint32_t segment)
-{
-    enum lcrvm_status status;
-    bool some;
-
-    do
-        status = call_pages(store, node, segment, &some);
-    while (status == LCRVM_OK && some);
-    return status;
-}
-
-static enum lcrvm_status reset(struct lcrvm_store *store, uint32_t node)
-{
-    struct answer answer = {0};
-    enum lcrvm_status status;
-
-    do {
-        lcrvm_session_reset_step(&store->session, bounded(node), &answer);
-        status = mirrored(store, node, &answer);
-    } while (status == LCRVM_OK && answer.reply == STEPPED);
-    if (status == LCRVM_OK && answer.reply == RESET)
-        store->rounds[node]++;
-    return status;
-}
-
 static enum lcrvm_status trim_now(struct lcrvm_store *store, uint32_t node, uint64_t *count)
 {
     struct answer answer = {0};
@@ -155,17 +81,18 @@ static enum lcrvm_status trim_now(struct lcrvm_store *store, uint32_t node, uint
 /* Empties the log of a node, by a thread that is at the files. The lock is held all the while. */
 static enum lcrvm_status truncate_now(struct lcrvm_store *store, uint32_t node)
 {
-    enum lcrvm_status status = flush_now(store, node);
+    struct answer answer = {0};
+    enum lcrvm_status status;
 
-    if (status == LCRVM_OK && some_blocks(store, node))
-        status = failed(LCRVM_UNCOMMITTED, "");
-    for (uint32_t segment = 1; segment <= store->geometry.segments && status == LCRVM_OK; segment++)
-        status = write_pages(store, node, segment);
-    if (status == LCRVM_OK)
-        status = reset(store, node);
-    if (status == LCRVM_OK && store->geometry.nodes == 1)
-        status = trim_now(store, node, NULL);
-    return status;
+    do {
+        lcrvm_session_truncate_step(&store->session, bounded(node), &answer);
+        status = all_mirrored(store, &answer);
+    } while (status == LCRVM_OK && answer.reply == STEPPED);
+    if (status != LCRVM_OK)
+        return status;
+    store->acked[node] = store->records[node];
+    store->rounds[node] += answer.reply == RESET;
+    return store->geometry.nodes == 1 ? trim_now(store, node, NULL) : LCRVM_OK;
 }
 
 #endif

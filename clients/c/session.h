@@ -51,6 +51,9 @@ uint32_t lcrvm_session_recover_step(struct handle *handle, struct answer *answer
 uint32_t lcrvm_session_begin(struct handle *handle, uint16_t node, uint16_t thread, const uint32_t *writing,
                              size_t writing_count, const uint32_t *reading, size_t reading_count,
                              struct answer *answer);
+uint32_t lcrvm_session_begin_free(struct handle *handle, uint16_t node, const uint32_t *writing, size_t writing_count,
+                                  const uint32_t *reading, size_t reading_count, uint16_t *thread,
+                                  struct answer *answer);
 uint32_t lcrvm_session_set_range(struct handle *handle, uint16_t node, uint16_t thread, uint32_t segment,
                                  uint32_t offset, uint32_t len, struct answer *answer);
 uint32_t lcrvm_session_write(struct handle *handle, uint16_t node, uint16_t thread, uint32_t segment, uint32_t offset,
@@ -61,9 +64,10 @@ uint32_t lcrvm_session_abort(struct handle *handle, uint16_t node, uint16_t thre
 uint32_t lcrvm_session_reserve(struct handle *handle, uint16_t node, uint16_t thread, struct answer *answer);
 uint32_t lcrvm_session_close_record(struct handle *handle, uint16_t node, uint16_t thread, struct answer *answer);
 uint32_t lcrvm_session_flush_step(struct handle *handle, uint16_t node, struct answer *answer);
-uint32_t lcrvm_session_page_step(struct handle *handle, uint16_t node, uint32_t segment, uint32_t page,
-                                 struct answer *answer);
-uint32_t lcrvm_session_reset_step(struct handle *handle, uint16_t node, struct answer *answer);
+uint32_t lcrvm_session_truncate_step(struct handle *handle, uint16_t node, struct answer *answer);
+uint32_t lcrvm_session_set_aside(struct handle *handle, uint16_t node, struct answer *answer);
+uint32_t lcrvm_session_bring_back(struct handle *handle, struct answer *answer);
+uint32_t lcrvm_session_restore(struct handle *handle, uint16_t node, uint16_t thread, struct answer *answer);
 uint32_t lcrvm_session_leave(struct handle *handle, uint16_t node, uint32_t segment, struct answer *answer);
 uint32_t lcrvm_session_arrive(struct handle *handle, uint16_t node, uint32_t segment, struct answer *answer);
 uint32_t lcrvm_session_deliver(struct handle *handle, uint16_t sender, uint64_t number, uint32_t segment, uint16_t to,

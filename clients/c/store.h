@@ -32,7 +32,6 @@ struct lcrvm_store {
     bool shared;            /* that thread gives `events` back while it syncs */
     struct waiter *waiters; /* who waits to begin, in turn */
 
-    int tokens[MOST_SEGMENTS + 1];
     uint64_t records[MOST_NODES]; /* the commits of each node that have one */
     uint64_t acked[MOST_NODES];   /* so many of them are stable */
     uint64_t rounds[MOST_NODES];
@@ -40,10 +39,9 @@ struct lcrvm_store {
     unsigned owned; /* so many of them are open that lcrvm_begin began */
 
     uint32_t areas;
-    uint64_t calls[MOST_AREAS];                /* of each area, those that its file has had */
-    bool stable[MOST_AREAS];                   /* of each file, whether all that was written to it is */
-    bool dirty[MOST_SEGMENTS + 1][MOST_PAGES]; /* whether a record is newer than the page in its file */
-    uint8_t *bytes;                            /* room for what one call writes */
+    uint64_t calls[MOST_AREAS]; /* of each area, those that its file has had */
+    bool stable[MOST_AREAS];    /* of each file, whether all that was written to it is */
+    uint8_t *bytes;             /* room for what one call writes */
 };
 
 /* Each call of a store that is over answers why it is. */
@@ -155,7 +153,7 @@ static enum lcrvm_status mirrored(struct lcrvm_store *store, uint32_t place, con
     return refused(answer);
 }
 
-/* The same after an event of a recovery, which may have called any area. */
+/* The same after an event of a recovery or of a truncation, which may have called any area. */
 static enum lcrvm_status all_mirrored(struct lcrvm_store *store, const struct answer *answer)
 {
     enum lcrvm_status status = LCRVM_OK;
@@ -163,26 +161,6 @@ static enum lcrvm_status all_mirrored(struct lcrvm_store *store, const struct an
     for (uint32_t place = 0; place < store->areas && !store->over; place++)
         status = mirrored(store, place, answer);
     return status;
-}
-
-/* The place of a segment's area; of no segment one of no area. */
-static uint32_t place_of(const struct lcrvm_store *store, uint32_t segment)
-{
-    return is_within(segment, 1, store->geometry.segments) ? store->geometry.nodes + segment - 1 : MOST_AREAS;
-}
-
-/* Puts the tokens where a recovery puts them. */
-static void place_tokens(struct lcrvm_store *store)
-{
-    for (uint32_t segment = 1; segment <= store->geometry.segments; segment++)
-        store->tokens[segment] = (int)(segment % store->geometry.nodes);
-}
-
-static struct begun *begun_of(struct lcrvm_store *store, uint32_t node, uint32_t thread)
-{
-    if (node >= store->geometry.nodes || thread >= store->geometry.threads)
-        return NULL;
-    return store->begun[node][thread].open ? &store->begun[node][thread] : NULL;
 }
 
 #endif

@@ -1,4 +1,4 @@
-/* What is known of a store beside its session: its size, and what its open transactions have locked and set. */
+/* What is known of a store beside its session: its size, and what its open transactions have locked. */
 #ifndef LCRVM_TRANSACTIONS_H
 #define LCRVM_TRANSACTIONS_H
 
@@ -11,30 +11,17 @@ enum {
     MOST_PAGES = 1024,
     LEAST_WORDS = 64,
     MOST_WORDS = 4096,
-    MOST_RANGES = 64,
     MOST_AREAS = MOST_NODES + MOST_SEGMENTS,
     WORD_BYTES = 8,
-    PAGE_BYTES = 256,
     PAGE_AREA_BYTES = 544, /* a page in its file, which has two slots for it */
-    ON_ITS_WAY = -1,
     NOBODY = 0 /* whose transactions those of lcrvm_begin_transaction are */
 };
 
-struct range {
-    uint32_t segment, low, high;
-};
-
-/* A transaction that is open: what it locked, a bit a segment, and its ranges, which neither overlap nor touch. */
+/* A transaction that is open: what it locked, a bit a segment. Who waits for it is told by these. */
 struct begun {
     bool open;
-    bool set_aside; /* aborted while the log is emptied, and made again then */
     uint32_t writing, reading;
     uint64_t owner; /* the number of the thread that began it */
-    size_t count;
-    struct range ranges[MOST_RANGES];
-    /* The bytes of its ranges from this one on, where the session has not got them back since the log was emptied. */
-    unsigned char *bytes;
-    size_t restored;
 };
 
 /* ---- sizes */
@@ -119,53 +106,6 @@ static size_t list_of(uint32_t set, uint32_t segments[MOST_SEGMENTS])
 static uint32_t contested(uint32_t writing, uint32_t reading, uint32_t others_writing, uint32_t others_reading)
 {
     return (writing & (others_writing | others_reading)) | (reading & others_writing);
-}
-
-/* ---- ranges */
-
-static uint32_t length_of_range(const struct range *range)
-{
-    return range->high - range->low;
-}
-
-static size_t bytes_of(const struct begun *begun)
-{
-    size_t bytes = 0;
-
-    for (size_t i = 0; i < begun->count; i++)
-        bytes += length_of_range(&begun->ranges[i]);
-    return bytes;
-}
-
-/* Adds a range; those that it overlaps or touches become one with it, so as many stand as in the store. */
-static void add_range(struct begun *begun, struct range range)
-{
-    size_t kept = 0;
-
-    for (size_t i = 0; i < begun->count; i++) {
-        const struct range other = begun->ranges[i];
-
-        if (other.segment == range.segment && other.low <= range.high && range.low <= other.high) {
-            range.low = other.low < range.low ? other.low : range.low;
-            range.high = other.high > range.high ? other.high : range.high;
-        } else {
-            begun->ranges[kept++] = other;
-        }
-    }
-    if (kept < MOST_RANGES)
-        begun->ranges[kept++] = range;
-    begun->count = kept;
-}
-
-/* The pages that a range touches, the last of them too. */
-static uint32_t first_page(const struct range *range)
-{
-    return range->low / PAGE_BYTES;
-}
-
-static uint32_t last_page(const struct range *range)
-{
-    return (range->high - 1) / PAGE_BYTES;
 }
 
 #endif

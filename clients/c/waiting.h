@@ -39,37 +39,37 @@ static uint64_t this_thread(void)
     return number;
 }
 
-/* Begins a transaction now, or not. It takes no memory. */
-static enum lcrvm_status begin_now(struct lcrvm_store *store, uint32_t thread, const struct wish *wish)
+static void note_begin(struct lcrvm_store *store, uint32_t thread, const struct wish *wish)
 {
-    static const uint32_t none = 0;
-    struct answer answer = {0};
-    struct begun *begun;
-    enum lcrvm_status status;
-
-    lcrvm_session_begin(&store->session, bounded(wish->node), bounded(thread), wish->count > 0 ? wish->segments : &none,
-                        wish->count, wish->reading_count > 0 ? wish->reading : &none, wish->reading_count, &answer);
-    status = answered(store, &answer);
-    if (status != LCRVM_OK)
-        return status;
-    begun = &store->begun[wish->node][thread];
-    begun->open = true;
-    begun->writing = wish->writes;
-    begun->reading = wish->reads & ~wish->writes;
-    begun->owner = wish->owner;
+    store->begun[wish->node][thread] = (struct begun){
+        .open = true,
+        .writing = wish->writes,
+        .reading = wish->reads & ~wish->writes,
+        .owner = wish->owner,
+    };
     store->owned += wish->owner != NOBODY;
-    begun->count = begun->restored = 0;
-    return LCRVM_OK;
 }
 
-/* The first thread of a node that has no transaction, or as many as there are. */
-static uint32_t free_thread(const struct lcrvm_store *store, uint32_t node)
+/* The segments of a wish, of which a slice of nothing has an address all the same. */
+static const uint32_t *listed(const uint32_t *segments, size_t count)
 {
-    uint32_t thread = 0;
+    static const uint32_t none = 0;
 
-    while (node < store->geometry.nodes && thread < store->geometry.threads && store->begun[node][thread].open)
-        thread++;
-    return thread;
+    return count > 0 ? segments : &none;
+}
+
+/* Begins a transaction of a thread now, or not. It takes no memory. */
+static enum lcrvm_status begin_now(struct lcrvm_store *store, uint32_t thread, const struct wish *wish)
+{
+    struct answer answer = {0};
+    enum lcrvm_status status;
+
+    lcrvm_session_begin(&store->session, bounded(wish->node), bounded(thread), listed(wish->segments, wish->count),
+                        wish->count, listed(wish->reading, wish->reading_count), wish->reading_count, &answer);
+    status = answered(store, &answer);
+    if (status == LCRVM_OK)
+        note_begin(store, thread, wish);
+    return status;
 }
 
 static enum lcrvm_status busy_at(uint32_t segments)
@@ -82,21 +82,32 @@ static enum lcrvm_status busy_at(uint32_t segments)
     return LCRVM_BUSY;
 }
 
-/* Begins a transaction by a free thread, unless it would take what these, which are in front of it, wait for. */
+/* Begins a transaction by the lowest thread of the node that has none now, or not. It takes no memory. */
+static enum lcrvm_status begin_free(struct lcrvm_store *store, const struct wish *wish, uint32_t *thread)
+{
+    struct answer answer = {0};
+    uint16_t free = 0;
+    enum lcrvm_status status;
+
+    lcrvm_session_begin_free(&store->session, bounded(wish->node), listed(wish->segments, wish->count), wish->count,
+                             listed(wish->reading, wish->reading_count), wish->reading_count, &free, &answer);
+    status = answered(store, &answer);
+    if (status == LCRVM_OUT_OF_TURN)
+        return busy_at(0);
+    if (status != LCRVM_OK)
+        return status;
+    note_begin(store, free, wish);
+    *thread = free;
+    return LCRVM_OK;
+}
+
+/* The same, unless it would take what these, which are in front of it, wait for. */
 static enum lcrvm_status try_begin(struct lcrvm_store *store, const struct wish *wish, uint32_t writing,
                                    uint32_t reading, uint32_t *thread)
 {
-    uint32_t wanted = contested(wish->writes, wish->reads, writing, reading), free = free_thread(store, wish->node);
-    enum lcrvm_status status;
+    uint32_t wanted = contested(wish->writes, wish->reads, writing, reading);
 
-    if (wanted != 0 && !wish->has_another)
-        return busy_at(wanted);
-    if (free == store->geometry.threads)
-        return busy_at(0);
-    status = begin_now(store, free, wish);
-    if (status == LCRVM_OK)
-        *thread = free;
-    return status;
+    return wanted != 0 && !wish->has_another ? busy_at(wanted) : begin_free(store, wish, thread);
 }
 
 /* Begins what waits, as far as it can, in turn; of a store that is over all are told so. */

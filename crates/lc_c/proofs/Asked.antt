@@ -45,9 +45,11 @@ module _ (old new : Handle) (same : new ≡ old) where
         → news ≡ read_in reply olds → answer ≡ of_reply reply → Fills old event olds news answer new
     fills event reply olds news answer steps filled answers = record {
       reply = reply;
-      steps = subst (λ b. StepsIf b old.value event (Ok reply) new.value) (sym some)
-          (subst (λ (s : Session). StepsStage old.value.stage event (Ok reply) s.stage) (sym (ap (λ (h : Handle). h.value) same))
-          (subst (λ (s : Session). StepsStage s.stage event (Ok reply) s.stage) is steps));
+      steps = subst (λ b. StepsIf b old.value event (Ok reply) new.value) (sym some) (
+        subst (λ (s : Session). StepsStage old.value.stage event (Ok reply) s.stage) (sym (ap (λ (h : Handle). h.value) same))
+            (subst (λ (s : Session). StepsStage s.stage event (Ok reply) s.stage) is steps),
+        record { kept = ap (λ (h : Handle). h.value.kept) same; truncation = ap (λ (h : Handle). h.value.truncation) same },
+      );
       filled = filled;
       answers = answers;
       held = ap (λ (h : Handle). h.held) same;

@@ -4,3 +4,9 @@ mod Parted
 mod Stages
 mod Asked
 mod Mirroring
+mod Begins
+mod Removing
+mod GivenBack
+mod Rows
+mod Holding
+mod Forgetting

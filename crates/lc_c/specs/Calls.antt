@@ -9,7 +9,11 @@ use Rattle.lc_model.specs.declared.reply.Reply.TheVariants.{Bytes, Refused, Ok a
 use Rattle.lc_record.specs.Geometry.{HasNumbers}
 use Rattle.lc_record.specs.declared.geometry.Geometry.{Geometry}
 use Rattle.lc_model.specs.declared.refusal.Refusal.{Refusal}
+use Rattle.lc_c.specs.Aborts.{Aborts}
 use Rattle.lc_c.specs.Answer.{answer_of}
+use Rattle.lc_c.specs.BeginsFree.{BeginsFree}
+use Rattle.lc_c.specs.Beside.{IsSameBeside}
+use Rattle.lc_c.specs.Kept.{IsNone}
 use Rattle.lc_c.specs.LastCall.{call_of}
 use Rattle.lc_c.specs.Mirrors.{window_in}
 use Rattle.lc_c.specs.Stage.{AreaAt, IsAdded, StartsStage, StepsStage, gathered, geometry_of, is_gathering}
@@ -21,7 +25,7 @@ use Rattle.lc_c.specs.declared.session.Session.{Session}
 
 -- the session of a handle that has one takes the step; a handle that has none stays so, and refuses it as a store that is down
 abbrev pub StepsIf : Bool → Session → Event → Result Reply AllocError → Session → Type 0
-StepsIf true old event said new = StepsStage old.stage event said new.stage
+StepsIf true old event said new = StepsStage old.stage event said new.stage × IsSameBeside old new
 StepsIf false old event said new = said ≡ Ok (Refused Down)
 
 -- the event was asked of the handle's session, and this is the answer to C
@@ -29,6 +33,28 @@ pub record Steps (old : Handle) (event : Event) (answer : Answer) (new : Handle)
   pub said : Result Reply AllocError
   pub steps : StepsIf old.held old.value event said new.value
   pub answers : answer ≡ answer_of said
+  pub held : new.held ≡ old.held
+
+-- the same of a begin by whatever thread has no transaction
+abbrev pub BeginsIf : Bool → ℕ → List ℕ → List ℕ → Session → ℕ → Reply → Session → Type 0
+BeginsIf true node writing reading old thread reply new = BeginsFree node writing reading old.stage thread reply new.stage × IsSameBeside old new
+BeginsIf false node writing reading old thread reply new = (thread ≡ 0) × (reply ≡ Refused Down)
+
+pub record BeginsBy (old : Handle) (node : ℕ) (writing reading : List ℕ) (thread : ℕ) (answer : Answer) (new : Handle) : Type 0 where
+  pub reply : Reply
+  pub begins : BeginsIf old.held node writing reading old.value thread reply new.value
+  pub answers : answer ≡ answer_of (Ok reply)
+  pub held : new.held ≡ old.held
+
+-- the same of a transaction that is dropped
+abbrev pub AbortsIf : Bool → ℕ → ℕ → Session → Reply → Session → Type 0
+AbortsIf true node thread old reply new = Aborts node thread old reply new
+AbortsIf false node thread old reply new = reply ≡ Refused Down
+
+pub record AbortsBy (old : Handle) (node thread : ℕ) (answer : Answer) (new : Handle) : Type 0 where
+  pub reply : Reply
+  pub aborts : AbortsIf old.held node thread old.value reply new.value
+  pub answers : answer ≡ answer_of (Ok reply)
   pub held : new.held ≡ old.held
 
 -- the bytes of a read, where it is not refused
@@ -76,6 +102,8 @@ pub record IsBegun (nodes threads segments pages words : ℕ) (new : Handle) : T
   pub geometry_is : geometry_of new.value.stage ≡ Some geometry
   pub numbers : HasNumbers geometry nodes threads segments pages words
   pub none : gathered new.value.stage ≡ []
+  pub kept : IsNone new.value.kept
+  pub truncation : new.value.truncation ≡ None
 
 -- the area of a file was added, or nothing has changed: there was no memory, or the session had started
 pub record Adds (old : Session) (bytes : List ℕ) (status : ℕ) (new : Session) : Type 0 where
@@ -85,6 +113,7 @@ pub record Adds (old : Session) (bytes : List ℕ) (status : ℕ) (new : Session
   pub none : (status ≡ 0 → ⊥) → gathered new.stage ≡ gathered old.stage
   pub closed : is_gathering old.stage ≡ false → (status ≡ 4) × (new ≡ old)
   pub refused : is_gathering old.stage ≡ true → (status ≡ 0) ⊎ (status ≡ 64)
+  pub beside : IsSameBeside old new
 
 abbrev pub AddsIf : Bool → Session → List ℕ → ℕ → Session → Type 0
 AddsIf true old bytes status new = Adds old bytes status new
@@ -96,7 +125,7 @@ done_in (Ok its) = IsDone
 done_in (Err refusal) = Refused refusal
 
 abbrev pub StartsBy : Bool → Session → Result (Unit {0}) Refusal → Session → Type 0
-StartsBy true old result new = StartsStage old.stage result new.stage
+StartsBy true old result new = StartsStage old.stage result new.stage × IsSameBeside old new
 StartsBy false old result new = result ≡ Err Down
 
 -- the handle's session was started, and this is the answer to C

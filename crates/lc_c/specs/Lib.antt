@@ -5,4 +5,12 @@ pub mod Answer
 pub mod LastCall
 pub mod Handle
 pub mod Lent
+pub mod Beside
+pub mod BeginsFree
+pub mod Kept
+pub mod SetsAside
+pub mod Restores
+pub mod Aborts
+pub mod Truncating
 pub mod Calls
+pub mod EmptyingCalls

@@ -1,8 +1,8 @@
 //! What C calls.
 ghost use Rattle.std.specs.Prelude.{◌≡◌, ◌⊎◌, [], true, false, Ok, Some, length};
 ghost use Rattle.lc_record.specs.Geometry.{HasNumbers, IsGeometry};
-ghost use Rattle.lc_model.specs.declared.event.Event.TheVariants.{Abort, Arrive, Begin, Close, Deliver, FlushStep, Leave, PageStep, Read, RecoverStep, Reserve, ResetStep, SetRange, Trim, Write};
-ghost use Rattle.lc_c.specs.Calls.{AddsIf, Fills, IsBegun, StartsIf, Steps, StepsIf, TellsBytes, TellsCall};
+ghost use Rattle.lc_model.specs.declared.event.Event.TheVariants.{Arrive, Begin, Close, Deliver, FlushStep, Leave, Read, RecoverStep, Reserve, SetRange, Trim, Write};
+ghost use Rattle.lc_c.specs.Calls.{AbortsBy, AbortsIf, AddsIf, BeginsBy, BeginsIf, Fills, IsBegun, StartsIf, Steps, StepsIf, TellsBytes, TellsCall};
 ghost use Rattle.lc_c.specs.Stage.{is_step};
 ghost use Rattle.lc_c.specs.declared.stage.Stage.TheVariants.{Over};
 
@@ -103,6 +103,26 @@ pub extern "C" fn lcrvm_session_begin(
     answer.status
 }
 
+/// The lowest thread of a node that has no transaction begins one, and is told; where all have one it is the last, and the
+/// answer is 4.
+#[unsafe(no_mangle)]
+pub extern "C" fn lcrvm_session_begin_free(
+    handle: &mut Handle,
+    node: u16,
+    writing: &[u32],
+    reading: &[u32],
+    thread: &mut u16,
+    answer: &mut Answer,
+) -> u32
+    ensures begins { BeginsBy handle.old node writing.now reading.now thread.new answer.new handle.new }
+    ensures status { result ≡ answer.new.status }
+{
+    let (found, reply) = begun_free(handle, node, writing, reading);
+    *thread = found;
+    *answer = Answer::of(&Ok(reply));
+    answer.status
+}
+
 /// The open transaction of a thread is about to change bytes of a segment.
 #[unsafe(no_mangle)]
 pub extern "C" fn lcrvm_session_set_range(
@@ -174,10 +194,12 @@ pub extern "C" fn lcrvm_session_abort(
     thread: u16,
     answer: &mut Answer,
 ) -> u32
-    ensures steps { Steps handle.old (Abort node thread) answer.new handle.new }
+    ensures aborts { AbortsBy handle.old node thread answer.new handle.new }
     ensures status { result ≡ answer.new.status }
 {
-    step(alloc, handle, &Event::Abort { node, thread }, answer)
+    let said = Ok(aborted(alloc, handle, node, thread));
+    *answer = Answer::of(&said);
+    answer.status
 }
 
 /// It gets its place in the log.
@@ -222,41 +244,6 @@ pub extern "C" fn lcrvm_session_flush_step(
     ensures status { result ≡ answer.new.status }
 {
     step(alloc, handle, &Event::FlushStep { node }, answer)
-}
-
-/// A device call of the write of a page, from 0, of a segment, from 1.
-#[unsafe(no_mangle)]
-pub extern "C" fn lcrvm_session_page_step(
-    alloc: Global,
-    handle: &mut Handle,
-    node: u16,
-    segment: u32,
-    page: u32,
-    answer: &mut Answer,
-) -> u32
-    ensures steps { Steps handle.old (PageStep node segment page) answer.new handle.new }
-    ensures status { result ≡ answer.new.status }
-{
-    let event = Event::PageStep {
-        node,
-        segment,
-        page,
-    };
-    step(alloc, handle, &event, answer)
-}
-
-/// A step that empties a node's log.
-#[unsafe(no_mangle)]
-pub extern "C" fn lcrvm_session_reset_step(
-    alloc: Global,
-    handle: &mut Handle,
-    node: u16,
-    answer: &mut Answer,
-) -> u32
-    ensures steps { Steps handle.old (ResetStep node) answer.new handle.new }
-    ensures status { result ≡ answer.new.status }
-{
-    step(alloc, handle, &Event::ResetStep { node }, answer)
 }
 
 /// A segment's token leaves a node.
@@ -419,6 +406,26 @@ fn begun(handle: &mut Handle, node: u16, thread: u16, writing: &[u32], reading: 
         return Reply::Refused(Refusal::Down);
     }
     handle.get_mut().begin(node, thread, writing, reading)
+}
+
+fn begun_free(handle: &mut Handle, node: u16, writing: &[u32], reading: &[u32]) -> (u16, Reply)
+    ensures begins { BeginsIf handle.old.held node writing.now reading.now handle.old.value result.0 result.1 handle.new.value }
+    ensures held { handle.new.held ≡ handle.old.held }
+{
+    if !handle.is_held() {
+        return (0, Reply::Refused(Refusal::Down));
+    }
+    handle.get_mut().begin_free(node, writing, reading)
+}
+
+fn aborted(alloc: Global, handle: &mut Handle, node: u16, thread: u16) -> Reply
+    ensures aborts { AbortsIf handle.old.held node thread handle.old.value result handle.new.value }
+    ensures held { handle.new.held ≡ handle.old.held }
+{
+    if !handle.is_held() {
+        return Reply::Refused(Refusal::Down);
+    }
+    handle.get_mut().abort(alloc, node, thread)
 }
 
 fn written(

@@ -1,5 +1,5 @@
 //! A store that is brought up from what files hold, and takes steps.
-ghost use Rattle.std.specs.Prelude.{◌≡◌, [], true, false, Option, Some, IfErr, IfOk, OnErr, Ok, Err, length, option_copied};
+ghost use Rattle.std.specs.Prelude.{◌≡◌, [], true, false, Option, None, Some, IfErr, IfOk, OnErr, Ok, Err, length, option_copied};
 ghost use Rattle.lc_model.specs.declared.event.Event.TheVariants.{Begin, Read, Write};
 ghost use Rattle.lc_model.specs.declared.reply.Reply.TheVariants.{Bytes, Refused};
 ghost use Rattle.lc_core.specs.declared.call_fault.CallFault.TheVariants.{NoMemory, Refused as IsRefused};
@@ -8,11 +8,14 @@ ghost use Rattle.lc_core.specs.Answered.{done as done_reply};
 ghost use Rattle.lc_c.specs.declared.stage.Stage.TheVariants.{Over};
 ghost use Rattle.lc_c.specs.Mirrors.{window_in};
 ghost use Rattle.lc_c.specs.declared.mirror_area.MirrorArea.{MirrorArea as Mirror};
+ghost use Rattle.lc_c.specs.Kept.{IsNone};
+ghost use Rattle.lc_c.specs.Beside.{IsSameBeside};
 ghost use Rattle.lc_c.specs.Stage.{AreaAt, IsAdded, StartsStage, StepsStage, gathered, geometry_of, is_gathering, is_step};
 
+use crate::kept::Kept;
 use crate::mirror_area::MirrorArea;
 use crate::stage::Stage;
-use lc_core::{CallFault, Event, Refusal, Reply, World};
+use lc_core::{CallFault, Event, Refusal, Reply, Truncation, World};
 use lc_record::Geometry;
 use lc_recover::RecoverFault;
 use std::alloc::{AllocError, Global};
@@ -23,6 +26,9 @@ use std::mem;
 #[derive(Drop)]
 pub struct Session {
     pub(crate) stage: Stage,
+    /// The truncation of a node's log that is under way.
+    pub(crate) truncation: Option<Truncation>,
+    pub(crate) kept: Kept,
 }
 
 impl Session {
@@ -31,12 +37,16 @@ impl Session {
         ensures gathering { is_gathering result.stage ≡ true }
         ensures geometry { geometry_of result.stage ≡ Some geometry }
         ensures none { gathered result.stage ≡ [] }
+        ensures kept { IsNone result.kept }
+        ensures truncation { result.truncation ≡ None }
     {
         Session {
             stage: Stage::Gathering {
                 geometry,
                 areas: Vec::new(alloc),
             },
+            truncation: None,
+            kept: Kept::new(alloc),
         }
     }
 
@@ -52,6 +62,7 @@ impl Session {
         ensures none { OnErr result (gathered self.new.stage ≡ gathered self.old.stage) }
         ensures closed { is_gathering self.old.stage ≡ false → (result ≡ Err (IsRefused OutOfTurn)) × (self.new ≡ self.old) }
         ensures refused { IfErr result (λ fault. is_gathering self.old.stage ≡ true → fault ≡ NoMemory) }
+        ensures beside { IsSameBeside self.old self.new }
     {
         let Stage::Gathering { areas, .. } = &mut self.stage else {
             return Err(CallFault::Refused(Refusal::OutOfTurn));
@@ -68,7 +79,8 @@ impl Session {
     /// `OutOfTurn` where it has started: nothing has changed then. `BadGeometry` with the least index of an area that has not
     /// the length of the geometry, is missing, or is too many: the session is over.
     pub(crate) fn start(&mut self) -> Result<(), Refusal>
-        ensures { StartsStage self.old.stage result self.new.stage }
+        ensures starts { StartsStage self.old.stage result self.new.stage }
+        ensures beside { IsSameBeside self.old self.new }
     {
         let (geometry, areas) = match mem::replace(&mut self.stage, Stage::Over) {
             Stage::Gathering { geometry, areas } => (geometry, areas),
@@ -94,7 +106,8 @@ impl Session {
     /// Those of the store; nothing has changed then.
     pub(crate) fn step(&mut self, alloc: Global, event: &Event) -> Result<Reply, AllocError>
         requires step { is_step event.now ≡ true }
-        ensures { StepsStage self.old.stage event.now result self.new.stage }
+        ensures steps { StepsStage self.old.stage event.now result self.new.stage }
+        ensures beside { IsSameBeside self.old self.new }
     {
         match &mut self.stage {
             Stage::Open(world) => world.step(alloc, event),
@@ -110,7 +123,8 @@ impl Session {
         writing: &[u32],
         reading: &[u32],
     ) -> Reply
-        ensures { StepsStage self.old.stage (Begin node thread writing.now reading.now) (Ok result) self.new.stage }
+        ensures steps { StepsStage self.old.stage (Begin node thread writing.now reading.now) (Ok result) self.new.stage }
+        ensures beside { IsSameBeside self.old self.new }
     {
         match &mut self.stage {
             Stage::Open(world) => said(world.begin(node, thread, writing, reading)),
@@ -127,7 +141,8 @@ impl Session {
         offset: u32,
         bytes: &[u8],
     ) -> Reply
-        ensures { StepsStage self.old.stage (Write node thread segment offset bytes.now) (Ok result) self.new.stage }
+        ensures steps { StepsStage self.old.stage (Write node thread segment offset bytes.now) (Ok result) self.new.stage }
+        ensures beside { IsSameBeside self.old self.new }
     {
         match &mut self.stage {
             Stage::Open(world) => said(world.write(node, thread, segment, offset, bytes)),
@@ -178,7 +193,8 @@ impl Session {
 
     /// A file has failed: all is refused from now on.
     pub(crate) fn give_up(&mut self)
-        ensures { self.new.stage ≡ Over }
+        ensures over { self.new.stage ≡ Over }
+        ensures beside { IsSameBeside self.old self.new }
     {
         self.stage = Stage::Over;
     }

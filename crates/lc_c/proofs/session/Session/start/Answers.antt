@@ -4,6 +4,6 @@ use Rattle.lc_c.specs.Stage.{StartsStage}
 use Rattle.lc_c.specs.declared.stage.Stage.TheVariants.{Open}
 use Rattle.lc_c.proofs.session.Session.start.Goals as goal
 
-pub returns-in-Ok : goal.returns-in-Ok
-returns-in-Ok c =
+pub returns-in-Ok-clause-starts : goal.returns-in-Ok-clause-starts
+returns-in-Ok-clause-starts c =
     subst (λ s. StartsStage s (Ok tt) (Open c.in-Ok.world)) (sym c.in-Gathering.is ∙ c.replace.ensures.value) (c.in-Ok.world, refl, c.in-Ok.ensures.down)

@@ -1,0 +1,5 @@
+use Rattle.lc_c.specs.Kept.{HoldBelow}
+use Rattle.lc_c.proofs.keeping.pieces_of.Given as goal
+
+abbrev pub invariant-loop-thread : goal.invariant-loop-thread
+invariant-loop-thread l = HoldBelow l.world l.node l.thread l.pieces.items
