@@ -15,9 +15,14 @@
 static enum lcrvm_status restore(struct lcrvm_store *store, uint32_t node, uint32_t thread)
 {
     struct answer answer = {0};
+    enum lcrvm_status status;
 
+    if (node >= store->geometry.nodes || thread >= store->geometry.threads || !store->begun[node][thread].aside)
+        return LCRVM_OK;
     lcrvm_session_restore(&store->session, bounded(node), bounded(thread), &answer);
-    return answered(store, &answer);
+    status = answered(store, &answer);
+    store->begun[node][thread].aside = status != LCRVM_OK;
+    return status;
 }
 
 /* Empties the log of a node, by a thread that is at the files: what the truncation answers, or NO_MEMORY. */
@@ -32,6 +37,8 @@ static enum lcrvm_status empty_log(struct lcrvm_store *store, uint32_t node)
         return status;
     status = truncate_now(store, node);
     lcrvm_session_bring_back(&store->session, &answer);
+    for (uint32_t thread = 0; thread < store->geometry.threads; thread++)
+        store->begun[node][thread].aside = store->begun[node][thread].open;
     return status;
 }
 

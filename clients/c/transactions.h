@@ -20,6 +20,7 @@ enum {
 /* A transaction that is open: what it locked, a bit a segment. Who waits for it is told by these. */
 struct begun {
     bool open;
+    bool aside; /* its log was emptied since: the session may keep what its ranges held */
     uint32_t writing, reading;
     uint64_t owner; /* the number of the thread that began it */
 };
