@@ -71,7 +71,10 @@ fn steps_of_a_truncation_make_its_calls_one_by_one(rt: HostRuntime) -> Result<()
     // Four calls of the flush, six of each page, two of the reset.
     for step in 0..18 {
         let at_the_pages = 5 <= step && step <= 16;
-        assert!(rt; truncation.segment().is_some() == at_the_pages, "step {step}");
+        assert!(rt;
+            truncation.segment().is_some() == at_the_pages,
+            "step {step}"
+        );
         match world.truncate_step(alloc, truncation) {
             TruncationStep::Continues(next) => truncation = next,
             TruncationStep::Ends(reply) => last = Some((step, reply)),
