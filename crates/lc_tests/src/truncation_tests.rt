@@ -68,8 +68,8 @@ fn steps_of_a_truncation_make_its_calls_one_by_one(rt: HostRuntime) -> Result<()
     let mut truncation = Truncation::new(0);
     let mut calls = String::new(alloc);
     let mut last = None;
-    // Four calls of the flush, six of each page, two of the reset.
-    for step in 0..18 {
+    // Four of the flush, six of each page, four of the reset.
+    for step in 0..20 {
         let at_the_pages = 5 <= step && step <= 16;
         assert!(rt;
             truncation.segment().is_some() == at_the_pages,
@@ -83,7 +83,7 @@ fn steps_of_a_truncation_make_its_calls_one_by_one(rt: HostRuntime) -> Result<()
         assert!(rt; made.lines().count() <= 1, "step {step}: {made}");
         calls.push_str(&made)?;
     }
-    assert!(rt; matches!(last, Some((17, Reply::Reset))));
+    assert!(rt; matches!(last, Some((19, Reply::Reset))));
     assert!(rt; calls.as_str() == CALLS, "{calls}");
     Ok(())
 }
