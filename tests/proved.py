@@ -10,9 +10,9 @@ Of a text in backticks this is looked up:
  2. A path: of a file or a folder, or the end of one. A `*` stands for anything, as do words in capitals (`NAME`).
  3. A text with blanks is a command or a clause: its first word and its options are looked up, the rest are arguments.
  4. `name` (`file`): the name stands in a file of that name too, unless that is a file of tests.
-Skipped is what is no name: blocks between ``` lines, a text with ': ' (which is printed) or a sign that no name has (which
-is code), a first word in capitals (which stands for a number or a name), and a path from the root (the system's).
-tests/outside_names.txt has the words of the outside world.
+Skipped is what is no name: blocks between ``` lines, a text with ': ' (which is printed) or a sign that no name has
+(which is code), a first word in capitals (which stands for a number or a name), and a path from the root (the
+system's). tests/outside_names.txt has the words of the outside world.
 
 In docs/PROVED.md a name with names in brackets after it, as in `sync` [`honest`, `len`], is a function with clauses of
 its contract. With several names in braces each clause stands at one of them. Brackets without a clause, and links, are
