@@ -18,7 +18,7 @@ use Rattle.lc_model.specs.Merge.{Page, Store}
 use Rattle.lc_model.specs.Recovered.{IsRenewed}
 use Rattle.lc_recover.specs.Pages.{bytes_of_page}
 use Rattle.lc_recover.specs.Reads.{AreHonest, HaveLengths}
-use Rattle.lc_recover.specs.Recovered.{RecoveredPage, RecoveredStore, recovered_pages, no_page, page_of, page_read_of, AreFinished, HasPages, IsFinished}
+use Rattle.lc_recover.specs.Recovered.{RecoveredPage, RecoveredStore, recovered_pages, no_page, page_of, page_read_of, AreFinished, HasPages, IsMade}
 use Rattle.lc_recover.specs.Stage.{AreasFit, AreTexts, IsWhole, IsEmptied, Rests, RestsAt}
 use Rattle.lc_recover.specs.declared.finished.Finished.{Finished}
 use Rattle.lc_recover.specs.declared.segment_pages.SegmentPages.{SegmentPages}
@@ -145,26 +145,22 @@ module _ {D : Type 0} (a : Ghosts D) (g : Geometry) (f : Finished) (areas : List
         reads = λ s page at. its-reads s page area (there s at) honest;
       }
 
-  is-finished : AreHonest a areas → IsFinished a stored
-  is-finished honest = record {
+  is-made : IsMade a stored
+  is-made = record {
     store = store;
     content = whole.content;
     numbers = whole.numbers;
     merges = whole.result.merges;
     readable = readable g logs store texts whole.result.merges.1 whole.pages.shape whole.pages.shapes whole.result.long;
-    all = done-merges a g f areas fits honest logs store texts whole;
     sequences = its-number;
     small = its-small;
     renewed = renewed;
-    clean = λ k area is. its-clean k area is (honest k area is);
-    closed = λ log area within is. (its-log log area within is (honest log area is)).closed;
-    texts = λ s page area is. its-text s page area is (honest (g.nodes + s) area is);
-    reads = λ s page area is. its-reads s page area is (honest (g.nodes + s) area is);
+    all = λ honest. done-merges a g f areas fits honest logs store texts whole;
   }
 
-  -- a store that is what it has made
-  pub finished : (r : RecoveredStore D) → r ≡ stored → AreHonest a areas → IsFinished a r
-  finished r is honest = subst (λ (x : RecoveredStore D). IsFinished a x) (sym is) (is-finished honest)
+  -- whatever the areas are
+  pub made : (r : RecoveredStore D) → r ≡ stored → IsMade a r
+  made r is = subst (λ (x : RecoveredStore D). IsMade a x) (sym is) is-made
 
   -- and each of its areas by itself
   pub areas_finished : (r : RecoveredStore D) → r ≡ stored → AreFinished a r

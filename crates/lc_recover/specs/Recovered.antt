@@ -12,7 +12,7 @@ use Rattle.lc_page.specs.declared.page_text.PageText.{PageText}
 use Rattle.lc_model.specs.Merge.{Page, Store, MergesTo}
 use Rattle.lc_model.specs.Recovered.{AreRenewed, IsReadable}
 use Rattle.lc_recover.specs.Pages.{bytes_of_page}
-use Rattle.lc_recover.specs.Reads.{AllMergeTo}
+use Rattle.lc_recover.specs.Reads.{AllMergeTo, AreHonest}
 use Rattle.lc_recover.specs.declared.segment_pages.SegmentPages.{SegmentPages}
 
 -- a page: what its area says of it, and its bytes
@@ -64,6 +64,20 @@ pub record HasPages (g : Geometry) (segments : List SegmentPages) (numbers : Lis
       (entry_at pages.texts page).stable ≤ number
 
 module _ {D : Type 0} (a : Ghosts D) where
+  -- Whatever the areas are: the reads of them gave a store that merges to a result. Each page on which some record of it is
+  -- newer has its part of the result, under its segment's number, and any other is as it was read. Where all areas are honest
+  -- they have that result.
+  pub record IsMade (r : RecoveredStore D) : Type 0 where
+    pub store : Store
+    pub content : Content
+    pub numbers : ℕ → ℕ
+    pub merges : MergesTo store content numbers
+    pub readable : IsReadable r.geometry store
+    pub sequences : (segment : ℕ) → 1 ≤ segment → segment ≤ r.geometry.segments → sequence_of r segment ≡ numbers segment
+    pub small : (segment : ℕ) → 1 ≤ segment → segment ≤ r.geometry.segments → numbers segment ≤ 2 ^ 60
+    pub renewed : AreRenewed store content numbers (page_read_of r)
+    pub all : AreHonest a r.areas → AllMergeTo a r.geometry r.areas content numbers
+
   -- What is known of one area of the store: no position is dirty, a log begins with no open gate, and the area of a segment
   -- has each of its pages.
   pub record IsFinishedArea (r : RecoveredStore D) (k : ℕ) (area : D) : Type 0 where
@@ -76,22 +90,3 @@ module _ {D : Type 0} (a : Ghosts D) where
   -- so is each area that keeps to the model of a disk, whatever the others do
   abbrev pub AreFinished : RecoveredStore D → Type 0
   AreFinished r = (k : ℕ) (area : D) → slice_get r.areas k ≡ Some area → a.honest area ≡ true → IsFinishedArea r k area
-
-  -- The areas are the whole of a store that was merged: each page on which some record is newer has its part of the result,
-  -- under its segment's number, and any other is as it was read; the logs are empty, and no position is dirty.
-  pub record IsFinished (r : RecoveredStore D) : Type 0 where
-    pub store : Store
-    pub content : Content
-    pub numbers : ℕ → ℕ
-    pub merges : MergesTo store content numbers
-    pub readable : IsReadable r.geometry store
-    pub all : AllMergeTo a r.geometry r.areas content numbers
-    pub sequences : (segment : ℕ) → 1 ≤ segment → segment ≤ r.geometry.segments → sequence_of r segment ≡ numbers segment
-    pub small : (segment : ℕ) → 1 ≤ segment → segment ≤ r.geometry.segments → numbers segment ≤ 2 ^ 60
-    pub renewed : AreRenewed store content numbers (page_read_of r)
-    pub clean : (k : ℕ) (area : D) → slice_get r.areas k ≡ Some area → IsClean (a.dirty area)
-    pub closed : (log : ℕ) (area : D) → log < r.geometry.nodes → slice_get r.areas log ≡ Some area → slice_index (a.now area) 0 % 256 ≢ 165
-    pub texts : (s page : ℕ) (area : D) → slice_get r.areas (r.geometry.nodes + s) ≡ Some area → page < r.geometry.pages →
-        text_in (a.now area) page ≡ (page_of r (s + 1) page).text
-    pub reads : (s page : ℕ) (area : D) → slice_get r.areas (r.geometry.nodes + s) ≡ Some area → page < r.geometry.pages →
-        page_in (a.now area) page ≡ record { sequence = (page_of r (s + 1) page).text.seq; content = (page_of r (s + 1) page).bytes }

@@ -5,12 +5,14 @@ use Rattle.lc_record.specs.declared.geometry.Geometry.{Geometry}
 use Rattle.lc_record.specs.Content.{Content, segment_of}
 use Rattle.lc_model.specs.Merge.{Page, Store, MergesTo}
 use Rattle.lc_model.specs.Recovered.{IsBehind}
+use Rattle.lc_recover.specs.Fault.{IsRefusal}
 use Rattle.lc_recover.specs.Kept.{HasNewer}
 use Rattle.lc_recover.specs.Page.{ArePagesAscending}
-use Rattle.lc_recover.specs.Reads.{area_count, store_of, AllMergeTo}
+use Rattle.lc_recover.specs.Reads.{area_count, area_len, store_of, AllMergeTo}
 use Rattle.lc_recover.specs.Shows.{new_page}
 use Rattle.lc_recover.specs.Stage.{Fits, OneCall}
 use Rattle.lc_recover.specs.Steps.{first_steps, steps_of, pages_in, HasNext, pages_left, pages_kept}
+use Rattle.lc_recover.specs.declared.fault.RecoverFault.{RecoverFault}
 use Rattle.lc_recover.specs.declared.progress.Progress.{Progress}
 use Rattle.lc_recover.specs.declared.progress.Progress.TheVariants.{Stepped, Recovered}
 use Rattle.lc_recover.specs.declared.stage.Stage.{Stage}
@@ -83,6 +85,25 @@ pub record AreBehind (store : Store) (pages : List (ℕ × ℕ)) : Type 0 where
   pub ascending : ArePagesAscending pages
   pub all : (segment page : ℕ) → Contains pages (segment, page)
       ↔ ((text : Page) × (slice_get (segment_of segment store.pages) page ≡ Some text) × IsBehind store segment page text)
+
+-- what was read of areas, each as long as the geometry says
+pub record AreLong (g : Geometry) (bytes : List (List ℕ)) : Type 0 where
+  pub count : length bytes ≡ area_count g
+  pub lengths : (k : ℕ) (area : List ℕ) → slice_get bytes k ≡ Some area → Some (length area) ≡ area_len g k
+
+-- it merges, without a refusal
+pub record MergesRead (g : Geometry) : Type 0 where
+  pub bytes : List (List ℕ)
+  pub long : AreLong g bytes
+  pub content : Content
+  pub numbers : ℕ → ℕ
+  pub merges : MergesTo (store_of g bytes) content numbers
+
+-- it is refused so, or memory was wanted
+pub record RefusesRead (g : Geometry) (fault : RecoverFault) : Type 0 where
+  pub bytes : List (List ℕ)
+  pub long : AreLong g bytes
+  pub refuses : IsRefusal (store_of g bytes) fault
 
 -- the store merges to some result, and some record is newer than a page of it
 pub record HasPageToWrite (store : Store) : Type 0 where

@@ -5,7 +5,7 @@ ghost use Rattle.lc_recover.specs.Fault.{IsRefusal};
 ghost use Rattle.lc_recover.specs.KeptAreas.{IsReadWhole, read_count};
 ghost use Rattle.lc_recover.specs.Merging.{IsMergedStage};
 ghost use Rattle.lc_recover.specs.Reads.{AreHonest, AllMergeTo, store_of};
-ghost use Rattle.lc_recover.specs.Recovery.{begun, recovering, HasPageToWrite, Renews, IsGoing, IsMerged, IsMergeNext, MakesItsCall, TakesMemory};
+ghost use Rattle.lc_recover.specs.Recovery.{begun, recovering, HasPageToWrite, Renews, IsGoing, IsMerged, IsMergeNext, MakesItsCall, MergesRead, RefusesRead, TakesMemory};
 ghost use Rattle.lc_recover.specs.Stopped.{IsStopped};
 ghost use Rattle.lc_recover.specs.Stage.{AreasFit, Fits};
 ghost use Rattle.lc_recover.specs.Steps.{first_steps, steps_of, all_pages, pages_in, HasNext, IsOver};
@@ -58,6 +58,8 @@ pub(crate) fn advance<D: Area>(
         → IsMerged D.Area (recovering geometry.now areas.old next)) }
     ensures refused { IfErr result (λ stopped. IsMergeNext (recovering geometry.now areas.old stage) → AreHonest D.Area areas.old
         → IsRefusal (store_of geometry.now (map D.now areas.old)) stopped.fault) }
+    ensures told { IfOk result (λ next. IsMergeNext (recovering geometry.now areas.old stage) → MergesRead geometry.now) }
+    ensures told_refused { IfErr result (λ stopped. IsMergeNext (recovering geometry.now areas.old stage) → RefusesRead geometry.now stopped.fault) }
     ensures merge_fault { IfErr result (λ stopped. IsMergeNext (recovering geometry.now areas.old stage) → stopped.fault ≢ Failed) }
     ensures no_memory_merged { IfErr result (λ stopped. stopped.fault ≡ NoMemory → IsMergeNext (recovering geometry.now areas.old stage)
         → AreHonest D.Area areas.old → HasPageToWrite (store_of geometry.now (map D.now areas.old))) }

@@ -43,8 +43,8 @@ impl<D: Area> Model for Recovery<D> {
 }
 
 impl<D: Area> Recovery<D> {
-    ghost use Rattle.lc_recover.specs.Recovered.{AreFinished, IsFinished, page_read};
-    ghost use Rattle.lc_recover.specs.Recovery.{Recovering, all_steps, begun, HasPageToWrite, IsDone, IsLast, IsMergeNext, IsMerged, IsReadFrom, MakesItsCall, Renews, TakesMemory, Tells};
+    ghost use Rattle.lc_recover.specs.Recovered.{AreFinished, IsMade, page_read};
+    ghost use Rattle.lc_recover.specs.Recovery.{Recovering, all_steps, begun, HasPageToWrite, IsDone, IsLast, IsMergeNext, IsMerged, IsReadFrom, MakesItsCall, MergesRead, RefusesRead, Renews, TakesMemory, Tells};
 
     /// Begins the recovery of these areas. It takes no memory and calls no area. Where one has a length that is not
     /// that of the geometry, is missing, or is too many, the least such index is named, and the areas come back.
@@ -107,6 +107,9 @@ impl<D: Area> Recovery<D> {
         // It wants memory only where it is not refused and some page is to be written.
         ensures no_memory_merged { result ≡ Err NoMemory → IsMergeNext self.old → AreHonest D.Area self.old.areas
             → HasPageToWrite (store_of self.old.geometry (map D.now self.old.areas)) }
+        // Whatever the areas are, it is refused just where what was read of them has to be.
+        ensures told { OnOk result (IsMergeNext self.old → MergesRead self.old.geometry) }
+        ensures told_refused { IfErr result (λ fault. IsMergeNext self.old → RefusesRead self.old.geometry fault) }
         ensures merge_fault { IfErr result (λ fault. IsMergeNext self.old → fault ≢ Failed) }
         ensures accepted { (content : Content) (numbers : ℕ → ℕ) → AreHonest D.Area self.old.areas
             → AllMergeTo D.Area self.old.geometry self.old.areas content numbers
@@ -232,7 +235,8 @@ impl<D: Area> Recovery<D> {
         ensures lengths { HaveLengths D.Area result.geometry result.areas }
         ensures all { self.left ≡ [] }
         ensures kept { map (map page_read) result.pages ≡ self.kept }
-        ensures finished { AreHonest D.Area self.areas → IsFinished D.Area result }
+        // Whatever the areas are, it is what the reads of them gave, merged.
+        ensures made { IsMade D.Area result }
         ensures each { AreFinished D.Area result }
     {
         let Recovery {

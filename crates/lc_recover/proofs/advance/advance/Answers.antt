@@ -1,7 +1,7 @@
 use Rattle.std.proofs.Common.{◌≡◌, length, map, false, true, sym, ap, subst, arith, inr}
 use Rattle.std.specs.Prelude.{Result, Ok, Err, IfOk, IfErr}
 use Rattle.std.proofs.lemmas.Result.{err_from_is_err_and}
-use Rattle.lc_recover.proofs.Going.{merged-now, read-now}
+use Rattle.lc_recover.proofs.Going.{all-read, merged-now, read-now}
 use Rattle.lc_recover.proofs.ReadLemmas.{count-read}
 use Rattle.lc_recover.specs.KeptAreas.{IsReadWhole, read_count}
 use Rattle.lc_recover.specs.Reads.{AreHonest}
@@ -29,6 +29,28 @@ module _ (g : Over) (c : goal.After-merge_step g) where
 
   whole : AreHonest g.D.Area c.args.areas.now → IsReadWhole c.args.geometry.now (map g.D.Area.now c.args.areas.now) c.in-Reading.read
   whole honest = read-now g.D.Area c.args.geometry.now c.args.areas.now c.in-Reading.read going.fits honest all
+
+  -- what was read, whatever the areas are
+  own : IsReadWhole c.args.geometry.now going.fits.1.0 c.in-Reading.read
+  own = all-read g.D.Area c.args.geometry.now c.args.areas.now c.in-Reading.read going.fits all
+
+pub returns-else-count-areas-clause-told : goal.returns-else-count-areas-clause-told
+returns-else-count-areas-clause-told g c = if_ok c.merge_step.result _ _ c.merge_step.ensures.merged (λ next merged here.
+    let its = merged (going g c).fits.1.0 (own g c) in
+    record {
+      bytes = (going g c).fits.1.0;
+      long = record { count = (own g c).count; lengths = (own g c).first.lengths };
+      content = its.content;
+      numbers = its.numbers;
+      merges = its.merges;
+    })
+
+pub returns-else-count-areas-clause-told_refused : goal.returns-else-count-areas-clause-told_refused
+returns-else-count-areas-clause-told_refused g c = if_err c.merge_step.result _ _ c.merge_step.ensures.refused (λ stopped refusal here. record {
+  bytes = (going g c).fits.1.0;
+  long = record { count = (own g c).count; lengths = (own g c).first.lengths };
+  refuses = refusal (going g c).fits.1.0 (own g c);
+})
 
 pub returns-else-count-areas-clause-merged : goal.returns-else-count-areas-clause-merged
 returns-else-count-areas-clause-merged g c =

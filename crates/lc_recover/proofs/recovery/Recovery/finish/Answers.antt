@@ -1,12 +1,11 @@
 use Rattle.std.proofs.Common.{map, sym, ◌∙◌, ap, subst}
-use Rattle.lc_recover.specs.Reads.{AreHonest}
 use Rattle.lc_recover.specs.Recovery.{Recovering, IsDone}
 use Rattle.lc_recover.specs.Recovered.{RecoveredStore, page_read}
 use Rattle.lc_recover.specs.Stage.{Fits}
 use Rattle.lc_recover.specs.Steps.{pages_kept}
 use Rattle.lc_recover.specs.declared.stage.Stage.{Stage}
 use Rattle.lc_recover.specs.declared.stage.Stage.TheVariants.{Done}
-use Rattle.lc_recover.proofs.FinishedStore.{areas_finished, areas_long, finished, has_pages}
+use Rattle.lc_recover.proofs.FinishedStore.{areas_finished, areas_long, has_pages, made}
 use Rattle.lc_recover.proofs.Going.{not_over-done, not_done}
 use Rattle.lc_recover.proofs.Renewing.{handed-out}
 use Rattle.lc_recover.proofs.recovery.Recovery.finish.Goals as goal
@@ -31,13 +30,12 @@ returns-clause-lengths g c =
     subst (λ (s : Stage). Fits g.D.Area inside.geometry s inside.areas.items) c.in-Done.is c.self.invariant.fits in
     areas_long g.D.Area inside.geometry c.in-Done.finished inside.areas.items fits.0 fits.1.1 fits.1.0 fits.1.2 fits.1.3 c.new.result c.new.ensures
 
-pub returns-clause-finished : goal.returns-clause-finished
-returns-clause-finished g c honest =
+pub returns-clause-made : goal.returns-clause-made
+returns-clause-made g c =
     let inside = c.self.inside in
     let fits : Fits g.D.Area inside.geometry (Done c.in-Done.finished) inside.areas.items =
     subst (λ (s : Stage). Fits g.D.Area inside.geometry s inside.areas.items) c.in-Done.is c.self.invariant.fits in
-    let own : AreHonest g.D.Area inside.areas.items = subst (λ (r : Recovering g.row.D.Denot). AreHonest g.D.Area r.areas) (sym c.self.view_is) honest in
-    finished g.D.Area inside.geometry c.in-Done.finished inside.areas.items fits.0 fits.1.1 fits.1.0 fits.1.2 fits.1.3 c.new.result c.new.ensures own
+    made g.D.Area inside.geometry c.in-Done.finished inside.areas.items fits.0 fits.1.1 fits.1.0 fits.1.2 fits.1.3 c.new.result c.new.ensures
 
 pub returns-clause-each : goal.returns-clause-each
 returns-clause-each g c =

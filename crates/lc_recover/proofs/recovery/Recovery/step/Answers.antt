@@ -1,6 +1,7 @@
 use Rattle.std.proofs.Common.{◌≡◌, ◌+◌, ◌++◌, List, map, length, take, drop, refl, ◌∙◌, sym, ap, subst, arith, inl, inr, true, false, Err}
 use Rattle.std.proofs.lemmas.Bool.{cases_eq}
 use Rattle.std.proofs.lemmas.Result.{IfErr-at_err}
+use Rattle.lc_recover.specs.Fault.{IsRefusal}
 use Rattle.lc_recover.specs.Reads.{AreHonest, AreOfBytes, AllMergeTo, HaveLengths, store_of}
 use Rattle.lc_recover.specs.Steps.{first_steps}
 use Rattle.lc_recover.proofs.Exclusive.{merge-accepted}
@@ -8,7 +9,7 @@ use Rattle.lc_recover.proofs.StillHonest.{AsHonest, step-honest}
 use Rattle.lc_recover.proofs.Going.{over-done, done-last, started, merges-carried, written-back, call-carried, reads-carried, clean-so_far}
 use Rattle.lc_recover.proofs.StepsBound.{steps-bound}
 use Rattle.lc_recover.proofs.Showing.{have-lengths}
-use Rattle.lc_recover.specs.Recovery.{Recovering, recovering, HasPageToWrite, IsDone, IsLast, IsMergeNext, IsMerged, IsGoing, Renews}
+use Rattle.lc_recover.specs.Recovery.{Recovering, recovering, HasPageToWrite, IsDone, IsLast, IsMergeNext, IsMerged, IsGoing, MergesRead, RefusesRead, Renews}
 use Rattle.lc_recover.specs.declared.fault.RecoverFault.{RecoverFault}
 use Rattle.lc_recover.specs.declared.fault.RecoverFault.TheVariants.{NoMemory}
 use Rattle.lc_recover.specs.declared.stage.Stage.{Stage}
@@ -197,3 +198,20 @@ returns-in-Err-clause-no_memory_merged g c wants =
     let fault : c.in-Err.stopped.fault ≡ NoMemory = sym (IfErr-at_err (λ (f : RecoverFault). f ≡ c.in-Err.stopped.fault) wants refl) in
     subst (λ (r : Recovering g.row.D.Denot). IsMergeNext r → AreHonest g.D.Area r.areas → HasPageToWrite (store_of r.geometry (map g.D.Area.now r.areas))) (start-stopped g c)
     (c.in-Err.ensures.no_memory_merged fault)
+
+-- What was read, whatever the areas are
+
+pub returns-in-Ok-clause-told : goal.returns-in-Ok-clause-told
+returns-in-Ok-clause-told g c next =
+    subst (λ (r : Recovering g.row.D.Denot). MergesRead r.geometry) (start g c)
+    (c.in-Ok.ensures.told (subst (λ (r : Recovering g.row.D.Denot). IsMergeNext r) (sym (start g c)) next))
+
+pub returns-in-Err-clause-told_refused : goal.returns-in-Err-clause-told_refused
+returns-in-Err-clause-told_refused g c next =
+    subst (λ (r : Recovering g.row.D.Denot). RefusesRead r.geometry c.in-Err.stopped.fault) (start-stopped g c)
+    (c.in-Err.ensures.told_refused (subst (λ (r : Recovering g.row.D.Denot). IsMergeNext r) (sym (start-stopped g c)) next))
+
+pub returns-in-Err-clause-refused : goal.returns-in-Err-clause-refused
+returns-in-Err-clause-refused g c =
+    subst (λ (r : Recovering g.row.D.Denot). IsMergeNext r → AreHonest g.D.Area r.areas → IsRefusal (store_of r.geometry (map g.D.Area.now r.areas)) c.in-Err.stopped.fault) (start-stopped g c)
+    c.in-Err.ensures.refused
