@@ -4,6 +4,7 @@ use Rattle.std.specs.Prelude.{slice_get}
 use Rattle.std.proofs.lemmas.List.{length-replicate}
 use Rattle.std.proofs.lemmas.Option.{slice_get_within}
 use Rattle.lc_disk.specs.declared.area.Area.{Ghosts}
+use Rattle.lc_core.specs.HonestAreas.{HonestUp}
 use Rattle.lc_core.specs.Pages.{FitsArea, IsPageAt}
 use Rattle.lc_core.specs.World.{FitsUp}
 use Rattle.lc_core.specs.declared.page_state.PageState.{PageState}
@@ -21,8 +22,7 @@ module _ {D : Type 0} (a : Ghosts D) (f : Found) where
 
   area-fits : (segment : ℕ) (pages : Pages D a) → IsAdoptedArea a f segment pages → FitsArea a f.geometry segment pages (numbers_of f)
   area-fits segment pages new = record {
-    honest = new.honest;
-    bytes = new.bytes;
+    bytes = λ honest. new.bytes;
     count = ap (λ (ws : List PageState). length ws) new.rest ∙ length-replicate f.geometry.pages AtRest;
     each = λ page here at.
         (let within = slice_get_within pages.writes.items page here at in
@@ -36,6 +36,8 @@ module _ {D : Type 0} (a : Ghosts D) (f : Found) where
   up-fits up is new = record {
     running = adopted-fits a f up.running is new.running;
     pages = record { all_segments = new.count; each = λ k pages at. area-fits (k + 1) pages (new.areas k pages at) };
-    honest = new.honest;
     failed = λ k pages at page failed. absurd (let no : AtRest ≡ Failed = at-rest pages (k + 1) page Failed (new.areas k pages at) failed in cc);
   }
+
+  pub up-honest : (up : UpStore D a) → IsAdoptedUp a f up → HonestUp a up
+  up-honest up new = record { logs = new.honest; segments = λ k pages at. (new.areas k pages at).honest }

@@ -140,7 +140,7 @@ module _ {D : Type 0} (a : Ghosts D) where
   asks_in : (phase : Phase D a) (event : Event) (m : Setting) (s : State) (x : Numbers) → AsksIn a phase event → FitsPhase a m phase s x → EventAsks m s x event
   asks_in (Down r) RecoverStep m s x asks fits = (let down = down_fits r m s x fits in (recovers_down m s down, (down, room_taken r m s x fits asks)))
   asks_in (Down r) event m s x asks fits = absurd asks
-  asks_in (Up up) event m s x asks fits = (sym (asks.0 m s x fits.running), grows up.running event m s x fits.running asks.1)
+  asks_in (Up up) event m s x asks fits = (sym (asks.0 m s x fits.0.running), grows up.running event m s x fits.0.running asks.1)
   asks_in Taken event m s x asks fits = absurd asks
 
   pub asks_world : (w : World D a) (event : Event) → AsksIn a w.phase event → AsksWorld a w event

@@ -196,7 +196,7 @@ module _ (m : Setting) (numbers : ℕ → ℕ) (s : State) (x : Numbers) (after 
     | inr more ↦ elim more [
       | inl fault ↦ absurd (let no = fault.0 in cc)
       | inr done ↦
-          ap (λ (y : Numbers). y.disks.numbers) turns.2 ∙ ap (λ (q : Condition). kept_numbers q s x) is ∙ ap (λ (n : ℕ → ℕ). counted_all n (kept s.history cut)) counts
+          ap (λ (y : Numbers). y.disks.numbers) turns.3 ∙ ap (λ (q : Condition). kept_numbers q s x) is ∙ ap (λ (n : ℕ → ℕ). counted_all n (kept s.history cut)) counts
           ∙ sym (counted_all-append numbers s.earlier (kept s.history cut)) ∙ ap (λ (v : State). counted_all numbers v.earlier) (sym done.1)
     ]
   ]

@@ -158,7 +158,7 @@ module _ {D : Type 0} (a : Ghosts D) where
   -- whatever state and numbers the store fits
   pub blocked_same : (m : Setting) (s : State) (x : Numbers) (phase : Stands D a) → FitsPhase a m phase s x → (node k page : ℕ) → s.halted node ≡ false → k < m.geometry.segments → page < m.geometry.pages
       → IsBlocked a phase node (k + 1) page ↔ (is_blocked_then s x node (k + 1) page ≡ true)
-  blocked_same m s x (Up up) fits node k page awake inside within =
+  blocked_same m s x (Up up) (fits, honest) node k page awake inside within =
       let same = up_same m s x up fits node k page awake inside within in
       let stands : is_up s.phase ≡ true = ap is_up fits.running.up in
       let at : (k + 1) - 1 ≡ k = omega arith in (

@@ -19,17 +19,20 @@ use Rattle.lc_core.specs.ComingUp.{ComesUpBy, RecoversIn, RecoversTo, WantsToRec
 use Rattle.lc_core.specs.FaultReplies.{is_unknown}
 use Rattle.lc_core.specs.Faults.{CountsPhase, phase_failures}
 use Rattle.lc_core.specs.Geometries.{phase_geometry}
+use Rattle.lc_core.specs.Lives.{Anyhow, FitsLife, IsBorn, IsNewborn}
 use Rattle.lc_core.specs.Observed.{stands_up}
 use Rattle.lc_core.specs.Recovering.{RepliesTo, is_of_recovery}
 use Rattle.lc_core.specs.Recovers.{RecoversDown, RefusesAtOnce}
-use Rattle.lc_core.specs.World.{AsksIn, FollowsWorld, StillFitsWorld}
+use Rattle.lc_core.specs.World.{AsksIn, BeginsAnew, FollowsWorld, StillFitsWorld}
 use Rattle.lc_core.specs.declared.call_fault.CallFault.{CallFault}
 use Rattle.lc_core.specs.declared.call_fault.CallFault.TheVariants.{NoMemory, Refused as IsRefused}
 use Rattle.lc_core.specs.declared.phase.Phase.{Phase}
 use Rattle.lc_core.specs.declared.phase.Phase.TheVariants.{Down, Up, Taken}
+use Rattle.lc_core.specs.declared.up.Up.{Up as Rising}
 use Rattle.lc_core.specs.declared.world.World.{World}
 use Rattle.lc_core.proofs.Asking.{asks_world}
 use Rattle.lc_core.proofs.Geometries.{recovers_outside}
+use Rattle.lc_core.proofs.Living.{born}
 use Rattle.lc_core.proofs.Recoveries.{if_ok_at}
 
 -- a step of a recovery answers nothing else
@@ -50,10 +53,11 @@ module _ {D : Type 0} (a : Ghosts D) where
   -- One step
 
   pub one_step : (old new : World D a) (reply : Reply) → FollowsWorld a old RecoverStep reply new → RefusesAtOnce a old.phase RecoverStep reply new.phase → CountsPhase a old.phase reply new.phase
-      → phase_geometry a new.phase ≡ phase_geometry a old.phase → is_unknown reply ≡ false → CallsArea a old.phase new.phase → RecoversDown a old.phase reply new.phase → RecoversTo a old reply new
-  one_step old new reply follows at_once faults geometry known calls recovers = record {
+      → phase_geometry a new.phase ≡ phase_geometry a old.phase → is_unknown reply ≡ false → CallsArea a old.phase new.phase → RecoversDown a old.phase reply new.phase → Anyhow a old.phase RecoverStep reply new.phase → RecoversTo a old reply new
+  one_step old new reply follows at_once faults geometry known calls recovers anyhow = record {
     steps = record {
       follows = follows;
+      anyhow = anyhow;
       at_once = at_once;
       faults = faults;
       geometry = geometry;
@@ -166,6 +170,18 @@ module _ {D : Type 0} (a : Ghosts D) where
       let turn = turn_of old.phase (Refused refusal) new.phase is steps.steps.at_once in
       (turn_is (Err (IsRefused refusal)) (Refused refusal) refl turn.0, turn.1)
   at_once_turn (suc more) old result new steps is = (let goes = goes_on old.phase steps.1.phase steps.0 steps.2.steps.at_once steps.2.recovers in absurd (true≢false (sym is ∙ goes.down)))
+
+  born_up : (g : Geometry) (up : Rising D a) (phase : Phase D a) → phase ≡ Up up → BeginsAnew a g up → IsNewborn a phase
+  born_up g up phase is begins =
+      let its = born a g up begins in
+      (its.0, subst (λ (h : Geometry). IsBorn h its.0) (sym its.3) its.1, subst (λ (p : Phase D a). FitsLife a its.0.setting.geometry (Some its.0) p) (sym is) (its.2, refl))
+
+  -- what comes up is born
+  pub newborn : (old new : World D a) → RecoversTo a old Recovered new → IsNewborn a new.phase
+  newborn old new to =
+      let there = was_down old.phase Recovered new.phase to.steps.at_once (λ is. absurd cc) in
+      let up = to.steps.anyhow.begins refl refl there.0 there.1 in
+      born_up there.0.geometry up.0 new.phase up.1 up.2
 
   -- What came of the call
 

@@ -130,7 +130,7 @@ module _ {D : Type 0} (a : Ghosts D) where
   -- whatever state and numbers the store fits
   pub due_same : (m : Setting) (s : State) (x : Numbers) (phase : Stands D a) → FitsPhase a m phase s x → (node k page : ℕ) → k < m.geometry.segments → page < m.geometry.pages
       → is_due a phase node (k + 1) page ≡ is_due_then s x node (k + 1) page
-  due_same m s x (Up up) fits node k page inside within =
+  due_same m s x (Up up) (fits, honest) node k page inside within =
       ap (λ (i : ℕ). due_at (k + 1) page (begun_in page (slice_get up.segments.items i)) (slice_get up.running.nodes.items node)) (back m s x up fits node k page inside within)
       ∙ up_same m s x up fits node k page inside within
       ∙ ap (λ (p : Phase). is_up p && (is_at node (s.place (k + 1)) && is_unwritten x (k + 1) page)) (sym fits.running.up)

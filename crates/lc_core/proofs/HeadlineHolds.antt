@@ -55,6 +55,7 @@ use Rattle.lc_core.proofs.ImagesFit.{images_merge, stopped_again, stopped_honest
 use Rattle.lc_core.proofs.OneMore.{run_of}
 use Rattle.lc_core.proofs.Recoveries.{none_common}
 use Rattle.lc_core.proofs.Shown.{slot_shows}
+use Rattle.lc_core.proofs.StaysHonest.{all_areas}
 use Rattle.lc_core.proofs.Stopped.{are_of, areas_failed, their_honesty, their_lengths}
 
 -- Failures, added up
@@ -196,17 +197,16 @@ module _ {D : Type 0} (a : Ghosts D) where
         ];
       }
 
-  areas_there : (phase : Phase D a) (m : Setting) (s : State) (x : Numbers) → FitsPhase a m phase s x → (areas : List D) × HasAreas a phase m.geometry areas
+  pub areas_there : (phase : Phase D a) (m : Setting) (s : State) (x : Numbers) → FitsPhase a m phase s x → (areas : List D) × HasAreas a phase m.geometry areas
   areas_there (Down r) m s x h = (r.areas, (sym h.geometry_is, refl))
   areas_there (Up up) m s x h =
-      let logs = gathered up.running.nodes.items (λ n node at. (let area = log_area_of a (8 * (up.running.geometry.words + 1)) up.running.nodes.items up.logs n node at in (area.0, area.1))) in
-      let all = logs.logs ++ areas_of a up.segments.items in
-      (all, (h.running.geometry_is, are_of a up logs.logs all logs.each (logs.count ∙ sym up.running.nodes.ok.0) refl))
+      let all = all_areas a up in
+      (all.0, (h.0.running.geometry_is, all.1))
   areas_there Taken m s x h = absurd h
 
   up_as : (phase : Phase D a) (m : Setting) (s : State) (x : Numbers) → FitsPhase a m phase s x → stands_up a phase ≡ is_up s.phase
   up_as (Down r) m s x h = sym (ap is_up h.down)
-  up_as (Up up) m s x h = sym (ap is_up h.running.up)
+  up_as (Up up) m s x h = sym (ap is_up h.0.running.up)
   up_as Taken m s x h = absurd h
 
   -- their failures
@@ -234,17 +234,17 @@ module _ {D : Type 0} (a : Ghosts D) where
         };
       }
   area_left (Up up) m s x numbers failures counts failed h areas are =
-      let honest = their_honesty a up areas are.1 m s x h in
+      let honest = their_honesty a up areas are.1 h.1 in
       record {
-        lengths = subst (λ (g : Geometry). HaveLengths a g areas) (sym h.running.geometry_is) (their_lengths a up areas are.1);
+        lengths = subst (λ (g : Geometry). HaveLengths a g areas) (sym h.0.running.geometry_is) (their_lengths a up areas are.1);
         honest = honest;
         faults = failed_so (Up up) m failures areas are failed;
         left = λ images left.
-            let one = images_merge a m s x up areas images h.running h.pages honest are.1 left in
+            let one = images_merge a m s x up areas images h.0.running h.0.pages honest are.1 left in
             record {
               cut = one.0;
-              cuts = subst (λ (p : Condition). Cuts p m.geometry s one.0) (sym h.running.up) one.1;
-              serial = cut_serial m s one.0 h.running.sound one.1;
+              cuts = subst (λ (p : Condition). Cuts p m.geometry s one.0) (sym h.0.running.up) one.1;
+              serial = cut_serial m s one.0 h.0.running.sound one.1;
               merges = merges_so m s x numbers counts one.0 images one.2;
             };
       }
@@ -253,7 +253,7 @@ module _ {D : Type 0} (a : Ghosts D) where
   -- the areas that a store has are of the geometry that it fits
   geometry_of : (phase : Phase D a) (m : Setting) (s : State) (x : Numbers) (g : Geometry) (areas : List D) → FitsPhase a m phase s x → HasAreas a phase g areas → g ≡ m.geometry
   geometry_of (Down r) m s x g areas h are = are.0 ∙ h.geometry_is
-  geometry_of (Up up) m s x g areas h are = are.0 ∙ sym h.running.geometry_is
+  geometry_of (Up up) m s x g areas h are = are.0 ∙ sym h.0.running.geometry_is
   geometry_of Taken m s x g areas h are = absurd h
 
   -- what is lent of a page is its part of the node's image
@@ -263,17 +263,25 @@ module _ {D : Type 0} (a : Ghosts D) where
       let its = lends.0 in
       let slot = lends.1 in
       let slots = its.desk.here.slots in
-      let one = h.running.each node its lends.3 in
+      let one = h.0.running.each node its lends.3 in
       let inside : segment - 1 < length slots.items = slice_get_within slots.items (segment - 1) slot lends.4 in
       let count : slots.len ≡ up.running.geometry.segments = (up.running.whole node its lends.3).slots in
-      let below : segment - 1 < m.geometry.segments = omega (arith, inside, count, slots.ok.0, ap (λ (g : Geometry). g.segments) h.running.geometry_is) in
+      let below : segment - 1 < m.geometry.segments = omega (arith, inside, count, slots.ok.0, ap (λ (g : Geometry). g.segments) h.0.running.geometry_is) in
       let same : suc (segment - 1) ≡ segment = omega (arith, lends.2) in
       lends.5
       ∙ ap (λ (image : List ℕ). page_of image page)
       (subst (λ (n : ℕ). slot.image.bytes.items ≡ image_of m s x node n) same
-      (slot_shows m node its.desk.here its.desk.seats.items s h.running.sound one.desk x one.slots (segment - 1) slot lends.4 below))
+      (slot_shows m node its.desk.here its.desk.seats.items s h.0.running.sound one.desk x one.slots (segment - 1) slot lends.4 below))
   lent_shows (Down r) m s x node segment page bytes h lends = absurd lends
   lent_shows Taken m s x node segment page bytes h lends = absurd lends
+
+  -- so it is of any store that fits
+  pub fits_leaves : (m : Setting) (s : State) (x : Numbers) (phase : Phase D a) (numbers : ℕ → ℕ) (g : Geometry) (areas : List D) → FitsPhase a m phase s x → Counts numbers s x → HasAreas a phase g areas
+      → (g ≡ m.geometry) × Leaves a m s numbers (sum_by a.failures areas) areas
+  fits_leaves m s x phase numbers g areas h counts are =
+      let same = geometry_of phase m s x g areas h are in
+      let leaves = area_left phase m s x numbers _ counts refl h areas (subst (λ (shape : Geometry). HasAreas a phase shape areas) same are) in
+      (same, subst (λ (n : ℕ). Leaves a m s numbers n areas) (sym leaves.faults) leaves)
 
   -- the headline, of a run from a store that fits the first state
   pub holds : (m : Setting) (x : Numbers) (numbers : ℕ → ℕ) (old new : World D a) (events : List Event) (replies : List Reply) → x.disks.numbers ≡ numbers → FitsWorld a m old (first_state m.geometry) x

@@ -1,5 +1,5 @@
 -- What a stop may leave of the areas of a store that is up merges to what a cut keeps, and so do the areas behind the stop.
-use Rattle.std.proofs.Common.{◌≡◌, ℕ, zero, suc, ◌+◌, ◌<◌, List, [], ◌∷◌, ◌++◌, length, map, take, None, Some, get_or, refl, sym, ap, subst, ◌∙◌, arith}
+use Rattle.std.proofs.Common.{true, ◌≡◌, ℕ, zero, suc, ◌+◌, ◌<◌, List, [], ◌∷◌, ◌++◌, length, map, take, None, Some, get_or, refl, sym, ap, subst, ◌∙◌, arith}
 use Rattle.std.specs.Prelude.{slice_get, slice_index, slice_index_or}
 use Rattle.std.proofs.lemmas.List.{ext_get_or, length-map, length-take-le}
 use Rattle.std.proofs.lemmas.Option.{get_or_from_slice_get, slice_get-get_or, slice_get_within}
@@ -94,7 +94,7 @@ module _ {D : Type 0} (a : Ghosts D) where
         (subst (λ (l : List ℕ). IsImage (a.now device.0) (a.dirty device.0) l) image_is (are.each (m.geometry.nodes + its.before) device.0 device.1)) in
         subst (λ (n : ℕ). Shows x.disks n page text) (sym its.next)
         (shows_stored (its.before + 1) page its.image x text
-        (images_stored a m.geometry (its.before + 1) page one.0 x its.image (pages.each its.before one.0 one.1) its.within left)
+        (images_stored a m.geometry (its.before + 1) page one.0 x its.image (subst (λ (d : D). a.honest d ≡ true) (sym one.2) (honest (m.geometry.nodes + its.before) device.0 device.1)) (pages.each its.before one.0 one.1) its.within left)
         its.text_is)
 
     -- each choice of images of the areas is one that the machine allows, cut so

@@ -45,7 +45,10 @@ use Rattle.lc_core.proofs.NodeSteps.{desk_steps, follows_there}
 use Rattle.lc_core.proofs.OneArea.{calls_none, step_calls, up_calls}
 use Rattle.lc_core.proofs.Ordinary.{follows_step, refused_step}
 use Rattle.lc_core.proofs.OwnReplies.{own_known, own_no_fault}
+use Rattle.lc_core.specs.Lives.{Anyhow}
+use Rattle.lc_core.proofs.Living.{others_told, up_told}
 use Rattle.lc_core.proofs.Recoveries.{not_up, runs_up, up_follows}
+use Rattle.lc_core.proofs.StaysHonest.{stays_honest}
 use Rattle.lc_core.proofs.Recovers.{down_refuses, up_asks}
 use Rattle.lc_core.proofs.Seating.{set_same}
 
@@ -111,7 +114,8 @@ module _ {D : Type 0} (a : Ghosts D) where
   pub steps_up : (old new : World D a) (up later : Rising D a) (event : Event) (reply : Reply) → old.phase ≡ Up up → new.phase ≡ Up later → (event ≡ RecoverStep → ⊥) → StepsUp a up event reply later
       → StepsTo a old event reply new
   steps_up old new up later event reply was is other steps = record {
-    follows = λ m s x h. subst (λ (p : Phase D a). Leads a m event s x reply p) (sym is) (up_follows a old.phase up later event reply was steps.follows m s x h);
+    follows = λ m s x h. subst (λ (p : Phase D a). Leads a m event s x reply p) (sym is) (up_follows a old.phase up later event reply was steps.follows (stays_honest a up later steps.calls) m s x h);
+    anyhow = subst (λ (p : Phase D a). Anyhow a old.phase event reply p) (sym is) (up_told a old.phase up later event reply was other steps.follows);
     at_once = up_asks a old.phase up was event other reply new.phase;
     faults =
         subst (λ (p : Phase D a). CountsPhase a old.phase reply p) (sym is) (subst (λ (p : Phase D a). CountsPhase a p reply (Up later)) (sym was) steps.faults);
@@ -124,6 +128,7 @@ module _ {D : Type 0} (a : Ghosts D) where
   pub steps_down : (old new : World D a) → new.phase ≡ old.phase → (event : Event) → works_up event ≡ true → ((up : Rising D a) → old.phase ≡ Up up → ⊥) → StepsTo a old event (Refused IsDown) new
   steps_down old new same event works other = record {
     follows = λ m s x h. subst (λ (p : Phase D a). Leads a m event s x (Refused IsDown) p) (sym same) (not_up a old.phase event other works m s x h);
+    anyhow = others_told a old.phase event (Refused IsDown) new.phase other (λ recovers. (let no : false ≡ true = sym (ap works_up recovers) ∙ works in absurd cc));
     at_once = subst (λ (p : Phase D a). RefusesAtOnce a old.phase event (Refused IsDown) p) (sym same) (down_refuses a old.phase event other works);
     faults = record { fault = λ fails. absurd (true≢false (sym fails)); none = λ _. ap (phase_failures a) same };
     geometry = ap (phase_geometry a) same;

@@ -138,3 +138,6 @@ pub mod Layering
 pub mod ShownBytes
 pub mod ComingUp
 pub mod AreaShown
+pub mod StaysHonest
+pub mod Living
+pub mod Anew

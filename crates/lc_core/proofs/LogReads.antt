@@ -25,11 +25,12 @@ use Rattle.lc_recover.proofs.SameArea.{same-functions}
 use Rattle.lc_core.specs.Desk.{FitsDesk}
 use Rattle.lc_core.specs.Journal.{FitsLog}
 use Rattle.lc_trunc.specs.KnownClean.{known as known_of}
+use Rattle.lc_core.specs.Lives.{StillLives}
 use Rattle.lc_core.specs.Log.{Stands, HasReset, IsLeft, area_of, is_failed}
 use Rattle.lc_core.specs.LogWords.{AreLogged, AreWordsOf, IsNodeKept, IsNodeRead, IsSameBut, ReadsLog, ReadsNone, has_failed, log_area, log_in}
 use Rattle.lc_core.specs.Node.{FitsNode}
 use Rattle.lc_core.specs.Numbers.{Numbers, stable_records}
-use Rattle.lc_core.specs.Devices.{HonestLogs}
+use Rattle.lc_core.specs.Devices.{HonestLogs, HonestSegments}
 use Rattle.lc_core.specs.Paging.{HaltAll}
 use Rattle.lc_core.specs.Faults.{SameDevices}
 use Rattle.lc_core.specs.Pages.{FitsPages, areas_of}
@@ -39,7 +40,7 @@ use Rattle.lc_core.specs.Places.{get_set_other, get_set_same, same_some}
 use Rattle.lc_core.specs.Records.{Kept}
 use Rattle.lc_core.specs.Running.{FitsAll, FitsRunning}
 use Rattle.lc_core.specs.Slots.{FitsSlots, besides_of}
-use Rattle.lc_core.specs.World.{FitsDown, FitsPhase}
+use Rattle.lc_core.specs.World.{FitsDown, FitsPhase, StillFitsUp}
 use Rattle.lc_core.specs.declared.desk.Desk.{Desk}
 use Rattle.lc_core.specs.declared.log.Log.{Log}
 use Rattle.lc_core.specs.declared.log.Log.TheVariants.{Idle, Written, Synced, Opened, Sealed, Closing, Emptied, Failed, Torn, Taken}
@@ -52,6 +53,7 @@ use Rattle.lc_core.specs.declared.show_fault.ShowFault.{ShowFault}
 use Rattle.lc_core.specs.declared.show_fault.ShowFault.TheVariants.{DeviceFault, NoMemory, Unknown}
 use Rattle.lc_core.specs.declared.up.Up.{Up as Rising}
 use Rattle.lc_core.proofs.Flushing.{more_stable}
+use Rattle.lc_core.proofs.Living.{up_still_lives}
 use Rattle.lc_core.proofs.Onward.{still_onward}
 
 -- the words of a text's records are in front
@@ -147,6 +149,10 @@ module _ {D : Type 0} (a : Ghosts D) where
       steps_are = h.steps_are;
     }
 
+    still_lives : StillLives a (Down r) (Down new)
+    still_lives g None fits = fits
+    still_lives g (Some life) fits = absurd fits
+
     known : nat_lt node r.geometry.nodes ≡ true
     known = lt-ltb node r.geometry.nodes below
 
@@ -157,6 +163,7 @@ module _ {D : Type 0} (a : Ghosts D) where
       segments = ap (drop r.geometry.nodes) read.call.is ∙ drop_set r.areas r.geometry.nodes node read.call.new below;
       geometry = refl;
       still = still_down lengths_now;
+      lives = still_lives;
     }
 
     down_there : (next : D) → next ≡ read.call.new → log_area a (Down new) node ≡ Some next
@@ -189,7 +196,7 @@ module _ {D : Type 0} (a : Ghosts D) where
 
   -- nothing is read
   pub same_phase : (node : ℕ) (phase : Phase D a) → IsSameBut a node phase phase
-  same_phase node phase = record { others = λ other differ. refl; segments = refl; geometry = refl; still = λ m s x fits. fits }
+  same_phase node phase = record { others = λ other differ. refl; segments = refl; geometry = refl; still = λ m s x fits. fits; lives = λ g at fits. fits }
 
   pub not_read : (node : ℕ) (area : D) (phase : Phase D a) → log_area a phase node ≡ Some area → ReadsLog a node area phase phase false
   not_read node area phase there = record {
@@ -279,32 +286,51 @@ module _ {D : Type 0} (a : Ghosts D) where
     pub segments : later.segments ≡ up.segments
     pub devices : SameDevices a up.running later.running
 
+  up_still : (n : ℕ) (node : Node D a) (up later : Rising D a) (kept : IsNodeKept a n node up.running later.running) (at : slice_get up.running.nodes.items n ≡ Some node) → IsLater up later
+      → StillFitsUp a up later
+  up_still n node up later kept at is m s x fits = record {
+    running = all_still n node up.running later.running kept at m s x fits.running;
+    pages = subst (λ (segments : Vec (Pages D a) Global). FitsPages a m segments.items x) (sym is.segments) fits.pages;
+    failed = subst (λ (segments : Vec (Pages D a) Global). HaltAll a s segments.items) (sym is.segments) fits.failed;
+  }
+
   up_same : (n : ℕ) (node : Node D a) (up later : Rising D a) (kept : IsNodeKept a n node up.running later.running) (at : slice_get up.running.nodes.items n ≡ Some node) → IsLater up later
       → IsSameBut a n (Up up) (Up later)
   up_same n node up later kept at is = record {
     others = other_logs n node up.running later.running kept at;
     segments = ap (λ (segments : Vec (Pages D a) Global). areas_of a segments.items) is.segments;
     geometry = ap (λ (g : Geometry). Some g) is.devices.geometry;
-    still = λ m s x fits. record {
-      running = all_still n node up.running later.running kept at m s x fits.running;
-      pages = subst (λ (segments : Vec (Pages D a) Global). FitsPages a m segments.items x) (sym is.segments) fits.pages;
-      honest = honest_kept a up.running.nodes.items later.running.nodes.items is.devices.kinds fits.honest;
-      failed = subst (λ (segments : Vec (Pages D a) Global). HaltAll a s segments.items) (sym is.segments) fits.failed;
-    };
+    lives = up_still_lives a (Up up) up later refl (up_still n node up later kept at is);
+    still = λ m s x fits. (
+      up_still n node up later kept at is m s x fits.0,
+      record {
+        logs = honest_kept a up.running.nodes.items later.running.nodes.items is.devices.kinds fits.1.logs;
+        segments = subst (λ (segments : Vec (Pages D a) Global). HonestSegments a segments.items) (sym is.segments) fits.1.segments;
+      },
+    );
   }
 
   -- the nodes are as before
+  none_still : (up later : Rising D a) → later.running ≡ up.running → IsLater up later → StillFitsUp a up later
+  none_still up later same is m s x fits = record {
+    running = subst (λ (w : Running D a). FitsRunning a m w s x) (sym same) fits.running;
+    pages = subst (λ (segments : Vec (Pages D a) Global). FitsPages a m segments.items x) (sym is.segments) fits.pages;
+    failed = subst (λ (segments : Vec (Pages D a) Global). HaltAll a s segments.items) (sym is.segments) fits.failed;
+  }
+
   none_same : (n : ℕ) (up later : Rising D a) → later.running ≡ up.running → IsLater up later → IsSameBut a n (Up up) (Up later)
   none_same n up later same is = record {
     others = λ other differ. ap (λ (w : Running D a). log_in a w.nodes.items other) same;
     segments = ap (λ (segments : Vec (Pages D a) Global). areas_of a segments.items) is.segments;
     geometry = ap (λ (g : Geometry). Some g) is.devices.geometry;
-    still = λ m s x fits. record {
-      running = subst (λ (w : Running D a). FitsRunning a m w s x) (sym same) fits.running;
-      pages = subst (λ (segments : Vec (Pages D a) Global). FitsPages a m segments.items x) (sym is.segments) fits.pages;
-      honest = subst (λ (w : Running D a). HonestLogs a w.nodes.items) (sym same) fits.honest;
-      failed = subst (λ (segments : Vec (Pages D a) Global). HaltAll a s segments.items) (sym is.segments) fits.failed;
-    };
+    lives = up_still_lives a (Up up) up later refl (none_still up later same is);
+    still = λ m s x fits. (
+      none_still up later same is m s x fits.0,
+      record {
+        logs = subst (λ (w : Running D a). HonestLogs a w.nodes.items) (sym same) fits.1.logs;
+        segments = subst (λ (segments : Vec (Pages D a) Global). HonestSegments a segments.items) (sym is.segments) fits.1.segments;
+      },
+    );
   }
 
   node_of : (nodes : List (Node D a)) (n : ℕ) (area : D) → log_in a nodes n ≡ Some area → (its : Node D a) × (slice_get nodes n ≡ Some its) × (area_of a its.journal.log ≡ Some area)
@@ -473,6 +499,6 @@ module _ {D : Type 0} (a : Ghosts D) where
   show_records IsTaken n area words there fits shows m s x h up = absurd h
   show_records (Up up) n area words there fits shows m s x h is_up =
       let its = node_of up.running.nodes.items n area there in
-      let honest = h.honest n its.0 area its.1 its.2 in
+      let honest = h.1.logs n its.0 area its.1 its.2 in
       let j = its.0.journal in
-      logged m n j.log j.records j.dropped j.trimmed j.taken j.acked s x area words (h.running.each n its.0 its.1).journal j.dropped_acked j.acked_taken its.2 honest (fits up refl there honest) shows
+      logged m n j.log j.records j.dropped j.trimmed j.taken j.acked s x area words (h.0.running.each n its.0 its.1).journal j.dropped_acked j.acked_taken its.2 honest (fits up refl there honest) shows

@@ -7,7 +7,7 @@ use Rattle.lc_disk.specs.declared.area.Area.{Ghosts}
 use Rattle.lc_record.specs.declared.geometry.Geometry.{Geometry}
 use Rattle.lc_record.proofs.PuttingLemmas.{at_drop}
 use Rattle.lc_recover.specs.Reads.{HaveLengths, area_count}
-use Rattle.lc_recover.specs.Recovered.{RecoveredStore, IsFinished}
+use Rattle.lc_recover.specs.Recovered.{RecoveredStore, AreFinished}
 use Rattle.lc_recover.proofs.Images.{count-areas, len-log, len-segment}
 use Rattle.lc_core.specs.Blank.{AreFilledNodes}
 use Rattle.lc_core.specs.Fresh.{IsFresh}
@@ -58,13 +58,14 @@ module _ {D : Type 0} (a : Ghosts D) where
   pub left_is : (areas left : List D) (n : ℕ) (area first : D) → left ≡ drop n areas → slice_get areas n ≡ Some area → first ≡ slice_index_or left 0 first → first ≡ area
   left_is areas left n area first is got value = value ∙ get_or_from_slice_get left 0 area first (left_first areas left n area is got)
 
-  -- where the areas are honest, it begins with no open gate, and no position is dirty
-  pub log_closed : (r : RecoveredStore D) (n : ℕ) (area first : D) → IsFinished a r → n < r.geometry.nodes → slice_get r.areas n ≡ Some area → first ≡ area
+  -- while it is honest it begins with no open gate, and no position is dirty
+  pub log_closed : (r : RecoveredStore D) (n : ℕ) (area first : D) → AreFinished a r → n < r.geometry.nodes → slice_get r.areas n ≡ Some area → first ≡ area → a.honest first ≡ true
       → slice_index (a.now first) 0 % 256 ≢ 165
-  log_closed r n area first finished few got same = subst (λ (d : D). slice_index (a.now d) 0 % 256 ≢ 165) (sym same) (finished.closed n area few got)
+  log_closed r n area first finished few got same honest =
+      subst (λ (d : D). slice_index (a.now d) 0 % 256 ≢ 165) (sym same) ((finished n area got (ap a.honest (sym same) ∙ honest)).closed few)
 
-  pub log_clean : (r : RecoveredStore D) (n : ℕ) (area first : D) → IsFinished a r → slice_get r.areas n ≡ Some area → first ≡ area → a.dirty first 0 ≡ false
-  log_clean r n area first finished got same = subst (λ (d : D). a.dirty d 0 ≡ false) (sym same) (finished.clean n area got 0)
+  pub log_clean : (r : RecoveredStore D) (n : ℕ) (area first : D) → AreFinished a r → slice_get r.areas n ≡ Some area → first ≡ area → a.honest first ≡ true → a.dirty first 0 ≡ false
+  log_clean r n area first finished got same honest = subst (λ (d : D). a.dirty d 0 ≡ false) (sym same) ((finished n area got (ap a.honest (sym same) ∙ honest)).clean 0)
 
   pub filled_whole : (r : RecoveredStore D) (g : Geometry) (nodes : List (Node D a)) → r.geometry ≡ g → AreFilledNodes a r nodes → AreWhole a g nodes
   filled_whole r g nodes same filled n node got =

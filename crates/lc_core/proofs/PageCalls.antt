@@ -85,7 +85,7 @@ module _ {D : Type 0} (a : Ghosts D) where
 
   -- What is done beside a page
 
-  module _ (area later : D) (page : ℕ) (room : (2 * page + 2) * 272 ≤ length (a.now area)) (bytes : (at : ℕ) → slice_index_or (a.now area) at 0 < 256) (keeps : KeepsPage a page area later) where
+  module _ (area later : D) (page : ℕ) (room : (2 * page + 2) * 272 ≤ length (a.now area)) (bytes : a.honest area ≡ true → (at : ℕ) → slice_index_or (a.now area) at 0 < 256) (keeps : KeepsPage a page area later) where
     kept_shows : (P : Page → Type 0) → HasPage a area page P → HasPage a later page P
     kept_shows P h honest =
         let was : a.honest area ≡ true = sym keeps.honest ∙ honest in
@@ -94,7 +94,7 @@ module _ {D : Type 0} (a : Ghosts D) where
         record {
           reads = subst P (sym (kept_page page (a.now area) (a.now later) (a.dirty area) (a.dirty later) same).0) shows.reads;
           images = λ image is.
-              (let before = kept_images page (a.now area) (a.now later) (a.dirty area) (a.dirty later) room bytes same image is in
+              (let before = kept_images page (a.now area) (a.now later) (a.dirty area) (a.dirty later) room (bytes was) same image is in
               subst P (sym before.2) (shows.images before.0 before.1));
         }
 
@@ -131,8 +131,7 @@ module _ {D : Type 0} (a : Ghosts D) where
   area_called : (g : Geometry) (segment page : ℕ) (old new : Pages D a) (was state : PageState) (x y : Numbers) → slice_get old.writes.items page ≡ Some was → new.writes.items ≡ slice_set old.writes.items page state
       → IsCall page old.area new.area → ((other : ℕ) → other ≢ page → SameAt segment other x y) → IsPageAt a new.area segment page state y → FitsArea a g segment old x → FitsArea a g segment new y
   area_called g segment page old new was state x y at are calls same own h = record {
-    honest = calls.honest ∙ h.honest;
-    bytes = calls.bytes (calls.honest ∙ h.honest);
+    bytes = calls.bytes;
     count = ap length are ∙ length-set old.writes.items page state ∙ h.count;
     each = λ other its got.
         (let there : slice_get (slice_set old.writes.items page state) other ≡ Some its = ap (λ (states : List PageState). slice_get states other) (sym are) ∙ got in
@@ -150,6 +149,14 @@ module _ {D : Type 0} (a : Ghosts D) where
 
   -- The first call
 
+  -- a page of an area that is honest
+  under_same : (area : D) (write : Writing) (text : PageText) (p q : Page) → (a.honest area ≡ true → p ≡ q) → IsUnderWay a area write text p → IsUnderWay a area write text q
+  under_same area (AtClosing w) text p q same h = λ honest. subst (λ (page : Page). IsUnderWay a area (AtClosing w) text page) (same honest) h honest
+  under_same area (AtClosed w) text p q same h = λ honest. subst (λ (page : Page). IsUnderWay a area (AtClosed w) text page) (same honest) h honest
+  under_same area (AtFilling w) text p q same h = λ honest. subst (λ (page : Page). IsUnderWay a area (AtFilling w) text page) (same honest) h honest
+  under_same area (AtFilled w) text p q same h = λ honest. subst (λ (page : Page). IsUnderWay a area (AtFilled w) text page) (same honest) h honest
+  under_same area (AtOpening w) text p q same h = λ honest. subst (λ (page : Page). IsUnderWay a area (AtOpening w) text page) (same honest) h honest
+
   module _ (old new : Pages D a) (draft : Draft) (gate : Bool) (calls : IsCall draft.page old.area new.area) where
     pub begins : (write : Writing) → draft_of write ≡ draft → calls_of write ≡ 1 → new.writes.items ≡ slice_set old.writes.items draft.page (UnderWay write)
         → ((text : PageText) → IsBegun draft gate text → SettledIn a old.area draft.page text → IsUnderWay a new.area write text (page_in (a.now old.area) draft.page))
@@ -162,7 +169,8 @@ module _ {D : Type 0} (a : Ghosts D) where
           begun = subst (λ (d : Draft). HasBegun segment draft.page (calls_of write) (drafted d) y) (sym is)
               (subst (λ (n : ℕ). HasBegun segment draft.page n (drafted draft) y) (sym one) (begun_first m s segment draft.page (drafted draft) x now.text_is));
           under_way = subst (λ (p : StorePage). IsUnderWay a new.area write (x.texts segment draft.page) (as_read p)) (sym (called_page m s segment draft.page x 1))
-              (subst (λ (p : Page). IsUnderWay a new.area write (x.texts segment draft.page) p) (its.reads h.honest) (under (x.texts segment draft.page) now.begun its.settled));
+              (under_same new.area write (x.texts segment draft.page) (page_in (a.now old.area) draft.page) (as_read (x.disks.page segment draft.page))
+              (λ honest. its.reads (sym calls.honest ∙ honest)) (under (x.texts segment draft.page) now.begun its.settled));
         }) h
 
     pub begin_fails : new.writes.items ≡ slice_set old.writes.items draft.page Failed
@@ -171,9 +179,10 @@ module _ {D : Type 0} (a : Ghosts D) where
     begin_fails are still m s segment x h rest now =
         let its : IsAtRest a old.area segment draft.page x = h.each draft.page AtRest rest in
         let y = called m s x segment draft.page 1 in
-        let same : page_in (a.now old.area) draft.page ≡ as_read (y.disks.page segment draft.page) = its.reads h.honest ∙ ap as_read (sym (called_page m s segment draft.page x 1)) in
-        let shows : HasPage a new.area draft.page (λ it. it ≡ as_read (y.disks.page segment draft.page)) =
-        subst (λ (p : Page). HasPage a new.area draft.page (λ it. it ≡ p)) same (still (x.texts segment draft.page) now.begun its.settled) in
+        let shows : HasPage a new.area draft.page (λ it. it ≡ as_read (y.disks.page segment draft.page)) = λ honest.
+        (let same : page_in (a.now old.area) draft.page ≡ as_read (y.disks.page segment draft.page) =
+        its.reads (sym calls.honest ∙ honest) ∙ ap as_read (sym (called_page m s segment draft.page x 1)) in
+        subst (λ (p : Page). HasPage a new.area draft.page (λ it. it ≡ p)) same (still (x.texts segment draft.page) now.begun its.settled) honest) in
         area_called m.geometry segment draft.page old new AtRest Failed x y rest are calls (λ other differ. called_apart m s segment draft.page x 1 segment other (inr (refl, differ))) (record {
           calls = 1;
           some = omega arith;

@@ -1,5 +1,5 @@
 -- What a stop may leave of the area of a segment, and whether a page of it is being written.
-use Rattle.std.proofs.Common.{◌≡◌, ◌≢◌, ℕ, zero, suc, ◌+◌, ◌*◌, ◌<◌, ◌≤◌, ◌||◌, Bool, List, [], ◌∷◌, length, nat_lt, Some, refl, sym, ap, subst, ◌∙◌, inl, inr, arith}
+use Rattle.std.proofs.Common.{◌≡◌, ◌≢◌, ℕ, zero, suc, ◌+◌, ◌*◌, ◌<◌, ◌≤◌, ◌||◌, Bool, true, List, [], ◌∷◌, length, nat_lt, Some, refl, sym, ap, subst, ◌∙◌, inl, inr, arith}
 use Rattle.std.specs.Prelude.{slice_get, slice_set}
 use Rattle.std.specs.List.{list_any}
 use Rattle.std.proofs.lemmas.Bool.{cases_eq, cases_lt, lt-ltb}
@@ -52,7 +52,7 @@ module _ {D : Type 0} (a : Ghosts D) where
 
   -- What a stop leaves
 
-  module _ (g : Geometry) (segment page : ℕ) (pages : Pages D a) (x : Numbers) (image : List ℕ) (h : FitsArea a g segment pages x) (within : page < g.pages) (is : IsImage (a.now pages.area) (a.dirty pages.area) image) where
+  module _ (g : Geometry) (segment page : ℕ) (pages : Pages D a) (x : Numbers) (image : List ℕ) (honest : a.honest pages.area ≡ true) (h : FitsArea a g segment pages x) (within : page < g.pages) (is : IsImage (a.now pages.area) (a.dirty pages.area) image) where
     room : (2 * page + 2) * 272 ≤ length (a.now pages.area)
     room = (let count = h.count in has_room a pages page (omega (arith, within, count)))
 
@@ -64,18 +64,18 @@ module _ {D : Type 0} (a : Ghosts D) where
     either_stored calls new begun late (inr other) = record { text = begun.text; reads = other ∙ begun.text_is; shows = inr (begun.opened late) }
 
     state_stored : (state : PageState) → IsPageAt a pages.area segment page state x → IsStored segment page image x
-    state_stored AtRest its = old_stored ((settled_images (a.now pages.area) (a.dirty pages.area) page (x.texts segment page) (its.settled h.honest) image is).1 ∙ its.reads h.honest)
+    state_stored AtRest its = old_stored ((settled_images (a.now pages.area) (a.dirty pages.area) page (x.texts segment page) (its.settled honest) image is).1 ∙ its.reads honest)
     state_stored (UnderWay write) its = elim (cases_lt (calls_of write) 5) [
       | inl few ↦ old_stored (subst (λ (n : ℕ). page_in image n ≡ as_read (x.disks.page segment page)) its.page_is
-          ((old_under_way a pages.area write (x.texts segment page) (as_read (x.disks.page segment page)) few its.under_way h.honest).images image is))
+          ((old_under_way a pages.area write (x.texts segment page) (as_read (x.disks.page segment page)) few its.under_way honest).images image is))
       | inr late ↦ either_stored (calls_of write) (drafted (draft_of write)) its.begun late
           (subst (λ (n : ℕ). IsEither (as_read (x.disks.page segment page)) (drafted (draft_of write)) (page_in image n)) its.page_is
           ((either_under_way a pages.area write (x.texts segment page) (as_read (x.disks.page segment page))
-          (subst (λ (n : ℕ). (2 * n + 2) * 272 ≤ length (a.now pages.area)) (sym its.page_is) room) its.under_way h.honest).images image is))
+          (subst (λ (n : ℕ). (2 * n + 2) * 272 ≤ length (a.now pages.area)) (sym its.page_is) room) its.under_way honest).images image is))
     ]
     state_stored Failed its = elim (cases_lt its.calls 5) [
-      | inl few ↦ old_stored ((its.old few h.honest).images image is)
-      | inr late ↦ either_stored its.calls its.new its.begun late ((its.either h.honest).images image is)
+      | inl few ↦ old_stored ((its.old few honest).images image is)
+      | inr late ↦ either_stored its.calls its.new its.begun late ((its.either honest).images image is)
     ]
 
     pub images_stored : IsStored segment page image x

@@ -94,7 +94,6 @@ module _ {D : Type 0} (a : Ghosts D) where
 
   pub area_same : (g : Geometry) (segment : ℕ) (pages : Pages D a) (x y : Numbers) → ((page : ℕ) → SameAt segment page x y) → FitsArea a g segment pages x → FitsArea a g segment pages y
   area_same g segment pages x y same h = record {
-    honest = h.honest;
     bytes = h.bytes;
     count = h.count;
     each = λ page state got. state_same pages.area segment page state x y (same page) (h.each page state got);

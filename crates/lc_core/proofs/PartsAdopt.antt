@@ -35,7 +35,7 @@ use Rattle.lc_core.specs.declared.segment_pieces.SegmentPieces.{SegmentPieces}
 use Rattle.lc_core.specs.declared.up.Up.{Up as UpStore}
 use Rattle.lc_core.specs.declared.world.World.{World}
 use Rattle.lc_core.proofs.Adoptions.{at_here}
-use Rattle.lc_core.proofs.AdoptsUp.{up-fits}
+use Rattle.lc_core.proofs.AdoptsUp.{up-fits, up-honest}
 use Rattle.lc_core.proofs.OneSpelling.{one_spelling, spelled_both}
 use Rattle.lc_core.proofs.PartsFound.{parts_found}
 use Rattle.lc_core.proofs.PartsPass.{Agree, at_segment, front_parts, nodes_count, placed, segment_part, segment_piece, segments_count}
@@ -118,7 +118,8 @@ module _ {D : Type 0} (a : Ghosts D) (parts : Parts D a) (h : Read) (segments : 
         geometry = its.read.geometry;
         fits = λ honest.
             subst (λ (p : Phase D a). FitsPhase a (machine_setting f) p (machine_state f) (numbers_of f)) (sym phase)
-            (up-fits a f up (stood_consistent a parts h segments tokens pieces areas its) (adopted f (parts_found a parts h segments tokens pieces areas its honest (areas_read honest))));
+            (let its_up = adopted f (parts_found a parts h segments tokens pieces areas its honest (areas_read honest)) in
+            (up-fits a f up (stood_consistent a parts h segments tokens pieces areas its) its_up, up-honest a f up its_up));
         quiet = record { up = refl; none_open = refl; all_closed = closed_all h.geometry (merged h); no_flush = λ n. refl };
         stable = λ n part at.
             subst (λ (rs : List Record). AreSpelled part.stable.items (drop (h.dropped n) (take (slice_index_or h.counts n 0) rs))) (sym (log_records a parts h segments tokens pieces areas its n))

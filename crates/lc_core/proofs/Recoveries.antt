@@ -1,5 +1,5 @@
 -- How a store that is down follows the machine.
-use Rattle.std.proofs.Common.{◌≡◌, ℕ, ◌+◌, ◌<◌, ◌⊎◌, inl, inr, Bool, true, ◌++◌, List, vec_items, length, Option, Some, None, refl, sym, ap, subst, ◌∙◌, arith}
+use Rattle.std.proofs.Common.{◌≡◌, ℕ, ◌+◌, ◌<◌, ◌≤◌, ◌⊎◌, inl, inr, Bool, true, [], ◌++◌, List, vec_items, length, Option, Some, None, refl, sym, ap, subst, ◌∙◌, arith}
 use Rattle.std.proofs.lemmas.Result.{IfOk-from_err}
 use Rattle.std.specs.Prelude.{◌-◌, Result, Ok, Err, IfOk, IfErr, OnOk, OnErr, find, is_some, if◌then◌else◌, replicate, slice_get, slice_index_or}
 use Rattle.std.specs.Global.{Vec}
@@ -15,13 +15,12 @@ use Rattle.lc_page.specs.PageWrite.{IsSettled}
 use Rattle.lc_page.specs.declared.page_text.PageText.{PageText}
 use Rattle.lc_page.proofs.StateLemmas.{clean_settled}
 use Rattle.lc_recover.specs.Reads.{AreHonest, AreOfBytes, AllMergeTo, HaveLengths, area_count}
-use Rattle.lc_recover.specs.Recovered.{IsFinished, page_read_of}
+use Rattle.lc_recover.specs.Recovered.{page_read_of}
 use Rattle.lc_recover.proofs.Images.{count-areas, get-drop}
 use Rattle.lc_core.proofs.Closes.{get-map}
-use Rattle.lc_core.proofs.Devices.{honest_kept}
 use Rattle.lc_core.proofs.PageWrites.{of_pages, pages_same}
 use Rattle.lc_core.proofs.PagesTurned.{halts_still}
-use Rattle.lc_core.proofs.Rising.{get-replicate, rises}
+use Rattle.lc_core.proofs.Rising.{IsResult, get-replicate, result_of, rises}
 use Rattle.lc_core.proofs.Cohering.{coherent_apart}
 use Rattle.lc_recover.specs.Recovery.{Recovering, begun, IsDone, TakesMemory, Tells}
 use Rattle.lc_recover.specs.declared.fault.RecoverFault.{RecoverFault}
@@ -32,7 +31,8 @@ use Rattle.lc_model.specs.History.{Cut, Entry, kept}
 use Rattle.lc_model.specs.Machine.{Row, RecoverRow}
 use Rattle.lc_model.specs.Refusals.{Unless, common_refusal}
 use Rattle.lc_model.specs.Sound.{Sound}
-use Rattle.lc_model.specs.State.{Phase as Condition, DownAt, Up as IsUpNow, Setting, State, fresh, is_unclosed}
+use Rattle.lc_model.specs.Recovered.{IsReadable}
+use Rattle.lc_model.specs.State.{Phase as Condition, DownAt, Up as IsUpNow, Setting, State, first_state, fresh, is_unclosed}
 use Rattle.lc_model.specs.declared.event.Event.{Event}
 use Rattle.lc_model.specs.declared.event.Event.TheVariants.{Begin, SetRange, Write, Read, Abort, Reserve, Close, FlushStep, Leave, Arrive, Deliver, Trim, PageStep, ResetStep, Stop, RecoverStep}
 use Rattle.lc_model.specs.declared.refusal.Refusal.{Refusal}
@@ -40,7 +40,7 @@ use Rattle.lc_model.specs.declared.refusal.Refusal.TheVariants.{Down as IsDownNo
 use Rattle.lc_model.specs.declared.reply.Reply.{Reply}
 use Rattle.lc_model.specs.declared.reply.Reply.TheVariants.{Ok as Accepted, Stepped, Applied, HeldBack, Trimmed, Recovered, Refused, Reset}
 use Rattle.lc_model.specs.Stored.{records_of}
-use Rattle.lc_model.proofs.Keeps.{sound-step}
+use Rattle.lc_model.proofs.Keeps.{sound-recovered, sound-first, sound-step}
 use Rattle.lc_core.specs.Faults.{SameDevices}
 use Rattle.lc_core.specs.Fresh.{text_read_of}
 use Rattle.lc_core.specs.Numbers.{Numbers, recovered_numbers}
@@ -49,10 +49,11 @@ use Rattle.lc_core.specs.Settled.{CountsSteps, number_of, open_answer, settled_a
 use Rattle.lc_core.specs.Slots.{besides_of}
 use Rattle.lc_core.specs.Node.{FitsNode}
 use Rattle.lc_core.specs.Stepping.{FollowsStep, TellsWriting, is_plain, works_up}
-use Rattle.lc_core.specs.Turns.{Turns, closed_with, held_back, kept_numbers, numbers_after}
+use Rattle.lc_core.specs.Turns.{AreWithin, Turns, closed_with, held_back, kept_numbers, numbers_after}
 use Rattle.lc_core.specs.Recovering.{ComesUp, RepliesTo}
 use Rattle.lc_core.specs.Pages.{FitsArea, FitsPages, IsAtRest, IsPageAt, areas_of}
-use Rattle.lc_core.specs.World.{FitsDown, FitsPhase, FollowsUp, Leads, StillFitsUp}
+use Rattle.lc_core.specs.HonestAreas.{HonestUp}
+use Rattle.lc_core.specs.World.{Begins, BeginsAnew, FitsDown, FitsPhase, FitsUp, FollowsAnyhow, FollowsUp, Leads, LeadsTo, StillFitsUp}
 use Rattle.lc_core.proofs.Refusing.{on_err}
 use Rattle.lc_core.specs.declared.phase.Phase.{Phase}
 use Rattle.lc_core.specs.declared.phase.Phase.TheVariants.{Down, Up, Taken}
@@ -130,6 +131,15 @@ if_ok_at res x P is p = subst (λ (r : Result _ _). IfOk r P) (sym is) p
 on_err_at : {A E : Type 0} (res : Result A E) (x : A) (P : Type 0) → res ≡ Ok x → OnErr res P
 on_err_at res x P is = subst (λ (r : Result _ _). OnErr r P) (sym is) tt
 
+-- a fault is not answered so
+pub not_recovered : {E : Type 0} (P : Type 0) (fault : RecoverFault) (answer : Result Reply E) → RepliesTo (Err fault) answer → IfOk answer (λ reply. reply ≡ Recovered → P)
+not_recovered P (BadGeometry area) answer replies = if_ok_at answer _ _ replies (λ is. absurd cc)
+not_recovered P (Gap segment seq) answer replies = if_ok_at answer _ _ replies (λ is. absurd cc)
+not_recovered P (Twice segment seq) answer replies = if_ok_at answer _ _ replies (λ is. absurd cc)
+not_recovered P (OutOfSegment area) answer replies = if_ok_at answer _ _ replies (λ is. absurd cc)
+not_recovered P Failed answer replies = if_ok_at answer _ _ replies (λ is. absurd cc)
+not_recovered P NoMemory answer replies = IfOk-from_err answer _ replies
+
 -- no refusal is common to all for a step of a recovery
 pub none_common : (m : Setting) (s : State) → common_refusal m.geometry s RecoverStep ≡ None
 none_common m s = elim s.phase as (λ (p : Condition). common_refusal m.geometry (record s { phase = p }) RecoverStep ≡ None) [
@@ -157,9 +167,9 @@ module _ {D : Type 0} (a : Ghosts D) (m : Setting) (s : State) (x : Numbers) whe
   open_none = ap (λ (c : Option Refusal). if is_some c then None else None) (none_common m s)
 
   -- the step of a recovery that the row allows
-  leads_by_row : (reply : Reply) (after : State) (next : Numbers) (new : Phase D a) → RecoverRow s.phase m.geometry s reply after → CountsSteps x reply → Turns m s x RecoverStep reply next → FitsPhase a m new after next
-      → Leads a m RecoverStep s x reply new
-  leads_by_row reply after next new row counts turns fits = record {
+  leads_by_row : (reply : Reply) (after : State) (next : Numbers) (Fits : State → Numbers → Type 0) → RecoverRow s.phase m.geometry s reply after → CountsSteps x reply → Turns m s x RecoverStep reply next → Fits after next
+      → LeadsTo m RecoverStep s x reply Fits
+  leads_by_row reply after next Fits row counts turns fits = record {
     after = after;
     next = next;
     step = subst (λ (c : Option Refusal). Unless c s reply after (Row m s RecoverStep reply after)) (sym (none_common m s)) row;
@@ -197,12 +207,12 @@ module _ {D : Type 0} (a : Ghosts D) (m : Setting) (s : State) (x : Numbers) whe
 
     -- one step more
     pub steps_down : new.steps ≡ r.steps + 1 → Leads a m RecoverStep s x (Stepped new.steps) (Down new)
-    steps_down more = leads_by_row (Stepped new.steps) s (record x { steps = new.steps }) (Down new) (row_of _ _ (inl (new.steps, refl, refl)))
+    steps_down more = leads_by_row (Stepped new.steps) s (record x { steps = new.steps }) (FitsPhase a m (Down new)) (row_of _ _ (inl (new.steps, refl, refl)))
         (λ steps same. stepped_same _ _ (sym same) ∙ more ∙ ap (λ (n : ℕ). n + 1) (sym h.steps_are)) refl goes_down
 
     -- a fault of the device
     pub fails_down : new.steps ≡ 0 → Leads a m RecoverStep s x (Refused DeviceFault) (Down new)
-    fails_down none = leads_by_row (Refused DeviceFault) s (record x { steps = 0 }) (Down new) (row_of _ _ (inr (inl (refl, refl))))
+    fails_down none = leads_by_row (Refused DeviceFault) s (record x { steps = 0 }) (FitsPhase a m (Down new)) (row_of _ _ (inr (inl (refl, refl))))
         (λ steps same. absurd cc) refl (subst (λ (n : ℕ). FitsDown a m new s (record x { steps = n })) none goes_down)
 
   -- how many steps a recovery has made is nothing to what fits while it is up
@@ -247,11 +257,11 @@ module _ {D : Type 0} (a : Ghosts D) (m : Setting) (s : State) (x : Numbers) whe
   }
 
   -- up: a step of a recovery is out of turn
-  pub up_refuses : (up : Rising D a) → FitsPhase a m (Up up) s x → Leads a m RecoverStep s x (Refused OutOfTurn) (Up up)
-  up_refuses up h = leads_by_row (Refused OutOfTurn) s (record x { steps = 0 }) (Up up)
+  pub up_refuses : (up : Rising D a) → FitsUp a m up s x → LeadsTo m RecoverStep s x (Refused OutOfTurn) (FitsUp a m up)
+  up_refuses up h = leads_by_row (Refused OutOfTurn) s (record x { steps = 0 }) (FitsUp a m up)
       (subst (λ (p : Condition). RecoverRow p m.geometry s (Refused OutOfTurn) s) (sym h.running.up) (refl, refl))
       (λ steps same. absurd cc) refl
-      (record { running = all_stay up.running h.running; pages = pages_same a m up.segments.items x (record x { steps = 0 }) refl h.pages; honest = h.honest; failed = h.failed })
+      (record { running = all_stay up.running h.running; pages = pages_same a m up.segments.items x (record x { steps = 0 }) refl h.pages; failed = h.failed })
 
   -- no other event of a store that is up changes its pages
   closed_pages : (node : ℕ) (e : Option Entry) → of_pages (closed_with s x node e) ≡ of_pages x
@@ -299,7 +309,7 @@ module _ {D : Type 0} (a : Ghosts D) (m : Setting) (s : State) (x : Numbers) whe
 
   -- a step of a store that is up
   pub runs_up : (up later : Rising D a) (event : Event) (reply : Reply) (writing : Bool) → is_plain event ≡ true → later.segments ≡ up.segments → SameDevices a up.running later.running
-      → FollowsStep a writing up.running event reply later.running → TellsWriting m x event writing → FitsPhase a m (Up up) s x → Leads a m event s x reply (Up later)
+      → FollowsStep a writing up.running event reply later.running → TellsWriting m x event writing → FitsUp a m up s x → LeadsTo m event s x reply (FitsUp a m later)
   runs_up up later event reply writing plain segments devices follows told h =
       let on = follows m s x h.running told in
       record {
@@ -312,7 +322,6 @@ module _ {D : Type 0} (a : Ghosts D) (m : Setting) (s : State) (x : Numbers) whe
           running = on.fits;
           pages = subst (λ (segments : List (Pages D a)). FitsPages a m segments on.next) (ap vec_items (sym segments))
               (pages_same a m up.segments.items x on.next (turned_pages event reply on.next plain on.turns) h.pages);
-          honest = honest_kept a up.running.nodes.items later.running.nodes.items devices.kinds h.honest;
           failed = λ k pages got. halts_still a m s event reply on.after h.running.up on.fits.up on.step (k + 1) pages
               (h.failed k pages (ap (λ (v : Vec (Pages D a)). slice_get v.items k) (sym segments) ∙ got));
         };
@@ -323,12 +332,15 @@ module _ {D : Type 0} (a : Ghosts D) where
   abbrev pub FollowsPhase : Phase D a → Event → Reply → Phase D a → Type 0
   FollowsPhase old event reply new = (m : Setting) (s : State) (x : Numbers) → FitsPhase a m old s x → Leads a m event s x reply new
 
-  pub up_follows : (old : Phase D a) (up new : Rising D a) (event : Event) (reply : Reply) → old ≡ Up up → FollowsUp a up event reply new → FollowsPhase old event reply (Up new)
-  up_follows old up new event reply is follows m s x h = follows m s x (subst (λ (p : Phase D a). FitsPhase a m p s x) is h)
+  pub up_follows : (old : Phase D a) (up new : Rising D a) (event : Event) (reply : Reply) → old ≡ Up up → FollowsUp a up event reply new → (HonestUp a up → HonestUp a new) → FollowsPhase old event reply (Up new)
+  up_follows old up new event reply is follows honest m s x h =
+      let its : FitsUp a m up s x × HonestUp a up = subst (λ (p : Phase D a). FitsPhase a m p s x) is h in
+      let leads = follows m s x its.0 in
+      record { after = leads.after; next = leads.next; step = leads.step; settled = leads.settled; turns = leads.turns; fits = (leads.fits, honest its.1) }
 
-  pub up_still : (old : Phase D a) (up new : Rising D a) → old ≡ Up up → StillFitsUp a up new
+  pub up_still : (old : Phase D a) (up new : Rising D a) → old ≡ Up up → (HonestUp a up → HonestUp a new) → StillFitsUp a up new
       → (m : Setting) (s : State) (x : Numbers) → FitsPhase a m old s x → FitsPhase a m (Up new) s x
-  up_still old up new is still m s x h = still m s x (subst (λ (p : Phase D a). FitsPhase a m p s x) is h)
+  up_still old up new is honest still m s x h = (let its : FitsUp a m up s x × HonestUp a up = subst (λ (p : Phase D a). FitsPhase a m p s x) is h in (still m s x its.0, honest its.1))
 
   pub down_same : (r other : Recovering D) → ◌≡◌ {A = Phase D a} (Down r) (Down other) → r ≡ other
   down_same r other same = ap (λ (p : Phase D a). elim p as (λ (p : Phase D a). Recovering D) [ Down it ↦ it | _ ↦ r ]) same
@@ -342,8 +354,24 @@ module _ {D : Type 0} (a : Ghosts D) where
   -- not down
   pub not_down : (old : Phase D a) → ((r : Recovering D) → old ≡ Down r → ⊥) → FollowsPhase old RecoverStep (Refused OutOfTurn) old
   not_down (Down r) not = absurd (not r refl)
-  not_down (Up up) not = λ m s x h. up_refuses a m s x up h
+  not_down (Up up) not = up_follows (Up up) up up RecoverStep (Refused OutOfTurn) refl (λ m s x h. up_refuses a m s x up h) (λ honest. honest)
   not_down Taken not = λ m s x h. absurd h
+
+  -- whatever the areas are
+  same_up : (one other : Rising D a) → ◌≡◌ {A = Phase D a} (Up one) (Up other) → one ≡ other
+  same_up one other same = ap (λ (p : Phase D a). elim p as (λ (p : Phase D a). Rising D a) [ Up it ↦ it | _ ↦ one ]) same
+
+  pub not_down_anyhow : (old : Phase D a) → FollowsAnyhow a old RecoverStep (Refused OutOfTurn) old
+  not_down_anyhow old up is = (up, is, λ m s x h. up_refuses a m s x up h)
+
+  pub down_anyhow : (old : Phase D a) (r : Recovering D) (event : Event) (reply : Reply) (new : Phase D a) → old ≡ Down r → FollowsAnyhow a old event reply new
+  down_anyhow old r event reply new is up up_is = absurd (let both : Up up ≡ Down r = sym up_is ∙ is in cc)
+
+  pub up_anyhow : (old : Phase D a) (up new : Rising D a) (event : Event) (reply : Reply) → old ≡ Up up → FollowsUp a up event reply new → FollowsAnyhow a old event reply (Up new)
+  up_anyhow old up new event reply is follows other other_is = (new, refl, subst (λ (its : Rising D a). FollowsUp a its event reply new) (same_up up other (sym is ∙ other_is)) follows)
+
+  pub others_anyhow : (old : Phase D a) (event : Event) (reply : Reply) (new : Phase D a) → ((up : Rising D a) → old ≡ Up up → ⊥) → FollowsAnyhow a old event reply new
+  others_anyhow old event reply new not up is = absurd (not up is)
 
   -- what a step of a recovery leaves
   pub record StepLeaves (r new : Recovering D) (result : Result Progress RecoverFault) : Type 0 where
@@ -407,6 +435,109 @@ module _ {D : Type 0} (a : Ghosts D) where
     pub same_still : new ≡ r → (m : Setting) (s : State) (x : Numbers) → FitsPhase a m old s x → FitsPhase a m (Down new) s x
     same_still same m s x h = subst (λ (v : Recovering D). FitsDown a m v s x) (sym same) (fits_down m s x h)
 
+  -- What has come up fits a fresh state of the machine that has the result of what was read, whatever its areas are
+
+  module _ (r : Recovering D) (up : Rising D a) (risen : ComesUp a r up) (m : Setting) (earlier : List Transaction) (numbers : ℕ → ℕ) (same_geometry : m.geometry ≡ risen.store.geometry)
+      (up_sound : Sound m.geometry (fresh m.geometry earlier IsUpNow)) (one : IsResult m.geometry risen.made.content risen.made.numbers (effects earlier m.start) numbers) where
+    abbrev new_numbers : Numbers
+    new_numbers = recovered_numbers m.geometry numbers (page_read_of risen.store) (text_read_of risen.store)
+
+    -- the areas of the segments stand behind those of the logs
+    area_at : (k : ℕ) (area : D) → slice_get (areas_of a up.segments.items) k ≡ Some area → slice_get risen.store.areas (risen.store.geometry.nodes + k) ≡ Some area
+    area_at k area got =
+        ap (λ (areas : List D). slice_get areas (risen.store.geometry.nodes + k)) risen.areas
+        ∙ ap (λ (g : Geometry). slice_get r.areas (g.nodes + k)) risen.geometry
+        ∙ sym (get-drop r.geometry.nodes k r.areas)
+        ∙ ap (λ (areas : List D). slice_get areas k) (sym risen.segments)
+        ∙ got
+
+    -- no page is being written, and none is dirty
+    module _ (k : ℕ) (pages : Pages D a) (got : slice_get up.segments.items k ≡ Some pages) where
+      its_area : slice_get risen.store.areas (risen.store.geometry.nodes + k) ≡ Some pages.area
+      its_area = area_at k pages.area (get-map (λ (p : Pages D a). p.area) up.segments.items k pages got)
+
+      same_pages : risen.store.geometry.pages ≡ m.geometry.pages
+      same_pages = ap (λ (g : Geometry). g.pages) (sym same_geometry)
+
+      its_bytes : a.honest pages.area ≡ true → (at : ℕ) → slice_index_or (a.now pages.area) at 0 < 256
+      its_bytes = risen.bytes (risen.store.geometry.nodes + k) pages.area (ap (λ (areas : List D). slice_get areas (risen.store.geometry.nodes + k)) (sym risen.areas) ∙ its_area)
+
+      at_rest : (page : ℕ) → page < m.geometry.pages → IsAtRest a pages.area (k + 1) page new_numbers
+      at_rest page within =
+          let inside : page < risen.store.geometry.pages = omega (arith, within, same_pages) in
+          record {
+            no_calls = refl;
+            settled = λ honest. (let its = risen.each (risen.store.geometry.nodes + k) pages.area its_area honest in
+                subst (λ (t : PageText). IsSettled (a.now pages.area) (a.dirty pages.area) page t)
+                (its.texts k page refl inside)
+                (clean_settled (a.now pages.area) (a.dirty pages.area) page (λ slot at below. its.clean (slot_at page slot + at))));
+            reads = λ honest. (risen.each (risen.store.geometry.nodes + k) pages.area its_area honest).reads k page refl inside;
+          }
+
+      none_writes : pages.writes.items ≡ replicate m.geometry.pages AtRest
+      none_writes = risen.rest k pages got ∙ ap (λ (g : Geometry). replicate g.pages AtRest) (sym risen.geometry ∙ sym same_geometry)
+
+      none_failed : (page : ℕ) → slice_get pages.writes.items page ≡ Some HasFailed → ⊥
+      none_failed page failed =
+          let is : AtRest ≡ HasFailed = get-replicate m.geometry.pages page AtRest HasFailed (ap (λ (states : List PageState). slice_get states page) (sym none_writes) ∙ failed) in
+          absurd cc
+
+      area_up : FitsArea a m.geometry (k + 1) pages new_numbers
+      area_up = record {
+        bytes = its_bytes;
+        count = ap length none_writes ∙ length-replicate m.geometry.pages AtRest;
+        each = λ page state at.
+            (let there : slice_get (replicate m.geometry.pages AtRest) page ≡ Some state = ap (λ (states : List PageState). slice_get states page) (sym none_writes) ∙ at in
+            let within : page < m.geometry.pages = omega (arith, slice_get_within (replicate m.geometry.pages AtRest) page state there, length-replicate m.geometry.pages AtRest) in
+            subst (λ (v : PageState). IsPageAt a pages.area (k + 1) page v new_numbers) (get-replicate m.geometry.pages page AtRest state there) (at_rest page within));
+      }
+
+    pages_up : FitsPages a m up.segments.items new_numbers
+    pages_up = record {
+      all_segments = (let counted : length r.areas ≡ area_count r.geometry = count-areas a r.geometry r.areas risen.lengths in
+          sym (length-map up.segments.items (λ (p : Pages D a). p.area)) ∙ ap length risen.segments ∙ length-drop r.geometry.nodes r.areas
+          ∙ omega (arith, counted, ap (λ (g : Geometry). g.segments) risen.geometry, ap (λ (g : Geometry). g.segments) same_geometry));
+      each = area_up;
+    }
+
+    pub fits_up : FitsUp a m up (fresh m.geometry earlier IsUpNow) new_numbers
+    fits_up = record {
+      running = rises a m earlier numbers risen.store up.running same_geometry up_sound risen.made one risen.fresh;
+      pages = pages_up;
+      failed = λ k pages got page failed. absurd (none_failed k pages got page failed);
+    }
+
+    pub honest_up : AreHonest a r.areas → HonestUp a up
+    honest_up honest = record {
+      logs = λ n node area at there. honest n area (sym (risen.log_areas n node at) ∙ there);
+      segments = λ k pages got. honest (risen.store.geometry.nodes + k) pages.area (ap (λ (areas : List D). slice_get areas (risen.store.geometry.nodes + k)) (sym risen.areas) ∙ its_area k pages got);
+    }
+
+  -- whatever its areas are
+  pub begins_anew : (r : Recovering D) (up : Rising D a) → ComesUp a r up → BeginsAnew a r.geometry up
+  begins_anew r up risen =
+      let made = risen.made in
+      let m : Setting = record { geometry = r.geometry; start = made.content } in
+      record {
+        store = made.store;
+        content = made.content;
+        numbers = made.numbers;
+        pages = page_read_of risen.store;
+        texts = text_read_of risen.store;
+        readable = subst (λ (g : Geometry). IsReadable g made.store) risen.geometry made.readable;
+        merges = made.merges;
+        renewed = made.renewed;
+        fits = fits_up r up risen m [] made.numbers (sym risen.geometry) (sound-recovered r.geometry (first_state r.geometry) [] (sound-first r.geometry)) (refl, λ segment first last. refl);
+      }
+
+  pub begins_in : (old : Phase D a) (r new : Recovering D) (up : Rising D a) (phase : Phase D a) → old ≡ Down r → new.geometry ≡ r.geometry → phase ≡ Up up → ComesUp a new up → Begins a old phase
+  begins_in old r new up phase is geometry up_is risen other other_is = (
+    up,
+    up_is,
+    subst (λ (g : Geometry). BeginsAnew a g up) (geometry ∙ ap (λ (it : Recovering D). it.geometry) (down_same r other (sym is ∙ other_is))) (begins_anew new up risen),
+  )
+
+  module _ (old : Phase D a) (r new : Recovering D) (is : old ≡ Down r) where
     -- the last step: what has come up fits the state that the cut keeps
     module _ (up : Rising D a) (risen : ComesUp a new up) (m : Setting) (s : State) (x : Numbers) (h : FitsDown a m r s x) (keeps : Keeps a m s x r new) where
       abbrev kept_now : List Transaction
@@ -418,11 +549,13 @@ module _ {D : Type 0} (a : Ghosts D) where
       honest_store : AreHonest a risen.store.areas
       honest_store = subst (λ (areas : List D). AreHonest a areas) (sym risen.areas) keeps.honest
 
-      finished : IsFinished a risen.store
-      finished = risen.finished keeps.honest
-
       all_merge : AllMergeTo a m.geometry risen.store.areas (effects kept_now m.start) (kept_numbers (DownAt h.cut) s x)
       all_merge = subst (λ (areas : List D). AllMergeTo a m.geometry areas (effects kept_now m.start) (kept_numbers (DownAt h.cut) s x)) (sym risen.areas) (still_merges a m s x r new h keeps)
+
+      one : IsResult m.geometry risen.made.content risen.made.numbers (effects kept_now m.start) (kept_numbers (DownAt h.cut) s x)
+      one = subst (λ (g : Geometry). IsResult g risen.made.content risen.made.numbers (effects kept_now m.start) (kept_numbers (DownAt h.cut) s x)) (sym same_geometry)
+          (result_of a risen.store risen.made (effects kept_now m.start) (kept_numbers (DownAt h.cut) s x) honest_store (subst (λ (areas : List D). AreOfBytes a areas) (sym risen.areas) risen.bytes)
+          (subst (λ (g : Geometry). AllMergeTo a g risen.store.areas (effects kept_now m.start) (kept_numbers (DownAt h.cut) s x)) same_geometry all_merge))
 
       abbrev up_now : State
       up_now = fresh m.geometry kept_now IsUpNow
@@ -436,76 +569,19 @@ module _ {D : Type 0} (a : Ghosts D) where
       up_sound : Sound m.geometry up_now
       up_sound = sound-step m s RecoverStep Recovered up_now h.sound (subst (λ (c : Option Refusal). Unless c s Recovered up_now (Row m s RecoverStep Recovered up_now)) (sym (none_common m s)) up_row)
 
-      -- the areas of the segments stand behind those of the logs
-      area_at : (k : ℕ) (area : D) → slice_get (areas_of a up.segments.items) k ≡ Some area → slice_get risen.store.areas (risen.store.geometry.nodes + k) ≡ Some area
-      area_at k area got =
-          ap (λ (areas : List D). slice_get areas (risen.store.geometry.nodes + k)) risen.areas
-          ∙ ap (λ (g : Geometry). slice_get new.areas (g.nodes + k)) risen.geometry
-          ∙ sym (get-drop new.geometry.nodes k new.areas)
-          ∙ ap (λ (areas : List D). slice_get areas k) (sym risen.segments)
-          ∙ got
-
-      -- no page is being written, and none is dirty
-      module _ (k : ℕ) (pages : Pages D a) (got : slice_get up.segments.items k ≡ Some pages) where
-        its_area : slice_get risen.store.areas (risen.store.geometry.nodes + k) ≡ Some pages.area
-        its_area = area_at k pages.area (get-map (λ (p : Pages D a). p.area) up.segments.items k pages got)
-
-        same_pages : risen.store.geometry.pages ≡ m.geometry.pages
-        same_pages = ap (λ (g : Geometry). g.pages) (sym same_geometry)
-
-        its_bytes : (at : ℕ) → slice_index_or (a.now pages.area) at 0 < 256
-        its_bytes = risen.bytes (risen.store.geometry.nodes + k) pages.area (ap (λ (areas : List D). slice_get areas (risen.store.geometry.nodes + k)) (sym risen.areas) ∙ its_area)
-            (honest_store (risen.store.geometry.nodes + k) pages.area its_area)
-
-        at_rest : (page : ℕ) → page < m.geometry.pages → IsAtRest a pages.area (k + 1) page next_numbers
-        at_rest page within =
-            let inside : page < risen.store.geometry.pages = omega (arith, within, same_pages) in
-            record {
-              no_calls = refl;
-              settled = λ honest. subst (λ (t : PageText). IsSettled (a.now pages.area) (a.dirty pages.area) page t)
-                  (finished.texts k page pages.area its_area inside)
-                  (clean_settled (a.now pages.area) (a.dirty pages.area) page (λ slot at below. finished.clean (risen.store.geometry.nodes + k) pages.area its_area (slot_at page slot + at)));
-              reads = λ honest. finished.reads k page pages.area its_area inside;
-            }
-
-        none_writes : pages.writes.items ≡ replicate m.geometry.pages AtRest
-        none_writes = risen.rest k pages got ∙ ap (λ (g : Geometry). replicate g.pages AtRest) (sym risen.geometry ∙ sym same_geometry)
-
-        none_failed : (page : ℕ) → slice_get pages.writes.items page ≡ Some HasFailed → ⊥
-        none_failed page failed =
-            let is : AtRest ≡ HasFailed = get-replicate m.geometry.pages page AtRest HasFailed (ap (λ (states : List PageState). slice_get states page) (sym none_writes) ∙ failed) in
-            absurd cc
-
-        area_up : FitsArea a m.geometry (k + 1) pages next_numbers
-        area_up = record {
-          honest = honest_store (risen.store.geometry.nodes + k) pages.area its_area;
-          bytes = its_bytes;
-          count = ap length none_writes ∙ length-replicate m.geometry.pages AtRest;
-          each = λ page state at.
-              (let there : slice_get (replicate m.geometry.pages AtRest) page ≡ Some state = ap (λ (states : List PageState). slice_get states page) (sym none_writes) ∙ at in
-              let within : page < m.geometry.pages = omega (arith, slice_get_within (replicate m.geometry.pages AtRest) page state there, length-replicate m.geometry.pages AtRest) in
-              subst (λ (v : PageState). IsPageAt a pages.area (k + 1) page v next_numbers) (get-replicate m.geometry.pages page AtRest state there) (at_rest page within));
-        }
-
-      pages_up : FitsPages a m up.segments.items next_numbers
-      pages_up = record {
-        all_segments = (let counted : length new.areas ≡ area_count new.geometry = count-areas a new.geometry new.areas risen.lengths in
-            sym (length-map up.segments.items (λ (p : Pages D a). p.area)) ∙ ap length risen.segments ∙ length-drop new.geometry.nodes new.areas
-            ∙ omega (arith, counted, ap (λ (g : Geometry). g.segments) keeps.geometry, ap (λ (g : Geometry). g.segments) h.geometry_is));
-        each = area_up;
-      }
+      -- no page has a greater sequence than its segment's number
+      within : AreWithin m.geometry (kept_numbers s.phase s x) (page_read_of risen.store)
+      within segment page first last inside =
+          let stored = (fits_up new up risen m kept_now (kept_numbers (DownAt h.cut) s x) same_geometry up_sound one).running.stored in
+          subst (λ (p : Condition). (page_read_of risen.store segment page).sequence ≤ kept_numbers p s x segment) (sym h.down)
+          ((stored.stands segment page (page_read_of risen.store segment page) first last inside (inl refl)).within)
 
       comes_up_with : Leads a m RecoverStep s x Recovered (Up up)
-      comes_up_with = leads_by_row a m s x Recovered up_now next_numbers (Up up) up_row (λ steps same. absurd cc)
-          (page_read_of risen.store, text_read_of risen.store, ap (λ (p : Condition). recovered_numbers m.geometry (kept_numbers p s x) (page_read_of risen.store) (text_read_of risen.store)) (sym h.down)) (record {
-            running = rises a m kept_now (kept_numbers (DownAt h.cut) s x) risen.store up.running same_geometry up_sound honest_store
-                (subst (λ (areas : List D). AreOfBytes a areas) (sym risen.areas) risen.bytes) finished all_merge (risen.fresh keeps.honest);
-            pages = pages_up;
-            honest = λ n node area at there. keeps.honest n area (sym (risen.log_areas n node at) ∙ there);
-            failed = λ k pages got page failed. absurd (none_failed k pages got page failed);
-          })
+      comes_up_with = leads_by_row a m s x Recovered up_now next_numbers (FitsPhase a m (Up up)) up_row (λ steps same. absurd cc)
+          (page_read_of risen.store, text_read_of risen.store, within, ap (λ (p : Condition). recovered_numbers m.geometry (kept_numbers p s x) (page_read_of risen.store) (text_read_of risen.store)) (sym h.down))
+          (fits_up new up risen m kept_now (kept_numbers (DownAt h.cut) s x) same_geometry up_sound one, honest_up new up risen m kept_now (kept_numbers (DownAt h.cut) s x) same_geometry up_sound one keeps.honest)
 
     pub comes_up : {result : Result Progress RecoverFault} (up : Rising D a) → StepLeaves r new result → ComesUp a new up → FollowsPhase old RecoverStep Recovered (Up up)
     comes_up up leaves risen m s x h =
-        let fits = fits_down m s x h in
-        comes_up_with up risen m s x fits (keeps_of leaves m s x fits)
+        let fits = fits_down old r new is m s x h in
+        comes_up_with up risen m s x fits (keeps_of old r new is leaves m s x fits)

@@ -1,6 +1,6 @@
 -- A step of a recovery answers by what it has made, whatever the areas hold.
 use Rattle.std.proofs.Common.{◌≡◌, ◌⊎◌, ℕ, ◌+◌, ◌*◌, ◌<◌, ◌≤◌, Bool, true, false, List, map, Option, None, Some, refl, sym, ap, subst, ◌∙◌, inl, inr, arith}
-use Rattle.std.specs.Prelude.{if◌then◌else◌, Result, Ok, Err, IfOk, IfErr, OnOk}
+use Rattle.std.specs.Prelude.{if◌then◌else◌, slice_get, Result, Ok, Err, IfOk, IfErr, OnOk}
 use Rattle.std.proofs.lemmas.Result.{IfOk-from_err, IfOk-weaker}
 use Rattle.lc_disk.specs.declared.area.Area.{Ghosts}
 use Rattle.lc_record.specs.declared.geometry.Geometry.{Geometry}
@@ -14,19 +14,21 @@ use Rattle.lc_model.specs.declared.refusal.Refusal.TheVariants.{DeviceFault, Dow
 use Rattle.lc_model.specs.declared.reply.Reply.{Reply}
 use Rattle.lc_model.specs.declared.reply.Reply.TheVariants.{Stepped, Recovered, Refused}
 use Rattle.lc_recover.specs.Fault.{IsRefusal}
-use Rattle.lc_recover.specs.Reads.{AreHonest, store_of}
+use Rattle.lc_recover.specs.Reads.{AreHonest, HaveLengths, area_count, store_of}
 use Rattle.lc_recover.specs.Recovery.{Recovering, begun, IsDone, IsLast, IsMerged, IsMergeNext, Tells, all_steps}
 use Rattle.lc_recover.specs.Steps.{first_steps}
 use Rattle.lc_recover.specs.declared.fault.RecoverFault.{RecoverFault}
 use Rattle.lc_recover.specs.declared.fault.RecoverFault.TheVariants.{BadGeometry, Gap, Twice, OutOfSegment, DeviceFault as Failed, NoMemory}
 use Rattle.lc_recover.specs.declared.progress.Progress.{Progress}
 use Rattle.lc_recover.specs.declared.progress.Progress.TheVariants.{Stepped as HasStepped, Recovered as HasRecovered}
+use Rattle.lc_core.specs.Anew.{StartsAnew}
 use Rattle.lc_core.specs.Places.{same_some}
 use Rattle.lc_core.specs.Recovering.{RepliesTo, refusal_to}
 use Rattle.lc_core.specs.Recovers.{AnswersRecovery, RecoversDown, RefusesAtOnce, at_once, is_recovery}
 use Rattle.lc_core.specs.declared.phase.Phase.{Phase}
 use Rattle.lc_core.specs.declared.phase.Phase.TheVariants.{Down, Up, Taken}
 use Rattle.lc_core.specs.declared.up.Up.{Up as Rising}
+use Rattle.lc_core.proofs.Anew.{starts_anew}
 use Rattle.lc_core.proofs.Recoveries.{down_same, if_ok_at, stepped_same}
 
 pub IfOk-any : {A E : Type 0} {P : A → Type 0} (result : Result A E) → ((x : A) → P x) → IfOk result P
@@ -65,11 +67,28 @@ module _ {D : Type 0} (a : Ghosts D) where
     pub bound : new.steps ≤ all_steps new.geometry (new.geometry.segments * new.geometry.pages)
     pub honest : AreHonest a r.areas → AreHonest a new.areas
     pub reads : r.steps + 1 < first_steps r.geometry → AreHonest a r.areas → map a.now new.areas ≡ map a.now r.areas
+    pub pages : OnOk result ((pages : ℕ) → r.pages ≡ Some pages → new.pages ≡ Some pages)
+    pub lengths : HaveLengths a new.geometry new.areas
+    pub clean : AreHonest a new.areas → area_count new.geometry ≤ new.steps → new.steps ≤ first_steps new.geometry
+        → (k : ℕ) (area : D) → slice_get new.areas k ≡ Some area → (at : ℕ) → a.dirty area at ≡ false
+
+  -- the last step is none of the merge
+  last_apart : (r : Recovering D) → IsLast r → IsMergeNext r → ⊥
+  last_apart r last next = (let some = r.geometry.some_nodes in absurd (omega (arith, last.2, next, some)))
 
   module _ (r new : Recovering D) where
     -- the merge changes no area
     same_store : new.geometry ≡ r.geometry → new.areas ≡ r.areas → store_of new.geometry (map a.now new.areas) ≡ store_of r.geometry (map a.now r.areas)
     same_store geometry areas = ap (λ (g : Geometry). store_of g (map a.now new.areas)) geometry ∙ ap (λ (l : List D). store_of r.geometry (map a.now l)) areas
+
+    -- the merge leaves areas that read as what they hold
+    begins_anew : {steps : ℕ} → StepSays r new (Ok (HasStepped steps)) → IsMergeNext r → AreHonest a r.areas → StartsAnew a new.geometry new.steps (Down new)
+    begins_anew says next honest =
+        let nodes = ap (λ (g : Geometry). g.nodes) says.geometry in
+        let segments = ap (λ (g : Geometry). g.segments) says.geometry in
+        let now : AreHonest a new.areas = says.honest honest in
+        starts_anew a new now says.lengths (says.merged next honest)
+        (says.clean now (omega (arith, says.steps, next, nodes, segments)) (omega (arith, says.steps, next, nodes, segments)))
 
     step_answers : (steps : ℕ) → StepSays r new (Ok (HasStepped steps)) → AnswersRecovery a r (Stepped steps) (Down new)
     step_answers steps says = record {
@@ -91,6 +110,11 @@ module _ {D : Type 0} (a : Ghosts D) where
           (subst (λ (g : Geometry). new.steps ≤ all_steps g (g.segments * g.pages)) says.geometry says.bound);
       reads = λ later is early honest other same. subst (λ (v : Recovering D). AreHonest a v.areas × (map a.now v.areas ≡ map a.now r.areas)) (down_same a new later is)
           (says.honest honest, says.reads early honest);
+      pages = λ later is other same pages was. subst (λ (v : Recovering D). v.pages ≡ Some pages) (down_same a new later is) (says.pages pages was);
+      ends = λ last. absurd (says.progress.1 (last.0, says.pages last.0 last.1, says.steps ∙ last.2 ∙ ap (λ (v : Geometry). all_steps v last.0) (sym says.geometry)));
+      found = λ next honest later is other same. subst (λ (v : Recovering D). IsMerged a v) (down_same a new later is) (says.merged next honest);
+      anew = λ next honest other same. subst (λ (k : ℕ). StartsAnew a r.geometry k (Down new)) (sym says.progress.0 ∙ stepped_same steps other same)
+          (subst (λ (g : Geometry). StartsAnew a g new.steps (Down new)) says.geometry (begins_anew says next honest));
     }
 
     fault_answers : (fault : RecoverFault) (refusal : Refusal) → refusal_to fault ≡ Some refusal → (fault ≡ NoMemory → ⊥) → StepSays r new (Err fault) → AnswersRecovery a r (Refused refusal) (Down new)
@@ -105,6 +129,13 @@ module _ {D : Type 0} (a : Ghosts D) where
       ];
       few = λ steps same. absurd cc;
       reads = λ later is early honest steps same. absurd cc;
+      pages = λ later is steps same. absurd cc;
+      ends = λ last. elim (says.fault (last_apart r last)) [
+        | inl none ↦ absurd (some none)
+        | inr failed ↦ inr (ap (λ (v : Refusal). Refused v) (same_some refusal DeviceFault (sym is ∙ ap refusal_to failed)))
+      ];
+      found = λ next honest later is steps same. absurd cc;
+      anew = λ next honest steps same. absurd cc;
     }
 
     refusal_answers : {E : Type 0} (fault : RecoverFault) (answer : Result Reply E) → RepliesTo (Err fault) answer → StepSays r new (Err fault) → IfOk answer (λ reply. AnswersRecovery a r reply (Down new))
@@ -127,10 +158,6 @@ module _ {D : Type 0} (a : Ghosts D) where
         (λ reply answers other same. subst (λ (v : Recovering D). AnswersRecovery a v reply (Down new)) (down_same a r other (sym is ∙ same)) answers)
         (down_answers result answer replies says going)
 
-  -- the last step is none of the merge
-  last_apart : (r : Recovering D) → IsLast r → IsMergeNext r → ⊥
-  last_apart r last next = (let some = r.geometry.some_nodes in absurd (omega (arith, last.2, next, some)))
-
   pub risen_recovers : (old : Phase D a) (r : Recovering D) → old ≡ Down r → IsLast r → (up : Rising D a) → RecoversDown a old Recovered (Up up)
   risen_recovers old r is last up other same = subst (λ (v : Recovering D). AnswersRecovery a v Recovered (Up up)) (down_same a r other (sym is ∙ same)) (record {
     stepped = λ steps same. absurd cc;
@@ -140,6 +167,10 @@ module _ {D : Type 0} (a : Ghosts D) where
     called = λ apart. inr (inl refl);
     few = λ steps same. absurd cc;
     reads = λ later is early honest steps same. absurd cc;
+    pages = λ later is steps same. absurd cc;
+    ends = λ its. inl refl;
+    found = λ next honest later is steps same. absurd cc;
+    anew = λ next honest steps same. absurd cc;
   })
 
   -- What is refused at once

@@ -24,7 +24,8 @@ use Rattle.lc_core.specs.Geometries.{RefusesOutside, phase_geometry}
 use Rattle.lc_core.specs.Places.{same_some}
 use Rattle.lc_core.specs.Recovers.{RefusesAtOnce}
 use Rattle.lc_core.specs.Truncating.{StepsTo, refusal_in}
-use Rattle.lc_core.specs.World.{AsksIn, FollowsWorld, Leads}
+use Rattle.lc_core.specs.Lives.{Anyhow}
+use Rattle.lc_core.specs.World.{AsksIn, FitsUp, FollowsWorld, Leads, LeadsTo}
 use Rattle.lc_core.specs.declared.phase.Phase.{Phase}
 use Rattle.lc_core.specs.declared.phase.Phase.TheVariants.{Down, Up, Taken}
 use Rattle.lc_core.specs.declared.world.World.{World}
@@ -288,8 +289,19 @@ module _ {D : Type 0} (a : Ghosts D) (event : Event) (reply answer : Reply) (pla
   outside_too Taken refuses = refusal_not answer Unknown other
 
   -- the machine's step under the one is one under the other, and neither refuses
-  pub instead : (old new : World D a) → ((m : Setting) (s after : State) → Step m s event reply after → reply ≡ answer) → StepsTo a old event reply new → StepsTo a old event answer new
-  instead old new same steps = record {
+  pub instead : (old new : World D a) → ((m : Setting) (s after : State) → Step m s event reply after → reply ≡ answer) → (event ≡ RecoverStep → ⊥) → StepsTo a old event reply new → StepsTo a old event answer new
+  instead old new same differ steps = record {
+    anyhow = record {
+      goes = λ up is. (let on = steps.anyhow.goes up is in (
+        on.0,
+        on.1,
+        λ m s x h.
+            (let leads = on.2 m s x h in subst (λ (r : Reply). LeadsTo m event s x r (FitsUp a m on.0)) (same m s leads.after leads.step) leads),
+      ));
+      begins = λ recovers. absurd (differ recovers);
+      answers = λ recovers. absurd (differ recovers);
+      recovers = λ recovers. absurd (differ recovers);
+    };
     follows = λ m s x h. (
         let leads = steps.follows m s x h in
         subst (λ (r : Reply). Leads a m event s x r new.phase) (same m s leads.after leads.step) leads);
@@ -318,7 +330,7 @@ refusal_is reply refusal is = absurd cc
 module _ {D : Type 0} (a : Ghosts D) where
   pub stands_steps : (event : Event) (answer reply : Reply) (old new : World D a) → is_named event ≡ true → StandsFor event answer reply → StepsTo a old event reply new → StepsTo a old event answer new
   stands_steps event answer reply old new named stands steps = elim (refusal_in reply) as (λ (o : Option Refusal). refusal_in reply ≡ o → StepsTo a old event answer new) [
-    | None ↦ λ plain. instead a event reply answer plain (stands.refused ∙ plain) old new (λ m s after step. sym (stands.same (step_answers m s after event reply named step))) steps
+    | None ↦ λ plain. instead a event reply answer plain (stands.refused ∙ plain) old new (λ m s after step. sym (stands.same (step_answers m s after event reply named step))) (λ recovers. (let no : false ≡ true = sym (ap is_named recovers) ∙ named in absurd cc)) steps
     | Some refusal ↦ λ refuses. subst (λ (r : Reply). StepsTo a old event r new) (refusal_is reply refusal refuses ∙ sym (refusal_is answer refusal (stands.refused ∙ refuses))) steps
   ] refl
 
@@ -329,9 +341,11 @@ module _ {D : Type 0} (a : Ghosts D) where
   -- the clauses of a step that is no stop
   pub steps_of : (old : World D a) (event : Event) (reply : Reply) (new : World D a) → ((choices : List (List Choice)) → event ≡ Stop choices → ⊥) → FollowsWorld a old event reply new
       → RefusesAtOnce a old.phase event reply new.phase → CountsPhase a old.phase reply new.phase → phase_geometry a new.phase ≡ phase_geometry a old.phase → RefusesOutside a old.phase event reply
-      → (((choices : List (List Choice)) → event ≡ Stop choices → ⊥) → CallsArea a old.phase new.phase) → StepsTo a old event reply new
-  steps_of old event reply new no_stop follows at_once faults geometry unknown calls = record {
+      → (((choices : List (List Choice)) → event ≡ Stop choices → ⊥) → CallsArea a old.phase new.phase)
+      → (((choices : List (List Choice)) → event ≡ Stop choices → ⊥) → Anyhow a old.phase event reply new.phase) → StepsTo a old event reply new
+  steps_of old event reply new no_stop follows at_once faults geometry unknown calls anyhow = record {
     follows = follows;
+    anyhow = anyhow no_stop;
     at_once = at_once;
     faults = faults;
     geometry = geometry;

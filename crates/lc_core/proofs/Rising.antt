@@ -36,7 +36,7 @@ use Rattle.lc_model.proofs.Numbers.{length-shape, part-replicate}
 use Rattle.lc_model.proofs.One.{one-result}
 use Rattle.lc_model.proofs.Recovered.{renewed-fits}
 use Rattle.lc_recover.specs.Reads.{AllMergeTo, AreHonest, AreImages, AreOfBytes, store_of}
-use Rattle.lc_recover.specs.Recovered.{RecoveredStore, IsFinished, page_of, page_read_of, sequence_of}
+use Rattle.lc_recover.specs.Recovered.{RecoveredStore, page_of, page_read_of, sequence_of, IsMade}
 use Rattle.lc_recover.proofs.Images.{from-map, get-counting, get-map, get-some, in-segment, length-counting, own-image}
 use Rattle.lc_core.specs.Desk.{FitsDesk, FitsSeat}
 use Rattle.lc_core.specs.Fresh.{segment_bytes, fresh_token, text_read_of, IsFresh, IsFreshNode}
@@ -132,6 +132,23 @@ idle_works a (Failed log) is = absurd cc
 idle_works a (Torn log) is = absurd cc
 idle_works a Taken is = absurd cc
 
+-- this result is that one, by as many numbers as there are segments
+abbrev pub IsResult : Geometry → Content → (ℕ → ℕ) → Content → (ℕ → ℕ) → Type 0
+IsResult g made counted content numbers = (made ≡ content) × ((segment : ℕ) → 1 ≤ segment → segment ≤ g.segments → counted segment ≡ numbers segment)
+
+-- where the areas are honest, what was made of them is the result that all their images have
+pub result_of : {D : Type 0} (a : Ghosts D) (r : RecoveredStore D) (done : IsMade a r) (content : Content) (numbers : ℕ → ℕ) → AreHonest a r.areas → AreOfBytes a r.areas
+    → AllMergeTo a r.geometry r.areas content numbers → IsResult r.geometry done.content done.numbers content numbers
+result_of {D} a r done content numbers honest bytes all =
+    let images : List (List ℕ) = map a.now r.areas in
+    let own : AreImages a r.areas images = own-image a r.areas (λ k device is. bytes k device is (honest k device is)) in
+    let store_count : length done.store.pages ≡ r.geometry.segments = length-shape r.geometry.segments r.geometry.pages done.store.pages done.readable.shape in
+    let read_count : length (store_of r.geometry images).pages ≡ r.geometry.segments =
+    sym (length-times done.content (store_of r.geometry images).pages (done.all honest images own).2.shape)
+    ∙ length-times done.content done.store.pages done.merges.2.shape ∙ store_count in
+    let one = one-result (store_of r.geometry images) done.content content done.numbers numbers (done.all honest images own).2 (all images own).2 in
+    (one.0, λ segment first last. one.1 segment first (omega (arith, last, read_count)))
+
 module _ {D : Type 0} (a : Ghosts D) (start : Content) (earlier : List Transaction) (numbers : ℕ → ℕ) (r : RecoveredStore D) where
   abbrev m : Setting
   m = record { geometry = r.geometry; start = start }
@@ -172,29 +189,14 @@ module _ {D : Type 0} (a : Ghosts D) (start : Content) (earlier : List Transacti
     none = λ k got travels. absurd cc;
   }
 
-  module _ (sound : Sound r.geometry s) (honest : AreHonest a r.areas) (bytes : AreOfBytes a r.areas) (done : IsFinished a r) (all : AllMergeTo a r.geometry r.areas content numbers) where
+  module _ (sound : Sound r.geometry s) (done : IsMade a r) (one : IsResult r.geometry done.content done.numbers content numbers) where
     -- The disks
-
-    abbrev images : List (List ℕ)
-    images = map a.now r.areas
-
-    own : AreImages a r.areas images
-    own = own-image a r.areas (λ k device is. bytes k device is (honest k device is))
 
     store_count : length done.store.pages ≡ r.geometry.segments
     store_count = length-shape r.geometry.segments r.geometry.pages done.store.pages done.readable.shape
 
-    read_count : length (store_of r.geometry images).pages ≡ r.geometry.segments
-    read_count =
-        sym (length-times done.content (store_of r.geometry images).pages (done.all images own).2.shape)
-        ∙ length-times done.content done.store.pages done.merges.2.shape ∙ store_count
-
-    -- the areas as they read have one result
-    one : (done.content ≡ content) × ((segment : ℕ) → 1 ≤ segment → segment ≤ length (store_of r.geometry images).pages → done.numbers segment ≡ numbers segment)
-    one = one-result (store_of r.geometry images) done.content content done.numbers numbers (done.all images own).2 (all images own).2
-
     same_number : (segment : ℕ) → 1 ≤ segment → segment ≤ r.geometry.segments → done.numbers segment ≡ numbers segment
-    same_number segment first last = one.1 segment first (omega (arith, last, read_count))
+    same_number segment first last = one.1 segment first last
 
     sequence_is : (segment : ℕ) → 1 ≤ segment → segment ≤ r.geometry.segments → sequence_of r segment ≡ numbers segment
     sequence_is segment first last = done.sequences segment first last ∙ same_number segment first last
@@ -379,9 +381,9 @@ module _ {D : Type 0} (a : Ghosts D) (start : Content) (earlier : List Transacti
 
 module _ {D : Type 0} (a : Ghosts D) where
   pub rises : (m : Setting) (earlier : List Transaction) (numbers : ℕ → ℕ) (r : RecoveredStore D) (w : Running D a) → m.geometry ≡ r.geometry → Sound m.geometry (fresh m.geometry earlier Up)
-      → AreHonest a r.areas → AreOfBytes a r.areas → IsFinished a r → AllMergeTo a m.geometry r.areas (effects earlier m.start) numbers → IsFresh a r w
+      → (done : IsMade a r) → IsResult m.geometry done.content done.numbers (effects earlier m.start) numbers → IsFresh a r w
       → FitsRunning a m w (fresh m.geometry earlier Up) (recovered_numbers m.geometry numbers (page_read_of r) (text_read_of r))
-  rises m earlier numbers r w same sound honest bytes done all new =
-      subst (λ (g : Geometry). Sound g (fresh g earlier Up) → AllMergeTo a g r.areas (effects earlier m.start) numbers
+  rises m earlier numbers r w same sound done one new =
+      subst (λ (g : Geometry). Sound g (fresh g earlier Up) → IsResult g done.content done.numbers (effects earlier m.start) numbers
       → FitsRunning a (record { geometry = g; start = m.start }) w (fresh g earlier Up) (recovered_numbers g numbers (page_read_of r) (text_read_of r))) (sym same)
-      (λ here merges. fresh_fits a m.start earlier numbers r here honest bytes done merges w new) sound all
+      (λ here is. fresh_fits a m.start earlier numbers r here done is w new) sound one

@@ -21,6 +21,7 @@ use Rattle.lc_model.specs.declared.refusal.Refusal.{Refusal}
 use Rattle.lc_model.specs.declared.reply.Reply.TheVariants.{Down as IsDown}
 use Rattle.lc_model.proofs.Keeps.{sound-step}
 use Rattle.lc_core.specs.Areas.{AreOf, AreStopped}
+use Rattle.lc_core.specs.HonestAreas.{HonestUp}
 use Rattle.lc_core.specs.Faults.{area_failures, phase_failures}
 use Rattle.lc_core.specs.Log.{area_of}
 use Rattle.lc_core.specs.Numbers.{Numbers}
@@ -71,7 +72,7 @@ module _ {D : Type 0} (a : Ghosts D) where
 
     module _ (areas : List D) (are : AreOf a up areas) where
       -- the area at a place behind the logs
-      segment_at : (k : ℕ) (pages : Pages D a) → slice_get up.segments.items k ≡ Some pages → slice_get areas (up.running.geometry.nodes + k) ≡ Some pages.area
+      pub segment_at : (k : ℕ) (pages : Pages D a) → slice_get up.segments.items k ≡ Some pages → slice_get areas (up.running.geometry.nodes + k) ≡ Some pages.area
       segment_at k pages at = sym (get-drop up.running.geometry.nodes k areas) ∙ ap (λ (l : List D). slice_get l k) (sym are.segments) ∙ get-map (λ (p : Pages D a). p.area) up.segments.items k pages at
 
       -- the log of a node
@@ -109,14 +110,14 @@ module _ {D : Type 0} (a : Ghosts D) where
           len : D → ℕ
           len d = length (a.now d)
 
-      pub their_honesty : (m : Setting) (s : State) (x : Numbers) → FitsPhase a m (Up up) s x → AreHonest a areas
-      their_honesty m s x h k device at = elim (cases_lt k up.running.geometry.nodes) [
-        | inl few ↦ (let node = log_at k few in h.honest k node.0 device node.1 (node.2 ∙ at))
+      pub their_honesty : HonestUp a up → AreHonest a areas
+      their_honesty h k device at = elim (cases_lt k up.running.geometry.nodes) [
+        | inl few ↦ (let node = log_at k few in h.logs k node.0 device node.1 (node.2 ∙ at))
         | inr past ↦
             let within : k < area_count up.running.geometry = omega (arith, slice_get_within areas k device at, are.count) in
             let it = pages_at k past within in
             let same : Some device ≡ Some it.1.area = sym at ∙ ap (slice_get areas) it.2 ∙ segment_at it.0 it.1 it.3 in
-            subst (λ (d : D). a.honest d ≡ true) (ap (λ (o : Option D). elim o as (λ (o : Option D). D) [ None ↦ device | Some d ↦ d ]) (sym same)) (h.pages.each it.0 it.1 it.3).honest
+            subst (λ (d : D). a.honest d ≡ true) (ap (λ (o : Option D). elim o as (λ (o : Option D). D) [ None ↦ device | Some d ↦ d ]) (sym same)) (h.segments it.0 it.1 it.3)
       ]
 
   -- The row
@@ -144,15 +145,15 @@ module _ {D : Type 0} (a : Ghosts D) where
   module _ (m : Setting) (s : State) (x : Numbers) (choices : List (List Choice)) where
     stops_up : (up : Rising D a) (areas news : List D) → AreOf a up areas → AreStopped a areas news → FitsPhase a m (Up up) s x → Leads a m (Stop choices) s x IsDown (Down (begun up.running.geometry news))
     stops_up up areas news are stopped h =
-        let honest = their_honesty up areas are m s x h in
-        let one = stopped_merge_one a m s x up areas news h.running h.pages honest are stopped in
+        let honest = their_honesty up areas are h.1 in
+        let one = stopped_merge_one a m s x up areas news h.0.running h.0.pages honest are stopped in
         let after : State = record s { phase = DownAt one.0 } in
-        let row : StopRow s.phase m.geometry s IsDown after = subst (λ (p : Condition). StopRow p m.geometry s IsDown after) (sym h.running.up) (one.0, one.1, refl, refl) in
+        let row : StopRow s.phase m.geometry s IsDown after = subst (λ (p : Condition). StopRow p m.geometry s IsDown after) (sym h.0.running.up) (one.0, one.1, refl, refl) in
         leads_by_stop m s x choices after (Down (begun up.running.geometry news)) row (record {
-          geometry_is = sym h.running.geometry_is;
+          geometry_is = sym h.0.running.geometry_is;
           cut = one.0;
           down = refl;
-          sound = sound-step m s (Stop choices) IsDown after h.running.sound
+          sound = sound-step m s (Stop choices) IsDown after h.0.running.sound
               (subst (λ (c : Option Refusal). Unless c s IsDown after (Row m s (Stop choices) IsDown after)) (sym (stop_common m s choices)) row);
           lengths = stopped_lengths a areas news stopped up.running.geometry (their_lengths up areas are);
           honest = stopped_honest a areas news stopped honest;

@@ -1,5 +1,6 @@
 -- The next numbers are determined.
-use Rattle.std.proofs.Common.{◌≡◌, ◌≢◌, refl, sym, ◌∙◌}
+use Rattle.std.proofs.Common.{◌≡◌, ◌≢◌, ℕ, [], refl, sym, ◌∙◌, arith}
+use Rattle.lc_model.specs.Merge.{Page}
 use Rattle.lc_model.specs.State.{Setting, State}
 use Rattle.lc_model.specs.declared.event.Event.{Event}
 use Rattle.lc_model.specs.declared.event.Event.TheVariants.{Begin, SetRange, Write, Read, Abort, Reserve, Close, FlushStep, Leave, Arrive, Deliver, Trim, PageStep, ResetStep, Stop, RecoverStep}
@@ -40,7 +41,8 @@ some-numbers m s x RecoverStep Reset = (numbers_after m s x RecoverStep (Reset),
 some-numbers m s x RecoverStep Down = (numbers_after m s x RecoverStep (Down), refl)
 some-numbers m s x RecoverStep (Refused refusal) = (numbers_after m s x RecoverStep (Refused refusal), refl)
 some-numbers m s x RecoverStep Recovered =
-    (recovered_numbers m.geometry (kept_numbers s.phase s x) x.disks.page x.texts, (x.disks.page, x.texts, refl))
+    (let pages : ℕ → ℕ → Page = λ segment page. record { sequence = 0; bytes = [] } in
+    (recovered_numbers m.geometry (kept_numbers s.phase s x) pages x.texts, (pages, x.texts, λ segment page first last inside. omega arith, refl)))
 
 pub one-numbers : (m : Setting) (s : State) (x next others : Numbers) (event : Event) (reply : Reply) → Turns m s x event reply next → Turns m s x event reply others → reply ≢ Recovered → next ≡ others
 one-numbers m s x next others (Begin node thread segments reading) reply first second differ = first ∙ sym second

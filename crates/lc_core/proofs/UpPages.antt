@@ -16,7 +16,7 @@ use Rattle.lc_model.specs.declared.refusal.Refusal.TheVariants.{DeviceFault}
 use Rattle.lc_model.specs.declared.reply.Reply.{Reply}
 use Rattle.lc_model.specs.declared.reply.Reply.TheVariants.{Refused}
 use Rattle.lc_model.proofs.Rows.{step-row}
-use Rattle.lc_core.specs.Devices.{HavePages, HaveSegments, HonestLogs}
+use Rattle.lc_core.specs.Devices.{HavePages, HaveSegments}
 use Rattle.lc_core.specs.FaultReplies.{CountsFaults, is_device_fault, is_fault, device_kind}
 use Rattle.lc_core.specs.Faults.{SameDevices, SameLogAreas, area_failures, log_failures, logs_of}
 use Rattle.lc_core.specs.Log.{area_of}
@@ -28,13 +28,11 @@ use Rattle.lc_core.specs.Refuses.{Refuses}
 use Rattle.lc_core.specs.Settled.{open_answer}
 use Rattle.lc_core.specs.Turns.{Turns, numbers_after}
 use Rattle.lc_core.specs.Running.{FitsRunning}
-use Rattle.lc_core.specs.World.{FitsPhase, FitsUp, FollowsUp, Leads}
+use Rattle.lc_core.specs.World.{FitsUp, FollowsUp, LeadsTo}
 use Rattle.lc_core.specs.declared.log.Log.{Log}
 use Rattle.lc_core.specs.declared.pages.Pages.{Pages}
-use Rattle.lc_core.specs.declared.phase.Phase.TheVariants.{Up}
 use Rattle.lc_core.specs.declared.running.Running.{Running}
 use Rattle.lc_core.specs.declared.up.Up.{Up as Rising}
-use Rattle.lc_core.proofs.Devices.{honest_kept}
 use Rattle.lc_core.proofs.PagesTurned.{halts_still, pages_turned}
 
 -- what is refused at once leaves the numbers as they are
@@ -48,7 +46,6 @@ module _ {D : Type 0} (a : Ghosts D) where
   fits_alike up later running segments m s x h = record {
     running = subst (λ (w : Running D a). FitsRunning a m w s x) (sym running) h.running;
     pages = subst (λ (l : List (Pages D a)). FitsPages a m l x) (sym segments) h.pages;
-    honest = subst (λ (w : Running D a). HonestLogs a w.nodes.items) (sym running) h.honest;
     failed = subst (λ (l : List (Pages D a)). HaltAll a s l) (sym segments) h.failed;
   }
 
@@ -71,8 +68,8 @@ module _ {D : Type 0} (a : Ghosts D) where
 
   -- where nothing refuses it
   page_leads : (up later : Rising D a) (n k page : ℕ) (reply : Reply) (old new : Pages D a) → slice_get up.segments.items k ≡ Some old → later.segments.items ≡ slice_set up.segments.items k new
-      → SameDevices a up.running later.running → (m : Setting) (s : State) (x : Numbers) → FitsPhase a m (Up up) s x → common_refusal m.geometry s (PageStep n (k + 1) page) ≡ None
-      → FollowsPaging a n (k + 1) page up.running old reply later.running new → Leads a m (PageStep n (k + 1) page) s x reply (Up later)
+      → SameDevices a up.running later.running → (m : Setting) (s : State) (x : Numbers) → FitsUp a m up s x → common_refusal m.geometry s (PageStep n (k + 1) page) ≡ None
+      → FollowsPaging a n (k + 1) page up.running old reply later.running new → LeadsTo m (PageStep n (k + 1) page) s x reply (FitsUp a m later)
   page_leads up later n k page reply old new at are devices m s x h common follows =
       let event : Event = PageStep n (k + 1) page in
       let on = follows m s x h.running common (h.pages.each k old at) (h.failed k old at) in
@@ -89,7 +86,6 @@ module _ {D : Type 0} (a : Ghosts D) where
           pages = subst (λ (segments : List (Pages D a)). FitsPages a m segments on.0.next) (sym are)
               (subst (λ (y : Numbers). FitsPages a m (slice_set up.segments.items k new) y) (sym turns)
               (pages_turned a m s x up.segments.items n k page old new reply at h.pages (subst (λ (y : Numbers). FitsArea a m.geometry (k + 1) new y) turns on.1)));
-          honest = honest_kept a up.running.nodes.items later.running.nodes.items devices.kinds h.honest;
           failed = λ j pages got.
               (let there : slice_get (slice_set up.segments.items k new) j ≡ Some pages = ap (λ (l : List (Pages D a)). slice_get l j) (sym are) ∙ got in
               elim (cases_eq j k) [
@@ -106,7 +102,7 @@ module _ {D : Type 0} (a : Ghosts D) where
       → later.segments.items ≡ slice_set up.segments.items k new → SameDevices a up.running later.running → (o : Option Refusal) → Refuses a up.running (PageStep n segment page) o → o ≡ None
       → FollowsPaging a n segment page up.running old reply later.running new → FollowsUp a up (PageStep n segment page) reply later
   page_follows_up up later n segment k page reply old new next at are devices o refuses none follows m s x h =
-      subst (λ (i : ℕ). common_refusal m.geometry s (PageStep n i page) ≡ None → FollowsPaging a n i page up.running old reply later.running new → Leads a m (PageStep n i page) s x reply (Up later)) next
+      subst (λ (i : ℕ). common_refusal m.geometry s (PageStep n i page) ≡ None → FollowsPaging a n i page up.running old reply later.running new → LeadsTo m (PageStep n i page) s x reply (FitsUp a m later)) next
       (page_leads up later n k page reply old new at are devices m s x h) (sym (refuses m s x h.running) ∙ none) follows
 
   -- The devices

@@ -22,3 +22,7 @@ module _ {D : Type 0} (a : Ghosts D) where
   -- those of the logs keep to the model of a disk
   abbrev pub HonestLogs : List (Node D a) → Type 0
   HonestLogs nodes = (n : ℕ) (node : Node D a) (area : D) → slice_get nodes n ≡ Some node → area_of a node.journal.log ≡ Some area → a.honest area ≡ true
+
+  -- those of the segments
+  abbrev pub HonestSegments : List (Pages D a) → Type 0
+  HonestSegments segments = (k : ℕ) (pages : Pages D a) → slice_get segments k ≡ Some pages → a.honest pages.area ≡ true

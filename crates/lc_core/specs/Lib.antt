@@ -82,3 +82,6 @@ pub mod Cluster
 pub mod Answered
 pub mod Layers
 pub mod Unfinished
+pub mod Lives
+pub mod HonestAreas
+pub mod Anew

@@ -8,6 +8,7 @@ use Rattle.lc_model.specs.State.{Up as IsUp, Setting, State}
 use Rattle.lc_model.specs.Stored.{records_of}
 use Rattle.lc_core.specs.FaultReplies.{kind_of}
 use Rattle.lc_core.specs.Geometries.{phase_geometry}
+use Rattle.lc_core.specs.Lives.{StillLives}
 use Rattle.lc_core.specs.Log.{Stands, HasReset, area_of, end_of, is_failed, is_idle, is_sealed, size, under_way}
 use Rattle.lc_core.specs.Numbers.{Numbers, stable_records}
 use Rattle.lc_core.specs.Pages.{areas_of}
@@ -116,12 +117,13 @@ module _ {D : Type 0} (a : Ghosts D) where
   segment_areas (Up up) = areas_of a up.segments.items
   segment_areas Taken = []
 
-  -- no area has changed but that of a node's log, and not the geometry; whatever the store fitted, it still fits
+  -- no area has changed but that of a node's log, and not the geometry; whatever the store fitted, it still fits, and it lives on
   pub record IsSameBut (node : ℕ) (old new : Phase D a) : Type 0 where
     pub others : (other : ℕ) → (other ≡ node → ⊥) → log_area new other ≡ log_area old other
     pub segments : segment_areas new ≡ segment_areas old
     pub geometry : phase_geometry a new ≡ phase_geometry a old
     pub still : (m : Setting) (s : State) (x : Numbers) → FitsPhase a m old s x → FitsPhase a m new s x
+    pub lives : StillLives a old new
 
   -- the area of a node's log was read
   pub record ReadsLog (node : ℕ) (area : D) (old new : Phase D a) (failed : Bool) : Type 0 where

@@ -102,8 +102,7 @@ module _ {D : Type 0} (a : Ghosts D) where
 
   -- the area of a segment and its pages as they stand
   pub record FitsArea (g : Geometry) (segment : ℕ) (pages : Pages D a) (x : Numbers) : Type 0 where
-    pub honest : a.honest pages.area ≡ true
-    pub bytes : (at : ℕ) → slice_index_or (a.now pages.area) at 0 < 256
+    pub bytes : a.honest pages.area ≡ true → (at : ℕ) → slice_index_or (a.now pages.area) at 0 < 256
     pub count : length pages.writes.items ≡ g.pages
     pub each : (page : ℕ) (state : PageState) → slice_get pages.writes.items page ≡ Some state → IsPageAt pages.area segment page state x
 

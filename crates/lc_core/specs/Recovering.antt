@@ -1,8 +1,8 @@
 -- What a step of a recovery answers, and what the last one leaves.
 use Rattle.std.specs.Prelude.{◌≡◌, ℕ, Bool, true, false, drop, Option, Some, None, Result, Ok, Err, IsErr, MatchOption, slice_get}
 use Rattle.lc_disk.specs.declared.area.Area.{Ghosts}
-use Rattle.lc_recover.specs.Reads.{AreHonest, AreOfBytes, HaveLengths}
-use Rattle.lc_recover.specs.Recovered.{RecoveredStore, IsFinished}
+use Rattle.lc_recover.specs.Reads.{AreOfBytes, HaveLengths}
+use Rattle.lc_recover.specs.Recovered.{RecoveredStore, AreFinished, IsMade}
 use Rattle.lc_recover.specs.Recovery.{Recovering}
 use Rattle.lc_recover.specs.declared.fault.RecoverFault.{RecoverFault}
 use Rattle.lc_recover.specs.declared.fault.RecoverFault.TheVariants.{BadGeometry, Gap, Twice, OutOfSegment, DeviceFault, NoMemory}
@@ -48,8 +48,9 @@ module _ {D : Type 0} (a : Ghosts D) where
     pub areas : store.areas ≡ r.areas
     pub same_geometry : up.running.geometry ≡ r.geometry
     pub log_areas : (n : ℕ) (node : Node D a) → slice_get up.running.nodes.items n ≡ Some node → area_of a node.journal.log ≡ slice_get r.areas n
-    pub finished : AreHonest a r.areas → IsFinished a store
-    pub fresh : AreHonest a r.areas → IsFresh a store up.running
+    pub made : IsMade a store
+    pub each : AreFinished a store
+    pub fresh : IsFresh a store up.running
     pub lengths : HaveLengths a r.geometry r.areas
     pub bytes : AreOfBytes a r.areas
     pub segments : areas_of a up.segments.items ≡ drop r.geometry.nodes r.areas

@@ -11,9 +11,10 @@ use Rattle.lc_model.specs.declared.reply.Reply.{Reply}
 use Rattle.lc_model.specs.declared.reply.Reply.TheVariants.{Stepped, Recovered, Refused}
 use Rattle.lc_recover.specs.Fault.{IsRefusal}
 use Rattle.lc_recover.specs.Reads.{AreHonest, store_of}
-use Rattle.lc_recover.specs.Recovery.{Recovering, begun, IsLast, IsMergeNext, all_steps}
+use Rattle.lc_recover.specs.Recovery.{Recovering, begun, IsLast, IsMerged, IsMergeNext, all_steps}
 use Rattle.lc_recover.specs.Steps.{first_steps}
 use Rattle.lc_recover.specs.declared.fault.RecoverFault.{RecoverFault}
+use Rattle.lc_core.specs.Anew.{StartsAnew}
 use Rattle.lc_core.specs.Recovering.{refusal_to}
 use Rattle.lc_core.specs.Stepping.{works_up}
 use Rattle.lc_core.specs.declared.phase.Phase.{Phase}
@@ -44,10 +45,16 @@ module _ {D : Type 0} (a : Ghosts D) where
     -- the merge is of what the areas read as
     pub merged : IsMergeNext r → AreHonest a r.areas → AnswersMerge (store_of r.geometry (map a.now r.areas)) reply
     pub called : (IsMergeNext r → ⊥) → AnswersCall reply
+    -- the number of pages to write stays as the merge has found it, and gives the step at which the store is up, unless its device fails
+    pub pages : (later : Recovering D) → new ≡ Down later → (steps : ℕ) → reply ≡ Stepped steps → (pages : ℕ) → r.pages ≡ Some pages → later.pages ≡ Some pages
+    pub ends : IsLast r → (reply ≡ Recovered) ⊎ (reply ≡ Refused DeviceFault)
     -- by the geometry alone there is an end to the steps, and what honest areas read as stays while they are synced and read
     pub few : (steps : ℕ) → reply ≡ Stepped steps → steps ≤ all_steps r.geometry (r.geometry.segments * r.geometry.pages)
     pub reads : (later : Recovering D) → new ≡ Down later → r.steps + 1 < first_steps r.geometry → AreHonest a r.areas → (steps : ℕ) → reply ≡ Stepped steps
         → AreHonest a later.areas × (map a.now later.areas ≡ map a.now r.areas)
+    -- behind the merge of honest areas what they read as is merged, and it fits the machine's first state, with that content
+    pub found : IsMergeNext r → AreHonest a r.areas → (later : Recovering D) → new ≡ Down later → (steps : ℕ) → reply ≡ Stepped steps → IsMerged a later
+    pub anew : IsMergeNext r → AreHonest a r.areas → (steps : ℕ) → reply ≡ Stepped steps → StartsAnew a r.geometry steps new
 
   -- so does a store that is down
   abbrev pub RecoversDown : Phase D a → Reply → Phase D a → Type 0

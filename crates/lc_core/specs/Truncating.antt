@@ -18,6 +18,7 @@ use Rattle.lc_core.specs.Geometries.{RefusesOutside, phase_geometry}
 use Rattle.lc_core.specs.PageState.{is_begun}
 use Rattle.lc_core.specs.Recovers.{RefusesAtOnce}
 use Rattle.lc_core.specs.Uncommitted.{HasSeatOn}
+use Rattle.lc_core.specs.Lives.{Anyhow}
 use Rattle.lc_core.specs.World.{FollowsWorld}
 use Rattle.lc_core.specs.declared.node.Node.{Node}
 use Rattle.lc_core.specs.declared.page_state.PageState.{PageState}
@@ -143,6 +144,7 @@ module _ {D : Type 0} (a : Ghosts D) where
   -- an event that wants no memory, and is no stop, led from the one store to the other under this reply
   pub record StepsTo (old : World D a) (event : Event) (reply : Reply) (new : World D a) : Type 0 where
     pub follows : FollowsWorld a old event reply new
+    pub anyhow : Anyhow a old.phase event reply new.phase
     pub at_once : RefusesAtOnce a old.phase event reply new.phase
     pub faults : CountsPhase a old.phase reply new.phase
     pub geometry : phase_geometry a new.phase ≡ phase_geometry a old.phase

@@ -1,5 +1,5 @@
 -- What an event and its reply make of the numbers beside the machine's state.
-use Rattle.std.specs.Prelude.{◌≡◌, ℕ, ◌+◌, ◌-◌, Bool, ◌&&◌, ◌==◌, nat_lt, List, [], ◌∷◌, filter, find, max, slice_get, Option, Some, None, if◌then◌else◌}
+use Rattle.std.specs.Prelude.{◌≡◌, ℕ, ◌+◌, ◌-◌, ◌<◌, ◌≤◌, Bool, ◌&&◌, ◌==◌, nat_lt, List, [], ◌∷◌, filter, find, max, slice_get, Option, Some, None, if◌then◌else◌}
 use Rattle.std.specs.Option.{unwrap_or}
 use Rattle.lc_page.specs.PageVector.{settled_text}
 use Rattle.lc_page.specs.declared.page_text.PageText.{PageText}
@@ -154,11 +154,16 @@ abbrev pub kept_numbers : Phase → State → Numbers → ℕ → ℕ
 kept_numbers Up s x = x.disks.numbers
 kept_numbers (DownAt cut) s x = counted_all x.disks.numbers (kept s.history cut)
 
--- behind the last step of a recovery the segments have the numbers of what the cut kept, and the pages are those that it
--- left
+-- no page has a greater sequence than its segment's number
+abbrev pub AreWithin : Geometry → (ℕ → ℕ) → (ℕ → ℕ → Page) → Type 0
+AreWithin g numbers pages =
+    (segment page : ℕ) → 1 ≤ segment → segment ≤ g.segments → page < g.pages → (pages segment page).sequence ≤ numbers segment
+
+-- behind the last step of a recovery the segments have the numbers of what the cut kept, and the pages that it left have no
+-- greater ones
 abbrev pub IsRecovered : Setting → State → Numbers → Numbers → Type 0
 IsRecovered m s x new =
-    (pages : ℕ → ℕ → Page) × (texts : ℕ → ℕ → PageText) × (new ≡ recovered_numbers m.geometry (kept_numbers s.phase s x) pages texts)
+    (pages : ℕ → ℕ → Page) × (texts : ℕ → ℕ → PageText) × AreWithin m.geometry (kept_numbers s.phase s x) pages × (new ≡ recovered_numbers m.geometry (kept_numbers s.phase s x) pages texts)
 
 -- the event and its reply lead from these numbers to those
 abbrev pub Turns : Setting → State → Numbers → Event → Reply → Numbers → Type 0

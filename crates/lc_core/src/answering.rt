@@ -16,6 +16,7 @@ impl<D: Stoppable + Drop> World<D> {
     ghost use Rattle.lc_core.specs.Faults.{CountsPhase, phase_failures};
     ghost use Rattle.lc_core.specs.Calls.{CallsArea, KeepsAreas};
     ghost use Rattle.lc_core.specs.Geometries.{RefusesOutside, phase_geometry};
+    ghost use Rattle.lc_core.specs.Lives.{Anyhow, StillLives};
     ghost use Rattle.lc_core.specs.Recovers.{RecoversDown, RefusesAtOnce};
 
     /// An event. It makes at most one call of an area; a stop stops each area, and calls none.
@@ -29,6 +30,12 @@ impl<D: Stoppable + Drop> World<D> {
         ensures follows { IfOk result (λ reply. FollowsWorld D.Area self.old event.now reply self.new) }
         ensures asks { OnErr result (AsksWorld D.Area self.old event.now) }
         ensures err { OnErr result (StillFitsWorld D.Area self.old self.new) }
+
+        // Whatever the areas are: what comes up is a store of what was read, and from then on up to the next stop each reply is one
+        // of the machine that has that content.
+        ensures anyhow { IfOk result (λ reply. ((choices : List (List Choice)) → event.now ≡ Stop choices → ⊥)
+            → Anyhow D.Area self.old.phase event.now reply self.new.phase) }
+        ensures still { OnErr result (StillLives D.Area self.old.phase self.new.phase) }
 
         // Whatever the areas hold: what may want memory at all, what is refused at once, and what a step of a recovery answers.
         ensures memory { OnErr result (AsksIn D.Area self.old.phase event.now) }

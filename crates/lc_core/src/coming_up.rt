@@ -12,6 +12,7 @@ use std::alloc::Global;
 impl<D: Stoppable + Drop> World<D> {
     ghost use Rattle.lc_core.specs.ComingUp.{ComesUpBy};
     ghost use Rattle.lc_core.specs.Geometries.{phase_geometry};
+    ghost use Rattle.lc_core.specs.Lives.{IsNewborn};
     ghost use Rattle.lc_core.specs.Observed.{observed};
 
     /// Recovers a store that is down, as `RecoverStep` again and again, as long as more is to come: behind an `Ok` it is up. It
@@ -26,6 +27,8 @@ impl<D: Stoppable + Drop> World<D> {
     /// Idea: recovery at the opening of a store (RVM: Satyanarayanan et al., TOCS 1994).
     pub fn recover(&mut self, alloc: Global) -> Result<(), CallFault>
         ensures steps { ComesUpBy D.Area self.old result self.new }
+        // Whatever the areas are: what has come up has the content of a store that was read.
+        ensures born { OnOk result (IsNewborn D.Area self.new.phase) }
         ensures up { OnOk result ((observed D.Area self.new).up ≡ true) }
         ensures kept { OnErr result ((observed D.Area self.new).up ≡ (observed D.Area self.old).up) }
         ensures at_once { (observed D.Area self.old).up ≡ true → (result ≡ Err (Refused OutOfTurn)) × (self.new.phase ≡ self.old.phase) }

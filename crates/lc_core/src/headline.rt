@@ -1,5 +1,5 @@
 //! What a store promises of a whole run.
-ghost use Rattle.std.specs.Prelude.{◌≡◌, ◌≢◌, ◌⊎◌, ◌<◌, ℕ, List, [], IfErr, IfOk, length, map, slice_get, take, true, false};
+ghost use Rattle.std.specs.Prelude.{◌≡◌, ◌≢◌, ◌⊎◌, ◌<◌, ℕ, List, [], IfErr, IfOk, None, Option, length, map, slice_get, take, true, false};
 ghost use Rattle.lc_model.specs.Merge.{IsLeast};
 ghost use Rattle.lc_record.specs.declared.geometry.Geometry.{Geometry as TheGeometry};
 ghost use Rattle.lc_recover.specs.Reads.{area_len};
@@ -7,6 +7,7 @@ ghost use Rattle.lc_recover.specs.declared.fault.RecoverFault.TheVariants.{BadGe
 ghost use Rattle.lc_model.specs.State.{first_state};
 ghost use Rattle.lc_core.specs.Calls.{CallsEach};
 ghost use Rattle.lc_core.specs.Headline.{Headline};
+ghost use Rattle.lc_core.specs.Lives.{FitsLife, Life, Lives};
 ghost use Rattle.lc_core.specs.Observed.{observed};
 ghost use Rattle.lc_core.specs.Runs.{AsksNext, GrowsNext, OnAreas, Settles};
 
@@ -39,6 +40,10 @@ pub fn run_areas<D: Stoppable + Drop>(
         (take (length ran.1.replies.items) events.now) ran.1.replies.items (observed D.Area ran.0)) }
     ensures fits { IfOk result (λ ran. OnAreas D.Area geometry areas.items (λ m x.
         Settles D.Area m x (take (length ran.1.replies.items) events.now) ran.1.replies.items ran.0)) }
+    // Whatever the areas are: what comes up has the content of a store that was read, and up to the next stop each reply is one of
+    // the machine of that content.
+    ensures lives { IfOk result (λ ran. (after : Option Life) × Lives geometry None (take (length ran.1.replies.items) events.now)
+        ran.1.replies.items after × FitsLife D.Area geometry after ran.0.phase) }
     ensures calls { IfOk result (λ ran. (g : TheGeometry) (news : List D) → (observed D.Area ran.0).gives g news
         → CallsEach D.Area D.left (take (length ran.1.replies.items) events.now) areas.items news) }
     ensures all { IfOk result (λ ran. ran.1.out_of_memory ≡ false

@@ -1,5 +1,5 @@
 //! The laws of the answers that the machine leaves open, each the contract of a function with nothing to do.
-ghost use Rattle.std.specs.Prelude.{◌≡◌, ◌≢◌, ◌⊎◌, ◌+◌, ◌++◌, ◌<◌, ℕ, List, [], Some, true, slice_get, slice_set};
+ghost use Rattle.std.specs.Prelude.{◌≡◌, ◌≢◌, ◌⊎◌, ◌+◌, ◌++◌, ◌<◌, ℕ, List, [], Some, true, slice_get, slice_set, sum_by};
 ghost use Rattle.lc_disk.specs.Area.{IsImage};
 ghost use Rattle.lc_page.specs.declared.page_text.PageText.{PageText};
 ghost use Rattle.lc_record.specs.declared.geometry.Geometry.{Geometry as Shape};
@@ -18,7 +18,8 @@ ghost use Rattle.lc_rest.specs.Tested.{IsTested};
 ghost use Rattle.lc_recover.specs.Reads.{AreHonest, HaveLengths};
 ghost use Rattle.lc_core.specs.Adopting.{IsAdoptedUp, numbers_of};
 ghost use Rattle.lc_core.specs.Areas.{AreStopped};
-ghost use Rattle.lc_core.specs.Headline.{AllMerge, Cuts, Holds};
+ghost use Rattle.lc_core.specs.Headline.{AllMerge, Cuts, Holds, Leaves};
+ghost use Rattle.lc_core.specs.HonestAreas.{HonestUp};
 ghost use Rattle.lc_core.specs.World.{FitsUp};
 ghost use Rattle.lc_core.specs.declared.up.Up.{Up as ItsUp};
 ghost use Rattle.lc_core.specs.declared.world.World.{World as Store};
@@ -40,6 +41,21 @@ ghost use Rattle.lc_core.specs.Turns.{Turns, called, page_settled};
 ghost use Rattle.lc_core.specs.declared.pages.Pages.{Pages as ItsPages};
 ghost use Rattle.lc_core.specs.declared.here.Here.{Here as Slots};
 ghost use Rattle.lc_core.specs.Seat.{Seat as Sitting};
+ghost use Rattle.std.specs.Prelude.{Bool, Option, false};
+ghost use Rattle.lc_disk.specs.declared.choice.Choice.{Choice};
+ghost use Rattle.lc_recover.specs.Recovery.{IsMerged, Recovering};
+ghost use Rattle.lc_core.specs.Anew.{StartsAnew};
+ghost use Rattle.lc_core.specs.Layers.{StepsUp};
+ghost use Rattle.lc_core.specs.Stops.{StopsAll};
+ghost use Rattle.lc_core.specs.Truncating.{StepsTo};
+ghost use Rattle.lc_core.specs.Calls.{CallsArea};
+ghost use Rattle.lc_core.specs.Faults.{SameDevices};
+ghost use Rattle.lc_core.specs.Lives.{AnswersOne, FitsLife, Life, Told};
+ghost use Rattle.lc_core.specs.Recovering.{ComesUp};
+ghost use Rattle.lc_core.specs.Stepping.{FollowsStep, TellsWriting, is_plain};
+ghost use Rattle.lc_core.specs.World.{BeginsAnew, FitsPhase, FitsWorld, Leads, LeadsTo};
+ghost use Rattle.lc_core.specs.declared.phase.Phase.{Phase as Standing};
+ghost use Rattle.lc_core.specs.declared.phase.Phase.TheVariants.{Down as IsDownNow, Up as IsUpNow};
 
 use crate::{Event, Refusal, Reply};
 use lc_disk::Area;
@@ -77,11 +93,22 @@ pub fn next_life<D: Area>()
         (counted_all numbers (h.after.earlier ++ kept h.after.history cut)) }
 {}
 
+/// A store that fits a state of the machine, up or down, gives areas of its geometry that keep to the model of a disk. Whatever
+/// a stop leaves of them merges to the value of a prefix of a serial order of the committed transactions that has every
+/// acknowledged one. It says of each step what the headline says of the end of a run.
+pub fn fits_leaves<D: Area>()
+    ensures some { (m : Setting) (s : State) (x : Numbers) (w : Store D D.Area) → FitsWorld D.Area m w s x →
+        (areas : List D) × (observed D.Area w).gives m.geometry areas }
+    ensures leaves { (m : Setting) (s : State) (x : Numbers) (w : Store D D.Area) (numbers : ℕ → ℕ) (g : Shape) (areas : List D) →
+        FitsWorld D.Area m w s x → x.disks.numbers ≡ counted_all numbers s.earlier → (observed D.Area w).gives g areas →
+        (g ≡ m.geometry) × Leaves D.Area m s numbers (sum_by D.failures areas) areas }
+{}
+
 /// A store that is built of a cluster at rest that passes the tests fits a state of the machine with nothing open, whose value is
 /// what all records make of the pages.
 pub fn adopted<D: Area>()
     ensures fits { (f : Found) (up : ItsUp D D.Area) → IsTested f → IsAdoptedUp D.Area f up →
-        FitsUp D.Area (machine_setting f) up (machine_state f) (numbers_of f) }
+        FitsUp D.Area (machine_setting f) up (machine_state f) (numbers_of f) × HonestUp D.Area up }
     ensures value { (f : Found) → value f.base [] (machine_state f).history ≡ put_on f.records f.base }
 {}
 
@@ -138,7 +165,7 @@ pub fn coherent_numbers()
 /// the end of a page write, leave the others fitting.
 pub(crate) fn page_areas<D: Area>()
     ensures images { (g : Shape) (segment page : ℕ) (pages : ItsPages D D.Area) (x : Numbers) (image : List ℕ) →
-        FitsArea D.Area g segment pages x → page < g.pages → IsImage (D.now pages.area) (D.dirty pages.area) image →
+        D.honest pages.area ≡ true → FitsArea D.Area g segment pages x → page < g.pages → IsImage (D.now pages.area) (D.dirty pages.area) image →
         IsStored segment page image x }
     ensures called { (m : Setting) (s : State) (segments : List (ItsPages D D.Area)) (k page calls : ℕ) (old new : ItsPages D D.Area) (x : Numbers) →
         slice_get segments k ≡ Some old → FitsPages D.Area m segments x →
@@ -148,4 +175,25 @@ pub(crate) fn page_areas<D: Area>()
         slice_get segments k ≡ Some old → FitsPages D.Area m segments x →
         FitsArea D.Area m.geometry (k + 1) new (page_settled x (k + 1) page) →
         FitsPages D.Area m (slice_set segments k new) (page_settled x (k + 1) page) }
+{}
+
+/// Whatever the areas of a store are: a recovery brings up a store of what was read, and what is up follows the machine of that
+/// content. A call leaves areas as honest as they were, and a stop of honest ones is one of the machine's.
+pub(crate) fn any_areas<D: Area>()
+    ensures begins { (r : Recovering D) (up : ItsUp D D.Area) → ComesUp D.Area r up → BeginsAnew D.Area r.geometry up }
+    ensures runs { (m : Setting) (s : State) (x : Numbers) (up later : ItsUp D D.Area) (event : Event) (reply : Reply) (writing : Bool) →
+        is_plain event ≡ true → later.segments ≡ up.segments → SameDevices D.Area up.running later.running →
+        FollowsStep D.Area writing up.running event reply later.running → TellsWriting m x event writing →
+        FitsUp D.Area m up s x → LeadsTo m event s x reply (FitsUp D.Area m later) }
+    ensures honest { (up new : ItsUp D D.Area) → CallsArea D.Area (IsUpNow up) (IsUpNow new) → HonestUp D.Area up → HonestUp D.Area new }
+    ensures anew { (new : Recovering D) → AreHonest D.Area new.areas → HaveLengths D.Area new.geometry new.areas → IsMerged D.Area new →
+        ((k : ℕ) (area : D) → slice_get new.areas k ≡ Some area → (at : ℕ) → D.dirty area at ≡ false) →
+        StartsAnew D.Area new.geometry new.steps (IsDownNow new) }
+    ensures steps { (old new : Store D D.Area) (up later : ItsUp D D.Area) (event : Event) (reply : Reply) → old.phase ≡ IsUpNow up →
+        new.phase ≡ IsUpNow later → (event ≡ Event.RecoverStep → ⊥) → StepsUp D.Area up event reply later → StepsTo D.Area old event reply new }
+    ensures stops { (m : Setting) (s : State) (x : Numbers) (choices : List (List Choice)) (old new : Standing D D.Area) → StopsAll D.Area old new →
+        FitsPhase D.Area m old s x → Leads D.Area m (Event.Stop choices) s x Reply.Down new }
+    ensures lives { (g : Shape) (at : Option Life) (old new : Standing D D.Area) (event : Event) (reply : Reply) →
+        FitsLife D.Area g at old → Told D.Area old event reply new →
+        (after : Option Life) × AnswersOne g at event reply after × FitsLife D.Area g after new }
 {}

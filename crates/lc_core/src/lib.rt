@@ -125,7 +125,7 @@ pub use call_fault::CallFault;
 pub use flush_progress::FlushProgress;
 pub use headline::run_areas;
 pub use in_memory::run_in_memory;
-pub use laws::{adopted, next_life, settled_answers, settled_runs};
+pub use laws::{adopted, fits_leaves, next_life, settled_answers, settled_runs};
 pub use lc_model::{Event, Refusal, Reply};
 pub use node_part::NodePart;
 pub use part::Part;

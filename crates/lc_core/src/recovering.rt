@@ -15,6 +15,7 @@ use std::alloc::{AllocError, Global};
 use std::mem;
 
 impl<D: Area + Drop> World<D> {
+    ghost use Rattle.lc_core.specs.Lives.{Anyhow};
     ghost use Rattle.lc_core.specs.Recovers.{RecoversDown, RefusesAtOnce};
     ghost use Rattle.lc_core.specs.World.{AsksIn, FollowsWorld, StillFitsWorld};
     ghost use Rattle.lc_core.specs.Calls.{CallsArea, KeepsAreas};
@@ -26,6 +27,8 @@ impl<D: Area + Drop> World<D> {
     /// The next step of the recovery. The last one takes the memory of all that comes up before its call.
     pub(crate) fn recover_step(&mut self, alloc: Global) -> Result<Reply, AllocError>
         ensures follows { IfOk result (λ reply. FollowsWorld D.Area self.old RecoverStep reply self.new) }
+        // Whatever the areas hold: one that is up is out of turn, and what comes up is a store of what was read.
+        ensures anyhow { IfOk result (λ reply. Anyhow D.Area self.old.phase RecoverStep reply self.new.phase) }
         ensures memory { OnErr result (AsksIn D.Area self.old.phase RecoverStep) }
         ensures err { OnErr result (StillFitsWorld D.Area self.old self.new) }
         ensures faults { IfOk result (λ reply. CountsPhase D.Area self.old.phase reply self.new.phase) }

@@ -2,8 +2,8 @@
 ghost use Rattle.std.specs.Prelude.{◌≡◌, ◌≢◌, ◌+◌, ◌*◌, ◌%◌, ◌≤◌, ℕ, true, false, [], None, Some, length, drop, map, replicate, vec_capacity, vec_len, slice_get, slice_index, IfOk};
 ghost use Rattle.std.specs.Global.{Vec as TheVec};
 ghost use Rattle.lc_record.specs.declared.geometry.Geometry.{Geometry};
-ghost use Rattle.lc_recover.specs.Reads.{AreHonest, AreOfBytes, HaveLengths};
-ghost use Rattle.lc_recover.specs.Recovered.{IsFinished};
+ghost use Rattle.lc_recover.specs.Reads.{AreOfBytes, HaveLengths};
+ghost use Rattle.lc_recover.specs.Recovered.{AreFinished};
 ghost use Rattle.lc_rest.specs.Found.{Found};
 ghost use Rattle.lc_core.specs.Adopting.{IsAdoptedUp};
 ghost use Rattle.lc_core.specs.Blank.{AreBlankNodes, AreFilledNodes, IsBlankJournal};
@@ -78,8 +78,8 @@ impl<D: Area + Drop> Room<D> {
     pub(crate) fn furnish(self, alloc: Global, recovered: Recovered<D>) -> Up<D>
         requires geometry { recovered.geometry ≡ self.geometry }
         requires lengths { HaveLengths D.Area recovered.geometry recovered.areas }
-        requires finished { AreHonest D.Area recovered.areas → IsFinished D.Area recovered }
-        ensures fresh { AreHonest D.Area recovered.areas → IsFresh D.Area recovered result.running }
+        requires each { AreFinished D.Area recovered }
+        ensures fresh { IsFresh D.Area recovered result.running }
         ensures geometry { result.running.geometry ≡ recovered.geometry }
         ensures log_areas { (n : ℕ) (node : Node D D.Area) → slice_get result.running.nodes.items n ≡ Some node → area_of D.Area node.journal.log ≡ slice_get recovered.areas n }
         ensures bytes { AreOfBytes D.Area recovered.areas }
@@ -208,8 +208,7 @@ fn open_logs<D: Area + Drop>(nodes: &mut [Node<D>], recovered: Recovered<D>) -> 
     requires lengths { HaveLengths D.Area recovered.geometry recovered.areas }
     ensures filled { AreFilledNodes D.Area recovered nodes.new }
     ensures log_areas { (n : ℕ) (node : Node D D.Area) → slice_get nodes.new n ≡ Some node → area_of D.Area node.journal.log ≡ slice_get recovered.areas n }
-    ensures logs { AreHonest D.Area recovered.areas → IsFinished D.Area recovered
-        → (n : ℕ) (node : Node D D.Area) → slice_get nodes.new n ≡ Some node →
+    ensures logs { AreFinished D.Area recovered → (n : ℕ) (node : Node D D.Area) → slice_get nodes.new n ≡ Some node →
         Stands D.Area node.journal.log 0 [] [] × (is_idle D.Area node.journal.log ≡ true) }
     ensures bytes { AreOfBytes D.Area recovered.areas }
     ensures areas { result.items ≡ drop recovered.geometry.nodes recovered.areas }

@@ -2,6 +2,7 @@
 ghost use Rattle.std.specs.Prelude.{[], ◌≡◌, ◌<◌, ◌≤◌, IfOk, OnErr, length, take, true, false, vec_capacity};
 ghost use Rattle.lc_core.specs.Calls.{CallsAll};
 ghost use Rattle.lc_core.specs.Faults.{CountsAll, phase_failures};
+ghost use Rattle.lc_core.specs.Lives.{FollowsLives};
 ghost use Rattle.lc_core.specs.Runs.{FollowsRun, GivesUp};
 
 use crate::world::World;
@@ -15,6 +16,7 @@ impl<D: Stoppable + Drop> World<D> {
     /// events that were answered.
     pub fn run(&mut self, alloc: Global, events: &[Event]) -> RunResult
         ensures follows { FollowsRun D.Area self.old (take (length result.replies.items) events.now) result.replies.items self.new }
+        ensures lives { FollowsLives D.Area self.old.phase (take (length result.replies.items) events.now) result.replies.items self.new.phase }
         ensures faults { CountsAll result.replies.items (phase_failures D.Area self.old.phase) (phase_failures D.Area self.new.phase) }
         ensures calls { CallsAll D.Area D.left (take (length result.replies.items) events.now) self.old.phase self.new.phase }
         ensures all { result.out_of_memory ≡ false → length result.replies.items ≡ length events.now }

@@ -11,6 +11,7 @@ use lc_page::PAGE_BYTES;
 
 impl<D: Area + Drop> World<D> {
     ghost use Rattle.lc_core.specs.Observed.{observed};
+    ghost use Rattle.lc_core.specs.Lives.{ShowsLife};
     ghost use Rattle.lc_core.specs.Showing.{page_refusal, ShowsPage};
 
     /// Whether it is up: its recovery is over, and it has not stopped since.
@@ -28,6 +29,8 @@ impl<D: Area + Drop> World<D> {
     pub fn page(&self, node: u16, segment: u32, page: u32) -> Result<&[u8], Refusal>
         ensures lends { IfOk result (λ bytes. (observed D.Area self.now).lends node segment page bytes.now) }
         ensures shows { IfOk result (λ bytes. ShowsPage D.Area self.now node segment page bytes.now) }
+        // Whatever its areas are.
+        ensures lives { IfOk result (λ bytes. ShowsLife D.Area self.now.phase node segment page bytes.now) }
         ensures shown { OnOk result (page_refusal D.Area self.now.phase node segment page ≡ None) }
         ensures refused { IfErr result (λ refusal. page_refusal D.Area self.now.phase node segment page ≡ Some refusal) }
     {

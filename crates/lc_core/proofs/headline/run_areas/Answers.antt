@@ -1,7 +1,8 @@
-use Rattle.std.proofs.Common.{ℕ, ◌∙◌, ap, inl, inr, length, refl, subst, sym, take}
+use Rattle.std.proofs.Common.{None, ℕ, ◌∙◌, ap, inl, inr, length, refl, subst, sym, take}
 use Rattle.lc_model.specs.State.{Setting}
 use Rattle.lc_core.specs.Faults.{phase_failures}
 use Rattle.lc_core.specs.Headline.{Holds}
+use Rattle.lc_core.specs.Lives.{FitsLife}
 use Rattle.lc_core.specs.Observed.{observed}
 use Rattle.lc_core.specs.Stops.{HasAreas}
 use Rattle.lc_core.specs.declared.phase.Phase.{Phase}
@@ -41,3 +42,7 @@ pub returns-clause-calls : goal.returns-clause-calls
 returns-clause-calls g c = λ shape news gives.
     c.run-ran.ensures.calls c.args.geometry shape c.args.areas.items news
     (subst (λ (p : Phase g.row.D.Denot g.D.Area). HasAreas g.D.Area p c.args.geometry c.args.areas.items) (sym c.in_ok-world.ensures.down) (refl, refl)) gives
+
+pub returns-clause-lives : goal.returns-clause-lives
+returns-clause-lives g c = c.run-ran.ensures.lives c.args.geometry None
+    (subst (λ (p : Phase g.row.D.Denot g.D.Area). FitsLife g.D.Area c.args.geometry None p) (sym c.in_ok-world.ensures.down) refl)

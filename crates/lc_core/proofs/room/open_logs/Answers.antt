@@ -2,8 +2,8 @@ use Rattle.std.proofs.Common.{◌≡◌, ◌+◌, ◌*◌, ◌<◌, true, [], dr
 use Rattle.std.specs.Prelude.{slice_get, slice_index_or}
 use Rattle.std.proofs.lemmas.List.{drop-drop}
 use Rattle.std.proofs.lemmas.Option.{slice_get-get_or, slice_get_within}
-use Rattle.lc_recover.specs.Reads.{AreHonest, AreOfBytes}
-use Rattle.lc_recover.specs.Recovered.{IsFinished}
+use Rattle.lc_recover.specs.Reads.{AreOfBytes}
+use Rattle.lc_recover.specs.Recovered.{AreFinished}
 use Rattle.lc_core.specs.Blank.{IsFilledNode}
 use Rattle.lc_core.specs.Log.{Stands, area_of, is_idle}
 use Rattle.lc_core.specs.declared.node.Node.{Node}
@@ -70,10 +70,10 @@ loop-node-preserved g c =
       });
       log_areas = front_set (λ n x. area_of g.D.Area x.journal.log ≡ slice_get r.areas n) nodes place new c.loop-node.invariant.log_areas
           (c.open.ensures.area ∙ ap (λ d. Some d) same ∙ sym at.1);
-      logs = front_set (λ n x. AreHonest g.D.Area r.areas → IsFinished g.D.Area r → Stands g.D.Area x.journal.log 0 [] [] × (is_idle g.D.Area x.journal.log ≡ true)) nodes place new c.loop-node.invariant.logs
-          (λ honest finished. (
-            c.open.ensures.log (λ _. log_closed g.D.Area r place at.0 c.remove-area.result finished few at.1 same)
-                (λ _. log_clean g.D.Area r place at.0 c.remove-area.result finished at.1 same),
+      logs = front_set (λ n x. AreFinished g.D.Area r → Stands g.D.Area x.journal.log 0 [] [] × (is_idle g.D.Area x.journal.log ≡ true)) nodes place new c.loop-node.invariant.logs
+          (λ finished. (
+            c.open.ensures.log (λ honest. log_closed g.D.Area r place at.0 c.remove-area.result finished few at.1 same honest)
+                (λ honest. log_clean g.D.Area r place at.0 c.remove-area.result finished at.1 same honest),
             c.open.ensures.works,
           ));
     }
@@ -84,9 +84,9 @@ returns-clause-log_areas g c = λ n node got.
     c.loop-node.invariant.log_areas n node (omega (arith, within, c.loop-node.auto.nodes, c.loop-node-test.false)) got
 
 pub returns-clause-logs : goal.returns-clause-logs
-returns-clause-logs g c = λ honest finished n node got.
+returns-clause-logs g c = λ finished n node got.
     let within = slice_get_within c.loop-node.nodes n node got in
-    c.loop-node.invariant.logs n node (omega (arith, within, c.loop-node.auto.nodes, c.loop-node-test.false)) got honest finished
+    c.loop-node.invariant.logs n node (omega (arith, within, c.loop-node.auto.nodes, c.loop-node-test.false)) got finished
 
 pub returns-clause-bytes : goal.returns-clause-bytes
 returns-clause-bytes g c = subst (AreOfBytes g.D.Area) (c.as_slice.ensures.value ∙ c.areas-areas.ensures) c.ask_lengths.ensures

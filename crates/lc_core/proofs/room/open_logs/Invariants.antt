@@ -1,7 +1,6 @@
 use Rattle.std.proofs.Common.{◌≡◌, ℕ, ◌<◌, ◌≤◌, true, [], drop, length, Some, vec_capacity}
 use Rattle.std.specs.Prelude.{slice_get}
-use Rattle.lc_recover.specs.Reads.{AreHonest}
-use Rattle.lc_recover.specs.Recovered.{IsFinished}
+use Rattle.lc_recover.specs.Recovered.{AreFinished}
 use Rattle.lc_core.specs.Blank.{AreFilledNodes}
 use Rattle.lc_core.specs.Log.{Stands, area_of, is_idle}
 use Rattle.lc_core.specs.declared.node.Node.{Node}
@@ -15,6 +14,5 @@ invariant-loop-node g l = record {
   log_areas : (n : ℕ) (node : Node g.row.D.Denot g.D.Area) → n < l.node-index → slice_get l.nodes n ≡ Some node
       → area_of g.D.Area node.journal.log ≡ slice_get l.fn.recovered.areas n;
   logs : (n : ℕ) (node : Node g.row.D.Denot g.D.Area) → n < l.node-index → slice_get l.nodes n ≡ Some node
-      → AreHonest g.D.Area l.fn.recovered.areas → IsFinished g.D.Area l.fn.recovered
-      → Stands g.D.Area node.journal.log 0 [] [] × (is_idle g.D.Area node.journal.log ≡ true);
+      → AreFinished g.D.Area l.fn.recovered → Stands g.D.Area node.journal.log 0 [] [] × (is_idle g.D.Area node.journal.log ≡ true);
 }

@@ -1,7 +1,7 @@
 use Rattle.std.proofs.Common.{drop, List, refl, sym, ap, subst, ◌∙◌}
 use Rattle.std.specs.Prelude.{slice_get}
 use Rattle.lc_record.specs.declared.geometry.Geometry.{Geometry}
-use Rattle.lc_recover.specs.Reads.{AreHonest, AreOfBytes, HaveLengths}
+use Rattle.lc_recover.specs.Reads.{AreOfBytes, HaveLengths}
 use Rattle.lc_recover.specs.Recovery.{Recovering}
 use Rattle.lc_core.specs.Pages.{RestsAll}
 use Rattle.lc_core.specs.Recovering.{HasComeUp}
@@ -21,10 +21,6 @@ furnish-requires-clause-lengths g c =
     (subst (λ (areas : List g.row.D.Denot). HaveLengths g.D.Area c.in-Down.recovery.geometry areas) (sym c.finish.ensures.areas)
     (c.requires.lengths c.in-Down.recovery c.in-Down.is))
 
-pub furnish-requires-clause-finished : goal.furnish-requires-clause-finished
-furnish-requires-clause-finished g c honest =
-    c.finish.ensures.finished (subst (λ (areas : List g.row.D.Denot). AreHonest g.D.Area areas) c.finish.ensures.areas honest)
-
 pub returns : goal.returns
 returns g c r is =
     let came : HasComeUp g.D.Area c.in-Down.recovery (Up c.furnish.result) = (
@@ -36,8 +32,9 @@ returns g c r is =
         areas = c.finish.ensures.areas;
         same_geometry = c.furnish.ensures.geometry ∙ c.finish.ensures.geometry;
         log_areas = λ n node got. c.furnish.ensures.log_areas n node got ∙ ap (λ (areas : List g.row.D.Denot). slice_get areas n) c.finish.ensures.areas;
-        finished = c.finish.ensures.finished;
-        fresh = λ honest. c.furnish.ensures.fresh (subst (λ (areas : List g.row.D.Denot). AreHonest g.D.Area areas) (sym c.finish.ensures.areas) honest);
+        made = c.finish.ensures.made;
+        each = c.finish.ensures.each;
+        fresh = c.furnish.ensures.fresh;
         lengths = c.requires.lengths c.in-Down.recovery c.in-Down.is;
         bytes = subst (λ (areas : List g.row.D.Denot). AreOfBytes g.D.Area areas) c.finish.ensures.areas c.furnish.ensures.bytes;
         segments = c.furnish.ensures.areas

@@ -2,7 +2,7 @@ use Rattle.std.proofs.Common.{◌≡◌, ◌-◌, ◌+◌, ℕ, List, arith, dro
 use Rattle.std.specs.List.{count_by}
 use Rattle.lc_core.specs.Records.{Spelled}
 use Rattle.lc_core.specs.declared.place.Place.{Place}
-use Rattle.lc_core.proofs.Spans.{held, count_so, behind_so, closed_places}
+use Rattle.lc_core.proofs.Spans.{held, behind_so, closed_places}
 use Rattle.lc_core.proofs.records.Records.closed_from.Goals as goal
 
 pub overflow_sub-from : goal.overflow_sub-from

@@ -69,11 +69,11 @@ returns-clause-rest g c = rests_all g.D.Area c.args.recovered.geometry c.with_ar
     (subst (λ (h : Geometry). AreAtRest h c.args.self.writes.items) (sym c.requires.geometry) c.args.self.rest)
 
 pub returns-clause-fresh : goal.returns-clause-fresh
-returns-clause-fresh g c = λ honest.
+returns-clause-fresh g c =
     let are = all_back c.args.self.nodes.len c.open_logs-areas.new.nodes _ (omega (arith, c.open_logs-areas.auto.nodes, c.as_mut_slice-2.ensures.len)) in
     filled_fresh g.D.Area c.args.recovered _ c.open_logs-areas.new.nodes c.requires.geometry are c.open_logs-areas.ensures.filled c.open_logs-areas.ensures.log_areas
-    (λ n node got. (c.open_logs-areas.ensures.logs honest (c.requires.finished honest) n node got).0)
-    (λ n node got. (c.open_logs-areas.ensures.logs honest (c.requires.finished honest) n node got).1) c.args.self.none
+    (λ n node got. (c.open_logs-areas.ensures.logs c.requires.each n node got).0)
+    (λ n node got. (c.open_logs-areas.ensures.logs c.requires.each n node got).1) c.args.self.none
 
 pub returns-clause-log_areas : goal.returns-clause-log_areas
 returns-clause-log_areas g c =

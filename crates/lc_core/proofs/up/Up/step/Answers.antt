@@ -1,10 +1,9 @@
-use Rattle.std.proofs.Common.{refl, ap}
+use Rattle.std.proofs.Common.{refl}
 use Rattle.std.proofs.lemmas.Result.{IfOk-weaker}
 use Rattle.lc_core.proofs.Failures.{up_counts, up_still_failed}
 use Rattle.lc_core.proofs.Logged.{err_then}
 use Rattle.lc_core.proofs.Recoveries.{runs_up}
-use Rattle.lc_core.specs.Faults.{log_kinds}
-use Rattle.lc_core.proofs.Devices.{honest_kept, steps_devices, up_whole}
+use Rattle.lc_core.proofs.Devices.{steps_devices, up_whole}
 use Rattle.lc_core.proofs.Refusing.{if_ok_both, on_err_both}
 use Rattle.lc_core.proofs.OneArea.{step_calls, step_keeps}
 use Rattle.lc_core.proofs.Ordinary.{plain_of}
@@ -19,7 +18,6 @@ pub returns-clause-err : goal.returns-clause-err
 returns-clause-err g c = err_then c.step.result (on_err_both c.step.result _ _ c.step.ensures.err c.step.ensures.no_fault) (λ both m s x h. record {
   running = both.0 m s x h.running;
   pages = h.pages;
-  honest = honest_kept g.D.Area c.args.self.now.running.nodes.items c.step.new.self.nodes.items (ap (log_kinds g.D.Area) both.1.logs) h.honest;
   failed = h.failed;
 })
 

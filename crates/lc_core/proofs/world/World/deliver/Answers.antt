@@ -11,4 +11,4 @@ returns g c =
     let reply = c.in_ok-reply.reply in
     let e = c.in_ok-reply.ensures in
     stands_comes g.D.Area event _ reply before after refl (c.receipt.ensures c.args.sender c.args.number c.args.segment c.args.to)
-    (steps_of g.D.Area before event reply after (λ choices stops. absurd cc) e.follows e.at_once e.faults c.step.ensures.geometry e.unknown c.step.ensures.calls)
+    (steps_of g.D.Area before event reply after (λ choices stops. absurd cc) e.follows e.at_once e.faults c.step.ensures.geometry e.unknown c.step.ensures.calls e.anyhow)

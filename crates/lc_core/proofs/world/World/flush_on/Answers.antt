@@ -1,7 +1,7 @@
 use Rattle.std.proofs.Common.{◌≡◌, None, inl, inr, refl, sym, ap, subst, arith}
 use Rattle.lc_model.specs.declared.event.Event.TheVariants.{FlushStep}
 use Rattle.lc_model.specs.declared.reply.Reply.TheVariants.{Stepped}
-use Rattle.lc_core.specs.Truncating.{Repeats, StepsTo, ending, stopping}
+use Rattle.lc_core.specs.Truncating.{StepsTo, ending, stopping}
 use Rattle.lc_core.specs.Truncation.{Leads, ThenCleans}
 use Rattle.lc_core.proofs.Truncations.{flush_ends, flush_on_first, flush_over, last_of, not_stopping}
 use Rattle.lc_core.proofs.world.World.flush_on.Goals as goal

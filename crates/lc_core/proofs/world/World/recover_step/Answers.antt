@@ -1,10 +1,11 @@
 use Rattle.std.proofs.Common.{◌≡◌, Ok, Err, true, false, refl, ap, sym, ◌∙◌, inl, inr, subst}
-use Rattle.std.proofs.lemmas.Result.{IfOk-at_ok}
+use Rattle.std.proofs.lemmas.Result.{IfOk-at_ok, IfOk-weaker}
 use Rattle.std.specs.Prelude.{Result, OnErr}
 use Rattle.lc_record.specs.declared.geometry.Geometry.{Geometry}
 use Rattle.lc_recover.specs.Recovery.{Recovering, IsLast, TakesMemory, all_steps}
 use Rattle.lc_core.specs.declared.phase.Phase.TheVariants.{Down, Taken, Up}
-use Rattle.lc_core.proofs.Refusing.{on_err}
+use Rattle.lc_core.proofs.Living.{down_told, turn_told}
+use Rattle.lc_core.proofs.Refusing.{if_ok_both, on_err}
 use Rattle.lc_recover.specs.declared.fault.RecoverFault.{RecoverFault}
 use Rattle.lc_core.proofs.Logged.{err_any, err_then}
 use Rattle.lc_core.specs.Calls.{CallsArea}
@@ -21,7 +22,7 @@ use Rattle.lc_core.proofs.ComingUp.{replies_of, same_down}
 use Rattle.lc_core.proofs.Failures.{StepCalls, down_failures, no_faults, phase_counts, risen_counts}
 use Rattle.lc_core.proofs.Geometries.{down_geometry, replies_known, risen_geometry}
 use Rattle.lc_core.proofs.OneArea.{calls_none, down_calls, down_keeps, risen_calls}
-use Rattle.lc_core.proofs.Recoveries.{FollowsPhase, StepLeaves, comes_up, down_same, not_down, down_follows, down_wants, same_still}
+use Rattle.lc_core.proofs.Recoveries.{FollowsPhase, StepLeaves, begins_in, comes_up, down_same, not_recovered, not_down, down_follows, down_wants, same_still}
 use Rattle.lc_core.specs.Recovers.{RecoversDown}
 use Rattle.lc_core.proofs.Recovers.{IfOk-any, StepSays, down_asks, down_recovers, risen_recovers, up_refuses}
 use Rattle.lc_core.proofs.world.World.recover_step.Given.{Over}
@@ -185,6 +186,9 @@ module _ (g : Over) (c : goal.After-reply_to g) where
     bound = c.step.ensures.bound;
     honest = c.step.ensures.honest;
     reads = c.step.ensures.reads;
+    pages = c.step.ensures.pages;
+    lengths = c.step.ensures.lengths;
+    clean = c.step.ensures.clean;
   }
 
 pub returns-then-not-is_last-clause-recovers : goal.returns-then-not-is_last-clause-recovers
@@ -205,6 +209,9 @@ module _ (g : Over) (c : goal.After-drop-room-in-Err-3 g) where
     bound = c.step-2.ensures.bound;
     honest = c.step-2.ensures.honest;
     reads = c.step-2.ensures.reads;
+    pages = c.step-2.ensures.pages;
+    lengths = c.step-2.ensures.lengths;
+    clean = c.step-2.ensures.clean;
   }
 
 pub returns-in-Err-clause-recovers : goal.returns-in-Err-clause-recovers
@@ -291,3 +298,33 @@ pub returns-in-Err-clause-same : goal.returns-in-Err-clause-same
 returns-in-Err-clause-same g c =
     err_then c.stopped.result (down_wants g.D.Area c.args.self.now.phase c.in-Down.recovery c.step-2.new.self c.in-Down.is c.step-2.result c.stopped.result (replies-last g c) (leaves-last g (goal.at.returns-in-Err-clause-same g c).After-step-2))
     (λ asks. same_down g.D.Area c.args.self.now.phase c.in-Down.recovery c.step-2.new.self c.in-Down.is asks.1)
+
+pub returns-in_default-clause-anyhow : goal.returns-in_default-clause-anyhow
+returns-in_default-clause-anyhow g c = turn_told g.D.Area c.args.self.now.phase c.in_default.not-Down
+
+pub returns-then-not-is_last-clause-anyhow : goal.returns-then-not-is_last-clause-anyhow
+returns-then-not-is_last-clause-anyhow g c = IfOk-weaker c.reply_to.result _ _
+    (λ reply both. down_told g.D.Area c.args.self.now.phase c.in-Down.recovery reply (Down c.step.new.self) c.in-Down.is both.0 both.1
+    (λ is. absurd (let last : c.is_last.result ≡ true = c.is_last.ensures.1 ((both.0 c.in-Down.recovery c.in-Down.is).recovered is).0 in
+    let not : true ≡ false = sym last ∙ c.if-not-is_last.true in cc)))
+    (if_ok_both c.reply_to.result _ _
+    (down_recovers g.D.Area c.in-Down.recovery c.step.new.self c.args.self.now.phase c.in-Down.is c.step.result c.reply_to.result c.reply_to.ensures (says g c) (going g c))
+    (replies_of c.step.result c.reply_to.result c.reply_to.ensures))
+
+pub returns-in-Err-clause-anyhow : goal.returns-in-Err-clause-anyhow
+returns-in-Err-clause-anyhow g c = IfOk-weaker c.stopped.result _ _
+    (λ reply all. down_told g.D.Area c.args.self.now.phase c.in-Down.recovery reply (Down c.step-2.new.self) c.in-Down.is all.0 all.1.0 (λ is. absurd (all.1.1 is)))
+    (if_ok_both c.stopped.result _ _
+    (down_recovers g.D.Area c.in-Down.recovery c.step-2.new.self c.args.self.now.phase c.in-Down.is c.step-2.result c.stopped.result (replies-last g c) (says-last g c)
+    (λ p is done. (let none : Ok p ≡ Err c.in-Err.fault = sym is ∙ c.in-Err.is in absurd cc)))
+    (if_ok_both c.stopped.result _ _ (replies_of c.step-2.result c.stopped.result (replies-last g c)) (not_recovered ⊥ c.in-Err.fault c.stopped.result c.stopped.ensures)))
+
+pub returns-clause-anyhow : goal.returns-clause-anyhow
+returns-clause-anyhow g c =
+    let up = c.risen.ensures c.step-2.new.self c.replace.ensures.value in
+    let last : IsLast c.in-Down.recovery = c.is_last.ensures.0 c.if-not-is_last.false in
+    down_told g.D.Area c.args.self.now.phase c.in-Down.recovery Recovered c.risen.result c.in-Down.is
+    (subst (λ (p : Phase g.row.D.Denot g.D.Area). RecoversDown g.D.Area c.args.self.now.phase Recovered p) (sym up.1)
+    (risen_recovers g.D.Area c.args.self.now.phase c.in-Down.recovery c.in-Down.is last up.0))
+    refl
+    (λ is. begins_in g.D.Area c.args.self.now.phase c.in-Down.recovery c.step-2.new.self up.0 c.risen.result c.in-Down.is c.step-2.ensures.geometry up.1 up.2)

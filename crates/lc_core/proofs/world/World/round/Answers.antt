@@ -24,7 +24,7 @@ returns-in-Some-clause-shows g c = λ m s x fits up is.
     let found = c.in-Some.ensures.lookup in
     let there : slice_get nodes c.args.node ≡ Some node = slice_get_read nodes (length nodes) c.args.node node refl (ltb-true c.args.node (length nodes) (sym found.0)) found.1 in
     let at : slice_get c.in-Up.up.running.nodes.items c.args.node ≡ Some node = ap (λ (l : List (Node g.row.D.Denot g.D.Area)). slice_get l c.args.node) (sym c.deref.ensures.value) ∙ there in
-    let its = subst (λ (phase : Phase g.row.D.Denot g.D.Area). FitsPhase g.D.Area m phase s x) c.in-Up.is fits in
+    let its = (subst (λ (phase : Phase g.row.D.Denot g.D.Area). FitsPhase g.D.Area m phase s x) c.in-Up.is fits).0 in
     (its.running.each c.args.node node at).round
 
 pub returns-in-None-clause-stands : goal.returns-in-None-clause-stands

@@ -1,9 +1,11 @@
 use Rattle.std.proofs.lemmas.Result.{IfOk-at_ok}
 use Rattle.std.proofs.Common.{List, [], length, length-append, ap, arith, refl, rules, sym, subst}
 use Rattle.lc_model.specs.declared.reply.Reply.{Reply}
+use Rattle.lc_core.specs.Lives.{FollowsLives}
 use Rattle.lc_core.specs.Runs.{FollowsRun}
 use Rattle.lc_core.proofs.EachCall.{chain_all, chain_kept, chain_more, chain_start}
 use Rattle.lc_core.proofs.Failures.{counts_more}
+use Rattle.lc_core.proofs.Living.{lives_more, lives_start, lives_still}
 use Rattle.lc_core.proofs.OneMore.{gives_up, run_start, run_more, run_still}
 use Rattle.lc_core.proofs.world.World.run.Goals as goal
 
@@ -14,6 +16,7 @@ loop-event-init g c = (
   rw c.in-Ok.ensures.none refl,
   (search rules),
   chain_start g.D.Area g.D.Stoppable.left c.args.self.now.phase,
+  subst (λ (replies : List Reply). FollowsLives g.D.Area c.args.self.now.phase [] replies c.args.self.now.phase) (sym c.in-Ok.ensures.none) (lives_start g.D.Area c.args.self.now.phase),
 )
 
 pub returns-in-Err-clause-follows : goal.returns-in-Err-clause-follows
@@ -39,6 +42,13 @@ loop-event-preserved g c = (
         stops = λ choices is. (IfOk-at_ok _ c.in-Ok-step.is (c.step.ensures.stops choices is)).1;
         chosen = c.step.ensures.chosen;
       },
+  rw c.push_reserved.ensures.items
+      (lives_more g.D.Area c.args.self.now.phase c.loop-event.self.phase c.step.new.self.phase c.args.events.now c.loop-event.event-index c.event-item.result c.loop-event.replies.items c.in-Ok-step.reply
+      c.loop-event-test.true c.event-item.is c.loop-event.invariant.5 record {
+        anyhow = c.in-Ok-step.ensures.anyhow;
+        at_once = c.in-Ok-step.ensures.at_once;
+        stops = λ choices is. IfOk-at_ok _ c.in-Ok-step.is (c.step.ensures.stops choices is);
+      }),
 )
 
 pub returns-clause-follows : goal.returns-clause-follows
@@ -54,3 +64,13 @@ returns-in-Err-clause-calls g c = chain_all g.D.Area g.D.Stoppable.left c.args.s
 pub returns-in_default-clause-calls : goal.returns-in_default-clause-calls
 returns-in_default-clause-calls g c = rw c.new.ensures.items
     (chain_all g.D.Area g.D.Stoppable.left c.args.self.now.phase c.args.self.now.phase [] (chain_start g.D.Area g.D.Stoppable.left c.args.self.now.phase))
+
+pub returns-clause-lives : goal.returns-clause-lives
+returns-clause-lives g c = rw c.loop-event.invariant.0 c.loop-event.invariant.5
+
+pub returns-in-Err-clause-lives : goal.returns-in-Err-clause-lives
+returns-in-Err-clause-lives g c = rw c.loop-event.invariant.0
+    (lives_still g.D.Area c.args.self.now.phase c.loop-event.self.phase c.step.new.self.phase _ _ c.loop-event.invariant.5 c.in-Err.ensures.still)
+
+pub returns-in_default-clause-lives : goal.returns-in_default-clause-lives
+returns-in_default-clause-lives g c = rw c.new.ensures.items (lives_start g.D.Area c.args.self.now.phase)

@@ -3,6 +3,7 @@ use Rattle.std.proofs.Common.{List, refl, sym, ap, subst, ◌∙◌}
 use Rattle.lc_disk.specs.declared.choice.Choice.{Choice}
 use Rattle.lc_model.specs.declared.event.Event.{Event}
 use Rattle.lc_model.specs.declared.event.Event.TheVariants.{Stop}
+use Rattle.lc_core.specs.Lives.{Anyhow}
 use Rattle.lc_core.specs.World.{AsksIn, Leads}
 use Rattle.lc_core.specs.Faults.{CountsPhase, phase_failures}
 use Rattle.lc_core.specs.declared.phase.Phase.{Phase}
@@ -13,6 +14,8 @@ use Rattle.lc_core.proofs.OneArea.{calls_none, up_calls, up_keeps}
 use Rattle.lc_core.proofs.Recovers.{IfOk-any, down_refuses, stop_asks, up_asks}
 use Rattle.lc_core.specs.declared.phase.Phase.TheVariants.{Up}
 use Rattle.lc_core.proofs.Recoveries.{else_works, up_follows, up_still}
+use Rattle.lc_core.proofs.Living.{others_told, same_still_lives, up_still_lives, up_told}
+use Rattle.lc_core.proofs.StaysHonest.{stays_honest}
 use Rattle.lc_core.proofs.Stopped.{same_stop}
 use Rattle.lc_core.specs.Stops.{IsLeftBy}
 use Rattle.lc_core.proofs.world.World.step.Goals as goal
@@ -22,7 +25,7 @@ step-requires g c = record { up = else_works c.args.event.now c.in_default.not-R
 
 pub returns-in-Up-clause-follows : goal.returns-in-Up-clause-follows
 returns-in-Up-clause-follows g c = IfOk-weaker c.step.result _ _
-    (λ reply follows. up_follows g.D.Area c.args.self.now.phase c.in-Up.up c.step.new.self c.args.event.now reply c.in-Up.is follows)
+    (λ reply follows. up_follows g.D.Area c.args.self.now.phase c.in-Up.up c.step.new.self c.args.event.now reply c.in-Up.is follows (stays_honest g.D.Area c.in-Up.up c.step.new.self c.step.ensures.calls))
     c.step.ensures.follows
 
 pub returns-in-RecoverStep-clause-asks : goal.returns-in-RecoverStep-clause-asks
@@ -34,7 +37,7 @@ returns-in-Up-clause-asks g c = err_then c.step.result c.step.ensures.memory (λ
     asks_world g.D.Area c.args.self.now c.args.event.now (subst (λ (p : Phase g.row.D.Denot g.D.Area). AsksIn g.D.Area p c.args.event.now) (sym c.in-Up.is) wants))
 
 pub returns-in-Up-clause-err : goal.returns-in-Up-clause-err
-returns-in-Up-clause-err g c = err_then c.step.result c.step.ensures.err (up_still g.D.Area c.args.self.now.phase c.in-Up.up c.step.new.self c.in-Up.is)
+returns-in-Up-clause-err g c = err_then c.step.result c.step.ensures.err (up_still g.D.Area c.args.self.now.phase c.in-Up.up c.step.new.self c.in-Up.is (stays_honest g.D.Area c.in-Up.up c.step.new.self c.step.ensures.calls))
 
 pub returns-in-Up-clause-faults : goal.returns-in-Up-clause-faults
 returns-in-Up-clause-faults g c = IfOk-weaker c.step.result _ _
@@ -103,3 +106,25 @@ returns-in_default-phase-clause-calls g c = λ no_stop. calls_none g.D.Area c.ar
 
 pub returns-in-Up-clause-kept : goal.returns-in-Up-clause-kept
 returns-in-Up-clause-kept g c = err_then c.step.result c.step.ensures.kept (up_keeps g.D.Area c.args.self.now.phase c.in-Up.up c.step.new.self c.in-Up.is)
+
+pub returns-in-RecoverStep-clause-anyhow : goal.returns-in-RecoverStep-clause-anyhow
+returns-in-RecoverStep-clause-anyhow g c = IfOk-weaker c.recover_step.result _ _
+    (λ reply told no_stop. subst (λ (event : Event). Anyhow g.D.Area c.args.self.now.phase event reply c.recover_step.new.self.phase) (sym c.in-RecoverStep.is) told)
+    c.recover_step.ensures.anyhow
+
+pub returns-in-Stop-clause-anyhow : goal.returns-in-Stop-clause-anyhow
+returns-in-Stop-clause-anyhow g c = λ no_stop. absurd (no_stop c.in-Stop.choices c.in-Stop.is)
+
+pub returns-in-Up-clause-anyhow : goal.returns-in-Up-clause-anyhow
+returns-in-Up-clause-anyhow g c = IfOk-weaker c.step.result _ _
+    (λ reply follows no_stop. up_told g.D.Area c.args.self.now.phase c.in-Up.up c.step.new.self c.args.event.now reply c.in-Up.is c.in_default.not-RecoverStep follows)
+    c.step.ensures.follows
+
+pub returns-in_default-phase-clause-anyhow : goal.returns-in_default-phase-clause-anyhow
+returns-in_default-phase-clause-anyhow g c = λ no_stop. others_told g.D.Area c.args.self.now.phase c.args.event.now _ _ c.in_default-phase.not-Up c.in_default.not-RecoverStep
+
+pub returns-in-RecoverStep-clause-still : goal.returns-in-RecoverStep-clause-still
+returns-in-RecoverStep-clause-still g c = err_then c.recover_step.result c.recover_step.ensures.same (same_still_lives g.D.Area c.args.self.now.phase c.recover_step.new.self.phase)
+
+pub returns-in-Up-clause-still : goal.returns-in-Up-clause-still
+returns-in-Up-clause-still g c = err_then c.step.result c.step.ensures.err (up_still_lives g.D.Area c.args.self.now.phase c.in-Up.up c.step.new.self c.in-Up.is)

@@ -13,3 +13,8 @@ returns-in-Writes-clause-remains g c =
     subst (λ stage. Leads a (RemainsIn a node stage) w c.write_on.result c.write_on.new.self) (sym c.in-Writes.is)
     (leads_more a (ThenResets a node (WritesIf a node next)) (ThenResets a node (WritesAt a node at)) w c.write_on.new.self c.write_on.result
     (λ reply new rest. (rest.0, rest.1, if_next a node (WritesAt a node at) (calls_left at) w next c.next_due-next.ensures rest.0 rest.1 rest.2, rest.3)) c.write_on.ensures.remains)
+
+pub returns-in-Asks-clause-remains : goal.returns-in-Asks-clause-remains
+returns-in-Asks-clause-remains g c =
+    let a = g.D.Area in
+    subst (λ stage. Leads a (RemainsIn a c.args.truncation.node stage) c.args.self.now c.write_unblocked.result c.write_unblocked.new.self) (sym c.in-Asks.is) c.write_unblocked.ensures.remains

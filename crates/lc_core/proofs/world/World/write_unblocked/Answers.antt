@@ -1,4 +1,4 @@
-use Rattle.std.proofs.Common.{◌≡◌, ◌∙◌, ◌+◌, ◌-◌, ◌*◌, inr, sym, subst, true≢false}
+use Rattle.std.proofs.Common.{◌∙◌, ◌+◌, ◌-◌, ◌*◌, inr, sym, subst, true≢false}
 use Rattle.lc_core.specs.Truncating.{AsksFirst, EachFrom, WritesPages, WritesSegment}
 use Rattle.lc_core.specs.Truncation.{ThenResets, WritesIf}
 use Rattle.lc_core.proofs.Truncations.{from_first, if_next, leads_more}
