@@ -16,7 +16,7 @@ use Rattle.lc_model.specs.declared.reply.Reply.TheVariants.{Recovered as IsReply
 use Rattle.lc_recover.specs.Fault.{IsRefusal}
 use Rattle.lc_recover.specs.Pages.{pages_read}
 use Rattle.lc_recover.specs.Reads.{AllMergeTo, AreHonest, AreOfBytes, HaveLengths, ReadsRefused, area_count, store_of}
-use Rattle.lc_recover.specs.Recovered.{IsFinished, RecoveredStore, sequence_of}
+use Rattle.lc_recover.specs.Recovered.{IsMade, RecoveredStore, sequence_of}
 use Rattle.lc_recover.specs.Recovery.{IsDone, IsLast, IsMergeNext, IsMerged, Recovering, Tells, all_steps, begun}
 use Rattle.lc_recover.specs.Steps.{first_steps}
 use Rattle.lc_recover.specs.declared.fault.RecoverFault.{RecoverFault}
@@ -116,29 +116,29 @@ module _ {D : Type 0} (a : Ghosts D) (g : Geometry) (areas : List D) where
           omega (arith, at.early, all, g.some_nodes)
 
       -- the areas as they read merge to one result
-      its_numbers : HaveLengths a new.geometry new.areas → AreOfBytes a new.areas → (result : RecoveredStore D) → result.geometry ≡ new.geometry → result.areas ≡ new.areas → (AreHonest a new.areas → IsFinished a result)
+      its_numbers : HaveLengths a new.geometry new.areas → AreOfBytes a new.areas → (result : RecoveredStore D) → result.geometry ≡ new.geometry → result.areas ≡ new.areas → IsMade a result
           → (numbers : ℕ → ℕ) → AreNumbered a g areas numbers → (segment : ℕ) → 1 ≤ segment → segment ≤ g.segments → sequence_of result segment ≡ numbers segment
-      its_numbers right bytes result same_geometry same_areas finished numbers known segment first last =
+      its_numbers right bytes result same_geometry same_areas made numbers known segment first last =
           let honest_now : AreHonest a new.areas = still_honest known.honest in
-          let done = finished honest_now in
+          let its_honest : AreHonest a result.areas = subst (AreHonest a) (sym same_areas) honest_now in
           let images : List (List ℕ) = map a.now new.areas in
           let own = own-image a new.areas (λ k device is. bytes k device is (honest_now k device is)) in
           let its_geometry : result.geometry ≡ g = same_geometry ∙ geometry ∙ goes.geometry in
-          let all_g : AllMergeTo a g result.areas done.content done.numbers = subst (λ (h : Geometry). AllMergeTo a h result.areas done.content done.numbers) its_geometry done.all in
-          let all : AllMergeTo a g new.areas done.content done.numbers = subst (λ (l : List D). AllMergeTo a g l done.content done.numbers) same_areas all_g in
+          let all_g : AllMergeTo a g result.areas made.content made.numbers = subst (λ (h : Geometry). AllMergeTo a h result.areas made.content made.numbers) its_geometry (made.all its_honest) in
+          let all : AllMergeTo a g new.areas made.content made.numbers = subst (λ (l : List D). AllMergeTo a g l made.content made.numbers) same_areas all_g in
           let known_all : AllMergeTo a g new.areas known.content numbers = still_merge known.content numbers known.honest known.merges in
           let all_areas : length new.areas ≡ area_count g = count-areas a g new.areas (subst (λ (h : Geometry). HaveLengths a h new.areas) (geometry ∙ goes.geometry) right) in
           let count : length (store_of g images).pages ≡ g.segments =
           length-map (drop g.nodes images) (pages_read g.pages) ∙ omega (arith, length-drop g.nodes images, length-map new.areas a.now, all_areas) in
-          let one = one-value (store_of g images) done.content known.content done.numbers numbers (all images own) (known_all images own) in
-          done.sequences segment first (subst (λ (h : Geometry). segment ≤ h.segments) (sym its_geometry) last) ∙ one.1 segment first (omega (arith, last, count))
+          let one = one-value (store_of g images) made.content known.content made.numbers numbers (all images own) (known_all images own) in
+          made.sequences segment first (subst (λ (h : Geometry). segment ≤ h.segments) (sym its_geometry) last) ∙ one.1 segment first (omega (arith, last, count))
 
       pub recovers : HaveLengths a g areas → HaveLengths a new.geometry new.areas → AreOfBytes a new.areas → IsLast old → (result : RecoveredStore D) → result.geometry ≡ new.geometry → result.areas ≡ new.areas
-          → (AreHonest a new.areas → IsFinished a result) → Recovers a g areas result
-      recovers lengths right bytes last result same_geometry same_areas finished = record {
+          → IsMade a result → Recovers a g areas result
+      recovers lengths right bytes last result same_geometry same_areas made = record {
         geometry = same_geometry ∙ geometry ∙ goes.geometry;
         lengths = lengths;
-        numbers = its_numbers right bytes result same_geometry same_areas finished;
+        numbers = its_numbers right bytes result same_geometry same_areas made;
         accepted = accepted last;
       }
 

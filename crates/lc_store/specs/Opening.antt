@@ -6,6 +6,7 @@ use Rattle.lc_model.specs.declared.refusal.Refusal.{Refusal}
 use Rattle.lc_recover.specs.Recovery.{begun}
 use Rattle.lc_recover.specs.declared.fault.RecoverFault.{RecoverFault}
 use Rattle.lc_core.specs.ComingUp.{ComesUpBy}
+use Rattle.lc_core.specs.Lives.{IsNewborn}
 use Rattle.lc_core.specs.Recovering.{refusal_to}
 use Rattle.lc_core.specs.declared.call_fault.CallFault.{CallFault}
 use Rattle.lc_core.specs.declared.call_fault.CallFault.TheVariants.{NoMemory, Refused}
@@ -49,9 +50,9 @@ module _ {D : Type 0} (a : Ghosts D) where
     pub was_down : down.phase ≡ Down (begun g areas)
     pub comes : ComesUpBy a down result new
 
-  -- it is up; or the areas are not those of the geometry; or its recovery has stopped
+  -- it is up, with the content of a store that was read; or the areas are not those of the geometry; or its recovery has stopped
   abbrev pub Opens : Geometry → List D → Result (World D a) OpenFault → Type 0
-  Opens g areas (Ok world) = ComesUpOn g areas (Ok tt) world
+  Opens g areas (Ok world) = ComesUpOn g areas (Ok tt) world × IsNewborn a world.phase
   Opens g areas (Err (BadGeometry area)) = IsFirstWrong a g areas area
   Opens g areas (Err (NotUp fault)) = (new : World D a) × ComesUpOn g areas (Err fault) new
   Opens g areas (Err (Folder fault)) = ⊥

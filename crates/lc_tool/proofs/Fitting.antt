@@ -31,7 +31,7 @@ use Rattle.lc_core.specs.declared.up.Up.{Up as Rising}
 
 module _ {D : Type 0} (a : Ghosts D) where
   pub running_fits : (up : Rising D a) (m : Setting) (s : State) (x : Numbers) → FitsPhase a m (Up up) s x → FitsRunning a m up.running s x
-  running_fits up m s x fits = fits.running
+  running_fits up m s x fits = fits.0.running
 
   -- a store that is down has an area for each log
   pub down_log : (r : Recovering D) (m : Setting) (s : State) (x : Numbers) (node : ℕ) → FitsDown a m r s x → node < m.geometry.nodes → (area : D) × (slice_get r.areas node ≡ Some area)
@@ -47,7 +47,7 @@ module _ {D : Type 0} (a : Ghosts D) where
   -- the words that one shows that is up are those of the records that are logged
   pub words_logged : (up : Rising D a) (m : Setting) (s : State) (x : Numbers) (node : ℕ) (words : List ℕ) → FitsPhase a m (Up up) s x
       → ShowRecords a (Up up) node words → AreLogged m s x node words
-  words_logged up m s x node words fits show = show m s x fits fits.running.up
+  words_logged up m s x node words fits show = show m s x fits fits.0.running.up
 
   area_there : (log : Log D a) (steps : ℕ) (stable group : List Record) → Stands a log steps stable group → (area : D) × (area_of a log ≡ Some area)
   area_there (Idle log) steps stable group stands = (log.area, refl)

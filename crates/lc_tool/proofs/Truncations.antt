@@ -93,7 +93,7 @@ module _ {D : Type 0} (a : Ghosts D) (m : Setting) where
 
     -- a store that is up has the sizes of the setting
     sizes_are : (phase : Phase D a) (s : State) (x : Numbers) → FitsPhase a m phase s x → s.phase ≡ IsUp → sizes_of a phase ≡ (m.geometry.segments, m.geometry.pages)
-    sizes_are (Up up) s x fits stands = ap (λ (g : Geometry). (g.segments, g.pages)) (sym fits.running.geometry_is)
+    sizes_are (Up up) s x fits stands = ap (λ (g : Geometry). (g.segments, g.pages)) (sym fits.0.running.geometry_is)
     sizes_are (Down r) s x fits stands = absurd (let both : IsUp ≡ DownAt fits.cut = sym stands ∙ fits.down in cc)
     sizes_are Taken s x fits stands = absurd fits
 

@@ -1,11 +1,11 @@
-use Rattle.std.proofs.Common.{◌≡◌, ℕ, ◌++◌, ◌∷◌, [], true≢false, sym, ◌∙◌, subst, arith, Bool, ap}
+use Rattle.std.proofs.Common.{◌≡◌, ℕ, ◌++◌, ◌∷◌, [], true≢false, sym, ◌∙◌, subst, arith, ap}
 use Rattle.std.specs.Prelude.{decimal}
 use Rattle.std.specs.Io.KnownBytes.{Appends}
 use Rattle.std.proofs.KnownBytes.{Appends-trans}
 use Rattle.lc_text.proofs.Writes.{same_bytes}
 use Rattle.lc_look.specs.Checks.{AreBehindIn}
 use Rattle.lc_look.specs.Json.{comma_text, pages_json}
-use Rattle.lc_look.proofs.ChecksShown.{behind-not, behind-page, none-pushed, none_of}
+use Rattle.lc_look.proofs.ChecksShown.{behind-not, behind-page, none-pushed}
 use Rattle.lc_look.proofs.JsonShown.{page_more}
 use Rattle.lc_look.proofs.json.write_pages.Goals as goal
 use Rattle.lc_look.proofs.json.write_pages.Goals.{then-is_behind+in_ok-write, else-is_behind}

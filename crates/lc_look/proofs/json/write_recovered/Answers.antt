@@ -1,4 +1,3 @@
-use Rattle.std.proofs.Common.{ℕ, List, codes, ◌++◌}
 use Rattle.std.proofs.KnownBytes.{Appends-trans}
 use Rattle.std.proofs.lemmas.Result.{on_ok_weaker}
 use Rattle.lc_look.proofs.json.write_recovered.Goals as goal

@@ -29,4 +29,4 @@ returns-clause-recovers g c =
     let step = c.in_ok-steps.ensures in
     let done = done_of c.in_ok-steps.field-0 c.step.new.self c.in_default.not-Stepped step.progress in
     recovers g.D.Area c.args.geometry c.args.areas.items c.loop-recovery.recovery c.step.new.self c.loop-recovery.invariant step.geometry step.honest step.merges
-    step.steps step.reads step.merged step.no_call c.in-Ok.ensures.right step.lengths step.bytes (step.last done) c.finish.result c.finish.ensures.geometry c.finish.ensures.areas c.finish.ensures.finished
+    step.steps step.reads step.merged step.no_call c.in-Ok.ensures.right step.lengths step.bytes (step.last done) c.finish.result c.finish.ensures.geometry c.finish.ensures.areas c.finish.ensures.made

@@ -1,9 +1,10 @@
-use Rattle.std.proofs.Common.{◌∙◌, subst}
+use Rattle.std.proofs.Common.{◌∙◌, sym, subst}
 use Rattle.lc_model.specs.declared.event.Event.TheVariants.{Close, Reserve}
 use Rattle.lc_model.specs.declared.reply.Reply.{Reply}
 use Rattle.lc_core.specs.World.{FollowsWorld}
+use Rattle.lc_tool.specs.Fits.{FollowsEnd}
 use Rattle.lc_tool.proofs.Keeping.{step_keeps}
-use Rattle.lc_tool.proofs.Performing.{never_refused, not_reserved}
+use Rattle.lc_tool.proofs.Performing.{never_refused, not_reserved, reserved_closed}
 use Rattle.lc_tool.proofs.repeating.end.Goals as goal
 
 pub returns-in_default : goal.returns-in_default
@@ -29,3 +30,10 @@ returns g c = record {
 pub returns-in-Ok-clause-keeps : goal.returns-in-Ok-clause-keeps
 returns-in-Ok-clause-keeps g c =
     step_keeps g.D.Area c.args.world.now.phase c.step.new.self.phase (Reserve c.args.node c.args.thread) c.in_ok-reserved.reserved c.in_ok-reserved.ensures.unknown c.in_ok-reserved.ensures.at_once
+
+pub returns-in-Ok-clause-follows : goal.returns-in-Ok-clause-follows
+returns-in-Ok-clause-follows g c =
+    subst (λ (r : Reply). FollowsEnd g.D.Area c.args.world.now c.args.node c.args.thread r c.step-2.new.self) (sym c.in-Reserved.is)
+    (reserved_closed g.D.Area c.args.world.now c.step.new.self c.step-2.new.self c.args.node c.args.thread c.in-Reserved.place c.in-Reserved.words
+    (subst (λ (r : Reply). FollowsWorld g.D.Area c.args.world.now (Reserve c.args.node c.args.thread) r c.step.new.self) c.in-Reserved.is c.in_ok-reserved.ensures.follows)
+    (subst (λ (r : Reply). FollowsWorld g.D.Area c.step.new.self (Close c.args.node c.args.thread) r c.step-2.new.self) c.in-Ok.is c.in_ok-other.ensures.follows))
