@@ -2,7 +2,8 @@
 """Looks that what the documents name stands in the sources: each name in backticks, and each clause that docs/PROVED.md
 names.
 
-usage: tests/proved.py [DOCUMENT..]     (seconds; proves nothing; else README.md, CONTRIBUTING.md and docs/*.md)
+usage: tests/proved.py [DOCUMENT..]     (seconds; proves nothing; else README.md, CONTRIBUTING.md, docs/*.md and
+                                         the README.md of each crate)
 
 Of a text in backticks this is looked up:
  1. A name: what a crate defines or imports, a word of the code of a script, a client or an example, a file or a folder.
@@ -27,7 +28,11 @@ import sys
 
 TOP = pathlib.Path(__file__).resolve().parent.parent
 OUTSIDE = TOP / "tests" / "outside_names.txt"
-DOCUMENTS = ("README.md", "CONTRIBUTING.md", *sorted(f"docs/{it.name}" for it in (TOP / "docs").glob("*.md")))
+DOCUMENTS = (
+    "README.md",
+    "CONTRIBUTING.md",
+    *sorted(str(it.relative_to(TOP)) for it in [*(TOP / "docs").glob("*.md"), *(TOP / "crates").glob("*/README.md")]),
+)
 
 # ---- What stands in the sources.
 
