@@ -1315,11 +1315,11 @@ class Processes(Case):
                     threading.Thread(target=work).start()
                 """)
             assert process.stdout is not None
-            process.stdout.readline()
+            first = int(process.stdout.readline())
             time.sleep(chance.uniform(0, 0.05))
             process.kill()
             said = [int(line) for line in process.communicate()[0].split("\n")[:-1]]
-            acknowledged = max([before, *said])
+            acknowledged = max([before, first, *said])
             before = self.number()
             self.assertIn(before, range(acknowledged, acknowledged + 4), kill)
             with lcrvm.open(self.folder) as store, store.transaction(reading=[1]) as t:
