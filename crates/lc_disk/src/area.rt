@@ -10,13 +10,17 @@ use crate::DeviceFault;
 /// written; a position that was written since the last successful sync is `dirty`, and may hold any byte after a
 /// stop; the others stay. A failed write makes its whole range dirty, and a failed sync makes no position stable. A
 /// write that is stopped midway leaves what a stop after it may leave, a sync what a stop before it may. Nothing is
-/// said of a device that is not honest but that each call returns, keeps the length and counts its failures.
+/// said of a device that is not honest but that each call returns, keeps the length and counts itself and its
+/// failures.
 pub trait Area {
     /// The bytes that a read gives.
     ghost now: { Self → List ℕ };
 
     /// The positions that a stop may change.
     ghost dirty: { Self → ℕ → Bool };
+
+    /// How often it was called to read, write or sync. There is no greatest number.
+    ghost calls: { Self → ℕ };
 
     /// How often the device has failed. There is no greatest number.
     ghost failures: { Self → ℕ };
@@ -37,6 +41,7 @@ pub trait Area {
         ensures bytes { OnOk result (honest self.old ≡ true → buffer.new ≡ take (length buffer.old) (drop at (now self.old))) }
         ensures same { honest self.old ≡ true → now self.new ≡ now self.old }
         ensures same_dirty { honest self.old ≡ true → (k : ℕ) → dirty self.new k ≡ dirty self.old k }
+        ensures called { calls self.new ≡ calls self.old + 1 }
         ensures counted { failures self.new ≡ (if is_ok result then failures self.old else failures self.old + 1) };
 
     /// Lays bytes over those from a position on. Each of these positions is dirty afterwards, also after a fault.
@@ -48,6 +53,7 @@ pub trait Area {
         ensures written { OnOk result (honest self.old ≡ true → now self.new ≡ overlaid (now self.old) at bytes.now) }
         ensures torn { honest self.old ≡ true → IsSameOutside at (length bytes.now) (now self.old) (now self.new) }
         ensures dirtied { honest self.old ≡ true → BecomeDirty at (length bytes.now) (dirty self.old) (dirty self.new) }
+        ensures called { calls self.new ≡ calls self.old + 1 }
         ensures counted { failures self.new ≡ (if is_ok result then failures self.old else failures self.old + 1) };
 
     /// Makes each position stable; after a fault none has become so.
@@ -57,6 +63,7 @@ pub trait Area {
         ensures same { honest self.old ≡ true → now self.new ≡ now self.old }
         ensures clean { OnOk result (honest self.old ≡ true → (k : ℕ) → dirty self.new k ≡ false) }
         ensures same_dirty { OnErr result (honest self.old ≡ true → (k : ℕ) → dirty self.new k ≡ dirty self.old k) }
+        ensures called { calls self.new ≡ calls self.old + 1 }
         ensures counted { failures self.new ≡ (if is_ok result then failures self.old else failures self.old + 1) };
 
     /// How often the device has failed, or 2^64 - 1 where it was more often.

@@ -1,10 +1,12 @@
 //! An area over a file.
 ghost use Rattle.std.specs.Prelude.{◌≡◌, ◌≢◌, ◌↔◌, ◌+◌, ◌<◌, ◌≤◌, ℕ, true, false, length, replicate, IfOk, IsErr, if◌then◌else◌, is_ok};
-ghost use Rattle.lc_disk.specs.FaultCount.{fault_count};
+ghost use Rattle.lc_disk.specs.Count.{counted};
+ghost use Rattle.lc_disk.specs.Tally.{tallied};
 
-use crate::fault_count::FaultCount;
+use crate::count::Count;
 use crate::{
     Area, Choice, DeviceFault, FaultWitness, FileCall, HeldFile, NoWitness, OpenFault, Stoppable,
+    Tally,
 };
 use std::alloc::Global;
 use std::fs::{self, File, OpenFile, OpenOptions};
@@ -31,14 +33,15 @@ static ZEROS: [u8; 4096] = [0; 4096];
 pub struct FileArea<F = File, W = NoWitness> {
     file: F,
     len: usize,
-    faults: FaultCount,
+    calls: Tally,
+    faults: Count,
     is_given_up: bool,
     is_unsynced: bool,
     witness: W,
 }
 
 impl<F: HeldFile> FileArea<F> {
-    ghost use Rattle.lc_disk.specs.FileArea.{file_len, file_failures};
+    ghost use Rattle.lc_disk.specs.FileArea.{file_calls, file_failures, file_len};
 
     /// The bytes of the file at this path, as long as it is now.
     ///
@@ -132,7 +135,8 @@ impl<F: HeldFile> FileArea<F> {
         FileArea {
             file,
             len,
-            faults: FaultCount::none(),
+            calls: Tally::new(),
+            faults: Count::new(),
             is_given_up: false,
             is_unsynced: true,
             witness: NoWitness,
@@ -142,11 +146,13 @@ impl<F: HeldFile> FileArea<F> {
     /// The same area, of whose faults this witness is told.
     pub fn witnessed_by<W: FaultWitness>(self, witness: W) -> FileArea<F, W>
         ensures len { file_len result ≡ file_len self }
+        ensures calls { file_calls result ≡ file_calls self }
         ensures failures { file_failures result ≡ file_failures self }
     {
         let FileArea {
             file,
             len,
+            calls,
             faults,
             is_given_up,
             is_unsynced,
@@ -155,6 +161,7 @@ impl<F: HeldFile> FileArea<F> {
         FileArea {
             file,
             len,
+            calls,
             faults,
             is_given_up,
             is_unsynced,
@@ -164,12 +171,13 @@ impl<F: HeldFile> FileArea<F> {
 }
 
 impl<F: HeldFile, W: FaultWitness> FileArea<F, W> {
-    ghost use Rattle.lc_disk.specs.FileArea.{file_len, file_failures};
+    ghost use Rattle.lc_disk.specs.FileArea.{file_calls, file_failures, file_len};
 
     // What a call of the system gave, with its error as a fault that is counted. Behind a write or a sync that failed the
     // file is given up.
     fn counted(&mut self, call: FileCall, done: io::Result<()>) -> Result<(), DeviceFault>
         ensures len { file_len self.new ≡ file_len self.old }
+        ensures calls { file_calls self.new ≡ file_calls self.old }
         ensures counted { file_failures self.new ≡ (if is_ok result then file_failures self.old else file_failures self.old + 1) }
         ensures told { is_ok result ≡ is_ok done }
     {
@@ -187,6 +195,7 @@ impl<F: HeldFile, W: FaultWitness> FileArea<F, W> {
     // The fault of a file that is given up.
     fn refused(&mut self) -> Result<(), DeviceFault>
         ensures len { file_len self.new ≡ file_len self.old }
+        ensures calls { file_calls self.new ≡ file_calls self.old }
         ensures counted { file_failures self.new ≡ file_failures self.old + 1 }
         ensures refused { is_ok result ≡ false }
     {
@@ -269,13 +278,15 @@ fn not_made(error: io::Error) -> OpenFault {
 }
 
 impl<F: HeldFile, W: FaultWitness> Area for FileArea<F, W> {
-    ghost use Rattle.lc_disk.specs.FileArea.{file_len, file_failures};
+    ghost use Rattle.lc_disk.specs.FileArea.{file_calls, file_failures, file_len};
 
     ghost now = { λ a. replicate a.len 0 };
 
     ghost dirty = { λ a k. false };
 
-    ghost failures = { λ a. fault_count a.faults };
+    ghost calls = { λ a. tallied a.calls };
+
+    ghost failures = { λ a. counted a.faults };
 
     ghost honest = { λ a. false };
 
@@ -284,6 +295,7 @@ impl<F: HeldFile, W: FaultWitness> Area for FileArea<F, W> {
     }
 
     fn read(&mut self, at: usize, buffer: &mut [u8]) -> Result<(), DeviceFault> {
+        self.calls.count();
         if self.is_given_up {
             return self.refused();
         }
@@ -292,6 +304,7 @@ impl<F: HeldFile, W: FaultWitness> Area for FileArea<F, W> {
     }
 
     fn write_at(&mut self, at: usize, bytes: &[u8]) -> Result<(), DeviceFault> {
+        self.calls.count();
         if self.is_given_up {
             return self.refused();
         }
@@ -304,6 +317,7 @@ impl<F: HeldFile, W: FaultWitness> Area for FileArea<F, W> {
     }
 
     fn sync(&mut self) -> Result<(), DeviceFault> {
+        self.calls.count();
         if self.is_given_up {
             return self.refused();
         }

@@ -1,11 +1,11 @@
 //! An area in memory of which chosen calls fail.
-ghost use Rattle.std.specs.Prelude.{◌≡◌, ◌+◌, ◌<◌, ◌≤◌, ℕ, true, false, length, take, drop, Err, OnOk, OnErr, is_ok, not, slice_index_or};
+ghost use Rattle.std.specs.Prelude.{◌≡◌, ◌+◌, ◌<◌, ◌≤◌, ℕ, [], true, false, length, take, drop, Err, OnOk, OnErr, is_ok, not, slice_index_or};
 ghost use Rattle.lc_disk.specs.Area.{IsImage, IsSameOutside, BecomeDirty, overlaid};
-ghost use Rattle.lc_disk.specs.FaultCount.{fault_count};
+ghost use Rattle.lc_disk.specs.Count.{counted};
 ghost use Rattle.lc_disk.specs.Stop.{left_by_stop};
 ghost use Rattle.lc_disk.specs.When.{IsCountable};
 
-use crate::fault_count::FaultCount;
+use crate::count::Count;
 use crate::{Area, Choice, DeviceFault, MemArea, Stoppable, When};
 
 /// An area in memory, always honest, that counts the calls `read`, `write_at` and `sync` from 1 and fails those that
@@ -15,9 +15,9 @@ use crate::{Area, Choice, DeviceFault, MemArea, Stoppable, When};
 pub struct Fuse {
     area: MemArea,
     when: When,
-    calls: u64,
-    // How many calls failed.
-    faults: FaultCount,
+    calls: Count,
+    // How many of them failed.
+    faults: Count,
     ghost countable: { IsCountable when },
 }
 
@@ -35,8 +35,8 @@ impl Fuse {
         Fuse {
             area,
             when,
-            calls: 0,
-            faults: FaultCount::none(),
+            calls: Count::new(),
+            faults: Count::new(),
         }
     }
 
@@ -52,8 +52,8 @@ impl Fuse {
         ensures counted { IsCounted self.old self.new result }
         ensures area { fuse_area self.new ≡ fuse_area self.old }
     {
-        self.calls = self.calls.saturating_add(1);
-        let fails = self.when.fails(self.calls);
+        self.calls.count();
+        let fails = self.when.fails(self.calls.shown());
         if fails {
             self.faults.count();
         }
@@ -63,13 +63,15 @@ impl Fuse {
 
 impl Area for Fuse {
     ghost use Rattle.lc_disk.specs.Fuse.{fuse_area, fuse_failures, IsCounted};
-    ghost use Rattle.lc_disk.specs.MemArea.{memory_now, memory_stable, memory_dirty};
+    ghost use Rattle.lc_disk.specs.MemArea.{memory_dirty, memory_now, memory_stable, KeepsMemory};
 
     ghost now = { λ f. memory_now f.area };
 
     ghost dirty = { λ f. memory_dirty f.area };
 
-    ghost failures = { λ f. fault_count f.faults };
+    ghost calls = { λ f. counted f.calls };
+
+    ghost failures = { λ f. counted f.faults };
 
     ghost honest = { λ f. true };
 
@@ -81,7 +83,7 @@ impl Area for Fuse {
         requires { at + length buffer.old ≤ length (memory_now (fuse_area self.old)) }
         ensures counted { IsCounted self.old self.new (not (is_ok result)) }
         ensures bytes { OnOk result (buffer.new ≡ take (length buffer.old) (drop at (memory_now (fuse_area self.old)))) }
-        ensures same { fuse_area self.new ≡ fuse_area self.old }
+        ensures same { KeepsMemory (fuse_area self.old) (fuse_area self.new) }
         ensures kept { OnErr result (buffer.new ≡ buffer.old) }
     {
         if self.burn() {
@@ -127,13 +129,14 @@ impl Area for Fuse {
 
 impl Stoppable for Fuse {
     ghost use Rattle.lc_disk.specs.Fuse.{fuse_area, fuse_when, fuse_calls, fuse_failures};
-    ghost use Rattle.lc_disk.specs.MemArea.{memory_now, memory_stable, memory_dirty};
+    ghost use Rattle.lc_disk.specs.MemArea.{memory_dirty, memory_now, memory_stable, KeepsMemory};
 
     ghost left = { λ f choices k. left_by_stop (memory_now f.area) (memory_stable f.area) (memory_dirty f.area) choices k };
 
     /// Stops the area as it stops without a fuse: the stop is not counted and never fails.
     fn stop(&mut self, choices: &[Choice])
         ensures len { length (memory_now (fuse_area self.new)) ≡ length (memory_now (fuse_area self.old)) }
+        ensures keeps { choices.now ≡ [] → memory_now (fuse_area self.new) ≡ memory_now (fuse_area self.old) }
         ensures chosen { (k : ℕ) → slice_index_or (memory_now (fuse_area self.new)) k 0
             ≡ left_by_stop (memory_now (fuse_area self.old)) (memory_stable (fuse_area self.old)) (memory_dirty (fuse_area self.old)) choices.now k }
         ensures image { IsImage (memory_now (fuse_area self.old)) (memory_dirty (fuse_area self.old)) (memory_now (fuse_area self.new)) }

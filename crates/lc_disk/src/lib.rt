@@ -1,11 +1,11 @@
-//! Areas of a disk: while a device keeps to the model, each call leaves what the model says, and failures are counted.
+//! Areas of a disk: while a device keeps to the model, each call leaves what the model says, and calls and failures
+//! are counted.
 #![tactic(auto)]
 
 mod area;
 mod choice;
+mod count;
 mod device_fault;
-mod failures;
-mod fault_count;
 mod fault_witness;
 mod file_area;
 mod fuse;
@@ -14,6 +14,7 @@ mod laws;
 mod mem_area;
 mod open_fault;
 mod stoppable;
+mod tally;
 mod when;
 
 pub use area::Area;
@@ -27,4 +28,5 @@ pub use laws::{clean_image, image_of_image, images_kept, reads_as_image};
 pub use mem_area::MemArea;
 pub use open_fault::OpenFault;
 pub use stoppable::Stoppable;
+pub use tally::Tally;
 pub use when::When;

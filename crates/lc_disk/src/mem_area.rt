@@ -1,10 +1,11 @@
 //! An area in memory, which never fails.
-ghost use Rattle.std.specs.Prelude.{◌≡◌, ◌+◌, ◌≤◌, ◌<◌, ◌^◌, ℕ, Bool, true, false, length, replicate, slice_index_or, take, drop, Ok, IfOk, OnErr};
+ghost use Rattle.std.specs.Prelude.{◌≡◌, ◌+◌, ◌≤◌, ◌<◌, ◌^◌, ℕ, Bool, true, false, [], length, replicate, slice_index_or, take, drop, Ok, IfOk, OnErr};
 ghost use Rattle.lc_disk.specs.Area.{IsImage, IsSameOutside, BecomeDirty, IsClean, overlaid};
 ghost use Rattle.lc_disk.specs.Span.{IsSpan};
 ghost use Rattle.lc_disk.specs.Stop.{left_by_stop};
+ghost use Rattle.lc_disk.specs.Tally.{tallied};
 
-use crate::{Area, Choice, DeviceFault, Stoppable};
+use crate::{Area, Choice, DeviceFault, Stoppable, Tally};
 use std::alloc::{AllocError, Global};
 use std::ops::Range;
 
@@ -17,6 +18,7 @@ pub struct MemArea {
     dirty: Vec<bool>,
     // From the first dirty position to behind the last.
     span: Range<usize>,
+    calls: Tally,
     ghost fits: { (k : ℕ) → slice_index_or bytes.items k 0 < 256 },
     ghost same_stable: { length stable.items ≡ length bytes.items },
     ghost same_dirty: { length dirty.items ≡ length bytes.items },
@@ -27,13 +29,14 @@ pub struct MemArea {
 }
 
 impl MemArea {
-    ghost use Rattle.lc_disk.specs.MemArea.{memory_now, memory_stable, memory_dirty};
+    ghost use Rattle.lc_disk.specs.MemArea.{memory_calls, memory_dirty, memory_now, memory_stable, KeepsMemory};
 
     /// Zeros, all of them stable.
     pub fn new(alloc: Global, len: usize) -> Result<Self, AllocError>
         ensures bytes { IfOk result (λ m. memory_now m ≡ replicate len 0) }
         ensures stable { IfOk result (λ m. memory_stable m ≡ replicate len 0) }
         ensures clean { IfOk result (λ m. (k : ℕ) → memory_dirty m k ≡ false) }
+        ensures calls { IfOk result (λ m. memory_calls m ≡ 0) }
         ensures memory { OnErr result (0 < len) }
     {
         Ok(MemArea {
@@ -41,6 +44,7 @@ impl MemArea {
             stable: filled(alloc, 0, len)?,
             dirty: filled(alloc, false, len)?,
             span: 0..0,
+            calls: Tally::new(),
         })
     }
 
@@ -49,6 +53,7 @@ impl MemArea {
         ensures bytes { IfOk result (λ m. memory_now m ≡ bytes.now) }
         ensures stable { IfOk result (λ m. memory_stable m ≡ bytes.now) }
         ensures clean { IfOk result (λ m. (k : ℕ) → memory_dirty m k ≡ false) }
+        ensures calls { IfOk result (λ m. memory_calls m ≡ 0) }
         ensures memory { OnErr result (0 < length bytes.now) }
     {
         Ok(MemArea {
@@ -56,6 +61,7 @@ impl MemArea {
             stable: copied(alloc, bytes)?,
             dirty: filled(alloc, false, bytes.len())?,
             span: 0..0,
+            calls: Tally::new(),
         })
     }
 
@@ -72,6 +78,7 @@ impl MemArea {
         ensures same { memory_now self.new ≡ memory_now self.old }
         ensures same_stable { memory_stable self.new ≡ memory_stable self.old }
         ensures dirtied { BecomeDirty at len (memory_dirty self.old) (memory_dirty self.new) }
+        ensures calls { memory_calls self.new ≡ memory_calls self.old }
     {
         mark(&mut self.dirty, at, len);
         self.span = widened(&self.span, at, len);
@@ -82,6 +89,7 @@ impl MemArea {
         ensures same { memory_now self.new ≡ memory_now self.old }
         ensures stable { memory_stable self.new ≡ memory_now self.old }
         ensures clean { (k : ℕ) → memory_dirty self.new k ≡ false }
+        ensures calls { memory_calls self.new ≡ memory_calls self.old }
     {
         let (start, end) = (self.span.start, self.span.end);
         settle(&mut self.stable, &self.bytes, start, end);
@@ -91,11 +99,13 @@ impl MemArea {
 }
 
 impl Area for MemArea {
-    ghost use Rattle.lc_disk.specs.MemArea.{memory_now, memory_stable, memory_dirty};
+    ghost use Rattle.lc_disk.specs.MemArea.{memory_calls, memory_dirty, memory_now, memory_stable, KeepsMemory};
 
     ghost now = { λ m. m.bytes.items };
 
     ghost dirty = { λ m k. slice_index_or m.dirty.items k false };
+
+    ghost calls = { λ m. tallied m.calls };
 
     ghost failures = { λ m. 0 };
 
@@ -109,8 +119,10 @@ impl Area for MemArea {
         requires { at + length buffer.old ≤ length (memory_now self.old) }
         ensures done { result ≡ Ok tt }
         ensures bytes { buffer.new ≡ take (length buffer.old) (drop at (memory_now self.old)) }
-        ensures same { self.new ≡ self.old }
+        ensures same { KeepsMemory self.old self.new }
+        ensures calls { memory_calls self.new ≡ memory_calls self.old + 1 }
     {
+        self.calls.count();
         buffer.copy_from_slice(&self.bytes[at..at + buffer.len()]);
         Ok(())
     }
@@ -123,9 +135,11 @@ impl Area for MemArea {
         ensures torn { IsSameOutside at (length bytes.now) (memory_now self.old) (memory_now self.new) }
         ensures dirtied { BecomeDirty at (length bytes.now) (memory_dirty self.old) (memory_dirty self.new) }
         ensures same_stable { memory_stable self.new ≡ memory_stable self.old }
+        ensures calls { memory_calls self.new ≡ memory_calls self.old + 1 }
     {
         self.spoil(at, bytes.len());
         overlay(&mut self.bytes, at, bytes);
+        self.calls.count();
         Ok(())
     }
 
@@ -135,7 +149,9 @@ impl Area for MemArea {
         ensures same { memory_now self.new ≡ memory_now self.old }
         ensures stable { memory_stable self.new ≡ memory_now self.old }
         ensures clean { (k : ℕ) → memory_dirty self.new k ≡ false }
+        ensures calls { memory_calls self.new ≡ memory_calls self.old + 1 }
     {
+        self.calls.count();
         self.make_stable();
         Ok(())
     }
@@ -146,7 +162,7 @@ impl Area for MemArea {
 }
 
 impl Stoppable for MemArea {
-    ghost use Rattle.lc_disk.specs.MemArea.{memory_now, memory_stable, memory_dirty};
+    ghost use Rattle.lc_disk.specs.MemArea.{memory_calls, memory_dirty, memory_now, memory_stable, KeepsMemory};
 
     ghost left = { λ m choices k. left_by_stop (memory_now m) (memory_stable m) (memory_dirty m) choices k };
 
@@ -154,11 +170,13 @@ impl Stoppable for MemArea {
     /// none each byte is kept. It costs what lies from the first dirty position to the last, and not the whole area.
     fn stop(&mut self, choices: &[Choice])
         ensures len { length (memory_now self.new) ≡ length (memory_now self.old) }
+        ensures keeps { choices.now ≡ [] → memory_now self.new ≡ memory_now self.old }
         ensures chosen { (k : ℕ) → slice_index_or (memory_now self.new) k 0
             ≡ left_by_stop (memory_now self.old) (memory_stable self.old) (memory_dirty self.old) choices.now k }
         ensures image { IsImage (memory_now self.old) (memory_dirty self.old) (memory_now self.new) }
         ensures stable { memory_stable self.new ≡ memory_now self.new }
         ensures clean { (k : ℕ) → memory_dirty self.new k ≡ false }
+        ensures calls { memory_calls self.new ≡ memory_calls self.old }
     {
         choose(
             &mut self.bytes,
