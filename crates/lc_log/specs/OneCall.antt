@@ -23,7 +23,7 @@ module _ {D : Type 0} (a : Ghosts D) where
     pub now : a.now new ≡ a.now old
     pub clean : IsClean (a.dirty new)
 
-  -- it was read, or a sync failed, or there was no call
+  -- it was read, or a sync failed
   pub record IsUnchanged (old new : D) : Type 0 where
     pub now : a.now new ≡ a.now old
     pub dirty : (k : ℕ) → a.dirty new k ≡ a.dirty old k
@@ -33,9 +33,11 @@ module _ {D : Type 0} (a : Ghosts D) where
   Leaves true old new = HasWritten old new ⊎ (HasSynced old new ⊎ IsUnchanged old new)
   Leaves false old new = HasTorn old new ⊎ IsUnchanged old new
 
-  -- the same device, which has failed once more just where the call did; while it is honest one call leaves this
+  -- the same device, which was called once more, and has failed once more just where the call did; while it is honest one call
+  -- leaves this
   pub record IsOneCall (ok : Bool) (old new : D) : Type 0 where
     pub honest : a.honest new ≡ a.honest old
     pub same_length : length (a.now new) ≡ length (a.now old)
+    pub called : a.calls new ≡ a.calls old + 1
     pub counted : a.failures new ≡ (if ok then a.failures old else a.failures old + 1)
     pub leaves : a.honest old ≡ true → Leaves ok old new

@@ -119,10 +119,11 @@ pub record SameOutside (page : ℕ) (now : List ℕ) (dirty : ℕ → Bool) (lat
 
 -- The same of an area; `a` is what contracts see of it.
 module _ {D : Type 0} (a : Ghosts D) where
-  -- the device keeps to the model as before, and its failures are counted
+  -- the device keeps to the model as before, and its calls and failures are counted
   pub record Continues (old new : D) (ok : Bool) : Type 0 where
     pub honest : a.honest new ≡ a.honest old
     pub same_length : length (a.now new) ≡ length (a.now old)
+    pub called : a.calls new ≡ a.calls old + 1
     pub counted : a.failures new ≡ (if ok then a.failures old else a.failures old + 1)
 
   -- a call that lays these bytes over a page, from this position on, and changes nothing else; where it fails, each of

@@ -14,6 +14,7 @@ module _ {D : Type 0} (a : Ghosts D) where
   writes_call page at bytes old new ok call = record {
     honest = call.device.honest;
     same_length = call.device.same_length;
+    called = call.device.called;
     counted = call.device.counted;
     leaves = λ honest. its ok (λ made. call.written honest made) honest;
   }
@@ -26,6 +27,7 @@ module _ {D : Type 0} (a : Ghosts D) where
   syncs_call old new ok call = record {
     honest = call.device.honest;
     same_length = call.device.same_length;
+    called = call.device.called;
     counted = call.device.counted;
     leaves = λ honest. its ok (call.dirty honest) honest;
   }

@@ -19,4 +19,4 @@ returns-clause-images g c records reads holds honest =
     reset_torn _ _ _ _ records (holds was) long c.args.is_open (reads was) _ c.closing_bytes.ensures (h.torn was) (h.dirtied was)
 
 pub returns-clause-call : goal.returns-clause-call
-returns-clause-call g c = write_call g.D.Area c.args.area.now c.write_at.new.self c.write_at.result _ _ c.write_at.ensures.honest c.write_at.ensures.len c.write_at.ensures.counted c.write_at.ensures.written c.write_at.ensures.torn c.write_at.ensures.dirtied
+returns-clause-call g c = write_call g.D.Area c.args.area.now c.write_at.new.self c.write_at.result _ _ c.write_at.ensures.honest c.write_at.ensures.len c.write_at.ensures.called c.write_at.ensures.counted c.write_at.ensures.written c.write_at.ensures.torn c.write_at.ensures.dirtied

@@ -11,4 +11,4 @@ returns-clause-images g c =
     rest_image _ _ 0 [] (rest_kept _ _ _ _ 0 [] (c.sync.ensures.same was) (λ k e. e) (reset_over _ _ _ records (closing was) (clean was))))
 
 pub returns-clause-call : goal.returns-clause-call
-returns-clause-call g c = sync_call g.D.Area c.args.area.now c.sync.new.self c.sync.result c.sync.ensures.honest c.sync.ensures.len c.sync.ensures.counted c.sync.ensures.same c.sync.ensures.clean c.sync.ensures.same_dirty
+returns-clause-call g c = sync_call g.D.Area c.args.area.now c.sync.new.self c.sync.result c.sync.ensures.honest c.sync.ensures.len c.sync.ensures.called c.sync.ensures.counted c.sync.ensures.same c.sync.ensures.clean c.sync.ensures.same_dirty

@@ -44,7 +44,7 @@ returns-clause-areas g c = quiet-begins g.D.Area c.args.geometry.now c.args.area
 
 pub returns-clause-call : goal.returns-clause-call
 returns-clause-call g c = one-call g.D.Area c.args.geometry.now c.args.areas.now c.args.synced (old g c) c.sync.new.self (was g c) _
-    (sync_call g.D.Area (old g c) c.sync.new.self c.sync.result c.sync.ensures.honest c.sync.ensures.len c.sync.ensures.counted c.sync.ensures.same c.sync.ensures.clean c.sync.ensures.same_dirty)
+    (sync_call g.D.Area (old g c) c.sync.new.self c.sync.result c.sync.ensures.honest c.sync.ensures.len c.sync.ensures.called c.sync.ensures.counted c.sync.ensures.same c.sync.ensures.clean c.sync.ensures.same_dirty)
 
 pub returns-clause-merges : goal.returns-clause-merges
 returns-clause-merges g c content numbers = quiet-merges g.D.Area c.args.geometry.now c.args.areas.now c.args.synced (old g c) c.sync.new.self (was g c) content numbers (quiet g c)

@@ -40,9 +40,9 @@ returns-in-Err-clause-failed g c stable idle honest =
 pub returns-in-Ok-clause-call : goal.returns-in-Ok-clause-call
 returns-in-Ok-clause-call g c =
     subst (λ (ok : Bool). IsOneCall g.D.Area ok c.args.self.area c.write_at.new.self) (ap is_ok c.in-Ok.is)
-    (write_call g.D.Area c.args.self.area c.write_at.new.self c.write_at.result _ _ c.write_at.ensures.honest c.write_at.ensures.len c.write_at.ensures.counted c.write_at.ensures.written c.write_at.ensures.torn c.write_at.ensures.dirtied)
+    (write_call g.D.Area c.args.self.area c.write_at.new.self c.write_at.result _ _ c.write_at.ensures.honest c.write_at.ensures.len c.write_at.ensures.called c.write_at.ensures.counted c.write_at.ensures.written c.write_at.ensures.torn c.write_at.ensures.dirtied)
 
 pub returns-in-Err-clause-call : goal.returns-in-Err-clause-call
 returns-in-Err-clause-call g c =
     subst (λ (ok : Bool). IsOneCall g.D.Area ok c.args.self.area c.write_at.new.self) (ap is_ok c.in-Err.is)
-    (write_call g.D.Area c.args.self.area c.write_at.new.self c.write_at.result _ _ c.write_at.ensures.honest c.write_at.ensures.len c.write_at.ensures.counted c.write_at.ensures.written c.write_at.ensures.torn c.write_at.ensures.dirtied)
+    (write_call g.D.Area c.args.self.area c.write_at.new.self c.write_at.result _ _ c.write_at.ensures.honest c.write_at.ensures.len c.write_at.ensures.called c.write_at.ensures.counted c.write_at.ensures.written c.write_at.ensures.torn c.write_at.ensures.dirtied)

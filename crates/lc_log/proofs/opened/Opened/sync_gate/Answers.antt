@@ -27,9 +27,9 @@ returns-in-Err-clause-failed g c stable records opened honest =
 pub returns-in-Ok-clause-call : goal.returns-in-Ok-clause-call
 returns-in-Ok-clause-call g c =
     subst (λ (ok : Bool). IsOneCall g.D.Area ok c.args.self.area c.sync.new.self) (ap is_ok c.in-Ok.is)
-    (sync_call g.D.Area c.args.self.area c.sync.new.self c.sync.result c.sync.ensures.honest c.sync.ensures.len c.sync.ensures.counted c.sync.ensures.same c.sync.ensures.clean c.sync.ensures.same_dirty)
+    (sync_call g.D.Area c.args.self.area c.sync.new.self c.sync.result c.sync.ensures.honest c.sync.ensures.len c.sync.ensures.called c.sync.ensures.counted c.sync.ensures.same c.sync.ensures.clean c.sync.ensures.same_dirty)
 
 pub returns-in-Err-clause-call : goal.returns-in-Err-clause-call
 returns-in-Err-clause-call g c =
     subst (λ (ok : Bool). IsOneCall g.D.Area ok c.args.self.area c.sync.new.self) (ap is_ok c.in-Err.is)
-    (sync_call g.D.Area c.args.self.area c.sync.new.self c.sync.result c.sync.ensures.honest c.sync.ensures.len c.sync.ensures.counted c.sync.ensures.same c.sync.ensures.clean c.sync.ensures.same_dirty)
+    (sync_call g.D.Area c.args.self.area c.sync.new.self c.sync.result c.sync.ensures.honest c.sync.ensures.len c.sync.ensures.called c.sync.ensures.counted c.sync.ensures.same c.sync.ensures.clean c.sync.ensures.same_dirty)

@@ -34,7 +34,7 @@ returns-in-Ok-clause-call g c =
     let choice : ((c.args.self.state.gate ≡ false) × (c.if-state.gate.now ≡ [])) ⊎ ((c.args.self.state.gate ≡ true) × (c.if-state.gate.now ≡ 0 ∷ [])) =
     elim c.if-state.branch [ then-state w ↦ inr (search rules, search rules) | else-state w ↦ inl (search rules, search rules) ] in
     writes_at g.D.Area c.args.self.draft.page _ _ _ _ _ _ _ c.place.ensures (chosen_bytes c.args.self.state.gate _ choice) (record {
-      device = record { honest = h.honest; same_length = h.len; counted = h.counted };
+      device = record { honest = h.honest; same_length = h.len; called = h.called; counted = h.counted };
       written = λ was _. h.written was;
       torn = h.torn;
       dirtied = h.dirtied;
@@ -47,7 +47,7 @@ returns-in-Err-clause-call g c =
     let choice : ((c.args.self.state.gate ≡ false) × (c.if-state.gate.now ≡ [])) ⊎ ((c.args.self.state.gate ≡ true) × (c.if-state.gate.now ≡ 0 ∷ [])) =
     elim c.if-state.branch [ then-state w ↦ inr (search rules, search rules) | else-state w ↦ inl (search rules, search rules) ] in
     writes_at g.D.Area c.args.self.draft.page _ _ _ _ _ _ _ c.place.ensures (chosen_bytes c.args.self.state.gate _ choice) (record {
-      device = record { honest = h.honest; same_length = h.len; counted = h.counted };
+      device = record { honest = h.honest; same_length = h.len; called = h.called; counted = h.counted };
       written = λ was ok. absurd (false≢true ok);
       torn = h.torn;
       dirtied = h.dirtied;

@@ -27,7 +27,7 @@ pub returns-in-Ok-clause-call : goal.returns-in-Ok-clause-call
 returns-in-Ok-clause-call g c =
     let h = c.in-Ok.ensures in
     writes_at g.D.Area c.args.self.draft.page _ _ _ _ _ _ _ c.place.ensures refl (record {
-      device = record { honest = h.honest; same_length = h.len; counted = h.counted };
+      device = record { honest = h.honest; same_length = h.len; called = h.called; counted = h.counted };
       written = λ was _. h.written was;
       torn = h.torn;
       dirtied = h.dirtied;
@@ -38,7 +38,7 @@ pub returns-in-Err-clause-call : goal.returns-in-Err-clause-call
 returns-in-Err-clause-call g c =
     let h = c.in-Err.ensures in
     writes_at g.D.Area c.args.self.draft.page _ _ _ _ _ _ _ c.place.ensures refl (record {
-      device = record { honest = h.honest; same_length = h.len; counted = h.counted };
+      device = record { honest = h.honest; same_length = h.len; called = h.called; counted = h.counted };
       written = λ was ok. absurd (false≢true ok);
       torn = h.torn;
       dirtied = h.dirtied;

@@ -42,7 +42,7 @@ returns-clause-read g c =
         is = refl;
         honest = c.read.ensures.honest;
         counted = c.read.ensures.counted;
-        call = read_call g.D.Area (old g c) c.read.new.self (is_ok c.read.result) c.read.ensures.honest c.read.ensures.len c.read.ensures.counted c.read.ensures.same c.read.ensures.same_dirty;
+        call = read_call g.D.Area (old g c) c.read.new.self (is_ok c.read.result) c.read.ensures.honest c.read.ensures.len c.read.ensures.called c.read.ensures.counted c.read.ensures.same c.read.ensures.same_dirty;
       };
       bytes = ok_holds c.read.result c.read.ensures.bytes;
       same = c.read.ensures.same;
