@@ -3,35 +3,31 @@ use Rattle.std.proofs.Common.{◌≡◌, ℕ, suc, ◌+◌, ◌-◌, ◌<◌, �
 use Rattle.std.specs.Prelude.{◌↔◌, IsTrue, slice_get, IsSome, option_map, if◌then◌else◌}
 use Rattle.std.specs.List.{list_any}
 use Rattle.std.specs.Option.{unwrap_or}
-use Rattle.std.proofs.lemmas.Option.{slice_get-map, slice_get_cases, slice_get_within}
+use Rattle.std.proofs.lemmas.Option.{slice_get-map, slice_get_cases}
 use Rattle.std.proofs.lemmas.Bool.{eq-eqb, eqb-true, false_from_ne_true}
 use Rattle.std.proofs.lemmas.List.{length-map}
 use Rattle.lc_disk.specs.declared.area.Area.{Ghosts}
 use Rattle.lc_page.specs.Page.{Page}
 use Rattle.lc_page.specs.PageVector.{entry_at}
-use Rattle.lc_page.specs.Writing.{calls_of, draft_of}
-use Rattle.lc_page.specs.declared.writing.Writing.{Writing}
 use Rattle.lc_record.specs.declared.geometry.Geometry.{Geometry}
 use Rattle.lc_token.specs.declared.token.Token.{Token}
 use Rattle.lc_model.specs.Refusals.{is_at, is_up}
-use Rattle.lc_model.specs.Sound.{IsPlace, holders}
-use Rattle.lc_model.specs.State.{Place, At, Travelling, Phase, Setting, State, Up as IsUp, DownAt}
+use Rattle.lc_model.specs.Sound.{holders}
+use Rattle.lc_model.specs.State.{At, Setting, State}
 use Rattle.lc_model.proofs.Rows.{and-both}
 use Rattle.lc_core.specs.Due.{is_blocked_then, number_then}
 use Rattle.lc_core.specs.Here.{beside, number_at, number_in, the_images}
 use Rattle.lc_core.specs.Node.{FitsNode}
 use Rattle.lc_core.specs.Numbers.{Numbers, sets_on, stable}
-use Rattle.lc_core.specs.Pages.{FitsArea, FitsPages, IsPageAt}
-use Rattle.lc_core.specs.Settled.{begun_number}
+use Rattle.lc_core.specs.Pages.{IsPageAt}
 use Rattle.lc_core.specs.Truncating.{HasOpenOn, IsBlocked, newer_at, newer_in, newer_of, under_way_at, under_way_in, under_way_of}
 use Rattle.lc_core.specs.Uncommitted.{HasSeatOn}
-use Rattle.lc_core.specs.World.{FitsPhase, FitsUp}
+use Rattle.lc_core.specs.World.{FitsUp}
 use Rattle.lc_core.specs.declared.node.Node.{Node}
 use Rattle.lc_core.specs.declared.page_state.PageState.{PageState}
 use Rattle.lc_core.specs.declared.page_state.PageState.TheVariants.{AtRest, UnderWay, Failed}
 use Rattle.lc_core.specs.declared.pages.Pages.{Pages}
-use Rattle.lc_core.specs.declared.phase.Phase.{Phase as Stands}
-use Rattle.lc_core.specs.declared.phase.Phase.TheVariants.{Down, Up, Taken}
+use Rattle.lc_core.specs.declared.phase.Phase.TheVariants.{Up}
 use Rattle.lc_core.specs.declared.slot.Slot.{Slot}
 use Rattle.lc_core.specs.declared.up.Up.{Up as Rising}
 use Rattle.lc_core.proofs.DuePages.{not_outside, some_calls}
@@ -155,10 +151,10 @@ module _ {D : Type 0} (a : Ghosts D) where
           (not_outside m.geometry node (s.place (k + 1)) (fits.running.sound.places_known (k + 1)) (omega (arith, past.0, up.running.all_nodes, ap (λ (g : Geometry). g.nodes) fits.running.geometry_is))))
     ]
 
-  -- whatever state and numbers the store fits
-  pub blocked_same : (m : Setting) (s : State) (x : Numbers) (phase : Stands D a) → FitsPhase a m phase s x → (node k page : ℕ) → s.halted node ≡ false → k < m.geometry.segments → page < m.geometry.pages
-      → IsBlocked a phase node (k + 1) page ↔ (is_blocked_then s x node (k + 1) page ≡ true)
-  blocked_same m s x (Up up) (fits, honest) node k page awake inside within =
+  -- of a store that is up, whatever its areas are
+  pub up_blocked : (m : Setting) (s : State) (x : Numbers) (up : Rising D a) → FitsUp a m up s x → (node k page : ℕ) → k < m.geometry.segments → page < m.geometry.pages → s.halted node ≡ false
+      → IsBlocked a (Up up) node (k + 1) page ↔ (is_blocked_then s x node (k + 1) page ≡ true)
+  up_blocked m s x up fits node k page inside within awake =
       let same = up_same m s x up fits node k page awake inside within in
       let stands : is_up s.phase ≡ true = ap is_up fits.running.up in
       let at : (k + 1) - 1 ≡ k = omega arith in (
@@ -171,8 +167,3 @@ module _ {D : Type 0} (a : Ghosts D) where
             let has = same.1 (and-both (is_up s.phase) _ is).1 in
             (ap (λ (i : ℕ). newer_at (k + 1) page (under_way_in page (slice_get up.segments.items i)) (slice_get up.running.nodes.items node)) at ∙ has.0, has.1),
       )
-  blocked_same m s x (Down r) fits node k page awake inside within = (
-    λ blocked. absurd blocked,
-    λ is. absurd (true≢false (sym (and-both (is_up s.phase) _ is).0 ∙ ap is_up fits.down)),
-  )
-  blocked_same m s x Taken fits node k page awake inside within = absurd fits

@@ -21,7 +21,8 @@ use Rattle.lc_core.specs.Faults.{CountsPhase, phase_failures}
 use Rattle.lc_core.specs.Geometries.{phase_geometry}
 use Rattle.lc_core.specs.Lives.{Anyhow, FitsLife, IsBorn, IsNewborn}
 use Rattle.lc_core.specs.Observed.{stands_up}
-use Rattle.lc_core.specs.Recovering.{RepliesTo, is_of_recovery}
+use Rattle.lc_core.specs.MayReply.{may_recover}
+use Rattle.lc_core.specs.Recovering.{RepliesTo}
 use Rattle.lc_core.specs.Recovers.{RecoversDown, RefusesAtOnce}
 use Rattle.lc_core.specs.World.{AsksIn, BeginsAnew, FollowsWorld, StillFitsWorld}
 use Rattle.lc_core.specs.declared.call_fault.CallFault.{CallFault}
@@ -33,10 +34,11 @@ use Rattle.lc_core.specs.declared.world.World.{World}
 use Rattle.lc_core.proofs.Asking.{asks_world}
 use Rattle.lc_core.proofs.Geometries.{recovers_outside}
 use Rattle.lc_core.proofs.Living.{born}
+use Rattle.lc_core.proofs.Names.{answers_may}
 use Rattle.lc_core.proofs.Recoveries.{if_ok_at}
 
 -- a step of a recovery answers nothing else
-pub replies_of : {E : Type 0} (result : Result Progress RecoverFault) (answer : Result Reply E) → RepliesTo result answer → IfOk answer (λ reply. is_of_recovery reply ≡ true)
+pub replies_of : {E : Type 0} (result : Result Progress RecoverFault) (answer : Result Reply E) → RepliesTo result answer → IfOk answer (λ reply. may_recover reply ≡ true)
 replies_of (Ok (HasMoved steps)) answer replies = if_ok_at answer _ _ replies refl
 replies_of (Ok HasRecovered) answer replies = if_ok_at answer _ _ replies refl
 replies_of (Err (BadGeometry area)) answer replies = if_ok_at answer _ _ replies refl
@@ -53,8 +55,9 @@ module _ {D : Type 0} (a : Ghosts D) where
   -- One step
 
   pub one_step : (old new : World D a) (reply : Reply) → FollowsWorld a old RecoverStep reply new → RefusesAtOnce a old.phase RecoverStep reply new.phase → CountsPhase a old.phase reply new.phase
-      → phase_geometry a new.phase ≡ phase_geometry a old.phase → is_unknown reply ≡ false → CallsArea a old.phase new.phase → RecoversDown a old.phase reply new.phase → Anyhow a old.phase RecoverStep reply new.phase → RecoversTo a old reply new
-  one_step old new reply follows at_once faults geometry known calls recovers anyhow = record {
+      → phase_geometry a new.phase ≡ phase_geometry a old.phase → is_unknown reply ≡ false → CallsArea a old.phase RecoverStep reply new.phase → RecoversDown a old.phase reply new.phase → Anyhow a old.phase RecoverStep reply new.phase → may_recover reply ≡ true
+      → RecoversTo a old reply new
+  one_step old new reply follows at_once faults geometry known calls recovers anyhow names = record {
     steps = record {
       follows = follows;
       anyhow = anyhow;
@@ -63,6 +66,7 @@ module _ {D : Type 0} (a : Ghosts D) where
       geometry = geometry;
       unknown = recovers_outside a old.phase RecoverStep reply refl known;
       calls = calls;
+      names = answers_may RecoverStep reply names;
     };
     recovers = recovers;
   }

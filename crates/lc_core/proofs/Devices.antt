@@ -12,6 +12,7 @@ use Rattle.lc_core.specs.Log.{area_of}
 use Rattle.lc_core.specs.Pages.{RestsAll, areas_of}
 use Rattle.lc_core.specs.declared.page_state.PageState.TheVariants.{AtRest}
 use Rattle.lc_core.specs.declared.pages.Pages.{Pages}
+use Rattle.lc_model.specs.declared.event.Event.{Event}
 use Rattle.lc_model.specs.declared.reply.Reply.{Reply}
 use Rattle.lc_recover.specs.Reads.{HaveLengths}
 use Rattle.lc_recover.proofs.Images.{get-drop, get-map}
@@ -98,9 +99,9 @@ module _ {D : Type 0} (a : Ghosts D) where
   }
 
   -- whatever a step answers
-  pub steps_devices : {E : Type 0} (old new : Running D a) (result : Result Reply E) → IfOk result (λ reply. CountsLogs a old reply new) → OnErr result (SameLogs a old new) → SameDevices a old new
-  steps_devices old new (Ok reply) counts same = counts.devices
-  steps_devices old new (Err fault) counts same = same_devices a old new same
+  pub steps_devices : {E : Type 0} (old new : Running D a) (event : Event) (result : Result Reply E) → IfOk result (λ reply. CountsLogs a old event reply new) → OnErr result (SameLogs a old new) → SameDevices a old new
+  steps_devices old new event (Ok reply) counts same = counts.devices
+  steps_devices old new event (Err fault) counts same = same_devices a old new same
 
   -- The nodes and segments of a recovery have the areas that it had
 

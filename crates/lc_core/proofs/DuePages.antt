@@ -127,12 +127,17 @@ module _ {D : Type 0} (a : Ghosts D) where
           (sym (not_outside m.geometry node (s.place (k + 1)) (fits.running.sound.places_known (k + 1)) (omega (arith, past.0, up.running.all_nodes, ap (λ (g : Geometry). g.nodes) fits.running.geometry_is))))
     ]
 
-  -- whatever state and numbers the store fits
-  pub due_same : (m : Setting) (s : State) (x : Numbers) (phase : Stands D a) → FitsPhase a m phase s x → (node k page : ℕ) → k < m.geometry.segments → page < m.geometry.pages
-      → is_due a phase node (k + 1) page ≡ is_due_then s x node (k + 1) page
-  due_same m s x (Up up) (fits, honest) node k page inside within =
+  -- of a store that is up, whatever its areas are
+  pub up_due : (m : Setting) (s : State) (x : Numbers) (up : Rising D a) → FitsUp a m up s x → (node k page : ℕ) → k < m.geometry.segments → page < m.geometry.pages
+      → is_due a (Up up) node (k + 1) page ≡ is_due_then s x node (k + 1) page
+  up_due m s x up fits node k page inside within =
       ap (λ (i : ℕ). due_at (k + 1) page (begun_in page (slice_get up.segments.items i)) (slice_get up.running.nodes.items node)) (back m s x up fits node k page inside within)
       ∙ up_same m s x up fits node k page inside within
       ∙ ap (λ (p : Phase). is_up p && (is_at node (s.place (k + 1)) && is_unwritten x (k + 1) page)) (sym fits.running.up)
+
+  -- whatever state and numbers the store fits
+  pub due_same : (m : Setting) (s : State) (x : Numbers) (phase : Stands D a) → FitsPhase a m phase s x → (node k page : ℕ) → k < m.geometry.segments → page < m.geometry.pages
+      → is_due a phase node (k + 1) page ≡ is_due_then s x node (k + 1) page
+  due_same m s x (Up up) (fits, honest) node k page inside within = up_due m s x up fits node k page inside within
   due_same m s x (Down r) fits node k page inside within = ap (λ (p : Phase). is_up p && (is_at node (s.place (k + 1)) && is_unwritten x (k + 1) page)) (sym fits.down)
   due_same m s x Taken fits node k page inside within = absurd fits

@@ -6,6 +6,7 @@ use Rattle.std.proofs.lemmas.List.{map-set, map-append, take-append-drop}
 use Rattle.std.proofs.lemmas.Option.{slice_get-map}
 use Rattle.std.proofs.lemmas.Result.{IfOk-from_err}
 use Rattle.lc_disk.specs.declared.area.Area.{Ghosts}
+use Rattle.lc_model.specs.declared.event.Event.{Event}
 use Rattle.lc_model.specs.declared.reply.Reply.{Reply}
 use Rattle.lc_model.specs.declared.reply.Reply.TheVariants.{Stepped, Recovered}
 use Rattle.lc_record.specs.declared.geometry.Geometry.{Geometry}
@@ -152,9 +153,9 @@ module _ {D : Type 0} (a : Ghosts D) where
 
   -- A step of a store that is up
 
-  pub up_counts : (up : Rising D a) (reply : Reply) (new : Running D a) → CountsLogs a up.running reply new
+  pub up_counts : (up : Rising D a) (event : Event) (reply : Reply) (new : Running D a) → CountsLogs a up.running event reply new
       → CountsFaults reply (phase_failures a (Up up)) (log_failures a (logs_of a new.nodes.items) ++ area_failures a (areas_of a up.segments.items))
-  up_counts up reply new counts = beside counts.counts
+  up_counts up event reply new counts = beside counts.counts
     where
       rest : List (Option ℕ)
       rest = area_failures a (areas_of a up.segments.items)

@@ -1,34 +1,24 @@
 -- Which replies tell of a failure, and what the calls of a device count.
-use Rattle.std.proofs.Common.{◌≡◌, ◌⊎◌, ℕ, ◌+◌, Bool, true, false, List, length, map, inl, inr, Option, Some, slice_get, slice_set, refl, sym, ap, subst, ◌∙◌, true≢false}
+use Rattle.std.proofs.Common.{◌≡◌, ℕ, ◌+◌, Bool, true, false, List, length, map, Option, Some, slice_get, slice_set, refl, sym, ap, subst, ◌∙◌, true≢false}
 use Rattle.std.specs.Prelude.{not, option_map, if◌then◌else◌}
 use Rattle.std.proofs.lemmas.List.{map-set}
 use Rattle.std.proofs.lemmas.Option.{slice_get-map}
 use Rattle.lc_disk.specs.declared.area.Area.{Ghosts}
-use Rattle.lc_model.specs.declared.refusal.Refusal.{Refusal}
-use Rattle.lc_model.specs.declared.refusal.Refusal.TheVariants.{NotHere, Held, Writing, Unflushed, Behind}
+use Rattle.lc_model.specs.declared.event.Event.{Event}
+use Rattle.lc_model.specs.declared.refusal.Refusal.TheVariants.{DeviceFault, Unknown}
 use Rattle.lc_model.specs.declared.reply.Reply.{Reply}
-use Rattle.lc_token.specs.declared.fault.TokenFault.{TokenFault}
-use Rattle.lc_token.specs.declared.fault.TokenFault.TheVariants.{NotHere as IsNotHere, Held as IsHeld, Writing as IsWriting, Unflushed as IsUnflushed, Behind as IsBehind, NoMemory}
-use Rattle.lc_core.specs.FaultReplies.{CallsOneOf, CountsFaults, TellsFault, device_kind, failures_of, is_fault, is_own_refusal, is_own_reply, is_unknown, kind_of}
-use Rattle.lc_core.specs.Faults.{CountsLogs, SameDevices, SameLogs, areas_in, log_failures, log_kinds, logs_of}
+use Rattle.lc_model.specs.declared.reply.Reply.TheVariants.{Refused}
+use Rattle.lc_core.specs.CallReplies.{calls_log}
+use Rattle.lc_core.specs.FaultReplies.{CallsIf, CountsFaults, TellsFault, device_kind, failures_of, is_fault, is_unknown, kind_of}
+use Rattle.lc_core.specs.Faults.{CallsLog, CountsLogs, IsLogOf, SameDevices, SameLogs, areas_in, log_failures, log_kinds, logs_of}
 use Rattle.lc_core.specs.Journal.{reply_of}
 use Rattle.lc_core.specs.Log.{CallsOnce, IsCalled, area_of, is_failed}
-use Rattle.lc_core.specs.Places.{same_map_set, same_some}
-use Rattle.lc_core.specs.TokenRefused.{token_refusal}
+use Rattle.lc_core.specs.Places.{same_map_set}
 use Rattle.lc_core.specs.declared.log.Log.{Log}
 use Rattle.lc_core.specs.declared.log.Log.TheVariants.{Idle, Written, Synced, Opened, Sealed, Closing, Emptied, Failed, Torn, Taken}
 use Rattle.lc_core.specs.declared.node.Node.{Node}
 use Rattle.lc_core.specs.declared.running.Running.{Running}
 use Rattle.lc_core.proofs.OwnReplies.{own_known, own_no_fault}
-
--- a token that stays is refused for its own reasons
-pub token_own : (fault : TokenFault) (refusal : Refusal) → token_refusal fault ≡ Some refusal → is_own_refusal refusal ≡ true
-token_own (IsNotHere segment) refusal is = sym (ap is_own_refusal (same_some (NotHere segment) refusal is))
-token_own IsHeld refusal is = sym (ap is_own_refusal (same_some Held refusal is))
-token_own IsWriting refusal is = sym (ap is_own_refusal (same_some Writing refusal is))
-token_own IsUnflushed refusal is = sym (ap is_own_refusal (same_some Unflushed refusal is))
-token_own (IsBehind applied seq) refusal is = sym (ap is_own_refusal (same_some (Behind applied seq) refusal is))
-token_own NoMemory refusal is = absurd cc
 
 module _ {D : Type 0} (a : Ghosts D) where
   -- a log that has failed is answered by a failure, and no other
@@ -64,26 +54,26 @@ module _ {D : Type 0} (a : Ghosts D) where
     ap (option_map (device_kind a)) call.there ∙ ap (λ (b : Bool). Some (b, length (a.now call.after))) call.device.honest ∙ ap (λ (n : ℕ). Some (a.honest area, n)) call.device.same_length,
   )
 
-  of_call : (old : Log D a) (area : D) (new : Log D a) (taken : ℕ) → area_of a old ≡ Some area → failures_of a old ≡ Some (a.failures area) → kind_of a old ≡ Some (device_kind a area) → IsCalled a area new
-      → (failures_of a new ≡ (if is_fault (reply_of a new taken) then Some (a.failures area + 1) else Some (a.failures area))) × (kind_of a new ≡ Some (device_kind a area)) → TellsFault a (reply_of a new taken) old new
-  of_call old area new taken there failures kind call are = record {
-    call = inr (area, call.after, not (is_failed a new), there, call.there, call.device);
+  of_call : (calls : Bool) → calls ≡ true → (old : Log D a) (area : D) (new : Log D a) (taken : ℕ) → area_of a old ≡ Some area → failures_of a old ≡ Some (a.failures area) → kind_of a old ≡ Some (device_kind a area) → IsCalled a area new
+      → (failures_of a new ≡ (if is_fault (reply_of a new taken) then Some (a.failures area + 1) else Some (a.failures area))) × (kind_of a new ≡ Some (device_kind a area)) → TellsFault a calls (reply_of a new taken) old new
+  of_call calls is old area new taken there failures kind call are = record {
+    call = subst (λ (b : Bool). CallsIf a b (area_of a old) (area_of a new)) (sym is) (area, call.after, not (is_failed a new), there, call.there, call.device);
     known = told_known new taken;
     failures = are.0 ∙ sym (ap (λ (o : Option ℕ). if is_fault (reply_of a new taken) then option_map (λ (count : ℕ). count + 1) o else o) failures);
     kind = are.1 ∙ sym kind;
   }
 
-  pub call_tells : (old new : Log D a) (taken : ℕ) → is_failed a old ≡ false → CallsOnce a old new → TellsFault a (reply_of a new taken) old new
-  call_tells (Idle log) new taken up call = of_call (Idle log) log.area new taken refl refl refl call (called log.area new taken call)
-  call_tells (Written log) new taken up call = of_call (Written log) log.area new taken refl refl refl call (called log.area new taken call)
-  call_tells (Synced log) new taken up call = of_call (Synced log) log.area new taken refl refl refl call (called log.area new taken call)
-  call_tells (Opened log) new taken up call = of_call (Opened log) log.area new taken refl refl refl call (called log.area new taken call)
-  call_tells (Sealed log) new taken up call = of_call (Sealed log) log.area new taken refl refl refl call (called log.area new taken call)
-  call_tells (Closing log) new taken up call = of_call (Closing log) log.area new taken refl refl refl call (called log.area new taken call)
-  call_tells (Emptied log) new taken up call = of_call (Emptied log) log.area new taken refl refl refl call (called log.area new taken call)
-  call_tells (Failed log) new taken up call = absurd (true≢false up)
-  call_tells (Torn log) new taken up call = absurd (true≢false up)
-  call_tells Taken new taken up call = absurd (true≢false up)
+  pub call_tells : (calls : Bool) → calls ≡ true → (old new : Log D a) (taken : ℕ) → is_failed a old ≡ false → CallsOnce a old new → TellsFault a calls (reply_of a new taken) old new
+  call_tells calls is (Idle log) new taken up call = of_call calls is (Idle log) log.area new taken refl refl refl call (called log.area new taken call)
+  call_tells calls is (Written log) new taken up call = of_call calls is (Written log) log.area new taken refl refl refl call (called log.area new taken call)
+  call_tells calls is (Synced log) new taken up call = of_call calls is (Synced log) log.area new taken refl refl refl call (called log.area new taken call)
+  call_tells calls is (Opened log) new taken up call = of_call calls is (Opened log) log.area new taken refl refl refl call (called log.area new taken call)
+  call_tells calls is (Sealed log) new taken up call = of_call calls is (Sealed log) log.area new taken refl refl refl call (called log.area new taken call)
+  call_tells calls is (Closing log) new taken up call = of_call calls is (Closing log) log.area new taken refl refl refl call (called log.area new taken call)
+  call_tells calls is (Emptied log) new taken up call = of_call calls is (Emptied log) log.area new taken refl refl refl call (called log.area new taken call)
+  call_tells calls is (Failed log) new taken up call = absurd (true≢false up)
+  call_tells calls is (Torn log) new taken up call = absurd (true≢false up)
+  call_tells calls is Taken new taken up call = absurd (true≢false up)
 
   has_area : (log : Log D a) → is_failed a log ≡ false → (area : D) × (area_of a log ≡ Some area)
   has_area (Idle log) up = (log.area, refl)
@@ -112,29 +102,30 @@ module _ {D : Type 0} (a : Ghosts D) where
   pub same_devices : (old new : Running D a) → SameLogs a old new → SameDevices a old new
   same_devices old new same = record { geometry = same.geometry; kinds = ap (log_kinds a) same.logs }
 
-  -- a reply that refuses for its own reasons
-  pub own_tells : (reply : Reply) (old new : Log D a) → is_own_reply reply ≡ true → area_of a new ≡ area_of a old → TellsFault a reply old new
-  own_tells reply old new own same = record {
-    known = own_known reply own;
+  -- a reply of which the names leave out a failure and what is unknown
+  pub own_tells : (may : Reply → Bool) → may (Refused DeviceFault) ≡ false → may (Refused Unknown) ≡ false → (calls : Bool) → calls ≡ false → (reply : Reply) (old new : Log D a) → may reply ≡ true
+      → area_of a new ≡ area_of a old → TellsFault a calls reply old new
+  own_tells may fault unknown calls is reply old new its same = record {
+    known = own_known may unknown reply its;
     failures = ap (option_map a.failures) same
-        ∙ sym (ap (λ (b : Bool). if b then option_map (λ (count : ℕ). count + 1) (failures_of a old) else failures_of a old) (own_no_fault reply own));
+        ∙ sym (ap (λ (b : Bool). if b then option_map (λ (count : ℕ). count + 1) (failures_of a old) else failures_of a old) (own_no_fault may fault reply its));
     kind = ap (option_map (device_kind a)) same;
-    call = inl same;
+    call = subst (λ (b : Bool). CallsIf a b (area_of a old) (area_of a new)) (sym is) same;
   }
 
-  pub quiet : (old : Running D a) (reply : Reply) (new : Running D a) → is_fault reply ≡ false → SameLogs a old new → CountsLogs a old reply new
-  quiet old reply new plain same = record {
+  pub quiet : (old : Running D a) (event : Event) (reply : Reply) (new : Running D a) → calls_log event reply ≡ false → is_fault reply ≡ false → SameLogs a old new → CountsLogs a old event reply new
+  quiet old event reply new none plain same = record {
     counts = record {
       fault = λ is. absurd (true≢false (sym is ∙ plain));
       none = λ _. ap (log_failures a) same.logs;
     };
     devices = same_devices old new same;
-    calls = inl (ap (map (area_of a)) same.logs);
+    calls = subst (λ (b : Bool). CallsLog a event b (areas_in a old.nodes.items) (areas_in a new.nodes.items)) (sym none) (ap (map (area_of a)) same.logs);
   }
 
   -- a step of a flush at one node
-  module _ (nodes : List (Node D a)) (n : ℕ) (old new : Node D a) (reply : Reply) (at : slice_get nodes n ≡ Some old)
-      (tells : TellsFault a reply old.journal.log new.journal.log) where
+  module _ (nodes : List (Node D a)) (n : ℕ) (old new : Node D a) (calls : Bool) (reply : Reply) (at : slice_get nodes n ≡ Some old)
+      (tells : TellsFault a calls reply old.journal.log new.journal.log) where
     log_at : slice_get (logs_of a nodes) n ≡ Some old.journal.log
     log_at = slice_get-map (λ (node : Node D a). node.journal.log) nodes n ∙ ap (option_map (λ (node : Node D a). node.journal.log)) at
 
@@ -168,10 +159,10 @@ module _ {D : Type 0} (a : Ghosts D) where
     areas_are : areas_in a (slice_set nodes n new) ≡ slice_set (areas_in a nodes) n (area_of a new.journal.log)
     areas_are = ap (map (area_of a)) logs_are ∙ map-set (area_of a) (logs_of a nodes) n new.journal.log
 
-    pub one_called : (areas_in a (slice_set nodes n new) ≡ areas_in a nodes) ⊎ CallsOneOf a (areas_in a nodes) (areas_in a (slice_set nodes n new))
-    one_called = elim tells.call [
-      | inl same ↦ inl (ap (map (area_of a)) logs_are ∙ same_map_set (area_of a) (logs_of a nodes) n old.journal.log new.journal.log log_at same)
-      | inr called ↦ inr (record {
+    called_if : (b : Bool) → CallsIf a b (area_of a old.journal.log) (area_of a new.journal.log) → (event : Event) → (b ≡ true → IsLogOf event n) → CallsLog a event b (areas_in a nodes) (areas_in a (slice_set nodes n new))
+    called_if false same event is = ap (map (area_of a)) logs_are ∙ same_map_set (area_of a) (logs_of a nodes) n old.journal.log new.journal.log log_at same
+    called_if true called event is = (
+      record {
         at = n;
         old = called.0;
         new = called.1;
@@ -179,5 +170,9 @@ module _ {D : Type 0} (a : Ghosts D) where
         was = area_at ∙ ap (λ (o : Option D). Some o) called.3;
         is = areas_are ∙ ap (λ (o : Option D). slice_set (areas_in a nodes) n o) called.4;
         call = called.5;
-      })
-    ]
+      },
+      is refl,
+    )
+
+    pub one_called : (event : Event) → (calls ≡ true → IsLogOf event n) → CallsLog a event calls (areas_in a nodes) (areas_in a (slice_set nodes n new))
+    one_called event is = called_if calls tells.call event is

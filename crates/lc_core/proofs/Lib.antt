@@ -85,6 +85,7 @@ pub mod Shown
 pub mod DuePages
 pub mod BlockedPages
 pub mod LogReads
+pub mod CallsTold
 pub mod Faults
 pub mod Failures
 pub mod Zeroed
@@ -106,6 +107,7 @@ pub mod UpPages
 pub mod FewLocked
 pub mod Asking
 pub mod OwnReplies
+pub mod Names
 pub mod Geometries
 pub mod OneArea
 pub mod EachCall
@@ -139,5 +141,6 @@ pub mod ShownBytes
 pub mod ComingUp
 pub mod AreaShown
 pub mod StaysHonest
+pub mod PageSeen
 pub mod Living
 pub mod Anew

@@ -2,19 +2,18 @@
 use Rattle.std.proofs.Common.{◌≡◌, ℕ, ◌+◌, ◌<◌, true, List, [], ◌∷◌, ◌++◌, length, get_or, take, Option, Some, None, refl, sym, ap, subst, ◌∙◌}
 use Rattle.std.proofs.lemmas.List.{take_more}
 use Rattle.lc_disk.specs.declared.area.Area.{Ghosts}
-use Rattle.lc_disk.specs.declared.choice.Choice.{Choice}
 use Rattle.lc_record.specs.declared.geometry.Geometry.{Geometry}
 use Rattle.lc_recover.specs.Recovery.{Recovering}
 use Rattle.lc_model.specs.State.{Up as IsUpNow, fresh}
 use Rattle.lc_model.specs.declared.event.Event.{Event}
-use Rattle.lc_model.specs.declared.event.Event.TheVariants.{Begin, SetRange, Write, Read, Abort, Reserve, Close, FlushStep, Leave, Arrive, Deliver, Trim, PageStep, ResetStep, Stop, RecoverStep}
+use Rattle.lc_model.specs.declared.event.Event.TheVariants.{Stop, RecoverStep}
 use Rattle.lc_model.specs.declared.refusal.Refusal.TheVariants.{Down as IsDown, OutOfTurn}
 use Rattle.lc_model.specs.declared.reply.Reply.{Reply}
-use Rattle.lc_model.specs.declared.reply.Reply.TheVariants.{Down as HasStopped, Stepped, Recovered, Refused}
-use Rattle.lc_core.specs.Lives.{AnswersDown, AnswersOne, AnswersUp, Anyhow, FitsLife, FollowsLives, IsBorn, Life, Lives, LivesOn, StillLives, Told}
+use Rattle.lc_model.specs.declared.reply.Reply.TheVariants.{Stepped, Recovered, Refused}
+use Rattle.lc_core.specs.Lives.{AnswersOne, Anyhow, FitsLife, FollowsLives, IsBorn, Life, Lives, LivesOn, StillLives, Told}
 use Rattle.lc_core.specs.Numbers.{recovered_numbers}
-use Rattle.lc_core.specs.Recovering.{is_of_recovery}
-use Rattle.lc_core.specs.Recovers.{AnswersRecovery, RecoversDown, RefusesAtOnce}
+use Rattle.lc_core.specs.MayReply.{may_recover}
+use Rattle.lc_core.specs.Recovers.{AnswersRecovery, RecoversDown}
 use Rattle.lc_core.specs.Stops.{StopsAll}
 use Rattle.lc_core.specs.World.{Begins, BeginsAnew, FitsUp, FollowsAnyhow, FollowsUp, StillFitsUp}
 use Rattle.lc_core.specs.declared.phase.Phase.{Phase}
@@ -53,14 +52,14 @@ module _ {D : Type 0} (a : Ghosts D) where
         refl,
       )
 
-  recovers_lives : (g : Geometry) (r : Recovering D) (reply : Reply) (new : Phase D a) → r.geometry ≡ g → is_of_recovery reply ≡ true → AnswersRecovery a r reply new
+  recovers_lives : (g : Geometry) (r : Recovering D) (reply : Reply) (new : Phase D a) → r.geometry ≡ g → may_recover reply ≡ true → AnswersRecovery a r reply new
       → (reply ≡ Recovered → (up : Rising D a) × (new ≡ Up up) × BeginsAnew a r.geometry up) → Comes g None RecoverStep reply new
   recovers_lives g r Recovered new same told answers begins =
       let up = begins refl in
       let its = born g up.0 (subst (λ (h : Geometry). BeginsAnew a h up.0) same up.2) in
       (Some its.0, (its.0, refl, its.1), subst (λ (p : Phase D a). FitsLife a g (Some its.0) p) (sym up.1) (its.2, its.3))
   recovers_lives g r (Stepped steps) new same told answers begins = (let later = (answers.stepped steps refl).1 in (None, (refl, refl), is_down g later.0 new later.1 (later.2 ∙ same)))
-  recovers_lives g r (Refused refusal) new same told answers begins = (let areas = answers.refused refusal refl in (None, (refl, refl), is_down g _ new areas.1 same))
+  recovers_lives g r (Refused refusal) new same told answers begins = (let areas = answers.refused refusal refl in (None, (told, refl), is_down g _ new areas.1 same))
   recovers_lives g r reply new same told answers begins = absurd cc
 
   stops_lives : (g : Geometry) (at : Option Life) (old new : Phase D a) → FitsLife a g at old → StopsAll a old new → FitsLife a g None new
@@ -166,7 +165,7 @@ module _ {D : Type 0} (a : Ghosts D) where
     recovers = λ is r down. absurd (not r down);
   }
 
-  pub down_told : (old : Phase D a) (r : Recovering D) (reply : Reply) (new : Phase D a) → old ≡ Down r → RecoversDown a old reply new → is_of_recovery reply ≡ true → (reply ≡ Recovered → Begins a old new)
+  pub down_told : (old : Phase D a) (r : Recovering D) (reply : Reply) (new : Phase D a) → old ≡ Down r → RecoversDown a old reply new → may_recover reply ≡ true → (reply ≡ Recovered → Begins a old new)
       → Anyhow a old RecoverStep reply new
   down_told old r reply new is recovers answers begins = record {
     goes = down_anyhow a old r RecoverStep reply new is;

@@ -1,5 +1,5 @@
 -- A step of one node, and of the store that it is of.
-use Rattle.std.proofs.Common.{◌≡◌, ◌⊎◌, ℕ, ◌<◌, true, false, ◌++◌, [], ◌∷◌, List, Option, Some, None, get_or, refl, sym, ap, subst, ◌∙◌, arith}
+use Rattle.std.proofs.Common.{Bool, ◌≡◌, ℕ, ◌<◌, true, false, ◌++◌, [], ◌∷◌, List, Option, Some, None, get_or, refl, sym, ap, subst, ◌∙◌, arith}
 use Rattle.std.specs.Prelude.{Result, IfOk, OnErr, option_map, slice_get, slice_set, vec_len}
 use Rattle.std.specs.declared.alloc.AllocError.{AllocError}
 use Rattle.std.proofs.lemmas.Result.{IfOk-weaker}
@@ -9,13 +9,17 @@ use Rattle.lc_model.specs.Refusals.{Named, are_known, by_thread, common_refusal,
 use Rattle.lc_model.specs.State.{Setting, State}
 use Rattle.lc_model.specs.declared.event.Event.{Event}
 use Rattle.lc_model.specs.declared.event.Event.TheVariants.{Begin, SetRange, Write, Read, Abort, Reserve, Close, FlushStep, Leave, Arrive, Deliver, Trim, PageStep, ResetStep, Stop, RecoverStep}
+use Rattle.lc_model.specs.declared.refusal.Refusal.TheVariants.{DeviceFault, Unknown}
 use Rattle.lc_model.specs.declared.reply.Reply.{Reply}
+use Rattle.lc_model.specs.declared.reply.Reply.TheVariants.{Refused}
 use Rattle.lc_model.proofs.Rows.{known, seat_known}
-use Rattle.lc_core.specs.FaultReplies.{CallsOneOf, CountsFaults, TellsFault, is_own_reply, is_unknown}
-use Rattle.lc_core.specs.Faults.{areas_in, log_failures, log_kinds, logs_of}
+use Rattle.lc_core.specs.CallReplies.{calls_log}
+use Rattle.lc_core.specs.FaultReplies.{CountsFaults, TellsFault, is_unknown}
+use Rattle.lc_core.specs.Faults.{CallsLog, areas_in, log_failures, log_kinds, logs_of}
 use Rattle.lc_core.specs.FollowsDesk.{FollowsOpen, StillFits}
 use Rattle.lc_core.specs.Here.{the_images}
 use Rattle.lc_core.specs.Log.{area_of, is_failed}
+use Rattle.lc_core.specs.MayReply.{may_answer}
 use Rattle.lc_core.specs.Node.{moved_by}
 use Rattle.lc_core.specs.NodeSteps.{IsOf, StepsNode, WantsOf, is_own}
 use Rattle.lc_core.specs.Nodes.{AreWhole}
@@ -33,6 +37,7 @@ use Rattle.lc_core.specs.declared.log.Log.{Log}
 use Rattle.lc_core.specs.declared.node.Node.{Node}
 use Rattle.lc_core.specs.declared.running.Running.{Running}
 use Rattle.lc_core.proofs.AtOnce.{stands}
+use Rattle.lc_core.proofs.CallsTold.{log_of}
 use Rattle.lc_core.proofs.Faults.{flush_counts, logs_stay, one_called, own_tells, same_kinds}
 use Rattle.lc_core.proofs.Going.{by_desk, settled_by}
 use Rattle.lc_core.proofs.Logged.{err_then}
@@ -103,18 +108,20 @@ moves_none n threads (Stop choices) reply of = absurd of
 moves_none n threads RecoverStep reply of = absurd of
 
 module _ {D : Type 0} (a : Ghosts D) where
-  -- a log that stays, under a reply that refuses for its own reasons
-  pub plain_tells : (reply : Reply) (old new : Log D a) → is_own_reply reply ≡ true → new ≡ old → TellsFault a reply old new
-  plain_tells reply old new plain same = own_tells a reply old new plain (ap (area_of a) same)
+  -- a log that stays, under such a reply
+  pub plain_tells : (may : Reply → Bool) → may (Refused DeviceFault) ≡ false → may (Refused Unknown) ≡ false → (calls : Bool) → calls ≡ false → (reply : Reply) (old new : Log D a) → may reply ≡ true → new ≡ old
+      → TellsFault a calls reply old new
+  plain_tells may fault unknown calls is reply old new its same = own_tells a may fault unknown calls is reply old new its (ap (area_of a) same)
 
   -- an event of one of its threads
   pub desk_steps : (n node : ℕ) (event : Event) (own : ℕ → Event) (old : Node D a) (result : Result Reply AllocError) (new : Desk) → event ≡ own node → node ≡ n
       → IfOk result (λ reply. (k : ℕ) → FollowsOpen k old.desk (own k) reply new) → the_images.IsSameBeside old.desk.here new.here → vec_len new.seats ≡ vec_len old.desk.seats
-      → OnErr result (WantsOf a n (own n) old) → OnErr result (StillFits old.desk new) → IfOk result (λ reply. is_own_reply reply ≡ true)
+      → OnErr result (WantsOf a n (own n) old) → OnErr result (StillFits old.desk new) → IfOk result (λ reply. may_answer (own n) reply ≡ true)
+      → may_answer (own n) (Refused DeviceFault) ≡ false → may_answer (own n) (Refused Unknown) ≡ false
       → (own n ≡ RecoverStep → ⊥) → ((m : Setting) (s : State) (x : Numbers) → open_answer m s x (own n) ≡ None)
-      → ((m : Setting) (s : State) (x : Numbers) (reply : Reply) → Turns m s x (own n) reply x)
+      → ((m : Setting) (s : State) (x : Numbers) (reply : Reply) → Turns m s x (own n) reply x) → ((reply : Reply) → calls_log (own n) reply ≡ false)
       → StepsNode a n event old result (record { desk = new; journal = old.journal; known = old.known })
-  desk_steps n node event own old result new is same follows beside seats memory err answer other none turns =
+  desk_steps n node event own old result new is same follows beside seats memory err names fault unknown other none turns free =
       subst (λ (e : Event). StepsNode a n e old result (record { desk = new; journal = old.journal; known = old.known })) (sym (is ∙ ap own same)) (record {
         follows = IfOk-weaker result _ _ (λ reply goes m s x sound common fits sealed.
             let step = goes n m s (known m.geometry s (own n) common) sound fits.desk in
@@ -123,8 +130,9 @@ module _ {D : Type 0} (a : Ghosts D) where
         memory = memory;
         err = err_then result err (λ still m k s x. desk_still a m k s x old new still beside);
         room = record { seats = seats; slots = same_count old.desk.here new.here beside };
-        device = IfOk-weaker result _ _ (λ reply plain. plain_tells reply old.journal.log old.journal.log plain refl) answer;
+        device = IfOk-weaker result _ _ (λ reply its. plain_tells (may_answer (own n)) fault unknown (calls_log (own n) reply) (free reply) reply old.journal.log old.journal.log its refl) names;
         no_fault = err_then result err (λ still. refl);
+        names = names;
       })
 
   -- what it wants memory for, the store does
@@ -187,9 +195,12 @@ module _ {D : Type 0} (a : Ghosts D) where
 
       pub faults_there : IfOk result (λ reply. CountsFaults reply (log_failures a (logs_of a w.nodes.items)) (log_failures a (logs_of a (slice_set w.nodes.items n new)))
           × (log_kinds a (logs_of a (slice_set w.nodes.items n new)) ≡ log_kinds a (logs_of a w.nodes.items))
-          × ((areas_in a (slice_set w.nodes.items n new) ≡ areas_in a w.nodes.items) ⊎ CallsOneOf a (areas_in a w.nodes.items) (areas_in a (slice_set w.nodes.items n new))))
-      faults_there = IfOk-weaker result _ _ (λ reply tells.
-          (flush_counts a w.nodes.items n node new reply there tells up_there, same_kinds a w.nodes.items n node new reply there tells, one_called a w.nodes.items n node new reply there tells)) steps.device
+          × CallsLog a event (calls_log event reply) (areas_in a w.nodes.items) (areas_in a (slice_set w.nodes.items n new)))
+      faults_there = IfOk-weaker result _ _ (λ reply tells. (
+        flush_counts a w.nodes.items n node new (calls_log event reply) reply there tells up_there,
+        same_kinds a w.nodes.items n node new (calls_log event reply) reply there tells,
+        one_called a w.nodes.items n node new (calls_log event reply) reply there tells event (log_of n (vec_len node.desk.seats) event reply of_there),
+      )) steps.device
 
       pub known_there : IfOk result (λ reply. is_unknown reply ≡ false)
       known_there = IfOk-weaker result _ _ (λ reply tells. tells.known) steps.device

@@ -1,35 +1,46 @@
--- An event makes one call of a device at most.
-use Rattle.std.proofs.Common.{◌≡◌, ◌⊎◌, ℕ, zero, suc, ◌+◌, ◌<◌, Bool, List, [], ◌∷◌, drop, length, map, Option, Some, None, slice_get, slice_set, refl, sym, ap, subst, ◌∙◌, inl, inr, arith}
-use Rattle.std.specs.Prelude.{Result, Ok, Err, IfOk, OnErr, is_ok, option_map}
+-- An event makes one call of an area just where its reply tells of one.
+use Rattle.std.proofs.Common.{◌≡◌, ℕ, zero, suc, ◌+◌, ◌-◌, ◌*◌, ◌<◌, ◌≤◌, Bool, true, false, List, [], ◌∷◌, drop, length, map, Option, Some, None, slice_get, slice_set, refl, sym, ap, subst, ◌∙◌, inl, inr, arith}
+use Rattle.std.specs.Prelude.{Result, Ok, Err, IfOk, OnErr, OnOk, is_ok, not, option_map}
 use Rattle.std.proofs.lemmas.Bool.{cases_eq}
 use Rattle.std.proofs.lemmas.List.{length-map, length-set, map-set}
 use Rattle.std.proofs.lemmas.Option.{slice_get-map, slice_get_within}
+use Rattle.std.proofs.lemmas.Result.{IfOk-from_err, IfOk-weaker}
 use Rattle.lc_disk.specs.declared.area.Area.{Ghosts}
 use Rattle.lc_record.specs.declared.geometry.Geometry.{Geometry}
 use Rattle.lc_log.specs.OneCall.{IsOneCall}
+use Rattle.lc_model.specs.declared.event.Event.{Event}
+use Rattle.lc_model.specs.declared.event.Event.TheVariants.{PageStep, RecoverStep}
 use Rattle.lc_model.specs.declared.reply.Reply.{Reply}
+use Rattle.lc_model.specs.declared.reply.Reply.TheVariants.{Stepped, Recovered}
 use Rattle.lc_recover.specs.Reads.{area_count}
-use Rattle.lc_recover.specs.Recovery.{Recovering}
+use Rattle.lc_recover.specs.Recovery.{Recovering, IsDone, IsMergeNext, Tells, all_steps}
 use Rattle.lc_recover.specs.Stage.{OneCall}
 use Rattle.lc_recover.specs.Steps.{first_steps}
 use Rattle.lc_recover.specs.declared.fault.RecoverFault.{RecoverFault}
-use Rattle.lc_recover.specs.declared.fault.RecoverFault.TheVariants.{NoMemory}
+use Rattle.lc_recover.specs.declared.fault.RecoverFault.TheVariants.{BadGeometry, Gap, Twice, OutOfSegment, DeviceFault as Failed, NoMemory}
 use Rattle.lc_recover.specs.declared.progress.Progress.{Progress}
+use Rattle.lc_recover.specs.declared.progress.Progress.TheVariants.{Stepped as HasStepped, Recovered as HasRecovered}
 use Rattle.lc_recover.proofs.Images.{count-areas, get-drop, get-map}
 use Rattle.lc_core.specs.Areas.{AreOf}
-use Rattle.lc_core.specs.Calls.{CallsArea, CallsOne, CallsOneAtMost, KeepsAreas}
-use Rattle.lc_core.specs.FaultReplies.{CallsOneOf}
-use Rattle.lc_core.specs.Faults.{CountsLogs, SameLogAreas, SameLogs, areas_in, logs_of}
+use Rattle.lc_core.specs.CallReplies.{CalledAs, CalledIf, calls_log, calls_area, tells_call}
+use Rattle.lc_core.specs.Calls.{CallsArea, CallsOne, CallsTold, CallsWhere, KeepsAreas}
+use Rattle.lc_core.specs.FaultReplies.{CallsOneOf, is_fault}
+use Rattle.lc_core.specs.Faults.{CallsLog, CountsLogs, SameLogAreas, SameLogs, areas_in, logs_of}
 use Rattle.lc_core.specs.Log.{area_of}
 use Rattle.lc_core.specs.Pages.{areas_of}
 use Rattle.lc_core.specs.Places.{get_set_other, get_set_same, same_some}
-use Rattle.lc_core.specs.Recovering.{ComesUp}
+use Rattle.lc_core.specs.Recovering.{ComesUp, RepliesTo}
+use Rattle.lc_core.specs.Stepping.{is_plain}
+use Rattle.lc_core.specs.Stops.{HasAreas}
 use Rattle.lc_core.specs.declared.node.Node.{Node}
 use Rattle.lc_core.specs.declared.pages.Pages.{Pages}
 use Rattle.lc_core.specs.declared.phase.Phase.{Phase}
 use Rattle.lc_core.specs.declared.phase.Phase.TheVariants.{Down, Up}
 use Rattle.lc_core.specs.declared.up.Up.{Up as Rising}
+use Rattle.lc_core.proofs.CallsTold.{log_called_by, plain_calls, step_free, step_other}
 use Rattle.lc_core.proofs.Failures.{StepCalls}
+use Rattle.lc_core.proofs.Recoveries.{if_ok_at}
+use Rattle.lc_core.proofs.Seating.{set_same}
 
 drop_set : {A : Type 0} (xs : List A) (n k : ℕ) (y : A) → k < n → drop n (slice_set xs k y) ≡ drop n xs
 drop_set xs zero k y below = absurd (omega (arith, below))
@@ -44,13 +55,9 @@ set_drop (x ∷ xs) (suc n) k y =
     let next : suc (n + k) ≡ suc n + k = omega arith in
     set_drop xs n k y ∙ ap (λ (i : ℕ). drop (suc n) (slice_set (x ∷ xs) i y)) next
 
-is_want : (result : Result Progress RecoverFault) → (result ≡ Err NoMemory) ⊎ (result ≡ Err NoMemory → ⊥)
-is_want (Err NoMemory) = inl refl
-is_want _ = inr (λ e. absurd cc)
-
 module _ {D : Type 0} (a : Ghosts D) where
-  pub calls_none : (phase : Phase D a) → CallsArea a phase phase
-  calls_none phase g areas has = (areas, has, inl refl)
+  pub calls_none : (phase : Phase D a) (event : Event) (reply : Reply) → ((g : Geometry) → calls_area g event reply ≡ false) → CallsArea a phase event reply phase
+  calls_none phase event reply none g areas has = (areas, has, subst (λ (b : Bool). CallsWhere a b g event areas areas) (sym (none g)) refl)
 
   -- at their places, as far as there are logs
   abbrev LogsAre : List (Option D) → List D → Type 0
@@ -148,17 +155,24 @@ module _ {D : Type 0} (a : Ghosts D) where
       }
 
   module _ (up later : Rising D a) where
-    logs_call : later.running.geometry ≡ up.running.geometry → areas_of a later.segments.items ≡ areas_of a up.segments.items
-        → (areas_in a later.running.nodes.items ≡ areas_in a up.running.nodes.items) ⊎ CallsOneOf a (areas_in a up.running.nodes.items) (areas_in a later.running.nodes.items) → CallsArea a (Up up) (Up later)
-    logs_call geometry segments (inl same) g areas has = (areas, (has.0 ∙ sym geometry, all_same up later geometry areas has.1 same segments), inl refl)
-    logs_call geometry segments (inr calls) g areas has =
-        (slice_set areas calls.at calls.new, (has.0 ∙ sym geometry, one_log up later geometry areas has.1 calls segments), inr (log_called up later geometry areas has.1 calls))
+    logs_call : later.running.geometry ≡ up.running.geometry → areas_of a later.segments.items ≡ areas_of a up.segments.items → (event : Event) (b : Bool)
+        → CallsLog a event b (areas_in a up.running.nodes.items) (areas_in a later.running.nodes.items) → (g : Geometry) (areas : List D) → HasAreas a (Up up) g areas
+        → (after : List D) × HasAreas a (Up later) g after × CallsWhere a b g event areas after
+    unfolding log_called
+    logs_call geometry segments event false same g areas has = (areas, (has.0 ∙ sym geometry, all_same up later geometry areas has.1 same segments), refl)
+    logs_call geometry segments event true (calls, of) g areas has = (
+      slice_set areas calls.at calls.new,
+      (has.0 ∙ sym geometry, one_log up later geometry areas has.1 calls segments),
+      (log_called up later geometry areas has.1 calls, log_called_by g event calls.at of),
+    )
 
     -- whatever a step answers
-    pub step_calls : {E : Type 0} (result : Result Reply E) → areas_of a later.segments.items ≡ areas_of a up.segments.items → IfOk result (λ reply. CountsLogs a up.running reply later.running)
-        → OnErr result (SameLogs a up.running later.running) → CallsArea a (Up up) (Up later)
-    step_calls (Ok reply) segments counts same = logs_call counts.devices.geometry segments counts.calls
-    step_calls (Err e) segments counts same = logs_call same.geometry segments (inl (ap (map (area_of a)) same.logs))
+    pub step_calls : (event : Event) → is_plain event ≡ true → {E : Type 0} (result : Result Reply E) → areas_of a later.segments.items ≡ areas_of a up.segments.items
+        → IfOk result (λ reply. CountsLogs a up.running event reply later.running) → OnErr result (SameLogs a up.running later.running) → IfOk result (λ reply. CallsArea a (Up up) event reply (Up later))
+    step_calls event plain (Ok reply) segments counts same = λ g areas has.
+        subst (λ (b : Bool). (after : List D) × HasAreas a (Up later) g after × CallsWhere a b g event areas after) (plain_calls g event reply plain)
+        (logs_call counts.devices.geometry segments event (calls_log event reply) counts.calls g areas has)
+    step_calls event plain (Err e) segments counts same = counts
 
     -- without memory, none
     pub step_keeps : {E : Type 0} (result : Result Reply E) → areas_of a later.segments.items ≡ areas_of a up.segments.items → OnErr result (SameLogs a up.running later.running)
@@ -166,12 +180,34 @@ module _ {D : Type 0} (a : Ghosts D) where
     step_keeps (Ok reply) segments same = same
     step_keeps (Err e) segments same = λ g areas has. (has.0 ∙ sym same.geometry, all_same up later same.geometry areas has.1 (ap (map (area_of a)) same.logs) segments)
 
-    pub page_calls : (k : ℕ) (old new : Pages D a) (ok : Bool) → slice_get up.segments.items k ≡ Some old → later.segments.items ≡ slice_set up.segments.items k new → SameLogAreas a up.running later.running
-        → IsOneCall a ok old.area new.area → CallsArea a (Up up) (Up later)
-    page_calls k old new ok at set same call g areas has = (
-      slice_set areas (up.running.geometry.nodes + k) new.area,
-      (has.0 ∙ sym same.geometry, one_segment up later same.geometry areas has.1 k old new at set same.areas),
-      inr (segment_called up later same.geometry areas has.1 k old new at set ok call),
+    -- of a page write
+    module _ (node segment page : ℕ) (old new : Pages D a) (at : slice_get up.segments.items (segment - 1) ≡ Some old) (set : later.segments.items ≡ slice_set up.segments.items (segment - 1) new)
+        (same : SameLogAreas a up.running later.running) (g : Geometry) (areas : List D) (has : HasAreas a (Up up) g areas) where
+      their : List D
+      their = slice_set areas (up.running.geometry.nodes + (segment - 1)) new.area
+
+      there : HasAreas a (Up later) g their
+      unfolding their
+      there = (has.0 ∙ sym same.geometry, one_segment up later same.geometry areas has.1 (segment - 1) old new at set same.areas)
+
+      its : (b ok : Bool) → CalledIf a b ok old.area new.area → CallsWhere a b g (PageStep node segment page) areas their
+      unfolding their segment_called
+      its true ok call = (
+        segment_called up later same.geometry areas has.1 (segment - 1) old new at set ok call,
+        ap (λ (v : Geometry). v.nodes + (segment - 1)) (sym has.0),
+      )
+      its false ok none =
+          let was : slice_get areas (up.running.geometry.nodes + (segment - 1)) ≡ Some old.area =
+          sym (get-drop up.running.geometry.nodes (segment - 1) areas) ∙ ap (λ (l : List D). slice_get l (segment - 1)) (sym has.1.segments)
+          ∙ get-map (λ (p : Pages D a). p.area) up.segments.items (segment - 1) old at in
+          ap (slice_set areas (up.running.geometry.nodes + (segment - 1))) none ∙ set_same areas (up.running.geometry.nodes + (segment - 1)) old.area was
+
+    pub page_calls : (node segment page : ℕ) (old new : Pages D a) (reply : Reply) → slice_get up.segments.items (segment - 1) ≡ Some old → later.segments.items ≡ slice_set up.segments.items (segment - 1) new
+        → SameLogAreas a up.running later.running → CalledAs a reply old.area new.area → CallsArea a (Up up) (PageStep node segment page) reply (Up later)
+    page_calls node segment page old new reply at set same called g areas has = (
+      their node segment page old new at set same g areas has,
+      there node segment page old new at set same g areas has,
+      its node segment page old new at set same g areas has (tells_call reply) (not (is_fault reply)) called,
     )
 
   pub up_keeps : (phase : Phase D a) (up later : Rising D a) → phase ≡ Up up → KeepsAreas a (Up up) (Up later) → KeepsAreas a phase (Up later)
@@ -181,39 +217,79 @@ module _ {D : Type 0} (a : Ghosts D) where
   pub down_keeps : (phase : Phase D a) (r new : Recovering D) → phase ≡ Down r → new ≡ r → KeepsAreas a phase (Down new)
   down_keeps phase r new is same = subst (λ (p : Phase D a). KeepsAreas a p (Down new)) (sym is) (subst (λ (v : Recovering D). KeepsAreas a (Down r) (Down v)) (sym same) (λ g areas has. has))
 
-  pub up_calls : (phase : Phase D a) (up later : Rising D a) → phase ≡ Up up → CallsArea a (Up up) (Up later) → CallsArea a phase (Up later)
-  up_calls phase up later is calls = subst (λ (p : Phase D a). CallsArea a p (Up later)) (sym is) calls
+  pub up_calls : (phase : Phase D a) (up later : Rising D a) (event : Event) (reply : Reply) → phase ≡ Up up → CallsArea a (Up up) event reply (Up later) → CallsArea a phase event reply (Up later)
+  up_calls phase up later event reply is calls = subst (λ (p : Phase D a). CallsArea a p event reply (Up later)) (sym is) calls
 
   -- A recovery
 
   of_one : (at : ℕ) (olds news : List D) (ok : Bool) → OneCall a at olds news ok → CallsOne a olds news
   of_one at olds news ok call = record { at = at; old = call.old; new = call.new; ok = ok; was = call.was; is = call.is; call = call.call }
 
-  module _ (r new : Recovering D) (result : Result Progress RecoverFault) (calls : StepCalls a r new result) (none : result ≡ Err NoMemory → new ≡ r) where
-    recovery_called : CallsOneAtMost a r.areas new.areas
-    recovery_called = elim (cases_eq (r.steps + 1) (first_steps r.geometry)) [
-      | inl merges ↦ inl (calls.no_call merges)
-      | inr other ↦ elim (is_want result) [
-        | inl want ↦ inl (ap (λ (v : Recovering D). v.areas) (none want))
-        | inr made ↦ (let call = calls.call other made in inr (of_one call.0 r.areas new.areas (is_ok result) call.2))
-      ]
+  module _ (r new : Recovering D) (geometry : new.geometry ≡ r.geometry) where
+    -- the area that is next
+    made : (result : Result Progress RecoverFault) → StepCalls a r new result → (IsMergeNext r → ⊥) → (result ≡ Err NoMemory → ⊥) → CallsWhere a true r.geometry RecoverStep r.areas new.areas
+    made result calls other wants = (let call = calls.call other wants in (of_one call.0 r.areas new.areas (is_ok result) call.2, tt))
+
+    -- a fault that is none of a device comes with the merge
+    merge_refused : (fault : RecoverFault) → (fault ≡ NoMemory → ⊥) → (fault ≡ Failed → ⊥) → StepCalls a r new (Err fault) → new.areas ≡ r.areas
+    merge_refused fault some none calls = elim (cases_eq (r.steps + 1) (first_steps r.geometry)) [
+      | inl merges ↦ calls.no_call merges
+      | inr other ↦ (elim (calls.fault other) [ inl e ↦ absurd (some e) | inr e ↦ absurd (none e) ])
     ]
 
-    pub down_calls : (phase : Phase D a) → phase ≡ Down r → new.geometry ≡ r.geometry → CallsArea a phase (Down new)
-    down_calls phase is same = subst (λ (p : Phase D a). CallsArea a p (Down new)) (sym is)
-        (λ g areas has. (new.areas, (has.0 ∙ sym same, refl), subst (λ (l : List D). CallsOneAtMost a l new.areas) (sym has.1) recovery_called))
+    fault_called : {E : Type 0} (fault : RecoverFault) (answer : Result Reply E) → RepliesTo (Err fault) answer → StepCalls a r new (Err fault)
+        → IfOk answer (λ reply. CallsTold a r.geometry RecoverStep reply r.areas new.areas)
+    fault_called (BadGeometry area) answer replies calls = if_ok_at answer _ _ replies (merge_refused (BadGeometry area) (λ e. absurd cc) (λ e. absurd cc) calls)
+    fault_called (Gap segment seq) answer replies calls = if_ok_at answer _ _ replies (merge_refused (Gap segment seq) (λ e. absurd cc) (λ e. absurd cc) calls)
+    fault_called (Twice segment seq) answer replies calls = if_ok_at answer _ _ replies (merge_refused (Twice segment seq) (λ e. absurd cc) (λ e. absurd cc) calls)
+    fault_called (OutOfSegment area) answer replies calls = if_ok_at answer _ _ replies (merge_refused (OutOfSegment area) (λ e. absurd cc) (λ e. absurd cc) calls)
+    fault_called Failed answer replies calls = if_ok_at answer _ _ replies (made (Err Failed) calls (λ merges. calls.merge_fault merges refl) (λ e. absurd cc))
+    fault_called NoMemory answer replies calls = IfOk-from_err answer _ replies
 
-    pub risen_calls : (phase risen : Phase D a) → phase ≡ Down r → new.geometry ≡ r.geometry → (up : Rising D a) → risen ≡ Up up → ComesUp a new up → CallsArea a phase risen
-    risen_calls phase risen is same up rises came = subst (λ (p : Phase D a). CallsArea a p risen) (sym is) (subst (λ (p : Phase D a). CallsArea a (Down r) p) (sym rises)
-        (λ g areas has. (
+    stepped_called : (steps : ℕ) → StepCalls a r new (Ok (HasStepped steps)) → steps ≡ r.steps + 1 → CallsTold a r.geometry RecoverStep (Stepped steps) r.areas new.areas
+    stepped_called steps calls is = elim (cases_eq (r.steps + 1) (first_steps r.geometry)) [
+      | inl merges ↦ subst (λ (b : Bool). CallsWhere a b r.geometry RecoverStep r.areas new.areas) (sym (step_free (first_steps r.geometry) steps (is ∙ merges))) (calls.no_call merges)
+      | inr other ↦ subst (λ (b : Bool). CallsWhere a b r.geometry RecoverStep r.areas new.areas) (sym (step_other (first_steps r.geometry) steps (λ same. other (sym is ∙ same))))
+          (made (Ok (HasStepped steps)) calls other (λ e. absurd cc))
+    ]
+
+    -- the last step is none of the merge
+    done_apart : IsDone new → new.steps ≡ r.steps + 1 → IsMergeNext r → ⊥
+    done_apart done steps merges =
+        let some = new.geometry.some_nodes in
+        let all : new.steps ≡ first_steps r.geometry + 6 * done.0 + 2 * r.geometry.nodes = done.2 ∙ ap (λ (g : Geometry). all_steps g done.0) geometry in
+        let nodes : 1 ≤ r.geometry.nodes = subst (λ (g : Geometry). 1 ≤ g.nodes) geometry some in
+        absurd (omega (arith, all, steps, merges, nodes))
+
+    recovery_called : {E : Type 0} (result : Result Progress RecoverFault) (answer : Result Reply E) → RepliesTo result answer → StepCalls a r new result → OnOk result (new.steps ≡ r.steps + 1)
+        → IfOk result (λ progress. Tells progress new) → IfOk answer (λ reply. CallsTold a r.geometry RecoverStep reply r.areas new.areas)
+    recovery_called (Ok (HasStepped steps)) answer replies calls counted tells = if_ok_at answer _ _ replies (stepped_called steps calls (tells.0 ∙ counted))
+    recovery_called (Ok HasRecovered) answer replies calls counted tells = if_ok_at answer _ _ replies (made (Ok HasRecovered) calls (done_apart tells counted) (λ e. absurd cc))
+    recovery_called (Err fault) answer replies calls counted tells = fault_called fault answer replies calls
+
+    pub down_calls : (phase : Phase D a) → phase ≡ Down r → {E : Type 0} (result : Result Progress RecoverFault) (answer : Result Reply E) → RepliesTo result answer → StepCalls a r new result
+        → OnOk result (new.steps ≡ r.steps + 1) → IfOk result (λ progress. Tells progress new) → IfOk answer (λ reply. CallsArea a phase RecoverStep reply (Down new))
+    down_calls phase is result answer replies calls counted tells = IfOk-weaker answer _ _
+        (λ reply told. subst (λ (p : Phase D a). CallsArea a p RecoverStep reply (Down new)) (sym is) (λ g areas has. (
+          new.areas,
+          (has.0 ∙ sym geometry, refl),
+          subst (λ (l : List D). CallsTold a g RecoverStep reply l new.areas) (sym has.1) (subst (λ (v : Geometry). CallsTold a v RecoverStep reply r.areas new.areas) (sym has.0) told),
+        )))
+        (recovery_called result answer replies calls counted tells)
+
+    pub risen_calls : (phase risen : Phase D a) → phase ≡ Down r → (result : Result Progress RecoverFault) → ((fault : RecoverFault) → result ≡ Err fault → ⊥) → StepCalls a r new result → (IsMergeNext r → ⊥) → (up : Rising D a) → risen ≡ Up up → ComesUp a new up
+        → CallsArea a phase RecoverStep Recovered risen
+    risen_calls phase risen is result well calls other up rises came = subst (λ (p : Phase D a). CallsArea a p RecoverStep Recovered risen) (sym is)
+        (subst (λ (p : Phase D a). CallsArea a (Down r) RecoverStep Recovered p) (sym rises) (λ g areas has. (
           new.areas,
           (
-            has.0 ∙ sym (came.same_geometry ∙ same),
+            has.0 ∙ sym (came.same_geometry ∙ geometry),
             record {
               count = count-areas a new.geometry new.areas came.lengths ∙ ap area_count (sym came.same_geometry);
               logs = came.log_areas;
               segments = came.segments ∙ ap (λ (v : Geometry). drop v.nodes new.areas) (sym came.same_geometry);
             },
           ),
-          subst (λ (l : List D). CallsOneAtMost a l new.areas) (sym has.1) recovery_called,
+          subst (λ (l : List D). CallsWhere a true g RecoverStep l new.areas) (sym has.1)
+              (subst (λ (v : Geometry). CallsWhere a true v RecoverStep r.areas new.areas) (sym has.0) (made result calls other (well NoMemory))),
         )))

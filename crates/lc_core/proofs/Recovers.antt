@@ -73,7 +73,7 @@ module _ {D : Type 0} (a : Ghosts D) where
         → (k : ℕ) (area : D) → slice_get new.areas k ≡ Some area → (at : ℕ) → a.dirty area at ≡ false
 
   -- the last step is none of the merge
-  last_apart : (r : Recovering D) → IsLast r → IsMergeNext r → ⊥
+  pub last_apart : (r : Recovering D) → IsLast r → IsMergeNext r → ⊥
   last_apart r last next = (let some = r.geometry.some_nodes in absurd (omega (arith, last.2, next, some)))
 
   module _ (r new : Recovering D) where

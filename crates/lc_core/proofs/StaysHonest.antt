@@ -1,12 +1,16 @@
 -- The areas of a store that is up, and that a call leaves them as honest as they were.
-use Rattle.std.proofs.Common.{◌≡◌, ◌⊎◌, ◌+◌, ◌*◌, ℕ, zero, suc, true, List, [], ◌∷◌, ◌++◌, length, Some, refl, sym, ap, subst, ◌∙◌, inl, inr, arith}
+use Rattle.std.proofs.Common.{◌≡◌, ◌+◌, ◌*◌, ℕ, zero, suc, Bool, true, false, List, [], ◌∷◌, ◌++◌, length, Some, refl, sym, ap, subst, ◌∙◌, inl, inr, arith}
 use Rattle.std.specs.Prelude.{slice_get, slice_set}
 use Rattle.std.proofs.lemmas.Bool.{cases_eq}
 use Rattle.std.proofs.lemmas.Option.{slice_get_within}
 use Rattle.lc_disk.specs.declared.area.Area.{Ghosts}
 use Rattle.lc_recover.specs.Reads.{AreHonest}
 use Rattle.lc_core.specs.Areas.{AreOf}
-use Rattle.lc_core.specs.Calls.{CallsArea, CallsOneAtMost}
+use Rattle.lc_record.specs.declared.geometry.Geometry.{Geometry}
+use Rattle.lc_model.specs.declared.event.Event.{Event}
+use Rattle.lc_model.specs.declared.reply.Reply.{Reply}
+use Rattle.lc_core.specs.CallReplies.{calls_area}
+use Rattle.lc_core.specs.Calls.{CallsArea, CallsWhere, KeepsAreas}
 use Rattle.lc_core.specs.HonestAreas.{HonestUp}
 use Rattle.lc_core.specs.Log.{area_of}
 use Rattle.lc_core.specs.Pages.{areas_of}
@@ -48,10 +52,10 @@ module _ {D : Type 0} (a : Ghosts D) where
       let all = logs.logs ++ areas_of a up.segments.items in
       (all, are_of a up logs.logs all logs.each (logs.count ∙ sym up.running.nodes.ok.0) refl)
 
-  -- a call at most
-  still_honest : (olds news : List D) → CallsOneAtMost a olds news → AreHonest a olds → AreHonest a news
-  still_honest olds news (inl same) honest = subst (λ (l : List D). AreHonest a l) (sym same) honest
-  still_honest olds news (inr one) honest = λ k device at.
+  -- a call or none
+  still_honest : (b : Bool) (g : Geometry) (event : Event) (olds news : List D) → CallsWhere a b g event olds news → AreHonest a olds → AreHonest a news
+  still_honest false g event olds news same honest = subst (λ (l : List D). AreHonest a l) (sym same) honest
+  still_honest true g event olds news (one, by) honest = λ k device at.
       let there : slice_get (slice_set olds one.at one.new) k ≡ Some device = ap (λ (l : List D). slice_get l k) (sym one.is) ∙ at in
       elim (cases_eq k one.at) [
         | inl here ↦
@@ -67,8 +71,15 @@ module _ {D : Type 0} (a : Ghosts D) where
     segments = λ k pages at. honest (up.running.geometry.nodes + k) pages.area (segment_at a up areas are k pages at);
   }
 
-  pub stays_honest : (up new : Rising D a) → CallsArea a (Up up) (Up new) → HonestUp a up → HonestUp a new
-  stays_honest up new calls honest =
+  pub stays_honest : (up new : Rising D a) (event : Event) (reply : Reply) → CallsArea a (Up up) event reply (Up new) → HonestUp a up → HonestUp a new
+  stays_honest up new event reply calls honest =
       let all = all_areas up in
       let later = calls up.running.geometry all.0 (refl, all.1) in
-      up_honest new later.0 later.1.1 (still_honest all.0 later.0 later.2 (their_honesty a up all.0 all.1 honest))
+      up_honest new later.0 later.1.1 (still_honest (calls_area up.running.geometry event reply) up.running.geometry event all.0 later.0 later.2 (their_honesty a up all.0 all.1 honest))
+
+  -- where none was called
+  pub keeps_honest : (up new : Rising D a) → KeepsAreas a (Up up) (Up new) → HonestUp a up → HonestUp a new
+  keeps_honest up new keeps honest =
+      let all = all_areas up in
+      let later = keeps up.running.geometry all.0 (refl, all.1) in
+      up_honest new all.0 later.1 (their_honesty a up all.0 all.1 honest)

@@ -5,7 +5,7 @@ use Rattle.std.proofs.lemmas.Bool.{cases_eq}
 use Rattle.std.proofs.lemmas.List.{map-set}
 use Rattle.std.proofs.lemmas.Option.{slice_get-map}
 use Rattle.lc_disk.specs.declared.area.Area.{Ghosts}
-use Rattle.lc_log.specs.OneCall.{IsOneCall}
+use Rattle.lc_core.specs.CallReplies.{CalledAs}
 use Rattle.lc_model.specs.Machine.{Row}
 use Rattle.lc_model.specs.Refusals.{Unless, common_refusal}
 use Rattle.lc_model.specs.State.{Setting, State}
@@ -33,6 +33,7 @@ use Rattle.lc_core.specs.declared.log.Log.{Log}
 use Rattle.lc_core.specs.declared.pages.Pages.{Pages}
 use Rattle.lc_core.specs.declared.running.Running.{Running}
 use Rattle.lc_core.specs.declared.up.Up.{Up as Rising}
+use Rattle.lc_core.proofs.CallsTold.{as_failed}
 use Rattle.lc_core.proofs.PagesTurned.{halts_still, pages_turned}
 
 -- what is refused at once leaves the numbers as they are
@@ -137,10 +138,11 @@ module _ {D : Type 0} (a : Ghosts D) where
 
   -- the device of one segment, called once
   pub page_counts : (running after : Running D a) (segments : List (Pages D a)) (k : ℕ) (reply : Reply) (old new : Pages D a) → slice_get segments k ≡ Some old → SameLogAreas a running after
-      → IsOneCall a (not (is_fault reply)) old.area new.area
+      → CalledAs a reply old.area new.area
       → CountsFaults reply (log_failures a (logs_of a running.nodes.items) ++ area_failures a (areas_of a segments))
       (log_failures a (logs_of a after.nodes.items) ++ area_failures a (areas_of a (slice_set segments k new)))
   page_counts running after segments k reply old new at same device =
+      let counted = as_failed a reply old.area new.area device in
       let logs : List (Option ℕ) = log_failures a (logs_of a running.nodes.items) in
       let fail : Pages D a → Option ℕ = λ pages. Some (a.failures pages.area) in
       let fails : List (Option ℕ) = map fail segments in
@@ -153,11 +155,11 @@ module _ {D : Type 0} (a : Ghosts D) where
           count = a.failures old.area;
           was = ap (λ (l : List (Option ℕ)). slice_get l (length logs + k)) before ∙ get_back logs fails k ∙ slice_get-map fail segments k ∙ ap (option_map fail) at;
           is = now ∙ ap (λ (l : List (Option ℕ)). logs ++ l) (map-set fail segments k new) ∙ set_back logs fails k (fail new)
-              ∙ ap (λ (n : ℕ). slice_set (logs ++ fails) (length logs + k) (Some n)) (device.counted ∙ ap (λ (b : Bool). if not b then a.failures old.area else a.failures old.area + 1) is)
+              ∙ ap (λ (n : ℕ). slice_set (logs ++ fails) (length logs + k) (Some n)) (counted ∙ ap (λ (b : Bool). if not b then a.failures old.area else a.failures old.area + 1) is)
               ∙ ap (λ (l : List (Option ℕ)). slice_set l (length logs + k) (Some (a.failures old.area + 1))) (sym before);
         };
         none = λ is. now ∙ ap (λ (l : List (Option ℕ)). logs ++ l)
-            (same_map_set fail segments k old new at (ap (λ (n : ℕ). Some n) (device.counted ∙ ap (λ (b : Bool). if not b then a.failures old.area else a.failures old.area + 1) is)))
+            (same_map_set fail segments k old new at (ap (λ (n : ℕ). Some n) (counted ∙ ap (λ (b : Bool). if not b then a.failures old.area else a.failures old.area + 1) is)))
             ∙ sym before;
       }
     where

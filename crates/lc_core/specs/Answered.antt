@@ -2,15 +2,16 @@
 use Rattle.std.specs.Prelude.{◌≡◌, ℕ, Bool, true, false, Option, Some, None, Result, Ok, Err}
 use Rattle.lc_disk.specs.declared.area.Area.{Ghosts}
 use Rattle.lc_model.specs.declared.event.Event.{Event}
-use Rattle.lc_model.specs.declared.event.Event.TheVariants.{SetRange, Read, Reserve, Deliver, Begin, Write, Abort, Close, FlushStep, Leave, Arrive, Trim, PageStep, ResetStep}
+use Rattle.lc_model.specs.declared.event.Event.TheVariants.{SetRange, Read, Reserve, Deliver, Begin, Write, Abort, Close, Leave, Arrive}
 use Rattle.lc_model.specs.declared.refusal.Refusal.{Refusal}
 use Rattle.lc_model.specs.declared.reply.Reply.{Reply}
 use Rattle.lc_model.specs.declared.reply.Reply.TheVariants.{Ok as Accepted, Reserved as HasPlace, Ended, Stepped, Acked, Nothing, Applied, HeldBack, Ignored, Trimmed, Written, Reset, Refused}
 use Rattle.lc_core.specs.Calls.{KeepsAreas}
 use Rattle.lc_core.specs.Faults.{phase_failures}
 use Rattle.lc_core.specs.Geometries.{phase_geometry}
+use Rattle.lc_core.specs.MayReply.{may_reply}
 use Rattle.lc_core.specs.Stepping.{works_up}
-use Rattle.lc_core.specs.Truncating.{StepsTo, refusal_in}
+use Rattle.lc_core.specs.Truncating.{StepsTo}
 use Rattle.lc_core.specs.World.{AsksIn, AsksWorld, StillFitsWorld}
 use Rattle.lc_core.specs.declared.call_fault.CallFault.{CallFault}
 use Rattle.lc_core.specs.declared.call_fault.CallFault.TheVariants.{NoMemory, Refused as IsRefused}
@@ -44,42 +45,9 @@ is_done_or_not (Leave node segment) = true
 is_done_or_not (Arrive node segment) = true
 is_done_or_not event = false
 
--- Which replies the machine may give to an event
-
--- the answers of an event beside its refusals
-abbrev pub may_answer : Event → Reply → Bool
-may_answer event (Refused refusal) = true
-may_answer (FlushStep node) (Stepped calls) = true
-may_answer (FlushStep node) (Acked count) = true
-may_answer (FlushStep node) Nothing = true
-may_answer (PageStep node segment page) (Stepped calls) = true
-may_answer (PageStep node segment page) (Written number) = true
-may_answer (ResetStep node) (Stepped steps) = true
-may_answer (ResetStep node) Reset = true
-may_answer (ResetStep node) Nothing = true
-may_answer (Trim node) (Trimmed count) = true
-may_answer (Deliver sender number segment to) (Applied count) = true
-may_answer (Deliver sender number segment to) HeldBack = true
-may_answer (Deliver sender number segment to) Ignored = true
-may_answer (Reserve node thread) (HasPlace place words) = true
-may_answer (Reserve node thread) Ended = true
-may_answer (SetRange node thread segment offset len) Accepted = true
-may_answer (Begin node thread segments reading) Accepted = true
-may_answer (Write node thread segment offset bytes) Accepted = true
-may_answer (Abort node thread) Accepted = true
-may_answer (Close node thread) Accepted = true
-may_answer (Leave node segment) Accepted = true
-may_answer (Arrive node segment) Accepted = true
-may_answer event reply = false
-
--- this stands for a reply: both refuse the same, and it is the reply where the event may get it
-pub record StandsFor (event : Event) (answer reply : Reply) : Type 0 where
-  pub refused : refusal_in answer ≡ refusal_in reply
-  pub same : may_answer event reply ≡ true → answer ≡ reply
-
-abbrev pub StandsIn : Event → Option Reply → Reply → Type 0
-StandsIn event None reply = ⊥
-StandsIn event (Some answer) reply = StandsFor event answer reply
+-- a call hands this out for a reply: it is the reply, where the event may get it at all
+abbrev pub StandsFor : Event → Option Reply → Reply → Type 0
+StandsFor event answer reply = may_reply event reply ≡ true → answer ≡ Some reply
 
 -- The reply that each result stands for
 

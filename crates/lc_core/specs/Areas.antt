@@ -19,6 +19,7 @@ module _ {D : Type 0} (a : Ghosts D) where
   pub record IsStopped (old new : D) : Type 0 where
     pub honest : a.honest new ≡ a.honest old
     pub same_length : length (a.now new) ≡ length (a.now old)
+    pub calls : a.calls new ≡ a.calls old
     pub failures : a.failures new ≡ a.failures old
     pub image : a.honest old ≡ true → IsImage (a.now old) (a.dirty old) (a.now new)
     pub clean : a.honest old ≡ true → IsClean (a.dirty new)

@@ -1,5 +1,5 @@
 -- Which replies tell that a device has failed, how often devices have failed then, and which replies tell of something unknown.
-use Rattle.std.specs.Prelude.{◌≡◌, ◌⊎◌, ℕ, ◌+◌, Bool, true, false, List, length, Option, Some, option_map, slice_get, slice_set, if◌then◌else◌}
+use Rattle.std.specs.Prelude.{◌≡◌, ℕ, ◌+◌, Bool, true, false, List, length, Option, Some, option_map, slice_get, slice_set, if◌then◌else◌}
 use Rattle.lc_disk.specs.declared.area.Area.{Ghosts}
 use Rattle.lc_log.specs.OneCall.{IsOneCall}
 use Rattle.lc_model.specs.declared.refusal.Refusal.{Refusal}
@@ -7,8 +7,6 @@ use Rattle.lc_model.specs.declared.refusal.Refusal.TheVariants.{DeviceFault, Unk
 use Rattle.lc_model.specs.declared.reply.Reply.{Reply}
 use Rattle.lc_model.specs.declared.reply.Reply.TheVariants.{Refused}
 use Rattle.lc_core.specs.Log.{area_of}
-use Rattle.lc_core.specs.declared.ending.Ending.{Ending}
-use Rattle.lc_core.specs.declared.ending.Ending.TheVariants.{Refused as IsRefused}
 use Rattle.lc_core.specs.declared.log.Log.{Log}
 
 -- the refusal that names a device
@@ -30,21 +28,6 @@ names_unknown refusal = false
 abbrev pub is_unknown : Reply → Bool
 is_unknown (Refused refusal) = names_unknown refusal
 is_unknown reply = false
-
--- a refusal of what an event asks for: of no device, and of nothing unknown
-abbrev pub is_own_refusal : Refusal → Bool
-is_own_refusal DeviceFault = false
-is_own_refusal Unknown = false
-is_own_refusal refusal = true
-
--- what is done, or such a refusal
-abbrev pub is_own_reply : Reply → Bool
-is_own_reply (Refused refusal) = is_own_refusal refusal
-is_own_reply reply = true
-
-abbrev pub ends_own : Ending → Bool
-ends_own (IsRefused refusal) = is_own_refusal refusal
-ends_own ending = true
 
 -- of these counts one is one more, and the others are as they were
 pub record FailsOnce (olds news : List (Option ℕ)) : Type 0 where
@@ -71,9 +54,10 @@ module _ {D : Type 0} (a : Ghosts D) where
   abbrev pub kind_of : Log D a → Option (Bool × ℕ)
   kind_of log = option_map device_kind (area_of a log)
 
-  -- one call of the area was made, or none
-  abbrev pub MayCall : Option D → Option D → Type 0
-  MayCall old new = (new ≡ old) ⊎ ((before : D) × (after : D) × (ok : Bool) × (old ≡ Some before) × (new ≡ Some after) × IsOneCall a ok before after)
+  -- where there is to be a call of the area, one was made, and else none
+  abbrev pub CallsIf : Bool → Option D → Option D → Type 0
+  CallsIf true old new = (before : D) × (after : D) × (ok : Bool) × (old ≡ Some before) × (new ≡ Some after) × IsOneCall a ok before after
+  CallsIf false old new = new ≡ old
 
   -- one of these areas was called so
   pub record CallsOneOf (olds news : List (Option D)) : Type 0 where
@@ -85,9 +69,9 @@ module _ {D : Type 0} (a : Ghosts D) where
     pub is : news ≡ slice_set olds at (Some new)
     pub call : IsOneCall a ok old new
 
-  -- it is the same device, which has failed once more just where the reply tells of it; nothing is unknown
-  pub record TellsFault (reply : Reply) (old new : Log D a) : Type 0 where
+  -- it is the same device, which is called or not, and has failed once more just where the reply tells of it; nothing is unknown
+  pub record TellsFault (calls : Bool) (reply : Reply) (old new : Log D a) : Type 0 where
     pub known : is_unknown reply ≡ false
     pub failures : failures_of new ≡ (if is_fault reply then option_map (λ count. count + 1) (failures_of old) else failures_of old)
     pub kind : kind_of new ≡ kind_of old
-    pub call : MayCall (area_of a old) (area_of a new)
+    pub call : CallsIf calls (area_of a old) (area_of a new)

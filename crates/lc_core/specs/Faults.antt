@@ -1,7 +1,10 @@
 -- How often the devices of a store have failed, and what its replies tell of it.
-use Rattle.std.specs.Prelude.{◌≡◌, ◌⊎◌, ℕ, Bool, List, [], ◌∷◌, ◌++◌, map, Option, Some}
+use Rattle.std.specs.Prelude.{◌≡◌, ℕ, Bool, true, false, List, [], ◌∷◌, ◌++◌, map, Option, Some}
 use Rattle.lc_disk.specs.declared.area.Area.{Ghosts}
+use Rattle.lc_model.specs.declared.event.Event.{Event}
+use Rattle.lc_model.specs.declared.event.Event.TheVariants.{FlushStep, ResetStep}
 use Rattle.lc_model.specs.declared.reply.Reply.{Reply}
+use Rattle.lc_core.specs.CallReplies.{calls_log}
 use Rattle.lc_core.specs.FaultReplies.{CallsOneOf, CountsFaults, failures_of, kind_of}
 use Rattle.lc_core.specs.Log.{area_of}
 use Rattle.lc_core.specs.Pages.{areas_of}
@@ -15,6 +18,12 @@ use Rattle.lc_core.specs.declared.running.Running.{Running}
 abbrev pub CountsAll : List Reply → List (Option ℕ) → List (Option ℕ) → Type 0
 CountsAll [] olds news = news ≡ olds
 CountsAll (reply ∷ replies) olds news = (between : List (Option ℕ)) × CountsFaults reply olds between × CountsAll replies between news
+
+-- the log of a node is at this place
+abbrev pub IsLogOf : Event → ℕ → Type 0
+IsLogOf (FlushStep node) at = at ≡ node
+IsLogOf (ResetStep node) at = at ≡ node
+IsLogOf event at = ⊥
 
 module _ {D : Type 0} (a : Ghosts D) where
   -- the logs of nodes
@@ -58,11 +67,16 @@ module _ {D : Type 0} (a : Ghosts D) where
     pub geometry : new.geometry ≡ old.geometry
     pub kinds : log_kinds (logs_of new.nodes.items) ≡ log_kinds (logs_of old.nodes.items)
 
+  -- where there is to be a call, one of these areas was called, that of the node that acts; else none
+  abbrev pub CallsLog : Event → Bool → List (Option D) → List (Option D) → Type 0
+  CallsLog event true olds news = (calls : CallsOneOf a olds news) × IsLogOf event calls.at
+  CallsLog event false olds news = news ≡ olds
+
   -- what a reply of running nodes tells of their devices
-  pub record CountsLogs (old : Running D a) (reply : Reply) (new : Running D a) : Type 0 where
+  pub record CountsLogs (old : Running D a) (event : Event) (reply : Reply) (new : Running D a) : Type 0 where
     pub counts : CountsFaults reply (log_failures (logs_of old.nodes.items)) (log_failures (logs_of new.nodes.items))
     pub devices : SameDevices old new
-    pub calls : (areas_in new.nodes.items ≡ areas_in old.nodes.items) ⊎ CallsOneOf a (areas_in old.nodes.items) (areas_in new.nodes.items)
+    pub calls : CallsLog event (calls_log event reply) (areas_in old.nodes.items) (areas_in new.nodes.items)
 
   -- and of a store of its areas
   abbrev pub CountsPhase : Phase D a → Reply → Phase D a → Type 0

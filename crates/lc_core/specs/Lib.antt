@@ -15,6 +15,8 @@ pub mod Devices
 pub mod Drafts
 pub mod Log
 pub mod FaultReplies
+pub mod CallReplies
+pub mod MayReply
 pub mod Records
 pub mod Journal
 pub mod Follows

@@ -15,8 +15,8 @@ use Rattle.lc_model.specs.declared.event.Event.TheVariants.{RecoverStep, Stop}
 use Rattle.lc_model.specs.declared.refusal.Refusal.TheVariants.{Down as IsDown}
 use Rattle.lc_model.specs.declared.reply.Reply.{Reply}
 use Rattle.lc_model.specs.declared.reply.Reply.TheVariants.{Down as HasStopped, Recovered, Refused}
+use Rattle.lc_core.specs.MayReply.{may_recover}
 use Rattle.lc_core.specs.Numbers.{Numbers, recovered_numbers}
-use Rattle.lc_core.specs.Recovering.{is_of_recovery}
 use Rattle.lc_core.specs.Settled.{Settled}
 use Rattle.lc_core.specs.Turns.{Turns}
 use Rattle.lc_core.specs.Recovers.{RecoversDown, RefusesAtOnce}
@@ -58,7 +58,7 @@ pub record LivesOn (life : Life) (event : Event) (reply : Reply) (next : Life) :
 -- of a store that is down
 abbrev pub AnswersDown : Geometry → Event → Reply → Option Life → Type 0
 AnswersDown g RecoverStep Recovered after = (life : Life) × (after ≡ Some life) × IsBorn g life
-AnswersDown g RecoverStep reply after = (is_of_recovery reply ≡ true) × (after ≡ None)
+AnswersDown g RecoverStep reply after = (may_recover reply ≡ true) × (after ≡ None)
 AnswersDown g (Stop choices) reply after = (reply ≡ HasStopped) × (after ≡ None)
 AnswersDown g event reply after = (reply ≡ Refused IsDown) × (after ≡ None)
 
@@ -110,7 +110,7 @@ module _ {D : Type 0} (a : Ghosts D) where
     pub goes : FollowsAnyhow a old event reply new
     -- what comes up is a store of what was read
     pub begins : event ≡ RecoverStep → reply ≡ Recovered → Begins a old new
-    pub answers : event ≡ RecoverStep → is_of_recovery reply ≡ true
+    pub answers : event ≡ RecoverStep → may_recover reply ≡ true
     pub recovers : event ≡ RecoverStep → RecoversDown a old reply new
 
   -- any event

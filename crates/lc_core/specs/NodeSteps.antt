@@ -1,5 +1,5 @@
 -- What a step of one node does, whichever of the node's own events it is.
-use Rattle.std.specs.Prelude.{◌≡◌, ◌<◌, ℕ, Bool, false, nat_lt, None, Result, IfOk, OnErr}
+use Rattle.std.specs.Prelude.{◌≡◌, ◌<◌, ℕ, Bool, true, false, nat_lt, None, Result, IfOk, OnErr}
 use Rattle.std.specs.declared.alloc.AllocError.{AllocError}
 use Rattle.lc_disk.specs.declared.area.Area.{Ghosts}
 use Rattle.lc_model.specs.Refusals.{common_refusal}
@@ -8,9 +8,11 @@ use Rattle.lc_model.specs.State.{Setting, State}
 use Rattle.lc_model.specs.declared.event.Event.{Event}
 use Rattle.lc_model.specs.declared.event.Event.TheVariants.{Begin, SetRange, Write, Read, Abort, Reserve, Close, FlushStep, Leave, Arrive, Deliver, Trim, ResetStep}
 use Rattle.lc_model.specs.declared.reply.Reply.{Reply}
+use Rattle.lc_core.specs.CallReplies.{calls_log}
 use Rattle.lc_core.specs.FaultReplies.{TellsFault}
 use Rattle.lc_core.specs.Growing.{MayReadSome, MaySetMore}
 use Rattle.lc_core.specs.Log.{is_sealed}
+use Rattle.lc_core.specs.MayReply.{may_answer}
 use Rattle.lc_core.specs.Node.{FitsNode, GoesOn, HasSameRoom, StillFitsNode, WantsPlace}
 use Rattle.lc_core.specs.Numbers.{Numbers}
 use Rattle.lc_core.specs.Stepping.{is_plain}
@@ -57,6 +59,7 @@ module _ {D : Type 0} (a : Ghosts D) where
     pub memory : OnErr result (WantsOf n event old)
     pub err : OnErr result (StillFitsNode a old new)
     pub room : HasSameRoom a old new
-    -- the device of its log fails just where the reply tells of it
-    pub device : IfOk result (λ reply. TellsFault a reply old.journal.log new.journal.log)
+    -- the device of its log is called and fails just where the reply tells of it
+    pub device : IfOk result (λ reply. TellsFault a (calls_log event reply) reply old.journal.log new.journal.log)
     pub no_fault : OnErr result (new.journal.log ≡ old.journal.log)
+    pub names : IfOk result (λ reply. may_answer event reply ≡ true)

@@ -1,5 +1,5 @@
 -- What a step of a recovery answers, and what the last one leaves.
-use Rattle.std.specs.Prelude.{◌≡◌, ℕ, Bool, true, false, drop, Option, Some, None, Result, Ok, Err, IsErr, MatchOption, slice_get}
+use Rattle.std.specs.Prelude.{◌≡◌, ℕ, drop, Option, Some, None, Result, Ok, Err, IsErr, MatchOption, slice_get}
 use Rattle.lc_disk.specs.declared.area.Area.{Ghosts}
 use Rattle.lc_recover.specs.Reads.{AreOfBytes, HaveLengths}
 use Rattle.lc_recover.specs.Recovered.{RecoveredStore, AreFinished, IsMade}
@@ -32,13 +32,6 @@ abbrev pub RepliesTo : {E : Type 0} → Result Progress RecoverFault → Result 
 RepliesTo (Ok (HasStepped steps)) result = result ≡ Ok (Stepped steps)
 RepliesTo (Ok HasRecovered) result = result ≡ Ok Recovered
 RepliesTo (Err fault) result = MatchOption (refusal_to fault) (IsErr result) (λ refusal. result ≡ Ok (Refused refusal))
-
--- what a step of a recovery may answer: that more are to come, that it was the last, or why it stops
-abbrev pub is_of_recovery : Reply → Bool
-is_of_recovery (Stepped steps) = true
-is_of_recovery Recovered = true
-is_of_recovery (Refused refusal) = true
-is_of_recovery reply = false
 
 module _ {D : Type 0} (a : Ghosts D) where
   -- the nodes are those of the store that a recovery has made, on its areas, and no page is being written

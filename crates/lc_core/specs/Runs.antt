@@ -33,6 +33,10 @@ RunsOn m s x (event ∷ events) (reply ∷ replies) after next =
 RunsOn m s x [] (reply ∷ replies) after next = ⊥
 RunsOn m s x (event ∷ events) [] after next = ⊥
 
+-- from the first state: each reply is settled
+abbrev pub AreSettled : Setting → Numbers → List Event → List Reply → Type 0
+AreSettled m x events replies = (after : State) × (next : Numbers) × RunsOn m (first_state m.geometry) x events replies after next
+
 -- the event behind those that were answered needs room in some state
 abbrev pub GrowsNext : List Event → List Reply → Type 0
 GrowsNext events replies = (event : Event) × (slice_get events (length replies) ≡ Some event) × (may_grow event ≡ true)
@@ -44,7 +48,7 @@ module _ {D : Type 0} (a : Ghosts D) where
       (m : Setting) (s : State) (x : Numbers) → FitsWorld a m old s x
       → (after : State) × (next : Numbers) × RunsOn m s x events replies after next × FitsWorld a m new after next
 
-  -- from the first state: each reply is settled, and the store fits where the run has come to
+  -- from the first state: the store fits where a run of settled replies has come to
   abbrev pub Settles : Setting → Numbers → List Event → List Reply → World D a → Type 0
   Settles m x events replies new =
       (after : State) × (next : Numbers) × RunsOn m (first_state m.geometry) x events replies after next × FitsWorld a m new after next

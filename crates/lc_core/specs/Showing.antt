@@ -1,20 +1,18 @@
 -- What a node's image of a segment shows.
-use Rattle.std.specs.Prelude.{◌≡◌, ℕ, ◌-◌, ◌*◌, ◌≤◌, ◌&&◌, List, slice_get, take, drop, find, Option, None, Some, if◌then◌else◌}
+use Rattle.std.specs.Prelude.{◌≡◌, ℕ, ◌-◌, ◌*◌, ◌≤◌, List, slice_get, take, drop, find, Option, None, Some, if◌then◌else◌}
 use Rattle.lc_disk.specs.declared.area.Area.{Ghosts}
 use Rattle.lc_record.specs.Content.{Content, segment_of}
 use Rattle.lc_record.specs.Transaction.{Transaction, locks}
 use Rattle.lc_model.specs.History.{value}
 use Rattle.lc_model.specs.Machine.{seen}
-use Rattle.lc_model.specs.Refusals.{is_at, is_node, is_page, is_segment}
+use Rattle.lc_model.specs.Refusals.{is_at}
 use Rattle.lc_model.specs.State.{Setting, State}
-use Rattle.lc_model.specs.declared.refusal.Refusal.{Refusal}
-use Rattle.lc_model.specs.declared.refusal.Refusal.TheVariants.{Down as IsDown, Unknown}
 use Rattle.lc_core.specs.Numbers.{Numbers}
 use Rattle.lc_core.specs.Slots.{segment_to}
 use Rattle.lc_core.specs.World.{FitsWorld}
 use Rattle.lc_core.specs.declared.node.Node.{Node}
 use Rattle.lc_core.specs.declared.phase.Phase.{Phase}
-use Rattle.lc_core.specs.declared.phase.Phase.TheVariants.{Down, Up, Taken}
+use Rattle.lc_core.specs.declared.phase.Phase.TheVariants.{Up}
 use Rattle.lc_core.specs.declared.slot.Slot.{Slot}
 use Rattle.lc_core.specs.declared.world.World.{World}
 
@@ -38,13 +36,6 @@ abbrev pub page_of : List ℕ → ℕ → List ℕ
 page_of bytes page = take 256 (drop (page * 256) bytes)
 
 module _ {D : Type 0} (a : Ghosts D) where
-  -- why no page is shown: the store is down, or a number is outside its geometry
-  abbrev pub page_refusal : Phase D a → ℕ → ℕ → ℕ → Option Refusal
-  page_refusal (Down recovery) node segment page = Some IsDown
-  page_refusal (Up up) node segment page =
-      (let g = up.running.geometry in if is_node g node && is_segment g segment && is_page g page then None else Some Unknown)
-  page_refusal Taken node segment page = Some IsDown
-
   -- these are the bytes, whatever it fits
   abbrev pub ShowsPage : World D a → ℕ → ℕ → ℕ → List ℕ → Type 0
   ShowsPage w node segment page bytes =

@@ -15,6 +15,7 @@ use Rattle.lc_model.specs.declared.reply.Reply.TheVariants.{Acked, Nothing, Refu
 use Rattle.lc_core.specs.Calls.{CallsArea}
 use Rattle.lc_core.specs.Faults.{CountsPhase}
 use Rattle.lc_core.specs.Geometries.{RefusesOutside, phase_geometry}
+use Rattle.lc_core.specs.MayReply.{may_reply}
 use Rattle.lc_core.specs.PageState.{is_begun}
 use Rattle.lc_core.specs.Recovers.{RefusesAtOnce}
 use Rattle.lc_core.specs.Uncommitted.{HasSeatOn}
@@ -149,7 +150,8 @@ module _ {D : Type 0} (a : Ghosts D) where
     pub faults : CountsPhase a old.phase reply new.phase
     pub geometry : phase_geometry a new.phase ≡ phase_geometry a old.phase
     pub unknown : RefusesOutside a old.phase event reply
-    pub calls : CallsArea a old.phase new.phase
+    pub calls : CallsArea a old.phase event reply new.phase
+    pub names : may_reply event reply ≡ true
 
   -- the event again and again, as long as more is to come, this often and once more at most; the last reply is this
   abbrev pub Repeats : ℕ → Event → World D a → Reply → World D a → Type 0

@@ -1,5 +1,5 @@
 //! What a store does.
-ghost use Rattle.std.specs.Prelude.{◌≡◌, List, IfOk, OnErr};
+ghost use Rattle.std.specs.Prelude.{◌≡◌, true, List, IfOk, OnErr};
 ghost use Rattle.lc_disk.specs.declared.choice.Choice.{Choice};
 ghost use Rattle.lc_model.specs.declared.event.Event.TheVariants.{RecoverStep, Stop};
 ghost use Rattle.lc_model.specs.declared.reply.Reply.TheVariants.{Down as IsDown};
@@ -17,9 +17,11 @@ impl<D: Stoppable + Drop> World<D> {
     ghost use Rattle.lc_core.specs.Calls.{CallsArea, KeepsAreas};
     ghost use Rattle.lc_core.specs.Geometries.{RefusesOutside, phase_geometry};
     ghost use Rattle.lc_core.specs.Lives.{Anyhow, StillLives};
+    ghost use Rattle.lc_core.specs.MayReply.{may_reply};
     ghost use Rattle.lc_core.specs.Recovers.{RecoversDown, RefusesAtOnce};
 
-    /// An event. It makes at most one call of an area; a stop stops each area, and calls none.
+    /// An event. Each step of a flush, a page write, a reset and a recovery makes one call of one area, but the first and the last
+    /// of a reset and the merge of a recovery, which make none; any other event makes none. A stop stops each area.
     ///
     /// # Errors
     ///
@@ -36,6 +38,9 @@ impl<D: Stoppable + Drop> World<D> {
         ensures anyhow { IfOk result (λ reply. ((choices : List (List Choice)) → event.now ≡ Stop choices → ⊥)
             → Anyhow D.Area self.old.phase event.now reply self.new.phase) }
         ensures still { OnErr result (StillLives D.Area self.old.phase self.new.phase) }
+
+        // Which replies an event may get at all, whatever the store holds.
+        ensures names { IfOk result (λ reply. may_reply event.now reply ≡ true) }
 
         // Whatever the areas hold: what may want memory at all, what is refused at once, and what a step of a recovery answers.
         ensures memory { OnErr result (AsksIn D.Area self.old.phase event.now) }
@@ -56,8 +61,9 @@ impl<D: Stoppable + Drop> World<D> {
         ensures geometry { phase_geometry D.Area self.new.phase ≡ phase_geometry D.Area self.old.phase }
         ensures unknown { IfOk result (RefusesOutside D.Area self.old.phase event.now) }
 
-        // One call of one area, or none; behind want of memory none.
-        ensures calls { ((choices : List (List Choice)) → event.now ≡ Stop choices → ⊥) → CallsArea D.Area self.old.phase self.new.phase }
+        // One call of one area where the reply tells of it, of an area that the event names, and else none.
+        ensures calls { IfOk result (λ reply. ((choices : List (List Choice)) → event.now ≡ Stop choices → ⊥)
+            → CallsArea D.Area self.old.phase event.now reply self.new.phase) }
         ensures kept { OnErr result (KeepsAreas D.Area self.old.phase self.new.phase) }
     {
         if let Event::RecoverStep = event {

@@ -1,12 +1,12 @@
 //! How a transaction begins, layer by layer of a store.
-ghost use Rattle.std.specs.Prelude.{◌≡◌, ◌<◌, ℕ, Ok, None, true, false, vec_len};
+ghost use Rattle.std.specs.Prelude.{◌≡◌, ◌<◌, ℕ, Ok, None, true, vec_len};
 ghost use Rattle.std.specs.Option.{ForSome};
 ghost use Rattle.lc_model.specs.Refusals.{is_known, named};
 ghost use Rattle.lc_model.specs.declared.event.Event.TheVariants.{Begin};
 ghost use Rattle.lc_model.specs.declared.reply.Reply.TheVariants.{Refused};
-ghost use Rattle.lc_core.specs.FaultReplies.{is_device_fault};
 ghost use Rattle.lc_core.specs.Geometries.{RefusesUnknown};
 ghost use Rattle.lc_core.specs.Layers.{StepsRunning, StepsUp};
+ghost use Rattle.lc_core.specs.MayReply.{is_common};
 ghost use Rattle.lc_core.specs.NodeSteps.{StepsNode};
 ghost use Rattle.lc_core.specs.Refuses.{ActsRunning, Refuses};
 
@@ -56,7 +56,7 @@ impl<D: Area + Drop> Running<D> {
         reading: &[u32],
     ) -> Option<Refusal>
         ensures refused { Refuses D.Area self.now (Begin node thread segments.now reading.now) result }
-        ensures answer { ForSome result (λ refusal. is_device_fault refusal ≡ false) }
+        ensures names { ForSome result (λ refusal. is_common refusal ≡ true) }
         ensures unknown { ForSome result (λ refusal. RefusesUnknown self.now.geometry (Begin node thread segments.now reading.now) (Refused refusal)) }
         ensures known { result ≡ None → is_known self.now.geometry (Begin node thread segments.now reading.now) ≡ true }
         ensures running { result ≡ None → ActsRunning D.Area (named (Begin node thread segments.now reading.now)) self.now.nodes.items }

@@ -3,7 +3,7 @@ ghost use Rattle.std.specs.Prelude.{◌≡◌, ◌<◌, ℕ, vec_len, IfOk, OnEr
 ghost use Rattle.lc_model.specs.declared.event.Event.TheVariants.{Begin};
 ghost use Rattle.lc_core.specs.FollowsDesk.{FollowsOpen, StillFits};
 ghost use Rattle.lc_core.specs.Here.{the_images};
-ghost use Rattle.lc_core.specs.FaultReplies.{is_own_reply};
+ghost use Rattle.lc_core.specs.MayReply.{done_or, may_refuse_begin};
 
 use crate::desk::Desk;
 use crate::refused::refused;
@@ -25,7 +25,7 @@ impl Desk {
         ensures err { OnErr result (StillFits self.old self.new) }
         ensures memory { OnErr result ⊥ }
         ensures seats { vec_len self.new.seats ≡ vec_len self.old.seats }
-        ensures answer { IfOk result (λ reply. is_own_reply reply ≡ true) }
+        ensures names { IfOk result (λ reply. done_or may_refuse_begin reply ≡ true) }
     {
         let seat = &mut self.seats[thread as usize];
         if !seat.is_free() {

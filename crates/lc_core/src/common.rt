@@ -1,10 +1,10 @@
 //! What a store that is up refuses before any row is asked.
-ghost use Rattle.std.specs.Prelude.{◌≡◌, true, None, false};
+ghost use Rattle.std.specs.Prelude.{◌≡◌, true, None};
 ghost use Rattle.lc_model.specs.Refusals.{is_known, named};
 ghost use Rattle.lc_core.specs.Refuses.{Refuses, ActsRunning};
 ghost use Rattle.std.specs.Option.{ForSome};
-ghost use Rattle.lc_core.specs.FaultReplies.{is_device_fault};
 ghost use Rattle.lc_core.specs.Geometries.{RefusesUnknown};
+ghost use Rattle.lc_core.specs.MayReply.{is_common};
 ghost use Rattle.lc_model.specs.declared.reply.Reply.TheVariants.{Refused};
 
 use crate::named::{acting_node, is_known};
@@ -16,7 +16,7 @@ impl<D: Area + Drop> Running<D> {
     /// Why an event is refused at once, whatever it asks for: what it names is unknown, or its node is halted.
     pub(crate) fn refusal(&self, event: &Event) -> Option<Refusal>
         ensures refused { Refuses D.Area self.now event.now result }
-        ensures answer { ForSome result (λ refusal. is_device_fault refusal ≡ false) }
+        ensures names { ForSome result (λ refusal. is_common refusal ≡ true) }
         ensures unknown { ForSome result (λ refusal. RefusesUnknown self.now.geometry event.now (Refused refusal)) }
         ensures known { result ≡ None → is_known self.now.geometry event.now ≡ true }
         ensures running { result ≡ None → ActsRunning D.Area (named event.now) self.now.nodes.items }

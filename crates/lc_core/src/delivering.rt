@@ -1,12 +1,12 @@
 //! How a record that a node has published comes to a node.
-ghost use Rattle.std.specs.Prelude.{◌≡◌, true, IfOk, OnErr, false};
+ghost use Rattle.std.specs.Prelude.{◌≡◌, true, IfOk, OnErr};
 ghost use Rattle.lc_record.specs.Part.{number_in};
+ghost use Rattle.lc_model.specs.Machine.{may_deliver};
 ghost use Rattle.lc_model.specs.Refusals.{is_known};
 ghost use Rattle.lc_model.specs.declared.event.Event.TheVariants.{Deliver};
 ghost use Rattle.lc_core.specs.Delivers.{Brings, WantsPart};
 ghost use Rattle.lc_core.specs.Receives.{reply_of};
 ghost use Rattle.lc_core.specs.Running.{FollowsRow, StillFitsAll};
-ghost use Rattle.lc_core.specs.FaultReplies.{is_fault};
 ghost use Rattle.lc_core.specs.Faults.{SameLogs};
 
 use crate::publishing::Published;
@@ -46,7 +46,7 @@ impl<D: Area + Drop> Running<D> {
         ensures follows { IfOk result (λ reply. FollowsRow D.Area self.old (Deliver sender number segment to) reply self.new) }
         ensures memory { OnErr result (WantsPart D.Area sender number segment to self.old) }
         ensures err { OnErr result (StillFitsAll D.Area self.old self.new) }
-        ensures answer { IfOk result (λ reply. is_fault reply ≡ false) }
+        ensures names { IfOk result (λ reply. may_deliver reply ≡ true) }
         ensures logs { SameLogs D.Area self.old self.new }
     {
         match self.delivery(alloc, sender, number, segment, to)? {

@@ -5,7 +5,7 @@ ghost use Rattle.lc_core.specs.Here.{the_images};
 ghost use Rattle.lc_core.specs.Seats.{AllRun, AreShort};
 ghost use Rattle.lc_core.specs.Slots.{AreInPlace, besides_of};
 ghost use Rattle.lc_core.specs.Seat.{Free};
-ghost use Rattle.lc_core.specs.FaultReplies.{is_own_reply};
+ghost use Rattle.lc_core.specs.MayReply.{done_or, is_turn};
 
 use crate::here::Here;
 use crate::seat::Seat;
@@ -57,7 +57,7 @@ impl Desk {
         ensures follows { (node : ℕ) → FollowsOpen node self.old (Abort node thread) result self.new }
         ensures beside { the_images.IsSameBeside self.old.here self.new.here }
         ensures seats { vec_len self.new.seats ≡ vec_len self.old.seats }
-        ensures answer { is_own_reply result ≡ true }
+        ensures names { done_or is_turn result ≡ true }
     {
         let seat = &mut self.seats[thread as usize];
         if !seat.is_open() {

@@ -9,7 +9,7 @@ ghost use Rattle.lc_core.specs.Calls.{CallsEach};
 ghost use Rattle.lc_core.specs.Headline.{Headline};
 ghost use Rattle.lc_core.specs.Lives.{FitsLife, Life, Lives};
 ghost use Rattle.lc_core.specs.Observed.{observed};
-ghost use Rattle.lc_core.specs.Runs.{AsksNext, GrowsNext, OnAreas, Settles};
+ghost use Rattle.lc_core.specs.Runs.{AreSettled, AsksNext, GrowsNext, OnAreas, Settles};
 
 use crate::world::World;
 use crate::{Event, RunResult};
@@ -24,7 +24,7 @@ use std::alloc::Global;
 /// Where the areas keep to the model of a disk, and whatever a stop may have left of them merges to one result: the answers are
 /// a run of the machine of plain transactions, and whatever a stop leaves of the areas now merges to the value of a prefix of a
 /// serial order of the committed transactions that has every acknowledged commit. Each reply is the settled one, and the
-/// store fits where the run has come to. Each event makes one call of one area at most, and a stop stops each.
+/// store fits where the run has come to. Each event calls an area just where its reply tells of it, and a stop stops each.
 ///
 /// # Errors
 ///
@@ -38,6 +38,8 @@ pub fn run_areas<D: Stoppable + Drop>(
 ) -> Result<(World<D>, RunResult), (Vec<D>, RecoverFault)>
     ensures headline { IfOk result (λ ran. Headline D.Area geometry areas.items
         (take (length ran.1.replies.items) events.now) ran.1.replies.items (observed D.Area ran.0)) }
+    ensures settled { IfOk result (λ ran. OnAreas D.Area geometry areas.items (λ m x.
+        AreSettled m x (take (length ran.1.replies.items) events.now) ran.1.replies.items)) }
     ensures fits { IfOk result (λ ran. OnAreas D.Area geometry areas.items (λ m x.
         Settles D.Area m x (take (length ran.1.replies.items) events.now) ran.1.replies.items ran.0)) }
     // Whatever the areas are: what comes up has the content of a store that was read, and up to the next stop each reply is one of
@@ -45,7 +47,7 @@ pub fn run_areas<D: Stoppable + Drop>(
     ensures lives { IfOk result (λ ran. (after : Option Life) × Lives geometry None (take (length ran.1.replies.items) events.now)
         ran.1.replies.items after × FitsLife D.Area geometry after ran.0.phase) }
     ensures calls { IfOk result (λ ran. (g : TheGeometry) (news : List D) → (observed D.Area ran.0).gives g news
-        → CallsEach D.Area D.left (take (length ran.1.replies.items) events.now) areas.items news) }
+        → CallsEach D.Area D.left geometry (take (length ran.1.replies.items) events.now) ran.1.replies.items areas.items news) }
     ensures all { IfOk result (λ ran. ran.1.out_of_memory ≡ false
         → length ran.1.replies.items ≡ length events.now) }
     ensures some { IfOk result (λ ran. ran.1.out_of_memory ≡ true

@@ -5,7 +5,9 @@ ghost use Rattle.lc_model.specs.declared.reply.Reply.TheVariants.{Nothing};
 ghost use Rattle.lc_core.specs.Log.{StepsTo, CallsOnce, end_of, under_way, size, is_idle, is_sealed, is_failed};
 ghost use Rattle.lc_core.specs.Records.{count_of, front_of, span_of};
 ghost use Rattle.lc_core.specs.Journal.{reply_of, acked_after};
+ghost use Rattle.lc_core.specs.CallReplies.{tells_call};
 ghost use Rattle.lc_core.specs.FaultReplies.{TellsFault};
+ghost use Rattle.lc_core.specs.MayReply.{may_flush, or_fault};
 
 use crate::log::Log;
 use crate::records::Records;
@@ -54,13 +56,14 @@ impl<D: Area + Drop> Journal<D> {
     pub(crate) fn flush_step(&mut self) -> Reply
         requires up { is_failed D.Area self.old.log ≡ false }
         ensures follows { (node : ℕ) → FollowsLog D.Area node self.old (FlushStep node) result self.new }
+        ensures names { or_fault may_flush result ≡ true }
         ensures nothing { result ≡ Nothing → self.new ≡ self.old }
         ensures words { self.new.words ≡ self.old.words }
         ensures round { self.new.round ≡ self.old.round }
 
-        // One call of the device, or none.
+        // One call of the device, unless nothing waits.
         ensures device { (result ≡ Nothing → ⊥) → CallsOnce D.Area self.old.log self.new.log }
-        ensures fault { TellsFault D.Area result self.old.log self.new.log }
+        ensures fault { TellsFault D.Area (tells_call result) result self.old.log self.new.log }
     {
         if self.log.is_sealed() {
             return Reply::Nothing;

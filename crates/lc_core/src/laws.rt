@@ -185,7 +185,7 @@ pub(crate) fn any_areas<D: Area>()
         is_plain event ≡ true → later.segments ≡ up.segments → SameDevices D.Area up.running later.running →
         FollowsStep D.Area writing up.running event reply later.running → TellsWriting m x event writing →
         FitsUp D.Area m up s x → LeadsTo m event s x reply (FitsUp D.Area m later) }
-    ensures honest { (up new : ItsUp D D.Area) → CallsArea D.Area (IsUpNow up) (IsUpNow new) → HonestUp D.Area up → HonestUp D.Area new }
+    ensures honest { (up new : ItsUp D D.Area) (event : Event) (reply : Reply) → CallsArea D.Area (IsUpNow up) event reply (IsUpNow new) → HonestUp D.Area up → HonestUp D.Area new }
     ensures anew { (new : Recovering D) → AreHonest D.Area new.areas → HaveLengths D.Area new.geometry new.areas → IsMerged D.Area new →
         ((k : ℕ) (area : D) → slice_get new.areas k ≡ Some area → (at : ℕ) → D.dirty area at ≡ false) →
         StartsAnew D.Area new.geometry new.steps (IsDownNow new) }

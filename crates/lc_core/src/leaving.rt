@@ -1,7 +1,9 @@
 //! How a token leaves a node.
-ghost use Rattle.std.specs.Prelude.{◌≡◌, ◌≤◌, ◌-◌, ◌↔◌, true, false, vec_len, slice_get, IsOk, IfOk, Err};
+ghost use Rattle.std.specs.Prelude.{◌≡◌, ◌≤◌, ◌-◌, ◌↔◌, true, false, vec_len, slice_get, IsOk, IfOk, IfErr, Err};
 ghost use Rattle.std.specs.Option.{ForSome};
 ghost use Rattle.lc_core.specs.Leaves.{Leaves, MayLeave};
+ghost use Rattle.lc_core.specs.MayReply.{may_refuse_leave};
+ghost use Rattle.lc_core.specs.TokenRefused.{token_refusal};
 
 use crate::desk::Desk;
 use lc_token::{Token, TokenFault};
@@ -29,6 +31,7 @@ impl Desk {
         ensures writing { (result ≡ Err TokenFault.Writing) → (writing ≡ true) }
         ensures unflushed { (result ≡ Err TokenFault.Unflushed) → (writing ≡ false) }
         ensures segment { IfOk result (λ token. token.segment ≡ segment) }
+        ensures names { IfErr result (λ fault. ForSome (token_refusal fault) (λ refusal. may_refuse_leave refusal ≡ true)) }
         ensures leaves { Leaves segment writing reserved stable self.old result self.new }
     {
         let slot = &mut self.here.slots[segment as usize - 1];

@@ -1,5 +1,5 @@
 //! A node's log between two steps.
-ghost use Rattle.std.specs.Prelude.{◌≡◌, ◌+◌, ◌*◌, ◌≤◌, ℕ, true, List, length, option_copied};
+ghost use Rattle.std.specs.Prelude.{◌≡◌, ◌+◌, ◌*◌, ◌≤◌, ℕ, true, false, List, length, option_copied};
 ghost use Rattle.lc_record.specs.declared.record.Record.{Record};
 ghost use Rattle.lc_core.specs.Log.{Stands, HasReset, StepsTo, ResetsTo, MovesReset, HasRoom, KeepsRoom, MovesOn, CallsOnce, Seals, Unseals, area_of, taken_by, is_idle, is_sealed, is_emptied, is_failed};
 
@@ -28,10 +28,11 @@ pub(crate) enum Log<D: Area> {
 }
 
 impl<D: Area> Log<D> {
-    /// The next of the four steps of a flush, one call of the device; the first writes the group. A log that failed, and
-    /// one that is being reset, stays as it is.
+    /// The next of the four steps of a flush, one call of the device; the first writes the group. A log that failed stays as it
+    /// is.
     pub(crate) fn flush_step(self, group: &Group) -> Log<D>
         requires room { HasRoom D.Area self (taken_by D.Area self (length group.now.words)) }
+        requires free { is_sealed D.Area self ≡ false }
         ensures steps { StepsTo D.Area self group.now.words result }
         ensures room { KeepsRoom D.Area self (length group.now.words) result }
         ensures ends { MovesOn D.Area self (length group.now.words) result }
@@ -58,9 +59,10 @@ impl<D: Area> Log<D> {
         }
     }
 
-    /// The call that a reset which is under way makes next: it closes the first gate, and then makes that stable. Any other
-    /// log stays as it is.
+    /// The call that a reset which is under way makes next: it closes the first gate, and then makes that stable.
     pub(crate) fn reset_step(self) -> Log<D>
+        requires sealed { is_sealed D.Area self ≡ true }
+        requires full { is_emptied D.Area self ≡ false }
         ensures steps { ResetsTo D.Area self result }
         ensures ends { MovesReset D.Area self result }
         ensures device { CallsOnce D.Area self result }

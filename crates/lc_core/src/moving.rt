@@ -3,7 +3,7 @@ ghost use Rattle.std.specs.Prelude.{◌≡◌, true};
 ghost use Rattle.lc_model.specs.Refusals.{is_known};
 ghost use Rattle.lc_model.specs.declared.event.Event.TheVariants.{Arrive, Leave};
 ghost use Rattle.lc_core.specs.Running.{FollowsLeaving, FollowsRow};
-ghost use Rattle.lc_core.specs.FaultReplies.{is_own_reply};
+ghost use Rattle.lc_core.specs.MayReply.{done_or, may_refuse_arrive, may_refuse_leave};
 ghost use Rattle.lc_core.specs.Faults.{SameLogs};
 
 use crate::running::Running;
@@ -16,7 +16,7 @@ impl<D: Area + Drop> Running<D> {
     pub(crate) fn leave(&mut self, node: u16, segment: u32, writing: bool) -> Reply
         requires known { is_known self.old.geometry (Leave node segment) ≡ true }
         ensures follows { FollowsLeaving D.Area node segment writing self.old result self.new }
-        ensures answer { is_own_reply result ≡ true }
+        ensures names { done_or may_refuse_leave result ≡ true }
         ensures logs { SameLogs D.Area self.old self.new }
     {
         match self.nodes[node as usize].leave(segment, writing) {
@@ -32,7 +32,7 @@ impl<D: Area + Drop> Running<D> {
     pub(crate) fn arrive(&mut self, node: u16, segment: u32) -> Reply
         requires known { is_known self.old.geometry (Arrive node segment) ≡ true }
         ensures follows { FollowsRow D.Area self.old (Arrive node segment) result self.new }
-        ensures answer { is_own_reply result ≡ true }
+        ensures names { done_or may_refuse_arrive result ≡ true }
         ensures logs { SameLogs D.Area self.old self.new }
     {
         let place = segment as usize - 1;

@@ -3,7 +3,10 @@ ghost use Rattle.std.specs.Prelude.{◌≡◌, ◌-◌, ◌+◌, ◌<◌, ◌≤
 ghost use Rattle.lc_core.specs.Log.{is_failed, is_sealed};
 ghost use Rattle.lc_core.specs.declared.slot.Slot.{Slot};
 ghost use Rattle.lc_model.specs.declared.event.Event.TheVariants.{Close, FlushStep, ResetStep};
-ghost use Rattle.lc_core.specs.FaultReplies.{TellsFault, is_own_refusal, is_own_reply};
+ghost use Rattle.lc_core.specs.CallReplies.{tells_but, tells_call};
+ghost use Rattle.lc_core.specs.FaultReplies.{TellsFault};
+ghost use Rattle.lc_core.specs.MayReply.{done_or, is_turn, may_flush, may_refuse_arrive, may_refuse_leave, may_reserve, or_fault};
+ghost use Rattle.lc_model.specs.Machine.{may_reset};
 
 use crate::desk::Desk;
 use crate::ending::Ending;
@@ -41,7 +44,7 @@ impl<D: Area + Drop> Node<D> {
         ensures memory { OnErr result (WantsPlace D.Area node thread (is_sealed D.Area self.old.journal.log) self.old) }
         ensures err { OnErr result (StillFitsNode D.Area self.old self.new) }
         ensures whole { HasSameRoom D.Area self.old self.new }
-        ensures answer { IfOk result (λ reply. is_own_reply reply ≡ true) }
+        ensures names { IfOk result (λ reply. may_reserve reply ≡ true) }
         ensures log { self.new.journal.log ≡ self.old.journal.log }
     {
         let log = LogEnd {
@@ -70,7 +73,7 @@ impl<D: Area + Drop> Node<D> {
         requires seat { thread < vec_len self.old.desk.seats }
         ensures follows { (node : ℕ) → FollowsNode D.Area node (Close node thread) self.old result self.new }
         ensures whole { HasSameRoom D.Area self.old self.new }
-        ensures answer { is_own_reply result ≡ true }
+        ensures names { done_or is_turn result ≡ true }
         ensures log { self.new.journal.log ≡ self.old.journal.log }
     {
         let Some(number) = self.desk.count(thread) else {
@@ -86,7 +89,8 @@ impl<D: Area + Drop> Node<D> {
         requires up { is_failed D.Area self.old.journal.log ≡ false }
         ensures follows { (node : ℕ) → FollowsNode D.Area node (FlushStep node) self.old result self.new }
         ensures whole { HasSameRoom D.Area self.old self.new }
-        ensures device { TellsFault D.Area result self.old.journal.log self.new.journal.log }
+        ensures device { TellsFault D.Area (tells_call result) result self.old.journal.log self.new.journal.log }
+        ensures names { or_fault may_flush result ≡ true }
     {
         self.journal.flush_step()
     }
@@ -96,7 +100,8 @@ impl<D: Area + Drop> Node<D> {
         requires up { is_failed D.Area self.old.journal.log ≡ false }
         ensures follows { (node : ℕ) → FollowsNode D.Area node (ResetStep node) self.old result self.new }
         ensures whole { HasSameRoom D.Area self.old self.new }
-        ensures device { TellsFault D.Area result self.old.journal.log self.new.journal.log }
+        ensures device { TellsFault D.Area (tells_but 1 result) result self.old.journal.log self.new.journal.log }
+        ensures names { or_fault may_reset result ≡ true }
     {
         self.journal.reset_step(&self.known)
     }
@@ -113,7 +118,7 @@ impl<D: Area + Drop> Node<D> {
         ensures follows { FollowsLeave D.Area segment writing self.old result self.new }
         ensures segment { IfOk result (λ token. token.segment ≡ segment) }
         ensures whole { HasSameRoom D.Area self.old self.new }
-        ensures answer { IfErr result (λ refusal. is_own_refusal refusal ≡ true) }
+        ensures names { IfErr result (λ refusal. may_refuse_leave refusal ≡ true) }
         ensures log { self.new.journal.log ≡ self.old.journal.log }
     {
         let reserved = self.journal.records.count();
@@ -138,7 +143,7 @@ impl<D: Area + Drop> Node<D> {
         requires slot { token.segment ≤ vec_len self.old.desk.here.slots }
         ensures follows { FollowsArrive D.Area token self.old result self.new }
         ensures whole { HasSameRoom D.Area self.old self.new }
-        ensures answer { IfErr result (λ back. is_own_refusal back.1 ≡ true) }
+        ensures names { IfErr result (λ back. may_refuse_arrive back.1 ≡ true) }
         ensures log { self.new.journal.log ≡ self.old.journal.log }
         ensures stands { (slot : Slot) → slice_get self.old.desk.here.slots.items (token.segment - 1) ≡ Some slot → IsSome slot.token.token
             → (result ≡ Err (token, Refusal.OutOfTurn)) × (self.new ≡ self.old) }

@@ -1,9 +1,11 @@
 //! The device calls of a page write, one by one.
-ghost use Rattle.std.specs.Prelude.{◌≡◌, ◌<◌, ◌≤◌, ◌-◌, false, not, Some, IsSome, vec_len, slice_get};
-ghost use Rattle.lc_log.specs.OneCall.{IsOneCall};
+ghost use Rattle.std.specs.Prelude.{◌≡◌, ◌<◌, ◌≤◌, ◌-◌, ◌||◌, true, false, Some, IsSome, vec_len, slice_get};
 ghost use Rattle.lc_page.specs.declared.writing.Writing.{Writing};
-ghost use Rattle.lc_core.specs.FaultReplies.{is_fault, is_unknown};
+ghost use Rattle.lc_core.specs.CallReplies.{CalledAs};
+ghost use Rattle.lc_core.specs.FaultReplies.{is_unknown};
 ghost use Rattle.lc_core.specs.Log.{area_of};
+ghost use Rattle.lc_core.specs.MayReply.{or_fault, refuses_common};
+ghost use Rattle.lc_model.specs.Machine.{may_page};
 ghost use Rattle.lc_core.specs.declared.page_state.PageState.TheVariants.{AtRest as Rests, UnderWay as IsUnderWay};
 ghost use Rattle.lc_core.specs.declared.slot.Slot.{Slot};
 
@@ -25,10 +27,11 @@ impl<D: Area + Drop> Node<D> {
         requires slot { segment ≤ vec_len self.old.desk.here.slots }
         requires page { page < vec_len pages.old.writes }
         ensures follows { FollowsPage D.Area segment page self.old pages.old result self.new pages.new }
+        ensures names { (or_fault may_page result || refuses_common result) ≡ true }
         ensures whole { HasSameRoom D.Area self.old self.new }
 
-        // One call of the device, or none, and none of the log's.
-        ensures device { IsOneCall D.Area (not (is_fault result)) pages.old.area pages.new.area }
+        // One call of the device where the reply tells of it, and none of the log's.
+        ensures device { CalledAs D.Area result pages.old.area pages.new.area }
         ensures log { area_of D.Area self.new.journal.log ≡ area_of D.Area self.old.journal.log }
         ensures known { is_unknown result ≡ false }
         ensures pages { vec_len pages.new.writes ≡ vec_len pages.old.writes }
@@ -53,8 +56,9 @@ impl<D: Area + Drop> Node<D> {
         requires here { (slot : Slot) → slice_get self.old.desk.here.slots.items (segment - 1) ≡ Some slot → IsSome slot.token.token }
         requires rests { slice_get pages.old.writes.items page ≡ Some Rests }
         ensures follows { FollowsPage D.Area segment page self.old pages.old result self.new pages.new }
+        ensures names { or_fault may_page result ≡ true }
         ensures whole { HasSameRoom D.Area self.old self.new }
-        ensures device { IsOneCall D.Area (not (is_fault result)) pages.old.area pages.new.area }
+        ensures device { CalledAs D.Area result pages.old.area pages.new.area }
         ensures log { area_of D.Area self.new.journal.log ≡ area_of D.Area self.old.journal.log }
         ensures known { is_unknown result ≡ false }
         ensures pages { vec_len pages.new.writes ≡ vec_len pages.old.writes }
@@ -85,8 +89,9 @@ impl<D: Area + Drop> Node<D> {
         requires here { (slot : Slot) → slice_get self.old.desk.here.slots.items (segment - 1) ≡ Some slot → IsSome slot.token.token }
         requires begun { (write : Writing) × (slice_get pages.old.writes.items page ≡ Some (IsUnderWay write)) }
         ensures follows { FollowsPage D.Area segment page self.old pages.old result self.new pages.new }
+        ensures names { or_fault may_page result ≡ true }
         ensures whole { HasSameRoom D.Area self.old self.new }
-        ensures device { IsOneCall D.Area (not (is_fault result)) pages.old.area pages.new.area }
+        ensures device { CalledAs D.Area result pages.old.area pages.new.area }
         ensures log { area_of D.Area self.new.journal.log ≡ area_of D.Area self.old.journal.log }
         ensures known { is_unknown result ≡ false }
         ensures pages { vec_len pages.new.writes ≡ vec_len pages.old.writes }

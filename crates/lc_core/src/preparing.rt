@@ -3,7 +3,7 @@ ghost use Rattle.std.specs.Prelude.{◌≡◌, ◌<◌, ◌≤◌, vec_len, IfOk
 ghost use Rattle.lc_core.specs.FollowsDesk.{StillFits};
 ghost use Rattle.lc_core.specs.Here.{the_images};
 ghost use Rattle.lc_core.specs.Prepares.{HasRoom, IsShort, IsUnsealed, Keeps, Prepares, WantsRecord};
-ghost use Rattle.lc_core.specs.FaultReplies.{ends_own};
+ghost use Rattle.lc_core.specs.MayReply.{may_end};
 
 use crate::Refusal;
 use crate::desk::Desk;
@@ -35,7 +35,7 @@ impl Desk {
         ensures kept { OnErr result (IsShort node thread self.old) }
         ensures err { OnErr result (StillFits self.old self.new) }
         ensures seats { vec_len self.new.seats ≡ vec_len self.old.seats }
-        ensures answer { IfOk result (λ ending. ends_own ending ≡ true) }
+        ensures names { IfOk result (λ ending. may_end ending ≡ true) }
     {
         let Some(tx) = self.seats[thread as usize].open() else {
             return Ok(Ending::Refused(Refusal::OutOfTurn));

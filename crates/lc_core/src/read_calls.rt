@@ -3,7 +3,7 @@ ghost use Rattle.std.specs.Prelude.{◌≡◌, ◌↔◌, ◌+◌, ◌≤◌, �
 ghost use Rattle.lc_record.specs.Transaction.{is_member};
 ghost use Rattle.lc_model.specs.declared.event.Event.TheVariants.{Read};
 ghost use Rattle.lc_model.specs.declared.reply.Reply.TheVariants.{Bytes, Refused};
-ghost use Rattle.lc_core.specs.FaultReplies.{is_own_refusal};
+ghost use Rattle.lc_core.specs.MayReply.{may_refuse_read};
 ghost use Rattle.lc_core.specs.FollowsDesk.{FollowsOpen};
 ghost use Rattle.lc_core.specs.Here.{the_images};
 ghost use Rattle.lc_core.specs.Layers.{StepsRunning, StepsUp};
@@ -75,7 +75,7 @@ impl Desk {
         ensures bytes { IfOk result (λ bytes. (node : ℕ) → FollowsOpen node self.now (Read node thread segment offset len) (Bytes bytes.now) self.now) }
         ensures refused { IfErr result (λ refusal. (node : ℕ) → FollowsOpen node self.now (Read node thread segment offset len) (Refused refusal) self.now) }
         ensures len { IfOk result (λ bytes. length bytes.now ≡ len) }
-        ensures answer { IfErr result (λ refusal. is_own_refusal refusal ≡ true) }
+        ensures names { IfErr result (λ refusal. may_refuse_read refusal ≡ true) }
     {
         let Some(tx) = self.seats[thread as usize].open() else {
             return Err(Refusal::OutOfTurn);

@@ -4,7 +4,7 @@ ghost use Rattle.lc_model.specs.declared.event.Event.TheVariants.{Read};
 ghost use Rattle.lc_core.specs.FollowsDesk.{FollowsOpen, StillFits};
 ghost use Rattle.lc_core.specs.Growing.{MayReadSome};
 ghost use Rattle.lc_core.specs.Here.{the_images};
-ghost use Rattle.lc_core.specs.FaultReplies.{is_own_reply};
+ghost use Rattle.lc_core.specs.MayReply.{may_read};
 
 use crate::desk::Desk;
 use crate::refused::refused;
@@ -28,7 +28,7 @@ impl Desk {
         ensures err { OnErr result (StillFits self.old self.new) }
         ensures memory { OnErr result (MayReadSome thread segment offset len self.old) }
         ensures seats { vec_len self.new.seats ≡ vec_len self.old.seats }
-        ensures answer { IfOk result (λ reply. is_own_reply reply ≡ true) }
+        ensures names { IfOk result (λ reply. may_read reply ≡ true) }
     {
         let Some(tx) = self.seats[thread as usize].open() else {
             return Ok(Reply::Refused(Refusal::OutOfTurn));

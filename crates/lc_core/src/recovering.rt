@@ -22,7 +22,7 @@ impl<D: Area + Drop> World<D> {
     ghost use Rattle.lc_core.specs.FaultReplies.{is_unknown};
     ghost use Rattle.lc_core.specs.Faults.{CountsPhase, phase_failures};
     ghost use Rattle.lc_core.specs.Geometries.{phase_geometry};
-    ghost use Rattle.lc_core.specs.Recovering.{is_of_recovery};
+    ghost use Rattle.lc_core.specs.MayReply.{may_recover};
 
     /// The next step of the recovery. The last one takes the memory of all that comes up before its call.
     pub(crate) fn recover_step(&mut self, alloc: Global) -> Result<Reply, AllocError>
@@ -37,9 +37,9 @@ impl<D: Area + Drop> World<D> {
         ensures recovers { IfOk result (λ reply. RecoversDown D.Area self.old.phase reply self.new.phase) }
         ensures geometry { phase_geometry D.Area self.new.phase ≡ phase_geometry D.Area self.old.phase }
         ensures unknown { IfOk result (λ reply. is_unknown reply ≡ false) }
-        ensures calls { CallsArea D.Area self.old.phase self.new.phase }
+        ensures calls { IfOk result (λ reply. CallsArea D.Area self.old.phase RecoverStep reply self.new.phase) }
         ensures kept { OnErr result (KeepsAreas D.Area self.old.phase self.new.phase) }
-        ensures answers { IfOk result (λ reply. is_of_recovery reply ≡ true) }
+        ensures names { IfOk result (λ reply. may_recover reply ≡ true) }
         ensures same { OnErr result (self.new.phase ≡ self.old.phase) }
     {
         let Phase::Down(recovery) = &mut self.phase else {

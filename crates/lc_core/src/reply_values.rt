@@ -1,9 +1,9 @@
-//! What the replies to events are, as values of the calls that have names. The machine gives an event no other reply than
-//! those that are told apart here.
-ghost use Rattle.std.specs.Prelude.{◌≡◌, ℕ, true};
+//! What the replies to events are, as values of the calls that have names. An event gets no other reply than those that are
+//! told apart here.
+ghost use Rattle.std.specs.Prelude.{◌≡◌, ℕ, true, Some};
 ghost use Rattle.lc_model.specs.declared.event.Event.TheVariants.{Deliver, FlushStep, PageStep, Reserve, ResetStep, SetRange, Trim};
 ghost use Rattle.lc_model.specs.declared.event.Event.{Event as Asked};
-ghost use Rattle.lc_core.specs.Answered.{StandsFor, StandsIn, done, emptied, flushed, is_done_or_not, place_taken, range_set, received, trimmed, written};
+ghost use Rattle.lc_core.specs.Answered.{StandsFor, done, emptied, flushed, is_done_or_not, place_taken, range_set, received, trimmed, written};
 
 use crate::call_fault::CallFault;
 use crate::flush_progress::FlushProgress;
@@ -15,7 +15,7 @@ use crate::{Refusal, Reply};
 
 /// Of an event that is done or refused.
 pub(crate) fn done(reply: &Reply) -> Result<(), Refusal>
-    ensures { (event : Asked) → is_done_or_not event ≡ true → StandsFor event (done result) reply.now }
+    ensures { (event : Asked) → is_done_or_not event ≡ true → StandsFor event (Some (done result)) reply.now }
 {
     match reply {
         Reply::Refused(refusal) => Err(*refusal),
@@ -25,7 +25,7 @@ pub(crate) fn done(reply: &Reply) -> Result<(), Refusal>
 
 /// Of a range that is to be set.
 pub(crate) fn range_set(reply: &Reply) -> Result<(), CallFault>
-    ensures { (node thread segment offset len : ℕ) → StandsIn (SetRange node thread segment offset len) (range_set result) reply.now }
+    ensures { (node thread segment offset len : ℕ) → StandsFor (SetRange node thread segment offset len) (range_set result) reply.now }
 {
     match reply {
         Reply::Refused(refusal) => Err(CallFault::Refused(*refusal)),
@@ -35,7 +35,7 @@ pub(crate) fn range_set(reply: &Reply) -> Result<(), CallFault>
 
 /// Of a place in the log that is asked for.
 pub(crate) fn placement(reply: &Reply) -> Result<Placement, CallFault>
-    ensures { (node thread : ℕ) → StandsIn (Reserve node thread) (place_taken result) reply.now }
+    ensures { (node thread : ℕ) → StandsFor (Reserve node thread) (place_taken result) reply.now }
 {
     match reply {
         Reply::Refused(refusal) => Err(CallFault::Refused(*refusal)),
@@ -49,7 +49,7 @@ pub(crate) fn placement(reply: &Reply) -> Result<Placement, CallFault>
 
 /// Of a record that is delivered.
 pub(crate) fn receipt(reply: &Reply) -> Result<Receipt, CallFault>
-    ensures { (sender number segment to : ℕ) → StandsIn (Deliver sender number segment to) (received result) reply.now }
+    ensures { (sender number segment to : ℕ) → StandsFor (Deliver sender number segment to) (received result) reply.now }
 {
     match reply {
         Reply::Refused(refusal) => Err(CallFault::Refused(*refusal)),
@@ -61,7 +61,7 @@ pub(crate) fn receipt(reply: &Reply) -> Result<Receipt, CallFault>
 
 /// Of records that are dropped.
 pub(crate) fn trimmed(reply: &Reply) -> Result<u64, Refusal>
-    ensures { (node : ℕ) → StandsFor (Trim node) (trimmed result) reply.now }
+    ensures { (node : ℕ) → StandsFor (Trim node) (Some (trimmed result)) reply.now }
 {
     match reply {
         Reply::Refused(refusal) => Err(*refusal),
@@ -72,7 +72,7 @@ pub(crate) fn trimmed(reply: &Reply) -> Result<u64, Refusal>
 
 /// Of a step of a flush.
 pub(crate) fn flush_progress(reply: &Reply) -> Result<FlushProgress, Refusal>
-    ensures { (node : ℕ) → StandsFor (FlushStep node) (flushed result) reply.now }
+    ensures { (node : ℕ) → StandsFor (FlushStep node) (Some (flushed result)) reply.now }
 {
     match reply {
         Reply::Refused(refusal) => Err(*refusal),
@@ -84,7 +84,7 @@ pub(crate) fn flush_progress(reply: &Reply) -> Result<FlushProgress, Refusal>
 
 /// Of a step of a page write.
 pub(crate) fn write_progress(reply: &Reply) -> Result<WriteProgress, Refusal>
-    ensures { (node segment page : ℕ) → StandsFor (PageStep node segment page) (written result) reply.now }
+    ensures { (node segment page : ℕ) → StandsFor (PageStep node segment page) (Some (written result)) reply.now }
 {
     match reply {
         Reply::Refused(refusal) => Err(*refusal),
@@ -96,7 +96,7 @@ pub(crate) fn write_progress(reply: &Reply) -> Result<WriteProgress, Refusal>
 
 /// Of a step of a reset.
 pub(crate) fn reset_progress(reply: &Reply) -> Result<ResetProgress, Refusal>
-    ensures { (node : ℕ) → StandsFor (ResetStep node) (emptied result) reply.now }
+    ensures { (node : ℕ) → StandsFor (ResetStep node) (Some (emptied result)) reply.now }
 {
     match reply {
         Reply::Refused(refusal) => Err(*refusal),

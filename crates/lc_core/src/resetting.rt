@@ -4,7 +4,10 @@ ghost use Rattle.lc_record.specs.Record.{IsRecord};
 ghost use Rattle.lc_record.specs.declared.record.Lock.{Lock as Locked};
 ghost use Rattle.lc_record.specs.declared.record.Record.{Record as Spelled};
 ghost use Rattle.lc_trunc.specs.KnownClean.{known as known_of};
-ghost use Rattle.lc_core.specs.FaultReplies.{TellsFault, is_own_reply};
+ghost use Rattle.lc_core.specs.CallReplies.{tells_but};
+ghost use Rattle.lc_core.specs.FaultReplies.{TellsFault};
+ghost use Rattle.lc_core.specs.MayReply.{or_fault};
+ghost use Rattle.lc_model.specs.Machine.{may_reset};
 ghost use Rattle.lc_core.specs.Journal.{reply_of};
 ghost use Rattle.lc_core.specs.Log.{CallsOnce, MovesReset, ResetsTo, area_of, is_emptied, is_failed, is_sealed};
 ghost use Rattle.lc_core.specs.Resets.{FollowsReset, IsLeastUnclean};
@@ -40,11 +43,12 @@ impl<D: Area + Drop> Journal<D> {
     pub(crate) fn reset_step(&mut self, known: &KnownClean) -> Reply
         requires up { is_failed D.Area self.old.log ≡ false }
         ensures follows { (node : ℕ) → FollowsReset D.Area node (known_of known.now) self.old result self.new }
+        ensures names { or_fault may_reset result ≡ true }
         ensures words { self.new.words ≡ self.old.words }
 
-        // One call of the device, or none.
+        // One call of the device; none at the first step and the last.
         ensures device { CallsOnce D.Area self.old.log self.new.log ⊎ (area_of D.Area self.new.log ≡ area_of D.Area self.old.log) }
-        ensures fault { TellsFault D.Area result self.old.log self.new.log }
+        ensures fault { TellsFault D.Area (tells_but 1 result) result self.old.log self.new.log }
     {
         if self.log.is_emptied() {
             return self.end_reset();
@@ -62,7 +66,8 @@ impl<D: Area + Drop> Journal<D> {
         ensures follows { (node : ℕ) → FollowsReset D.Area node (known_of known.now) self.old result self.new }
         ensures words { self.new.words ≡ self.old.words }
         ensures area { area_of D.Area self.new.log ≡ area_of D.Area self.old.log }
-        ensures answer { is_own_reply result ≡ true }
+        ensures names { may_reset result ≡ true }
+        ensures free { tells_but 1 result ≡ false }
     {
         if self.records.count() > self.acked {
             return Reply::Refused(Refusal::Unflushed);
@@ -87,7 +92,8 @@ impl<D: Area + Drop> Journal<D> {
         ensures follows { (node : ℕ) (known : ℕ → ℕ) → FollowsReset D.Area node known self.old result self.new }
         ensures words { self.new.words ≡ self.old.words }
         ensures area { area_of D.Area self.new.log ≡ area_of D.Area self.old.log }
-        ensures answer { is_own_reply result ≡ true }
+        ensures names { may_reset result ≡ true }
+        ensures free { tells_but 1 result ≡ false }
     {
         let log = mem::replace(&mut self.log, Log::Taken);
         self.log = log.unseal();
@@ -100,6 +106,7 @@ impl<D: Area + Drop> Journal<D> {
     /// The call that a reset which is under way makes next.
     pub(crate) fn reset_call(&mut self) -> Reply
         requires sealed { is_sealed D.Area self.old.log ≡ true }
+        requires full { is_emptied D.Area self.old.log ≡ false }
         ensures steps { ResetsTo D.Area self.old.log self.new.log }
         ensures ends { MovesReset D.Area self.old.log self.new.log }
         ensures device { CallsOnce D.Area self.old.log self.new.log }

@@ -18,7 +18,7 @@ impl<D: Stoppable + Drop> World<D> {
         ensures follows { FollowsRun D.Area self.old (take (length result.replies.items) events.now) result.replies.items self.new }
         ensures lives { FollowsLives D.Area self.old.phase (take (length result.replies.items) events.now) result.replies.items self.new.phase }
         ensures faults { CountsAll result.replies.items (phase_failures D.Area self.old.phase) (phase_failures D.Area self.new.phase) }
-        ensures calls { CallsAll D.Area D.left (take (length result.replies.items) events.now) self.old.phase self.new.phase }
+        ensures calls { CallsAll D.Area D.left (take (length result.replies.items) events.now) result.replies.items self.old.phase self.new.phase }
         ensures all { result.out_of_memory ≡ false → length result.replies.items ≡ length events.now }
         ensures some { result.out_of_memory ≡ true → length result.replies.items < length events.now }
         ensures asks { result.out_of_memory ≡ true → GivesUp D.Area self.old events.now result.replies.items self.new }

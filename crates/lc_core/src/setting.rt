@@ -2,7 +2,7 @@
 ghost use Rattle.std.specs.Prelude.{◌≡◌, ◌<◌, ℕ, vec_len, IfOk, OnErr, true};
 ghost use Rattle.lc_model.specs.declared.event.Event.TheVariants.{SetRange};
 ghost use Rattle.lc_core.specs.Here.{the_images};
-ghost use Rattle.lc_core.specs.FaultReplies.{is_own_reply};
+ghost use Rattle.lc_core.specs.MayReply.{done_or, may_refuse_range};
 
 use crate::desk::Desk;
 use crate::refused::refused;
@@ -28,7 +28,7 @@ impl Desk {
         ensures err { OnErr result (StillFits self.old self.new) }
         ensures memory { OnErr result (MaySetMore thread segment offset len self.old) }
         ensures seats { vec_len self.new.seats ≡ vec_len self.old.seats }
-        ensures answer { IfOk result (λ reply. is_own_reply reply ≡ true) }
+        ensures names { IfOk result (λ reply. done_or may_refuse_range reply ≡ true) }
     {
         let seat = &mut self.seats[thread as usize];
         if !seat.is_open() {

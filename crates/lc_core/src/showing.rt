@@ -1,5 +1,5 @@
 //! What a store shows of its images.
-ghost use Rattle.std.specs.Prelude.{◌≡◌, ◌*◌, ◌<◌, None, Some, IfOk, IfErr, OnOk};
+ghost use Rattle.std.specs.Prelude.{◌≡◌, IfOk, IfErr, OnOk};
 ghost use Rattle.lc_core.specs.Showing.{page_of};
 
 use crate::Refusal;
@@ -10,9 +10,9 @@ use lc_disk::Area;
 use lc_page::PAGE_BYTES;
 
 impl<D: Area + Drop> World<D> {
-    ghost use Rattle.lc_core.specs.Observed.{observed};
+    ghost use Rattle.lc_core.specs.Observed.{observed, RefusesAt, ShowsAt};
     ghost use Rattle.lc_core.specs.Lives.{ShowsLife};
-    ghost use Rattle.lc_core.specs.Showing.{page_refusal, ShowsPage};
+    ghost use Rattle.lc_core.specs.Showing.{ShowsPage};
 
     /// Whether it is up: its recovery is over, and it has not stopped since.
     pub fn is_up(&self) -> bool
@@ -31,8 +31,8 @@ impl<D: Area + Drop> World<D> {
         ensures shows { IfOk result (λ bytes. ShowsPage D.Area self.now node segment page bytes.now) }
         // Whatever its areas are.
         ensures lives { IfOk result (λ bytes. ShowsLife D.Area self.now.phase node segment page bytes.now) }
-        ensures shown { OnOk result (page_refusal D.Area self.now.phase node segment page ≡ None) }
-        ensures refused { IfErr result (λ refusal. page_refusal D.Area self.now.phase node segment page ≡ Some refusal) }
+        ensures shown { OnOk result (ShowsAt (observed D.Area self.now) node segment page) }
+        ensures refused { IfErr result (RefusesAt (observed D.Area self.now) node segment page) }
     {
         let Phase::Up(up) = &self.phase else {
             return Err(Refusal::Down);

@@ -4,6 +4,7 @@ ghost use Rattle.lc_core.specs.Running.{StillFitsAll};
 ghost use Rattle.lc_core.specs.Stepping.{AsksMemory, FollowsStep, is_plain};
 ghost use Rattle.lc_core.specs.Faults.{CountsLogs, SameLogs};
 ghost use Rattle.lc_core.specs.Geometries.{RefusesUnknown};
+ghost use Rattle.lc_core.specs.MayReply.{may_reply};
 
 use crate::running::Running;
 use crate::{Event, Reply};
@@ -23,9 +24,10 @@ impl<D: Area + Drop> Running<D> {
         ensures follows { IfOk result (λ reply. FollowsStep D.Area writing self.old event.now reply self.new) }
         ensures memory { OnErr result (AsksMemory D.Area self.old event.now) }
         ensures err { OnErr result (StillFitsAll D.Area self.old self.new) }
-        ensures faults { IfOk result (λ reply. CountsLogs D.Area self.old reply self.new) }
+        ensures faults { IfOk result (λ reply. CountsLogs D.Area self.old event.now reply self.new) }
         ensures no_fault { OnErr result (SameLogs D.Area self.old self.new) }
         ensures unknown { IfOk result (RefusesUnknown self.old.geometry event.now) }
+        ensures names { IfOk result (λ reply. may_reply event.now reply ≡ true) }
     {
         if let Some(refusal) = self.refusal(event) {
             return Ok(Reply::Refused(refusal));

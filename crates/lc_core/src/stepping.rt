@@ -1,15 +1,17 @@
 //! The events of a store that is up, each by the row of the machine.
-ghost use Rattle.std.specs.Prelude.{◌≡◌, ◌<◌, true, false, not, vec_len, IfOk, OnErr};
+ghost use Rattle.std.specs.Prelude.{◌≡◌, ◌<◌, true, false, vec_len, IfOk, OnErr};
+ghost use Rattle.lc_model.specs.Machine.{may_trim};
 ghost use Rattle.lc_model.specs.Refusals.{is_known, named};
 ghost use Rattle.lc_model.specs.declared.event.Event.TheVariants.{PageStep, Trim};
 ghost use Rattle.lc_core.specs.Running.{FollowsRow, StillFitsAll};
-ghost use Rattle.lc_core.specs.FaultReplies.{is_fault, is_own_reply, is_unknown};
+ghost use Rattle.lc_core.specs.CallReplies.{CalledAs};
+ghost use Rattle.lc_core.specs.FaultReplies.{is_unknown};
 ghost use Rattle.lc_core.specs.Faults.{CountsLogs, SameLogAreas, SameLogs};
+ghost use Rattle.lc_core.specs.MayReply.{may_answer, may_reply};
 ghost use Rattle.lc_core.specs.NodeSteps.{is_own};
 ghost use Rattle.lc_core.specs.Paging.{FollowsPaging};
 ghost use Rattle.lc_core.specs.Refuses.{ActsRunning};
 ghost use Rattle.lc_core.specs.Stepping.{Wants};
-ghost use Rattle.lc_log.specs.OneCall.{IsOneCall};
 
 use crate::named::acting_node;
 use crate::pages::Pages;
@@ -28,9 +30,10 @@ impl<D: Area + Drop> Running<D> {
         ensures follows { IfOk result (λ reply. FollowsRow D.Area self.old event.now reply self.new) }
         ensures memory { OnErr result (Wants D.Area self.old event.now) }
         ensures err { OnErr result (StillFitsAll D.Area self.old self.new) }
-        ensures faults { IfOk result (λ reply. CountsLogs D.Area self.old reply self.new) }
+        ensures faults { IfOk result (λ reply. CountsLogs D.Area self.old event.now reply self.new) }
         ensures no_fault { OnErr result (SameLogs D.Area self.old self.new) }
         ensures known { IfOk result (λ reply. is_unknown reply ≡ false) }
+        ensures names { IfOk result (λ reply. may_answer event.now reply ≡ true) }
     {
         let Some(node) = acting_node(event) else {
             unreachable!();
@@ -49,9 +52,10 @@ impl<D: Area + Drop> Running<D> {
         requires known { is_known self.old.geometry (PageStep node segment page) ≡ true }
         requires page { page < vec_len pages.old.writes }
         ensures follows { FollowsPaging D.Area node segment page self.old pages.old result self.new pages.new }
+        ensures names { may_reply (PageStep node segment page) result ≡ true }
 
-        // One call of the segment's device, or none, and none of a log's.
-        ensures device { IsOneCall D.Area (not (is_fault result)) pages.old.area pages.new.area }
+        // One call of the segment's device where the reply tells of it, and none of a log's.
+        ensures device { CalledAs D.Area result pages.old.area pages.new.area }
         ensures logs { SameLogAreas D.Area self.old self.new }
         ensures known { is_unknown result ≡ false }
         ensures pages { vec_len pages.new.writes ≡ vec_len pages.old.writes }
@@ -63,7 +67,7 @@ impl<D: Area + Drop> Running<D> {
     pub(crate) fn trim(&mut self, node: u16) -> Reply
         requires known { is_known self.old.geometry (Trim node) ≡ true }
         ensures follows { FollowsRow D.Area self.old (Trim node) result self.new }
-        ensures answer { is_own_reply result ≡ true }
+        ensures names { may_trim result ≡ true }
         ensures logs { SameLogs D.Area self.old self.new }
     {
         let nodes = self.nodes.as_slice();

@@ -5,6 +5,7 @@ ghost use Rattle.lc_model.specs.declared.event.Event.TheVariants.{PageStep};
 ghost use Rattle.lc_core.specs.Calls.{CallsArea, KeepsAreas};
 ghost use Rattle.lc_core.specs.Faults.{CountsPhase, phase_failures};
 ghost use Rattle.lc_core.specs.Geometries.{RefusesUnknown};
+ghost use Rattle.lc_core.specs.MayReply.{may_reply};
 ghost use Rattle.lc_core.specs.Numbers.{Numbers};
 ghost use Rattle.lc_core.specs.Pages.{FitsPages};
 ghost use Rattle.lc_core.specs.Stepping.{AsksMemory, TellsWriting, works_up};
@@ -27,7 +28,8 @@ impl<D: Area + Drop> Up<D> {
         ensures no_fault { OnErr result (phase_failures D.Area (IsUp self.new) ≡ phase_failures D.Area (IsUp self.old)) }
         ensures geometry { self.new.running.geometry ≡ self.old.running.geometry }
         ensures unknown { IfOk result (RefusesUnknown self.old.running.geometry event.now) }
-        ensures calls { CallsArea D.Area (IsUp self.old) (IsUp self.new) }
+        ensures names { IfOk result (λ reply. may_reply event.now reply ≡ true) }
+        ensures calls { IfOk result (λ reply. CallsArea D.Area (IsUp self.old) event.now reply (IsUp self.new)) }
         ensures kept { OnErr result (KeepsAreas D.Area (IsUp self.old) (IsUp self.new)) }
     {
         if let Event::PageStep {
@@ -48,7 +50,8 @@ impl<D: Area + Drop> Up<D> {
         ensures faults { CountsPhase D.Area (IsUp self.old) result (IsUp self.new) }
         ensures geometry { self.new.running.geometry ≡ self.old.running.geometry }
         ensures unknown { RefusesUnknown self.old.running.geometry (PageStep node segment page) result }
-        ensures calls { CallsArea D.Area (IsUp self.old) (IsUp self.new) }
+        ensures names { may_reply (PageStep node segment page) result ≡ true }
+        ensures calls { CallsArea D.Area (IsUp self.old) (PageStep node segment page) result (IsUp self.new) }
     {
         let event = Event::PageStep {
             node,

@@ -2,7 +2,7 @@
 ghost use Rattle.std.specs.Prelude.{◌≡◌, ◌<◌, ℕ, vec_len, true};
 ghost use Rattle.lc_model.specs.declared.event.Event.TheVariants.{Write};
 ghost use Rattle.lc_core.specs.Here.{the_images};
-ghost use Rattle.lc_core.specs.FaultReplies.{is_own_reply};
+ghost use Rattle.lc_core.specs.MayReply.{done_or, may_refuse_write};
 
 use crate::desk::Desk;
 use crate::refused::refusal_of;
@@ -17,7 +17,7 @@ impl Desk {
         ensures follows { (node : ℕ) → FollowsOpen node self.old (Write node thread segment offset bytes.now) result self.new }
         ensures beside { the_images.IsSameBeside self.old.here self.new.here }
         ensures seats { vec_len self.new.seats ≡ vec_len self.old.seats }
-        ensures answer { is_own_reply result ≡ true }
+        ensures names { done_or may_refuse_write result ≡ true }
     {
         let Some(tx) = self.seats[thread as usize].open() else {
             return Reply::Refused(Refusal::OutOfTurn);

@@ -27,6 +27,12 @@ returns-clause-fits g c = λ start x honest merges none.
     let m : Setting = record { geometry = c.args.geometry; start = start } in
     settles g.D.Area m x c.in_ok-world.world c.run-ran.new.self _ c.run-ran.result.replies.items (c.in_ok-world.ensures.fits m x refl honest merges none) c.run-ran.ensures.follows
 
+pub returns-clause-settled : goal.returns-clause-settled
+returns-clause-settled g c = λ start x honest merges none.
+    let m : Setting = record { geometry = c.args.geometry; start = start } in
+    let its = settles g.D.Area m x c.in_ok-world.world c.run-ran.new.self _ c.run-ran.result.replies.items (c.in_ok-world.ensures.fits m x refl honest merges none) c.run-ran.ensures.follows in
+    (its.0, its.1, its.2)
+
 pub returns-clause-asks : goal.returns-clause-asks
 returns-clause-asks g c = λ wants. elim (c.run-ran.ensures.asks wants) [
   | inl nothing ↦ inl nothing

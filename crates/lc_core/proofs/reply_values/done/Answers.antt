@@ -1,4 +1,4 @@
-use Rattle.std.proofs.Common.{refl, sym}
+use Rattle.std.proofs.Common.{sym}
 use Rattle.lc_model.specs.declared.reply.Reply.TheVariants.{Ok as Accepted}
 use Rattle.lc_core.proofs.Replying.{is_done, rest_stands, same_stands}
 use Rattle.lc_core.proofs.Truncations.{not_refused}
@@ -10,4 +10,4 @@ returns-in-Refused c = λ event done. same_stands (event) _ c.args.reply.now (sy
 pub returns-in_default : goal.returns-in_default
 returns-in_default c = λ event done.
     let plain = not_refused c.args.reply.now c.in_default.not-Refused in
-    rest_stands event Accepted c.args.reply.now plain refl (is_done event c.args.reply.now done plain)
+    rest_stands event Accepted c.args.reply.now (is_done event c.args.reply.now done plain)

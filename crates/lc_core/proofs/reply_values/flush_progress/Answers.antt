@@ -1,4 +1,4 @@
-use Rattle.std.proofs.Common.{refl, sym}
+use Rattle.std.proofs.Common.{sym}
 use Rattle.lc_model.specs.declared.event.Event.TheVariants.{FlushStep}
 use Rattle.lc_model.specs.declared.reply.Reply.TheVariants.{Nothing}
 use Rattle.lc_core.proofs.Replying.{is_nothing, rest_stands, same_stands}
@@ -17,4 +17,4 @@ returns-in-Acked c = λ node. same_stands (FlushStep node) _ c.args.reply.now (s
 pub returns-in_default : goal.returns-in_default
 returns-in_default c = λ node.
     let plain = not_refused c.args.reply.now c.in_default.not-Refused in
-    rest_stands (FlushStep node) Nothing c.args.reply.now plain refl (is_nothing node c.args.reply.now plain c.in_default.not-Stepped c.in_default.not-Acked)
+    rest_stands (FlushStep node) Nothing c.args.reply.now (is_nothing node c.args.reply.now plain c.in_default.not-Stepped c.in_default.not-Acked)

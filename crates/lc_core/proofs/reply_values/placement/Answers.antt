@@ -1,4 +1,4 @@
-use Rattle.std.proofs.Common.{refl, sym}
+use Rattle.std.proofs.Common.{sym}
 use Rattle.lc_model.specs.declared.event.Event.TheVariants.{Reserve}
 use Rattle.lc_model.specs.declared.reply.Reply.TheVariants.{Ended}
 use Rattle.lc_core.proofs.Replying.{is_over, rest_stands, same_stands}
@@ -14,4 +14,4 @@ returns-in-Reserved c = λ node thread. same_stands (Reserve node thread) _ c.ar
 pub returns-in_default : goal.returns-in_default
 returns-in_default c = λ node thread.
     let plain = not_refused c.args.reply.now c.in_default.not-Refused in
-    rest_stands (Reserve node thread) Ended c.args.reply.now plain refl (is_over node thread c.args.reply.now plain c.in_default.not-Reserved)
+    rest_stands (Reserve node thread) Ended c.args.reply.now (is_over node thread c.args.reply.now plain c.in_default.not-Reserved)

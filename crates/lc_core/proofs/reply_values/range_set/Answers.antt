@@ -1,4 +1,4 @@
-use Rattle.std.proofs.Common.{refl, sym}
+use Rattle.std.proofs.Common.{sym}
 use Rattle.lc_model.specs.declared.event.Event.TheVariants.{SetRange}
 use Rattle.lc_model.specs.declared.reply.Reply.TheVariants.{Ok as Accepted}
 use Rattle.lc_core.proofs.Replying.{is_set, rest_stands, same_stands}
@@ -11,4 +11,4 @@ returns-in-Refused c = λ node thread segment offset len. same_stands (SetRange 
 pub returns-in_default : goal.returns-in_default
 returns-in_default c = λ node thread segment offset len.
     let plain = not_refused c.args.reply.now c.in_default.not-Refused in
-    rest_stands (SetRange node thread segment offset len) Accepted c.args.reply.now plain refl (is_set node thread segment offset len c.args.reply.now plain)
+    rest_stands (SetRange node thread segment offset len) Accepted c.args.reply.now (is_set node thread segment offset len c.args.reply.now plain)

@@ -1,4 +1,4 @@
-use Rattle.std.proofs.Common.{refl, sym}
+use Rattle.std.proofs.Common.{sym}
 use Rattle.lc_model.specs.declared.event.Event.TheVariants.{Deliver}
 use Rattle.lc_model.specs.declared.reply.Reply.TheVariants.{Ignored}
 use Rattle.lc_core.proofs.Replying.{is_ignored, rest_stands, same_stands}
@@ -17,4 +17,4 @@ returns-in-HeldBack c = λ sender number segment to. same_stands (Deliver sender
 pub returns-in_default : goal.returns-in_default
 returns-in_default c = λ sender number segment to.
     let plain = not_refused c.args.reply.now c.in_default.not-Refused in
-    rest_stands (Deliver sender number segment to) Ignored c.args.reply.now plain refl (is_ignored sender number segment to c.args.reply.now plain c.in_default.not-Applied c.in_default.not-HeldBack)
+    rest_stands (Deliver sender number segment to) Ignored c.args.reply.now (is_ignored sender number segment to c.args.reply.now plain c.in_default.not-Applied c.in_default.not-HeldBack)

@@ -1,4 +1,4 @@
-use Rattle.std.proofs.Common.{refl, sym}
+use Rattle.std.proofs.Common.{sym}
 use Rattle.lc_model.specs.declared.event.Event.TheVariants.{ResetStep}
 use Rattle.lc_model.specs.declared.reply.Reply.TheVariants.{Nothing}
 use Rattle.lc_core.proofs.Replying.{is_empty_log, rest_stands, same_stands}
@@ -17,4 +17,4 @@ returns-in-Reset c = λ node. same_stands (ResetStep node) _ c.args.reply.now (s
 pub returns-in_default : goal.returns-in_default
 returns-in_default c = λ node.
     let plain = not_refused c.args.reply.now c.in_default.not-Refused in
-    rest_stands (ResetStep node) Nothing c.args.reply.now plain refl (is_empty_log node c.args.reply.now plain c.in_default.not-Stepped c.in_default.not-Reset)
+    rest_stands (ResetStep node) Nothing c.args.reply.now (is_empty_log node c.args.reply.now plain c.in_default.not-Stepped c.in_default.not-Reset)

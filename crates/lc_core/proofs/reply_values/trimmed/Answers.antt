@@ -1,4 +1,4 @@
-use Rattle.std.proofs.Common.{refl, sym}
+use Rattle.std.proofs.Common.{sym}
 use Rattle.lc_model.specs.declared.event.Event.TheVariants.{Trim}
 use Rattle.lc_model.specs.declared.reply.Reply.TheVariants.{Trimmed}
 use Rattle.lc_core.proofs.Replying.{is_trimmed, rest_stands, same_stands}
@@ -14,4 +14,4 @@ returns-in-Trimmed c = λ node. same_stands (Trim node) _ c.args.reply.now (sym 
 pub returns-in_default : goal.returns-in_default
 returns-in_default c = λ node.
     let plain = not_refused c.args.reply.now c.in_default.not-Refused in
-    rest_stands (Trim node) (Trimmed 0) c.args.reply.now plain refl (λ may. absurd (is_trimmed node c.args.reply.now plain c.in_default.not-Trimmed may))
+    rest_stands (Trim node) (Trimmed 0) c.args.reply.now (λ may. absurd (is_trimmed node c.args.reply.now plain c.in_default.not-Trimmed may))

@@ -1,4 +1,4 @@
-use Rattle.std.proofs.Common.{refl, sym}
+use Rattle.std.proofs.Common.{sym}
 use Rattle.lc_model.specs.declared.event.Event.TheVariants.{PageStep}
 use Rattle.lc_model.specs.declared.reply.Reply.TheVariants.{Stepped}
 use Rattle.lc_core.proofs.Replying.{is_page_call, rest_stands, same_stands}
@@ -17,4 +17,4 @@ returns-in-Written c = λ node segment page. same_stands (PageStep node segment 
 pub returns-in_default : goal.returns-in_default
 returns-in_default c = λ node segment page.
     let plain = not_refused c.args.reply.now c.in_default.not-Refused in
-    rest_stands (PageStep node segment page) (Stepped 0) c.args.reply.now plain refl (λ may. absurd (is_page_call node segment page c.args.reply.now plain c.in_default.not-Stepped c.in_default.not-Written may))
+    rest_stands (PageStep node segment page) (Stepped 0) c.args.reply.now (λ may. absurd (is_page_call node segment page c.args.reply.now plain c.in_default.not-Stepped c.in_default.not-Written may))

@@ -32,6 +32,7 @@ loop-place-preserved g c =
             (subst (λ d. IsStopped g.D.Area area d) (sym to) (record {
               honest = c.stop.ensures.honest;
               same_length = c.stop.ensures.len;
+              calls = c.stop.ensures.called;
               failures = c.stop.ensures.counted;
               image = c.stop.ensures.image;
               clean = c.stop.ensures.clean;

@@ -16,6 +16,7 @@ use Rattle.lc_core.proofs.Begun.{free_seat, not_free, begin_fault, begin_row, be
 use Rattle.lc_core.proofs.Seating.{set_same}
 use Rattle.lc_core.proofs.Shortness.{few_slots, in_place_same, short_same, short_locked}
 use Rattle.lc_core.proofs.FewLocked.{never_many}
+use Rattle.lc_core.proofs.Names.{of_begin}
 use Rattle.lc_core.proofs.desk.Desk.begin.Goals as goal
 
 pub invariant_of-self-clause-runs : goal.invariant_of-self-clause-runs
@@ -125,3 +126,6 @@ pub invariant_of-self-2-clause-short : goal.invariant_of-self-2-clause-short
 invariant_of-self-2-clause-short c =
     let w = c.args.self.now in
     short_either c.args.thread w.here c.begin.new.here c.args.segments.now c.args.reading.now c.begin.new.self c.begin.result c.begin.ensures.begins c.begin.ensures.err w.short
+
+pub returns-in-Err-clause-names : goal.returns-in-Err-clause-names
+returns-in-Err-clause-names c = by_refusal _ c.refused.result _ c.refused.ensures (of_begin c.in-Err.fault c.in-Err.ensures.faults)

@@ -8,6 +8,7 @@ use Rattle.lc_core.specs.Leaves.{MayLeave}
 use Rattle.lc_core.specs.Places.{same_some}
 use Rattle.lc_core.specs.declared.slot.Slot.{Slot}
 use Rattle.lc_core.proofs.Closes.{get-map}
+use Rattle.lc_core.proofs.Names.{err_at, of_leave}
 use Rattle.lc_core.proofs.Left.{LeaveAnswers, leaves, may_leave, runs_left, same_left}
 use Rattle.lc_core.proofs.Shortness.{in_place_moved, short_moved}
 use Rattle.lc_core.proofs.desk.Desk.leave.Goals as goal
@@ -57,6 +58,7 @@ returns c =
       writing = λ same. (c.leave.ensures.writing.0 same).2;
       unflushed = λ same. (c.leave.ensures.unflushed.0 same).2;
       segment = IfOk-weaker c.leave.result _ _ (λ token same. same ∙ its) c.leave.ensures.segment;
+      names = err_at c.leave.result _ (of_leave slot.token c.leave.new.self (not c.is_free-held.result) c.args.writing c.args.reserved c.args.stable c.leave.result answers);
       leaves = leaves w _ c.args.segment c.requires.first slot at its c.leave.new.self (not c.is_free-held.result) c.args.writing
           (ap not holds_is) c.args.reserved c.args.stable c.leave.result answers refl refl;
     }

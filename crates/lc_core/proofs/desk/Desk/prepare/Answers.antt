@@ -15,6 +15,7 @@ use Rattle.lc_core.proofs.Readied.{seated, ready, laid_so, record_is, set_some, 
 use Rattle.lc_core.proofs.Refusing.{on_err}
 use Rattle.lc_core.proofs.Seating.{same_open}
 use Rattle.lc_core.proofs.Shortness.{few_slots, in_place_same, short_same}
+use Rattle.lc_core.proofs.Names.{of_needs}
 use Rattle.lc_core.proofs.desk.Desk.prepare.Goals as goal
 
 pub returns-in_default-clause-prepares : goal.returns-in_default-clause-prepares
@@ -159,3 +160,6 @@ returns-in_err-words-clause-kept c = on_err c.from_residual.result _ (λ tx sits
     let short : vec_capacity w.memory < record_len (final_record the_images w.here mine c.args.node) =
     subst (λ l. vec_capacity l < record_len (final_record the_images w.here mine c.args.node)) c.replace-memory.ensures.value c.in_err-words.ensures.memory in
     subst (λ (y : Tx). vec_capacity w.memory < record_len (final_record the_images w.here y c.args.node)) (sym same) short)
+
+pub returns-in-Err-clause-names : goal.returns-in-Err-clause-names
+returns-in-Err-clause-names c = of_needs c.in-Err.fault c.in-Err.ensures.faults c.refusal_of.result c.refusal_of.ensures

@@ -11,6 +11,7 @@ use Rattle.std.proofs.Common.{ap}
 use Rattle.lc_core.proofs.Shortness.{in_place_same, few_slots, short_same}
 use Rattle.std.specs.Prelude.{Some}
 use Rattle.lc_core.proofs.Seating.{open_seat}
+use Rattle.lc_core.proofs.Names.{of_read}
 use Rattle.lc_core.proofs.desk.Desk.read.Goals as goal
 
 pub returns-in_default-clause-follows : goal.returns-in_default-clause-follows
@@ -85,3 +86,6 @@ invariant_of-self-2-clause-in_place c = in_place_same c.args.self.now.here c.rea
 
 pub invariant_of-self-2-clause-short : goal.invariant_of-self-2-clause-short
 invariant_of-self-2-clause-short c = short_same c.args.self.now.here c.read.new.images c.read.ensures.images c.args.self.now.short
+
+pub returns-in-Err-clause-names : goal.returns-in-Err-clause-names
+returns-in-Err-clause-names c = by_refusal _ c.refused.result _ c.refused.ensures (of_read c.in-Err.fault c.in-Err.ensures.faults)

@@ -17,6 +17,7 @@ use Rattle.lc_core.proofs.Changing.{seen_held, seen_keeps, changed_own, changed_
 use Rattle.lc_core.proofs.RangeRows.{same_thread, range_fault, range_lock, range_done}
 use Rattle.lc_core.proofs.Refusing.{by_refusal, on_err, memory_wanted}
 use Rattle.lc_core.proofs.Shortness.{few_slots, in_place_same, short_same}
+use Rattle.lc_core.proofs.Names.{of_set_range}
 use Rattle.lc_core.proofs.desk.Desk.set_range.Goals as goal
 
 pub invariant_of-self-clause-runs : goal.invariant_of-self-clause-runs
@@ -149,3 +150,6 @@ invariant_of-self-2-clause-in_place c = in_place_same c.args.self.now.here c.set
 
 pub invariant_of-self-2-clause-short : goal.invariant_of-self-2-clause-short
 invariant_of-self-2-clause-short c = short_same c.args.self.now.here c.set_range.new.here c.set_range.ensures.images c.args.self.now.short
+
+pub returns-in-Err-clause-names : goal.returns-in-Err-clause-names
+returns-in-Err-clause-names c = by_refusal _ c.refused.result _ c.refused.ensures (of_set_range c.in-Err.fault (rw c.in-Err.is at c.set_range.ensures.faults))

@@ -19,6 +19,7 @@ use Rattle.lc_core.proofs.Changing.{written_held, changed_own, changed_but, runs
 use Rattle.lc_core.proofs.WriteRows.{WriteAnswers, write_leaves, write_fault, write_lock, write_done}
 use Rattle.std.proofs.Common.{length, ap}
 use Rattle.lc_core.proofs.Shortness.{in_place_written, short_written}
+use Rattle.lc_core.proofs.Names.{of_write}
 use Rattle.lc_core.proofs.desk.Desk.write.Goals as goal
 
 pub returns-in_default : goal.returns-in_default
@@ -35,7 +36,7 @@ returns-in_default c =
       );
       beside = (refl, refl);
       seats = refl;
-      answer = refl;
+      names = refl;
     }
 
 pub write-requires : goal.write-requires
@@ -122,3 +123,14 @@ invariant_of-self-2-clause-in_place c = in_place_written c.write.result c.args.s
 
 pub invariant_of-self-2-clause-short : goal.invariant_of-self-2-clause-short
 invariant_of-self-2-clause-short c = short_written c.write.result c.args.self.now.here c.write.new.images c.args.segment c.args.offset c.args.bytes.now c.write.ensures.written c.write.ensures.err c.args.self.now.short
+
+pub returns-in-Err-clause-names : goal.returns-in-Err-clause-names
+returns-in-Err-clause-names c =
+    let answers : WriteAnswers (bytes_of the_images c.args.self.now.here c.args.segment) c.in-Some.tx.now c.args.segment c.args.offset (length c.args.bytes.now) c.write.result = record {
+      ok = c.write.ensures.ok;
+      not_locked = c.write.ensures.not_locked;
+      read_only = c.write.ensures.read_only;
+      outside = c.write.ensures.outside;
+      no_range = c.write.ensures.no_range;
+    } in
+    of_write (bytes_of the_images c.args.self.now.here c.args.segment) c.in-Some.tx.now c.args.segment c.args.offset (length c.args.bytes.now) c.write.result answers c.in-Err.fault c.in-Err.is c.refusal_of.result c.refusal_of.ensures

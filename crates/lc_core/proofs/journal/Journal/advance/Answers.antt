@@ -1,6 +1,6 @@
 use Rattle.std.proofs.Common.{◌≡◌, ◌≤◌, ◌<◌, ℕ, false, arith, inl, inr, length, ap, sym, refl, subst, ◌∙◌, true≢false}
 use Rattle.std.proofs.lemmas.Bool.{cases_Bool}
-use Rattle.lc_core.specs.Log.{HasRoom, MovesOn, CallsOnce, taken_by, is_failed, is_idle}
+use Rattle.lc_core.specs.Log.{HasRoom, MovesOn, CallsOnce, taken_by, is_failed, is_idle, is_sealed}
 use Rattle.lc_core.specs.Records.{count_of, front_of, span_of}
 use Rattle.lc_core.proofs.Spans.{leading_le, length-span}
 use Rattle.lc_core.proofs.Rooms.{acked_stays, free_still, sealed_works, room_for, size_kept, ends_by, end_is, way_is, acked_between}
@@ -18,6 +18,7 @@ flush_step-requires g c =
           subst (λ log. HasRoom g.D.Area log (taken_by g.D.Area log (length w.group.words))) (sym c.replace-log.ensures.value)
           (room_for g.D.Area w.log (length (span_of k w.dropped w.acked)) (length (span_of k w.acked w.taken)) (length (span_of k w.dropped (count_of k))) (length w.group.words)
           (omega (arith, first, second)) (λ up. omega (arith, w.room, w.log_room up)) (λ up. w.end up c.requires.free) (λ up busy. w.under_way up busy c.requires.free) (λ idle. ap length (c.requires.words idle)) c.requires.free);
+      free = ap (is_sealed g.D.Area) c.replace-log.ensures.value ∙ c.requires.free;
     }
 
 pub invariant_of-self : goal.invariant_of-self

@@ -1,12 +1,17 @@
-use Rattle.std.proofs.Common.{inl, ◌≤◌, ◌<◌, refl, sym, ap, subst, ◌∙◌, arith}
+use Rattle.std.proofs.Common.{◌≤◌, ◌<◌, refl, sym, ap, subst, ◌∙◌, arith}
 use Rattle.lc_model.specs.declared.reply.Reply.{Reply}
+use Rattle.lc_core.specs.CallReplies.{tells_call}
 use Rattle.lc_core.specs.FaultReplies.{TellsFault}
+use Rattle.lc_core.specs.Journal.{reply_of}
 use Rattle.lc_core.specs.Log.{CallsOnce}
 use Rattle.lc_core.specs.Records.{front_of, span_of}
+use Rattle.lc_core.proofs.CallsTold.{flush_called}
 use Rattle.lc_core.proofs.Faults.{call_tells}
 use Rattle.lc_core.proofs.Spans.{leading_le}
 use Rattle.lc_core.proofs.Flushing.{some_reply, nothing_row, sealed_row, first_call, later_call, same_itself}
 use Rattle.lc_core.proofs.journal.Journal.flush_step.Goals.{then-is_idle+else-front-self, else-is_idle}
+use Rattle.lc_core.specs.MayReply.{may_flush, or_fault}
+use Rattle.lc_core.proofs.Names.{of_flush}
 use Rattle.lc_core.proofs.journal.Journal.flush_step.Goals as goal
 
 pub returns-then-is_sealed : goal.returns-then-is_sealed
@@ -20,11 +25,12 @@ returns-then-is_sealed g c = record {
         same_itself g.D.Area m node s x w.records w.dropped w.trimmed w.acked,
         h,
       );
+  names = refl;
   nothing = λ is. refl;
   words = refl;
   round = refl;
   device = λ some. absurd (some refl);
-  fault = record { known = refl; failures = refl; kind = refl; call = inl refl };
+  fault = record { known = refl; failures = refl; kind = refl; call = refl };
 }
 
 pub returns-then-front-self : goal.returns-then-front-self
@@ -36,11 +42,12 @@ returns-then-front-self g c = record {
         same_itself g.D.Area m node s x w.records w.dropped w.trimmed w.acked,
         h,
       );
+  names = refl;
   nothing = λ is. refl;
   words = refl;
   round = refl;
   device = λ some. absurd (some refl);
-  fault = record { known = refl; failures = refl; kind = refl; call = inl refl };
+  fault = record { known = refl; failures = refl; kind = refl; call = refl };
 }
 
 pub returns : goal.returns
@@ -63,6 +70,7 @@ returns g c = record {
             (later_call g.D.Area m node s x k w.dropped w.trimmed w.acked w.log c.advance.new.self.log w.group.words w.taken h c.requires.up
             (sym c.is_idle.ensures ∙ b.if-is_idle.false) (sym c.is_sealed.ensures ∙ c.if-is_sealed.false) w.dropped_acked w.acked_taken (rw b.self-is at c.advance.ensures.steps))
       ]);
+  names = ap (or_fault may_flush) c.advance.ensures.reply ∙ of_flush g.D.Area c.advance.new.self.log c.if-is_idle.self.taken;
   nothing = λ is. absurd (some_reply g.D.Area c.advance.new.self.log c.if-is_idle.self.taken (sym c.advance.ensures.reply ∙ is));
   words = c.advance.ensures.room ∙ (elim c.if-is_idle.branch [
     | then-is_idle+else-front-self b ↦ rw b.self-is b.take_closed.ensures.room
@@ -82,6 +90,6 @@ returns g c = record {
         | then-is_idle+else-front-self b ↦ rw (b.self-is, b.take_closed.ensures.log) at c.advance.ensures.device
         | else-is_idle b ↦ rw b.self-is at c.advance.ensures.device
       ] in
-      subst (λ (reply : Reply). TellsFault g.D.Area reply w.log c.advance.new.self.log) (sym c.advance.ensures.reply)
-      (call_tells g.D.Area w.log c.advance.new.self.log c.if-is_idle.self.taken c.requires.up calls);
+      subst (λ (reply : Reply). TellsFault g.D.Area (tells_call reply) reply w.log c.advance.new.self.log) (sym c.advance.ensures.reply)
+      (call_tells g.D.Area (tells_call (reply_of g.D.Area c.advance.new.self.log c.if-is_idle.self.taken)) (flush_called g.D.Area c.advance.new.self.log c.if-is_idle.self.taken) w.log c.advance.new.self.log c.if-is_idle.self.taken c.requires.up calls);
 }

@@ -1,8 +1,14 @@
-use Rattle.std.proofs.Common.{◌≡◌, false, sym, subst, ◌∙◌, arith, true≢false}
-use Rattle.lc_core.specs.Log.{CallsOnce, MovesReset, is_failed}
+use Rattle.std.proofs.Common.{◌≡◌, false, ap, sym, subst, ◌∙◌, arith, true≢false}
+use Rattle.lc_core.specs.Log.{CallsOnce, MovesReset, is_emptied, is_failed, is_sealed}
 use Rattle.lc_core.proofs.Rooms.{sealed_works, size_kept}
 use Rattle.lc_core.proofs.Sealing.{reset_still}
 use Rattle.lc_core.proofs.journal.Journal.reset_call.Goals as goal
+
+pub reset_step-requires : goal.reset_step-requires
+reset_step-requires g c = record {
+  sealed = ap (is_sealed g.D.Area) c.replace-log.ensures.value ∙ c.requires.sealed;
+  full = ap (is_emptied g.D.Area) c.replace-log.ensures.value ∙ c.requires.full;
+}
 
 pub invariant_of-self : goal.invariant_of-self
 invariant_of-self g c =

@@ -2,6 +2,7 @@ use Rattle.std.proofs.Common.{ℕ, ◌≤◌, List, refl, inl, inr, arith}
 use Rattle.lc_log.specs.NodeLog.{IsWithOrWithout}
 use Rattle.lc_record.specs.declared.record.Record.{Record}
 use Rattle.lc_core.specs.Log.{IsLeft}
+use Rattle.lc_core.proofs.CallsTold.{flush_rests}
 use Rattle.lc_core.proofs.log.Log.flush_step.Goals as goal
 
 gate_open : (steps : ℕ) (stable group : List Record) (words : List ℕ) → 3 ≤ steps → IsWithOrWithout stable group words → IsLeft steps stable group words
@@ -34,3 +35,6 @@ returns-in-Err-sync_gate g c = rw c.in-Opened.is (record {
 
 pub returns-in-Err-clause-steps : goal.returns-in-Err-clause-steps
 returns-in-Err-clause-steps g c = rw c.in-Idle.is (λ stable records idle group honest image is. inl (c.in-Err.ensures.failed stable idle honest image is))
+
+pub returns-in_default-clause-device : goal.returns-in_default-clause-device
+returns-in_default-clause-device g c = flush_rests g.D.Area c.args.self c.in_default.not-Idle c.in_default.not-Written c.in_default.not-Synced c.in_default.not-Opened c.requires.free

@@ -1,4 +1,5 @@
 use Rattle.std.proofs.Common.{refl}
+use Rattle.lc_core.proofs.CallsTold.{reset_rests}
 use Rattle.lc_core.proofs.log.Log.reset_step.Goals as goal
 
 pub returns-in-Ok-clause-steps : goal.returns-in-Ok-clause-steps
@@ -9,3 +10,6 @@ returns-in-Err-clause-steps g c = rw c.in-Sealed.is (λ stable idle. (refl, refl
 
 pub returns-in-Err-reset_sync-clause-steps : goal.returns-in-Err-reset_sync-clause-steps
 returns-in-Err-reset_sync-clause-steps g c = rw c.in-Closing.is (λ stable closing. (refl, refl, c.in-Err-reset_sync.ensures.failed stable closing))
+
+pub returns-in_default : goal.returns-in_default
+returns-in_default g c = absurd (reset_rests g.D.Area c.args.self c.in_default.not-Sealed c.in_default.not-Closing c.requires.sealed c.requires.full)

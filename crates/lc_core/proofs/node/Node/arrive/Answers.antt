@@ -11,7 +11,7 @@ use Rattle.lc_core.specs.Node.{SeesStanding}
 use Rattle.lc_core.specs.declared.desk.Desk.{Desk}
 use Rattle.lc_core.specs.declared.slot.Slot.{Slot}
 use Rattle.lc_core.proofs.Tokens.{stands_here, token_arrives, token_comes_back}
-use Rattle.lc_core.proofs.Faults.{token_own}
+use Rattle.lc_core.proofs.Names.{of_arrive}
 use Rattle.lc_core.proofs.node.Node.arrive.Goals as goal
 
 unseen : (slot other : Slot) (o : Option Slot) → o ≡ Some slot → o ≡ Some other → slot.token.token ≡ None → IsSome other.token.token → ⊥
@@ -65,7 +65,7 @@ returns-in-Ok g c = record {
       let within : c.args.token.segment - 1 < w.desk.here.slots.len = omega (arith, c.requires.first, c.requires.slot) in
       let at = slice_get_read w.desk.here.slots.items w.desk.here.slots.len (c.args.token.segment - 1) slot w.desk.here.slots.ok.0 within (rw c.segment-segment.ensures at c.index-slot.ensures) in
       absurd (unseen slot other _ at got (c.is_empty.ensures.0 c.if-not-is_empty.false) some);
-  answer = tt;
+  names = tt;
   log = ap (λ j. j.log) c.see.ensures.journal;
 }
 
@@ -90,7 +90,7 @@ returns-in-Some g c =
           let within : c.args.token.segment - 1 < w.desk.here.slots.len = omega (arith, c.requires.first, c.requires.slot) in
           let at = slice_get_read w.desk.here.slots.items w.desk.here.slots.len (c.args.token.segment - 1) slot w.desk.here.slots.ok.0 within (rw c.segment-segment.ensures at c.index-slot.ensures) in
           absurd (unseen slot other _ at got (c.is_empty.ensures.0 c.if-not-is_empty.false) some);
-      answer = token_own c.in-Err.fault c.in-Some.refusal (sym c.token_refusal.ensures ∙ c.in-Some.is);
+      names = of_arrive c.in-Err.fault slot.parts.applied c.args.token.seq (ap (λ (p : Token × TokenFault). p.1) came.1) c.in-Some.refusal (sym c.token_refusal.ensures ∙ c.in-Some.is);
       log = refl;
     }
 
@@ -107,6 +107,6 @@ returns-then-not-is_empty g c = record {
   );
   whole = record { seats = refl; slots = refl };
   stands = λ other got some. (refl, refl);
-  answer = refl;
+  names = refl;
   log = refl;
 }

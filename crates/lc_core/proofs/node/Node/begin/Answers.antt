@@ -10,4 +10,4 @@ pub returns : goal.returns
 returns g c = λ node.
     let r : Result Reply AllocError = Ok c.in-Ok.reply in
     desk_steps g.D.Area node node (Begin node c.args.thread c.args.segments.now c.args.reading.now) (λ k. Begin k c.args.thread c.args.segments.now c.args.reading.now) c.args.self.now r c.begin.new.self
-    refl refl c.in-Ok.ensures.follows c.begin.ensures.beside c.begin.ensures.seats tt tt c.in-Ok.ensures.answer (λ e. absurd cc) (λ m s x. refl) (λ m s x reply. refl)
+    refl refl c.in-Ok.ensures.follows c.begin.ensures.beside c.begin.ensures.seats tt tt c.in-Ok.ensures.names refl refl (λ e. absurd cc) (λ m s x. refl) (λ m s x reply. refl) (λ reply. refl)

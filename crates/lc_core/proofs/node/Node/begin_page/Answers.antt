@@ -5,7 +5,6 @@ use Rattle.lc_core.proofs.OnPages.{uncommitted_is}
 use Rattle.lc_core.proofs.PageAnswers.{first_old, first_uncommitted, first_unflushed, settled_here}
 use Rattle.lc_core.proofs.Paged.{begin_halts, is_old, may_draft, no_calls, page_begins, page_stays, place_is, stood}
 use Rattle.lc_core.proofs.ResetRows.{flushed, unflushed}
-use Rattle.lc_log.proofs.OneCalls.{no_call}
 use Rattle.lc_core.proofs.node.Node.begin_page.Goals as goal
 
 pub returns-then-is_uncommitted-clause-follows : goal.returns-then-is_uncommitted-clause-follows
@@ -84,10 +83,10 @@ returns-in-Err-clause-follows g c = λ m n s x sound common h area halts.
     (new.group_room ∙ c.give_up.ensures.words ∙ sym w.journal.group_room) c.give_up.ensures.round (c.give_up.ensures.halts m n s x h.journal)
 
 pub returns-then-is_uncommitted-clause-device : goal.returns-then-is_uncommitted-clause-device
-returns-then-is_uncommitted-clause-device g c = no_call g.D.Area c.args.pages.now.area
+returns-then-is_uncommitted-clause-device g c = refl
 
 pub returns-then-count-self-clause-device : goal.returns-then-count-self-clause-device
-returns-then-count-self-clause-device g c = no_call g.D.Area c.args.pages.now.area
+returns-then-count-self-clause-device g c = refl
 
 pub returns-in_default-clause-device : goal.returns-in_default-clause-device
-returns-in_default-clause-device g c = no_call g.D.Area c.args.pages.now.area
+returns-in_default-clause-device g c = refl

@@ -20,7 +20,7 @@ returns-in_default g c = record {
   whole =
       let counts = subst (λ (o : Option ℕ). CountsSeat c.args.thread c.args.self.now.desk o c.count.new.self) c.in_default.is c.count.ensures.counts in
       record { seats = ap vec_len counts.2; slots = ap (λ (h : Here). vec_len h.slots) counts.1 };
-  answer = refl;
+  names = refl;
   log = refl;
 }
 
@@ -37,6 +37,6 @@ returns g c = record {
         seats = c.close.ensures.seats ∙ ap vec_len counts.5;
         slots = same_count c.count.new.self.here c.close.new.self.here c.close.ensures.beside ∙ count_counted counts.0.set c.args.self.now.desk.here c.count.new.self.here counts.3 counts.4;
       };
-  answer = refl;
+  names = refl;
   log = c.close-2.ensures.log;
 }

@@ -14,4 +14,5 @@ returns g c = record {
       (new.group_room ∙ c.flush_step.ensures.words ∙ sym w.journal.group_room) c.flush_step.ensures.round step.3;
   whole = record { seats = refl; slots = refl };
   device = c.flush_step.ensures.fault;
+  names = c.flush_step.ensures.names;
 }

@@ -7,7 +7,6 @@ use Rattle.lc_core.proofs.Shortness.{same_len}
 use Rattle.lc_core.proofs.Logged.{count_same}
 use Rattle.lc_core.proofs.Tokens.{token_leaves, token_stays}
 use Rattle.lc_core.proofs.Travels.{segment_known}
-use Rattle.lc_core.proofs.Faults.{token_own}
 use Rattle.lc_core.proofs.node.Node.leave.Goals as goal
 
 pub returns-in-Ok : goal.returns-in-Ok
@@ -20,7 +19,7 @@ returns-in-Ok g c = record {
       h.journal.acked_is told c.in-Ok.token c.in-Ok.ensures.leaves (λ slot at. (c.in-Ok.ensures.done slot at).0 refl);
   segment = c.in-Ok.ensures.segment;
   whole = (let moved = c.in-Ok.ensures.leaves.0.2 in record { seats = ap vec_len moved.seats; slots = ap (λ (h : Here). vec_len h.slots) moved.here });
-  answer = tt;
+  names = tt;
   log = refl;
 }
 
@@ -34,6 +33,6 @@ returns-in-Some g c = record {
       h.journal.acked_is told c.in-Err.fault c.in-Some.refusal (sym c.token_refusal.ensures ∙ c.in-Some.is) c.in-Err.ensures.leaves;
   segment = tt;
   whole = (let stays = c.in-Err.ensures.leaves.0 in record { seats = ap vec_len stays.seats; slots = same_len c.args.self.now.desk.here c.leave.new.self.here stays.slots });
-  answer = token_own c.in-Err.fault c.in-Some.refusal (sym c.token_refusal.ensures ∙ c.in-Some.is);
+  names = c.in-Err.ensures.names c.in-Some.refusal (sym c.token_refusal.ensures ∙ c.in-Some.is);
   log = refl;
 }

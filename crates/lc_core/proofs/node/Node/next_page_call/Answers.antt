@@ -1,4 +1,4 @@
-use Rattle.std.proofs.Common.{◌-◌, ℕ, Option, Some, sym, ap, subst, ◌∙◌}
+use Rattle.std.proofs.Common.{◌-◌, ◌&&◌, nat_le, ℕ, Option, Some, sym, ap, subst, ◌∙◌}
 use Rattle.std.specs.Prelude.{Ok, slice_get}
 use Rattle.lc_model.specs.declared.reply.Reply.TheVariants.{Stepped}
 use Rattle.lc_core.specs.Leaves.{with_token}
@@ -9,6 +9,7 @@ use Rattle.lc_core.specs.declared.here.Here.{Here}
 use Rattle.lc_core.specs.declared.page_progress.PageProgress.{PageProgress}
 use Rattle.lc_core.specs.declared.slot.Slot.{Slot}
 use Rattle.lc_core.proofs.Paged.{Goes, call_halts, may_draft, page_goes_on, page_is_over, stood}
+use Rattle.lc_core.proofs.Names.{few_calls}
 use Rattle.lc_core.proofs.node.Node.next_page_call.Goals as goal
 
 pub returns-in-Ok-Stepped-clause-follows : goal.returns-in-Ok-Stepped-clause-follows
@@ -56,3 +57,9 @@ returns-in-Err-clause-follows g c = λ m n s x sound common h area halts.
     let its = stood w.desk.here c.args.segment c.requires.first c.requires.slot c.requires.here in
     call_halts g.D.Area m n c.args.segment c.args.page s x sound common w h olds area its.slot its.at its.token its.stands c.requires.begun.0 c.requires.begun.1 news new c.in-Err.field-0 c.in-Err.ensures.follows
     (new.group_room ∙ c.give_up.ensures.words ∙ sym w.journal.group_room) c.give_up.ensures.round (c.give_up.ensures.halts m n s x h.journal)
+
+pub returns-in-Ok-Stepped-clause-names : goal.returns-in-Ok-Stepped-clause-names
+returns-in-Ok-Stepped-clause-names g c =
+    let write = c.requires.begun.0 in
+    let steps = subst (λ (p : PageProgress). StepsIn c.args.pages.now.writes.items c.args.page write (Ok p) c.step.new.self.writes.items) c.in-Ok-Stepped.field-0-is (c.in-Ok-Stepped.ensures.states write c.requires.begun.1) in
+    ap (λ (k : ℕ). nat_le 1 k && nat_le k 5) (c.from.ensures ∙ sym steps.2) ∙ few_calls steps.0

@@ -1,4 +1,4 @@
-use Rattle.std.proofs.Common.{◌≡◌, Option, None, Some, refl, sym, ap, subst, ◌∙◌, true≢false}
+use Rattle.std.proofs.Common.{◌≡◌, ◌||◌, Bool, Option, None, Some, refl, sym, ap, subst, ◌∙◌, true≢false}
 use Rattle.std.specs.Prelude.{IsSome}
 use Rattle.std.proofs.lemmas.Option.{slice_get_read}
 use Rattle.lc_token.specs.declared.token.Token.{Token}
@@ -10,7 +10,7 @@ use Rattle.lc_core.specs.declared.slot.Slot.{Slot}
 use Rattle.lc_core.proofs.Away.{slot_at}
 use Rattle.lc_core.proofs.PageAnswers.{settled_away}
 use Rattle.lc_core.proofs.Paged.{is_away, none_failed, page_stays, some_token}
-use Rattle.lc_log.proofs.OneCalls.{no_call}
+use Rattle.lc_core.specs.MayReply.{refuses_common}
 use Rattle.lc_core.proofs.node.Node.page_step.Goals as goal
 
 pub returns-then-is_empty-clause-follows : goal.returns-then-is_empty-clause-follows
@@ -65,7 +65,13 @@ returns-in-Failed-clause-follows g c = λ m n s x sound common h area halts.
     (slice_get_read writes.items writes.len c.args.page c.index.result.now writes.ok.0 c.requires.page c.index.ensures ∙ ap (λ (v : PageState). Some v) c.in-Failed.is))
 
 pub returns-then-is_empty-clause-device : goal.returns-then-is_empty-clause-device
-returns-then-is_empty-clause-device g c = no_call g.D.Area c.args.pages.now.area
+returns-then-is_empty-clause-device g c = refl
 
 pub returns-in-Failed-clause-device : goal.returns-in-Failed-clause-device
-returns-in-Failed-clause-device g c = no_call g.D.Area c.args.pages.now.area
+returns-in-Failed-clause-device g c = refl
+
+pub returns-in-AtRest-clause-names : goal.returns-in-AtRest-clause-names
+returns-in-AtRest-clause-names g c = ap (λ (b : Bool). b || refuses_common c.begin_page.result) c.begin_page.ensures.names
+
+pub returns-in-UnderWay-clause-names : goal.returns-in-UnderWay-clause-names
+returns-in-UnderWay-clause-names g c = ap (λ (b : Bool). b || refuses_common c.next_page_call.result) c.next_page_call.ensures.names

@@ -11,4 +11,5 @@ returns g c = record {
       (c.reset_step.ensures.follows node m s x sound common h.journal h.round h.known);
   whole = record { seats = refl; slots = refl };
   device = c.reset_step.ensures.fault;
+  names = c.reset_step.ensures.names;
 }

@@ -10,4 +10,4 @@ pub returns : goal.returns
 returns g c = λ node.
     let r : Result Reply AllocError = Ok c.write.result in
     desk_steps g.D.Area node node (Write node c.args.thread c.args.segment c.args.offset c.args.bytes.now) (λ k. Write k c.args.thread c.args.segment c.args.offset c.args.bytes.now) c.args.self.now r
-    c.write.new.self refl refl c.write.ensures.follows c.write.ensures.beside c.write.ensures.seats tt tt c.write.ensures.answer (λ e. absurd cc) (λ m s x. refl) (λ m s x reply. refl)
+    c.write.new.self refl refl c.write.ensures.follows c.write.ensures.beside c.write.ensures.seats tt tt c.write.ensures.names refl refl (λ e. absurd cc) (λ m s x. refl) (λ m s x reply. refl) (λ reply. refl)

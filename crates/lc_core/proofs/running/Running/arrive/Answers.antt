@@ -40,7 +40,7 @@ returns-in_default g c = record {
       (sym (set_it w.travelling.items (c.args.segment - 1) c.index_mut.result.now c.take.new.self place.was (c.take.ensures.after ∙ sym none)))
       (none_arrives g.D.Area m c.args.node c.args.segment s x w.geometry w.nodes.items w.travelling.items h
       (λ travels. h.on_the_way.none (c.args.segment - 1) (place.was ∙ ap (λ o. Some o) none) (ap s.place place.named ∙ travels)));
-  answer = refl;
+  names = refl;
   logs = record { geometry = refl; logs = refl };
 }
 
@@ -83,7 +83,7 @@ returns-in-Ok g c =
           (travel_moved g.D.Area m c.args.node (Arrive c.args.node c.args.segment) s x Accepted w.geometry w.nodes.items w.travelling.items h c.arrive.new.self came.0 (c.args.segment - 1) _ c.take.new.self (sym it.named) it.was
           (λ token is. (let none : None ≡ Some token = sym c.take.ensures.after ∙ is in absurd cc))
           (λ none travels. (let both : At c.args.node ≡ Travelling = sym came.1 ∙ ap came.0.after.place (sym it.named) ∙ travels in absurd cc)));
-      answer = refl;
+      names = refl;
       logs = record { geometry = refl; logs = logs_stay g.D.Area w.nodes.items c.args.node node c.arrive.new.self it.at c.arrive.ensures.log };
     }
 
@@ -100,6 +100,6 @@ returns-in-Err g c =
           subst (λ (tokens : List (Option Token)). Onward g.D.Area m (Arrive c.args.node c.args.segment) s x (Refused c.in-Err.refusal) w.geometry (slice_set w.nodes.items c.args.node c.arrive.new.self) tokens)
           (sym (set_back w.travelling.items (c.args.segment - 1) c.index_mut.result.now c.take.new.self (Some c.in-Err.token) it.was (ap (λ t. Some t) c.in-Err.ensures.follows.0 ∙ sym it.stood)))
           (stays_onward g.D.Area m c.args.node (Arrive c.args.node c.args.segment) s x (Refused c.in-Err.refusal) w.geometry w.nodes.items w.travelling.items h common node it.at c.arrive.new.self stays (λ k e. absurd (omega (arith, e))));
-      answer = c.in-Err.ensures.answer;
+      names = c.in-Err.ensures.names;
       logs = record { geometry = refl; logs = logs_stay g.D.Area w.nodes.items c.args.node node c.arrive.new.self it.at c.arrive.ensures.log };
     }

@@ -6,13 +6,14 @@ use Rattle.lc_model.specs.declared.reply.Reply.{Reply}
 use Rattle.lc_core.proofs.Geometries.{refuses_known}
 use Rattle.lc_core.proofs.Layering.{refused_running, row_steps}
 use Rattle.lc_core.proofs.NodeSteps.{faults_there, follows_there, known_there, of_there, whole_there}
+use Rattle.lc_core.proofs.Names.{answers_may}
 use Rattle.lc_core.proofs.running.Running.begin.Goals as goal
 
 pub returns-in-Some : goal.returns-in-Some
 returns-in-Some g c =
     let w = c.args.self.now in
     let refusal = c.in-Some.refusal in
-    refused_running g.D.Area w (Begin c.args.node c.args.thread c.args.segments.now c.args.reading.now) c.begin_refusal.result c.begin_refusal.ensures.refused refusal c.in-Some.is refl (c.begin_refusal.ensures.answer refusal c.in-Some.is) (c.begin_refusal.ensures.unknown refusal c.in-Some.is)
+    refused_running g.D.Area w (Begin c.args.node c.args.thread c.args.segments.now c.args.reading.now) c.begin_refusal.result c.begin_refusal.ensures.refused refusal c.in-Some.is refl (c.begin_refusal.ensures.names refusal c.in-Some.is) (c.begin_refusal.ensures.unknown refusal c.in-Some.is)
 
 pub begin-requires : goal.begin-requires
 begin-requires g c = record {
@@ -47,4 +48,5 @@ returns g c =
           (follows_there g.D.Area w event refl known runs c.args.node refl node c.index_mut.ensures.value r c.begin.new.self steps);
       counts = record { counts = both.0; devices = record { geometry = refl; kinds = both.1 }; calls = both.2 };
       unknown = refuses_known w.geometry event reply known (known_there g.D.Area w event refl known runs c.args.node refl node c.index_mut.ensures.value r c.begin.new.self steps);
+      names = answers_may event reply steps.names;
     }

@@ -10,7 +10,7 @@ pub returns-in-Some-clause-refused : goal.returns-in-Some-clause-refused
 returns-in-Some-clause-refused g c =
     let event = Read c.args.node c.args.thread c.args.segment c.args.offset c.args.len in
     let refusal = c.in-Some.refusal in
-    refused_running g.D.Area c.args.self.now event c.refusal.result c.refusal.ensures.refused refusal c.in-Some.is refl (c.refusal.ensures.answer refusal c.in-Some.is)
+    refused_running g.D.Area c.args.self.now event c.refusal.result c.refusal.ensures.refused refusal c.in-Some.is refl (c.refusal.ensures.names refusal c.in-Some.is)
     (let u = c.refusal.ensures.unknown refusal c.in-Some.is in record { outside = u.outside; inside = u.inside })
 
 pub bytes-requires : goal.bytes-requires
@@ -28,4 +28,4 @@ pub returns-clause-refused : goal.returns-clause-refused
 returns-clause-refused g c = err_both c.bytes.result _ _ _
     (λ refusal follows own. read_running g.D.Area c.args.self.now c.args.node c.args.thread c.args.segment c.args.offset c.args.len c.refusal.result c.refusal.ensures.refused c.in_default.is
     (c.refusal.ensures.known c.in_default.is) (c.refusal.ensures.running c.in_default.is) c.index.result.now c.index.ensures (Refused refusal) follows own)
-    c.bytes.ensures.refused c.bytes.ensures.answer
+    c.bytes.ensures.refused c.bytes.ensures.names

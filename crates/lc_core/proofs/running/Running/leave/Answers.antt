@@ -67,7 +67,7 @@ returns-in-Ok g c = record {
         subst (λ (t : Token). FitsToken m ((c.args.segment - 1) + 1) t left.0.after left.0.next) (same_some c.in-Ok.token token is) (subst (λ (i : ℕ). FitsToken m i c.in-Ok.token left.0.after left.0.next) (sym named) left.2),
       ))
       (λ none. absurd cc));
-  answer = refl;
+  names = refl;
   logs =
       let w = c.args.self.now in
       let node = c.index_mut.result.now in
@@ -88,7 +88,7 @@ returns-in-Err g c = record {
       let named : (c.args.segment - 1) + 1 ≡ c.args.segment = omega (arith, segment.0) in
       stays_onward g.D.Area m c.args.node (Leave c.args.node c.args.segment) s x (Refused c.in-Err.refusal) w.geometry w.nodes.items w.travelling.items h common node at c.leave.new.self
       (c.in-Err.ensures.follows m c.args.node s x h.sound common (h.each c.args.node node at) told) (λ k e. absurd (omega (arith, e)));
-  answer = c.in-Err.ensures.answer;
+  names = c.in-Err.ensures.names;
   logs =
       let w = c.args.self.now in
       let node = c.index_mut.result.now in

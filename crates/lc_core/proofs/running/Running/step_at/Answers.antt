@@ -41,3 +41,6 @@ returns-clause-no_fault g c = err_then c.step.result
 
 pub returns-clause-known : goal.returns-clause-known
 returns-clause-known g c = known_there g.D.Area c.args.self.now c.args.event.now c.requires.own c.requires.known c.requires.running c.in-Some.node c.in-Some.ensures c.index_mut.result.now c.index_mut.ensures.value c.step.result c.step.new.self c.step.ensures
+
+pub returns-clause-names : goal.returns-clause-names
+returns-clause-names g c = c.step.ensures.names

@@ -52,7 +52,7 @@ returns g c = record {
       (trim_goes g.D.Area m c.args.node s x c.applied_in_front-count.result node c.trim.new.self fits
       (counted.1 m c.args.node s x h.sound fits.journal (record { all = all; each = λ k other got. (h.each k other got).slots })) c.trim.ensures.trims c.trim.ensures.group c.trim.ensures.round)
       (λ k e. absurd (omega (arith, e)));
-  answer = refl;
+  names = refl;
   logs =
       let w = c.args.self.now in
       let node = c.index_mut.result.now in

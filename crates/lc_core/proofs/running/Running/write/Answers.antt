@@ -6,13 +6,14 @@ use Rattle.lc_model.specs.declared.reply.Reply.{Reply}
 use Rattle.lc_core.proofs.Geometries.{refuses_known}
 use Rattle.lc_core.proofs.Layering.{refused_running, row_steps}
 use Rattle.lc_core.proofs.NodeSteps.{faults_there, follows_there, known_there, of_there, whole_there}
+use Rattle.lc_core.proofs.Names.{answers_may}
 use Rattle.lc_core.proofs.running.Running.write.Goals as goal
 
 pub returns-in-Some : goal.returns-in-Some
 returns-in-Some g c =
     let w = c.args.self.now in
     let refusal = c.in-Some.refusal in
-    refused_running g.D.Area w (Write c.args.node c.args.thread c.args.segment c.args.offset c.args.bytes.now) c.refusal.result c.refusal.ensures.refused refusal c.in-Some.is refl (c.refusal.ensures.answer refusal c.in-Some.is) (let u = c.refusal.ensures.unknown refusal c.in-Some.is in record { outside = u.outside; inside = u.inside })
+    refused_running g.D.Area w (Write c.args.node c.args.thread c.args.segment c.args.offset c.args.bytes.now) c.refusal.result c.refusal.ensures.refused refusal c.in-Some.is refl (c.refusal.ensures.names refusal c.in-Some.is) (let u = c.refusal.ensures.unknown refusal c.in-Some.is in record { outside = u.outside; inside = u.inside })
 
 pub write-requires : goal.write-requires
 write-requires g c = record {
@@ -47,4 +48,5 @@ returns g c =
           (follows_there g.D.Area w event refl known runs c.args.node refl node c.index_mut.ensures.value r c.write.new.self steps);
       counts = record { counts = both.0; devices = record { geometry = refl; kinds = both.1 }; calls = both.2 };
       unknown = refuses_known w.geometry event reply known (known_there g.D.Area w event refl known runs c.args.node refl node c.index_mut.ensures.value r c.write.new.self steps);
+      names = answers_may event reply steps.names;
     }

@@ -1,16 +1,20 @@
-use Rattle.std.proofs.Common.{◌*◌, ◌-◌, ◌<◌, refl, sym, ◌∙◌, inl, arith}
+use Rattle.std.proofs.Common.{◌*◌, ◌-◌, ◌<◌, Bool, refl, sym, subst, ◌∙◌, arith}
 use Rattle.std.proofs.lemmas.Option.{slice_get_read}
 use Rattle.lc_model.specs.declared.event.Event.TheVariants.{PageStep}
 use Rattle.lc_core.proofs.Devices.{up_whole}
+use Rattle.lc_core.proofs.Failures.{no_faults}
 use Rattle.lc_core.proofs.Geometries.{refuses_known}
+use Rattle.lc_core.specs.Calls.{CallsWhere}
+use Rattle.lc_core.proofs.CallsTold.{as_long}
 use Rattle.lc_core.proofs.OneArea.{page_calls}
 use Rattle.lc_core.proofs.Paged.{page_known}
 use Rattle.lc_core.proofs.UpPages.{lengths_set, page_counts, page_follows_up, page_refused_up, pages_set, same_devices}
+use Rattle.lc_core.proofs.Names.{common_may, common_quiet}
 use Rattle.lc_core.proofs.up.Up.page_step.Goals as goal
 
 pub returns-in-Some-clause-follows : goal.returns-in-Some-clause-follows
 returns-in-Some-clause-follows g c =
-    page_refused_up g.D.Area c.args.self.now _ refl refl c.args.node c.args.segment c.args.page c.refusal.result c.in-Some.refusal c.refusal.ensures.refused c.in-Some.is (c.refusal.ensures.answer c.in-Some.refusal c.in-Some.is)
+    page_refused_up g.D.Area c.args.self.now _ refl refl c.args.node c.args.segment c.args.page c.refusal.result c.in-Some.refusal c.refusal.ensures.refused c.in-Some.is (common_quiet c.in-Some.refusal (c.refusal.ensures.names c.in-Some.refusal c.in-Some.is))
 
 pub invariant_of-self-2 : goal.invariant_of-self-2
 invariant_of-self-2 g c =
@@ -24,7 +28,7 @@ invariant_of-self-2 g c =
     record {
       all_segments = whole.all_segments;
       logs = whole.logs;
-      lengths = lengths_set g.D.Area (2 * 272 * c.page_step.new.self.geometry.pages) segments.items (c.args.segment - 1) old c.page_step.new.pages at c.page_step.ensures.device.same_length whole.lengths;
+      lengths = lengths_set g.D.Area (2 * 272 * c.page_step.new.self.geometry.pages) segments.items (c.args.segment - 1) old c.page_step.new.pages at (as_long g.D.Area c.page_step.result old.area c.page_step.new.pages.area c.page_step.ensures.device) whole.lengths;
       pages = pages_set g.D.Area c.page_step.new.self.geometry.pages segments.items (c.args.segment - 1) old c.page_step.new.pages at
           (sym c.page_step.new.pages.writes.ok.0 ∙ c.page_step.ensures.pages ∙ old.writes.ok.0) whole.pages;
       none = whole.none;
@@ -73,7 +77,11 @@ pub returns-clause-unknown : goal.returns-clause-unknown
 returns-clause-unknown g c = refuses_known c.args.self.now.running.geometry (PageStep c.args.node c.args.segment c.args.page) c.page_step.result (c.refusal.ensures.known c.in_default.is) c.page_step.ensures.known
 
 pub returns-in-Some-clause-calls : goal.returns-in-Some-clause-calls
-returns-in-Some-clause-calls g c = λ h areas has. (areas, (has.0, record { count = has.1.count; logs = has.1.logs; segments = has.1.segments }), inl refl)
+returns-in-Some-clause-calls g c = λ h areas has. (
+  areas,
+  (has.0, record { count = has.1.count; logs = has.1.logs; segments = has.1.segments }),
+  subst (λ (b : Bool). CallsWhere g.D.Area b h (PageStep c.args.node c.args.segment c.args.page) areas areas) (sym (common_quiet c.in-Some.refusal (c.refusal.ensures.names c.in-Some.refusal c.in-Some.is))) refl,
+)
 
 pub returns-clause-calls : goal.returns-clause-calls
 returns-clause-calls g c =
@@ -83,4 +91,13 @@ returns-clause-calls g c =
     let within : c.args.segment - 1 < segments.len = omega (arith, named.0, named.1, w.all_segments) in
     let old = c.index_mut-pages.result.now in
     let at = slice_get_read segments.items segments.len (c.args.segment - 1) old segments.ok.0 within c.index_mut-pages.ensures.value in
-    page_calls g.D.Area w _ (c.args.segment - 1) old c.page_step.new.pages _ at refl c.page_step.ensures.logs c.page_step.ensures.device
+    page_calls g.D.Area w _ c.args.node c.args.segment c.args.page old c.page_step.new.pages c.page_step.result at refl c.page_step.ensures.logs c.page_step.ensures.device
+
+pub returns-in-Some-clause-names : goal.returns-in-Some-clause-names
+returns-in-Some-clause-names g c = common_may (PageStep c.args.node c.args.segment c.args.page) c.in-Some.refusal refl (c.refusal.ensures.names c.in-Some.refusal c.in-Some.is)
+
+pub returns-clause-names : goal.returns-clause-names
+returns-clause-names g c = c.page_step.ensures.names
+
+pub returns-in-Some-clause-faults : goal.returns-in-Some-clause-faults
+returns-in-Some-clause-faults g c = no_faults _ _ _ (common_quiet c.in-Some.refusal (c.refusal.ensures.names c.in-Some.refusal c.in-Some.is)) refl

@@ -1,4 +1,3 @@
-use Rattle.std.proofs.Common.{refl}
 use Rattle.lc_model.specs.declared.event.Event.TheVariants.{Deliver}
 use Rattle.lc_core.proofs.Replying.{stands_comes, steps_of}
 use Rattle.lc_core.proofs.world.World.deliver.Goals as goal
@@ -10,5 +9,5 @@ returns g c =
     let after = c.step.new.self in
     let reply = c.in_ok-reply.reply in
     let e = c.in_ok-reply.ensures in
-    stands_comes g.D.Area event _ reply before after refl (c.receipt.ensures c.args.sender c.args.number c.args.segment c.args.to)
-    (steps_of g.D.Area before event reply after (λ choices stops. absurd cc) e.follows e.at_once e.faults c.step.ensures.geometry e.unknown c.step.ensures.calls e.anyhow)
+    stands_comes g.D.Area event _ reply before after (c.receipt.ensures c.args.sender c.args.number c.args.segment c.args.to)
+    (steps_of g.D.Area before event reply after (λ choices stops. absurd cc) e.follows e.at_once e.faults c.step.ensures.geometry e.unknown e.calls e.anyhow e.names)

@@ -8,7 +8,6 @@ use Rattle.lc_core.proofs.Living.{down_told, turn_told}
 use Rattle.lc_core.proofs.Refusing.{if_ok_both, on_err}
 use Rattle.lc_recover.specs.declared.fault.RecoverFault.{RecoverFault}
 use Rattle.lc_core.proofs.Logged.{err_any, err_then}
-use Rattle.lc_core.specs.Calls.{CallsArea}
 use Rattle.lc_core.specs.Recovering.{RepliesTo}
 use Rattle.lc_core.specs.World.{AsksIn}
 use Rattle.lc_core.specs.declared.phase.Phase.{Phase}
@@ -24,7 +23,7 @@ use Rattle.lc_core.proofs.Geometries.{down_geometry, replies_known, risen_geomet
 use Rattle.lc_core.proofs.OneArea.{calls_none, down_calls, down_keeps, risen_calls}
 use Rattle.lc_core.proofs.Recoveries.{FollowsPhase, StepLeaves, begins_in, comes_up, down_same, not_recovered, not_down, down_follows, down_wants, same_still}
 use Rattle.lc_core.specs.Recovers.{RecoversDown}
-use Rattle.lc_core.proofs.Recovers.{IfOk-any, StepSays, down_asks, down_recovers, risen_recovers, up_refuses}
+use Rattle.lc_core.proofs.Recovers.{IfOk-any, StepSays, last_apart, down_asks, down_recovers, risen_recovers, up_refuses}
 use Rattle.lc_core.proofs.world.World.recover_step.Given.{Over}
 use Rattle.lc_core.proofs.world.World.recover_step.Goals.{After-step-2}
 use Rattle.lc_core.proofs.world.World.recover_step.Goals as goal
@@ -258,26 +257,23 @@ returns-clause-geometry g c =
     risen_geometry g.D.Area c.args.self.now.phase c.risen.result c.in-Down.recovery c.step-2.new.self up.0 c.in-Down.is c.step-2.ensures.geometry up.1 up.2
 
 pub returns-in_default-clause-calls : goal.returns-in_default-clause-calls
-returns-in_default-clause-calls g c = calls_none g.D.Area c.args.self.now.phase
+returns-in_default-clause-calls g c = calls_none g.D.Area c.args.self.now.phase RecoverStep (Refused OutOfTurn) (λ h. refl)
 
 pub returns-then-not-is_last-clause-calls : goal.returns-then-not-is_last-clause-calls
 returns-then-not-is_last-clause-calls g c =
-    down_calls g.D.Area c.in-Down.recovery c.step.new.self c.step.result (calls g c) (λ none. (c.step.ensures.no_memory none).1) c.args.self.now.phase c.in-Down.is c.step.ensures.geometry
-
-pub returns-in_err-room-clause-calls : goal.returns-in_err-room-clause-calls
-returns-in_err-room-clause-calls g c =
-    subst (λ (p : Phase g.row.D.Denot g.D.Area). CallsArea g.D.Area p (Down c.in-Down.recovery)) (sym c.in-Down.is) (calls_none g.D.Area (Down c.in-Down.recovery))
+    down_calls g.D.Area c.in-Down.recovery c.step.new.self c.step.ensures.geometry c.args.self.now.phase c.in-Down.is c.step.result c.reply_to.result c.reply_to.ensures (calls g c) c.step.ensures.steps c.step.ensures.progress
 
 pub returns-in-Err-clause-calls : goal.returns-in-Err-clause-calls
 returns-in-Err-clause-calls g c =
-    down_calls g.D.Area c.in-Down.recovery c.step-2.new.self c.step-2.result (calls-last g (goal.at.returns-in-Err-clause-calls g c).After-step-2) (λ none. (c.step-2.ensures.no_memory none).1)
-    c.args.self.now.phase c.in-Down.is c.step-2.ensures.geometry
+    down_calls g.D.Area c.in-Down.recovery c.step-2.new.self c.step-2.ensures.geometry c.args.self.now.phase c.in-Down.is c.step-2.result c.stopped.result (replies-last g c)
+    (calls-last g (goal.at.returns-in-Err-clause-calls g c).After-step-2) c.step-2.ensures.steps c.step-2.ensures.progress
 
 pub returns-clause-calls : goal.returns-clause-calls
 returns-clause-calls g c =
     let up = c.risen.ensures c.step-2.new.self c.replace.ensures.value in
-    risen_calls g.D.Area c.in-Down.recovery c.step-2.new.self c.step-2.result (calls-last g (goal.at.returns-clause-calls g c).After-step-2) (λ none. (c.step-2.ensures.no_memory none).1)
-    c.args.self.now.phase c.risen.result c.in-Down.is c.step-2.ensures.geometry up.0 up.1 up.2
+    let last : IsLast c.in-Down.recovery = c.is_last.ensures.0 c.if-not-is_last.false in
+    risen_calls g.D.Area c.in-Down.recovery c.step-2.new.self c.step-2.ensures.geometry c.args.self.now.phase c.risen.result c.in-Down.is c.step-2.result c.in_default-step.not-Err
+    (calls-last g (goal.at.returns-clause-calls g c).After-step-2) (last_apart g.D.Area c.in-Down.recovery last) up.0 up.1 up.2
 
 pub returns-then-not-is_last-clause-kept : goal.returns-then-not-is_last-clause-kept
 returns-then-not-is_last-clause-kept g c =
@@ -291,8 +287,8 @@ returns-in-Err-clause-kept g c =
     err_then c.stopped.result (down_wants g.D.Area c.args.self.now.phase c.in-Down.recovery c.step-2.new.self c.in-Down.is c.step-2.result c.stopped.result (replies-last g c) (leaves-last g (goal.at.returns-in-Err-clause-kept g c).After-step-2))
     (λ asks. down_keeps g.D.Area c.args.self.now.phase c.in-Down.recovery c.step-2.new.self c.in-Down.is asks.1)
 
-pub returns-in-Err-clause-answers : goal.returns-in-Err-clause-answers
-returns-in-Err-clause-answers g c = replies_of c.step-2.result c.stopped.result (replies-last g c)
+pub returns-in-Err-clause-names : goal.returns-in-Err-clause-names
+returns-in-Err-clause-names g c = replies_of c.step-2.result c.stopped.result (replies-last g c)
 
 pub returns-in-Err-clause-same : goal.returns-in-Err-clause-same
 returns-in-Err-clause-same g c =

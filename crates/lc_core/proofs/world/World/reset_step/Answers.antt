@@ -1,7 +1,6 @@
-use Rattle.std.proofs.Common.{refl}
 use Rattle.lc_model.specs.declared.event.Event.TheVariants.{ResetStep}
 use Rattle.lc_core.proofs.Replying.{stands_steps}
 use Rattle.lc_core.proofs.world.World.reset_step.Goals as goal
 
 pub returns : goal.returns
-returns g c = stands_steps g.D.Area (ResetStep c.args.node) _ c.call-reply.result c.args.self.now c.call-reply.new.self refl (c.reset_progress.ensures c.args.node) c.call-reply.ensures
+returns g c = stands_steps g.D.Area (ResetStep c.args.node) _ c.call-reply.result c.args.self.now c.call-reply.new.self (c.reset_progress.ensures c.args.node) c.call-reply.ensures

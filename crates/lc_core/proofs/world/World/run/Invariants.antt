@@ -11,5 +11,5 @@ invariant-loop-event g l =
     × FollowsRun g.D.Area l.initial.self (take l.event-index l.events) l.replies.items l.self
     × CountsAll l.replies.items (phase_failures g.D.Area l.initial.self.phase) (phase_failures g.D.Area l.self.phase)
     × (length l.events ≤ vec_capacity l.replies)
-    × Chain g.D.Area g.D.Stoppable.left (take l.event-index l.events) l.initial.self.phase l.self.phase
+    × Chain g.D.Area g.D.Stoppable.left (take l.event-index l.events) l.replies.items l.initial.self.phase l.self.phase
     × FollowsLives g.D.Area l.initial.self.phase (take l.event-index l.events) l.replies.items l.self.phase

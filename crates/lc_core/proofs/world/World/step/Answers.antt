@@ -3,6 +3,9 @@ use Rattle.std.proofs.Common.{List, refl, sym, ap, subst, ◌∙◌}
 use Rattle.lc_disk.specs.declared.choice.Choice.{Choice}
 use Rattle.lc_model.specs.declared.event.Event.{Event}
 use Rattle.lc_model.specs.declared.event.Event.TheVariants.{Stop}
+use Rattle.lc_model.specs.declared.refusal.Refusal.TheVariants.{Down as IsDown}
+use Rattle.lc_model.specs.declared.reply.Reply.TheVariants.{Refused}
+use Rattle.lc_core.specs.Calls.{CallsArea}
 use Rattle.lc_core.specs.Lives.{Anyhow}
 use Rattle.lc_core.specs.World.{AsksIn, Leads}
 use Rattle.lc_core.specs.Faults.{CountsPhase, phase_failures}
@@ -15,9 +18,13 @@ use Rattle.lc_core.proofs.Recovers.{IfOk-any, down_refuses, stop_asks, up_asks}
 use Rattle.lc_core.specs.declared.phase.Phase.TheVariants.{Up}
 use Rattle.lc_core.proofs.Recoveries.{else_works, up_follows, up_still}
 use Rattle.lc_core.proofs.Living.{others_told, same_still_lives, up_still_lives, up_told}
-use Rattle.lc_core.proofs.StaysHonest.{stays_honest}
+use Rattle.lc_core.proofs.CallsTold.{refused_free}
+use Rattle.lc_core.proofs.Refusing.{if_ok_both, on_err_both}
+use Rattle.lc_core.proofs.StaysHonest.{keeps_honest, stays_honest}
 use Rattle.lc_core.proofs.Stopped.{same_stop}
 use Rattle.lc_core.specs.Stops.{IsLeftBy}
+use Rattle.lc_core.proofs.Names.{answers_may, common_may, works_acts}
+use Rattle.lc_core.specs.MayReply.{may_answer, may_stop}
 use Rattle.lc_core.proofs.world.World.step.Goals as goal
 
 pub step-requires : goal.step-requires
@@ -25,8 +32,8 @@ step-requires g c = record { up = else_works c.args.event.now c.in_default.not-R
 
 pub returns-in-Up-clause-follows : goal.returns-in-Up-clause-follows
 returns-in-Up-clause-follows g c = IfOk-weaker c.step.result _ _
-    (λ reply follows. up_follows g.D.Area c.args.self.now.phase c.in-Up.up c.step.new.self c.args.event.now reply c.in-Up.is follows (stays_honest g.D.Area c.in-Up.up c.step.new.self c.step.ensures.calls))
-    c.step.ensures.follows
+    (λ reply both. up_follows g.D.Area c.args.self.now.phase c.in-Up.up c.step.new.self c.args.event.now reply c.in-Up.is both.0 (stays_honest g.D.Area c.in-Up.up c.step.new.self c.args.event.now reply both.1))
+    (if_ok_both c.step.result _ _ c.step.ensures.follows c.step.ensures.calls)
 
 pub returns-in-RecoverStep-clause-asks : goal.returns-in-RecoverStep-clause-asks
 returns-in-RecoverStep-clause-asks g c = err_then c.recover_step.result c.recover_step.ensures.memory (λ wants.
@@ -37,7 +44,8 @@ returns-in-Up-clause-asks g c = err_then c.step.result c.step.ensures.memory (λ
     asks_world g.D.Area c.args.self.now c.args.event.now (subst (λ (p : Phase g.row.D.Denot g.D.Area). AsksIn g.D.Area p c.args.event.now) (sym c.in-Up.is) wants))
 
 pub returns-in-Up-clause-err : goal.returns-in-Up-clause-err
-returns-in-Up-clause-err g c = err_then c.step.result c.step.ensures.err (up_still g.D.Area c.args.self.now.phase c.in-Up.up c.step.new.self c.in-Up.is (stays_honest g.D.Area c.in-Up.up c.step.new.self c.step.ensures.calls))
+returns-in-Up-clause-err g c = err_then c.step.result (on_err_both c.step.result _ _ c.step.ensures.err c.step.ensures.kept)
+    (λ both. up_still g.D.Area c.args.self.now.phase c.in-Up.up c.step.new.self c.in-Up.is (keeps_honest g.D.Area c.in-Up.up c.step.new.self both.1) both.0)
 
 pub returns-in-Up-clause-faults : goal.returns-in-Up-clause-faults
 returns-in-Up-clause-faults g c = IfOk-weaker c.step.result _ _
@@ -93,16 +101,18 @@ pub returns-in_default-phase-clause-unknown : goal.returns-in_default-phase-clau
 returns-in_default-phase-clause-unknown g c = down_outside g.D.Area c.args.self.now.phase c.args.event.now _ c.in_default-phase.not-Up refl
 
 pub returns-in-RecoverStep-clause-calls : goal.returns-in-RecoverStep-clause-calls
-returns-in-RecoverStep-clause-calls g c = λ no_stop. c.recover_step.ensures.calls
+returns-in-RecoverStep-clause-calls g c = IfOk-weaker c.recover_step.result _ _
+    (λ reply calls no_stop. subst (λ (event : Event). CallsArea g.D.Area c.args.self.now.phase event reply c.recover_step.new.self.phase) (sym c.in-RecoverStep.is) calls) c.recover_step.ensures.calls
 
 pub returns-in-Stop-clause-calls : goal.returns-in-Stop-clause-calls
 returns-in-Stop-clause-calls g c = λ no_stop. absurd (no_stop c.in-Stop.choices c.in-Stop.is)
 
 pub returns-in-Up-clause-calls : goal.returns-in-Up-clause-calls
-returns-in-Up-clause-calls g c = λ no_stop. up_calls g.D.Area c.args.self.now.phase c.in-Up.up c.step.new.self c.in-Up.is c.step.ensures.calls
+returns-in-Up-clause-calls g c = IfOk-weaker c.step.result _ _
+    (λ reply calls no_stop. up_calls g.D.Area c.args.self.now.phase c.in-Up.up c.step.new.self c.args.event.now reply c.in-Up.is calls) c.step.ensures.calls
 
 pub returns-in_default-phase-clause-calls : goal.returns-in_default-phase-clause-calls
-returns-in_default-phase-clause-calls g c = λ no_stop. calls_none g.D.Area c.args.self.now.phase
+returns-in_default-phase-clause-calls g c = λ no_stop. calls_none g.D.Area c.args.self.now.phase c.args.event.now (Refused IsDown) (λ h. refused_free h c.args.event.now IsDown refl)
 
 pub returns-in-Up-clause-kept : goal.returns-in-Up-clause-kept
 returns-in-Up-clause-kept g c = err_then c.step.result c.step.ensures.kept (up_keeps g.D.Area c.args.self.now.phase c.in-Up.up c.step.new.self c.in-Up.is)
@@ -128,3 +138,16 @@ returns-in-RecoverStep-clause-still g c = err_then c.recover_step.result c.recov
 
 pub returns-in-Up-clause-still : goal.returns-in-Up-clause-still
 returns-in-Up-clause-still g c = err_then c.step.result c.step.ensures.err (up_still_lives g.D.Area c.args.self.now.phase c.in-Up.up c.step.new.self c.in-Up.is)
+
+pub returns-in-RecoverStep-clause-names : goal.returns-in-RecoverStep-clause-names
+returns-in-RecoverStep-clause-names g c = IfOk-weaker c.recover_step.result _ _
+    (λ reply its. answers_may c.args.event.now reply (ap (λ (e : Event). may_answer e reply) c.in-RecoverStep.is ∙ its)) c.recover_step.ensures.names
+
+pub returns-in-Stop-clause-names : goal.returns-in-Stop-clause-names
+returns-in-Stop-clause-names g c = answers_may c.args.event.now c.stop.result (ap (λ (e : Event). may_answer e c.stop.result) c.in-Stop.is ∙ ap may_stop c.stop.ensures.answer)
+
+pub returns-in-Up-clause-names : goal.returns-in-Up-clause-names
+returns-in-Up-clause-names g c = c.step.ensures.names
+
+pub returns-in_default-phase-clause-names : goal.returns-in_default-phase-clause-names
+returns-in_default-phase-clause-names g c = common_may c.args.event.now IsDown (works_acts c.args.event.now (else_works c.args.event.now c.in_default.not-RecoverStep c.in_default-event.not-Stop)) refl
