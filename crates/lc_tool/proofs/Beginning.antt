@@ -5,9 +5,11 @@ use Rattle.lc_disk.specs.declared.area.Area.{Ghosts}
 use Rattle.lc_record.specs.declared.geometry.Geometry.{Geometry}
 use Rattle.lc_model.specs.Merge.{MergeFault, BadGeometry, OutOfSegment, Twice, Gap}
 use Rattle.lc_model.specs.State.{Setting, State, first_state}
+use Rattle.lc_model.specs.declared.refusal.Refusal.{Refusal}
 use Rattle.lc_model.specs.declared.refusal.Refusal.TheVariants.{BadGeometry as WrongArea, DeviceFault}
 use Rattle.lc_model.specs.declared.reply.Reply.{Reply}
-use Rattle.lc_model.specs.declared.reply.Reply.TheVariants.{Refused as IsRefusal}
+use Rattle.lc_model.specs.declared.reply.Reply.TheVariants.{Recovered, Refused as IsRefusal, Stepped}
+use Rattle.lc_core.specs.Lives.{AnswersDown, FitsLife, IsBorn, Life, StillLives}
 use Rattle.lc_core.specs.Numbers.{Numbers}
 use Rattle.lc_core.specs.World.{FitsWorld}
 use Rattle.lc_core.specs.declared.world.World.{World}
@@ -15,18 +17,20 @@ use Rattle.lc_look.specs.Printed.{NoMemory, Adds}
 use Rattle.lc_look.specs.Recovers.{TellsRecovery}
 use Rattle.lc_recover.specs.declared.fault.RecoverFault.TheVariants.{BadGeometry as NoArea, DeviceFault as NoDevice, NoMemory as RecoverMemory}
 use Rattle.lc_tool.specs.Files.{NotOpened}
-use Rattle.lc_tool.specs.Fits.{FollowsAll, IsRefused, RefusesAll}
+use Rattle.lc_tool.specs.Answers.{IsStepped}
+use Rattle.lc_tool.specs.Fits.{FollowsAll, IsRefused, RefusesAll, RunsRecovery}
 use Rattle.lc_tool.specs.Outcome.{EndsWith, IsGivenUp, IsRecovered, OpensStore, RefusesFirst, RunsRecovered}
 use Rattle.lc_tool.specs.Script.{Given, Opens, RunsRead, RunsScript}
 use Rattle.lc_recover.specs.Reads.{AllMergeTo, AreHonest, HaveLengths}
 use Rattle.lc_recover.specs.Recovery.{begun}
+use Rattle.lc_core.specs.declared.phase.Phase.{Phase}
 use Rattle.lc_core.specs.declared.phase.Phase.TheVariants.{Down}
 use Rattle.lc_tool.specs.Store.{AreKnown, RunsStore}
 use Rattle.lc_look.specs.Refused.{AreRefused, RefusesLengths, RefusesMerge, merge_refusal}
 use Rattle.lc_tool.proofs.ScriptLemmas.{keeps_then}
-use Rattle.lc_tool.specs.Tells.{TellsRecovered, TellsScript, TellsStop}
+use Rattle.lc_tool.specs.Tells.{TellsOpening, TellsRecovered, TellsScript, TellsStop}
 use Rattle.lc_text.specs.Text.{no_memory_text, refusal_text, reply_text}
-use Rattle.lc_tool.specs.Verdict.{verdict_of}
+use Rattle.lc_tool.specs.Verdict.{verdict_of, verdict_on}
 use Rattle.lc_tool.specs.declared.verdict.Verdict.{Verdict}
 use Rattle.lc_tool.specs.declared.verdict.Verdict.TheVariants.{Done, Refused, Faulted}
 use Rattle.lc_model.specs.declared.event.Event.TheVariants.{RecoverStep}
@@ -60,7 +64,7 @@ module _ {D : Type 0} (a : Ghosts D) (old new : World D a) (held holds : Option 
   pub no_memory_first : (status : ℕ) → status ≡ 1 → Appends held holds no_memory_text → RefusesFirst a old held holds (Some status)
   no_memory_first status is shown fault refused = (no_memory_text, inr (inr (refl, is)), shown)
 
-  module _ (reply : Reply) (follows : FollowsAll a old RecoverStep reply new) (refuses : RefusesAll a old reply) where
+  module _ (reply : Reply) (follows : FollowsAll a (FitsWorld a) old RecoverStep reply new) (refuses : RefusesAll a old reply) where
     pub done_opens : Done ≡ verdict_of reply → Keeps held holds → OpensStore a old held holds None new
     done_opens is keeps = (
       (λ m s x fits. let led = follows m s x fits in (led.0, led.1, (reply, led.2, sym is), led.3)),
@@ -95,6 +99,53 @@ module _ {D : Type 0} (a : Ghosts D) (old new : World D a) (held holds : Option 
           | inl merge ↦ let bad : Faulted ≡ Refused = is ∙ ap verdict_of merge ∙ merge_verdict fault in absurd cc
           | inr device ↦ (reply_text reply, inr (inl (ap reply_text device, by)), shown)
         ]
+
+-- The recovery of any areas
+
+not_done : (refusal : Refusal) → Done ≡ verdict_on refusal → ⊥
+not_done DeviceFault is = absurd cc
+not_done refusal is = absurd cc
+
+-- what says nothing has come up
+born_there : (g : Geometry) (reply : Reply) (after : Option Life) → AnswersDown g RecoverStep reply after → (IsStepped reply → ⊥) → Done ≡ verdict_of reply
+    → (life : Life) × (after ≡ Some life) × IsBorn g life
+born_there g Recovered after answers over is = answers
+born_there g (Stepped steps) after answers over is = absurd (over tt)
+born_there g (IsRefusal refusal) after answers over is = absurd (not_done refusal is)
+born_there g reply after answers over is = (let told = answers.0 in absurd cc)
+
+-- what a writer holds it keeps
+pub keeps_all : (held : Option (List ℕ)) → Keeps held held
+keeps_all None = tt
+keeps_all (Some xs) = refl
+
+-- a store of these areas is down at first
+pub down_at : {D : Type 0} (a : Ghosts D) (g : Geometry) (phase : Phase D a) (areas : List D) → phase ≡ Down (begun g areas) → FitsLife a g None phase
+down_at {D} a g phase areas is = subst (λ (p : Phase D a). FitsLife a g None p) (sym is) refl
+
+module _ {D : Type 0} (a : Ghosts D) (old new : World D a) (held holds : Option (List ℕ)) where
+  abbrev pub Tells : Option ℕ → Type 0
+  Tells status = (g : Geometry) → FitsLife a g None old.phase → (after : Option Life) × FitsLife a g after new.phase × TellsOpening g held holds status after
+
+  pub no_memory_tells : (status : ℕ) → status ≡ 1 → Appends held holds no_memory_text → StillLives a old.phase new.phase → Tells (Some status)
+  no_memory_tells status is shown still g fits = (None, still g None fits, (no_memory_text, inl (refl, is), shown))
+
+  module _ (reply : Reply) (recovers : RunsRecovery a old reply new) where
+    pub done_tells : Done ≡ verdict_of reply → Keeps held holds → Tells None
+    done_tells is keeps g fits =
+        let run = recovers g fits in
+        let its = born_there g reply run.0 run.2 run.3 is in
+        (run.0, run.1, (its.0, its.1, its.2, keeps))
+
+    -- or this is the status
+    ended_tells : (status : ℕ) → EndsWith (verdict_of reply) reply (reply_text reply) status → Appends held holds (reply_text reply) → Tells (Some status)
+    ended_tells status ends shown g fits = (let run = recovers g fits in (run.0, run.1, (reply_text reply, inr (reply, ends), shown)))
+
+    pub refused_tells : (status : ℕ) → Refused ≡ verdict_of reply → status ≡ 1 → Appends held holds (reply_text reply) → Tells (Some status)
+    refused_tells status is by shown = ended_tells status (rw (← is) (refl, by)) shown
+
+    pub faulted_tells : (status : ℕ) → Faulted ≡ verdict_of reply → status ≡ 3 → Appends held holds (reply_text reply) → Tells (Some status)
+    faulted_tells status is by shown = ended_tells status (rw (← is) (refl, by)) shown
 
 -- The whole script
 
@@ -168,9 +219,9 @@ module _ (g : Geometry) (held holds : Option (List ℕ)) (status : ℕ) (script 
   pub wrong_tells : (area : ℕ) → status ≡ 1 → Appends held holds (refusal_text (WrongArea area)) → Adds (TellsScript g script) held holds status
   wrong_tells area is shown = (refusal_text (WrongArea area), inl (inr (IsRefusal (WrongArea area), (refl, is))), shown)
 
-  pub recovered_tells : (mid : Option (List ℕ)) → Keeps held mid → Adds (TellsRecovered g script) mid holds status → Adds (TellsScript g script) held holds status
-  recovered_tells mid keeps tells =
+  pub recovered_tells : (mid : Option (List ℕ)) (life : Life) → IsBorn g life → Keeps held mid → Adds (TellsRecovered g (Some life) script) mid holds status → Adds (TellsScript g script) held holds status
+  recovered_tells mid life born keeps tells =
       elim tells.1 [
         | inl none ↦ (tells.0, inl (inl none), keeps_then held mid holds tells.0 keeps tells.2)
-        | inr read ↦ (tells.0, inr read, keeps_then held mid holds tells.0 keeps tells.2)
+        | inr read ↦ (tells.0, inr (life, born, read), keeps_then held mid holds tells.0 keeps tells.2)
       ]

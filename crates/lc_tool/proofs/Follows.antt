@@ -3,11 +3,12 @@ use Rattle.std.proofs.Common.{◌≡◌, ℕ, ◌+◌, ◌||◌, Bool, List, [],
 use Rattle.std.specs.Prelude.{if◌then◌else◌}
 use Rattle.lc_record.specs.declared.geometry.Geometry.{Geometry}
 use Rattle.lc_model.specs.State.{Setting, State}
+use Rattle.lc_core.specs.Lives.{Life}
 use Rattle.lc_core.specs.Numbers.{Numbers}
 use Rattle.lc_text.specs.Text.{no_memory_text, too_long_text}
 use Rattle.lc_tool.specs.Outcome.{Breaks, Passes, fronted}
 use Rattle.lc_tool.specs.Script.{Follows, Front}
-use Rattle.lc_tool.specs.Tells.{TellsFollowed, TellsFronted}
+use Rattle.lc_tool.specs.Tells.{Living, TellsFollowed, TellsFronted}
 use Rattle.lc_tool.specs.declared.outcome.Outcome.TheVariants.{Goes, Ends}
 use Rattle.lc_tool.proofs.ScriptLemmas.{breaks_now, passes_next, tells_next, tells_now}
 
@@ -43,9 +44,9 @@ module _ (front : Front) (number : ℕ) (refused : Bool) where
     breaks_off line shown lines status breaks =
         inr (breaks_now front m s x number refused (λ after later was rest end. Follows front m after later (number + 1) was lines rest end) line shown status breaks)
 
-  module _ (g : Geometry) where
+  module _ (g : Geometry) (at : Option Life) where
     abbrev pub Told : List (Option (List ℕ)) → List ℕ → ℕ → Type 0
-    Told lines = TellsFollowed front g number refused lines
+    Told lines = TellsFollowed front g at number refused lines
 
     pub tells_want : (lines : List (Option (List ℕ))) (status : ℕ) → status ≡ 1 → Told lines no_memory_text status
     tells_want [] status is = inl (refl, is)
@@ -57,11 +58,14 @@ module _ (front : Front) (number : ℕ) (refused : Bool) where
     pub tells_limit : (status : ℕ) → status ≡ 2 → Told (None ∷ []) too_long_text status
     tells_limit status is = inr (refl, is)
 
-    pub tells_further : (line text : List ℕ) (was : Bool) (lines : List (Option (List ℕ))) (rest : List ℕ) (status : ℕ) → TellsFronted front g line number text (Goes was)
-        → TellsFollowed front g (number + 1) (refused || was) lines rest status → Told (Some line ∷ lines) (text ++ rest) status
-    tells_further line text was lines rest status tells run =
-        inr (tells_next front g number refused (λ was rest end. TellsFollowed front g (number + 1) was lines rest end) line text was rest status tells run)
+    abbrev Later : List (Option (List ℕ)) → Living
+    Later lines after was rest end = TellsFollowed front g after (number + 1) was lines rest end
 
-    pub tells_off : (line text : List ℕ) (lines : List (Option (List ℕ))) (status : ℕ) → TellsFronted front g line number text (Ends status) → Told (Some line ∷ lines) text status
-    tells_off line text lines status tells =
-        inr (tells_now front g number refused (λ was rest end. TellsFollowed front g (number + 1) was lines rest end) line text status tells)
+    pub tells_further : (line text : List ℕ) (was : Bool) (after : Option Life) (lines : List (Option (List ℕ))) (rest : List ℕ) (status : ℕ) → TellsFronted front g at line number text (Goes was) after
+        → TellsFollowed front g after (number + 1) (refused || was) lines rest status → Told (Some line ∷ lines) (text ++ rest) status
+    tells_further line text was after lines rest status tells run =
+        inr (tells_next front g at number refused (Later lines) line text was after rest status tells run)
+
+    pub tells_off : (line text : List ℕ) (after : Option Life) (lines : List (Option (List ℕ))) (status : ℕ) → TellsFronted front g at line number text (Ends status) after → Told (Some line ∷ lines) text status
+    tells_off line text after lines status tells =
+        inr (tells_now front g at number refused (Later lines) line text status after tells)

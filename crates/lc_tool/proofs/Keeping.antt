@@ -1,26 +1,26 @@
 -- What a store prints keeps to its geometry.
-use Rattle.std.proofs.Common.{◌≡◌, ◌≢◌, ◌⊎◌, ◌∙◌, ℕ, Bool, true, false, ◌&&◌, List, Option, Some, None, refl, sym, ap, subst, inl, inr, true≢false}
+use Rattle.std.proofs.Common.{◌≡◌, ◌≢◌, ◌⊎◌, ◌∙◌, ℕ, Bool, true, false, List, Option, Some, None, refl, sym, ap, subst, inl, inr, true≢false}
 use Rattle.std.specs.Option.{ForSome}
 use Rattle.std.specs.Prelude.{Result, Ok, Err, IfOk, MatchBool, is_some, if◌then◌else◌}
 use Rattle.lc_disk.specs.declared.area.Area.{Ghosts}
 use Rattle.lc_record.specs.declared.geometry.Geometry.{Geometry}
-use Rattle.lc_model.specs.Refusals.{Named, are_known, is_node, is_page, is_segment, named}
+use Rattle.lc_model.specs.Refusals.{Named, are_known, is_node, named}
 use Rattle.lc_model.specs.declared.event.Event.{Event}
 use Rattle.lc_model.specs.declared.refusal.Refusal.{Refusal}
 use Rattle.lc_model.specs.declared.refusal.Refusal.TheVariants.{DeviceFault, Down as IsDown, Unknown}
 use Rattle.lc_model.specs.declared.reply.Reply.{Reply}
 use Rattle.lc_core.specs.Geometries.{RefusesOutside, phase_geometry}
+use Rattle.lc_core.specs.Lives.{StillLives}
 use Rattle.lc_core.specs.LogWords.{ReadsLog, ReadsNone, log_area}
 use Rattle.lc_core.specs.Places.{same_some}
 use Rattle.lc_core.specs.Recovers.{RefusesAtOnce}
-use Rattle.lc_core.specs.Showing.{page_refusal}
 use Rattle.lc_core.specs.declared.phase.Phase.{Phase}
 use Rattle.lc_core.specs.declared.phase.Phase.TheVariants.{Down, Up, Taken}
 use Rattle.lc_core.specs.declared.show_fault.ShowFault.{ShowFault}
 use Rattle.lc_core.specs.declared.show_fault.ShowFault.TheVariants.{Unknown as IsUnknown, DeviceFault as HasFailed, NoMemory}
-use Rattle.lc_text.specs.Text.{page_text, refusal_text}
+use Rattle.lc_text.specs.Text.{refusal_text}
 use Rattle.lc_tool.specs.Shown.{refusal_to}
-use Rattle.lc_tool.specs.Tells.{KeepsTo, TellsLog, TellsPage, TellsRefusal, TellsShown}
+use Rattle.lc_tool.specs.Tells.{KeepsTo, TellsLog, TellsRefusal, TellsShown}
 use Rattle.lc_tool.specs.Verdict.{verdict_on}
 use Rattle.lc_tool.specs.declared.verdict.Verdict.{Verdict}
 use Rattle.lc_tool.specs.declared.verdict.Verdict.TheVariants.{Done}
@@ -58,12 +58,12 @@ module _ {D : Type 0} (a : Ghosts D) where
   some_some None is = absurd (true≢false (sym is))
   some_some (Some x) is = (x, refl)
 
-  -- be it read or not
-  pub log_geometry : {X Y : Type 0} (node : ℕ) (old new : Phase D a) (failed : Bool) → (log_area a old node ≡ None → X × ReadsNone a node old new)
-      → ((area : D) → log_area a old node ≡ Some area → Y × ReadsLog a node area old new failed) → phase_geometry a new ≡ phase_geometry a old
-  log_geometry node old new failed none some = elim (log_area a old node) as (λ (o : Option D). log_area a old node ≡ o → phase_geometry a new ≡ phase_geometry a old) [
-    | None ↦ λ is. (none is).1.same.geometry
-    | Some area ↦ λ is. (some area is).1.same.geometry
+  -- be it read or not, the store lives on
+  pub log_lives : {X Y : Type 0} (node : ℕ) (old new : Phase D a) (failed : Bool) → (log_area a old node ≡ None → X × ReadsNone a node old new)
+      → ((area : D) → log_area a old node ≡ Some area → Y × ReadsLog a node area old new failed) → StillLives a old new
+  log_lives node old new failed none some = elim (log_area a old node) as (λ (o : Option D). log_area a old node ≡ o → StillLives a old new) [
+    | None ↦ λ is. (none is).1.same.lives
+    | Some area ↦ λ is. (some area is).1.same.lives
   ] refl
 
   module _ {A : Type 0} (phase : Phase D a) (node : ℕ) (text_of : A → List ℕ) (g : Geometry) (nodes : is_some (log_area a phase node) ≡ is_node g node) where
@@ -96,27 +96,3 @@ module _ {D : Type 0} (a : Ghosts D) where
           let so : Unknown ≡ refusal = same_some Unknown refusal (sym (ap refusal_to none) ∙ is) in
           (ap refusal_text (sym so), by ∙ ap verdict_on (sym so))
     ] refl
-
-  -- A page
-
-  pub page_shown : (phase : Phase D a) (node segment page : ℕ) (bytes : List ℕ) → page_refusal a phase node segment page ≡ None → (g : Geometry) → phase_geometry a phase ≡ Some g
-      → TellsPage g node segment page (page_text bytes) Done
-  page_shown (Up up) node segment page bytes none g is = subst (λ (h : Geometry). TellsPage h node segment page (page_text bytes) Done) (same_some up.running.geometry g is)
-      (inl (inside (is_node up.running.geometry node && is_segment up.running.geometry segment && is_page up.running.geometry page) none))
-    where
-      inside : (b : Bool) → (if b then None else Some Unknown) ≡ None → MatchBool b (TellsShown page_text (page_text bytes) Done) (TellsRefusal Unknown (page_text bytes) Done)
-      inside true none = (bytes, refl, refl)
-      inside false none = absurd cc
-  page_shown (Down r) node segment page bytes none g is = absurd cc
-  page_shown Taken node segment page bytes none g is = absurd cc
-
-  pub page_refused : (phase : Phase D a) (node segment page : ℕ) (refusal : Refusal) (verdict : Verdict) → page_refusal a phase node segment page ≡ Some refusal → verdict ≡ verdict_on refusal
-      → (g : Geometry) → phase_geometry a phase ≡ Some g → TellsPage g node segment page (refusal_text refusal) verdict
-  page_refused (Up up) node segment page refusal verdict some by g is = subst (λ (h : Geometry). TellsPage h node segment page (refusal_text refusal) verdict) (same_some up.running.geometry g is)
-      (inl (outside (is_node up.running.geometry node && is_segment up.running.geometry segment && is_page up.running.geometry page) some))
-    where
-      outside : (b : Bool) → (if b then None else Some Unknown) ≡ Some refusal → MatchBool b (TellsShown page_text (refusal_text refusal) verdict) (TellsRefusal Unknown (refusal_text refusal) verdict)
-      outside true some = absurd cc
-      outside false some = (let same : Unknown ≡ refusal = same_some Unknown refusal some in (ap refusal_text (sym same), by ∙ ap verdict_on (sym same)))
-  page_refused (Down r) node segment page refusal verdict some by g is = (let same : IsDown ≡ refusal = same_some IsDown refusal some in inr (ap refusal_text (sym same), by ∙ ap verdict_on (sym same)))
-  page_refused Taken node segment page refusal verdict some by g is = absurd cc

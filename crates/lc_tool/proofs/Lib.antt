@@ -1,9 +1,10 @@
 pub mod NewStore
 mod Again
 mod Performing
+mod Beside
 mod Emptied
 mod Truncations
-mod TruncationTold
+mod Known
 mod Fitting
 mod Memory
 mod Logs

@@ -105,7 +105,7 @@ module _ {D : Type 0} (a : Ghosts D) where
   module _ (node : ℕ) (old new : World D a) (result : Result (Vec ℕ) ShowFault) (told : Told node old new result) where
     pub log_performs : (words : Vec ℕ) (held holds : Option (List ℕ)) → result ≡ Ok words → ((area : D) → log_area a old.phase node ≡ Some area → AreWordsOf a area words.items)
         → ((area : D) → log_area a old.phase node ≡ Some area → ShowRecords a old.phase node words.items)
-        → Appends held holds (words_text words.items) → Performs a old (Log node) held holds Done new
+        → Appends held holds (words_text words.items) → Performs a (FitsWorld a) old (Log node) held holds Done new
     log_performs words held holds is are show shown m s x fits =
         let has = shows_words node old new result told m s x fits words is are show in (
           s,
@@ -120,7 +120,7 @@ module _ {D : Type 0} (a : Ghosts D) where
 
     pub inspect_performs : (words : Vec ℕ) (held holds : Option (List ℕ)) → result ≡ Ok words → ((area : D) → log_area a old.phase node ≡ Some area → AreWordsOf a area words.items)
         → ((area : D) → log_area a old.phase node ≡ Some area → ShowRecords a old.phase node words.items)
-        → Inspects false (words_of (bytes_of words.items)) held holds → Performs a old (Inspect node) held holds Done new
+        → Inspects false (words_of (bytes_of words.items)) held holds → Performs a (FitsWorld a) old (Inspect node) held holds Done new
     inspect_performs words held holds is are show inspects m s x fits =
         let has = shows_words node old new result told m s x fits words is are show in
         let same : words_of (bytes_of words.items) ≡ joined has.1.records =
@@ -137,13 +137,13 @@ module _ {D : Type 0} (a : Ghosts D) where
         )
 
     pub log_fault : (fault : ShowFault) (refusal : Refusal) (held holds : Option (List ℕ)) (verdict : Verdict) → result ≡ Err fault → refusal_to fault ≡ Some refusal → verdict ≡ verdict_on refusal
-        → Appends held holds (refusal_text refusal) → Performs a old (Log node) held holds verdict new
+        → Appends held holds (refusal_text refusal) → Performs a (FitsWorld a) old (Log node) held holds verdict new
     log_fault fault refusal held holds verdict is names by shown m s x fits =
         let shows = shows_fault node old new result told m s x fits fault refusal (λ records. words_text (joined records)) is names (is_node m.geometry node) refl in
         (s, x, (refusal_text refusal, (subst (λ (v : Verdict). ShowsLog m s x node (λ records. words_text (joined records)) (refusal_text refusal) v) (sym by) shows, refl, refl), shown), still_fits node old new result told m s x fits)
 
     pub inspect_fault : (fault : ShowFault) (refusal : Refusal) (held holds : Option (List ℕ)) (verdict : Verdict) → result ≡ Err fault → refusal_to fault ≡ Some refusal → verdict ≡ verdict_on refusal
-        → Appends held holds (refusal_text refusal) → Performs a old (Inspect node) held holds verdict new
+        → Appends held holds (refusal_text refusal) → Performs a (FitsWorld a) old (Inspect node) held holds verdict new
     inspect_fault fault refusal held holds verdict is names by shown m s x fits =
         let shows = shows_fault node old new result told m s x fits fault refusal (λ records. records_text (placed 0 records)) is names (is_node m.geometry node) refl in
         (s, x, (refusal_text refusal, (subst (λ (v : Verdict). ShowsLog m s x node (λ records. records_text (placed 0 records)) (refusal_text refusal) v) (sym by) shows, refl, refl), shown), still_fits node old new result told m s x fits)

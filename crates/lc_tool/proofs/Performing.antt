@@ -8,10 +8,9 @@ use Rattle.lc_model.specs.declared.event.Event.TheVariants.{Reserve, Close, Flus
 use Rattle.lc_model.specs.declared.reply.Reply.{Reply}
 use Rattle.lc_model.specs.declared.reply.Reply.TheVariants.{Ok as Accepted, Reserved, Stepped}
 use Rattle.lc_core.specs.Numbers.{Numbers}
-use Rattle.lc_core.specs.World.{FitsWorld, FollowsWorld}
 use Rattle.lc_core.specs.declared.world.World.{World}
 use Rattle.lc_tool.specs.Answers.{Ends, Finishes, GoesOnWith, IsStepped}
-use Rattle.lc_tool.specs.Fits.{FollowsAll, FollowsEnd, Performs}
+use Rattle.lc_tool.specs.Fits.{Follows, FollowsAll, FollowsEnd, Performs}
 use Rattle.lc_tool.specs.Session.{end_text}
 use Rattle.lc_text.specs.Text.{reply_text}
 use Rattle.lc_tool.specs.Verdict.{verdict_of}
@@ -27,41 +26,41 @@ ends_here : (m : Setting) (s : State) (x : Numbers) (node thread : ℕ) (reply :
 ends_here m s x node thread (Reserved place words) other = absurd (other place words refl)
 ends_here m s x node thread reply other = (refl, refl)
 
-module _ {D : Type 0} (a : Ghosts D) where
+module _ {D : Type 0} (a : Ghosts D) (Fits : Setting → World D a → State → Numbers → Type 0) where
   -- one step
   pub step_performs : (old new : World D a) (event : Event) (reply : Reply) (held holds : Option (List ℕ)) (verdict : Verdict)
-      → FollowsWorld a old event reply new → verdict ≡ verdict_of reply → Appends held holds (reply_text reply) → Performs a old (Asks event) held holds verdict new
+      → Follows a Fits old event reply new → verdict ≡ verdict_of reply → Appends held holds (reply_text reply) → Performs a Fits old (Asks event) held holds verdict new
   step_performs old new event reply held holds verdict follows is shown m s x fits =
       let led = follows m s x fits in
       (led.after, led.next, (reply_text reply, (reply, record { step = led.step; settled = led.settled; turns = led.turns }, (refl, is)), shown), led.fits)
 
   pub end_performs : (old new : World D a) (node thread : ℕ) (reply : Reply) (held holds : Option (List ℕ)) (verdict : Verdict)
-      → FollowsEnd a old node thread reply new → verdict ≡ verdict_of reply → Appends held holds (end_text reply) → Performs a old (End node thread) held holds verdict new
+      → FollowsEnd a Fits old node thread reply new → verdict ≡ verdict_of reply → Appends held holds (end_text reply) → Performs a Fits old (End node thread) held holds verdict new
   end_performs old new node thread reply held holds verdict follows is shown m s x fits =
       let led = follows m s x fits in
       (led.0, led.1, (end_text reply, (reply, led.2.0, led.2.1, led.2.2, led.2.3, refl, is), shown), led.3)
 
   pub flush_performs : (old new : World D a) (node : ℕ) (reply : Reply) (held holds : Option (List ℕ)) (verdict : Verdict)
-      → FollowsAll a old (FlushStep node) reply new → verdict ≡ verdict_of reply → Appends held holds (reply_text reply) → Performs a old (Flush node) held holds verdict new
+      → FollowsAll a Fits old (FlushStep node) reply new → verdict ≡ verdict_of reply → Appends held holds (reply_text reply) → Performs a Fits old (Flush node) held holds verdict new
   flush_performs old new node reply held holds verdict follows is shown m s x fits =
       let led = follows m s x fits in
       (led.0, led.1, (reply_text reply, (reply, led.2, (refl, is)), shown), led.3)
 
   pub recover_performs : (old new : World D a) (reply : Reply) (held holds : Option (List ℕ)) (verdict : Verdict)
-      → FollowsAll a old RecoverStep reply new → verdict ≡ verdict_of reply → Appends held holds (reply_text reply) → Performs a old Recover held holds verdict new
+      → FollowsAll a Fits old RecoverStep reply new → verdict ≡ verdict_of reply → Appends held holds (reply_text reply) → Performs a Fits old Recover held holds verdict new
   recover_performs old new reply held holds verdict follows is shown m s x fits =
       let led = follows m s x fits in
       (led.0, led.1, (reply_text reply, (reply, led.2, (refl, is)), shown), led.3)
 
   -- a reservation that is not made ends there
-  pub not_reserved : (old new : World D a) (node thread : ℕ) (reply : Reply) → FollowsWorld a old (Reserve node thread) reply new → IsOther reply → FollowsEnd a old node thread reply new
+  pub not_reserved : (old new : World D a) (node thread : ℕ) (reply : Reply) → Follows a Fits old (Reserve node thread) reply new → IsOther reply → FollowsEnd a Fits old node thread reply new
   not_reserved old new node thread reply follows other m s x fits =
       let led = follows m s x fits in
       (led.after, led.next, (led.after, led.next, record { step = led.step; settled = led.settled; turns = led.turns }, ends_here m led.after led.next node thread reply other), led.fits)
 
   -- one that is made is closed
-  pub reserved_closed : (old mid new : World D a) (node thread place words : ℕ) → FollowsWorld a old (Reserve node thread) (Reserved place words) mid
-      → FollowsWorld a mid (Close node thread) Accepted new → FollowsEnd a old node thread (Reserved place words) new
+  pub reserved_closed : (old mid new : World D a) (node thread place words : ℕ) → Follows a Fits old (Reserve node thread) (Reserved place words) mid
+      → Follows a Fits mid (Close node thread) Accepted new → FollowsEnd a Fits old node thread (Reserved place words) new
   reserved_closed old mid new node thread place words reserves closes m s x fits =
       let led = reserves m s x fits in
       let end = closes m led.after led.next led.fits in (
@@ -77,8 +76,8 @@ module _ {D : Type 0} (a : Ghosts D) where
       )
 
   -- and its close is not refused
-  pub never_refused : (old mid new : World D a) (node thread place words : ℕ) (reply : Reply) → FollowsWorld a old (Reserve node thread) (Reserved place words) mid
-      → FollowsWorld a mid (Close node thread) reply new → (reply ≡ Accepted → ⊥) → FollowsEnd a old node thread reply new
+  pub never_refused : (old mid new : World D a) (node thread place words : ℕ) (reply : Reply) → Follows a Fits old (Reserve node thread) (Reserved place words) mid
+      → Follows a Fits mid (Close node thread) reply new → (reply ≡ Accepted → ⊥) → FollowsEnd a Fits old node thread reply new
   never_refused old mid new node thread place words reply reserves closes not m s x fits =
       let led = reserves m s x fits in
       let end = closes m led.after led.next led.fits in
@@ -92,13 +91,13 @@ module _ {D : Type 0} (a : Ghosts D) where
     pub after : State
     pub next : Numbers
     pub goes : GoesOnWith m s x event steps after next
-    pub fits : FitsWorld a m now after next
+    pub fits : Fits m now after next
 
   module _ (event : Event) (m : Setting) (s : State) (x : Numbers) where
-    pub first_comes : (w : World D a) → FitsWorld a m w s x → ComesTo w w event m s x
+    pub first_comes : (w : World D a) → Fits m w s x → ComesTo w w event m s x
     first_comes w fits = record { steps = []; after = s; next = x; goes = (refl, refl); fits = fits }
 
-    pub more_comes : (old mid new : World D a) (steps : ℕ) → ComesTo old mid event m s x → FollowsWorld a mid event (Stepped steps) new → ComesTo old new event m s x
+    pub more_comes : (old mid new : World D a) (steps : ℕ) → ComesTo old mid event m s x → Follows a Fits mid event (Stepped steps) new → ComesTo old new event m s x
     more_comes old mid new steps come follows =
         let led = follows m come.after come.next come.fits in
         record {
@@ -109,8 +108,8 @@ module _ {D : Type 0} (a : Ghosts D) where
           fits = led.fits;
         }
 
-    pub comes_to_end : (old mid new : World D a) (reply : Reply) → ComesTo old mid event m s x → FollowsWorld a mid event reply new → (IsStepped reply → ⊥)
-        → (after : State) × (next : Numbers) × Finishes m s x event reply after next × FitsWorld a m new after next
+    pub comes_to_end : (old mid new : World D a) (reply : Reply) → ComesTo old mid event m s x → Follows a Fits mid event reply new → (IsStepped reply → ⊥)
+        → (after : State) × (next : Numbers) × Finishes m s x event reply after next × Fits m new after next
     comes_to_end old mid new reply come follows over =
         let led = follows m come.after come.next come.fits in (
           led.after,
@@ -132,12 +131,12 @@ module _ {D : Type 0} (a : Ghosts D) where
     pub done_so : done ≤ (come.after.flush node).steps
 
   abbrev pub Flushed : World D a → World D a → ℕ → ℕ → Type 0
-  Flushed old now node done = (m : Setting) (s : State) (x : Numbers) → FitsWorld a m old s x → HasFlushed old now node done m s x
+  Flushed old now node done = (m : Setting) (s : State) (x : Numbers) → Fits m old s x → HasFlushed old now node done m s x
 
   pub first_flushed : (w : World D a) (node : ℕ) → Flushed w w node 0
   first_flushed w node m s x fits = record { come = record { steps = []; after = s; next = x; goes = (refl, refl); fits = fits }; done_so = omega arith }
 
-  pub more_flushed : (old mid new : World D a) (node done steps : ℕ) → Flushed old mid node done → FollowsWorld a mid (FlushStep node) (Stepped steps) new → Flushed old new node (done + 1)
+  pub more_flushed : (old mid new : World D a) (node done steps : ℕ) → Flushed old mid node done → Follows a Fits mid (FlushStep node) (Stepped steps) new → Flushed old new node (done + 1)
   more_flushed old mid new node done steps so_far follows m s x fits =
       let was = so_far m s x fits in
       let led = follows m was.come.after was.come.next was.come.fits in
@@ -154,13 +153,13 @@ module _ {D : Type 0} (a : Ghosts D) where
       }
 
   -- a reply that is no step ends the flush, and behind three steps each is such
-  pub flush_over : (old mid new : World D a) (node done : ℕ) (reply : Reply) → Flushed old mid node done → FollowsWorld a mid (FlushStep node) reply new → (IsStepped reply → ⊥)
-      → FollowsAll a old (FlushStep node) reply new
+  pub flush_over : (old mid new : World D a) (node done : ℕ) (reply : Reply) → Flushed old mid node done → Follows a Fits mid (FlushStep node) reply new → (IsStepped reply → ⊥)
+      → FollowsAll a Fits old (FlushStep node) reply new
   flush_over old mid new node done reply so_far follows over m s x fits =
       comes_to_end (FlushStep node) m s x old mid new reply (so_far m s x fits).come follows over
 
-  pub flush_behind : (old mid new : World D a) (node done : ℕ) (reply : Reply) → 3 ≤ done → Flushed old mid node done → FollowsWorld a mid (FlushStep node) reply new
-      → FollowsAll a old (FlushStep node) reply new
+  pub flush_behind : (old mid new : World D a) (node done : ℕ) (reply : Reply) → 3 ≤ done → Flushed old mid node done → Follows a Fits mid (FlushStep node) reply new
+      → FollowsAll a Fits old (FlushStep node) reply new
   flush_behind old mid new node done reply all so_far follows m s x fits =
       let was = so_far m s x fits in
       let led = follows m was.come.after was.come.next was.come.fits in (

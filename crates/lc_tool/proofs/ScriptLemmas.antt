@@ -7,6 +7,7 @@ use Rattle.std.specs.Io.KnownBytes.{Appends, Keeps}
 use Rattle.lc_disk.specs.declared.area.Area.{Ghosts}
 use Rattle.lc_record.specs.declared.geometry.Geometry.{Geometry}
 use Rattle.lc_model.specs.State.{Setting, State}
+use Rattle.lc_core.specs.Lives.{Life}
 use Rattle.lc_core.specs.Numbers.{Numbers}
 use Rattle.lc_core.specs.declared.world.World.{World}
 use Rattle.lc_text.specs.Line.{asked, command_of, is_skipped, line_of, words}
@@ -14,7 +15,7 @@ use Rattle.lc_text.specs.declared.command.Command.{Command}
 use Rattle.lc_text.specs.declared.command.Line.TheVariants.{Skipped as IsSkipped, Command as Commanded}
 use Rattle.lc_tool.specs.Script.{Front, Going, GoesOn, Rest, Runs, RunsLine}
 use Rattle.lc_look.specs.Printed.{Adds}
-use Rattle.lc_tool.specs.Tells.{TellsFronted, TellsOne}
+use Rattle.lc_tool.specs.Tells.{Living, TellsFronted, TellsOne}
 use Rattle.lc_tool.specs.Outcome.{GoesBehind, LeavesFronted, LeavesLine, Passes, Breaks, fronted}
 use Rattle.lc_tool.specs.declared.outcome.Outcome.{Outcome}
 use Rattle.lc_tool.specs.declared.outcome.Outcome.TheVariants.{Goes, Ends}
@@ -137,29 +138,32 @@ module _ (front : Front) where
   runs_end m s x number refused status is = (refl, is)
 
   -- the same of any areas
-  module _ (g : Geometry) (number : ℕ) (refused : Bool) (next : Rest) (line text : List ℕ) where
-    pub tells_next : (was : Bool) (rest : List ℕ) (status : ℕ) → TellsFronted front g line number text (Goes was) → next (refused || was) rest status
-        → TellsOne front g next number refused line (text ++ rest) status
-    tells_next was rest status tells run =
+  module _ (g : Geometry) (at : Option Life) (number : ℕ) (refused : Bool) (next : Living) (line text : List ℕ) where
+    pub tells_next : (was : Bool) (after : Option Life) (rest : List ℕ) (status : ℕ) → TellsFronted front g at line number text (Goes was) after → next after (refused || was) rest status
+        → TellsOne front g next at number refused line (text ++ rest) status
+    tells_next was after rest status tells run =
         elim tells [
-          | inl h ↦ (let none : was ≡ false = (let same : Goes was ≡ Goes false = h.2 in cc) in inr (rw h.0 (skips next refused was text rest status h.1 none run)))
+          | inl h ↦
+              let none : was ≡ false = (let same : Goes was ≡ Goes false = h.2 in cc) in
+              let stays = subst (λ (life : Option Life). next life (refused || was) rest status) h.3 run in
+              inr (rw h.0 (skips (next at) refused was text rest status h.1 none stays))
           | inr h ↦ elim h.1.2 [
             | inl skip ↦ absurd (true≢false (sym (skipped_so line skip.0) ∙ h.0))
-            | inr done ↦ subst (λ (t : List ℕ). TellsOne front g next number refused line (t ++ rest) status) (sym h.1.1)
-                (inr (rw done.2 (h.1.0, done.1, done.3, goes_on next refused done.1 was (front number ++ h.1.0) rest status done.4 run)))
+            | inr done ↦ subst (λ (t : List ℕ). TellsOne front g next at number refused line (t ++ rest) status) (sym h.1.1)
+                (inr (rw done.2 (h.1.0, done.1, after, done.3, goes_on (next after) refused done.1 was (front number ++ h.1.0) rest status done.4 run)))
           ]
         ]
 
-    pub tells_now : (status : ℕ) → TellsFronted front g line number text (Ends status) → TellsOne front g next number refused line text status
-    tells_now status tells =
+    pub tells_now : (status : ℕ) (after : Option Life) → TellsFronted front g at line number text (Ends status) after → TellsOne front g next at number refused line text status
+    tells_now status after tells =
         elim tells [
           | inl h ↦ absurd (let bad : Ends status ≡ Goes false = h.2 in cc)
-          | inr h ↦ subst (λ (t : List ℕ). TellsOne front g next number refused line t status) (sym h.1.1)
+          | inr h ↦ subst (λ (t : List ℕ). TellsOne front g next at number refused line t status) (sym h.1.1)
               (elim h.1.2 [
-                | inl none ↦ inl (ap (λ (t : List ℕ). front number ++ t) none.0, none.1)
+                | inl none ↦ inl (ap (λ (t : List ℕ). front number ++ t) none.0.0, none.0.1)
                 | inr more ↦ elim more [
                   | inl not ↦ inr (rw not.0 (ap (λ (t : List ℕ). front number ++ t) not.1, not.2))
-                  | inr fault ↦ inr (rw fault.1 (h.1.0, Faulted, fault.2, (refl, fault.3)))
+                  | inr fault ↦ inr (rw fault.1 (h.1.0, Faulted, after, fault.2, (refl, fault.3)))
                 ]
               ])
         ]

@@ -11,7 +11,7 @@ use Rattle.lc_files.specs.declared.misfit.Misfit.TheVariants.{Missing, NoLen, Ot
 use Rattle.lc_files.specs.declared.sizing.Unopened.{Unopened}
 use Rattle.lc_files.specs.declared.sizing.Unopened.TheVariants.{Folder, OtherSize}
 use Rattle.lc_look.specs.Json.{EndsJson, TellsUnread}
-use Rattle.lc_tool.specs.Found.{IsAsFound, IsTaken, TellsChecked}
+use Rattle.lc_tool.specs.Found.{IsAsFound, IsTaken, TellsChecked, unsized_status}
 use Rattle.lc_words.specs.declared.size.Size.{Size}
 
 -- some texts, one behind another
@@ -65,7 +65,7 @@ TellsJson size text status =
     TellsUnlooked text status
     ⊎ ((found : Result Geometry Misfit) × (rest : List ℕ) × (text ≡ found_json found ++ rest)
     × (((g : Geometry) × IsTaken size g × EndsJson g rest status)
-    ⊎ (IsAsFound size × (rest ≡ unsized_json) × ((status ≡ 1) ⊎ (status ≡ 2)))))
+    ⊎ (IsAsFound size × (rest ≡ unsized_json) × (status ≡ unsized_status found))))
 
 -- what a check prints, in lines or as JSON
 abbrev pub TellsCheck : Bool → Size → List ℕ → ℕ → Type 0

@@ -23,6 +23,11 @@ abbrev pub IsAsFound : Size → Type 0
 IsAsFound (Given g) = ⊥
 IsAsFound (AsFound w) = Unit {0}
 
+-- the status where a store is of no size: 1 where its files do not fit, 2 where a number that was asked for is that of no store
+abbrev pub unsized_status : Result Geometry Misfit → ℕ
+unsized_status (Ok g) = 2
+unsized_status (Err misfit) = 1
+
 -- why no size was found
 abbrev pub TellsMisfit : List ℕ → ℕ → Type 0
 TellsMisfit text status = ((misfit : Misfit) × (text ≡ misfit_text misfit) × (status ≡ 1)) ⊎ Stops text status
@@ -51,7 +56,7 @@ TellsChecked size text status =
     Stops text status
     ⊎ ((found : Result Geometry Misfit) × (rest : List ℕ) × (text ≡ found_text found ++ rest)
     × (((g : Geometry) × IsTaken size g × EndsWithRecovery g rest status)
-    ⊎ (IsAsFound size × (rest ≡ []) × ((status ≡ 1) ⊎ (status ≡ 2)))))
+    ⊎ (IsAsFound size × (rest ≡ []) × (status ≡ unsized_status found))))
 
 -- what a dump of files prints
 abbrev pub TellsDumped : ℕ → ℕ → List ℕ → ℕ → Type 0

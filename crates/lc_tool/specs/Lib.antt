@@ -13,6 +13,7 @@ pub mod Store
 pub mod Fits
 pub mod Outcome
 pub mod Tells
+pub mod Keeps
 pub mod Files
 pub mod Found
 pub mod CheckedJson

@@ -77,14 +77,14 @@ module _ {D : Type 0} (a : Ghosts D) where
   -- with what a writer held and holds
   abbrev pub LeavesLine : World D a → List ℕ → ℕ → Option (List ℕ) → Option (List ℕ) → Outcome → World D a → Type 0
   LeavesLine old line number held holds (Goes was) new =
-      Leads a (λ m s x after next. (shown : List ℕ) × Passes m s x line shown was after next × Appends held holds shown) old new
+      Leads a (FitsWorld a) (λ m s x after next. (shown : List ℕ) × Passes m s x line shown was after next × Appends held holds shown) old new
   LeavesLine old line number held holds (Ends status) new =
       (m : Setting) (s : State) (x : Numbers) → FitsWorld a m old s x → (shown : List ℕ) × Breaks m s x line number shown status × Appends held holds shown
 
   -- so does a line in front of which that stands
   abbrev pub LeavesFronted : Front → World D a → List ℕ → ℕ → Option (List ℕ) → Option (List ℕ) → Outcome → World D a → Type 0
   LeavesFronted front old line number held holds (Goes was) new =
-      Leads a (λ m s x after next. (shown : List ℕ) × Passes m s x line shown was after next × Appends held holds (fronted front number line ++ shown)) old new
+      Leads a (FitsWorld a) (λ m s x after next. (shown : List ℕ) × Passes m s x line shown was after next × Appends held holds (fronted front number line ++ shown)) old new
   LeavesFronted front old line number held holds (Ends status) new =
       (is_skipped line ≡ false)
       × ((m : Setting) (s : State) (x : Numbers) → FitsWorld a m old s x → (shown : List ℕ) × Breaks m s x line number shown status × Appends held holds (front number ++ shown))
@@ -112,7 +112,7 @@ module _ {D : Type 0} (a : Ghosts D) where
 
   -- the recovery that comes first: the store goes on behind it, or this is the status
   abbrev pub OpensStore : World D a → Option (List ℕ) → Option (List ℕ) → Option ℕ → World D a → Type 0
-  OpensStore old held holds None new = Leads a IsRecovered old new × Keeps held holds
+  OpensStore old held holds None new = Leads a (FitsWorld a) IsRecovered old new × Keeps held holds
   OpensStore old held holds (Some status) new =
       (m : Setting) (s : State) (x : Numbers) → FitsWorld a m old s x → Adds (IsGivenUp m s x) held holds status
 

@@ -1,11 +1,11 @@
 -- What is shown of a store in a folder that is looked at.
-use Rattle.std.specs.Prelude.{◌≡◌, ◌⊎◌, ℕ, List, [], Result, Ok, Err}
+use Rattle.std.specs.Prelude.{◌≡◌, ℕ, List, [], Result, Ok, Err}
 use Rattle.lc_record.specs.declared.geometry.Geometry.{Geometry}
 use Rattle.lc_look.specs.Checks.{EndsWithRecovery}
 use Rattle.lc_look.specs.Draws.{TellsDraw}
 use Rattle.lc_look.specs.Dumps.{TellsDump}
 use Rattle.lc_files.specs.Found.{misfit_text}
-use Rattle.lc_tool.specs.Found.{IsAsFound, IsTaken, TellsChecked, TellsDrawn, TellsDumped, size_text}
+use Rattle.lc_tool.specs.Found.{IsAsFound, IsTaken, TellsChecked, TellsDrawn, TellsDumped, size_text, unsized_status}
 use Rattle.lc_files.specs.declared.misfit.Misfit.{Misfit}
 use Rattle.lc_tool.specs.declared.view.View.{View}
 use Rattle.lc_tool.specs.declared.view.View.TheVariants.{Check, Dump, Draw}
@@ -23,7 +23,7 @@ TakesSize view found g = found ≡ Ok g
 
 -- it is of no size, and that gives this status
 abbrev pub HasNoSize : View → Result Geometry Misfit → ℕ → Type 0
-HasNoSize (Check size) found status = IsAsFound size × ((status ≡ 1) ⊎ (status ≡ 2))
+HasNoSize (Check size) found status = IsAsFound size × (status ≡ unsized_status found)
 HasNoSize view found status = (misfit : Misfit) × (found ≡ Err misfit) × (status ≡ 1)
 
 -- what is printed of a store of this size

@@ -1,10 +1,11 @@
 //! What each command does to the store, and what it prints.
-ghost use Rattle.std.specs.Prelude.{◌≡◌, ◌≢◌, IfOk, Some};
+ghost use Rattle.std.specs.Prelude.{◌≡◌, ◌≢◌, IfOk, Option, Some};
 ghost use Rattle.std.specs.Io.KnownBytes.{Appends, Keeps};
-ghost use Rattle.std.specs.Option.{ForSome};
 ghost use Rattle.lc_record.specs.Words.{bytes_of};
+ghost use Rattle.lc_record.specs.declared.geometry.Geometry.{Geometry};
 ghost use Rattle.lc_model.specs.declared.refusal.Refusal.{Refusal};
-ghost use Rattle.lc_core.specs.Geometries.{phase_geometry};
+ghost use Rattle.lc_core.specs.Lives.{FitsLife, Life, StillLives};
+ghost use Rattle.lc_core.specs.World.{FitsWorld};
 ghost use Rattle.lc_tool.specs.Fits.{AsksFor, Performs};
 ghost use Rattle.lc_tool.specs.Session.{Says, end_text};
 ghost use Rattle.lc_tool.specs.Shown.{refusal_to};
@@ -33,11 +34,13 @@ pub(crate) fn perform<D: Stoppable + Drop, W: Write>(
     command: &Command,
     writer: &mut W,
 ) -> Result<Verdict, Stop>
-    ensures done { IfOk result (λ verdict. Performs D.Area world.old command.now (W.contents writer.old) (W.contents writer.new) verdict world.new) }
-    ensures tells { IfOk result (λ verdict. ForSome (phase_geometry D.Area world.old.phase) (λ g. Adds (TellsCommand g command.now) (W.contents writer.old) (W.contents writer.new) verdict)) }
-    ensures geometry { phase_geometry D.Area world.new.phase ≡ phase_geometry D.Area world.old.phase }
+    ensures done { IfOk result (λ verdict. Performs D.Area (FitsWorld D.Area) world.old command.now (W.contents writer.old) (W.contents writer.new) verdict world.new) }
+    ensures tells { IfOk result (λ verdict. (g : Geometry) (at : Option Life) → FitsLife D.Area g at world.old.phase
+        → (after : Option Life) × FitsLife D.Area g after world.new.phase
+        × Adds (λ text end. TellsCommand g at command.now text end after) (W.contents writer.old) (W.contents writer.new) verdict) }
     ensures memory { result ≡ Err Stop.NoMemory → Keeps (W.contents writer.old) (W.contents writer.new) }
     ensures asks { result ≡ Err Stop.NoMemory → AsksFor D.Area world.old command.now }
+    ensures still { result ≡ Err Stop.NoMemory → StillLives D.Area world.old.phase world.new.phase }
 {
     match command {
         Command::Step(event) => show(writer, &world.step(alloc, event)?),
@@ -85,11 +88,13 @@ fn show_log<D: Stoppable + Drop, W: Write>(
     node: u16,
     writer: &mut W,
 ) -> Result<Verdict, Stop>
-    ensures done { IfOk result (λ verdict. Performs D.Area world.old (Log node) (W.contents writer.old) (W.contents writer.new) verdict world.new) }
-    ensures tells { IfOk result (λ verdict. ForSome (phase_geometry D.Area world.old.phase) (λ g. Adds (TellsCommand g (Log node)) (W.contents writer.old) (W.contents writer.new) verdict)) }
-    ensures geometry { phase_geometry D.Area world.new.phase ≡ phase_geometry D.Area world.old.phase }
+    ensures done { IfOk result (λ verdict. Performs D.Area (FitsWorld D.Area) world.old (Log node) (W.contents writer.old) (W.contents writer.new) verdict world.new) }
+    ensures tells { IfOk result (λ verdict. (g : Geometry) (at : Option Life) → FitsLife D.Area g at world.old.phase
+        → (after : Option Life) × FitsLife D.Area g after world.new.phase
+        × Adds (λ text end. TellsCommand g at (Log node) text end after) (W.contents writer.old) (W.contents writer.new) verdict) }
     ensures memory { result ≡ Err Stop.NoMemory → Keeps (W.contents writer.old) (W.contents writer.new) }
     ensures asks { result ≡ Err Stop.NoMemory → AsksFor D.Area world.old (Log node) }
+    ensures still { result ≡ Err Stop.NoMemory → StillLives D.Area world.old.phase world.new.phase }
 {
     match world.log_words(alloc, node) {
         Ok(words) => {
@@ -107,11 +112,13 @@ fn show_records<D: Stoppable + Drop, W: Write>(
     node: u16,
     writer: &mut W,
 ) -> Result<Verdict, Stop>
-    ensures done { IfOk result (λ verdict. Performs D.Area world.old (Inspect node) (W.contents writer.old) (W.contents writer.new) verdict world.new) }
-    ensures tells { IfOk result (λ verdict. ForSome (phase_geometry D.Area world.old.phase) (λ g. Adds (TellsCommand g (Inspect node)) (W.contents writer.old) (W.contents writer.new) verdict)) }
-    ensures geometry { phase_geometry D.Area world.new.phase ≡ phase_geometry D.Area world.old.phase }
+    ensures done { IfOk result (λ verdict. Performs D.Area (FitsWorld D.Area) world.old (Inspect node) (W.contents writer.old) (W.contents writer.new) verdict world.new) }
+    ensures tells { IfOk result (λ verdict. (g : Geometry) (at : Option Life) → FitsLife D.Area g at world.old.phase
+        → (after : Option Life) × FitsLife D.Area g after world.new.phase
+        × Adds (λ text end. TellsCommand g at (Inspect node) text end after) (W.contents writer.old) (W.contents writer.new) verdict) }
     ensures memory { result ≡ Err Stop.NoMemory → Keeps (W.contents writer.old) (W.contents writer.new) }
     ensures asks { result ≡ Err Stop.NoMemory → AsksFor D.Area world.old (Inspect node) }
+    ensures still { result ≡ Err Stop.NoMemory → StillLives D.Area world.old.phase world.new.phase }
 {
     let words = match world.log_words(alloc, node) {
         Ok(words) => words,
@@ -146,9 +153,10 @@ fn show_page<D: Stoppable + Drop, W: Write>(
     page: u32,
     writer: &mut W,
 ) -> Result<Verdict, Stop>
-    ensures done { IfOk result (λ verdict. Performs D.Area world.old (Show node segment page) (W.contents writer.old) (W.contents writer.new) verdict world.new) }
-    ensures tells { IfOk result (λ verdict. ForSome (phase_geometry D.Area world.old.phase) (λ g. Adds (TellsCommand g (Show node segment page)) (W.contents writer.old) (W.contents writer.new) verdict)) }
-    ensures geometry { phase_geometry D.Area world.new.phase ≡ phase_geometry D.Area world.old.phase }
+    ensures done { IfOk result (λ verdict. Performs D.Area (FitsWorld D.Area) world.old (Show node segment page) (W.contents writer.old) (W.contents writer.new) verdict world.new) }
+    ensures tells { IfOk result (λ verdict. (g : Geometry) (at : Option Life) → FitsLife D.Area g at world.old.phase
+        → (after : Option Life) × FitsLife D.Area g after world.new.phase
+        × Adds (λ text end. TellsCommand g at (Show node segment page) text end after) (W.contents writer.old) (W.contents writer.new) verdict) }
     ensures memory { result ≢ Err Stop.NoMemory }
 {
     match world.page(node, segment, page) {

@@ -1,7 +1,7 @@
 //! Runs the lines of a script as they come.
-ghost use Rattle.std.specs.Prelude.{◌≡◌, ◌≢◌, false, IfOk, IfSome};
-ghost use Rattle.std.specs.Option.{ForSome};
-ghost use Rattle.lc_core.specs.Geometries.{phase_geometry};
+ghost use Rattle.std.specs.Prelude.{◌≡◌, ◌≢◌, false, IfOk, IfSome, Option};
+ghost use Rattle.lc_record.specs.declared.geometry.Geometry.{Geometry};
+ghost use Rattle.lc_core.specs.Lives.{FitsLife, Life};
 ghost use Rattle.lc_tool.specs.Coming.{lines_left};
 ghost use Rattle.lc_tool.specs.Following.{lines_followed};
 ghost use Rattle.lc_tool.specs.Outcome.{FollowsLines};
@@ -34,8 +34,8 @@ pub(crate) fn follow_script<D: Stoppable + Drop, L: LineTeller, R: Read, W: Writ
 ) -> Result<u8, ToolFault>
     ensures runs { IfOk result (λ status. IfSome (R.remaining reader.old) (λ script.
         FollowsLines D.Area (front_of numbered) world.old script (W.contents writer.old) (W.contents writer.new) status)) }
-    ensures tells { IfOk result (λ status. IfSome (R.remaining reader.old) (λ script.
-        ForSome (phase_geometry D.Area world.old.phase) (λ g. Adds (TellsFollowed (front_of numbered) g 1 false (lines_followed script)) (W.contents writer.old) (W.contents writer.new) status))) }
+    ensures tells { IfOk result (λ status. IfSome (R.remaining reader.old) (λ script. (g : Geometry) (at : Option Life) → FitsLife D.Area g at world.old.phase
+        → Adds (TellsFollowed (front_of numbered) g at 1 false (lines_followed script)) (W.contents writer.old) (W.contents writer.new) status)) }
     ensures memory { result ≢ Err ToolFault.NoMemory }
 {
     match ScriptLines::new(alloc, reader) {
@@ -55,8 +55,8 @@ fn follow_lines<D: Stoppable + Drop, L: LineTeller, R: Read, W: Write>(
 ) -> Result<u8, ToolFault>
     ensures runs { IfOk result (λ status. IfSome (lines_left R.remaining lines.old) (λ script.
         FollowsLines D.Area (front_of numbered) world.old script (W.contents writer.old) (W.contents writer.new) status)) }
-    ensures tells { IfOk result (λ status. IfSome (lines_left R.remaining lines.old) (λ script.
-        ForSome (phase_geometry D.Area world.old.phase) (λ g. Adds (TellsFollowed (front_of numbered) g 1 false (lines_followed script)) (W.contents writer.old) (W.contents writer.new) status))) }
+    ensures tells { IfOk result (λ status. IfSome (lines_left R.remaining lines.old) (λ script. (g : Geometry) (at : Option Life) → FitsLife D.Area g at world.old.phase
+        → Adds (TellsFollowed (front_of numbered) g at 1 false (lines_followed script)) (W.contents writer.old) (W.contents writer.new) status)) }
     ensures memory { result ≢ Err ToolFault.NoMemory }
 {
     let mut number = 1;

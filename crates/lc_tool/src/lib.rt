@@ -6,6 +6,7 @@ mod checking_json;
 mod commands;
 mod copying;
 mod following;
+mod laws;
 mod line_list;
 mod line_telling;
 mod log_file;

@@ -1,4 +1,9 @@
 //! The whole program.
+ghost use Rattle.std.specs.Prelude.{◌≡◌, ◌⊎◌, ℕ, true, Err, IfOk, Ok};
+ghost use Rattle.std.specs.Io.KnownBytes.{Keeps};
+ghost use Rattle.lc_look.specs.Printed.{Adds, NoMemory};
+ghost use Rattle.lc_words.specs.CommandLine.{is_faulty, IsAskedBySome};
+
 use crate::ToolFault;
 use crate::answering::answer;
 use crate::noted::Noted;
@@ -37,7 +42,9 @@ where
 }
 
 // What the command line asks for. Words that are no text are not understood.
-fn asked_for<R: AllocGlobal + Env>(alloc: Global, rt: &R) -> Result<Asked, AllocError> {
+fn asked_for<R: AllocGlobal + Env>(alloc: Global, rt: &R) -> Result<Asked, AllocError>
+    ensures { IfOk result (λ asked. IsAskedBySome asked ⊎ (is_faulty asked ≡ true)) }
+{
     match env::args(rt) {
         Ok(args) => {
             let words: Vec<String> = args.collect(alloc)?;
@@ -70,8 +77,14 @@ where
     }
 }
 
-// The status to end with, where nothing was printed for want of memory.
-fn status_of<W: Write>(answered: Result<u8, ToolFault>, output: &mut W) -> u8 {
+// The status to end with: the one that was answered; 1 behind the line that tells of want of memory, where it could be
+// written; and else 3.
+fn status_of<W: Write>(answered: Result<u8, ToolFault>, output: &mut W) -> u8
+    ensures answered { (status : ℕ) → answered ≡ Ok status → (result ≡ status) × Keeps (W.contents output.old) (W.contents output.new) }
+    ensures memory { answered ≡ Err ToolFault.NoMemory → (result ≡ 3) ⊎ Adds NoMemory (W.contents output.old) (W.contents output.new) result }
+    ensures read { answered ≡ Err ToolFault.Read → (result ≡ 3) × Keeps (W.contents output.old) (W.contents output.new) }
+    ensures written { answered ≡ Err ToolFault.Write → (result ≡ 3) × Keeps (W.contents output.old) (W.contents output.new) }
+{
     match answered {
         Ok(status) => status,
         Err(ToolFault::NoMemory) => no_memory(output).unwrap_or(FAULTED),

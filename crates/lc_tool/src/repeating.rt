@@ -1,9 +1,11 @@
 //! What takes several steps of a store.
 ghost use Rattle.std.specs.Prelude.{◌≡◌, IfOk, OnErr};
 ghost use Rattle.std.specs.Option.{ForSome};
-ghost use Rattle.lc_model.specs.declared.event.Event.TheVariants.{FlushStep, RecoverStep, Reserve};
+ghost use Rattle.lc_model.specs.declared.event.Event.TheVariants.{FlushStep, RecoverStep};
 ghost use Rattle.lc_core.specs.Geometries.{phase_geometry};
-ghost use Rattle.lc_tool.specs.Fits.{AsksFor, FollowsAll, FollowsEnd, RefusesAll};
+ghost use Rattle.lc_core.specs.Lives.{StillLives};
+ghost use Rattle.lc_core.specs.World.{FitsWorld};
+ghost use Rattle.lc_tool.specs.Fits.{AsksFor, FollowsAll, FollowsEnd, IsUpBeside, RefusesAll, RefusesDown, RunsRecovery};
 ghost use Rattle.lc_tool.specs.Tells.{KeepsTo};
 ghost use Rattle.lc_text.specs.declared.command.Command.TheVariants.{End, Recover};
 
@@ -25,10 +27,12 @@ pub(crate) fn end<D: Stoppable + Drop>(
     node: u16,
     thread: u16,
 ) -> Result<Reply, AllocError>
-    ensures follows { IfOk result (λ reply. FollowsEnd D.Area world.old node thread reply world.new) }
+    ensures follows { IfOk result (λ reply. FollowsEnd D.Area (FitsWorld D.Area) world.old node thread reply world.new) }
+    // Whatever the areas are: of a store that is up, and of one that is down.
+    ensures anyhow { IfOk result (λ reply. FollowsEnd D.Area (IsUpBeside D.Area) world.old node thread reply world.new) }
+    ensures down { IfOk result (λ reply. RefusesDown D.Area world.old reply world.new) }
     ensures memory { OnErr result (AsksFor D.Area world.old (End node thread)) }
-    ensures keeps { IfOk result (λ reply. ForSome (phase_geometry D.Area world.old.phase) (λ g. KeepsTo g (Reserve node thread) reply)) }
-    ensures geometry { phase_geometry D.Area world.new.phase ≡ phase_geometry D.Area world.old.phase }
+    ensures still { OnErr result (StillLives D.Area world.old.phase world.new.phase) }
 {
     let reserved = world.step(alloc, &Event::Reserve { node, thread })?;
     let Reply::Reserved { .. } = reserved else {
@@ -46,10 +50,11 @@ pub(crate) fn flush<D: Stoppable + Drop>(
     alloc: Global,
     node: u16,
 ) -> Result<Reply, AllocError>
-    ensures follows { IfOk result (λ reply. FollowsAll D.Area world.old (FlushStep node) reply world.new) }
+    ensures follows { IfOk result (λ reply. FollowsAll D.Area (FitsWorld D.Area) world.old (FlushStep node) reply world.new) }
+    // Whatever the areas are: of a store that is up, and of one that is down.
+    ensures anyhow { IfOk result (λ reply. FollowsAll D.Area (IsUpBeside D.Area) world.old (FlushStep node) reply world.new) }
+    ensures down { IfOk result (λ reply. RefusesDown D.Area world.old reply world.new) }
     ensures memory { OnErr result ⊥ }
-    ensures keeps { IfOk result (λ reply. ForSome (phase_geometry D.Area world.old.phase) (λ g. KeepsTo g (FlushStep node) reply)) }
-    ensures geometry { phase_geometry D.Area world.new.phase ≡ phase_geometry D.Area world.old.phase }
 {
     for _ in 0..FLUSH_STEPS {
         match world.step(alloc, &Event::FlushStep { node })? {
@@ -66,11 +71,14 @@ pub(crate) fn recover<D: Stoppable + Drop, T: Teller>(
     alloc: Global,
     teller: &T,
 ) -> Result<Reply, AllocError>
-    ensures follows { IfOk result (λ reply. FollowsAll D.Area world.old RecoverStep reply world.new) }
+    ensures follows { IfOk result (λ reply. FollowsAll D.Area (FitsWorld D.Area) world.old RecoverStep reply world.new) }
+    // Whatever the areas are: of a store that is up, and of one that is down.
+    ensures anyhow { IfOk result (λ reply. FollowsAll D.Area (IsUpBeside D.Area) world.old RecoverStep reply world.new) }
+    ensures down { IfOk result (λ reply. RunsRecovery D.Area world.old reply world.new) }
     ensures refused { IfOk result (λ reply. RefusesAll D.Area world.old reply) }
-    ensures memory { OnErr result (AsksFor D.Area world.old Recover) }
     ensures keeps { IfOk result (λ reply. ForSome (phase_geometry D.Area world.old.phase) (λ g. KeepsTo g RecoverStep reply)) }
-    ensures geometry { phase_geometry D.Area world.new.phase ≡ phase_geometry D.Area world.old.phase }
+    ensures memory { OnErr result (AsksFor D.Area world.old Recover) }
+    ensures still { OnErr result (StillLives D.Area world.old.phase world.new.phase) }
 {
     for _ in 0..RECOVERY_STEPS {
         match world.step(alloc, &Event::RecoverStep)? {

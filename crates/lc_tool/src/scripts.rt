@@ -1,9 +1,9 @@
 //! Runs a script.
-ghost use Rattle.std.specs.Prelude.{◌≡◌, ◌≢◌, ◌+◌, ℕ, List, false, IfOk, IfSome, OnOk, Some, None, take, if◌then◌else◌};
+ghost use Rattle.std.specs.Prelude.{◌≡◌, ◌≢◌, ◌+◌, ℕ, List, false, IfOk, IfSome, OnOk, Option, Some, None, take, if◌then◌else◌};
 ghost use Rattle.std.specs.Io.KnownBytes.{Appends};
-ghost use Rattle.std.specs.Option.{ForSome};
+ghost use Rattle.lc_record.specs.declared.geometry.Geometry.{Geometry as Sizes};
 ghost use Rattle.lc_model.specs.declared.refusal.Refusal.TheVariants.{BadGeometry};
-ghost use Rattle.lc_core.specs.Geometries.{phase_geometry};
+ghost use Rattle.lc_core.specs.Lives.{FitsLife, Life};
 ghost use Rattle.lc_tool.specs.Outcome.{LeavesFronted, LeavesLine, OpensStore, RefusesFirst, RunsAll, RunsLines, RunsRecovered};
 ghost use Rattle.lc_tool.specs.Script.{front_of, given_as};
 ghost use Rattle.lc_text.specs.Line.{line_of};
@@ -106,8 +106,8 @@ fn run_recovered<D: Stoppable + Drop, T: Teller + LineTeller, R: Read, W: Write>
 ) -> Result<u8, ToolFault>
     ensures runs { IfOk result (λ status. IfSome (R.remaining reader.old) (λ script.
         RunsRecovered D.Area world.old (given_as manner script) (W.contents writer.old) (W.contents writer.new) status)) }
-    ensures tells { IfOk result (λ status. IfSome (R.remaining reader.old) (λ script.
-        ForSome (phase_geometry D.Area world.old.phase) (λ g. Adds (TellsRecovered g (given_as manner script)) (W.contents writer.old) (W.contents writer.new) status))) }
+    ensures tells { IfOk result (λ status. IfSome (R.remaining reader.old) (λ script. (g : Sizes) (at : Option Life) → FitsLife D.Area g at world.old.phase
+        → Adds (TellsRecovered g at (given_as manner script)) (W.contents writer.old) (W.contents writer.new) status)) }
     ensures memory { result ≢ Err ToolFault.NoMemory }
 {
     let ended = run_read(alloc, manner, teller, world, reader, writer);
@@ -129,8 +129,8 @@ fn run_read<D: Stoppable + Drop, L: LineTeller, R: Read, W: Write>(
 ) -> Result<u8, ToolFault>
     ensures runs { IfOk result (λ status. IfSome (R.remaining reader.old) (λ script.
         RunsRecovered D.Area world.old (given_as manner script) (W.contents writer.old) (W.contents writer.new) status)) }
-    ensures tells { IfOk result (λ status. IfSome (R.remaining reader.old) (λ script.
-        ForSome (phase_geometry D.Area world.old.phase) (λ g. Adds (TellsRecovered g (given_as manner script)) (W.contents writer.old) (W.contents writer.new) status))) }
+    ensures tells { IfOk result (λ status. IfSome (R.remaining reader.old) (λ script. (g : Sizes) (at : Option Life) → FitsLife D.Area g at world.old.phase
+        → Adds (TellsRecovered g at (given_as manner script)) (W.contents writer.old) (W.contents writer.new) status)) }
     ensures memory { result ≢ Err ToolFault.NoMemory }
 {
     if manner.follow {
@@ -151,8 +151,8 @@ fn run_whole<D: Stoppable + Drop, L: LineTeller, R: Read, W: Write>(
 ) -> Result<u8, ToolFault>
     ensures runs { IfOk result (λ status. IfSome (R.remaining reader.old) (λ script.
         RunsAll D.Area (front_of numbered) world.old script (W.contents writer.old) (W.contents writer.new) status)) }
-    ensures tells { IfOk result (λ status. IfSome (R.remaining reader.old) (λ script.
-        ForSome (phase_geometry D.Area world.old.phase) (λ g. Adds (TellsAll (front_of numbered) g script) (W.contents writer.old) (W.contents writer.new) status))) }
+    ensures tells { IfOk result (λ status. IfSome (R.remaining reader.old) (λ script. (g : Sizes) (at : Option Life) → FitsLife D.Area g at world.old.phase
+        → Adds (TellsAll (front_of numbered) g at script) (W.contents writer.old) (W.contents writer.new) status)) }
     ensures memory { result ≢ Err ToolFault.NoMemory }
 {
     let script = match read_script(alloc, reader) {
@@ -175,8 +175,8 @@ fn open<D: Stoppable + Drop, T: Teller, W: Write>(
 ) -> Result<Option<u8>, ToolFault>
     ensures opens { IfOk result (λ status. OpensStore D.Area world.old (W.contents writer.old) (W.contents writer.new) status world.new) }
     ensures refused { IfOk result (λ status. RefusesFirst D.Area world.old (W.contents writer.old) (W.contents writer.new) status) }
-    ensures tells { IfOk result (λ status. TellsOpening (W.contents writer.old) (W.contents writer.new) status) }
-    ensures geometry { phase_geometry D.Area world.new.phase ≡ phase_geometry D.Area world.old.phase }
+    ensures tells { IfOk result (λ status. (g : Sizes) → FitsLife D.Area g None world.old.phase
+        → (after : Option Life) × FitsLife D.Area g after world.new.phase × TellsOpening g (W.contents writer.old) (W.contents writer.new) status after) }
     ensures memory { result ≢ Err ToolFault.NoMemory }
     ensures reads { result ≢ Err ToolFault.Read }
 {
@@ -241,7 +241,8 @@ fn run_lines<D: Stoppable + Drop, L: LineTeller, W: Write>(
     writer: &mut W,
 ) -> Result<u8, ToolFault>
     ensures runs { IfOk result (λ status. RunsLines D.Area (front_of numbered) world.old script.now (W.contents writer.old) (W.contents writer.new) status) }
-    ensures tells { IfOk result (λ status. ForSome (phase_geometry D.Area world.old.phase) (λ g. Adds (TellsLines (front_of numbered) g 1 false (script_lines script.now)) (W.contents writer.old) (W.contents writer.new) status)) }
+    ensures tells { IfOk result (λ status. (g : Sizes) (at : Option Life) → FitsLife D.Area g at world.old.phase
+        → Adds (TellsLines (front_of numbered) g at 1 false (script_lines script.now)) (W.contents writer.old) (W.contents writer.new) status) }
     ensures memory { result ≢ Err ToolFault.NoMemory }
     ensures reads { result ≢ Err ToolFault.Read }
 {
@@ -279,8 +280,9 @@ pub(crate) fn run_line<D: Stoppable + Drop, L: LineTeller, W: Write>(
     writer: &mut W,
 ) -> Result<Outcome, ToolFault>
     ensures leaves { IfOk result (λ outcome. LeavesFronted D.Area (front_of numbered) world.old line.now number (W.contents writer.old) (W.contents writer.new) outcome world.new) }
-    ensures tells { IfOk result (λ outcome. ForSome (phase_geometry D.Area world.old.phase) (λ g. Adds (TellsFronted (front_of numbered) g line.now number) (W.contents writer.old) (W.contents writer.new) outcome)) }
-    ensures geometry { phase_geometry D.Area world.new.phase ≡ phase_geometry D.Area world.old.phase }
+    ensures tells { IfOk result (λ outcome. (g : Sizes) (at : Option Life) → FitsLife D.Area g at world.old.phase
+        → (after : Option Life) × FitsLife D.Area g after world.new.phase
+        × Adds (λ text end. TellsFronted (front_of numbered) g at line.now number text end after) (W.contents writer.old) (W.contents writer.new) outcome) }
     ensures memory { result ≢ Err ToolFault.NoMemory }
     ensures reads { result ≢ Err ToolFault.Read }
 {
@@ -302,8 +304,9 @@ fn number_line<D: Stoppable + Drop, L: LineTeller, W: Write>(
     writer: &mut W,
 ) -> Result<Outcome, ToolFault>
     ensures leaves { IfOk result (λ outcome. LeavesFronted D.Area (front_of numbered) world.old line.now number (W.contents writer.old) (W.contents writer.new) outcome world.new) }
-    ensures tells { IfOk result (λ outcome. ForSome (phase_geometry D.Area world.old.phase) (λ g. Adds (TellsFronted (front_of numbered) g line.now number) (W.contents writer.old) (W.contents writer.new) outcome)) }
-    ensures geometry { phase_geometry D.Area world.new.phase ≡ phase_geometry D.Area world.old.phase }
+    ensures tells { IfOk result (λ outcome. (g : Sizes) (at : Option Life) → FitsLife D.Area g at world.old.phase
+        → (after : Option Life) × FitsLife D.Area g after world.new.phase
+        × Adds (λ text end. TellsFronted (front_of numbered) g at line.now number text end after) (W.contents writer.old) (W.contents writer.new) outcome) }
     ensures memory { result ≢ Err ToolFault.NoMemory }
     ensures reads { result ≢ Err ToolFault.Read }
 {
@@ -339,8 +342,9 @@ fn do_line<D: Stoppable + Drop, L: LineTeller, W: Write>(
     writer: &mut W,
 ) -> Result<Outcome, ToolFault>
     ensures leaves { IfOk result (λ outcome. LeavesLine D.Area world.old line.now number (W.contents writer.old) (W.contents writer.new) outcome world.new) }
-    ensures tells { IfOk result (λ outcome. ForSome (phase_geometry D.Area world.old.phase) (λ g. Adds (TellsLine g line.now number) (W.contents writer.old) (W.contents writer.new) outcome)) }
-    ensures geometry { phase_geometry D.Area world.new.phase ≡ phase_geometry D.Area world.old.phase }
+    ensures tells { IfOk result (λ outcome. (g : Sizes) (at : Option Life) → FitsLife D.Area g at world.old.phase
+        → (after : Option Life) × FitsLife D.Area g after world.new.phase
+        × Adds (λ text end. TellsLine g at line.now number text end after) (W.contents writer.old) (W.contents writer.new) outcome) }
     ensures memory { result ≢ Err ToolFault.NoMemory }
     ensures reads { result ≢ Err ToolFault.Read }
 {
@@ -368,9 +372,10 @@ fn do_command<D: Stoppable + Drop, W: Write>(
     writer: &mut W,
 ) -> Result<Outcome, ToolFault>
     ensures leaves { (line : List ℕ) (number : ℕ) → line_of line ≡ Commanded command.now → IfOk result (λ outcome. LeavesLine D.Area world.old line number (W.contents writer.old) (W.contents writer.new) outcome world.new) }
-    ensures tells { (line : List ℕ) (number : ℕ) → line_of line ≡ Commanded command.now → IfOk result (λ outcome.
-        ForSome (phase_geometry D.Area world.old.phase) (λ g. Adds (TellsLine g line number) (W.contents writer.old) (W.contents writer.new) outcome)) }
-    ensures geometry { phase_geometry D.Area world.new.phase ≡ phase_geometry D.Area world.old.phase }
+    ensures tells { (line : List ℕ) (number : ℕ) → line_of line ≡ Commanded command.now
+        → IfOk result (λ outcome. (g : Sizes) (at : Option Life) → FitsLife D.Area g at world.old.phase
+        → (after : Option Life) × FitsLife D.Area g after world.new.phase
+        × Adds (λ text end. TellsLine g at line number text end after) (W.contents writer.old) (W.contents writer.new) outcome) }
     ensures memory { result ≢ Err ToolFault.NoMemory }
     ensures reads { result ≢ Err ToolFault.Read }
 {

@@ -1,7 +1,8 @@
 //! How a script's line empties the log of a node.
-ghost use Rattle.std.specs.Prelude.{◌≡◌, ◌≢◌, IfOk};
-ghost use Rattle.std.specs.Option.{ForSome};
-ghost use Rattle.lc_core.specs.Geometries.{phase_geometry};
+ghost use Rattle.std.specs.Prelude.{◌≡◌, ◌≢◌, IfOk, Option};
+ghost use Rattle.lc_record.specs.declared.geometry.Geometry.{Geometry};
+ghost use Rattle.lc_core.specs.Lives.{FitsLife, Life};
+ghost use Rattle.lc_core.specs.World.{FitsWorld};
 ghost use Rattle.lc_tool.specs.Fits.{Performs};
 ghost use Rattle.lc_tool.specs.Session.{truncate_text};
 ghost use Rattle.lc_look.specs.Printed.{Adds};
@@ -26,9 +27,10 @@ pub(crate) fn show_truncation<D: Stoppable + Drop, W: Write>(
     node: u16,
     writer: &mut W,
 ) -> Result<Verdict, Stop>
-    ensures done { IfOk result (λ verdict. Performs D.Area world.old (Truncate node) (W.contents writer.old) (W.contents writer.new) verdict world.new) }
-    ensures tells { IfOk result (λ verdict. ForSome (phase_geometry D.Area world.old.phase) (λ g. Adds (TellsCommand g (Truncate node)) (W.contents writer.old) (W.contents writer.new) verdict)) }
-    ensures geometry { phase_geometry D.Area world.new.phase ≡ phase_geometry D.Area world.old.phase }
+    ensures done { IfOk result (λ verdict. Performs D.Area (FitsWorld D.Area) world.old (Truncate node) (W.contents writer.old) (W.contents writer.new) verdict world.new) }
+    ensures tells { IfOk result (λ verdict. (g : Geometry) (at : Option Life) → FitsLife D.Area g at world.old.phase
+        → (after : Option Life) × FitsLife D.Area g after world.new.phase
+        × Adds (λ text end. TellsCommand g at (Truncate node) text end after) (W.contents writer.old) (W.contents writer.new) verdict) }
     ensures memory { result ≢ Err Stop.NoMemory }
 {
     let reply = world.truncate(alloc, node);

@@ -304,3 +304,12 @@ IsReadOf found asked = ((rows : List Row) → found ≡ Some (codes "run", rows)
     × ((rows : List Row) → found ≡ Some (codes "dump", rows) → IsDumpOf rows asked)
     × ((rows : List Row) → found ≡ Some (codes "draw", rows) → IsDrawOf rows asked)
     × ((rows : List Row) → found ≡ Some (codes "copy", rows) → IsCopyOf rows asked)
+
+-- some words ask for it
+abbrev pub IsAskedBySome : Asked → Type 0
+IsAskedBySome asked = (words : List Text) × IsAskedBy words asked
+
+-- the words have a fault
+abbrev pub is_faulty : Asked → Bool
+is_faulty (Faulty reason) = true
+is_faulty asked = false

@@ -16,11 +16,10 @@ use Rattle.lc_tool.proofs.following.follow_lines.Goals as goal
 pub loop-raw-init : goal.loop-raw-init
 loop-raw-init g c = record {
   count = omega arith;
-  geometry = refl;
   read = λ script is. (
     script,
     is,
-    (λ h same. at_first (TellsFollowed (front_of c.args.numbered) h 1 false (lines_followed script)) (g.W.Write.contents c.args.writer.now)),
+    (λ h first fits. (first, fits, at_first (TellsFollowed (front_of c.args.numbered) h first 1 false (lines_followed script)) (g.W.Write.contents c.args.writer.now))),
     (λ m first start fits. (first, start, fits, at_first (Follows (front_of c.args.numbered) m first start 1 false (lines_followed script)) (g.W.Write.contents c.args.writer.now))),
   );
 }
@@ -38,11 +37,12 @@ returns-in-Err-NoMemory-clause-runs g c =
 pub returns-in-Err-NoMemory-clause-tells : goal.returns-in-Err-NoMemory-clause-tells
 returns-in-Err-NoMemory-clause-tells g c =
     IfOk-weaker c.no_memory.result _ _ (λ status shown.
-    some_by (lines_left g.R.Read.remaining c.args.lines.now) _ (λ script is h same.
+    some_by (lines_left g.R.Read.remaining c.args.lines.now) _ (λ script is h first fits.
     let read = c.loop-raw.invariant.read script is in
-    to_end (TellsFollowed (front_of c.args.numbered) h 1 false (lines_followed script)) (g.W.Write.contents c.args.writer.now)
-    (TellsFollowed (front_of c.args.numbered) h c.loop-raw.number c.loop-raw.refused (lines_within (18446744073709551615 - c.loop-raw.number) read.0)) (g.W.Write.contents c.loop-raw.writer) (g.W.Write.contents c.no_memory.new.writer)
-    (read.2 h same) no_memory_text shown.1 status (tells_want (front_of c.args.numbered) c.loop-raw.number c.loop-raw.refused h (lines_within (18446744073709551615 - c.loop-raw.number) read.0) status shown.0))) c.no_memory.ensures.shown
+    let before = read.2 h first fits in
+    to_end (TellsFollowed (front_of c.args.numbered) h first 1 false (lines_followed script)) (g.W.Write.contents c.args.writer.now)
+    (TellsFollowed (front_of c.args.numbered) h before.0 c.loop-raw.number c.loop-raw.refused (lines_within (18446744073709551615 - c.loop-raw.number) read.0)) (g.W.Write.contents c.loop-raw.writer) (g.W.Write.contents c.no_memory.new.writer)
+    before.2 no_memory_text shown.1 status (tells_want (front_of c.args.numbered) c.loop-raw.number c.loop-raw.refused h before.0 (lines_within (18446744073709551615 - c.loop-raw.number) read.0) status shown.0))) c.no_memory.ensures.shown
 
 nil_of : (xs : List ℕ) → length xs ≡ 0 → xs ≡ []
 nil_of [] e = refl
@@ -72,14 +72,15 @@ returns-then-is_empty-clause-runs g c =
 
 pub returns-then-is_empty-clause-tells : goal.returns-then-is_empty-clause-tells
 returns-then-is_empty-clause-tells g c =
-    some_by (lines_left g.R.Read.remaining c.args.lines.now) _ (λ script is h same.
+    some_by (lines_left g.R.Read.remaining c.args.lines.now) _ (λ script is h first fits.
     let read = c.loop-raw.invariant.read script is in
+    let before = read.2 h first fits in
     let through = (some_at (lines_left g.R.Read.remaining c.loop-raw.lines) read.0 (λ xs. (c.in-Ok.raw.items ≡ take_through 10 xs) × (lines_left g.R.Read.remaining c.next.new.self ≡ Some (drop_through 10 xs))) read.1 (c.in-Ok.ensures.line (omega (arith, c.in-Ok.raw.ok.0, zero_of c.in-Ok.raw.len c.if-is_empty.ensures)))).0 in
     let none = none_left c.in-Ok.raw.items read.0 c.in-Ok.raw.len through c.in-Ok.raw.ok.0 c.if-is_empty.ensures in
-    over (TellsFollowed (front_of c.args.numbered) h 1 false (lines_followed script)) (g.W.Write.contents c.args.writer.now)
-    (TellsFollowed (front_of c.args.numbered) h c.loop-raw.number c.loop-raw.refused (lines_within (18446744073709551615 - c.loop-raw.number) read.0)) (g.W.Write.contents c.loop-raw.writer) c.status_of.result (read.2 h same)
-    (subst (λ (rest : List ℕ). TellsFollowed (front_of c.args.numbered) h c.loop-raw.number c.loop-raw.refused (lines_within (18446744073709551615 - c.loop-raw.number) rest) [] c.status_of.result) (sym none)
-    (tells_end (front_of c.args.numbered) c.loop-raw.number c.loop-raw.refused h c.status_of.result c.status_of.ensures)))
+    over (TellsFollowed (front_of c.args.numbered) h first 1 false (lines_followed script)) (g.W.Write.contents c.args.writer.now)
+    (TellsFollowed (front_of c.args.numbered) h before.0 c.loop-raw.number c.loop-raw.refused (lines_within (18446744073709551615 - c.loop-raw.number) read.0)) (g.W.Write.contents c.loop-raw.writer) c.status_of.result before.2
+    (subst (λ (rest : List ℕ). TellsFollowed (front_of c.args.numbered) h before.0 c.loop-raw.number c.loop-raw.refused (lines_within (18446744073709551615 - c.loop-raw.number) rest) [] c.status_of.result) (sym none)
+    (tells_end (front_of c.args.numbered) c.loop-raw.number c.loop-raw.refused h before.0 c.status_of.result c.status_of.ensures)))
 
 pub returns-then-len-gt-LONGEST-clause-runs : goal.returns-then-len-gt-LONGEST-clause-runs
 returns-then-len-gt-LONGEST-clause-runs g c =
@@ -98,15 +99,16 @@ returns-then-len-gt-LONGEST-clause-runs g c =
 pub returns-then-len-gt-LONGEST-clause-tells : goal.returns-then-len-gt-LONGEST-clause-tells
 returns-then-len-gt-LONGEST-clause-tells g c =
     IfOk-weaker c.too_long.result _ _ (λ status shown.
-    some_by (lines_left g.R.Read.remaining c.args.lines.now) _ (λ script is h same.
+    some_by (lines_left g.R.Read.remaining c.args.lines.now) _ (λ script is h first fits.
     let read = c.loop-raw.invariant.read script is in
+    let before = read.2 h first fits in
     let cut = line_passes (18446744073709551615 - c.loop-raw.number) 1048576 [] read.0
     (some_at (lines_left g.R.Read.remaining c.loop-raw.lines) read.0 (λ xs. 1048576 < length (take_through 10 xs)) read.1 (c.in-Ok.ensures.long (omega (arith, c.in-Ok.raw.ok.0, c.if-len-gt-LONGEST.true, c.len.ensures)))) in
-    to_end (TellsFollowed (front_of c.args.numbered) h 1 false (lines_followed script)) (g.W.Write.contents c.args.writer.now)
-    (TellsFollowed (front_of c.args.numbered) h c.loop-raw.number c.loop-raw.refused (lines_within (18446744073709551615 - c.loop-raw.number) read.0)) (g.W.Write.contents c.loop-raw.writer) (g.W.Write.contents c.too_long.new.writer)
-    (read.2 h same) too_long_text shown.1 status
-    (subst (λ (lines : List (Option (List ℕ))). TellsFollowed (front_of c.args.numbered) h c.loop-raw.number c.loop-raw.refused lines too_long_text status) (sym cut)
-    (tells_limit (front_of c.args.numbered) c.loop-raw.number c.loop-raw.refused h status shown.0)))) c.too_long.ensures.shown
+    to_end (TellsFollowed (front_of c.args.numbered) h first 1 false (lines_followed script)) (g.W.Write.contents c.args.writer.now)
+    (TellsFollowed (front_of c.args.numbered) h before.0 c.loop-raw.number c.loop-raw.refused (lines_within (18446744073709551615 - c.loop-raw.number) read.0)) (g.W.Write.contents c.loop-raw.writer) (g.W.Write.contents c.too_long.new.writer)
+    before.2 too_long_text shown.1 status
+    (subst (λ (lines : List (Option (List ℕ))). TellsFollowed (front_of c.args.numbered) h before.0 c.loop-raw.number c.loop-raw.refused lines too_long_text status) (sym cut)
+    (tells_limit (front_of c.args.numbered) c.loop-raw.number c.loop-raw.refused h before.0 status shown.0)))) c.too_long.ensures.shown
 
 -- behind the last number no line comes
 none_numbered : (bytes rest : List ℕ) (number count : ℕ) → number ≡ 18446744073709551615 → bytes ≡ take_through 10 rest → count ≡ length bytes → 1 ≤ count → lines_within (18446744073709551615 - number) rest ≡ None ∷ []
@@ -132,15 +134,16 @@ returns-then-number-clause-runs g c =
 pub returns-then-number-clause-tells : goal.returns-then-number-clause-tells
 returns-then-number-clause-tells g c =
     IfOk-weaker c.too_long-then-number.result _ _ (λ status shown.
-    some_by (lines_left g.R.Read.remaining c.args.lines.now) _ (λ script is h same.
+    some_by (lines_left g.R.Read.remaining c.args.lines.now) _ (λ script is h first fits.
     let read = c.loop-raw.invariant.read script is in
+    let before = read.2 h first fits in
     let through = (some_at (lines_left g.R.Read.remaining c.loop-raw.lines) read.0 (λ xs. (c.in-Ok.raw.items ≡ take_through 10 xs) × (lines_left g.R.Read.remaining c.next.new.self ≡ Some (drop_through 10 xs))) read.1 (c.in-Ok.ensures.line (omega (arith, c.in-Ok.raw.ok.0, c.if-len-gt-LONGEST.false, c.len.ensures)))).0 in
     let cut = none_numbered c.in-Ok.raw.items read.0 c.loop-raw.number c.in-Ok.raw.len (omega (arith, c.if-number.true)) through c.in-Ok.raw.ok.0 (some_of c.in-Ok.raw.len c.if-is_empty.ensures) in
-    to_end (TellsFollowed (front_of c.args.numbered) h 1 false (lines_followed script)) (g.W.Write.contents c.args.writer.now)
-    (TellsFollowed (front_of c.args.numbered) h c.loop-raw.number c.loop-raw.refused (lines_within (18446744073709551615 - c.loop-raw.number) read.0)) (g.W.Write.contents c.loop-raw.writer) (g.W.Write.contents c.too_long-then-number.new.writer)
-    (read.2 h same) too_long_text shown.1 status
-    (subst (λ (lines : List (Option (List ℕ))). TellsFollowed (front_of c.args.numbered) h c.loop-raw.number c.loop-raw.refused lines too_long_text status) (sym cut)
-    (tells_limit (front_of c.args.numbered) c.loop-raw.number c.loop-raw.refused h status shown.0)))) c.too_long-then-number.ensures.shown
+    to_end (TellsFollowed (front_of c.args.numbered) h first 1 false (lines_followed script)) (g.W.Write.contents c.args.writer.now)
+    (TellsFollowed (front_of c.args.numbered) h before.0 c.loop-raw.number c.loop-raw.refused (lines_within (18446744073709551615 - c.loop-raw.number) read.0)) (g.W.Write.contents c.loop-raw.writer) (g.W.Write.contents c.too_long-then-number.new.writer)
+    before.2 too_long_text shown.1 status
+    (subst (λ (lines : List (Option (List ℕ))). TellsFollowed (front_of c.args.numbered) h before.0 c.loop-raw.number c.loop-raw.refused lines too_long_text status) (sym cut)
+    (tells_limit (front_of c.args.numbered) c.loop-raw.number c.loop-raw.refused h before.0 status shown.0)))) c.too_long-then-number.ensures.shown
 
 comes : (bytes rest line behind : List ℕ) (number count : ℕ) → (number ≡ 18446744073709551615 → ⊥) → number ≤ 18446744073709551615 → bytes ≡ take_through 10 rest → count ≡ length bytes → count ≤ 1048576
     → script_lines bytes ≡ line ∷ script_lines behind → lines_within (18446744073709551615 - number) rest ≡ Some line ∷ lines_within (18446744073709551615 - (number + 1)) (drop_through 10 rest)
@@ -168,18 +171,19 @@ returns-in-Ends-clause-runs g c =
 
 pub returns-in-Ends-clause-tells : goal.returns-in-Ends-clause-tells
 returns-in-Ends-clause-tells g c =
-    some_by (lines_left g.R.Read.remaining c.args.lines.now) _ (λ script is h same.
+    some_by (lines_left g.R.Read.remaining c.args.lines.now) _ (λ script is h first fits.
     let read = c.loop-raw.invariant.read script is in
+    let before = read.2 h first fits in
     let through = (some_at (lines_left g.R.Read.remaining c.loop-raw.lines) read.0 (λ xs. (c.in-Ok.raw.items ≡ take_through 10 xs) × (lines_left g.R.Read.remaining c.next.new.self ≡ Some (drop_through 10 xs))) read.1 (c.in-Ok.ensures.line (omega (arith, c.in-Ok.raw.ok.0, c.if-len-gt-LONGEST.false, c.len.ensures)))).0 in
     let line = c.first_line.result.0.now in
     let come = comes c.in-Ok.raw.items read.0 line c.first_line.result.1.now c.loop-raw.number c.in-Ok.raw.len c.if-number.false c.loop-raw.invariant.count.1 through c.in-Ok.raw.ok.0 (omega (arith, c.if-len-gt-LONGEST.false, c.len.ensures))
     (ap script_lines (sym c.deref.ensures.value) ∙ c.first_line.ensures.lines) in
-    let end = rw c.in-Ends.is at (c.in_ok-was.ensures.tells h (c.loop-raw.invariant.geometry ∙ same)) in
-    to_end (TellsFollowed (front_of c.args.numbered) h 1 false (lines_followed script)) (g.W.Write.contents c.args.writer.now)
-    (TellsFollowed (front_of c.args.numbered) h c.loop-raw.number c.loop-raw.refused (lines_within (18446744073709551615 - c.loop-raw.number) read.0)) (g.W.Write.contents c.loop-raw.writer) (g.W.Write.contents c.run_line.new.writer)
-    (read.2 h same) end.0 end.2 c.in-Ends.status
-    (subst (λ (lines : List (Option (List ℕ))). TellsFollowed (front_of c.args.numbered) h c.loop-raw.number c.loop-raw.refused lines end.0 c.in-Ends.status) (sym come)
-    (tells_off (front_of c.args.numbered) c.loop-raw.number c.loop-raw.refused h line end.0 (lines_within (18446744073709551615 - (c.loop-raw.number + 1)) (drop_through 10 read.0)) c.in-Ends.status end.1)))
+    let end = rw c.in-Ends.is at (c.in_ok-was.ensures.tells h before.0 before.1) in
+    to_end (TellsFollowed (front_of c.args.numbered) h first 1 false (lines_followed script)) (g.W.Write.contents c.args.writer.now)
+    (TellsFollowed (front_of c.args.numbered) h before.0 c.loop-raw.number c.loop-raw.refused (lines_within (18446744073709551615 - c.loop-raw.number) read.0)) (g.W.Write.contents c.loop-raw.writer) (g.W.Write.contents c.run_line.new.writer)
+    before.2 end.2.0 end.2.2 c.in-Ends.status
+    (subst (λ (lines : List (Option (List ℕ))). TellsFollowed (front_of c.args.numbered) h before.0 c.loop-raw.number c.loop-raw.refused lines end.2.0 c.in-Ends.status) (sym come)
+    (tells_off (front_of c.args.numbered) c.loop-raw.number c.loop-raw.refused h before.0 line end.2.0 end.0 (lines_within (18446744073709551615 - (c.loop-raw.number + 1)) (drop_through 10 read.0)) c.in-Ends.status end.2.1)))
 
 pub loop-raw-preserved : goal.loop-raw-preserved
 loop-raw-preserved g c =
@@ -195,7 +199,6 @@ loop-raw-preserved g c =
     let short : length c.in-Ok.raw.items ≤ 1048576 = omega (arith, c.in-Ok.raw.ok.0, few) in
     record {
       count = (omega (arith, c.loop-raw.invariant.count.0), omega (arith, c.loop-raw.invariant.count.1, c.if-number.false));
-      geometry = c.run_line.ensures.geometry ∙ c.loop-raw.invariant.geometry;
       read = λ script is.
           let read = c.loop-raw.invariant.read script is in
           let both = some_at (lines_left g.R.Read.remaining c.loop-raw.lines) read.0 (λ xs. (c.in-Ok.raw.items ≡ take_through 10 xs) × (lines_left g.R.Read.remaining c.next.new.self ≡ Some (drop_through 10 xs))) read.1 (c.in-Ok.ensures.line short) in
@@ -206,12 +209,16 @@ loop-raw-preserved g c =
           let lines = lines_within (18446744073709551615 - (number + 1)) rest in (
             rest,
             both.1,
-            (λ h same.
-                let goes = rw c.in-Goes.is at (c.in_ok-was.ensures.tells h (c.loop-raw.invariant.geometry ∙ same)) in
-                further (TellsFollowed front h 1 false (lines_followed script)) held (TellsFollowed front h number refused (lines_within (18446744073709551615 - c.loop-raw.number) read.0)) mid holds (read.2 h same) goes.0 goes.2
-                (TellsFollowed front h (number + 1) (refused || was) lines)
-                (λ after status run. subst (λ (ls : List (Option (List ℕ))). TellsFollowed front h number refused ls (goes.0 ++ after) status) (sym come)
-                (tells_further front number refused h line goes.0 was lines after status goes.1 run))),
+            (λ h first fits.
+                let before = read.2 h first fits in
+                let goes = rw c.in-Goes.is at (c.in_ok-was.ensures.tells h before.0 before.1) in (
+                  goes.0,
+                  goes.1,
+                  further (TellsFollowed front h first 1 false (lines_followed script)) held (TellsFollowed front h before.0 number refused (lines_within (18446744073709551615 - c.loop-raw.number) read.0)) mid holds before.2
+                      goes.2.0 goes.2.2 (TellsFollowed front h goes.0 (number + 1) (refused || was) lines)
+                      (λ after status run. subst (λ (ls : List (Option (List ℕ))). TellsFollowed front h before.0 number refused ls (goes.2.0 ++ after) status) (sym come)
+                      (tells_further front number refused h before.0 line goes.2.0 was goes.0 lines after status goes.2.1 run)),
+                )),
             (λ m first start fits.
                 let before = read.3 m first start fits in
                 let goes = (rw c.in-Goes.is at c.in_ok-was.ensures.leaves) m before.0 before.1 before.2 in (

@@ -1,7 +1,7 @@
-use Rattle.std.proofs.Common.{◌≡◌, ◌-◌, ◌≤◌, ℕ, List, Some, false}
-use Rattle.std.specs.Option.{ForSome}
+use Rattle.std.proofs.Common.{◌≡◌, ◌-◌, ◌≤◌, ℕ, List, Option, Some, false}
+use Rattle.lc_record.specs.declared.geometry.Geometry.{Geometry}
 use Rattle.lc_model.specs.State.{Setting, State}
-use Rattle.lc_core.specs.Geometries.{phase_geometry}
+use Rattle.lc_core.specs.Lives.{FitsLife, Life}
 use Rattle.lc_core.specs.Numbers.{Numbers}
 use Rattle.lc_core.specs.World.{FitsWorld}
 use Rattle.lc_tool.specs.Coming.{lines_left}
@@ -14,11 +14,11 @@ use Rattle.lc_tool.proofs.following.follow_lines.Given as goal
 abbrev pub invariant-loop-raw : goal.invariant-loop-raw
 invariant-loop-raw g l = record {
   count : (1 ≤ l.number) × (l.number ≤ 18446744073709551615);
-  geometry : phase_geometry g.D.Area l.world.phase ≡ phase_geometry g.D.Area l.fn.world.phase;
   read : (script : List ℕ) → lines_left g.R.Read.remaining l.fn.lines ≡ Some script →
       (rest : List ℕ) × (lines_left g.R.Read.remaining l.lines ≡ Some rest)
-      × ForSome (phase_geometry g.D.Area l.fn.world.phase) (λ h.
-      SoFar (TellsFollowed (front_of l.fn.numbered) h 1 false (lines_followed script)) (TellsFollowed (front_of l.fn.numbered) h l.number l.refused (lines_within (18446744073709551615 - l.number) rest))
+      × ((h : Geometry) (first : Option Life) → FitsLife g.D.Area h first l.fn.world.phase →
+      (at : Option Life) × FitsLife g.D.Area h at l.world.phase
+      × SoFar (TellsFollowed (front_of l.fn.numbered) h first 1 false (lines_followed script)) (TellsFollowed (front_of l.fn.numbered) h at l.number l.refused (lines_within (18446744073709551615 - l.number) rest))
       (g.W.Write.contents l.fn.writer) (g.W.Write.contents l.writer))
       × ((m : Setting) (first : State) (start : Numbers) → FitsWorld g.D.Area m l.fn.world first start →
       (s : State) × (x : Numbers) × FitsWorld g.D.Area m l.world s x

@@ -15,8 +15,8 @@ returns-in-Err-clause-runs g c =
 pub returns-in-Err-clause-tells : goal.returns-in-Err-clause-tells
 returns-in-Err-clause-tells g c =
     IfOk-weaker c.no_memory.result _ _ (λ status shown.
-    some_by (g.R.Read.remaining c.args.reader.now) _ (λ script is h same.
-    (no_memory_text, tells_want (front_of c.args.numbered) 1 false h (lines_followed script) status shown.0, shown.1))) c.no_memory.ensures.shown
+    some_by (g.R.Read.remaining c.args.reader.now) _ (λ script is h at fits.
+    (no_memory_text, tells_want (front_of c.args.numbered) 1 false h at (lines_followed script) status shown.0, shown.1))) c.no_memory.ensures.shown
 
 pub returns-in-Ok-clause-runs : goal.returns-in-Ok-clause-runs
 returns-in-Ok-clause-runs g c = IfOk-weaker c.follow_lines.result _ _ (λ status follows. rw c.in-Ok.ensures.left at follows) c.follow_lines.ensures.runs

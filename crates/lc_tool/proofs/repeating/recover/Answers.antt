@@ -7,7 +7,8 @@ use Rattle.lc_core.specs.World.{FollowsWorld}
 use Rattle.lc_tool.proofs.Again.{not_step}
 use Rattle.lc_text.proofs.FieldLemmas.{on_err}
 use Rattle.lc_tool.proofs.Keeping.{step_keeps, steps_keep}
-use Rattle.lc_tool.proofs.Recovering.{all_gone, all_refused, first_gone, gone_asks, gone_follows, gone_refuses, more_gone}
+use Rattle.lc_tool.proofs.Beside.{told_all, told_by}
+use Rattle.lc_tool.proofs.Recovering.{all_down, all_gone, all_refused, all_up, first_gone, gone_asks, gone_down, gone_follows, gone_refuses, gone_up, more_gone}
 use Rattle.lc_tool.proofs.repeating.recover.Goals as goal
 
 pub loop-init : goal.loop-init
@@ -22,9 +23,12 @@ returns-in_default g c =
     record {
       follows = gone_follows g.D.Area c.args.world.now c.loop.world c.step.new.self c.loop.counter c.in_ok-reply.reply c.loop.invariant.gone c.in_ok-reply.ensures.follows (c.in_ok-reply.ensures.recovers refl) over;
       refused = gone_refuses g.D.Area c.args.world.now c.loop.world c.step.new.self c.loop.counter c.in_ok-reply.reply c.loop.invariant.gone c.in_ok-reply.ensures.follows (c.in_ok-reply.ensures.recovers refl) over;
+      anyhow = gone_up g.D.Area c.args.world.now c.loop.world c.step.new.self c.loop.counter c.in_ok-reply.reply c.loop.invariant.gone over (c.in_ok-reply.ensures.anyhow (λ choices is. absurd cc)).goes;
+      down = gone_down g.D.Area c.args.world.now c.loop.world c.step.new.self c.loop.counter c.in_ok-reply.reply c.loop.invariant.gone over
+          (told_by g.D.Area c.loop.world.phase c.step.new.self.phase RecoverStep c.in_ok-reply.reply (λ choices is. absurd cc) c.in_ok-reply.ensures.anyhow c.in_ok-reply.ensures.at_once);
       memory = tt;
+      still = tt;
       keeps = λ h same. step_keeps g.D.Area c.loop.world.phase c.step.new.self.phase RecoverStep c.in_ok-reply.reply c.in_ok-reply.ensures.unknown c.in_ok-reply.ensures.at_once h (c.loop.invariant.geometry ∙ same);
-      geometry = c.step.ensures.geometry ∙ c.loop.invariant.geometry;
     }
 
 pub loop-preserved : goal.loop-preserved
@@ -48,11 +52,21 @@ returns-clause-refused g c =
 pub returns-clause-memory : goal.returns-clause-memory
 returns-clause-memory g c = on_err_weaker c.step-2.result (λ asks. gone_asks g.D.Area c.args.world.now c.loop.world c.loop.counter c.loop.invariant.gone asks) c.step-2.ensures.memory
 
-pub returns-in_err-reply-clause-geometry : goal.returns-in_err-reply-clause-geometry
-returns-in_err-reply-clause-geometry g c = c.step.ensures.geometry ∙ c.loop.invariant.geometry
+pub returns-in_err-reply-clause-still : goal.returns-in_err-reply-clause-still
+returns-in_err-reply-clause-still g c = on_err c.from_residual.result (λ h at fits. c.in_err-reply.ensures.still h at (c.loop.invariant.gone.still h at fits))
+
+pub returns-clause-still : goal.returns-clause-still
+returns-clause-still g c = on_err_weaker c.step-2.result (λ still h at fits. still h at (c.loop.invariant.gone.still h at fits)) c.step-2.ensures.still
+
+pub returns-clause-anyhow : goal.returns-clause-anyhow
+returns-clause-anyhow g c =
+    all_up g.D.Area c.args.world.now c.loop.world c.step-2.new.self c.loop.counter c.step-2.result c.loop.invariant.gone (omega (arith, c.loop-test.false))
+    (told_all g.D.Area c.loop.world.phase c.step-2.new.self.phase RecoverStep c.step-2.result (λ choices is. absurd cc) c.step-2.ensures.anyhow c.step-2.ensures.at_once)
+
+pub returns-clause-down : goal.returns-clause-down
+returns-clause-down g c =
+    all_down g.D.Area c.args.world.now c.loop.world c.step-2.new.self c.loop.counter c.step-2.result c.loop.invariant.gone (omega (arith, c.loop-test.false))
+    (told_all g.D.Area c.loop.world.phase c.step-2.new.self.phase RecoverStep c.step-2.result (λ choices is. absurd cc) c.step-2.ensures.anyhow c.step-2.ensures.at_once)
 
 pub returns-clause-keeps : goal.returns-clause-keeps
 returns-clause-keeps g c = steps_keep g.D.Area c.loop.world.phase c.step-2.new.self.phase RecoverStep c.step-2.result c.step-2.ensures.unknown c.step-2.ensures.at_once c.args.world.now.phase c.loop.invariant.geometry
-
-pub returns-clause-geometry : goal.returns-clause-geometry
-returns-clause-geometry g c = c.step-2.ensures.geometry ∙ c.loop.invariant.geometry

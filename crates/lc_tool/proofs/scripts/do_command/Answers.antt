@@ -29,10 +29,29 @@ returns-in_ok-no_memory-in-Err-NoMemory-clause-leaves g c = λ line number read 
     )
 
 pub returns-in_ok-no_memory-in-Err-NoMemory-clause-tells : goal.returns-in_ok-no_memory-in-Err-NoMemory-clause-tells
-returns-in_ok-no_memory-in-Err-NoMemory-clause-tells g c = λ line number read h same.
+returns-in_ok-no_memory-in-Err-NoMemory-clause-tells g c = λ line number read h at fits.
     let shown = c.in_ok-no_memory-in-Err-NoMemory.ensures.shown in
     let want = ap (λ stop. Err stop) c.in-Err-NoMemory.field-0-is in (
-      no_memory_text,
-      inl (refl, shown.0),
-      keeps_then (g.W.Write.contents c.args.writer.now) _ (g.W.Write.contents c.no_memory.new.writer) no_memory_text (c.in-Err-NoMemory.ensures.memory want) shown.1,
+      at,
+      c.in-Err-NoMemory.ensures.still want h at fits,
+      (
+        no_memory_text,
+        inl ((refl, shown.0), refl),
+        keeps_then (g.W.Write.contents c.args.writer.now) _ (g.W.Write.contents c.no_memory.new.writer) no_memory_text (c.in-Err-NoMemory.ensures.memory want) shown.1,
+      ),
     )
+
+pub returns-in-Ok-Done-clause-tells : goal.returns-in-Ok-Done-clause-tells
+returns-in-Ok-Done-clause-tells g c = λ line number read h at fits.
+    let told = rw c.in-Ok-Done.field-0-is at (c.in-Ok-Done.ensures.tells h at fits) in
+    (told.0, told.1, (told.2.0, inr (c.args.command.now, Done, read, told.2.1, refl), told.2.2))
+
+pub returns-in-Ok-Refused-clause-tells : goal.returns-in-Ok-Refused-clause-tells
+returns-in-Ok-Refused-clause-tells g c = λ line number read h at fits.
+    let told = rw c.in-Ok-Refused.field-0-is at (c.in-Ok-Refused.ensures.tells h at fits) in
+    (told.0, told.1, (told.2.0, inr (c.args.command.now, Refused, read, told.2.1, refl), told.2.2))
+
+pub returns-in-Ok-Faulted-clause-tells : goal.returns-in-Ok-Faulted-clause-tells
+returns-in-Ok-Faulted-clause-tells g c = λ line number read h at fits.
+    let told = rw c.in-Ok-Faulted.field-0-is at (c.in-Ok-Faulted.ensures.tells h at fits) in
+    (told.0, told.1, (told.2.0, inr (inr (c.args.command.now, read, told.2.1, refl)), told.2.2))

@@ -11,7 +11,8 @@ returns-then-is_skipped-clause-leaves g c =
     (g.W.Write.contents c.args.writer.now) (sym c.if-is_skipped.ensures)
 
 pub returns-then-is_skipped-clause-tells : goal.returns-then-is_skipped-clause-tells
-returns-then-is_skipped-clause-tells g c = λ h same. ([], inl (skips_so c.args.line.now (sym c.if-is_skipped.ensures), refl, refl), adds_nothing (g.W.Write.contents c.args.writer.now))
+returns-then-is_skipped-clause-tells g c = λ h at fits.
+    (at, fits, ([], inl (skips_so c.args.line.now (sym c.if-is_skipped.ensures), refl, refl, refl), adds_nothing (g.W.Write.contents c.args.writer.now)))
 
 pub returns-clause-leaves : goal.returns-clause-leaves
 returns-clause-leaves g c =
@@ -21,10 +22,14 @@ returns-clause-leaves g c =
 
 pub returns-clause-tells : goal.returns-clause-tells
 returns-clause-tells g c =
-    IfOk-weaker c.do_line.result _ _ (λ outcome tells h same.
-    let told = tells h same in (
-      front_of c.args.numbered c.args.number ++ told.0,
-      inr (sym c.if-is_skipped.ensures, (told.0, refl, told.1)),
-      Appends-trans (g.W.Write.contents c.args.writer.now) (g.W.Write.contents c.show_number.new.writer) (g.W.Write.contents c.do_line.new.writer) (front_of c.args.numbered c.args.number) told.0
-          c.in_ok-show_number.ensures.shown told.2,
+    IfOk-weaker c.do_line.result _ _ (λ outcome tells h at fits.
+    let told = tells h at fits in (
+      told.0,
+      told.1,
+      (
+        front_of c.args.numbered c.args.number ++ told.2.0,
+        inr (sym c.if-is_skipped.ensures, (told.2.0, refl, told.2.1)),
+        Appends-trans (g.W.Write.contents c.args.writer.now) (g.W.Write.contents c.show_number.new.writer) (g.W.Write.contents c.do_line.new.writer) (front_of c.args.numbered c.args.number) told.2.0
+            c.in_ok-show_number.ensures.shown told.2.2,
+      ),
     )) c.do_line.ensures.tells

@@ -8,6 +8,9 @@ returns-in-Ok-clause-leaves g c =
     (g.W.Write.contents c.flush.new.self) c.in_ok-outcome.outcome c.in-Ok.ensures.bytes c.in_ok-outcome.ensures.leaves
 
 pub returns-in-Ok-clause-tells : goal.returns-in-Ok-clause-tells
-returns-in-Ok-clause-tells g c = λ h same.
-    let told = c.in_ok-outcome.ensures.tells h same in
-    (told.0, told.1, then_keeps (g.W.Write.contents c.args.writer.now) (g.W.Write.contents c.number_line.new.writer) (g.W.Write.contents c.flush.new.self) told.0 told.2 c.in-Ok.ensures.bytes)
+returns-in-Ok-clause-tells g c = λ h at fits.
+    let told = c.in_ok-outcome.ensures.tells h at fits in (
+      told.0,
+      told.1,
+      (told.2.0, told.2.1, then_keeps (g.W.Write.contents c.args.writer.now) (g.W.Write.contents c.number_line.new.writer) (g.W.Write.contents c.flush.new.self) told.2.0 told.2.2 c.in-Ok.ensures.bytes),
+    )

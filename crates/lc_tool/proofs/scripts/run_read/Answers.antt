@@ -12,8 +12,8 @@ returns-then-manner-clause-runs g c =
 pub returns-then-manner-clause-tells : goal.returns-then-manner-clause-tells
 returns-then-manner-clause-tells g c =
     IfOk-weaker c.follow_script.result _ _ (λ status tells.
-    some_weaker (g.R.Read.remaining c.args.reader.now) _ _ (λ script told h same.
-    tells_recovered h c.args.manner script (g.W.Write.contents c.args.writer.now) (g.W.Write.contents c.follow_script.new.writer) status c.if-manner.true (told h same)) tells) c.follow_script.ensures.tells
+    some_weaker (g.R.Read.remaining c.args.reader.now) _ _ (λ script told h at fits.
+    tells_recovered h at c.args.manner script (g.W.Write.contents c.args.writer.now) (g.W.Write.contents c.follow_script.new.writer) status c.if-manner.true (told h at fits)) tells) c.follow_script.ensures.tells
 
 pub returns-else-manner-clause-runs : goal.returns-else-manner-clause-runs
 returns-else-manner-clause-runs g c =
@@ -24,5 +24,5 @@ returns-else-manner-clause-runs g c =
 pub returns-else-manner-clause-tells : goal.returns-else-manner-clause-tells
 returns-else-manner-clause-tells g c =
     IfOk-weaker c.run_whole.result _ _ (λ status tells.
-    some_weaker (g.R.Read.remaining c.args.reader.now) _ _ (λ script told h same.
-    told_recovered h c.args.manner script (g.W.Write.contents c.args.writer.now) (g.W.Write.contents c.run_whole.new.writer) status c.if-manner.false (told h same)) tells) c.run_whole.ensures.tells
+    some_weaker (g.R.Read.remaining c.args.reader.now) _ _ (λ script told h at fits.
+    told_recovered h at c.args.manner script (g.W.Write.contents c.args.writer.now) (g.W.Write.contents c.run_whole.new.writer) status c.if-manner.false (told h at fits)) tells) c.run_whole.ensures.tells

@@ -1,10 +1,10 @@
-use Rattle.std.proofs.Common.{◌∙◌, ℕ, Option, ap, subst}
+use Rattle.std.proofs.Common.{ℕ, Option, Some, subst}
 use Rattle.std.proofs.lemmas.Result.{IfOk-weaker}
-use Rattle.lc_core.specs.Geometries.{phase_geometry}
+use Rattle.lc_core.specs.Lives.{FitsLife, Life}
 use Rattle.lc_tool.specs.Outcome.{OpensStore, RefusesFirst}
 use Rattle.lc_tool.specs.Script.{given_as}
 use Rattle.lc_tool.specs.Tells.{TellsOpening}
-use Rattle.lc_tool.proofs.Beginning.{never_refuses, never_wrong, recovered_runs, recovered_tells, some_all, stopped_refuses, stopped_runs, stopped_tells, wrong_tells}
+use Rattle.lc_tool.proofs.Beginning.{down_at, never_refuses, never_wrong, recovered_runs, recovered_tells, some_all, stopped_refuses, stopped_runs, stopped_tells, wrong_tells}
 use Rattle.lc_tool.proofs.ScriptLemmas.{some_weaker}
 use Rattle.lc_tool.proofs.scripts.run_told.Goals as goal
 
@@ -23,8 +23,9 @@ pub returns-in-Some-clause-tells : goal.returns-in-Some-clause-tells
 returns-in-Some-clause-tells g c =
     let held = g.W.Write.contents c.args.writer.now in
     let holds = g.W.Write.contents c.open.new.writer in
+    let opens = c.in_ok-status.ensures.tells c.args.geometry (down_at g.D.Area c.args.geometry c.in-Ok.world.phase c.args.areas.items c.in-Ok.ensures.down) in
     some_all (g.R.Read.remaining c.args.reader.now) _ (λ script.
-    stopped_tells c.args.geometry held holds c.in-Some.status (given_as c.args.manner script) (subst (λ (o : Option ℕ). TellsOpening held holds o) c.in-Some.is c.in_ok-status.ensures.tells))
+    stopped_tells c.args.geometry held holds c.in-Some.status (given_as c.args.manner script) (subst (λ (o : Option ℕ). TellsOpening c.args.geometry held holds o opens.0) c.in-Some.is opens.2))
 
 pub returns-in-Err-default-BadGeometry-clause-tells : goal.returns-in-Err-default-BadGeometry-clause-tells
 returns-in-Err-default-BadGeometry-clause-tells g c =
@@ -58,7 +59,9 @@ pub returns-clause-tells : goal.returns-clause-tells
 returns-clause-tells g c =
     let held = g.W.Write.contents c.args.writer.now in
     let mid = g.W.Write.contents c.open.new.writer in
-    let keeps = subst (λ (o : Option ℕ). TellsOpening held mid o) c.in_default.is c.in_ok-status.ensures.tells in
+    let opens = c.in_ok-status.ensures.tells c.args.geometry (down_at g.D.Area c.args.geometry c.in-Ok.world.phase c.args.areas.items c.in-Ok.ensures.down) in
+    let up = subst (λ (o : Option ℕ). TellsOpening c.args.geometry held mid o opens.0) c.in_default.is opens.2 in
+    let fits = subst (λ (at : Option Life). FitsLife g.D.Area c.args.geometry at c.open.new.world.phase) up.1 opens.1 in
     IfOk-weaker c.run_recovered.result _ _ (λ status tells.
     some_weaker (g.R.Read.remaining c.args.reader.now) _ _ (λ script told.
-    recovered_tells c.args.geometry held (g.W.Write.contents c.run_recovered.new.writer) status (given_as c.args.manner script) mid keeps (told c.args.geometry (c.open.ensures.geometry ∙ ap (phase_geometry g.D.Area) c.in-Ok.ensures.down))) tells) c.run_recovered.ensures.tells
+    recovered_tells c.args.geometry held (g.W.Write.contents c.run_recovered.new.writer) status (given_as c.args.manner script) mid up.0 up.2 up.3 (told c.args.geometry (Some up.0) fits)) tells) c.run_recovered.ensures.tells
