@@ -19,6 +19,8 @@ impl<D: Area + Drop> Area for Counted<D> {
 
     ghost dirty = { λ c k. D.dirty c.area k };
 
+    ghost calls = { λ c. D.calls c.area };
+
     ghost failures = { λ c. D.failures c.area };
 
     ghost honest = { λ c. D.honest c.area };

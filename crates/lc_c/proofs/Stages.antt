@@ -11,6 +11,7 @@ use Rattle.lc_model.specs.declared.reply.Reply.TheVariants.{Refused}
 use Rattle.lc_core.proofs.Replying.{steps_of}
 use Rattle.lc_core.specs.Answered.{ComesTo}
 use Rattle.lc_core.specs.Calls.{CallsArea, KeepsAreas}
+use Rattle.lc_core.specs.MayReply.{may_reply}
 use Rattle.lc_core.specs.Faults.{CountsPhase, phase_failures}
 use Rattle.lc_core.specs.Geometries.{RefusesOutside, phase_geometry}
 use Rattle.lc_core.specs.Lives.{Anyhow}
@@ -36,12 +37,13 @@ module _ (store : Store) (event : Event) (after : Store) where
       → OnErr said (AsksIn ghosts store.phase event) → IfOk said (λ reply. RefusesAtOnce ghosts store.phase event reply after.phase)
       → IfOk said (λ reply. CountsPhase ghosts store.phase reply after.phase) → OnErr said (phase_failures ghosts after.phase ≡ phase_failures ghosts store.phase)
       → phase_geometry ghosts after.phase ≡ phase_geometry ghosts store.phase → IfOk said (RefusesOutside ghosts store.phase event)
-      → (((choices : List (List Choice)) → event ≡ Stop choices → ⊥) → CallsArea ghosts store.phase after.phase) → OnErr said (KeepsAreas ghosts store.phase after.phase)
+      → IfOk said (λ reply. ((choices : List (List Choice)) → event ≡ Stop choices → ⊥) → CallsArea ghosts store.phase event reply after.phase) → OnErr said (KeepsAreas ghosts store.phase after.phase)
       → IfOk said (λ reply. ((choices : List (List Choice)) → event ≡ Stop choices → ⊥) → Anyhow ghosts store.phase event reply after.phase)
+      → IfOk said (λ reply. may_reply event reply ≡ true)
       → ComesTo ghosts store event (replied said) after
-  comes (Ok reply) step follows asks still at_all at_once faults failures geometry unknown calls kept anyhow =
-      steps_of ghosts store event reply after (no_stop event step) follows at_once faults geometry unknown calls anyhow
-  comes (Err error) step follows asks still at_all at_once faults failures geometry unknown calls kept anyhow =
+  comes (Ok reply) step follows asks still at_all at_once faults failures geometry unknown calls kept anyhow names =
+      steps_of ghosts store event reply after (no_stop event step) follows at_once faults geometry unknown calls anyhow names
+  comes (Err error) step follows asks still at_all at_once faults failures geometry unknown calls kept anyhow names =
       record { asks = asks; at_all = at_all; still = still; failures = failures; geometry = geometry; kept = kept }
 
 -- the same of a read, which leaves the store

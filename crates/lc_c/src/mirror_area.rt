@@ -1,7 +1,7 @@
 //! An area in memory that a file mirrors.
 ghost use Rattle.std.specs.Prelude.{◌≡◌, ◌+◌, ◌≤◌, ◌<◌, ◌^◌, ◌%◌, ℕ, None, Some, true, false, length, slice_index_or, option_copied, take, drop, Ok, IfOk, OnErr};
 ghost use Rattle.lc_disk.specs.Area.{IsImage, IsSameOutside, BecomeDirty, overlaid};
-ghost use Rattle.lc_disk.specs.MemArea.{memory_now, memory_stable, memory_dirty};
+ghost use Rattle.lc_disk.specs.MemArea.{memory_calls, memory_dirty, memory_now, memory_stable, KeepsMemory};
 ghost use Rattle.lc_disk.specs.Stop.{left_by_stop};
 ghost use Rattle.lc_c.specs.MirrorArea.{IsSync, IsUncalled, IsWrite};
 ghost use Rattle.lc_c.specs.declared.area_call.AreaCall.TheVariants.{Write, Sync};
@@ -87,6 +87,8 @@ impl Area for MirrorArea {
 
     ghost dirty = { λ m. memory_dirty m.area };
 
+    ghost calls = { λ m. memory_calls m.area };
+
     ghost failures = { λ m. 0 };
 
     ghost honest = { λ m. true };
@@ -99,7 +101,11 @@ impl Area for MirrorArea {
         requires { at + length buffer.old ≤ length (memory_now (mirror_area self.old)) }
         ensures done { result ≡ Ok tt }
         ensures bytes { buffer.new ≡ take (length buffer.old) (drop at (memory_now (mirror_area self.old))) }
-        ensures same { self.new ≡ self.old }
+        ensures same { KeepsMemory (mirror_area self.old) (mirror_area self.new) }
+        ensures last { mirror_last self.new ≡ mirror_last self.old }
+        ensures before { mirror_before self.new ≡ mirror_before self.old }
+        ensures calls { mirror_calls self.new ≡ mirror_calls self.old }
+        ensures called { memory_calls (mirror_area self.new) ≡ memory_calls (mirror_area self.old) + 1 }
     {
         self.area.read(at, buffer)
     }
@@ -115,6 +121,7 @@ impl Area for MirrorArea {
         ensures last { mirror_last self.new ≡ Some (Write at (length bytes.now)) }
         ensures before { mirror_before self.new ≡ mirror_area self.old }
         ensures calls { mirror_calls self.new ≡ (mirror_calls self.old + 1) % 2 ^ 64 }
+        ensures called { memory_calls (mirror_area self.new) ≡ memory_calls (mirror_area self.old) + 1 }
     {
         let before = Snapshot::of(&self.area);
         let done = self.area.write_at(at, bytes);
@@ -135,6 +142,7 @@ impl Area for MirrorArea {
         ensures last { mirror_last self.new ≡ Some Sync }
         ensures before { mirror_before self.new ≡ mirror_area self.old }
         ensures calls { mirror_calls self.new ≡ (mirror_calls self.old + 1) % 2 ^ 64 }
+        ensures called { memory_calls (mirror_area self.new) ≡ memory_calls (mirror_area self.old) + 1 }
     {
         let before = Snapshot::of(&self.area);
         let done = self.area.sync();
@@ -162,6 +170,7 @@ impl Stoppable for MirrorArea {
         ensures image { IsImage (memory_now (mirror_area self.old)) (memory_dirty (mirror_area self.old)) (memory_now (mirror_area self.new)) }
         ensures clean { (k : ℕ) → memory_dirty (mirror_area self.new) k ≡ false }
         ensures last { mirror_last self.new ≡ None }
+        ensures called { memory_calls (mirror_area self.new) ≡ memory_calls (mirror_area self.old) }
     {
         self.area.stop(choices);
         self.before = Snapshot::of(&self.area);

@@ -1,9 +1,10 @@
 //! Areas whose bytes outlive them.
 ghost use Rattle.std.specs.Prelude.{length, replicate, true, false};
+ghost use Rattle.lc_disk.specs.Tally.{tallied};
 ghost use Rattle.lc_disk.specs.When.{IsCountable};
 
 use crate::stores::{LOG_BYTES, SEGMENT_BYTES};
-use lc_disk::{Area, DeviceFault, Fuse, MemArea, When};
+use lc_disk::{Area, DeviceFault, Fuse, MemArea, Tally, When};
 use std::alloc::{AllocError, Global};
 use std::sync::atomic::{AtomicU8, Ordering};
 
@@ -56,15 +57,17 @@ pub(crate) fn zeros(alloc: Global, len: usize) -> Result<Vec<AtomicU8>, AllocErr
 }
 
 /// An area of bytes that others may look at, of which no clause says anything.
-#[derive(Clone, Copy)]
+#[derive(Drop)]
 pub(crate) struct SharedArea<'a> {
     bytes: &'a [AtomicU8],
+    calls: Tally,
 }
 
 /// The area of these bytes.
 pub(crate) fn area_of(bytes: &Vec<AtomicU8>) -> SharedArea<'_> {
     SharedArea {
         bytes: bytes.as_slice(),
+        calls: Tally::new(),
     }
 }
 
@@ -84,6 +87,8 @@ impl Area for SharedArea<'_> {
 
     ghost dirty = { λ a k. false };
 
+    ghost calls = { λ a. tallied a.calls };
+
     ghost failures = { λ a. 0 };
 
     ghost honest = { λ a. false };
@@ -93,6 +98,7 @@ impl Area for SharedArea<'_> {
     }
 
     fn read(&mut self, at: usize, buffer: &mut [u8]) -> Result<(), DeviceFault> {
+        self.calls.count();
         for place in 0..buffer.len() {
             if let Some(byte) = self.bytes.get(at.wrapping_add(place)) {
                 buffer[place] = byte.load(Ordering::SeqCst);
@@ -102,11 +108,13 @@ impl Area for SharedArea<'_> {
     }
 
     fn write_at(&mut self, at: usize, bytes: &[u8]) -> Result<(), DeviceFault> {
+        self.calls.count();
         self.lay(at, bytes);
         Ok(())
     }
 
     fn sync(&mut self) -> Result<(), DeviceFault> {
+        self.calls.count();
         Ok(())
     }
 
@@ -138,12 +146,14 @@ impl<'a> Mirror<'a> {
 }
 
 impl Area for Mirror<'_> {
-    ghost use Rattle.lc_disk.specs.Fuse.{fuse_area, fuse_failures};
+    ghost use Rattle.lc_disk.specs.Fuse.{fuse_area, fuse_calls, fuse_failures};
     ghost use Rattle.lc_disk.specs.MemArea.{memory_now, memory_dirty};
 
     ghost now = { λ m. memory_now (fuse_area m.fuse) };
 
     ghost dirty = { λ m. memory_dirty (fuse_area m.fuse) };
+
+    ghost calls = { λ m. fuse_calls m.fuse };
 
     ghost failures = { λ m. fuse_failures m.fuse };
 
