@@ -80,6 +80,8 @@ def definitions():
         imports[crate, module] = imported(IMPORT, text)
         name, indent = None, 0
         for line in text.splitlines():
+            if line.lstrip().startswith("module "):
+                name = None
             if not line.strip() or line.lstrip().startswith(("--", "use ", "pub use ", "pub mod ", "mod ", "module ")):
                 continue
             head = DEFINITION.match(line)
@@ -105,9 +107,9 @@ def reached(found, imports):
     """The definitions that the clauses of the headline reach, by way of what they name."""
     crate, function = HEADLINE
     source = next(it for it in (TOP / "crates" / crate / "src").glob("*.rt") if f"pub fn {function}<" in it.read_text(encoding="utf-8"))
-    text = source.read_text(encoding="utf-8")
+    text = without_comments(source.read_text(encoding="utf-8"))
     cited = imported(CITED, text)
-    clauses = " ".join(clause[2] for clause in clauses_of(without_comments(text), text.index(f"pub fn {function}")))
+    clauses = " ".join(clause[2] for clause in clauses_of(text, text.index(f"pub fn {function}")))
     todo = collections.deque(cited[word] for word in WORD.findall(clauses) if word in cited)
     seen = set()
     while todo:
