@@ -54,7 +54,7 @@ trap 'exit 1' HUP INT TERM
 export work
 cd "$top"
 
-# One row: what it says, and its status, which is 124 behind its limit.
+# One row: what it says, and its status, which is 124 after its limit.
 cat > "$work/row" <<'ROW'
 read -r limit name command <<LINE
 $1
@@ -88,7 +88,7 @@ while read -r limit name command; do
         echo "$name: $last ($seconds s)"
     else
         failed=$((failed + 1))
-        [ "$status" -ne 124 ] || last="not at its end behind $limit seconds: $last"
+        [ "$status" -ne 124 ] || last="not at its end after $limit seconds: $last"
         echo "$name: FAILED, status $status ($seconds s): $last"
         tail -n 40 "$work/$name.out" | sed "s/^/$name | /"
     fi

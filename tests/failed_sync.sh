@@ -166,7 +166,7 @@ for mode in failed killed; do
 
         # The store goes on.
         before=$failed
-        holds "$name, behind it" $acked
+        holds "$name, after it" $acked
         status=0
         lcrvm run --store disk/store $size < next.script > next.out 2> errors || status=$?
         [ $status -eq 0 ] && grep -q '^acked' next.out || fail "$name: the next run has status $status: $(tail -n 1 next.out)"
@@ -174,18 +174,18 @@ for mode in failed killed; do
         # The power goes: the disk has what was written back to it, and nothing else.
         cp image after
         leave
-        enter after || { fail "$name: no disk behind the power's loss"; break; }
-        holds "$name, behind the loss of power" 7
+        enter after || { fail "$name: no disk after the power's loss"; break; }
+        holds "$name, after the loss of power" 7
         leave
         [ $failed -eq $before ] || lost=$((lost + 1))
         number=$((number + 1))
     done
     [ $number -gt 1 ] || fail 'no sync was held'
     case $mode in
-        failed) echo "each of $((number - 1)) syncs failed once: behind $lost of them a store was not right" ;;
+        failed) echo "each of $((number - 1)) syncs failed once: after $lost of them a store was not right" ;;
         killed)
             echo "before each a run was killed once, and the system wrote back: that failed $((number - 1 - clean)) times, which $told" \
-                "recoveries told; behind $lost of them a store was not right"
+                "recoveries told; after $lost of them a store was not right"
             ;;
     esac
 done

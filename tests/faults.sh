@@ -1,7 +1,7 @@
 #!/bin/sh
-# Fails each call on the files of a store in turn, one a run: of a run, a recovery, a recovery behind a fault, an init and an
+# Fails each call on the files of a store in turn, one a run: of a run, a recovery, a recovery after a fault, an init and an
 # inspection. The status is 3, standard error names the file and the system's reason, what failed is called no more, a failed
-# write or sync leaves its mark, and a recovery behind it finds each acknowledged commit, whole. It also fails standard input
+# write or sync leaves its mark, and a recovery after it finds each acknowledged commit, whole. It also fails standard input
 # and standard output, and looks how a store whose mark is there is recovered.
 #
 # usage: tests/faults.sh [PROGRAM]     (default: crates/lcrvm/out/lcrvm; a C compiler `cc` is wanted)
@@ -47,7 +47,7 @@ size='--nodes 2 --segments 2 --words 256'
 files='lcrvm.store log0 log1 seg1 seg2 '
 store=$work/at/store
 
-# Commit K puts the number K in two bytes of both segments. One node's commits come first, and behind a page write and a
+# Commit K puts the number K in two bytes of both segments. One node's commits come first, and after a page write and a
 # reset those of the other.
 commits() {
     awk -v first="$1" -v last="$2" -v node="$3" 'BEGIN {
@@ -125,10 +125,10 @@ marked() {
 recovered() {
     after=0
     lcrvm recover "$store" $size > recovered 2>&1 || after=$?
-    [ $after -eq 0 ] || { fail "$1: the recovery behind it has status $after: $(tail -n 1 recovered)"; return; }
+    [ $after -eq 0 ] || { fail "$1: the recovery after it has status $after: $(tail -n 1 recovered)"; return; }
     after=0
     lcrvm run --store "$store" $size < look.script > looked 2>&1 || after=$?
-    [ $after -eq 0 ] || { fail "$1: the look behind it has status $after: $(tail -n 1 looked)"; return; }
+    [ $after -eq 0 ] || { fail "$1: the look after it has status $after: $(tail -n 1 looked)"; return; }
     one=$(sed -n 2p looked)
     two=$(sed -n 4p looked)
     [ "$one" = "$two" ] || fail "$1: a part of a commit is there: $one, $two"

@@ -1,7 +1,7 @@
 #!/bin/sh
 # Tries the built program over stores in folders: a store that is left and opened again goes on as one that is stopped
-# and recovered in memory, and what was acknowledged holds behind a process that is killed; a check says what the recovery
-# behind it prints, and changes nothing.
+# and recovered in memory, and what was acknowledged holds after a process that is killed; a check says what the recovery
+# after it prints, and changes nothing.
 #
 # usage: tests/files.sh [PROGRAM [SEED]]     (default: crates/lcrvm/out/lcrvm, 1)
 #
@@ -194,7 +194,7 @@ while [ $kill -le $((kills_in_runs + kills_in_recoveries)) ]; do
     rm -rf store
     kill=$((kill + 1))
 done
-echo "$behind runs were killed behind an acknowledged commit, $in_recoveries recoveries in their midst"
-[ $behind -ge $kills_wanted ] || fail "too few kills fell behind an acknowledged commit"
+echo "$behind runs were killed after an acknowledged commit, $in_recoveries recoveries in their midst"
+[ $behind -ge $kills_wanted ] || fail "too few kills fell after an acknowledged commit"
 [ $in_recoveries -ge 1 ] || fail "no kill fell in a recovery"
 echo "1 passed, 0 failed"

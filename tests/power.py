@@ -8,7 +8,7 @@ that was written and not synced since is then one that stood there, one that was
 renamed or removed and whose folder was not synced since is as before or as then. Files are laid down so, `recover` is run
 on them, and the pages are read here, from docs/FORMATS.md alone. They must be those of a list of transactions that has each
 acknowledged one, of each node and of each segment the first so many, and none that was not closed: what each wrote is known
-from the script. Some of the recoveries are cut again, and so are runs behind them.
+from the script. Some of the recoveries are cut again, and so are runs after them.
 
 In a failing story one sync or one write of a run fails. Where a sync failed, the bytes that were written until then are what a
 read gives, but no later sync makes them stable: the system takes their pages for clean. Of a write half is made.
@@ -108,7 +108,7 @@ class Inode:
         return not self.writes and not self.lengths and not self.given_up
 
     def image(self, choose):
-        """What may stand there behind a cut."""
+        """What may stand there after a cut."""
         length = choose.one_of([len(self.stable)] + self.lengths)
         image = bytearray(self.stable[:length])
         image.extend(bytes(length - len(image)))
@@ -241,7 +241,7 @@ class Disk:
             self.changes.append(("unlink", name))
 
     def image(self, rng):
-        """The files that may stand there behind a cut."""
+        """The files that may stand there after a cut."""
         choose = Choice(rng)
         names = dict(self.stable)
         share = choose.one_of([0, 0.3, 0.7, 1])
@@ -663,7 +663,7 @@ def traced(program, shim, folder, work, history, lines=None, failing=None):
 
 
 def tell(program, shim, work, seed, failing):
-    """Makes a story: the store's files behind `init`, and the processes."""
+    """Makes a story: the store's files after `init`, and the processes."""
     rng = random.Random(f"story {seed}")
     folder = f"{work}/told/store"
     os.makedirs(folder)
@@ -706,7 +706,7 @@ def tell(program, shim, work, seed, failing):
 
 
 def look(program, shim, work, player, rng, depth):
-    """Cuts here: lays down what may be left, recovers it and looks. Some recoveries are cut again, and runs behind them.
+    """Cuts here: lays down what may be left, recovers it and looks. Some recoveries are cut again, and runs after them.
     Answers how many cuts that were."""
     folder = f"{work}/cut/store"
     os.makedirs(f"{work}/cut", exist_ok=True)
@@ -722,7 +722,7 @@ def look(program, shim, work, player, rng, depth):
         if rng.random() < 0.1:
             shows(program, shim, folder, history, kept)
         return 1
-    # The recovery goes wrong in its midst, and is made again; or a run goes on behind it.
+    # The recovery goes wrong in its midst, and is made again; or a run goes on after it.
     processes = [Process(None, read_trace(trace), kept)]
     if rng.random() < 0.5:
         behind = History()
@@ -771,7 +771,7 @@ def cut_story(task):
                     made += look(program, shim, work, player, rng, 2)
                 except Lost as fault:
                     made += 1
-                    lost.append(f"story {seed}, cut behind call {at}: {fault}")
+                    lost.append(f"story {seed}, cut after call {at}: {fault}")
 
         for process in processes:
             # Between two processes nothing is cut that the next one's first call does not show as well.
@@ -828,7 +828,7 @@ def main():
     for fault in lost[:10]:
         print(f"  {fault}", file=sys.stderr)
     if left:
-        print(f"  behind init these are not stable: {', '.join(sorted(set(left)))}", file=sys.stderr)
+        print(f"  after init these are not stable: {', '.join(sorted(set(left)))}", file=sys.stderr)
     sys.exit(1 if lost or left else 0)
 
 

@@ -52,7 +52,7 @@ grep -q 'recovered' told.out || fail 'a recovery on a terminal did not come to i
 echo 'flush 0' > line
 script -qc "'$program' run --as-found --store told_run < line" /dev/null > run.out
 grep -q 'recovering: 1792 of 1792 pages' run.out || fail 'the recovery of a run on a terminal does not show its last page'
-grep -q 'nothing' run.out || fail 'a run behind a recovery that was shown has no reply'
+grep -q 'nothing' run.out || fail 'a run after a recovery that was shown has no reply'
 
 # Recovered already: no page is to be written.
 script -qc "'$program' recover quiet --as-found" /dev/null > again.out
