@@ -241,7 +241,7 @@ fn records_are_sent_over_a_truncation(rt: HostRuntime) -> Result<(), Fail> {
             applied: number,
             arrived: false,
         };
-        assert!(rt; cluster.pump(&rt, alloc, 1, 0) == Ok(applied));
+        assert!(rt; cluster.pump(&rt, alloc, 1, 0) == Ok(applied), "{number}");
     }
     let copy = cluster.node(1).snapshot(&rt, alloc, 2);
     let copy = copy.ok().expect(&rt, "there is memory");
@@ -279,8 +279,11 @@ fn a_record_comes_to_each_of_its_segments(rt: HostRuntime) -> Result<(), Fail> {
     for segment in 1..3 {
         let copy = cluster.node(1).snapshot(&rt, alloc, segment);
         let copy = copy.ok().expect(&rt, "there is memory");
-        assert!(rt; copy.number == 1);
-        assert!(rt; copy.bytes.as_slice().get(3..8) == Some(b"hello".as_slice()));
+        assert!(rt; copy.number == 1, "{segment}");
+        assert!(rt;
+            copy.bytes.as_slice().get(3..8) == Some(b"hello".as_slice()),
+            "{segment}"
+        );
     }
     Ok(())
 }

@@ -229,8 +229,14 @@ fn each_receipt_is_confirmed_and_the_pages_have_all(rt: HostRuntime) -> Result<(
     let second = second.expect(&rt, "it is read");
     let store = recovered(alloc, two_segments()?, shelf.areas(alloc)?)?;
     for page in 0..2 {
-        assert!(rt; has_page(store.page(1, page), first.as_slice(), page as usize));
-        assert!(rt; has_page(store.page(2, page), second.as_slice(), page as usize));
+        assert!(rt;
+            has_page(store.page(1, page), first.as_slice(), page as usize),
+            "{page}"
+        );
+        assert!(rt;
+            has_page(store.page(2, page), second.as_slice(), page as usize),
+            "{page}"
+        );
     }
     Ok(())
 }

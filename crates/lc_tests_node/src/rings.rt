@@ -8,6 +8,7 @@ ghost use Rattle.lc_node.specs.Cluster.{IsSeatAt};
 use crate::seats::{Open, TRIES};
 use crate::shared::{SharedArea, area_of, zeros};
 use crate::stores::{SEGMENT_BYTES, WORDS, recovered};
+use lc_disk::Area;
 use lc_node::{Cluster, Commit, Mode, Node, Pumped, Put, Snapshot, Spread};
 use lc_record::Geometry;
 use lc_recover::Recovered;
@@ -61,9 +62,9 @@ enum Role {
 
 // A thread of a node.
 #[derive(Drop)]
-struct Worker<'a, 'b> {
-    cluster: &'a Cluster<SharedArea<'b>>,
-    node: &'a Node<SharedArea<'b>>,
+struct Worker<'a, D: Area + Drop> {
+    cluster: &'a Cluster<D>,
+    node: &'a Node<D>,
     number: u16,
     finished: &'a AtomicU32,
     role: Role,
@@ -84,11 +85,11 @@ fn behind(node: u16) -> u16
 }
 
 // Does what the role asks for.
-fn perform<R: Wait>(
+fn perform<D: Area + Drop, R: Wait>(
     rt: &R,
     alloc: Global,
-    cluster: &Cluster<SharedArea<'_>>,
-    node: &Node<SharedArea<'_>>,
+    cluster: &Cluster<D>,
+    node: &Node<D>,
     number: u16,
     finished: &AtomicU32,
     role: Role,
@@ -118,10 +119,10 @@ fn perform<R: Wait>(
 }
 
 // Sends, takes, and hands one token after another on, until all have committed. Whether it empties the log too, it is told.
-fn carry<R: Wait>(
+fn carry<D: Area + Drop, R: Wait>(
     rt: &R,
     alloc: Global,
-    cluster: &Cluster<SharedArea<'_>>,
+    cluster: &Cluster<D>,
     number: u16,
     finished: &AtomicU32,
     truncates: bool,
@@ -147,10 +148,10 @@ fn carry<R: Wait>(
 }
 
 // Commits a byte again and again, in whichever segment's token is here; the byte that it put last into each.
-fn commit_all<R: Wait>(
+fn commit_all<D: Area + Drop, R: Wait>(
     rt: &R,
     alloc: Global,
-    node: &Node<SharedArea<'_>>,
+    node: &Node<D>,
     seat: CommitSeat,
     offset: u32,
 ) -> Marks
@@ -171,10 +172,10 @@ fn commit_all<R: Wait>(
 }
 
 // Commits a byte in a segment whose token is here; the segment's place, from 0.
-fn commit_somewhere<R: Wait>(
+fn commit_somewhere<D: Area + Drop, R: Wait>(
     rt: &R,
     alloc: Global,
-    node: &Node<SharedArea<'_>>,
+    node: &Node<D>,
     seat: CommitSeat,
     offset: u32,
     mark: u8,
@@ -199,10 +200,10 @@ fn commit_somewhere<R: Wait>(
 }
 
 // Commits a byte in a segment, if its token is here; whether it is stable.
-fn commit<R: Wait>(
+fn commit<D: Area + Drop, R: Wait>(
     rt: &R,
     alloc: Global,
-    node: &Node<SharedArea<'_>>,
+    node: &Node<D>,
     seat: CommitSeat,
     segment: u32,
     offset: u32,
@@ -234,7 +235,7 @@ fn commit<R: Wait>(
 }
 
 // Takes all that has come to a node; how many messages.
-fn take_all<R: Wait>(rt: &R, alloc: Global, cluster: &Cluster<SharedArea<'_>>, node: u16) -> u32
+fn take_all<D: Area + Drop, R: Wait>(rt: &R, alloc: Global, cluster: &Cluster<D>, node: u16) -> u32
     requires four { length cluster.now.members.items ≡ 4 }
     requires within { node < 4 }
 {
@@ -280,7 +281,7 @@ fn workers<'a, 'b>(
     finished: &'a AtomicU32,
     carrier: Role,
     seats: Vec<CommitSeat>,
-) -> Result<Vec<Worker<'a, 'b>>, AllocError>
+) -> Result<Vec<Worker<'a, SharedArea<'b>>>, AllocError>
     requires four { length cluster.now.members.items ≡ 4 }
     requires count { length seats.items ≡ 4 }
     requires seats { (node : ℕ) (seat : Seat) → slice_get seats.items node ≡ Some seat → IsSeatAt cluster.now node seat }
@@ -296,7 +297,7 @@ fn workers<'a, 'b>(
 
 // The threads of a node: two that commit, and one that carries.
 fn add_workers<'a, 'b>(
-    workers: &mut Vec<Worker<'a, 'b>>,
+    workers: &mut Vec<Worker<'a, SharedArea<'b>>>,
     cluster: &'a Cluster<SharedArea<'b>>,
     number: u16,
     finished: &'a AtomicU32,
@@ -360,6 +361,30 @@ fn areas_of(alloc: Global, shelves: &[Vec<AtomicU8>]) -> Result<Vec<SharedArea<'
     Ok(areas)
 }
 
+// What the threads of a ring do, side by side; the last marks of each.
+fn perform_all<D: Area + Drop + Send, R: Threads + Wait + Sync>(
+    rt: &R,
+    alloc: Global,
+    workers: Vec<Worker<'_, D>>,
+) -> Result<Vec<Marks>, Fail> {
+    let marks = map_vec(
+        rt,
+        workers,
+        &|worker: Worker<D>| {
+            let Worker {
+                cluster,
+                node,
+                number,
+                finished,
+                role,
+                seat,
+            } = worker;
+            perform(rt, alloc, cluster, node, number, finished, role, seat)
+        },
+    )?;
+    Ok(marks)
+}
+
 // Lets all threads of a ring come to their end; whether each node has every commit then, and the areas have too.
 fn keeps_all<R: Threads + Wait + Sync>(
     rt: &R,
@@ -375,21 +400,7 @@ fn keeps_all<R: Threads + Wait + Sync>(
     };
     let finished = AtomicU32::new(0);
     let workers = workers(alloc, &cluster, &finished, carrier, seats)?;
-    let marks = map_vec(
-        rt,
-        workers,
-        &|worker: Worker| {
-            let Worker {
-                cluster,
-                node,
-                number,
-                finished,
-                role,
-                seat,
-            } = worker;
-            perform(rt, alloc, cluster, node, number, finished, role, seat)
-        },
-    )?;
+    let marks = perform_all(rt, alloc, workers)?;
     let quiet = settle(rt, alloc, &cluster);
     let store = recovered(alloc, geometry, areas_of(alloc, shelves.as_slice())?)?;
     Ok(quiet && has_all(rt, alloc, &cluster, &store, marks.as_slice()))
