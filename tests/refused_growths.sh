@@ -2,18 +2,18 @@
 # Refuses each allocation in turn, one a run, and sees that want of memory is said and changes nothing else:
 # - tests/two_nodes.script, which the program runs: what is printed is the front of what a run with enough memory prints, and
 #   then `refused NoMemory`, with status 1; or all of it, where less memory did as well;
-# - the tests of crates/lc_tests/src/growth_tests.rt, which run their events again from the one that wanted memory on, and
+# - the tests of crates/lc_tests_store/src/growth_tests.rt, which run their events again from the one that wanted memory on, and
 #   compare all replies with the expected ones.
 #
 # usage: tests/refused_growths.sh     (a C compiler `cc` is wanted)
 #
-# The program and the tests have to be built: `(cd crates/lcrvm && rt run -- run < /dev/null)` and `(cd crates/lc_tests && rt test)`.
-# LCRVM and LC_TESTS may name them elsewhere.
+# The program and the tests have to be built: `(cd crates/lcrvm && rt run -- run < /dev/null)` and `(cd crates/lc_tests_store && rt test)`.
+# LCRVM and LC_TESTS_STORE may name them elsewhere.
 set -eu
 
 top=$(cd "$(dirname "$0")/.." && pwd)
 program=${LCRVM:-$top/crates/lcrvm/out/lcrvm}
-tests=${LC_TESTS:-$top/crates/lc_tests/out/lc_tests_tests}
+tests=${LC_TESTS_STORE:-$top/crates/lc_tests_store/out/lc_tests_store_tests}
 most=100000
 
 work=$(mktemp -d "${TMPDIR:-/tmp}/lcrvm-growths.XXXXXX")

@@ -10,9 +10,9 @@ use Rattle.lc_record.specs.declared.record.Record.{Record}
 use Rattle.lc_rest.specs.Merge.{logs_of}
 use Rattle.lc_token.specs.declared.token.Token.{Token}
 use Rattle.lc_core.specs.AsRead.{AreAsRead, IsAsRead}
-use Rattle.lc_core.specs.AtRest.{AllKeepTokens}
+use Rattle.lc_rest.specs.AtRest.{AllKeepTokens}
 use Rattle.lc_core.specs.Made.{AreSegments}
-use Rattle.lc_core.specs.Parts.{AreKept}
+use Rattle.lc_rest.specs.Parts.{AreKept}
 use Rattle.lc_core.specs.Pictures.{AreImages}
 use Rattle.lc_core.specs.Pieces.{AreNodePieces, AreTokens}
 use Rattle.lc_core.specs.Places.{same_some}
@@ -20,11 +20,11 @@ use Rattle.lc_core.specs.ReadAreas.{AreAreas, AreWhole}
 use Rattle.lc_core.specs.ReadNodes.{AreReadNodes, images_of}
 use Rattle.lc_core.specs.Readings.{at_segment, no_token, tests_of}
 use Rattle.lc_core.specs.declared.node_images.NodeImages.{NodeImages}
-use Rattle.lc_core.specs.declared.node_part.NodePart.{NodePart}
-use Rattle.lc_core.specs.declared.parts.Parts.{Parts}
+use Rattle.lc_rest.specs.declared.node_part.NodePart.{NodePart}
+use Rattle.lc_rest.specs.declared.parts.Parts.{Parts}
 use Rattle.lc_core.specs.declared.read_nodes.ReadNodes.{ReadNodes}
 use Rattle.lc_core.specs.declared.read_parts.ReadParts.{ReadParts}
-use Rattle.lc_core.specs.declared.segment_part.SegmentPart.{SegmentPart}
+use Rattle.lc_rest.specs.declared.segment_part.SegmentPart.{SegmentPart}
 use Rattle.lc_core.proofs.Closes.{get-map}
 use Rattle.lc_core.proofs.Seating.{some_at}
 use Rattle.lc_core.proofs.TokenReads.{index_at}

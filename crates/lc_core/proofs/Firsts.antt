@@ -1,6 +1,6 @@
 -- Tests of one segment after another.
 use Rattle.std.proofs.Common.{ℕ, zero, suc, ◌+◌, ◌<◌, ◌≤◌, subst, arith, add-one}
-use Rattle.lc_core.specs.AtRest.{IsFirst}
+use Rattle.lc_rest.specs.AtRest.{IsFirst}
 
 -- of the first so many segments
 pub each_segment : (P : ℕ → Type 0) (n : ℕ) → ((k : ℕ) → k < n → P (k + 1)) → (segment : ℕ) → 1 ≤ segment → segment ≤ n → P segment

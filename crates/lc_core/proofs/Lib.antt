@@ -88,7 +88,6 @@ pub mod LogReads
 pub mod CallsTold
 pub mod Faults
 pub mod Failures
-pub mod Zeroed
 pub mod Recovers
 pub mod ImagesOfLogs
 pub mod ImagesOfPages

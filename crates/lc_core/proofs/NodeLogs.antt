@@ -12,15 +12,15 @@ use Rattle.lc_record.specs.declared.geometry.Geometry.{Geometry}
 use Rattle.lc_record.specs.declared.record.Record.{Record}
 use Rattle.lc_recover.proofs.KeptLemmas.{get-append, get-append_end}
 use Rattle.lc_rest.specs.Merge.{logs_of}
-use Rattle.lc_core.specs.AtRest.{IsReadLog}
+use Rattle.lc_rest.specs.AtRest.{IsReadLog}
 use Rattle.lc_core.specs.Kept.{closed_record}
-use Rattle.lc_core.specs.Parts.{AreSpelled, KeepsLog}
+use Rattle.lc_rest.specs.Parts.{AreSpelled, KeepsLog}
 use Rattle.lc_core.specs.Pieces.{IsNodePiece}
 use Rattle.lc_core.specs.Places.{same_some}
 use Rattle.lc_core.specs.ReadNodes.{AreReadNodes, HasOneMore, IsReadNode, IsReadPart, images_of}
 use Rattle.lc_core.specs.Records.{Kept}
 use Rattle.lc_core.specs.declared.node_images.NodeImages.{NodeImages}
-use Rattle.lc_core.specs.declared.node_part.NodePart.{NodePart}
+use Rattle.lc_rest.specs.declared.node_part.NodePart.{NodePart}
 use Rattle.lc_core.specs.declared.node_piece.NodePiece.{NodePiece}
 use Rattle.lc_core.specs.declared.read_node.ReadNode.{ReadNode}
 use Rattle.lc_core.specs.declared.read_nodes.ReadNodes.{ReadNodes}

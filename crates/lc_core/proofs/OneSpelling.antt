@@ -4,8 +4,8 @@ use Rattle.std.proofs.lemmas.List.Elements.{All-append}
 use Rattle.lc_record.specs.declared.record.Record.{Record}
 use Rattle.lc_log.specs.LogText.{IsWhole, joined}
 use Rattle.lc_log.proofs.LogLemmas.{joined-append, one_text-by}
-use Rattle.lc_core.specs.Parts.{AreSpelled}
-use Rattle.lc_core.proofs.SpelledPieces.{all_text}
+use Rattle.lc_rest.specs.Parts.{AreSpelled}
+use Rattle.lc_rest.proofs.SpelledWords.{all_text}
 
 pub one_spelling : (words : List ℕ) (rs qs : List Record) → AreSpelled words rs → AreSpelled words qs → rs ≡ qs
 one_spelling words rs qs its others = one_text-by words rs qs (all_text words rs its) (all_text words qs others)

@@ -21,16 +21,17 @@ use Rattle.lc_rest.specs.Merge.{number_at}
 use Rattle.lc_rest.specs.Passed.{Read, log_of, merged}
 use Rattle.lc_rest.specs.declared.holder.Holder.{Holder}
 use Rattle.lc_core.specs.Adopting.{IsAdoptedUp, numbers_of}
-use Rattle.lc_core.specs.AtRest.{AreReadAreas}
+use Rattle.lc_rest.specs.AtRest.{AreReadAreas}
 use Rattle.lc_core.specs.Made.{AreFound}
-use Rattle.lc_core.specs.Parts.{AreHonest, AreSpelled, IsAdoption}
+use Rattle.lc_rest.specs.Parts.{AreHonest, AreSpelled}
+use Rattle.lc_core.specs.Adoption.{IsAdoption}
 use Rattle.lc_core.specs.World.{FitsPhase}
-use Rattle.lc_core.specs.declared.node_part.NodePart.{NodePart}
+use Rattle.lc_rest.specs.declared.node_part.NodePart.{NodePart}
 use Rattle.lc_core.specs.declared.node_piece.NodePiece.{NodePiece}
-use Rattle.lc_core.specs.declared.parts.Parts.{Parts}
+use Rattle.lc_rest.specs.declared.parts.Parts.{Parts}
 use Rattle.lc_core.specs.declared.phase.Phase.{Phase}
 use Rattle.lc_core.specs.declared.phase.Phase.TheVariants.{Up}
-use Rattle.lc_core.specs.declared.segment_part.SegmentPart.{SegmentPart}
+use Rattle.lc_rest.specs.declared.segment_part.SegmentPart.{SegmentPart}
 use Rattle.lc_core.specs.declared.segment_pieces.SegmentPieces.{SegmentPieces}
 use Rattle.lc_core.specs.declared.up.Up.{Up as UpStore}
 use Rattle.lc_core.specs.declared.world.World.{World}

@@ -21,14 +21,14 @@ use Rattle.lc_rest.specs.Holder.{IsPlaced, node_of}
 use Rattle.lc_rest.specs.Passed.{Read, log_of}
 use Rattle.lc_rest.specs.declared.holder.Holder.{Holder}
 use Rattle.lc_core.specs.Adopting.{IsAdoptedToken}
-use Rattle.lc_core.specs.AtRest.{AreReadAreas}
+use Rattle.lc_rest.specs.AtRest.{AreReadAreas}
 use Rattle.lc_core.specs.Built.{IsPieceOf}
 use Rattle.lc_core.specs.Kept.{closed_record}
 use Rattle.lc_core.specs.Made.{AreFound, IsFoundArea, IsFoundNode, IsFoundSegment}
-use Rattle.lc_core.specs.Parts.{AreHonest}
+use Rattle.lc_rest.specs.Parts.{AreHonest}
 use Rattle.lc_core.specs.Records.{Kept, marks_of}
 use Rattle.lc_core.specs.declared.node_piece.NodePiece.{NodePiece}
-use Rattle.lc_core.specs.declared.parts.Parts.{Parts}
+use Rattle.lc_rest.specs.declared.parts.Parts.{Parts}
 use Rattle.lc_core.specs.declared.segment_piece.SegmentPiece.{SegmentPiece}
 use Rattle.lc_core.specs.declared.segment_pieces.SegmentPieces.{SegmentPieces}
 use Rattle.lc_core.proofs.Adopts.{segment-last}

@@ -34,7 +34,7 @@ use Rattle.lc_rest.proofs.Within.{sets-lock, stable-counted}
 use Rattle.lc_core.specs.Built.{IsPieceOf}
 use Rattle.lc_core.specs.Slots.{segment_to}
 use Rattle.lc_core.specs.declared.node_piece.NodePiece.{NodePiece}
-use Rattle.lc_core.specs.declared.parts.Parts.{Parts}
+use Rattle.lc_rest.specs.declared.parts.Parts.{Parts}
 use Rattle.lc_core.specs.declared.segment_piece.SegmentPiece.{SegmentPiece}
 use Rattle.lc_core.specs.declared.segment_pieces.SegmentPieces.{SegmentPieces}
 use Rattle.lc_core.proofs.PartsPass.{Agree, parts_pass, tame}

@@ -15,11 +15,12 @@ use Rattle.lc_rest.specs.declared.holder.Holder.{Holder}
 use Rattle.lc_rest.specs.declared.holder.Holder.TheVariants.{Left}
 use Rattle.lc_rest.proofs.Replays.{length-laid}
 use Rattle.lc_token.specs.declared.token.Token.{Token}
-use Rattle.lc_core.specs.AtRest.{AllKeepTokens}
+use Rattle.lc_rest.specs.AtRest.{AllKeepTokens}
 use Rattle.lc_core.specs.Built.{IsPieceOf}
 use Rattle.lc_core.specs.Pictures.{AreApplied, ComesUp}
 use Rattle.lc_core.specs.Pieces.{is_here}
-use Rattle.lc_core.specs.Readings.{KeepsPictures, at_segment, first_numbers, items_of, no_token, tests_of}
+use Rattle.lc_record.specs.Lists.{items_of}
+use Rattle.lc_core.specs.Readings.{KeepsPictures, at_segment, first_numbers, no_token, tests_of}
 use Rattle.lc_core.specs.declared.node_images.NodeImages.{NodeImages}
 use Rattle.lc_core.specs.declared.read_parts.ReadParts.{ReadParts}
 use Rattle.lc_core.specs.declared.segment_piece.SegmentPiece.{SegmentPiece}

@@ -16,24 +16,25 @@ use Rattle.lc_rest.specs.declared.holder.Holder.{Holder}
 use Rattle.lc_rest.specs.declared.holder.Holder.TheVariants.{Here, Left}
 use Rattle.lc_token.specs.declared.token.Token.{Token as TheToken}
 use Rattle.lc_trunc.specs.KnownClean.{known as known_of}
-use Rattle.lc_core.specs.AtRest.{AreMerged, AreReadAreas, Fails, HasPart, IsFirst, IsReadLog, IsReadOf, KeepsImages, KeepsOwn, KeepsToken, PassesAll}
+use Rattle.lc_rest.specs.AtRest.{AreMerged, AreReadAreas, Fails, HasPart, IsFirst, IsReadLog, IsReadOf, KeepsImages, KeepsOwn, KeepsToken, PassesAll}
 use Rattle.lc_core.specs.Built.{IsBuiltOf}
 use Rattle.lc_core.specs.Cluster.{IsBuilt, IsReadCluster, knowns_of}
 use Rattle.lc_core.specs.Kept.{closed_record}
-use Rattle.lc_core.specs.Parts.{AreHonest, AreKept}
+use Rattle.lc_rest.specs.Parts.{AreHonest, AreKept}
 use Rattle.lc_core.specs.Places.{same_some}
 use Rattle.lc_core.specs.ReadNodes.{IsReadPart, images_of}
-use Rattle.lc_core.specs.Readings.{FailsIn, KeepsAt, KeepsPictures, PassesIn, at_segment, items_of, no_token, place_of, read_of, tests_of}
+use Rattle.lc_record.specs.Lists.{items_of}
+use Rattle.lc_core.specs.Readings.{FailsIn, KeepsAt, KeepsPictures, PassesIn, at_segment, no_token, place_of, read_of, tests_of}
 use Rattle.lc_core.specs.Records.{Spelled}
 use Rattle.lc_core.specs.declared.node_images.NodeImages.{NodeImages}
-use Rattle.lc_core.specs.declared.node_part.NodePart.{NodePart}
+use Rattle.lc_rest.specs.declared.node_part.NodePart.{NodePart}
 use Rattle.lc_core.specs.declared.node_piece.NodePiece.{NodePiece}
-use Rattle.lc_core.specs.declared.part.Part.{Part}
-use Rattle.lc_core.specs.declared.part.Part.TheVariants.{Seat, Log, Token, Image}
-use Rattle.lc_core.specs.declared.parts.Parts.{Parts}
+use Rattle.lc_rest.specs.declared.part.Part.{Part}
+use Rattle.lc_rest.specs.declared.part.Part.TheVariants.{Seat, Log, Token, Image}
+use Rattle.lc_rest.specs.declared.parts.Parts.{Parts}
 use Rattle.lc_core.specs.declared.read_cluster.ReadCluster.{ReadCluster}
 use Rattle.lc_core.specs.declared.read_parts.ReadParts.{ReadParts}
-use Rattle.lc_core.specs.declared.segment_part.SegmentPart.{SegmentPart}
+use Rattle.lc_rest.specs.declared.segment_part.SegmentPart.{SegmentPart}
 use Rattle.lc_core.specs.declared.up.Up.{Up}
 use Rattle.lc_core.proofs.Closes.{get-map}
 use Rattle.lc_core.proofs.ClusterReads.{mapped_at}

@@ -23,7 +23,8 @@ use Rattle.lc_recover.specs.declared.progress.Progress.{Progress}
 use Rattle.lc_recover.specs.declared.progress.Progress.TheVariants.{Stepped as HasStepped, Recovered as HasRecovered}
 use Rattle.lc_core.specs.Anew.{StartsAnew}
 use Rattle.lc_core.specs.Places.{same_some}
-use Rattle.lc_core.specs.Recovering.{RepliesTo, refusal_to}
+use Rattle.lc_recover.specs.Fault.{refusal_to}
+use Rattle.lc_core.specs.Recovering.{RepliesTo}
 use Rattle.lc_core.specs.Recovers.{AnswersRecovery, RecoversDown, RefusesAtOnce, at_once, is_recovery}
 use Rattle.lc_core.specs.declared.phase.Phase.{Phase}
 use Rattle.lc_core.specs.declared.phase.Phase.TheVariants.{Down, Up, Taken}

@@ -2,9 +2,9 @@
 use Rattle.std.proofs.Common.{◌≡◌, ap, ◌∙◌}
 use Rattle.std.specs.Prelude.{Err, IsErrAnd, Result}
 use Rattle.std.proofs.lemmas.Result.{err_from_is_err_and}
-use Rattle.lc_core.specs.declared.adopt_fault.AdoptFault.{AdoptFault}
-use Rattle.lc_core.specs.declared.adopt_fault.AdoptFault.TheVariants.{Mismatch}
-use Rattle.lc_core.specs.declared.part.Part.{Part}
+use Rattle.lc_rest.specs.declared.adopt_fault.AdoptFault.{AdoptFault}
+use Rattle.lc_rest.specs.declared.adopt_fault.AdoptFault.TheVariants.{Mismatch}
+use Rattle.lc_rest.specs.declared.part.Part.{Part}
 
 -- what is answered is what a call answered
 pub same_fault : {A B : Type 0} (res : Result A AdoptFault) (fault other : AdoptFault) → IsErrAnd res (λ y. y ≡ fault) → res ≡ Err other → ◌≡◌ {A = Result B AdoptFault} (Err fault) (Err other)

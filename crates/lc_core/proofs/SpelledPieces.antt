@@ -1,33 +1,19 @@
 -- A node's piece of records whose words are all there is.
 use Rattle.std.proofs.Common.{◌≡◌, ℕ, ◌+◌, ◌-◌, ◌*◌, ◌<◌, ◌≤◌, ◌^◌, List, [], ◌∷◌, ◌++◌, All, map, take, drop, length, refl, sym, ap, ◌∙◌, arith}
-use Rattle.std.specs.List.{AllByRecursion}
-use Rattle.std.proofs.lemmas.List.{append-nil, length-append, length-map, length-take-le, map-append, take_at}
-use Rattle.std.proofs.lemmas.List.Elements.{All-head, All-tail}
+use Rattle.std.proofs.lemmas.List.{length-append, length-map, length-take-le, map-append, take_at}
 use Rattle.lc_disk.specs.declared.area.Area.{Ghosts}
-use Rattle.lc_record.specs.Codec.{BeginsNoRecord, BeginsWith}
+use Rattle.lc_record.specs.Codec.{BeginsWith}
 use Rattle.lc_record.specs.Record.{spelling}
 use Rattle.lc_record.specs.declared.record.Record.{Record}
 use Rattle.lc_record.proofs.RecordLemmas.{record_some}
-use Rattle.lc_log.specs.LogText.{IsLogText, IsWhole, joined}
+use Rattle.lc_log.specs.LogText.{joined}
 use Rattle.lc_log.proofs.LogLemmas.{joined-append}
 use Rattle.lc_model.specs.History.{leading}
 use Rattle.lc_core.specs.Kept.{closed_record}
-use Rattle.lc_core.specs.Parts.{AreSpelled}
+use Rattle.lc_rest.specs.Parts.{AreSpelled}
 use Rattle.lc_core.specs.Pieces.{IsNodePiece}
 use Rattle.lc_core.specs.Records.{Kept, Spelled, all_words, marks_of, span_of}
 use Rattle.lc_core.specs.declared.node_piece.NodePiece.{NodePiece}
-
-each_whole : (rs : List Record) → All IsWhole rs → AllByRecursion IsWhole rs
-each_whole [] all = tt
-each_whole (r ∷ rs) all = (All-head IsWhole r rs all, each_whole rs (All-tail IsWhole r rs all))
-
-no_record : BeginsNoRecord []
-no_record r [] rest is same = absurd (omega (arith, record_some r [] is))
-no_record r (w ∷ front) rest is same = absurd cc
-
--- records that are all of the words are those that these begin with
-pub all_text : (words : List ℕ) (rs : List Record) → AreSpelled words rs → IsLogText words rs
-all_text words rs its = record { rest = []; text = its.text ∙ sym (append-nil (joined rs)); whole = each_whole rs its.whole; end = no_record }
 
 -- a record takes some words
 pub spelled_some : (words : List ℕ) (r : Record) (len : ℕ) → BeginsWith words r len → 0 < len

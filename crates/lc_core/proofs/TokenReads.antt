@@ -11,8 +11,9 @@ use Rattle.lc_rest.specs.TokenTest.{IsKeptToken, count_on}
 use Rattle.lc_rest.specs.declared.holder.Holder.{Holder}
 use Rattle.lc_rest.specs.declared.holder.Holder.TheVariants.{Left}
 use Rattle.lc_token.specs.declared.token.Token.{Token}
-use Rattle.lc_core.specs.AtRest.{KeepsToken}
-use Rattle.lc_core.specs.Readings.{IsTokenIn, KeepsTokenIn, at_segment, first_numbers, items_of, no_token, numbers_before, read_of}
+use Rattle.lc_rest.specs.AtRest.{KeepsToken}
+use Rattle.lc_record.specs.Lists.{items_of}
+use Rattle.lc_core.specs.Readings.{IsTokenIn, KeepsTokenIn, at_segment, first_numbers, no_token, numbers_before, read_of}
 use Rattle.lc_core.specs.declared.read_parts.ReadParts.{ReadParts}
 
 -- Results

@@ -11,9 +11,9 @@ use Rattle.lc_core.specs.Made.{AreFound}
 use Rattle.lc_core.specs.ReadNodes.{AreReadNodes}
 use Rattle.lc_core.specs.Readings.{tests_of}
 use Rattle.lc_core.specs.declared.node_piece.NodePiece.{NodePiece}
-use Rattle.lc_core.specs.declared.parts.Parts.{Parts}
+use Rattle.lc_rest.specs.declared.parts.Parts.{Parts}
 use Rattle.lc_core.specs.declared.read_cluster.ReadCluster.{ReadCluster}
-use Rattle.lc_core.specs.declared.segment_part.SegmentPart.{SegmentPart}
+use Rattle.lc_rest.specs.declared.segment_part.SegmentPart.{SegmentPart}
 use Rattle.lc_core.specs.declared.segment_piece.SegmentPiece.{SegmentPiece}
 use Rattle.lc_core.specs.declared.segment_pieces.SegmentPieces.{SegmentPieces}
 use Rattle.lc_core.specs.declared.up.Up.{Up}

@@ -69,11 +69,10 @@ pub mod Uncommitted
 pub mod Resets
 pub mod Areas
 pub mod Adopting
-pub mod Parts
+pub mod Adoption
 pub mod Pieces
 pub mod Made
 pub mod Kept
-pub mod AtRest
 pub mod Built
 pub mod ReadAreas
 pub mod AsRead

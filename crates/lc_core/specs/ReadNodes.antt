@@ -4,11 +4,11 @@ use Rattle.lc_disk.specs.declared.area.Area.{Ghosts}
 use Rattle.lc_log.specs.LogText.{IsWhole}
 use Rattle.lc_record.specs.declared.record.Record.{Record}
 use Rattle.lc_rest.specs.Merge.{logs_of}
-use Rattle.lc_core.specs.AtRest.{IsReadLog}
+use Rattle.lc_rest.specs.AtRest.{IsReadLog}
 use Rattle.lc_core.specs.Kept.{closed_record}
 use Rattle.lc_core.specs.Pieces.{IsNodePiece}
 use Rattle.lc_core.specs.declared.node_images.NodeImages.{NodeImages}
-use Rattle.lc_core.specs.declared.node_part.NodePart.{NodePart}
+use Rattle.lc_rest.specs.declared.node_part.NodePart.{NodePart}
 use Rattle.lc_core.specs.declared.node_piece.NodePiece.{NodePiece}
 use Rattle.lc_core.specs.declared.read_node.ReadNode.{ReadNode}
 use Rattle.lc_core.specs.declared.read_nodes.ReadNodes.{ReadNodes}

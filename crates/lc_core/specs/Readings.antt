@@ -1,8 +1,8 @@
 -- What is read of the parts of a cluster at rest, as its tests have it.
 use Rattle.std.specs.Prelude.{◌≡◌, ◌⊎◌, ℕ, zero, suc, ◌+◌, ◌-◌, ◌<◌, ◌≤◌, List, [], ◌∷◌, map, length, All, slice_get, slice_index_or, Some, if◌then◌else◌}
-use Rattle.std.specs.Global.{Vec}
 use Rattle.std.specs.List.{flat_map}
 use Rattle.lc_model.specs.State.{Place, At, Travelling}
+use Rattle.lc_record.specs.Lists.{items_of}
 use Rattle.lc_record.specs.declared.geometry.Geometry.{Geometry}
 use Rattle.lc_record.specs.declared.record.Record.{Record}
 use Rattle.lc_rest.specs.Holder.{node_of}
@@ -18,11 +18,11 @@ use Rattle.lc_rest.specs.declared.holder.Holder.TheVariants.{Here, Left}
 use Rattle.lc_token.specs.declared.token.Token.{Token as TheToken}
 use Rattle.lc_trunc.specs.KnownClean.{known as known_of}
 use Rattle.lc_tx.specs.declared.image.Image.{Image as Picture}
-use Rattle.lc_core.specs.AtRest.{AllKeepTokens, AreMerged, IsFirst, KeepsToken}
+use Rattle.lc_rest.specs.AtRest.{AllKeepTokens, AreMerged, IsFirst, KeepsToken}
 use Rattle.lc_core.specs.Pieces.{is_here}
 use Rattle.lc_core.specs.declared.node_images.NodeImages.{NodeImages}
-use Rattle.lc_core.specs.declared.part.Part.{Part}
-use Rattle.lc_core.specs.declared.part.Part.TheVariants.{Seat, Log, Token, Image}
+use Rattle.lc_rest.specs.declared.part.Part.{Part}
+use Rattle.lc_rest.specs.declared.part.Part.TheVariants.{Seat, Log, Token, Image}
 use Rattle.lc_core.specs.declared.read_parts.ReadParts.{ReadParts}
 
 -- what a list has of a segment, from segment 1 on
@@ -36,9 +36,6 @@ place_of (Left node) = Travelling
 
 abbrev pub no_token : TheToken
 no_token = record { segment = 0; seq = 0; clean = 0; pages = [] }
-
-abbrev pub items_of : List (Vec ℕ) → List (List ℕ)
-items_of vs = map (λ (v : Vec ℕ). v.items) vs
 
 -- the numbers that the segments from this one on have before all these records
 abbrev pub numbers_before : ℕ → List TheToken → List (List Record) → List ℕ

@@ -1,14 +1,13 @@
 -- What a step of a recovery answers, and what the last one leaves.
-use Rattle.std.specs.Prelude.{◌≡◌, ℕ, drop, Option, Some, None, Result, Ok, Err, IsErr, MatchOption, slice_get}
+use Rattle.std.specs.Prelude.{◌≡◌, ℕ, drop, Some, Result, Ok, Err, IsErr, MatchOption, slice_get}
 use Rattle.lc_disk.specs.declared.area.Area.{Ghosts}
+use Rattle.lc_recover.specs.Fault.{refusal_to}
 use Rattle.lc_recover.specs.Reads.{AreOfBytes, HaveLengths}
 use Rattle.lc_recover.specs.Recovered.{RecoveredStore, AreFinished, IsMade}
 use Rattle.lc_recover.specs.Recovery.{Recovering}
 use Rattle.lc_recover.specs.declared.fault.RecoverFault.{RecoverFault}
-use Rattle.lc_recover.specs.declared.fault.RecoverFault.TheVariants.{BadGeometry, Gap, Twice, OutOfSegment, DeviceFault, NoMemory}
 use Rattle.lc_recover.specs.declared.progress.Progress.{Progress}
 use Rattle.lc_recover.specs.declared.progress.Progress.TheVariants.{Stepped as HasStepped, Recovered as HasRecovered}
-use Rattle.lc_model.specs.declared.refusal.Refusal.{Refusal}
 use Rattle.lc_model.specs.declared.reply.Reply.{Reply}
 use Rattle.lc_model.specs.declared.reply.Reply.TheVariants.{Stepped, Recovered, Refused}
 use Rattle.lc_core.specs.Fresh.{IsFresh}
@@ -18,15 +17,6 @@ use Rattle.lc_core.specs.declared.node.Node.{Node}
 use Rattle.lc_core.specs.declared.phase.Phase.{Phase}
 use Rattle.lc_core.specs.declared.phase.Phase.TheVariants.{Up as IsUp}
 use Rattle.lc_core.specs.declared.up.Up.{Up}
-
--- the refusal to a fault; there is none to want of memory
-abbrev pub refusal_to : RecoverFault → Option Refusal
-refusal_to (BadGeometry area) = Some (Refusal.BadGeometry area)
-refusal_to (Gap segment seq) = Some (Refusal.Gap segment seq)
-refusal_to (Twice segment seq) = Some (Refusal.Twice segment seq)
-refusal_to (OutOfSegment area) = Some (Refusal.OutOfSegment (Some area))
-refusal_to DeviceFault = Some Refusal.DeviceFault
-refusal_to NoMemory = None
 
 abbrev pub RepliesTo : {E : Type 0} → Result Progress RecoverFault → Result Reply E → Type 0
 RepliesTo (Ok (HasStepped steps)) result = result ≡ Ok (Stepped steps)

@@ -15,7 +15,7 @@ use Rattle.lc_recover.specs.Recovery.{Recovering, begun, IsLast, IsMerged, IsMer
 use Rattle.lc_recover.specs.Steps.{first_steps}
 use Rattle.lc_recover.specs.declared.fault.RecoverFault.{RecoverFault}
 use Rattle.lc_core.specs.Anew.{StartsAnew}
-use Rattle.lc_core.specs.Recovering.{refusal_to}
+use Rattle.lc_recover.specs.Fault.{refusal_to}
 use Rattle.lc_core.specs.Stepping.{works_up}
 use Rattle.lc_core.specs.declared.phase.Phase.{Phase}
 use Rattle.lc_core.specs.declared.phase.Phase.TheVariants.{Down, Up, Taken}

@@ -1,14 +1,15 @@
 //! How a cluster at rest becomes a store.
 ghost use Rattle.std.specs.Prelude.{◌≡◌, ℕ, Err, IfOk};
-ghost use Rattle.lc_core.specs.AtRest.{AgreeAll, FailsFirst, HasPart};
-ghost use Rattle.lc_core.specs.Parts.{AreHonest, AreKept, FailsOnce, IsAdoption};
-ghost use Rattle.lc_core.specs.declared.adopt_fault.AdoptFault.TheVariants.{DeviceFault as Failed, Mismatch};
-ghost use Rattle.lc_core.specs.declared.part.Part.{Part as ThePart};
-ghost use Rattle.lc_core.specs.declared.part.Part.TheVariants.{Seat};
+ghost use Rattle.lc_rest.specs.AtRest.{AgreeAll, FailsFirst, HasPart};
+ghost use Rattle.lc_rest.specs.Parts.{AreHonest, AreKept, FailsOnce};
+ghost use Rattle.lc_core.specs.Adoption.{IsAdoption};
+ghost use Rattle.lc_rest.specs.declared.adopt_fault.AdoptFault.TheVariants.{DeviceFault as Failed, Mismatch};
+ghost use Rattle.lc_rest.specs.declared.part.Part.{Part as ThePart};
+ghost use Rattle.lc_rest.specs.declared.part.Part.TheVariants.{Seat};
 
-use crate::adopt_fault::AdoptFault;
+use lc_rest::AdoptFault;
 use crate::adopted_parts::adopted_parts;
-use crate::parts::Parts;
+use lc_rest::Parts;
 use crate::phase::Phase;
 use crate::read_cluster::ReadCluster;
 use crate::room::Room;

@@ -3,7 +3,7 @@ ghost use Rattle.std.specs.Prelude.{◌≡◌, ◌+◌, ◌-◌, ◌<◌, ◌≤
 ghost use Rattle.lc_rest.specs.Merge.{logs_of, merged_after, number_at};
 ghost use Rattle.lc_rest.specs.Replay.{IsReplay, bytes_after};
 ghost use Rattle.lc_rest.specs.Stable.{bytes_up_to};
-ghost use Rattle.lc_core.specs.AtRest.{AllKeepTokens, AreMerged, IsFirst};
+ghost use Rattle.lc_rest.specs.AtRest.{AllKeepTokens, AreMerged, IsFirst};
 ghost use Rattle.lc_core.specs.Built.{IsPieceOf};
 ghost use Rattle.lc_core.specs.Pieces.{IsLong};
 ghost use Rattle.lc_core.specs.Pictures.{AreApplied, AreImages, ComesUp};

@@ -2,7 +2,6 @@
 ghost use Rattle.std.specs.Prelude.{◌≡◌, ◌⊎◌, ◌<◌, [], IfOk, false, filter, length, take, true};
 ghost use Rattle.lc_disk.specs.contracts.mem_area.MemAreaArea.TheImpl.{ghosts};
 ghost use Rattle.lc_model.specs.State.{State, first_state};
-ghost use Rattle.lc_recover.specs.Reads.{AreZeros, HaveLengths};
 ghost use Rattle.lc_core.specs.FaultReplies.{is_fault};
 ghost use Rattle.lc_core.specs.Headline.{Answers, Holds};
 ghost use Rattle.lc_core.specs.Observed.{observed};
@@ -13,7 +12,7 @@ use crate::world::World;
 use crate::{Event, RunResult};
 use lc_disk::MemArea;
 use lc_record::Geometry;
-use lc_recover::area_len;
+use lc_recover::zero_areas;
 use std::alloc::{AllocError, Global};
 
 impl World<MemArea> {
@@ -23,7 +22,7 @@ impl World<MemArea> {
     pub fn in_memory(alloc: Global, geometry: Geometry) -> Result<World<MemArea>, AllocError>
         ensures { IfOk result (λ w. OnZeros geometry (λ m x. FitsWorld ghosts m w (first_state geometry) x)) }
     {
-        let areas = zeros(alloc, &geometry)?;
+        let areas = zero_areas(alloc, &geometry)?;
         match World::new(geometry, areas) {
             Ok(world) => Ok(world),
             Err(_) => unreachable!(),
@@ -53,21 +52,9 @@ pub fn run_in_memory(
         ⊎ (GrowsNext events.now ran.1.replies.items × OnZeros geometry (λ m x.
         AsksNext ghosts m (first_state geometry) x events.now ran.1.replies.items ran.0))) }
 {
-    let areas = zeros(alloc, &geometry)?;
+    let areas = zero_areas(alloc, &geometry)?;
     match run_areas(alloc, geometry, areas, events) {
         Ok(ran) => Ok(ran),
         Err(_) => unreachable!(),
     }
-}
-
-// The areas of a store, which read as zeros.
-fn zeros(alloc: Global, geometry: &Geometry) -> Result<Vec<MemArea>, AllocError>
-    ensures lengths { IfOk result (λ areas. HaveLengths ghosts geometry.now areas.items) }
-    ensures zeros { IfOk result (λ areas. AreZeros ghosts areas.items) }
-{
-    let mut areas = Vec::new(alloc);
-    while let Some(len) = area_len(geometry, areas.len()) {
-        areas.push(MemArea::new(alloc, len)?)?;
-    }
-    Ok(areas)
 }

@@ -2,7 +2,6 @@
 //! is a run of it, and the types of the machine are handed on.
 #![tactic(auto)]
 
-mod adopt_fault;
 mod adopted_parts;
 mod adopting;
 mod adoption;
@@ -46,7 +45,6 @@ mod moving;
 mod named;
 mod node;
 mod node_images;
-mod node_part;
 mod node_piece;
 mod node_records;
 mod node_step;
@@ -59,8 +57,6 @@ mod page_progress;
 mod page_state;
 mod pages;
 mod paging;
-mod part;
-mod parts;
 mod phase;
 mod place;
 mod placement;
@@ -90,7 +86,6 @@ mod run;
 mod run_result;
 mod running;
 mod seat;
-mod segment_part;
 mod segment_piece;
 mod segment_pieces;
 mod setting;
@@ -120,22 +115,17 @@ mod write_calls;
 mod write_progress;
 mod writing;
 
-pub use adopt_fault::AdoptFault;
 pub use call_fault::CallFault;
 pub use flush_progress::FlushProgress;
 pub use headline::run_areas;
 pub use in_memory::run_in_memory;
 pub use laws::{adopted, fits_leaves, next_life, settled_answers, settled_runs};
 pub use lc_model::{Event, Refusal, Reply};
-pub use node_part::NodePart;
-pub use part::Part;
-pub use parts::Parts;
+pub use lc_rest::{AdoptFault, NodePart, Part, Parts, SegmentPart};
 pub use placement::Placement;
 pub use receipt::Receipt;
-pub use recovered_reply::recovery_refusal;
 pub use reset_progress::ResetProgress;
 pub use run_result::RunResult;
-pub use segment_part::SegmentPart;
 pub use show_fault::ShowFault;
 pub use truncation::Truncation;
 pub use truncation_step::TruncationStep;

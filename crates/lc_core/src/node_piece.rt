@@ -3,7 +3,7 @@ ghost use Rattle.std.specs.Prelude.{◌≡◌, ℕ, ◌+◌, ◌*◌, ◌<◌, �
 ghost use Rattle.lc_record.specs.declared.record.Record.{Record};
 ghost use Rattle.lc_log.specs.LogText.{IsLogText};
 ghost use Rattle.lc_core.specs.Kept.{closed_record};
-ghost use Rattle.lc_core.specs.Parts.{AreSpelled};
+ghost use Rattle.lc_rest.specs.Parts.{AreSpelled};
 ghost use Rattle.lc_core.specs.Pieces.{IsNodePiece};
 
 use crate::records::Records;

@@ -1,7 +1,7 @@
 //! The records of a node of a cluster at rest.
 ghost use Rattle.std.specs.Prelude.{◌≡◌, ◌++◌, ◌<◌, ◌^◌, List, IfOk, length};
 ghost use Rattle.lc_record.specs.declared.record.Record.{Record as TheRecord};
-ghost use Rattle.lc_core.specs.Parts.{AreSpelled};
+ghost use Rattle.lc_rest.specs.Parts.{AreSpelled};
 
 use lc_record::{Record, decode};
 use std::alloc::{AllocError, Global};

@@ -2,7 +2,7 @@
 ghost use Rattle.std.specs.Prelude.{◌≡◌, ◌<◌, ℕ, List, [], All, IfErr, IfOk, slice_index_or};
 ghost use Rattle.lc_rest.specs.LogTest.{IsOwn};
 ghost use Rattle.lc_rest.specs.Merge.{IsStuck, logs_of};
-ghost use Rattle.lc_core.specs.AtRest.{AreMerged};
+ghost use Rattle.lc_rest.specs.AtRest.{AreMerged};
 ghost use Rattle.lc_core.specs.ReadAreas.{AreWhole};
 ghost use Rattle.lc_core.specs.Readings.{first_numbers, tests_of};
 

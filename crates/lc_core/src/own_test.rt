@@ -1,6 +1,6 @@
 //! The test of the records of each node.
 ghost use Rattle.std.specs.Prelude.{◌≡◌, ◌<◌, ◌↔◌, ℕ, IfNone, IfSome, IsTrue, length, map};
-ghost use Rattle.lc_core.specs.AtRest.{IsFirst};
+ghost use Rattle.lc_rest.specs.AtRest.{IsFirst};
 ghost use Rattle.lc_core.specs.Readings.{KeepsAt, KeepsNode};
 ghost use Rattle.lc_core.specs.declared.node_piece.NodePiece.{NodePiece as ThePiece};
 

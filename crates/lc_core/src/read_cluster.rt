@@ -1,18 +1,18 @@
 //! A cluster at rest as it is read.
 ghost use Rattle.std.specs.Prelude.{◌≡◌, ◌+◌, ◌*◌, ◌≤◌, Err, IfOk, List, vec_capacity, vec_len, ℕ};
 ghost use Rattle.lc_core.specs.Made.{AreSegments};
-ghost use Rattle.lc_core.specs.Parts.{AreKept, FailsOnce};
+ghost use Rattle.lc_rest.specs.Parts.{AreKept, FailsOnce};
 ghost use Rattle.lc_core.specs.Pictures.{AreImages};
 ghost use Rattle.lc_core.specs.Pieces.{AreNodePieces};
 ghost use Rattle.lc_core.specs.ReadAreas.{AreWhole};
 ghost use Rattle.lc_core.specs.Readings.{FailsIn, PassesIn};
-ghost use Rattle.lc_core.specs.declared.adopt_fault.AdoptFault.TheVariants.{DeviceFault as Failed, Mismatch};
-ghost use Rattle.lc_core.specs.declared.part.Part.{Part as ThePart};
+ghost use Rattle.lc_rest.specs.declared.adopt_fault.AdoptFault.TheVariants.{DeviceFault as Failed, Mismatch};
+ghost use Rattle.lc_rest.specs.declared.part.Part.{Part as ThePart};
 
-use crate::adopt_fault::AdoptFault;
+use lc_rest::AdoptFault;
 use crate::node_images::NodeImages;
 use crate::node_piece::NodePiece;
-use crate::parts::Parts;
+use lc_rest::Parts;
 use crate::read_nodes::ReadNodes;
 use crate::read_parts::ReadParts;
 use crate::read_segments::ReadSegments;

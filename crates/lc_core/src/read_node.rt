@@ -1,11 +1,11 @@
 //! What is read of a node of a cluster at rest.
 ghost use Rattle.std.specs.Prelude.{IfOk};
 ghost use Rattle.lc_record.specs.declared.geometry.Geometry.{Geometry};
-ghost use Rattle.lc_core.specs.Parts.{KeepsLog};
+ghost use Rattle.lc_rest.specs.Parts.{KeepsLog};
 ghost use Rattle.lc_core.specs.ReadNodes.{IsReadNode};
 
 use crate::node_images::NodeImages;
-use crate::node_part::NodePart;
+use lc_rest::NodePart;
 use crate::node_piece::NodePiece;
 use crate::node_records::NodeRecords;
 use lc_disk::Area;

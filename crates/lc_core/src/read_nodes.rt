@@ -1,12 +1,12 @@
 //! What is read of the nodes of a cluster at rest.
 ghost use Rattle.std.specs.Prelude.{◌≡◌, ℕ, IfOk, Some, slice_get};
 ghost use Rattle.lc_record.specs.declared.geometry.Geometry.{Geometry};
-ghost use Rattle.lc_core.specs.Parts.{KeepsLog};
+ghost use Rattle.lc_rest.specs.Parts.{KeepsLog};
 ghost use Rattle.lc_core.specs.ReadNodes.{AreReadNodes, HasOneMore};
-ghost use Rattle.lc_core.specs.declared.node_part.NodePart.{NodePart as ThePart};
+ghost use Rattle.lc_rest.specs.declared.node_part.NodePart.{NodePart as ThePart};
 
 use crate::node_images::NodeImages;
-use crate::node_part::NodePart;
+use lc_rest::NodePart;
 use crate::node_piece::NodePiece;
 use crate::read_node::ReadNode;
 use lc_disk::Area;

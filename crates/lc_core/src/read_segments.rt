@@ -1,8 +1,8 @@
 //! What is handed over of the segments of a cluster at rest, each thing in a list of its own.
 ghost use Rattle.std.specs.Prelude.{◌≡◌, ◌≤◌, IfOk, map, vec_capacity};
-ghost use Rattle.lc_core.specs.declared.segment_part.SegmentPart.{SegmentPart as ThePart};
+ghost use Rattle.lc_rest.specs.declared.segment_part.SegmentPart.{SegmentPart as ThePart};
 
-use crate::segment_part::SegmentPart;
+use lc_rest::SegmentPart;
 use lc_disk::Area;
 use lc_rest::Holder;
 use lc_token::Token;

@@ -2,10 +2,10 @@
 ghost use Rattle.std.specs.Prelude.{◌≡◌, ◌+◌, Err, IfOk, OnErr, OnOk, length, vec_len};
 ghost use Rattle.lc_core.specs.AsRead.{AreAsRead, FailsAt, IsAsRead};
 ghost use Rattle.lc_core.specs.ReadAreas.{AreAreas, AreStarts};
-ghost use Rattle.lc_core.specs.declared.adopt_fault.AdoptFault.TheVariants.{DeviceFault as Failed, Mismatch};
-ghost use Rattle.lc_core.specs.declared.part.Part.{Part as ThePart};
+ghost use Rattle.lc_rest.specs.declared.adopt_fault.AdoptFault.TheVariants.{DeviceFault as Failed, Mismatch};
+ghost use Rattle.lc_rest.specs.declared.part.Part.{Part as ThePart};
 
-use crate::adopt_fault::AdoptFault;
+use lc_rest::AdoptFault;
 use lc_disk::{Area, DeviceFault};
 use lc_record::Geometry;
 use lc_rest::read_bytes;

@@ -3,7 +3,7 @@ ghost use Rattle.std.specs.Prelude.{◌≡◌, ◌+◌, ◌-◌, ◌*◌, ◌<�
 ghost use Rattle.lc_rest.specs.Holder.{node_of};
 ghost use Rattle.lc_rest.specs.Merge.{logs_of, number_at};
 ghost use Rattle.lc_rest.specs.TokenTest.{count_on};
-ghost use Rattle.lc_core.specs.AtRest.{AllKeepTokens, IsFirst, KeepsToken};
+ghost use Rattle.lc_rest.specs.AtRest.{AllKeepTokens, IsFirst, KeepsToken};
 ghost use Rattle.lc_core.specs.Readings.{IsTokenIn, KeepsTokenIn, first_numbers, tests_of};
 
 use crate::read_parts::ReadParts;

@@ -6,7 +6,7 @@ use Rattle.lc_model.specs.declared.refusal.Refusal.{Refusal}
 use Rattle.lc_recover.specs.Fault.{IsRefusal}
 use Rattle.lc_recover.specs.declared.fault.RecoverFault.{RecoverFault}
 use Rattle.lc_recover.specs.declared.fault.RecoverFault.TheVariants.{BadGeometry as IsOther, Gap as IsGap, Twice as AreTwice, OutOfSegment as IsOutside, DeviceFault, NoMemory}
-use Rattle.lc_core.specs.Recovering.{refusal_to}
+use Rattle.lc_recover.specs.Fault.{refusal_to}
 use Rattle.lc_look.specs.Refused.{merge_refusal}
 
 pub one_least : (Such : ℕ → Type 0) (m n : ℕ) → IsLeast Such m → IsLeast Such n → m ≡ n

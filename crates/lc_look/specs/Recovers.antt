@@ -11,7 +11,7 @@ use Rattle.lc_recover.specs.Reads.{AllMergeTo, AreHonest, HaveLengths, store_of}
 use Rattle.lc_recover.specs.Recovered.{RecoveredStore, sequence_of}
 use Rattle.lc_recover.specs.declared.fault.RecoverFault.{RecoverFault}
 use Rattle.lc_recover.specs.declared.fault.RecoverFault.TheVariants.{BadGeometry, DeviceFault, NoMemory}
-use Rattle.lc_core.specs.Recovering.{refusal_to}
+use Rattle.lc_recover.specs.Fault.{refusal_to}
 use Rattle.lc_look.specs.Printed.{NoMemory as WantsMemory, Adds}
 use Rattle.lc_look.specs.Refused.{AreRefused, IsFirstWrong}
 use Rattle.lc_text.specs.Text.{no_memory_text, recovered_text, refusal_text}

@@ -10,8 +10,8 @@ ghost use Rattle.lc_look.specs.Refused.{RefusesLengths};
 
 use crate::recovery::{ended, status_of, write_segment, write_stop};
 use crate::status::DONE;
-use lc_core::Reply;
 use lc_disk::Area;
+use lc_model::Reply;
 use lc_record::Geometry;
 use lc_recover::{Forecast, LogExtent, Survey};
 use lc_text::{ToolFault, write_reply};

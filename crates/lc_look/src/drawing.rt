@@ -1,6 +1,6 @@
 //! The picture of a store.
 ghost use Rattle.std.specs.Prelude.{◌≡◌, ◌≢◌, ◌⊎◌, ◌+◌, ◌*◌, ◌<◌, ◌≤◌, [], IfErr, IfOk, length, map, slice_index_or, true};
-ghost use Rattle.lc_core.specs.Readings.{items_of};
+ghost use Rattle.lc_record.specs.Lists.{items_of};
 ghost use Rattle.lc_recover.specs.Forecast.{sequence_of};
 ghost use Rattle.lc_recover.specs.Reads.{AreHonest, AreLeftAs, IsLeftAs};
 ghost use Rattle.lc_recover.specs.declared.fault.RecoverFault.TheVariants.{DeviceFault as Failed, NoMemory};

@@ -9,8 +9,8 @@ ghost use Rattle.lc_text.specs.Text.{recovered_text, segment_text};
 
 use crate::status::{DONE, FAULTED, REFUSED};
 use crate::teller::{Silent, Teller};
-use lc_core::{Reply, recovery_refusal};
 use lc_disk::Area;
+use lc_model::Reply;
 use lc_record::Geometry;
 use lc_recover::{Progress, RecoverFault, Recovered, Recovery};
 use lc_text::{ToolFault, write_no_memory, write_reply};
@@ -117,7 +117,7 @@ pub(crate) fn write_segment<W: Write>(writer: &mut W, segment: u32, number: u64)
 pub(crate) fn write_stop<W: Write>(writer: &mut W, fault: RecoverFault) -> io::Result<()>
     ensures { OnOk result (Appends (W.contents writer.old) (W.contents writer.new) (stop_text fault)) }
 {
-    match recovery_refusal(fault) {
+    match fault.refusal() {
         Some(refusal) => write_reply(writer, &Reply::Refused(refusal)),
         None => write_no_memory(writer),
     }

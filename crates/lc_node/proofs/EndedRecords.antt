@@ -15,7 +15,7 @@ use Rattle.lc_log.proofs.LogLemmas.{joined-append, whole_record}
 use Rattle.lc_stage.specs.Staging.{AreRecords, IsOneRecord}
 use Rattle.lc_trunc.specs.KnownClean.{known as known_of}
 use Rattle.lc_trunc.specs.Reset.{AreKnown, BeginWith}
-use Rattle.lc_core.specs.Parts.{AreSpelled, IsKnownClean}
+use Rattle.lc_rest.specs.Parts.{AreSpelled, IsKnownClean}
 
 -- words that are records begin with each of them
 

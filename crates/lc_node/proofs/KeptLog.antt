@@ -13,9 +13,9 @@ use Rattle.lc_stage.specs.Publishing.{HoldsTaken}
 use Rattle.lc_stage.specs.Staging.{AreRecords}
 use Rattle.lc_trunc.specs.KnownClean.{known as known_of}
 use Rattle.lc_trunc.specs.Reset.{AreKnown}
-use Rattle.lc_core.specs.Parts.{KeepsLog}
-use Rattle.lc_core.specs.declared.node_part.NodePart.{NodePart}
-use Rattle.lc_core.proofs.SpelledPieces.{all_text}
+use Rattle.lc_rest.specs.Parts.{KeepsLog}
+use Rattle.lc_rest.specs.declared.node_part.NodePart.{NodePart}
+use Rattle.lc_rest.proofs.SpelledWords.{all_text}
 use Rattle.lc_node.proofs.EndedRecords.{AreOf, ended_clean, spelled}
 
 module _ {D : Type 0} (a : Ghosts D) where

@@ -9,8 +9,8 @@ use Rattle.lc_disk.specs.declared.area.Area.{Ghosts}
 use Rattle.lc_lock.specs.Loans.{key_of}
 use Rattle.lc_stage.specs.Seats.{IsSeatOf}
 use Rattle.lc_stage.specs.declared.seats.CommitSeat.{CommitSeat}
-use Rattle.lc_core.specs.Parts.{AreKept, KeepsPages}
-use Rattle.lc_core.specs.declared.parts.Parts.{Parts}
+use Rattle.lc_rest.specs.Parts.{AreKept, KeepsPages}
+use Rattle.lc_rest.specs.declared.parts.Parts.{Parts}
 use Rattle.lc_node.specs.Keys.{AreWiredAs, HasOneKey, wired_by, wired_in}
 use Rattle.lc_node.specs.LeftBy.{AreOwnSeats, HaveOwnSeats, IsLeftNode, node_in, post_of}
 use Rattle.lc_node.specs.Journey.{Journey}

@@ -8,7 +8,7 @@ use Rattle.std.proofs.lemmas.List.Concat.{flat_map-append}
 use Rattle.lc_lock.specs.Loans.{key_of}
 use Rattle.lc_lock.specs.declared.lock.Lock.{Lock}
 use Rattle.lc_tx.specs.declared.image.Image.{Image as Picture}
-use Rattle.lc_core.specs.declared.segment_part.SegmentPart.{SegmentPart}
+use Rattle.lc_rest.specs.declared.segment_part.SegmentPart.{SegmentPart}
 use Rattle.lc_node.specs.LeftBy.{HasFailed, StoodBehind, tokens_at}
 use Rattle.lc_node.specs.SegView.{SegView}
 use Rattle.lc_node.proofs.FromFront.{mapped_more}

@@ -5,8 +5,8 @@ use Rattle.lc_page.specs.PageVector.{entry_at, entry_text}
 use Rattle.lc_record.specs.declared.geometry.Geometry.{Geometry}
 use Rattle.lc_token.specs.declared.token.Token.{Token}
 use Rattle.lc_rest.specs.declared.holder.Holder.TheVariants.{Here}
-use Rattle.lc_core.specs.Parts.{KeepsPages}
-use Rattle.lc_core.specs.declared.segment_part.SegmentPart.{SegmentPart}
+use Rattle.lc_rest.specs.Parts.{KeepsPages}
+use Rattle.lc_rest.specs.declared.segment_part.SegmentPart.{SegmentPart}
 use Rattle.std.proofs.lemmas.Option.{none-some}
 use Rattle.lc_node.specs.LeftBy.{IsServingArea, IsSettledPart, token_here}
 use Rattle.lc_node.specs.SegSide.{FitsArea}

@@ -3,7 +3,7 @@ use Rattle.std.proofs.Common.{◌≡◌, ◌<◌, ◌+◌, ℕ, suc, List, [], �
 use Rattle.std.specs.Prelude.{IsSomeAnd, Option, option_map, slice_get}
 use Rattle.lc_disk.specs.declared.area.Area.{Ghosts}
 use Rattle.lc_record.specs.declared.geometry.Geometry.{Geometry}
-use Rattle.lc_core.specs.declared.segment_part.SegmentPart.{SegmentPart}
+use Rattle.lc_rest.specs.declared.segment_part.SegmentPart.{SegmentPart}
 use Rattle.lc_node.specs.Refusals.{HasPages, HasToken, IsLeftOver, TakesOut, first_of}
 use Rattle.lc_node.proofs.TakenOut.{first_left, inside, is_first_left, is_inside, left, left_all, outside, place_of, up_to, without, without_left}
 

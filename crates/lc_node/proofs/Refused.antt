@@ -9,17 +9,10 @@ use Rattle.lc_disk.specs.declared.area.Area.{Ghosts}
 use Rattle.lc_record.specs.declared.geometry.Geometry.{Geometry}
 use Rattle.lc_stage.specs.Staging.{end_of}
 use Rattle.lc_stage.specs.declared.view.View.{View}
-use Rattle.lc_core.specs.AtRest.{FailsFirst, HasPart}
-use Rattle.lc_core.specs.Parts.{AreHonest, FailsOnce}
-use Rattle.lc_core.specs.declared.adopt_fault.AdoptFault.{AdoptFault}
-use Rattle.lc_core.specs.declared.adopt_fault.AdoptFault.TheVariants.{Mismatch as Disagrees, NoMemory as LacksMemory, DeviceFault as Fails}
-use Rattle.lc_core.specs.declared.part.Part.{Part}
-use Rattle.lc_core.specs.declared.part.Part.TheVariants.{Seat, Log}
-use Rattle.lc_core.specs.declared.parts.Parts.{Parts}
-use Rattle.lc_node.specs.Fault.{of_adoption}
+use Rattle.lc_rest.specs.declared.part.Part.TheVariants.{Seat, Log}
 use Rattle.lc_node.specs.LeftBy.{node_in}
 use Rattle.lc_node.specs.LogView.{LogView}
-use Rattle.lc_node.specs.Refusals.{HasRoom, StopsAdoption, StopsNode, StopsParts, StopsSegment}
+use Rattle.lc_node.specs.Refusals.{HasRoom, StopsNode, StopsParts, StopsSegment}
 use Rattle.lc_node.specs.declared.cluster.Cluster.{Cluster}
 use Rattle.lc_node.specs.declared.node.Node.{Node}
 use Rattle.lc_node.specs.declared.node_fault.NodeFault.{NodeFault}
@@ -64,14 +57,6 @@ of_parts g node (Mismatch (Seat n)) within stops = subst (λ (k : ℕ). k < g.no
 of_parts g node (Mismatch (Log n)) within stops = subst (λ (k : ℕ). k < g.nodes) (sym stops) within
 of_parts g node NoMemory within stops = tt
 of_parts g node other within stops = absurd stops
-
--- and so it is with what an adoption says
-pub of_adopted : {A D : Type 0} (a : Ghosts D) (parts : Parts D a) (fault : AdoptFault) → ((part : Part) → ◌≡◌ {A = Result A AdoptFault} (Err fault) (Err (Disagrees part)) → HasPart parts.geometry part)
-    → ((part : Part) → ◌≡◌ {A = Result A AdoptFault} (Err fault) (Err (Disagrees part)) → AreHonest a parts → FailsFirst a parts part) → (◌≡◌ {A = Result A AdoptFault} (Err fault) (Err Fails) → FailsOnce a parts)
-    → StopsAdoption a parts (of_adoption fault)
-of_adopted a parts (Disagrees part) within mismatch device = (within part refl, mismatch part refl)
-of_adopted a parts LacksMemory within mismatch device = tt
-of_adopted a parts Fails within mismatch device = device refl
 
 -- the nodes are those of the cluster, which has as many as its geometry says, each with its own number
 module _ {D : Type 0} (cluster : Cluster D) where

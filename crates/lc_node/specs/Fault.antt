@@ -2,8 +2,8 @@
 use Rattle.std.specs.Prelude.{ℕ}
 use Rattle.lc_tx.specs.declared.tx_fault.TxFault.{TxFault}
 use Rattle.lc_tx.specs.declared.tx_fault.TxFault.TheVariants.{Busy as IsBusy, NotHere as IsNotHere, NoRange as HasNoRange, OutOfSegment as IsOutOfSegment, NotLocked as IsNotLocked, NoMemory as HasNoMemory, TooLong as IsTooLong, SequenceSpent as IsSequenceSpent, EmptyRange as IsEmptyRange, TooManyRanges as HasTooManyRanges, ReadOnly as IsReadOnly}
-use Rattle.lc_core.specs.declared.adopt_fault.AdoptFault.{AdoptFault}
-use Rattle.lc_core.specs.declared.adopt_fault.AdoptFault.TheVariants.{Mismatch as Disagrees, NoMemory as LacksMemory, DeviceFault as Fails}
+use Rattle.lc_rest.specs.declared.adopt_fault.AdoptFault.{AdoptFault}
+use Rattle.lc_rest.specs.declared.adopt_fault.AdoptFault.TheVariants.{Mismatch as Disagrees, NoMemory as LacksMemory, DeviceFault as Fails}
 use Rattle.lc_node.specs.declared.node_fault.NodeFault.{NodeFault}
 use Rattle.lc_node.specs.declared.node_fault.NodeFault.TheVariants.{Busy, NotHere, NoRange, OutOfSegment, NotLocked, NoMemory, TooLong, SequenceSpent, EmptyRange, TooManyRanges, Full, Sealed, Lost, DeviceFault, Halted, Mismatch, Token, RoundsSpent, Unclean, ChannelFull, ReadOnly}
 

@@ -1,4 +1,4 @@
--- What a cluster leaves once its threads have ended, and the store that is made of it.
+-- What a cluster leaves once its threads have ended.
 use Rattle.std.specs.Prelude.{◌≡◌, ◌≢◌, ◌<◌, ◌≤◌, ℕ, ◌++◌, List, [], ◌∷◌, Option, Some, None, false, All, length, map, slice_get}
 use Rattle.std.specs.Global.{Vec}
 use Rattle.std.specs.List.{flat_map}
@@ -19,11 +19,9 @@ use Rattle.lc_tx.specs.declared.image.Image.{Image as Picture}
 use Rattle.lc_trunc.specs.KnownClean.{known as known_of}
 use Rattle.lc_trunc.specs.Reset.{AreKnown}
 use Rattle.lc_rest.specs.declared.holder.Holder.TheVariants.{Here, Left}
-use Rattle.lc_core.specs.Parts.{AreKept, IsAdoption, KeepsLog}
-use Rattle.lc_core.specs.declared.node_part.NodePart.{NodePart}
-use Rattle.lc_core.specs.declared.parts.Parts.{Parts}
-use Rattle.lc_core.specs.declared.segment_part.SegmentPart.{SegmentPart}
-use Rattle.lc_core.specs.declared.world.World.{World}
+use Rattle.lc_rest.specs.Parts.{KeepsLog}
+use Rattle.lc_rest.specs.declared.node_part.NodePart.{NodePart}
+use Rattle.lc_rest.specs.declared.segment_part.SegmentPart.{SegmentPart}
 use Rattle.lc_node.specs.Among.{IsAmong}
 use Rattle.lc_node.specs.Cluster.{IsSeatAt}
 use Rattle.lc_node.specs.Journey.{Journey}
@@ -155,14 +153,3 @@ module _ {D : Type 0} (a : Ghosts D) where
     pub log : KeepsLog a g part
     pub images : length part.images.items ≡ g.segments
     pub applied : length part.applied.items ≡ g.segments
-
-  -- The store
-
-  -- the store is what the parts of a cluster make, each of which is as its types keep it, and the logs have the records of which
-  -- these seats have receipts, those of list n in the log of node n
-  pub record IsLeftBy (seats : List (Vec CommitSeat)) (world : World D a) : Type 0 where
-    pub parts : Parts D a
-    pub kept : AreKept a parts
-    pub adoption : IsAdoption a parts world
-    pub received : (node : ℕ) (part : NodePart D a) (mine : Vec CommitSeat) → slice_get parts.nodes.items node ≡ Some part → slice_get seats node ≡ Some mine
-        → AreReceived part.round part.stable.items part.known mine.items

@@ -5,15 +5,13 @@ use Rattle.lc_record.specs.declared.geometry.Geometry.{Geometry}
 use Rattle.lc_stage.specs.Seats.{commit_view}
 use Rattle.lc_stage.specs.Staging.{end_of}
 use Rattle.lc_stage.specs.declared.view.View.{View}
-use Rattle.lc_core.specs.AtRest.{FailsFirst, HasPart, IsFirst}
-use Rattle.lc_core.specs.Parts.{AreHonest, AreKept, FailsOnce}
-use Rattle.lc_core.specs.declared.part.Part.TheVariants.{Seat, Log, Token}
-use Rattle.lc_core.specs.declared.parts.Parts.{Parts}
-use Rattle.lc_core.specs.declared.segment_part.SegmentPart.{SegmentPart}
+use Rattle.lc_rest.specs.AtRest.{IsFirst}
+use Rattle.lc_rest.specs.declared.part.Part.TheVariants.{Seat, Log, Token}
+use Rattle.lc_rest.specs.declared.segment_part.SegmentPart.{SegmentPart}
 use Rattle.lc_node.specs.LeftBy.{AreAllStaged, HasFailed, IsTake}
 use Rattle.lc_node.specs.LogView.{LogView}
 use Rattle.lc_node.specs.declared.node_fault.NodeFault.{NodeFault}
-use Rattle.lc_node.specs.declared.node_fault.NodeFault.TheVariants.{DeviceFault, Mismatch, NoMemory}
+use Rattle.lc_node.specs.declared.node_fault.NodeFault.TheVariants.{Mismatch, NoMemory}
 use Rattle.lc_node.specs.declared.page_area.PageArea.{PageArea}
 
 -- Logs
@@ -112,23 +110,3 @@ StopsParts g (Mismatch (Log node)) = node < g.nodes
 StopsParts g (Mismatch (Token segment)) = Unit {0}
 StopsParts g NoMemory = Unit {0}
 StopsParts g other = ⊥
-
-module _ {D : Type 0} (a : Ghosts D) where
-  -- why no store is made of these parts: one that the cluster has does not agree, while the areas are honest the first whose test
-  -- fails; a call on the area of a segment failed; or there is no memory
-  abbrev pub StopsAdoption : Parts D a → NodeFault → Type 0
-  StopsAdoption parts (Mismatch part) = HasPart parts.geometry part × (AreHonest a parts → FailsFirst a parts part)
-  StopsAdoption parts DeviceFault = FailsOnce a parts
-  StopsAdoption parts NoMemory = Unit {0}
-  StopsAdoption parts other = ⊥
-
-  -- there are parts of a cluster of this geometry, each as its types keep it, of which no store is made for this fault
-  pub record IsNotAdopted (g : Geometry) (fault : NodeFault) : Type 0 where
-    pub parts : Parts D a
-    pub geometry : parts.geometry ≡ g
-    pub kept : AreKept a parts
-    pub stops : StopsAdoption parts fault
-
-  -- the threads left no parts, or no store is made of them
-  abbrev pub StopsCluster : Geometry → NodeFault → Type 0
-  StopsCluster g fault = StopsParts g fault ⊎ IsNotAdopted g fault

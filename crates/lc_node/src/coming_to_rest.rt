@@ -1,11 +1,11 @@
-//! A cluster whose threads have ended becomes a store.
+//! What a cluster leaves whose threads have ended.
 ghost use Rattle.std.specs.Prelude.{◌≡◌, ◌++◌, ℕ, All, IfErr, IfOk, OnOk, Some, map, slice_get};
 ghost use Rattle.std.specs.Global.{Vec as Several};
-ghost use Rattle.lc_core.specs.Parts.{AreKept};
-ghost use Rattle.lc_core.specs.declared.node_part.NodePart.{NodePart as ThePart};
+ghost use Rattle.lc_rest.specs.Parts.{AreKept};
+ghost use Rattle.lc_rest.specs.declared.node_part.NodePart.{NodePart as ThePart};
 ghost use Rattle.lc_stage.specs.declared.seats.CommitSeat.{CommitSeat as Seat};
-ghost use Rattle.lc_node.specs.LeftBy.{AreOwnSeats, AreReceived, IsLeftBy, IsSettledPart, node_in, post_of, token_sent};
-ghost use Rattle.lc_node.specs.Refusals.{StopsCluster, StopsParts};
+ghost use Rattle.lc_node.specs.LeftBy.{AreOwnSeats, AreReceived, IsSettledPart, node_in, post_of, token_sent};
+ghost use Rattle.lc_node.specs.Refusals.{StopsParts};
 
 use crate::closing_lines::{close_lines, take_ends};
 use crate::cluster::Cluster;
@@ -14,42 +14,18 @@ use crate::leaving_nodes::take_nodes;
 use crate::member::Member;
 use crate::ordering_tokens::in_order;
 use crate::{Node, NodeFault, Travelling};
-use lc_core::{Parts, SegmentPart, World};
 use lc_disk::Area;
+use lc_rest::{Parts, SegmentPart};
 use lc_stage::CommitSeat;
 use std::alloc::{AllocError, Global};
 use std::sync::Wait;
 
 impl<D: Area + Drop> Cluster<D> {
-    /// The store that the cluster leaves once its threads have ended, which is up: it has all records that were closed, those that
-    /// are staged as well as those that are stable. For each node there is a list of its committers' seats, which may be empty: each
-    /// record of which one of them has a receipt stands in the node's log, or is of an earlier round and known clean. It waits for
-    /// each lock, so who still has a log or a segment lets it wait for ever. This project's own.
-    ///
-    /// # Errors
-    ///
-    /// `Mismatch` of a part that does not fit: a node's seats, where something is reserved that was not closed; its log, where a call
-    /// of the device or of a segment's area failed, and where the log has not the room of the geometry's; a segment's token, where there
-    /// is not one alone, with its pages; and what `World::adopt` says. `NoMemory`; `DeviceFault` where an area could not be read. The
-    /// cluster is gone.
-    pub fn into_world<R: Wait>(
-        self,
-        rt: &R,
-        alloc: Global,
-        seats: Vec<Vec<CommitSeat>>,
-    ) -> Result<World<D>, NodeFault>
-        requires own { AreOwnSeats self seats.items }
-        ensures adopted { IfOk result (λ world. IsLeftBy D.Area seats.items world) }
-        ensures which { IfErr result (StopsCluster D.Area self.geometry) }
-    {
-        let parts = self.into_parts(rt, alloc, seats)?;
-        Ok(World::adopt(alloc, parts)?)
-    }
-
     /// What the cluster leaves once its threads have ended, of each node and of each segment, as the types of a running node keep it:
-    /// `into_world` makes a store of it. For each node there is a list of its committers' seats, which may be empty: each record of
-    /// which one of them has a receipt stands in the node's log, or is of an earlier round and known clean. It waits for each lock,
-    /// as `into_world` does. That the parts agree with one another is not looked at. This project's own.
+    /// `lc_adopt::into_world` makes a store of it. For each node there is a list of its committers' seats, which may be empty: each
+    /// record of which one of them has a receipt stands in the node's log, or is of an earlier round and known clean. It waits for
+    /// each lock, so who still has a log or a segment lets it wait for ever. That the parts agree with one another is not looked at.
+    /// This project's own.
     ///
     /// # Errors
     ///

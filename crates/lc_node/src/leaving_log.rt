@@ -1,6 +1,6 @@
 //! What a log leaves once the threads of its node have ended.
 ghost use Rattle.std.specs.Prelude.{◌≡◌, ◌<◌, All, IfErr, IfOk, OnErr, length};
-ghost use Rattle.lc_core.specs.Parts.{KeepsLog};
+ghost use Rattle.lc_rest.specs.Parts.{KeepsLog};
 ghost use Rattle.lc_stage.specs.Seats.{commit_view, flush_view, IsFlusherOf, IsSeatOf};
 ghost use Rattle.lc_stage.specs.Staging.{Agree};
 ghost use Rattle.lc_node.specs.LeftBy.{AreReceived, IsIdleSeatOf, LeavesLog};
@@ -9,7 +9,7 @@ ghost use Rattle.lc_node.specs.Refusals.{StopsLog};
 use crate::flushing::keep;
 use crate::log_state::LogState;
 use crate::{LogSide, NodeFault};
-use lc_core::{NodePart, Part};
+use lc_rest::{NodePart, Part};
 use lc_disk::Area;
 use lc_record::{Geometry, Group};
 use lc_stage::{CommitSeat, FlushSeat, Stage};

@@ -1,7 +1,7 @@
 //! What the nodes of a cluster leave once their threads have ended.
 ghost use Rattle.std.specs.Prelude.{◌≡◌, ◌⊎◌, ℕ, All, Any, IfErr, IfOk, OnOk, Some, length, slice_get, vec_len};
 ghost use Rattle.std.specs.Global.{Vec as Several};
-ghost use Rattle.lc_core.specs.declared.node_part.NodePart.{NodePart as ThePart};
+ghost use Rattle.lc_rest.specs.declared.node_part.NodePart.{NodePart as ThePart};
 ghost use Rattle.lc_stage.specs.declared.seats.CommitSeat.{CommitSeat as Seat};
 ghost use Rattle.lc_node.specs.LeftBy.{AreReceived, HaveOwnSeats, IsIdleSeatOf, IsLeftNode, IsSettledPart, StoodBehind};
 ghost use Rattle.lc_node.specs.Refusals.{StopsNode};
@@ -9,7 +9,7 @@ ghost use Rattle.lc_node.specs.declared.node_fault.NodeFault.TheVariants.{NoMemo
 
 use crate::leaving_segments::Images;
 use crate::{Node, NodeFault};
-use lc_core::{NodePart, SegmentPart};
+use lc_rest::{NodePart, SegmentPart};
 use lc_disk::Area;
 use lc_record::Geometry;
 use lc_stage::CommitSeat;

@@ -1,13 +1,13 @@
 //! What the segments of a node leave once its threads have ended.
 ghost use Rattle.std.specs.Prelude.{◌≡◌, ◌⊎◌, ◌++◌, All, IfErr, IfOk, IsSome, OnOk, Some, length};
-ghost use Rattle.lc_core.specs.declared.part.Part.TheVariants.{Log};
+ghost use Rattle.lc_rest.specs.declared.part.Part.TheVariants.{Log};
 ghost use Rattle.lc_node.specs.LeftBy.{HasFailed, IsServingArea, IsSettledPart, StoodBehind, token_sent, tokens_at};
 ghost use Rattle.lc_node.specs.Refusals.{StopsSegment};
 ghost use Rattle.lc_node.specs.declared.node_fault.NodeFault.TheVariants.{Mismatch, NoMemory};
 
 use crate::page_area::PageArea;
 use crate::{NodeFault, SegSide, Travelling};
-use lc_core::{Part, SegmentPart};
+use lc_rest::{Part, SegmentPart};
 use lc_disk::Area;
 use lc_lock::Lock;
 use lc_rest::Holder;

@@ -3,7 +3,7 @@ ghost use Rattle.std.specs.Prelude.{◌≡◌};
 ghost use Rattle.lc_node.specs.Fault.{of_adoption, of_tx};
 ghost use Rattle.lc_node.specs.declared.node_fault.NodeFault.TheVariants.{Mismatch, NoMemory};
 
-use lc_core::{AdoptFault, Part};
+use lc_rest::{AdoptFault, Part};
 use lc_token::TokenFault;
 use lc_tx::TxFault;
 use std::alloc::AllocError;

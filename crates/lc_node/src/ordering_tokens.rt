@@ -1,14 +1,14 @@
 //! The tokens of a cluster in the order of their segments.
 ghost use Rattle.std.specs.Prelude.{◌≡◌, ◌==◌, ◌+◌, ℕ, All, IfErr, IfOk, OnOk, Some, length, position, slice_get};
-ghost use Rattle.lc_core.specs.Parts.{KeepsPages};
-ghost use Rattle.lc_core.specs.declared.part.Part.TheVariants.{Token};
-ghost use Rattle.lc_core.specs.declared.segment_part.SegmentPart.{SegmentPart as ThePart};
+ghost use Rattle.lc_rest.specs.Parts.{KeepsPages};
+ghost use Rattle.lc_rest.specs.declared.part.Part.TheVariants.{Token};
+ghost use Rattle.lc_rest.specs.declared.segment_part.SegmentPart.{SegmentPart as ThePart};
 ghost use Rattle.lc_node.specs.LeftBy.{IsSettledPart};
 ghost use Rattle.lc_node.specs.Refusals.{HasToken, StopsTokens, TakesOut, first_of};
 ghost use Rattle.lc_node.specs.declared.node_fault.NodeFault.TheVariants.{Mismatch};
 
 use crate::NodeFault;
-use lc_core::{Part, SegmentPart};
+use lc_rest::{Part, SegmentPart};
 use lc_disk::Area;
 use lc_page::SLOT_BYTES;
 use lc_record::Geometry;

@@ -19,3 +19,4 @@ pub mod Spans
 pub mod Marks
 pub mod Recorded
 pub mod Newest
+pub mod Lists

@@ -47,3 +47,4 @@ pub mod PageCalls
 pub mod OneStore
 pub mod RangeBytes
 pub mod SpanWalks
+pub mod Zeroed

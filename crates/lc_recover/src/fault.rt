@@ -3,6 +3,7 @@ ghost use Rattle.lc_recover.specs.declared.fault.RecoverFault.TheVariants.{NoMem
 ghost use Rattle.std.specs.Prelude.{◌≡◌};
 
 use lc_disk::DeviceFault;
+use lc_model::Refusal;
 use std::alloc::AllocError;
 use thiserror::Error;
 
@@ -32,7 +33,7 @@ pub enum RecoverFault {
 }
 
 impl RecoverFault {
-    ghost use Rattle.lc_recover.specs.Fault.{code_of};
+    ghost use Rattle.lc_recover.specs.Fault.{code_of, refusal_to};
 
     /// The fault's number.
     pub fn code(&self) -> u8
@@ -45,6 +46,20 @@ impl RecoverFault {
             RecoverFault::OutOfSegment { .. } => 4,
             RecoverFault::DeviceFault => 5,
             RecoverFault::NoMemory => 6,
+        }
+    }
+
+    /// The refusal with which a store answers the fault: that of the same name and fields. Want of memory is no refusal.
+    pub fn refusal(self) -> Option<Refusal>
+        ensures { result ≡ refusal_to self }
+    {
+        match self {
+            RecoverFault::BadGeometry { area } => Some(Refusal::BadGeometry { area }),
+            RecoverFault::Gap { segment, seq } => Some(Refusal::Gap { segment, seq }),
+            RecoverFault::Twice { segment, seq } => Some(Refusal::Twice { segment, seq }),
+            RecoverFault::OutOfSegment { area } => Some(Refusal::OutOfSegment { area: Some(area) }),
+            RecoverFault::DeviceFault => Some(Refusal::DeviceFault),
+            RecoverFault::NoMemory => None,
         }
     }
 }

@@ -52,4 +52,4 @@ pub use recovered::Recovered;
 pub use recovery::Recovery;
 pub use survey::Survey;
 pub use surveying::survey_areas;
-pub use zeros::zeros_merge;
+pub use zeros::{zero_areas, zeros_merge};

@@ -20,3 +20,4 @@ pub mod Passes
 pub mod Orders
 pub mod Stuck
 pub mod Stables
+pub mod SpelledWords

@@ -11,3 +11,5 @@ pub mod NumbersTest
 pub mod TokenTest
 pub mod Passed
 pub mod Stable
+pub mod Parts
+pub mod AtRest

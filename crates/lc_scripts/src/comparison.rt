@@ -1,6 +1,7 @@
 //! What a script prints, beside what is wanted.
 use lc_record::Geometry;
-use lc_tool::{Manner, ToolFault, run_script, zero_areas};
+use lc_recover::zero_areas;
+use lc_tool::{Manner, ToolFault, run_script};
 use std::alloc::Global;
 
 // As a whole, without numbers.

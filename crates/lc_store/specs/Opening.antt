@@ -7,7 +7,7 @@ use Rattle.lc_recover.specs.Recovery.{begun}
 use Rattle.lc_recover.specs.declared.fault.RecoverFault.{RecoverFault}
 use Rattle.lc_core.specs.ComingUp.{ComesUpBy}
 use Rattle.lc_core.specs.Lives.{IsNewborn}
-use Rattle.lc_core.specs.Recovering.{refusal_to}
+use Rattle.lc_recover.specs.Fault.{refusal_to}
 use Rattle.lc_core.specs.declared.call_fault.CallFault.{CallFault}
 use Rattle.lc_core.specs.declared.call_fault.CallFault.TheVariants.{NoMemory, Refused}
 use Rattle.lc_core.specs.declared.phase.Phase.TheVariants.{Down}

@@ -3,7 +3,7 @@ ghost use Rattle.std.specs.Prelude.{◌≡◌};
 ghost use Rattle.lc_store.specs.Opening.{of_recovery, of_size, of_unopened};
 ghost use Rattle.lc_store.specs.declared.open_fault.OpenFault.TheVariants.{NotUp};
 
-use lc_core::{CallFault, recovery_refusal};
+use lc_core::CallFault;
 use lc_files::{FolderFault, Misfit, SizeFault, Unopened};
 use lc_recover::RecoverFault;
 use std::fmt;
@@ -71,7 +71,7 @@ impl From<RecoverFault> for OpenFault {
     ghost from_gives = { λ fault own. own ≡ NotUp (of_recovery fault) };
 
     fn from(fault: RecoverFault) -> OpenFault {
-        match recovery_refusal(fault) {
+        match fault.refusal() {
             Some(refusal) => OpenFault::NotUp(CallFault::Refused(refusal)),
             None => OpenFault::NotUp(CallFault::NoMemory),
         }

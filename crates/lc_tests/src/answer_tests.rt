@@ -1,5 +1,5 @@
 //! What the program answers, over a folder of files that list their calls.
-use crate::listed_files::{Listed, Shelf, Trouble};
+use lc_fixture::{Listed, Shelf, Trouble};
 use crate::steps::{
     Ask, COMMIT, COMMITS, COMMITTED, COPYING, EMPTYING, FIRST_OF_1, FLUSHING, FLUSHING_FIVE,
     INSPECTING, LOCKED, LOOKING_AT_ALL, MAKING_LOG, MAKING_SIZE, ONE, OPENING_FILES, READING,

@@ -1,7 +1,9 @@
 //! Scripts that are followed: at a terminal the next line comes when the reply to the last is there.
-use crate::script_tests::{ONE, WHOLE};
+use crate::script_tests::WHOLE;
+use lc_fixture::ONE;
 use lc_text::ToolFault;
-use lc_tool::{Manner, run_script, zero_areas};
+use lc_recover::zero_areas;
+use lc_tool::{Manner, run_script};
 use std::cell::Cell;
 use std::io::{self, Error, ErrorKind, Read, Write};
 use std::test::*;

@@ -1,5 +1,5 @@
 //! What a check prints as JSON, over a folder of files that list their calls.
-use crate::listed_files::{Shelf, Trouble};
+use lc_fixture::{Shelf, Trouble};
 use crate::steps::{Ask, COMMIT, COMMITTED, ONE, STEP, Size, Step, check, check_all};
 use std::test::*;
 

@@ -1,5 +1,5 @@
 //! Who is said to have a store that is in use, by the system's list of locks.
-use crate::listed_files::{Shelf, Trouble};
+use lc_fixture::{Shelf, Trouble};
 use crate::steps::{Ask, LOCKED, ONE, STEP, Step, check};
 use std::alloc::Global;
 use std::process::Abort;

@@ -1,5 +1,5 @@
 //! What a look at a store prints and calls, over a folder of files that list their calls.
-use crate::listed_files::{Shelf, Trouble};
+use lc_fixture::{Shelf, Trouble};
 use crate::steps::{
     Ask, COMMIT, COMMITTED, EMPTYING, FIRST_OF_1, FLUSHING, ONE, OPENING_FILES, READING,
     READING_SIZE, RECOVERING, STEP, SYNCING, Size, Step, check, check_all, told,

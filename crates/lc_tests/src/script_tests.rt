@@ -1,20 +1,12 @@
 //! Scripts over stores that others have made, devices that fail, readers and writers that fail, and the longest script.
-use crate::stores::{CLOSED, SlotText, hello, log_area, segment_area, store_of};
 use lc_disk::{Fuse, MemArea, Stoppable, When};
-use lc_record::Geometry;
+use lc_fixture::{CLOSED, Narrow, ONE, SlotText, WRONG_LENGTHS, hello, log_area, segment_area, store_of};
+use lc_recover::zero_areas;
 use lc_text::ToolFault;
-use lc_tool::{Manner, Noted, run_script, zero_areas};
+use lc_tool::{Manner, Noted, run_script};
 use std::io::{self, Error, ErrorKind, Read, Write};
 use std::process::Abort;
 use std::test::*;
-
-pub(crate) const ONE: Geometry = Geometry {
-    nodes: 1,
-    threads: 1,
-    segments: 1,
-    pages: 1,
-    words: 64,
-};
 
 // As a whole, without numbers.
 pub(crate) const WHOLE: Manner = Manner {
@@ -227,17 +219,9 @@ fn a_record_of_the_second_version_is_recovered(rt: HostRuntime) -> Result<(), Fa
     )
 }
 
-// Lengths that are not those of a store of one node, and what is printed.
-pub(crate) const WRONG: [(&[usize], &str); 4] = [
-    (&[520, 543], "refused BadGeometry 1\n"),
-    (&[8, 544], "refused BadGeometry 0\n"),
-    (&[520], "refused BadGeometry 1\n"),
-    (&[520, 544, 544], "refused BadGeometry 2\n"),
-];
-
 #[test]
 fn areas_of_another_store(rt: HostRuntime) -> Result<(), Fail> {
-    for (lens, want) in WRONG {
+    for (lens, want) in WRONG_LENGTHS {
         let mut areas = Vec::new(rt.alloc());
         for len in lens {
             areas.push(MemArea::new(rt.alloc(), *len)?)?;
@@ -298,26 +282,6 @@ impl Read for Failing<'_> {
         *place = *first;
         self.rest = rest;
         Ok(1)
-    }
-}
-
-/// A writer that takes so many bytes, and then fails.
-#[derive(Drop)]
-pub(crate) struct Narrow {
-    pub(crate) room: usize,
-}
-
-impl Write for Narrow {
-    fn write(&mut self, buf: &[u8]) -> io::Result<usize> {
-        let Some(room) = self.room.checked_sub(buf.len()) else {
-            return Err(Error::from(ErrorKind::Other));
-        };
-        self.room = room;
-        Ok(buf.len())
-    }
-
-    fn flush(&mut self) -> io::Result<()> {
-        Ok(())
     }
 }
 

@@ -1,5 +1,5 @@
 //! What is asked of the program over a folder of files that list their calls, and what comes of it.
-use crate::listed_files::{FOLDER, Listed, Shelf, Trouble};
+use lc_fixture::{FOLDER, Listed, Shelf, Trouble};
 use lc_record::Geometry;
 use lc_tool::{ErrorOutput, answer};
 use lc_words::{Asked, RunStore, Size as StoreSize, Wanted};

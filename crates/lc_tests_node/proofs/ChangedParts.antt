@@ -6,10 +6,10 @@ use Rattle.std.proofs.lemmas.List.{length-set}
 use Rattle.lc_disk.specs.declared.area.Area.{Ghosts}
 use Rattle.lc_record.specs.declared.geometry.Geometry.{Geometry}
 use Rattle.lc_recover.proofs.AreaLemmas.{each-set}
-use Rattle.lc_core.specs.Parts.{AreKept, KeepsLog, KeepsPages}
-use Rattle.lc_core.specs.declared.node_part.NodePart.{NodePart}
-use Rattle.lc_core.specs.declared.parts.Parts.{Parts}
-use Rattle.lc_core.specs.declared.segment_part.SegmentPart.{SegmentPart}
+use Rattle.lc_rest.specs.Parts.{AreKept, KeepsLog, KeepsPages}
+use Rattle.lc_rest.specs.declared.node_part.NodePart.{NodePart}
+use Rattle.lc_rest.specs.declared.parts.Parts.{Parts}
+use Rattle.lc_rest.specs.declared.segment_part.SegmentPart.{SegmentPart}
 
 module _ {D : Type 0} (a : Ghosts D) where
   -- what is kept of a log speaks of the geometry's words alone

@@ -1,6 +1,6 @@
 //! What a cluster left, of which parts are changed by hand.
 ghost use Rattle.std.specs.Prelude.{IfOk};
-ghost use Rattle.lc_core.specs.Parts.{AreKept};
+ghost use Rattle.lc_rest.specs.Parts.{AreKept};
 
 use lc_core::{AdoptFault, Parts, World};
 use lc_disk::Area;

@@ -9,6 +9,7 @@ ghost use Rattle.lc_node.specs.Cluster.{IsSeatAt};
 use crate::seats::{Open, TRIES, put, put_and_confirm};
 use crate::shared::{SharedArea, area_of, zeros};
 use crate::stores::{SEGMENT_BYTES, recovered};
+use lc_adopt::into_world;
 use lc_core::{Event, Part, Reply, World};
 use lc_disk::{Area, Choice, Fuse, MemArea, When};
 use lc_node::{Cluster, Commit, Confirmed, Mode, Node, NodeFault, Put};
@@ -88,7 +89,7 @@ fn come_up<D: Area + Drop, R: Wait>(
     let Ok(seats) = no_seats(alloc, cluster.nodes()) else {
         return Err(NodeFault::NoMemory);
     };
-    cluster.into_world(rt, alloc, seats)
+    into_world(cluster, rt, alloc, seats)
 }
 
 /// The node behind this one.

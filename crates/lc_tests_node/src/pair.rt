@@ -1,6 +1,6 @@
 //! Two nodes that do one thing after another, and what they leave.
 ghost use Rattle.std.specs.Prelude.{◌≡◌, ◌<◌, IfOk, length};
-ghost use Rattle.lc_core.specs.Parts.{AreKept};
+ghost use Rattle.lc_rest.specs.Parts.{AreKept};
 ghost use Rattle.lc_disk.specs.contracts.mem_area.MemAreaArea.TheImpl.{ghosts};
 ghost use Rattle.lc_node.specs.Cluster.{IsSeatAt};
 

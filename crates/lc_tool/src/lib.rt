@@ -28,7 +28,6 @@ mod telling;
 mod truncating;
 mod verdict;
 mod view;
-mod zeros;
 
 pub use answering::answer;
 pub use checking_json::check_store_json;
@@ -43,4 +42,3 @@ pub use scripts::run_script;
 pub use sizing::{recover_sized, run_sized};
 pub use stores::{init_store, recover_store, run_store};
 pub use telling::ErrorOutput;
-pub use zeros::zero_areas;

@@ -4,7 +4,8 @@ use Rattle.lc_record.specs.Codec.{BeginsNoRecord, BeginsWith}
 use Rattle.lc_record.specs.declared.record.Record.{Record}
 use Rattle.lc_log.proofs.WalkLemmas.{found_more, none_found}
 use Rattle.lc_core.proofs.KeptWords.{found_whole}
-use Rattle.lc_core.proofs.SpelledPieces.{all_text, spelled_some}
+use Rattle.lc_rest.proofs.SpelledWords.{all_text}
+use Rattle.lc_core.proofs.SpelledPieces.{spelled_some}
 use Rattle.lc_core.proofs.node_records.read_records.Goals as goal
 
 pub loop-record-init : goal.loop-record-init

@@ -1,4 +1,4 @@
-use Rattle.lc_core.specs.Readings.{items_of}
+use Rattle.lc_record.specs.Lists.{items_of}
 use Rattle.lc_look.specs.Draws.{AreBarsOf}
 use Rattle.lc_look.proofs.drawing.bars_of.Given as goal
 

@@ -1,7 +1,7 @@
 use Rattle.std.proofs.Common.{ℕ, subst, ap, arith}
 use Rattle.std.proofs.lemmas.List.{length-map}
 use Rattle.std.specs.Global.{Vec}
-use Rattle.lc_core.specs.Readings.{items_of}
+use Rattle.lc_record.specs.Lists.{items_of}
 use Rattle.lc_record.specs.declared.geometry.Geometry.{Geometry}
 use Rattle.lc_look.specs.Draws.{AreBarsOf}
 use Rattle.lc_look.proofs.PicturesRead.{forecast-picture, logs-there}

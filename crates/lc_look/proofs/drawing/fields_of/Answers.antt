@@ -1,7 +1,7 @@
 use Rattle.std.proofs.Common.{ℕ, [], List, get_or, subst, sym, ap, ◌∙◌, ◌≡◌, arith, length, ◌<◌, ◌+◌, ◌*◌}
 use Rattle.std.proofs.lemmas.List.{get_or-map, length-map}
 use Rattle.std.specs.Global.{Vec}
-use Rattle.lc_core.specs.Readings.{items_of}
+use Rattle.lc_record.specs.Lists.{items_of}
 use Rattle.lc_record.specs.declared.geometry.Geometry.{Geometry}
 use Rattle.lc_picture.specs.declared.segment_field.SegmentField.{SegmentField}
 use Rattle.lc_recover.specs.Forecast.{sequence_of}

@@ -1,6 +1,6 @@
 use Rattle.std.proofs.Common.{◌+◌, []}
 use Rattle.std.specs.Prelude.{slice_index_or}
-use Rattle.lc_core.specs.Readings.{items_of}
+use Rattle.lc_record.specs.Lists.{items_of}
 use Rattle.lc_recover.specs.Forecast.{sequence_of}
 use Rattle.lc_look.specs.Draws.{AreEach, IsFieldOf}
 use Rattle.lc_look.proofs.drawing.fields_of.Given as goal

@@ -1,7 +1,7 @@
 use Rattle.std.proofs.Common.{ℕ, List, [], ◌∷◌, ◌∙◌, ◌≡◌, ◌<◌, ◌++◌, length, map, ap, arith}
 use Rattle.std.proofs.lemmas.List.{map-append}
 use Rattle.std.specs.Global.{Vec}
-use Rattle.lc_core.specs.Readings.{items_of}
+use Rattle.lc_record.specs.Lists.{items_of}
 use Rattle.lc_look.proofs.PicturesRead.{bytes-read, left-read, length-read}
 use Rattle.lc_look.proofs.drawing.read_all.Goals as goal
 

@@ -1,5 +1,5 @@
 use Rattle.std.proofs.Common.{◌≡◌, ◌≤◌, ℕ, List, length, map, take, vec_capacity}
-use Rattle.lc_core.specs.Readings.{items_of}
+use Rattle.lc_record.specs.Lists.{items_of}
 use Rattle.lc_recover.specs.Reads.{AreHonest, AreLeftAs}
 use Rattle.lc_look.proofs.drawing.read_all.Given as goal
 

@@ -13,10 +13,10 @@ pub returns-in-Some : goal.returns-in-Some
 unfolding line_of
 returns-in-Some g c =
     subst (λ (l : List ℕ). OnOk c.write_reply.result (Appends (g.W.Write.contents c.args.writer.now) (g.W.Write.contents c.write_reply.new.writer) l))
-    (ap line_of (sym c.in-Some.is ∙ c.recovery_refusal.ensures)) c.write_reply.ensures
+    (ap line_of (sym c.in-Some.is ∙ c.refusal.ensures)) c.write_reply.ensures
 
 pub returns-in-None : goal.returns-in-None
 unfolding line_of
 returns-in-None g c =
     subst (λ (l : List ℕ). OnOk c.write_no_memory.result (Appends (g.W.Write.contents c.args.writer.now) (g.W.Write.contents c.write_no_memory.new.writer) l))
-    (ap line_of (sym c.in-None.is ∙ c.recovery_refusal.ensures)) c.write_no_memory.ensures
+    (ap line_of (sym c.in-None.is ∙ c.refusal.ensures)) c.write_no_memory.ensures

@@ -2,7 +2,7 @@ use Rattle.std.proofs.Common.{◌≡◌, ◌⊎◌, ◌<◌, Some, length, inr, 
 use Rattle.std.specs.Global.{Vec}
 use Rattle.std.specs.Prelude.{Any, slice_get, vec_len}
 use Rattle.std.proofs.lemmas.Option.{get_or_from_slice_get}
-use Rattle.lc_core.specs.declared.node_part.NodePart.{NodePart}
+use Rattle.lc_rest.specs.declared.node_part.NodePart.{NodePart}
 use Rattle.lc_stage.specs.declared.seats.CommitSeat.{CommitSeat}
 use Rattle.lc_node.specs.LeftBy.{AreReceived, IsLeftNode}
 use Rattle.lc_node.specs.Refusals.{StopsNode}

@@ -1,7 +1,7 @@
 use Rattle.std.proofs.Common.{◌≡◌, ◌≤◌, ℕ, All, Some, drop, vec_len, vec_capacity}
 use Rattle.std.specs.Global.{Vec}
 use Rattle.std.specs.Prelude.{slice_get}
-use Rattle.lc_core.specs.declared.node_part.NodePart.{NodePart}
+use Rattle.lc_rest.specs.declared.node_part.NodePart.{NodePart}
 use Rattle.lc_stage.specs.declared.seats.CommitSeat.{CommitSeat}
 use Rattle.lc_node.specs.LeftBy.{AreReceived, IsLeftNode, IsSettledPart}
 use Rattle.lc_node.proofs.leaving_nodes.take_nodes.Given as goal

@@ -1,8 +1,8 @@
 use Rattle.std.proofs.Common.{◌≡◌, ◌+◌, List, All, Some, length, inl, inr, sym, ap, subst, ◌∙◌, arith}
 use Rattle.std.specs.Prelude.{slice_get}
 use Rattle.std.proofs.lemmas.List.Elements.{All-nil}
-use Rattle.lc_core.specs.Parts.{KeepsPages}
-use Rattle.lc_core.specs.declared.segment_part.SegmentPart.{SegmentPart}
+use Rattle.lc_rest.specs.Parts.{KeepsPages}
+use Rattle.lc_rest.specs.declared.segment_part.SegmentPart.{SegmentPart}
 use Rattle.lc_node.specs.Refusals.{HasToken, StopsTokens, first_of}
 use Rattle.lc_node.proofs.EachPlace.{each_more, each_none}
 use Rattle.lc_node.proofs.Joined.{all_more}

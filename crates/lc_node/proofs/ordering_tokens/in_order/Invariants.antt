@@ -1,7 +1,7 @@
 use Rattle.std.proofs.Common.{◌≡◌, ◌≤◌, ◌+◌, ℕ, All, Some, vec_len, vec_capacity}
 use Rattle.std.specs.Prelude.{slice_get}
-use Rattle.lc_core.specs.Parts.{KeepsPages}
-use Rattle.lc_core.specs.declared.segment_part.SegmentPart.{SegmentPart}
+use Rattle.lc_rest.specs.Parts.{KeepsPages}
+use Rattle.lc_rest.specs.declared.segment_part.SegmentPart.{SegmentPart}
 use Rattle.lc_node.specs.LeftBy.{IsSettledPart}
 use Rattle.lc_node.specs.Refusals.{HasToken, first_of}
 use Rattle.lc_node.proofs.OrderedTokens.{left_behind}

@@ -8,7 +8,7 @@ use Rattle.lc_node.specs.Refusals.{first_of}
 use Rattle.lc_node.proofs.LeftTokens.{keeps_pages}
 use Rattle.lc_node.proofs.OrderedTokens.{has_token, no_token, segment_of, token_at}
 use Rattle.lc_node.proofs.TakenOut.{no_place, of_kind, place_of}
-use Rattle.lc_core.specs.declared.segment_part.SegmentPart.{SegmentPart}
+use Rattle.lc_rest.specs.declared.segment_part.SegmentPart.{SegmentPart}
 use Rattle.lc_node.proofs.ordering_tokens.take_token.Goals as goal
 use Rattle.lc_node.proofs.ordering_tokens.take_token.Goals.{then-len-pages-via-then-len-pages, then-len-pages-via-else-len-pages+then-len-pages-2}
 

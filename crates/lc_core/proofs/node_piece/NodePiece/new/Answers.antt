@@ -2,7 +2,8 @@ use Rattle.std.proofs.Common.{ap, ◌∙◌}
 use Rattle.lc_core.specs.Kept.{kept_behind}
 use Rattle.lc_core.specs.Records.{count_of}
 use Rattle.lc_core.proofs.KeptWords.{both_behind, count_behind}
-use Rattle.lc_core.proofs.SpelledPieces.{all_text, piece_fits}
+use Rattle.lc_rest.proofs.SpelledWords.{all_text}
+use Rattle.lc_core.proofs.SpelledPieces.{piece_fits}
 use Rattle.lc_core.proofs.node_piece.NodePiece.new.Goals as goal
 
 pub returns-clause-stable : goal.returns-clause-stable

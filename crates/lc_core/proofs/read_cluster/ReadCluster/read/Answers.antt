@@ -7,7 +7,7 @@ use Rattle.lc_core.specs.Pictures.{AreImages}
 use Rattle.lc_core.specs.Pieces.{AreNodePieces}
 use Rattle.lc_core.specs.ReadAreas.{AreAreas, AreStarts}
 use Rattle.lc_core.specs.ReadNodes.{AreReadNodes}
-use Rattle.lc_core.specs.declared.segment_part.SegmentPart.{SegmentPart}
+use Rattle.lc_rest.specs.declared.segment_part.SegmentPart.{SegmentPart}
 use Rattle.lc_core.proofs.ClusterReads.{count_held, count_news, held_areas, images_there, mapped_at, news_long, pieces_fit, read_at}
 use Rattle.lc_core.proofs.Furnishing.{all_back}
 use Rattle.lc_core.proofs.SameFaults.{same_fault}

@@ -1,7 +1,7 @@
 use Rattle.std.proofs.Common.{◌≡◌, ◌+◌, ◌≤◌, ℕ, List, ap, length, refl, sym, ◌∙◌, subst, arith}
-use Rattle.lc_core.specs.Parts.{AreSpelled}
+use Rattle.lc_rest.specs.Parts.{AreSpelled}
 use Rattle.lc_core.proofs.NodeLogs.{read_part}
-use Rattle.lc_core.proofs.SpelledPieces.{all_text}
+use Rattle.lc_rest.proofs.SpelledWords.{all_text}
 use Rattle.lc_core.proofs.read_node.ReadNode.read.Goals as goal
 
 pub returns : goal.returns

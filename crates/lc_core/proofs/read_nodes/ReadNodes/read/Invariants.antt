@@ -1,9 +1,9 @@
 use Rattle.std.proofs.Common.{◌≡◌, ℕ, Some, drop, take}
 use Rattle.std.specs.Prelude.{slice_get}
 use Rattle.lc_record.specs.declared.geometry.Geometry.{Geometry}
-use Rattle.lc_core.specs.Parts.{KeepsLog}
+use Rattle.lc_rest.specs.Parts.{KeepsLog}
 use Rattle.lc_core.specs.ReadNodes.{AreReadNodes}
-use Rattle.lc_core.specs.declared.node_part.NodePart.{NodePart}
+use Rattle.lc_rest.specs.declared.node_part.NodePart.{NodePart}
 use Rattle.lc_core.proofs.read_nodes.ReadNodes.read.Given as goal
 
 abbrev pub invariant-loop : goal.invariant-loop

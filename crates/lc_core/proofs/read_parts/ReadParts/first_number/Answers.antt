@@ -5,8 +5,9 @@ use Rattle.lc_rest.specs.Merge.{logs_of, number_at}
 use Rattle.lc_rest.specs.TokenTest.{count_on}
 use Rattle.lc_rest.specs.declared.holder.Holder.TheVariants.{Left}
 use Rattle.lc_token.specs.declared.token.Token.{Token}
-use Rattle.lc_core.specs.AtRest.{KeepsToken}
-use Rattle.lc_core.specs.Readings.{KeepsTokenIn, at_segment, first_numbers, items_of, no_token, tests_of}
+use Rattle.lc_rest.specs.AtRest.{KeepsToken}
+use Rattle.lc_record.specs.Lists.{items_of}
+use Rattle.lc_core.specs.Readings.{KeepsTokenIn, at_segment, first_numbers, no_token, tests_of}
 use Rattle.lc_core.proofs.TokenReads.{index_at, items_at, number_next, ok_none, ok_some, token_in, token_kept}
 use Rattle.lc_core.proofs.read_parts.ReadParts.first_number.Goals as goal
 

@@ -6,7 +6,8 @@ use Rattle.std.proofs.lemmas.Option.{slice_get_read}
 use Rattle.lc_record.specs.declared.record.Record.{Record}
 use Rattle.lc_rest.specs.Replay.{AreBytes, IsReplay}
 use Rattle.lc_token.specs.declared.token.Token.{Token}
-use Rattle.lc_core.specs.Readings.{at_segment, items_of, no_token}
+use Rattle.lc_record.specs.Lists.{items_of}
+use Rattle.lc_core.specs.Readings.{at_segment, no_token}
 use Rattle.lc_core.proofs.TokenReads.{index_at, items_at}
 use Rattle.lc_core.proofs.read_parts.ReadParts.replayed.Goals as goal
 

@@ -2,7 +2,7 @@ use Rattle.std.proofs.Common.{◌≡◌, ◌<◌, ◌≤◌, ◌+◌, ℕ, [], �
 use Rattle.std.specs.Prelude.{slice_index_or}
 use Rattle.std.proofs.lemmas.List.{take_all, take_more}
 use Rattle.lc_rest.specs.Merge.{number_at}
-use Rattle.lc_core.specs.AtRest.{KeepsToken}
+use Rattle.lc_rest.specs.AtRest.{KeepsToken}
 use Rattle.lc_core.specs.Readings.{first_numbers, tests_of}
 use Rattle.lc_core.proofs.Firsts.{each_segment, first_failed}
 use Rattle.lc_core.proofs.TokenReads.{length_numbers}

@@ -1,5 +1,5 @@
 use Rattle.std.proofs.Common.{◌≡◌, ℕ, ◌+◌, ◌<◌, [], take}
-use Rattle.lc_core.specs.AtRest.{KeepsToken}
+use Rattle.lc_rest.specs.AtRest.{KeepsToken}
 use Rattle.lc_core.specs.Readings.{first_numbers, tests_of}
 use Rattle.lc_core.proofs.read_parts.ReadParts.test_tokens.Given as goal
 

@@ -2,7 +2,7 @@ use Rattle.std.proofs.Common.{◌≡◌, ◌⊎◌, ◌<◌, ◌≤◌, ℕ, Lis
 use Rattle.std.specs.Prelude.{slice_get}
 use Rattle.std.proofs.lemmas.List.{take_all}
 use Rattle.lc_lock.specs.declared.lock.Lock.{Lock}
-use Rattle.lc_core.specs.declared.part.Part.TheVariants.{Log}
+use Rattle.lc_rest.specs.declared.part.Part.TheVariants.{Log}
 use Rattle.lc_node.specs.LeftBy.{StoodBehind}
 use Rattle.lc_node.specs.SegView.{SegView}
 use Rattle.lc_node.specs.declared.node_fault.NodeFault.TheVariants.{Mismatch, NoMemory}

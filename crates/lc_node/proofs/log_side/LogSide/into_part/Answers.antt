@@ -6,7 +6,7 @@ use Rattle.lc_stage.specs.Staging.{Agree, AreRecords, end_of}
 use Rattle.lc_stage.specs.declared.view.View.{View}
 use Rattle.lc_trunc.specs.KnownClean.{known as known_of}
 use Rattle.lc_trunc.specs.Reset.{AreKnown}
-use Rattle.lc_core.specs.declared.node_part.NodePart.{NodePart}
+use Rattle.lc_rest.specs.declared.node_part.NodePart.{NodePart}
 use Rattle.lc_node.specs.LeftBy.{AreAllStaged, LeavesLog}
 use Rattle.lc_node.specs.LogSide.{area_of, is_halted, log_view}
 use Rattle.lc_node.specs.LogView.{LogView}

@@ -3,7 +3,7 @@ use Rattle.std.specs.Prelude.{IfOk}
 use Rattle.std.proofs.lemmas.List.{append-nil}
 use Rattle.std.proofs.lemmas.List.Elements.{All-push}
 use Rattle.lc_rest.specs.declared.holder.Holder.TheVariants.{Here}
-use Rattle.lc_core.specs.declared.segment_part.SegmentPart.{SegmentPart}
+use Rattle.lc_rest.specs.declared.segment_part.SegmentPart.{SegmentPart}
 use Rattle.lc_token.specs.declared.token.Token.{Token}
 use Rattle.lc_node.specs.Journey.{Journey}
 use Rattle.lc_node.specs.LeftBy.{IsSettledPart, token_here, token_sent, token_waiting, tokens_at}

@@ -1,0 +1,2 @@
+pub mod LeftBy
+pub mod Refusals
