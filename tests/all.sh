@@ -7,15 +7,15 @@
 # usage: tests/all.sh [-j N] [NAME..]     (default: a script for each processor; all)
 #
 # The program, the library and the tests have to be built:
-#   make prove   (cd crates/lc_tests && rt test)
-# LCRVM, LC_C and LC_TESTS may name them elsewhere. `make`, `cc` and `python3` are wanted. Some scripts take more
+#   make prove   (cd crates/lc_tests_store && rt test)
+# LCRVM, LC_C and LC_TESTS_STORE may name them elsewhere. `make`, `cc` and `python3` are wanted. Some scripts take more
 # cuts, kills or seeds by an argument of their own: see their first lines.
 set -eu
 
 top=$(cd "$(dirname "$0")/.." && pwd)
 export LCRVM="${LCRVM:-$top/crates/lcrvm/out/lcrvm}"
 export LC_C="${LC_C:-$top/crates/lc_c/out/liblc_c.a}"
-export LC_TESTS="${LC_TESTS:-$top/crates/lc_tests/out/lc_tests_tests}"
+export LC_TESTS_STORE="${LC_TESTS_STORE:-$top/crates/lc_tests_store/out/lc_tests_store_tests}"
 lanes=$(nproc)
 if [ "${1:-}" = -j ]; then
     lanes=$2
