@@ -2,7 +2,7 @@
 ghost use Rattle.std.specs.Prelude.{◌≡◌, ◌&&◌, option_map};
 ghost use Rattle.std.specs.List.{list_all};
 ghost use Rattle.lc_model.specs.Refusals.{is_known, is_node, is_page, is_thread, is_segment, named};
-ghost use Rattle.lc_model.specs.declared.event.Event.TheVariants.{Begin};
+ghost use Rattle.lc_model.specs.declared.event.Event.TheVariants.{Begin, SetRange};
 
 use crate::Event;
 use lc_record::Geometry;
@@ -41,7 +41,7 @@ pub(crate) fn is_known(geometry: &Geometry, event: &Event) -> bool
             thread,
             segment,
             ..
-        } => is_seat(geometry, *node, *thread) && is_segment(geometry, *segment),
+        } => knows_place(geometry, *node, *thread, *segment),
         Event::Abort { node, thread }
         | Event::Reserve { node, thread }
         | Event::Close { node, thread } => is_seat(geometry, *node, *thread),
@@ -81,6 +81,13 @@ pub(crate) fn knows_begin(
     is_seat(geometry, node, thread)
         && are_segments(geometry, segments)
         && are_segments(geometry, reading)
+}
+
+/// Whether the geometry has the node, the thread and the segment that it asks something of, be it a range of none.
+pub(crate) fn knows_place(geometry: &Geometry, node: u16, thread: u16, segment: u32) -> bool
+    ensures { result ≡ is_known geometry.now (SetRange node thread segment 0 0) }
+{
+    is_seat(geometry, node, thread) && is_segment(geometry, segment)
 }
 
 /// The node that the event acts at, of a delivery the receiver; an event of the whole store acts at none.

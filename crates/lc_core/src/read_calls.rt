@@ -12,7 +12,7 @@ use crate::desk::Desk;
 use crate::here::Here;
 use crate::running::Running;
 use crate::up::Up;
-use crate::{Event, Refusal};
+use crate::Refusal;
 use lc_disk::Area;
 use lc_tx::{Image, Tx};
 
@@ -105,15 +105,7 @@ impl<D: Area + Drop> Running<D> {
         ensures refused { IfErr result (λ refusal. StepsRunning D.Area self.now (Read node thread segment offset len) (Refused refusal) self.now) }
         ensures len { IfOk result (λ bytes. length bytes.now ≡ len) }
     {
-        // What is refused at once is so whatever the length is: as no bytes there.
-        let same_place = Event::Read {
-            node,
-            thread,
-            segment,
-            offset,
-            len: 0,
-        };
-        if let Some(refusal) = self.refusal(&same_place) {
+        if let Some(refusal) = self.place_refusal(node, thread, segment) {
             return Err(refusal);
         }
         self.nodes[node as usize]

@@ -7,7 +7,7 @@ ghost use Rattle.lc_core.specs.NodeSteps.{StepsNode};
 use crate::node::Node;
 use crate::running::Running;
 use crate::up::Up;
-use crate::{Event, Reply};
+use crate::Reply;
 use lc_disk::Area;
 
 impl<D: Area + Drop> Node<D> {
@@ -32,15 +32,7 @@ impl<D: Area + Drop> Running<D> {
     ) -> Reply
         ensures { StepsRunning D.Area self.old (Write node thread segment offset bytes.now) result self.new }
     {
-        // What is refused at once is so whatever the bytes are: as a range of none there.
-        let same_place = Event::SetRange {
-            node,
-            thread,
-            segment,
-            offset,
-            len: 0,
-        };
-        if let Some(refusal) = self.refusal(&same_place) {
+        if let Some(refusal) = self.place_refusal(node, thread, segment) {
             return Reply::Refused(refusal);
         }
         self.nodes[node as usize].write(thread, segment, offset, bytes)

@@ -13,11 +13,11 @@ pub returns-in-Some : goal.returns-in-Some
 returns-in-Some g c =
     let w = c.args.self.now in
     let refusal = c.in-Some.refusal in
-    refused_running g.D.Area w (Write c.args.node c.args.thread c.args.segment c.args.offset c.args.bytes.now) c.refusal.result c.refusal.ensures.refused refusal c.in-Some.is refl (c.refusal.ensures.names refusal c.in-Some.is) (let u = c.refusal.ensures.unknown refusal c.in-Some.is in record { outside = u.outside; inside = u.inside })
+    refused_running g.D.Area w (Write c.args.node c.args.thread c.args.segment c.args.offset c.args.bytes.now) c.place_refusal.result c.place_refusal.ensures.refused refusal c.in-Some.is refl (c.place_refusal.ensures.names refusal c.in-Some.is) (let u = c.place_refusal.ensures.unknown refusal c.in-Some.is in record { outside = u.outside; inside = u.inside })
 
 pub write-requires : goal.write-requires
 write-requires g c = record {
-  seat = (of_there g.D.Area c.args.self.now (Write c.args.node c.args.thread c.args.segment c.args.offset c.args.bytes.now) refl (c.refusal.ensures.known c.in_default.is) (c.refusal.ensures.running c.in_default.is) c.args.node refl c.index_mut.result.now c.index_mut.ensures.value).1;
+  seat = (of_there g.D.Area c.args.self.now (Write c.args.node c.args.thread c.args.segment c.args.offset c.args.bytes.now) refl (c.place_refusal.ensures.known c.in_default.is) (c.place_refusal.ensures.running c.in_default.is) c.args.node refl c.index_mut.result.now c.index_mut.ensures.value).1;
 }
 
 pub invariant_of-self : goal.invariant_of-self
@@ -29,7 +29,7 @@ invariant_of-self g c =
       all_nodes = w.all_nodes;
       all_places = w.all_places;
       named = w.named;
-      whole = whole_there g.D.Area w (Write c.args.node c.args.thread c.args.segment c.args.offset c.args.bytes.now) refl (c.refusal.ensures.known c.in_default.is) (c.refusal.ensures.running c.in_default.is) c.args.node refl c.index_mut.result.now c.index_mut.ensures.value r c.write.new.self (c.write.ensures c.args.node);
+      whole = whole_there g.D.Area w (Write c.args.node c.args.thread c.args.segment c.args.offset c.args.bytes.now) refl (c.place_refusal.ensures.known c.in_default.is) (c.place_refusal.ensures.running c.in_default.is) c.args.node refl c.index_mut.result.now c.index_mut.ensures.value r c.write.new.self (c.write.ensures c.args.node);
     }
 
 pub returns : goal.returns
@@ -38,13 +38,13 @@ returns g c =
     let event = Write c.args.node c.args.thread c.args.segment c.args.offset c.args.bytes.now in
     let reply = c.write.result in
     let r : Result Reply AllocError = Ok reply in
-    let known = c.refusal.ensures.known c.in_default.is in
-    let runs = c.refusal.ensures.running c.in_default.is in
+    let known = c.place_refusal.ensures.known c.in_default.is in
+    let runs = c.place_refusal.ensures.running c.in_default.is in
     let node = c.index_mut.result.now in
     let steps = c.write.ensures c.args.node in
     let both = faults_there g.D.Area w event refl known runs c.args.node refl node c.index_mut.ensures.value r c.write.new.self steps in
     record {
-      follows = row_steps g.D.Area w event c.refusal.result c.refusal.ensures.refused c.in_default.is reply _ _ _
+      follows = row_steps g.D.Area w event c.place_refusal.result c.place_refusal.ensures.refused c.in_default.is reply _ _ _
           (follows_there g.D.Area w event refl known runs c.args.node refl node c.index_mut.ensures.value r c.write.new.self steps);
       counts = record { counts = both.0; devices = record { geometry = refl; kinds = both.1 }; calls = both.2 };
       unknown = refuses_known w.geometry event reply known (known_there g.D.Area w event refl known runs c.args.node refl node c.index_mut.ensures.value r c.write.new.self steps);
