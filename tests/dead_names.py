@@ -21,7 +21,7 @@ LISTED = re.compile(r"\buse Rattle\.(\w+)\.(specs|proofs)\.([\w.]+)\.\{([^}]*)\}
 WHOLE = re.compile(r"\buse Rattle\.(\w+)\.(specs|proofs)\.([\w.]+)(?: as \w+)?\s*;?$", re.M)
 IMPORT = re.compile(r"(?ms)^ *(?:pub )?use [^\n{]*(?:\{[^}]*\})?[^\n]*$")
 ATTRIBUTE = re.compile(r"\b(\w+)::(specs|proofs)::((?:\w+::)+)([^\s,()]+)")
-HEAD = re.compile(r"^( *)((?:(?:pub|abbrev|unfoldable|record|data) )*)([^\s:(){}=]+)(?=\s|:|$)")
+HEAD = re.compile(r"^( *)((?:(?:pub|abbrev|unfoldable|record|data|ruleset) )*)([^\s:(){}=]+)(?=\s|:|$)")
 COMMENT = re.compile(r"(?m)(?:^|(?<=\s))--(?:\s.*)?$")
 WORD = re.compile(r"[^\s(){}\[\],;.:|`\"]+")
 
