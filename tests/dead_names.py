@@ -1,14 +1,16 @@
 #!/usr/bin/env python3
 """Lists the public definitions and lemmas of specs/ and proofs/ that nothing names.
 
-usage: tests/dead_names.py [CRATE..]     (seconds; proves nothing, changes nothing; the gate does not call it)
+usage: tests/dead_names.py [CRATE..]     (seconds; proves nothing, changes nothing)
 
 A name is named by what stands in its own file outside its own definition, and by each file that imports it from there
 or gives its path in an attribute. An import counts, since a tactic may take what a file imports. Passed over are fields
 and constructors, and Answers.antt, Invariants.antt and Proof.antt, whose names the prover looks for by itself.
-Names that only other dead names use are not listed: look again once those are gone.
+Names that only other dead names use are not listed: look again once those are gone. A name that is to stay all the
+same stands in EXCEPTIONS, with the reason.
 
-It prints each with its file and line; the last line is 'N public names, M of them named nowhere'.
+It prints each with its file and line, and what is an exception with its reason; the last line is 'N public names, M of
+them named nowhere'. The status is 1 where one of those is no exception. The gate calls it.
 """
 import pathlib
 import re
@@ -17,11 +19,15 @@ import sys
 TOP = pathlib.Path(__file__).resolve().parent.parent
 OF_THE_PROVER = {"Answers.antt", "Invariants.antt", "Proof.antt"}
 
+# What stays though nothing names it, as 'crates/NAME/specs/FILE.antt: NAME', and why: a law that stands for outsiders, or
+# a definition that a reader of the documents needs.
+EXCEPTIONS = {}
+
 LISTED = re.compile(r"\buse Rattle\.(\w+)\.(specs|proofs)\.([\w.]+)\.\{([^}]*)\}")
 WHOLE = re.compile(r"\buse Rattle\.(\w+)\.(specs|proofs)\.([\w.]+)(?: as \w+)?\s*;?$", re.M)
 IMPORT = re.compile(r"(?ms)^ *(?:pub )?use [^\n{]*(?:\{[^}]*\})?[^\n]*$")
 ATTRIBUTE = re.compile(r"\b(\w+)::(specs|proofs)::((?:\w+::)+)([^\s,()]+)")
-HEAD = re.compile(r"^( *)((?:(?:pub|abbrev|unfoldable|record|data) )*)([^\s:(){}=]+)(?=\s|:|$)")
+HEAD = re.compile(r"^( *)((?:(?:pub|abbrev|unfoldable|record|data|ruleset) )*)([^\s:(){}=]+)(?=\s|:|$)")
 COMMENT = re.compile(r"(?m)(?:^|(?<=\s))--(?:\s.*)?$")
 WORD = re.compile(r"[^\s(){}\[\],;.:|`\"]+")
 
@@ -114,11 +120,11 @@ def main(crates):
             beside = {word for other, it in enumerate(file.definitions) if other != at for word in it[3]}
             beside |= whole.get(module, set())
             if (*module, name) not in listed and not beside.issuperset(pieces(name)):
-                dead.append(f"{file.path.relative_to(TOP)}:{number}: {name}")
-    for line in dead:
-        print(line)
+                dead.append((file.path.relative_to(TOP), number, name, EXCEPTIONS.get(f"{file.path.relative_to(TOP)}: {name}")))
+    for path, number, name, reason in dead:
+        print(f"{path}:{number}: {name}" + (f" (stays: {reason})" if reason else ""))
     print(f"{public} public names, {len(dead)} of them named nowhere")
-    return 0
+    return 0 if all(reason for *_, reason in dead) else 1
 
 
 if __name__ == "__main__":

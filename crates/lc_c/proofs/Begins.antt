@@ -1,5 +1,5 @@
 -- One thread after another is asked to begin.
-use Rattle.std.proofs.Common.{◌≡◌, ◌<◌, ◌≤◌, ◌+◌, ◌-◌, ℕ, suc, true, false, List, refl, sym, subst, arith}
+use Rattle.std.proofs.Common.{◌≡◌, ◌<◌, ◌+◌, ◌-◌, ℕ, suc, true, false, List, refl, sym, subst, arith}
 use Rattle.std.specs.Prelude.{Ok}
 use Rattle.lc_model.specs.declared.event.Event.TheVariants.{Begin}
 use Rattle.lc_model.specs.declared.reply.Reply.{Reply}
@@ -9,9 +9,6 @@ use Rattle.lc_c.specs.declared.stage.Stage.{Stage}
 
 one_more : (n k : ℕ) → k < n → suc (n - (k + 1)) ≡ n - k
 one_more n k lt = omega (arith, lt)
-
-none_more : (n k : ℕ) → n ≤ k → 0 ≡ n - k
-none_more n k past = omega (arith, past)
 
 module _ (n k node : ℕ) (writing reading : List ℕ) (old mid : Stage) (first : Reply) where
   pub next_asked : k < n → StepsStage old (Begin node k writing reading) (Ok first) mid → is_taken first ≡ true → (found : ℕ) (reply : Reply) (new : Stage)
@@ -24,6 +21,3 @@ module _ (n k node : ℕ) (writing reading : List ℕ) (old mid : Stage) (first 
   answered lt step free =
       subst (λ left. BeginsFrom left node writing reading k old k first mid) (one_more n k lt)
       (first, mid, step, subst (λ b. GoesOn b (BeginsFrom (n - (k + 1)) node writing reading (k + 1)) k first mid k first mid) (sym free) (refl, refl, refl))
-
-  pub last_asked : n ≤ k → StepsStage old (Begin node k writing reading) (Ok first) mid → BeginsFrom (n - k) node writing reading k old k first mid
-  last_asked past step = subst (λ left. BeginsFrom left node writing reading k old k first mid) (none_more n k past) (refl, step)

@@ -1,5 +1,5 @@
 -- Pieces are given back one by one.
-use Rattle.std.proofs.Common.{◌≡◌, ℕ, ◌+◌, ◌<◌, ◌≤◌, true, false, List, [], ◌∷◌, length, drop, refl, sym, subst}
+use Rattle.std.proofs.Common.{◌≡◌, ℕ, ◌+◌, ◌<◌, ◌≤◌, true, List, [], ◌∷◌, length, drop, refl, sym, subst}
 use Rattle.std.specs.Prelude.{Result, Ok, Err, remove, slice_index_or}
 use Rattle.lc_core.specs.declared.call_fault.CallFault.{CallFault}
 use Rattle.lc_c.specs.Kept.{is_of}
@@ -30,9 +30,3 @@ module _ (node thread : ℕ) (xs : List Piece) (k : ℕ) (store : Store) where
     not_given mid fault mine gives =
         of_one (Err fault) (drop k xs) mid (subst (λ b. RestoresIf b piece (drop (k + 1) xs) (Restores node thread (drop (k + 1) xs)) store (Err fault) (drop k xs) mid) (sym mine)
         (Err fault, mid, gives, (refl, next, refl)))
-
-    pub passed : is_of node thread piece ≡ false → (result : Result (Unit {0}) CallFault) (left : List Piece) (new : Store)
-        → Restores node thread (drop (k + 1) xs) store result left new → Restores node thread (drop k xs) store result (piece ∷ left) new
-    passed others result left new rest =
-        of_one result (piece ∷ left) new (subst (λ b. RestoresIf b piece (drop (k + 1) xs) (Restores node thread (drop (k + 1) xs)) store result (piece ∷ left) new) (sym others)
-        (left, refl, rest))

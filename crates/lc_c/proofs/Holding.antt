@@ -1,11 +1,9 @@
 -- What is kept of the threads of a node, one after another.
-use Rattle.std.proofs.Common.{◌≡◌, ◌∙◌, ℕ, suc, ◌+◌, ◌==◌, false, List, [], ◌∷◌, ◌++◌, length, refl, sym, ap, subst, arith, append_assoc}
+use Rattle.std.proofs.Common.{◌≡◌, ◌∙◌, ℕ, ◌==◌, false, List, [], ◌∷◌, ◌++◌, length, refl, sym, ap, subst, append_assoc}
 use Rattle.lc_range.specs.declared.range.Range.{Range}
 use Rattle.lc_tx.specs.declared.tx.Tx.{Tx}
-use Rattle.lc_core.specs.OpenTransactions.{open_transaction}
-use Rattle.lc_c.specs.Kept.{AddsTo, AreLocks, AreLocksOf, AsideBelow, HoldBelow, HoldEach, Holds, IsAside, ranges_in}
+use Rattle.lc_c.specs.Kept.{AddsTo, AreLocksOf, HoldEach, Holds, IsAside}
 use Rattle.lc_c.specs.Stage.{Store}
-use Rattle.lc_c.specs.contracts.mirror_area.MirrorAreaArea.TheImpl.{ghosts}
 use Rattle.lc_c.specs.declared.aside.Aside.{Aside}
 use Rattle.lc_c.specs.declared.piece.Piece.{Piece}
 
@@ -27,14 +25,3 @@ module _ (store : Store) (node : ℕ) where
         → Holds store node thread range piece → AddsTo (HoldEach store node thread (ranges ++ range ∷ [])) olds news
     one_added ranges olds pieces news range piece added is holds =
         (added.0 ++ piece ∷ [], is ∙ ap (λ l. l ++ piece ∷ []) added.1 ∙ append_assoc olds added.0 (piece ∷ []), hold_more ranges added.0 range piece added.2 holds)
-
-    next : suc thread ≡ thread + 1
-    next = omega arith
-
-    pub thread_held : (pieces news : List Piece) → HoldBelow store node thread pieces → AddsTo (HoldEach store node thread (ranges_in (open_transaction ghosts store.phase node thread))) pieces news
-        → HoldBelow store node (thread + 1) news
-    thread_held pieces news below added = subst (λ n. HoldBelow store node n news) next (pieces, below, added)
-
-    pub thread_aside : (asides news : List Aside) → AsideBelow store node thread asides → AddsTo (AreLocks node thread (open_transaction ghosts store.phase node thread)) asides news
-        → AsideBelow store node (thread + 1) news
-    thread_aside asides news below added = subst (λ n. AsideBelow store node n news) next (asides, below, added)

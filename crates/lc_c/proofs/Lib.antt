@@ -9,4 +9,3 @@ mod Removing
 mod GivenBack
 mod Rows
 mod Holding
-mod Forgetting

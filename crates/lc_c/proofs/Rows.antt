@@ -1,5 +1,5 @@
 -- Rows of events, one for each transaction that is set aside.
-use Rattle.std.proofs.Common.{◌≡◌, ℕ, ◌+◌, ◌<◌, ◌≤◌, List, length, drop, refl, sym, subst}
+use Rattle.std.proofs.Common.{◌≡◌, ℕ, ◌+◌, ◌<◌, List, length, drop, sym, subst}
 use Rattle.std.specs.Prelude.{slice_index_or}
 use Rattle.lc_model.specs.declared.event.Event.TheVariants.{Abort, Begin}
 use Rattle.lc_model.specs.declared.reply.Reply.{Reply}
@@ -8,15 +8,9 @@ use Rattle.lc_c.specs.SetsAside.{AbortsEach, BeginsEach}
 use Rattle.lc_c.specs.Stage.{Store}
 use Rattle.lc_c.specs.contracts.mirror_area.MirrorAreaArea.TheImpl.{ghosts}
 use Rattle.lc_c.specs.declared.aside.Aside.{Aside}
-use Rattle.lc_c.proofs.Removing.{next_at, none_past}
+use Rattle.lc_c.proofs.Removing.{next_at}
 
 module _ (xs : List Aside) (k : ℕ) (store : Store) where
-  pub all_aborted : length xs ≤ k → AbortsEach (drop k xs) store store
-  all_aborted past = subst (λ l. AbortsEach l store store) (sym (none_past xs k past)) refl
-
-  pub all_begun : length xs ≤ k → BeginsEach (drop k xs) store store
-  all_begun past = subst (λ l. BeginsEach l store store) (sym (none_past xs k past)) refl
-
   module _ (aside : Aside) (within : k < length xs) (is : aside ≡ slice_index_or xs k aside) (reply : Reply) (mid new : Store) where
     pub one_aborted : StepsTo ghosts store (Abort aside.node aside.thread) reply mid → AbortsEach (drop (k + 1) xs) mid new → AbortsEach (drop k xs) store new
     one_aborted step rest = subst (λ l. AbortsEach l store new) (sym (next_at xs k aside within is)) (reply, mid, step, rest)

@@ -31,7 +31,7 @@ use Rattle.lc_tx.specs.declared.tx.Tx.{Tx}
 use Rattle.lc_tx.specs.declared.tx_fault.TxFault.{TxFault}
 use Rattle.lc_tx.specs.declared.tx_fault.TxFault.TheVariants.{Busy as IsBusy, NotHere as IsNotHere, NoRange as HasNoRange, OutOfSegment as IsOutside, NotLocked as IsNotLocked, NoMemory, TooLong as IsTooLong, SequenceSpent as IsSpent, EmptyRange as IsEmpty, TooManyRanges as AreTooMany, ReadOnly as IsReadOnly}
 use Rattle.lc_tx.proofs.BesideLemmas.{runs_beside, begin_keeps}
-use Rattle.lc_tx.proofs.HoldsLemmas.{asked_reading, asked_writing}
+use Rattle.lc_tx.proofs.HoldsLemmas.{asked_reading}
 use Rattle.lc_tx.proofs.MemberLemmas.{in_first, in_second, not_both, member_both}
 use Rattle.lc_tx.proofs.StandsLemmas.{begun_stands}
 use Rattle.lc_tx.proofs.AscendLemmas.{set_is_ascending}
@@ -218,9 +218,6 @@ module _ (m : Setting) (node i : ℕ) (old : Here) (seats : List Seat) (s : Stat
     module _ (new : Here) (tx : Tx) (begins : Begins the_images i segments reading old new tx) (free : (n : ℕ) → IsLockable the_images old segments reading n) where
       abbrev after : State
       after = begun m.geometry s node i segments reading
-
-      writes_asked : (n : ℕ) → Locked tx n → is_member n segments ≡ true
-      writes_asked n lock = asked_writing the_images old new i segments reading tx begins n lock
 
       reads_asked : (n : ℕ) → Reads tx n → is_member n reading ≡ true
       reads_asked n read = asked_reading the_images old new i segments reading tx begins n read

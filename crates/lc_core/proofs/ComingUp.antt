@@ -198,9 +198,6 @@ module _ {D : Type 0} (a : Ghosts D) where
   abbrev pub HasStepped : World D a → World D a → Type 0
   HasStepped old now = (more : ℕ) (last : Option Reply) (new : World D a) → RecoversIn a more now last new → (all : ℕ) × RecoversIn a all old last new
 
-  pub none_stepped : (old : World D a) → HasStepped old old
-  none_stepped old more last new steps = (more, steps)
-
   pub one_more : (old now mid : World D a) (steps : ℕ) → HasStepped old now → RecoversTo a now (Stepped steps) mid → HasStepped old mid
   one_more old now mid steps stepped to more last new rest = stepped (suc more) last new (steps, mid, to, rest)
 

@@ -46,10 +46,6 @@ pub counts_more : (replies : List Reply) (olds mids news : List (Option ℕ)) (r
 counts_more [] olds mids news reply all one = (news, subst (λ (counts : List (Option ℕ)). CountsFaults reply counts news) all one, refl)
 counts_more (first ∷ replies) olds mids news reply all one = (all.0, all.1, counts_more replies all.0 mids news reply all.2 one)
 
--- an event that was given up counts nothing
-pub counts_still : (replies : List Reply) (olds mids news : List (Option ℕ)) → CountsAll replies olds mids → news ≡ mids → CountsAll replies olds news
-counts_still replies olds mids news all same = subst (λ (counts : List (Option ℕ)). CountsAll replies olds counts) (sym same) all
-
 module _ {D : Type 0} (a : Ghosts D) where
   abbrev failures_at : D → Option ℕ
   failures_at area = Some (a.failures area)

@@ -5,11 +5,10 @@ use Rattle.std.proofs.lemmas.List.{length-map, length-drop, length-take-le, take
 use Rattle.std.specs.List.{AllByRecursion}
 use Rattle.lc_disk.specs.declared.area.Area.{Ghosts}
 use Rattle.lc_record.specs.Record.{spelling}
-use Rattle.lc_record.specs.Transaction.{Transaction}
 use Rattle.lc_record.specs.declared.record.Record.{Record}
 use Rattle.lc_log.specs.LogText.{IsWhole, joined}
 use Rattle.lc_model.specs.History.{front, entries_of, leading}
-use Rattle.lc_model.specs.State.{Setting, State, Flush, Up, fresh}
+use Rattle.lc_model.specs.State.{Setting, State, Flush}
 use Rattle.lc_model.specs.Stored.{records_of}
 use Rattle.lc_model.specs.Machine.{FlushRow, Moves, flushed_to, halting, acknowledged}
 use Rattle.lc_model.specs.declared.refusal.Refusal.TheVariants.{DeviceFault}
@@ -125,23 +124,6 @@ module _ {D : Type 0} (a : Ghosts D) where
   sealed_steps (Failed log) steps stable group is h = absurd cc
   sealed_steps (Torn log) steps stable group is h = absurd cc
   sealed_steps Taken steps stable group is h = absurd cc
-
-  -- nothing is reserved behind a recovery
-  pub begins_so : (m : Setting) (node : ℕ) (earlier : List Transaction) (x : Numbers) (log : Log D a) → Stands a log 0 [] [] → is_failed a log ≡ false
-      → x.disks.dropped node ≡ 0 → x.trimmed node ≡ 0 → HasReset a log (x.reset node) → FitsLog a m node log (record { before = 0; records = [] }) 0 0 0 0 (fresh m.geometry earlier Up) x
-  begins_so m node earlier x log stands up dropped trimmed reset = record {
-    words = refl;
-    marks = refl;
-    all_closed = omega arith;
-    whole = tt;
-    stands = stands;
-    halted = sym up;
-    dropped_is = sym dropped;
-    trimmed_is = sym trimmed;
-    acked_is = refl;
-    taken_is = refl;
-    reset_is = reset;
-  }
 
   -- a call answers something
   pub some_reply : (log : Log D a) (taken : ℕ) → reply_of a log taken ≡ Nothing → ⊥

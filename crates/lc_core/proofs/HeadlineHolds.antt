@@ -34,7 +34,6 @@ use Rattle.lc_model.proofs.Order.{law_meet}
 use Rattle.lc_core.specs.FaultReplies.{is_fault}
 use Rattle.lc_core.specs.Faults.{CountsAll, area_failures, phase_failures}
 use Rattle.lc_core.specs.Headline.{AllMerge, Cuts, Holds, IsSerial, Leaves, MergeTo}
-use Rattle.lc_core.specs.Log.{area_of}
 use Rattle.lc_core.specs.Numbers.{Numbers}
 use Rattle.lc_core.specs.Observed.{observed, stands_up}
 use Rattle.lc_core.specs.Pages.{areas_of}
@@ -45,7 +44,6 @@ use Rattle.lc_core.specs.Slots.{segment_to}
 use Rattle.lc_core.specs.Stops.{HasAreas}
 use Rattle.lc_core.specs.Turns.{Turns}
 use Rattle.lc_core.specs.World.{FitsPhase, FitsWorld}
-use Rattle.lc_core.specs.declared.node.Node.{Node}
 use Rattle.lc_core.specs.declared.phase.Phase.{Phase}
 use Rattle.lc_core.specs.declared.phase.Phase.TheVariants.{Down, Up, Taken}
 use Rattle.lc_core.specs.declared.world.World.{World}
@@ -174,28 +172,6 @@ module _ {D : Type 0} (a : Ghosts D) where
   all_of g areas content numbers merge = λ images are. of_store g images content numbers (merge images are)
 
   -- The areas of a store that fits
-
-  record Gathered (nodes : List (Node D a)) : Type 0 where
-    logs : List D
-    count : length logs ≡ length nodes
-    each : (n : ℕ) (node : Node D a) → slice_get nodes n ≡ Some node → area_of a node.journal.log ≡ slice_get logs n
-
-  gathered : (nodes : List (Node D a)) → ((n : ℕ) (node : Node D a) → slice_get nodes n ≡ Some node → (area : D) × (area_of a node.journal.log ≡ Some area)) → Gathered nodes
-  gathered [] have = record { logs = []; count = refl; each = λ n node at. absurd (none_there n node at) }
-    where
-      none_there : (n : ℕ) (node : Node D a) → slice_get [] n ≡ Some node → ⊥
-      none_there n node at = absurd (let within = slice_get_within [] n node at in omega (arith, within))
-  gathered (node ∷ nodes) have =
-      let first = have 0 node refl in
-      let others = gathered nodes (λ n later at. have (suc n) later at) in
-      record {
-        logs = first.0 ∷ others.logs;
-        count = ap suc others.count;
-        each = λ n. elim n as (λ (n : ℕ). (its : Node D a) → slice_get (node ∷ nodes) n ≡ Some its → area_of a its.journal.log ≡ slice_get (first.0 ∷ others.logs) n) [
-          | zero ↦ λ its at. ap (λ (o : Node D a). area_of a o.journal.log) (sym (same_some node its at)) ∙ first.1
-          | suc n ↦ λ its at. others.each n its at
-        ];
-      }
 
   pub areas_there : (phase : Phase D a) (m : Setting) (s : State) (x : Numbers) → FitsPhase a m phase s x → (areas : List D) × HasAreas a phase m.geometry areas
   areas_there (Down r) m s x h = (r.areas, (sym h.geometry_is, refl))

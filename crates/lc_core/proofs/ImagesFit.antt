@@ -19,7 +19,7 @@ use Rattle.lc_model.specs.Stops.{MayCut}
 use Rattle.lc_model.specs.Stored.{IsImage as IsImageOf, Shows}
 use Rattle.lc_model.proofs.Result.{merged}
 use Rattle.lc_model.proofs.Unrefused.{image-merges}
-use Rattle.lc_recover.specs.Reads.{AllMergeTo, AreHonest, AreImages, AreOfBytes, HaveLengths, area_count, store_of}
+use Rattle.lc_recover.specs.Reads.{AllMergeTo, AreHonest, AreImages, HaveLengths, area_count, store_of}
 use Rattle.lc_recover.proofs.Images.{from-map, get-drop, get-map, get-some, get-take}
 use Rattle.lc_core.specs.Areas.{AreOf, AreStopped, IsStopped}
 use Rattle.lc_core.specs.Faults.{area_failures}
@@ -161,9 +161,6 @@ module _ {D : Type 0} (a : Ghosts D) where
 
     pub stopped_lengths : (g : Geometry) → HaveLengths a g olds → HaveLengths a g news
     stopped_lengths g lengths k = ap (λ (l : List ℕ). slice_get l k) same_lengths ∙ lengths k
-
-    pub stopped_bytes : AreHonest a olds → AreOfBytes a news
-    stopped_bytes honest k new there is = (let one = one_stopped k new there in (one.is.image (honest k one.old one.old_is)).bytes)
 
     -- no failure is counted
     pub stopped_failures : area_failures a news ≡ area_failures a olds

@@ -1,7 +1,7 @@
 -- Records that are kept from words: what is found of them so far, and of all.
 use Rattle.std.proofs.Common.{◌≡◌, ℕ, ◌+◌, true, List, [], ◌∷◌, ◌++◌, map, take, drop, length, refl, sym, ap, ◌∙◌}
 use Rattle.std.specs.List.{AllByRecursion}
-use Rattle.std.proofs.lemmas.List.{append-nil, append_assoc, length-map, map-append, take_at}
+use Rattle.std.proofs.lemmas.List.{append_assoc, length-map, map-append, take_at}
 use Rattle.lc_record.specs.Codec.{BeginsNoRecord}
 use Rattle.lc_record.specs.Record.{spelling}
 use Rattle.lc_record.specs.declared.record.Record.{Record}
@@ -12,10 +12,6 @@ use Rattle.lc_log.proofs.LogLemmas.{joined-append, one_text-by}
 use Rattle.lc_log.proofs.WalkLemmas.{Found, found_all}
 use Rattle.lc_core.specs.Kept.{closed_record, kept_behind}
 use Rattle.lc_core.specs.Records.{Kept, Spelled, count_of}
-
--- none is kept behind what was
-pub none_behind : (k : Kept) → k ≡ kept_behind [] k
-none_behind k = ap (λ (rs : List Spelled). record k { records = rs }) (sym (append-nil k.records))
 
 -- one more
 pub one_behind : (rs : List Record) (r : Record) (words : List ℕ) (old now new : Kept) → words ≡ spelling r → now ≡ kept_behind rs old → new ≡ record now { records = now.records ++ record { words = words; closed = true } ∷ [] }

@@ -66,8 +66,6 @@ pub mod Delivered
 mod Devices
 mod Gathering
 pub mod Forgetting
-pub mod OneSlot
-pub mod TwoNodes
 pub mod Travels
 pub mod Arrivals
 pub mod InPlace

@@ -42,10 +42,6 @@ pub bytes_long : (n : ℕ) (piece : SegmentPiece) (standing : Option Token) → 
 bytes_long n piece None all stable = stable
 bytes_long n piece (Some token) all stable = all
 
--- what some token has, what stands of it and what is left of it have
-pub some_standing : (P : Token → Type 0) (node : ℕ) (holder : Holder) (token : Option Token) → ForSome token P → ForSome (standing_at node holder token) P
-some_standing P node holder token its = elim (is_here node holder) as (λ b. ForSome (if b then token else None) P) [ true ↦ its | false ↦ (λ t none. absurd cc) ]
-
 pub some_left : (P : Token → Type 0) (node : ℕ) (holder : Holder) (token : Option Token) → ForSome token P → ForSome (left_at node holder token) P
 some_left P node holder token its = elim (is_here node holder) as (λ b. ForSome (if b then None else token) P) [ true ↦ (λ t none. absurd cc) | false ↦ its ]
 

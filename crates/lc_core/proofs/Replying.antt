@@ -6,7 +6,7 @@ use Rattle.lc_model.specs.declared.event.Event.{Event}
 use Rattle.lc_model.specs.declared.event.Event.TheVariants.{Begin, SetRange, Write, Abort, Reserve, Close, FlushStep, Leave, Arrive, Deliver, Trim, PageStep, ResetStep, Stop}
 use Rattle.lc_model.specs.declared.reply.Reply.{Reply}
 use Rattle.lc_model.specs.declared.reply.Reply.TheVariants.{Ok as Accepted, Reserved, Ended, Stepped, Acked, Nothing, Applied, HeldBack, Ignored, Trimmed, Written, Reset}
-use Rattle.lc_core.specs.Answered.{ComesTo, StandsFor, is_done_or_not, takes_none}
+use Rattle.lc_core.specs.Answered.{ComesTo, StandsFor, is_done_or_not}
 use Rattle.lc_core.specs.Calls.{CallsArea}
 use Rattle.lc_core.specs.Faults.{CountsPhase}
 use Rattle.lc_core.specs.Geometries.{RefusesOutside, phase_geometry}
@@ -15,9 +15,7 @@ use Rattle.lc_core.specs.MayReply.{may_reply}
 use Rattle.lc_core.specs.Places.{same_some}
 use Rattle.lc_core.specs.Recovers.{RefusesAtOnce}
 use Rattle.lc_core.specs.Truncating.{StepsTo, refusal_in}
-use Rattle.lc_core.specs.World.{AsksIn, FollowsWorld}
-use Rattle.lc_core.specs.declared.phase.Phase.{Phase}
-use Rattle.lc_core.specs.declared.phase.Phase.TheVariants.{Down, Up, Taken}
+use Rattle.lc_core.specs.World.{FollowsWorld}
 use Rattle.lc_core.specs.declared.world.World.{World}
 
 -- Which reply it is where the others are not
@@ -70,46 +68,6 @@ is_empty_log node Nothing plain stepped reset may = refl
 is_empty_log node (Stepped steps) plain stepped reset may = absurd (stepped steps refl)
 is_empty_log node Reset plain stepped reset may = absurd (reset refl)
 is_empty_log node reply plain stepped reset may = absurd cc
-
--- Events that want no memory
-
-module _ {D : Type 0} (a : Ghosts D) where
-  pub takes_no_memory : (phase : Phase D a) (event : Event) → takes_none event ≡ true → AsksIn a phase event → ⊥
-  takes_no_memory (Down recovery) (Begin node thread segments reading) is asks = asks
-  takes_no_memory (Down recovery) (Write node thread segment offset bytes) is asks = asks
-  takes_no_memory (Down recovery) (Abort node thread) is asks = asks
-  takes_no_memory (Down recovery) (Close node thread) is asks = asks
-  takes_no_memory (Down recovery) (FlushStep node) is asks = asks
-  takes_no_memory (Down recovery) (Leave node segment) is asks = asks
-  takes_no_memory (Down recovery) (Arrive node segment) is asks = asks
-  takes_no_memory (Down recovery) (Trim node) is asks = asks
-  takes_no_memory (Down recovery) (PageStep node segment page) is asks = asks
-  takes_no_memory (Down recovery) (ResetStep node) is asks = asks
-  takes_no_memory (Up up) (Begin node thread segments reading) is asks = asks.1
-  takes_no_memory (Up up) (Write node thread segment offset bytes) is asks = asks.1
-  takes_no_memory (Up up) (Abort node thread) is asks = asks.1
-  takes_no_memory (Up up) (Close node thread) is asks = asks.1
-  takes_no_memory (Up up) (FlushStep node) is asks = asks.1
-  takes_no_memory (Up up) (Leave node segment) is asks = asks.1
-  takes_no_memory (Up up) (Arrive node segment) is asks = asks.1
-  takes_no_memory (Up up) (Trim node) is asks = asks.1
-  takes_no_memory (Up up) (PageStep node segment page) is asks = asks.1
-  takes_no_memory (Up up) (ResetStep node) is asks = asks.1
-  takes_no_memory Taken event is asks = asks
-  takes_no_memory phase event is asks = absurd cc
-
--- and are no stop
-pub no_stop_at_all : (event : Event) → takes_none event ≡ true → (choices : List (List Choice)) → event ≡ Stop choices → ⊥
-no_stop_at_all event is choices stops = subst (λ (e : Event). takes_none e ≡ true → ⊥) (sym stops) (λ e. absurd cc) is
-
-pub none_taken : (event : Event) → is_done_or_not event ≡ true → takes_none event ≡ true
-none_taken (Begin node thread segments reading) done = refl
-none_taken (Write node thread segment offset bytes) done = refl
-none_taken (Abort node thread) done = refl
-none_taken (Close node thread) done = refl
-none_taken (Leave node segment) done = refl
-none_taken (Arrive node segment) done = refl
-none_taken event done = absurd cc
 
 -- The reply that is handed out
 

@@ -32,11 +32,6 @@ idle_free Nothing tx is rests = rests
 idle_free IsOpen tx is rests = absurd cc
 idle_free (IsReserved number) tx is rests = absurd cc
 
-pub free_with : (doing : Doing) (tx next : Tx) → seat_of doing tx ≡ Free → seat_of doing next ≡ Free
-free_with Nothing tx next is = refl
-free_with IsOpen tx next is = absurd cc
-free_with (IsReserved number) tx next is = absurd cc
-
 pub rests_idle : (doing : Doing) (tx : Tx) → IsIdle tx → Rests doing tx
 rests_idle Nothing tx idle = idle
 rests_idle IsOpen tx idle = tt

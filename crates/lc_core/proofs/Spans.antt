@@ -9,7 +9,7 @@ use Rattle.std.proofs.lemmas.List.Sums.{sum_by-cons}
 use Rattle.lc_model.specs.History.{leading}
 use Rattle.lc_core.specs.Places.{same_some}
 use Rattle.lc_core.specs.declared.place.Place.{Place}
-use Rattle.lc_core.specs.Records.{Spelled, Kept, all_words, marks_of, count_of, front_of, span_of, closing, closed_at, spelled, places_of, shifted, AreKept, Lie}
+use Rattle.lc_core.specs.Records.{Spelled, Kept, all_words, marks_of, count_of, front_of, span_of, closing, closed_at, spelled, places_of, shifted, AreKept}
 
 -- the fields of what contracts see so
 pub record Holds (first : ℕ) (words : List ℕ) (places : List Place) (gone front : ℕ) (k : Kept) : Type 0 where
@@ -231,12 +231,6 @@ open_next [] place d within is = absurd (omega (arith, within))
 open_next (p ∷ ps) zero d within is = rw is refl
 open_next (p ∷ ps) (suc place) d within is = open_next ps place d (omega (arith, within)) is
 
-pub none_next : (ms : List Bool) (place : ℕ) → length ms ≤ place → leading (drop place ms) ≡ 0
-none_next [] zero beyond = refl
-none_next [] (suc place) beyond = refl
-none_next (m ∷ ms) zero beyond = absurd (omega (arith, beyond))
-none_next (m ∷ ms) (suc place) beyond = none_next ms place (omega (arith, beyond))
-
 -- those in front dropped
 
 pub places_from : (place start : ℕ) (rs : List Spelled) → drop place (places_of start rs) ≡ places_of (start + length (all_words (take place rs))) (drop place rs)
@@ -282,9 +276,6 @@ drop_closing (suc gone) (suc place) (r ∷ rs) few =
 -- the fields, and those behind each change
 
 module _ (first : ℕ) (words : List ℕ) (places : List Place) (gone front : ℕ) (k : Kept) (h : Holds first words places gone front k) where
-  pub lie_so : Lie words places
-  lie_so = (h.whole, h.places_are, h.words_are)
-
   pub few_gone : gone ≤ length h.whole
   few_gone = omega (arith, h.gone_closed, h.front_is, leading_le h.whole)
 

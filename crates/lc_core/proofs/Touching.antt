@@ -26,21 +26,6 @@ pub record Touching (from below : ℕ) (token : Token) (old new : Slot) : Type 0
   pub slot_is : new ≡ record old { token = record old.token { token = Some after } }
   pub between : TouchedBetween from below token after
 
-pub touching_start : (from : ℕ) (token : Token) (slot : Slot) → slot.token.token ≡ Some token → Touching from from token slot slot
-touching_start from token slot is = record {
-  after = token;
-  slot_is = ap (λ o. record slot { token = record slot.token { token = o } }) is;
-  between = record {
-    same_segment = refl;
-    same_seq = refl;
-    same_clean = refl;
-    same_count = refl;
-    touched = λ page lt ge among. absurd (omega (arith, lt, ge));
-    in_front = λ page lt. refl;
-    behind = λ page le. refl;
-  };
-}
-
 -- one page more
 token_step : (from below : ℕ) (old now : Token) → TouchedBetween from below old now → from ≤ below → below < length old.pages
     → TouchedBetween from (below + 1) old (record now { pages = slice_set now.pages below (touched_at (entry_at now.pages below) now.seq) })

@@ -1,38 +1,18 @@
--- Pieces of work that follow one another, up to the first refusal; and events that want no memory.
-use Rattle.std.specs.Prelude.{List, Option, Some, None, MatchOption, ◌⊎◌, ⊤, ◌*◌}
+-- Pieces of work that follow one another, up to the first refusal.
+use Rattle.std.specs.Prelude.{Option, Some, None, MatchOption, ◌⊎◌, ◌*◌}
 use Rattle.std.proofs.Common.{◌≡◌, ◌<◌, ◌≤◌, ◌+◌, ◌-◌, ℕ, zero, suc, true, false, refl, sym, ap, subst, arith, inl, inr, ◌∙◌}
 use Rattle.lc_disk.specs.declared.area.Area.{Ghosts}
-use Rattle.lc_disk.specs.declared.choice.Choice.{Choice}
 use Rattle.lc_model.specs.declared.event.Event.{Event}
-use Rattle.lc_model.specs.declared.event.Event.TheVariants.{FlushStep, PageStep, ResetStep, Stop}
+use Rattle.lc_model.specs.declared.event.Event.TheVariants.{FlushStep, PageStep}
 use Rattle.lc_model.specs.declared.refusal.Refusal.{Refusal}
 use Rattle.lc_model.specs.declared.reply.Reply.{Reply}
 use Rattle.lc_model.specs.declared.reply.Reply.TheVariants.{Ok as IsDone, Bytes, Reserved, Ended, Stepped, Acked, Nothing, Applied, HeldBack, Ignored, Trimmed, Written, Reset, Down as IsDown, Recovered, Refused}
-use Rattle.lc_core.specs.Truncating.{AsksFirst, empties, ending, CallsDue, CallsIf, EachFrom, Repeats, Round, StepsTo, WritesSegment, is_due, refusal_in, stopping}
-use Rattle.lc_core.specs.Truncation.{IsAtDue, IsFewer, IsNext, IsOn, Leads, Then, ThenCleans, ThenResets, WritesAt, WritesFrom, WritesIf, steps_if}
+use Rattle.lc_core.specs.Truncating.{AsksFirst, ending, CallsDue, CallsIf, EachFrom, Repeats, Round, StepsTo, WritesSegment, is_due, refusal_in, stopping}
+use Rattle.lc_core.specs.Truncation.{IsNext, IsOn, Leads, Then, ThenCleans, ThenResets, WritesAt, WritesFrom, WritesIf}
 use Rattle.lc_core.specs.declared.page_cursor.PageCursor.{PageCursor}
 use Rattle.lc_core.specs.declared.truncation_step.TruncationStep.{TruncationStep}
 use Rattle.lc_core.specs.declared.truncation_step.TruncationStep.TheVariants.{Continues, Ends}
-use Rattle.lc_core.specs.World.{AsksIn}
-use Rattle.lc_core.specs.declared.phase.Phase.{Phase}
-use Rattle.lc_core.specs.declared.phase.Phase.TheVariants.{Down, Up, Taken}
 use Rattle.lc_core.specs.declared.world.World.{World}
-
-module _ {D : Type 0} (a : Ghosts D) where
-  -- the events of a truncation ask for no memory
-  pub no_memory : (phase : Phase D a) (event : Event) → empties event ≡ true → AsksIn a phase event → ⊥
-  no_memory (Down recovery) (FlushStep node) is asks = asks
-  no_memory (Down recovery) (PageStep node segment page) is asks = asks
-  no_memory (Down recovery) (ResetStep node) is asks = asks
-  no_memory (Up up) (FlushStep node) is asks = asks.1
-  no_memory (Up up) (PageStep node segment page) is asks = asks.1
-  no_memory (Up up) (ResetStep node) is asks = asks.1
-  no_memory Taken event is asks = asks
-  no_memory phase event is asks = absurd cc
-
--- and none of them is a stop
-pub no_stop : (event : Event) → empties event ≡ true → (choices : List (List Choice)) → event ≡ Stop choices → ⊥
-no_stop event is choices stops = subst (λ (e : Event). empties e ≡ true → ⊥) (sym stops) (λ e. absurd cc) is
 
 -- How much is left
 
@@ -289,15 +269,6 @@ module _ {D : Type 0} (a : Ghosts D) where
   if_next node Pages left w None is refused v (none, same) = subst (λ r. Pages w r v) (sym none) (subst (λ n. Pages w None n) (sym same) is)
   if_next node Pages left w (Some cursor) is refused v writes = is.2 refused v writes
 
-  pub at_next : (node : ℕ) (Pages : World D a → Option Refusal → World D a → Type 0) (left : ℕ) (w : World D a) (next : Option PageCursor) → IsNext a node Pages left w next
-      → (cursor : PageCursor) → next ≡ Some cursor → IsAtDue a node w cursor
-  at_next node Pages left w None is cursor some = absurd cc
-  at_next node Pages left w (Some at) is cursor some = subst (λ o. MatchOption o ⊤ (λ its. IsAtDue a node w its)) some is.0
-
-  pub few_next : (node : ℕ) (Pages : World D a → Option Refusal → World D a → Type 0) (left : ℕ) (w : World D a) (next : Option PageCursor) → IsNext a node Pages left w next → steps_if next ≤ 5 + left
-  few_next node Pages left w None is = omega arith
-  few_next node Pages left w (Some cursor) is = omega (arith, is.1)
-
   -- Steps
 
   -- what remained may be more
@@ -305,11 +276,6 @@ module _ {D : Type 0} (a : Ghosts D) where
       → ((reply : Reply) (new : World D a) → Remained old reply new → More old reply new) → Leads a Remained old step mid → Leads a More old step mid
   leads_more Remained More old mid (Continues next) more leads = λ reply new rest. more reply new (leads reply new rest)
   leads_more Remained More old mid (Ends reply) more leads = more reply mid leads
-
-  -- and fewer steps than so many are fewer than more
-  pub fewer_more : (few many : ℕ) (step : TruncationStep) → few ≤ many → IsFewer a few step → IsFewer a many step
-  fewer_more few many (Continues next) le fewer = omega (arith, le, fewer)
-  fewer_more few many (Ends reply) le fewer = tt
 
   -- a call goes on, with more to follow
   pub more_calls : (more : ℕ) (event : Event) (w mid : World D a) (first : Reply) → 0 < more → ending first ≡ None → StepsTo a w event first mid

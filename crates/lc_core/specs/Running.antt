@@ -1,5 +1,5 @@
 -- All nodes of a store that is up, against the machine and the numbers beside it.
-use Rattle.std.specs.Prelude.{◌≡◌, Bool, false, ℕ, ◌+◌, List, length, Option, None, Some, slice_get}
+use Rattle.std.specs.Prelude.{◌≡◌, Bool, ℕ, ◌+◌, List, length, Option, None, Some, slice_get}
 use Rattle.lc_disk.specs.declared.area.Area.{Ghosts}
 use Rattle.lc_record.specs.declared.geometry.Geometry.{Geometry}
 use Rattle.lc_token.specs.declared.token.Token.{Token}
@@ -13,7 +13,6 @@ use Rattle.lc_model.specs.declared.event.Event.TheVariants.{Leave}
 use Rattle.lc_model.specs.declared.reply.Reply.{Reply}
 use Rattle.lc_core.specs.Coherent.{AreCoherent}
 use Rattle.lc_core.specs.Growing.{MayReadSome, MaySetMore}
-use Rattle.lc_core.specs.Log.{is_failed}
 use Rattle.lc_core.specs.Node.{FitsNode}
 use Rattle.lc_core.specs.Numbers.{Numbers}
 use Rattle.lc_core.specs.Prepares.{GetsPlace}
@@ -67,10 +66,6 @@ module _ {D : Type 0} (a : Ghosts D) where
   FollowsLeaving node segment writing old reply new =
       (m : Setting) (s : State) (x : Numbers) → FitsRunning m old s x → common_refusal m.geometry s (Leave node segment) ≡ None → writing ≡ is_writing m x segment
       → Onward m (Leave node segment) s x reply new.geometry new.nodes.items new.travelling.items
-
-  -- the log of this node has not failed
-  abbrev pub IsRunning : ℕ → List (Node D a) → Type 0
-  IsRunning n nodes = (node : Node D a) → slice_get nodes n ≡ Some node → is_failed a node.journal.log ≡ false
 
   -- the thread's open transaction at that node may set these positions, of which some is not set yet
   abbrev pub WantsRange : ℕ → ℕ → ℕ → ℕ → ℕ → Running D a → Type 0

@@ -1,10 +1,10 @@
 -- What the making of a store's files has made, and taken away.
-use Rattle.std.proofs.Common.{◌≡◌, ◌<◌, ◌≤◌, ℕ, ◌+◌, arith, refl, sym, ◌∙◌, ap, subst, below_more, ◌⊎◌, inl, inr, Bool, true, false, None, Some, Option}
-use Rattle.std.specs.Prelude.{is_some, Result, Err}
+use Rattle.std.proofs.Common.{◌≡◌, ◌<◌, ◌≤◌, ℕ, ◌+◌, arith, sym, ◌∙◌, ap, ◌⊎◌, inl, inr, Bool, true, false, None}
+use Rattle.std.specs.Prelude.{Result, Err}
 use Rattle.std.proofs.lemmas.Bool.{cases_lt}
 use Rattle.lc_record.specs.declared.geometry.Geometry.{Geometry}
 use Rattle.lc_files.specs.Files.{Files, store_name_at}
-use Rattle.lc_files.specs.Making.{ChangesAt, Inits, IsOther, MadeFirst, NoneTaken, Puts, new_at, new_bytes, new_count, new_name, new_name_at}
+use Rattle.lc_files.specs.Making.{ChangesAt, Inits, IsOther, MadeFirst, NoneTaken, new_at, new_count, new_name, new_name_at}
 use Rattle.lc_files.specs.Renewing.{Removes}
 use Rattle.lc_files.specs.declared.folder.FolderFault.{FolderFault}
 use Rattle.lc_files.specs.declared.making.Cause.TheVariants.{Folder}
@@ -21,22 +21,6 @@ module _ (g : Geometry) where
 
   pub fewer_is_other : (count more : ℕ) (other : StoreName) → count ≤ more → IsOther g more other → IsOther g count other
   fewer_is_other count more other few is place below = is place (omega arith)
-
-  pub none_made : (files : Files) → MadeFirst g 0 files files
-  none_made files = record { made = λ place below. absurd (omega arith); others = λ other is. refl }
-
-  pub one_made : (place : ℕ) (file : NewFile) (old mid new : Files) → file ≡ new_at g place → MadeFirst g place old mid → Puts (new_name file) (new_bytes file) mid new
-      → MadeFirst g (place + 1) old new
-  one_made place file old mid new is made puts =
-      let it : Puts (new_name_at g place) (new_bytes (new_at g place)) mid new =
-      subst (λ (f : NewFile). Puts (new_name f) (new_bytes f) mid new) is puts in
-      record {
-        made = below_more _ place
-            (λ before below. it.others (new_name_at g before) (λ same. let here : before ≡ place = new_name_at-injective g before place same in absurd (omega arith)) ∙ made.made before below)
-            it.there;
-        others = λ other is_other.
-            it.others other (λ same. is_other place (omega arith) same) ∙ made.others other (fewer_is_other place (place + 1) other (omega arith) is_other);
-      }
 
   module _ (old : Files) (none : NoneTaken old) where
     -- nothing stands under the names of a new store's files
@@ -75,7 +59,3 @@ module _ (g : Geometry) where
       → (other : StoreName) → IsOther g (place + 1) other → new other ≡ old other
   begun_others place file old mid new is made changes other is_other =
       changes other (λ same. is_other place (omega arith) (same ∙ ap new_name is)) ∙ made.others other (fewer_is_other place (place + 1) other (omega arith) is_other)
-
-pub is_none : {A : Type 0} (o : Option A) → is_some o ≡ false → o ≡ None
-is_none None none = refl
-is_none (Some x) none = absurd cc

@@ -58,11 +58,6 @@ pub record MadeFirst (g : Geometry) (count : ℕ) (old new : Files) : Type 0 whe
   pub made : (place : ℕ) → place < count → new (new_name_at g place) ≡ Some (new_bytes (new_at g place))
   pub others : (other : StoreName) → IsOther g count other → new other ≡ old other
 
--- none of the files of a new store is there, and nothing else has changed
-pub record TookAway (g : Geometry) (old new : Files) : Type 0 where
-  pub none : (place : ℕ) → place < new_count g → new (new_name_at g place) ≡ None
-  pub others : (other : StoreName) → IsOther g (new_count g) other → new other ≡ old other
-
 -- A new store, whose names are stable, where none of the names that some store gives is taken; else nothing has changed. What was
 -- made before a fault is taken away again, unless it is said that something is left; nothing else has changed.
 abbrev pub Inits : Geometry → Files → Files → (StoreName → Bool) → Result (Unit {0}) Unmade → Type 0

@@ -95,10 +95,6 @@ reset_over now dirty later records shut clean = record {
   clean = λ k _. clean k;
 }
 
-pub shut_kept : (now next : List ℕ) (dirty later : ℕ → Bool) (records : List Record) → next ≡ now → ((k : ℕ) → dirty k ≡ false → later k ≡ false) → IsShut now dirty records
-    → EachImage next later (IsWithOrWithout [] records)
-shut_kept now next dirty later records same kept shut image is = shut.images image (image_kept now next dirty later same kept image is)
-
 -- which gate a log at rest begins with
 
 none_of : (records : List Record) → length (joined records) ≡ 0 → records ≡ []

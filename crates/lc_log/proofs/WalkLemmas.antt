@@ -76,11 +76,6 @@ pub record Found (words : List ℕ) (found : List (ℕ × Record)) (end : ℕ) :
 pub none_found : (words : List ℕ) → Found words [] 0
 none_found words = record { text = refl; whole = tt; places = refl; size = refl }
 
-pub found_within : (words : List ℕ) (found : List (ℕ × Record)) (end : ℕ) → Found words found end → end ≤ length words
-found_within words found end f =
-    let long : length words ≡ length (joined (map (λ x. x.1) found)) + length (drop end words) = ap length f.text ∙ length-append (joined (map (λ x. x.1) found)) (drop end words) in
-    omega (arith, long, f.size)
-
 map-push : (found : List (ℕ × Record)) (x : ℕ × Record) → map (λ y. y.1) (found ++ x ∷ []) ≡ map (λ y. y.1) found ++ x.1 ∷ []
 map-push [] x = refl
 map-push (y ∷ ys) x = ap (λ (l : List Record). y.1 ∷ l) (map-push ys x)

@@ -25,11 +25,11 @@ use Rattle.lc_recover.specs.declared.progress.Progress.{Progress}
 use Rattle.lc_recover.specs.declared.progress.Progress.TheVariants.{Stepped, Recovered as IsEnd}
 use Rattle.lc_recover.proofs.Images.{count-areas, own-image}
 use Rattle.lc_look.specs.Recovers.{AreNumbered, Explains, IsOutward, Recovers, RecoversAreas, stop_status, stop_text}
-use Rattle.lc_look.specs.Refused.{AreRefused, IsFirstWrong, RefusesLengths, RefusesMerge, RefusesStore}
+use Rattle.lc_look.specs.Refused.{AreRefused, RefusesMerge, RefusesStore}
 use Rattle.lc_text.specs.Text.{recovered_text, refusal_text, reply_text, segment_text}
 use Rattle.lc_text.specs.declared.tool_fault.ToolFault.{ToolFault}
 use Rattle.lc_text.specs.declared.tool_fault.ToolFault.TheVariants.{Write as NotWritten}
-use Rattle.lc_look.proofs.Refusals.{one_least, same_refusal}
+use Rattle.lc_look.proofs.Refusals.{same_refusal}
 use Rattle.lc_text.proofs.Writes.{same_bytes}
 
 -- what is no step is the end
@@ -144,14 +144,6 @@ module _ {D : Type 0} (a : Ghosts D) (g : Geometry) (areas : List D) where
 
   -- Why it did not come to its end
 
-  -- an area has not its length
-  pub explains_new : (area : ℕ) (fault : RecoverFault) → fault ≡ BadGeometry area → IsFirstWrong a g areas area → Explains a g areas fault
-  explains_new area fault is first = record {
-    merging = λ numbers known. absurd (first.is (known.lengths area));
-    refused = λ merge refused. absurd (first.is (refused.lengths area));
-    wrong = λ other also. is ∙ ap BadGeometry (one_least _ area other first also);
-  }
-
   -- a step has failed
   module _ (old : Recovering D) (fault : RecoverFault) (goes : Goes old) where
     pub explains_step : HaveLengths a g areas
@@ -229,12 +221,6 @@ module _ {D : Type 0} (a : Ghosts D) (g : Geometry) (areas : List D) (held holds
     pub prints_numbers : Appends held holds (recovered_text store.geometry (sequence_of store)) → RecoversAreas a g areas held holds 0
     prints_numbers shown numbers known = (recovered_text g numbers, inl (refl, refl), same_bytes held holds _ _ (same_text g numbers store made.geometry (made.numbers numbers known)) shown)
 
-    pub never_refused : (status : ℕ) → RefusesMerge a g areas held holds status
-    never_refused status fault refused = absurd (made.accepted fault refused)
-
-    pub never_wrong : (status : ℕ) → RefusesLengths a g areas held holds status
-    never_wrong status area wrong = absurd (wrong.is (made.lengths area))
-
   module _ (fault : RecoverFault) (why : Explains a g areas fault) (shown : Appends held holds (stop_text fault)) where
     pub stops_recovery : RecoversAreas a g areas held holds (stop_status fault)
     stops_recovery numbers known =
@@ -252,6 +238,3 @@ module _ {D : Type 0} (a : Ghosts D) (g : Geometry) (areas : List D) (held holds
             | inr failed ↦ (stop_text fault, inr (inl (ap stop_text failed, ap stop_status failed)), shown)
           ]
         ]
-
-    pub stops_wrong : RefusesLengths a g areas held holds (stop_status fault)
-    stops_wrong area wrong = let is = why.wrong area wrong in (stop_text fault, (ap stop_text is, ap stop_status is), shown)

@@ -81,9 +81,6 @@ module _ (store : Store) (segment n : ℕ) (pages : List ℕ) (are : AreBehindIn
     );
   }
 
-pub behind-none : (store : Store) (segment : ℕ) → AreBehindIn 0 store segment []
-behind-none store segment = record { rising = tt; all = λ page. (λ has. absurd (omega (arith, has.1)), λ is. absurd (omega (arith, is.0))) }
-
 -- Segments
 
 pub behind-more : (g : Geometry) (store : Store) (from n : ℕ) (front own : List ℕ) → BehindTexts g store from n front → IsBehindText g.pages store (from + n) own → BehindTexts g store from (suc n) (front ++ own)

@@ -4,7 +4,7 @@ use Rattle.std.specs.Prelude.{slice_get, slice_set}
 use Rattle.std.specs.Io.KnownBytes.{Appends}
 use Rattle.std.proofs.lemmas.Bool.{cases_lt}
 use Rattle.std.proofs.lemmas.List.{length-append, length-map, length-set, take_more}
-use Rattle.std.proofs.lemmas.Option.{none-some, slice_get_within, slice_get-get_or, get_or_from_slice_get}
+use Rattle.std.proofs.lemmas.Option.{slice_get_within, slice_get-get_or, get_or_from_slice_get}
 use Rattle.lc_disk.specs.declared.area.Area.{Ghosts}
 use Rattle.lc_record.specs.declared.geometry.Geometry.{Geometry}
 use Rattle.lc_model.specs.Merge.{Store}
@@ -26,9 +26,6 @@ use Rattle.lc_look.specs.Refused.{IsFirstWrong}
 -- Lists
 
 module _ {A : Type 0} (Such : ℕ → A → Type 0) where
-  pub each-none : AreEach Such 0 []
-  each-none = record { all = refl; each = λ place item is. absurd (none-some item is) }
-
   -- one more stands behind them
   pub each-more : (n : ℕ) (items : List A) (item : A) → AreEach Such n items → Such n item → AreEach Such (n + 1) (items ++ item ∷ [])
   each-more n items item are such = record {

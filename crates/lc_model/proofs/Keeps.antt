@@ -701,17 +701,8 @@ sound-run m s (event ∷ events) (reply ∷ replies) new sound run =
 pub history-well : (g : Geometry) (s : State) → Sound g s → All IsWellFormed (transactions s.history)
 history-well g s sound = All-weaker (IsProper g) IsWellFormed (λ t proper. proper.well) (transactions s.history) sound.history_proper
 
-pub earlier-well : (g : Geometry) (s : State) → Sound g s → All IsWellFormed s.earlier
-earlier-well g s sound = All-weaker (IsProper g) IsWellFormed (λ t proper. proper.well) s.earlier sound.earlier_proper
-
-pub running-well : (g : Geometry) (s : State) → Sound g s → All IsWellFormed s.running
-running-well g s sound = All-weaker (IsProper g) IsWellFormed (λ t proper. proper.well) s.running sound.running_proper
-
 pub acked-reserved : (g : Geometry) (s : State) (node : ℕ) → Sound g s → s.ack node ≤ reserved node s.history
 acked-reserved g s node sound = le_trans (sound.acked node) (front-reserved node s.history)
-
-pub running-here : (g : Geometry) (s : State) → Sound g s → All (IsHere s.place) s.running
-running-here g s sound = All-left (IsHere s.place) s.running (unclosed s.history) sound.holders_here
 
 pub unclosed-here : (g : Geometry) (s : State) → Sound g s → All (IsHere s.place) (unclosed s.history)
 unclosed-here g s sound = All-right (IsHere s.place) s.running (unclosed s.history) sound.holders_here

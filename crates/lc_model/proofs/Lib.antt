@@ -1,4 +1,3 @@
-pub mod Following
 pub mod Rows
 pub mod Keeps
 pub mod EveryCut

@@ -379,9 +379,6 @@ keeps-opening m s d segment page text fits some last within is =
 
 -- Of the logs
 
-on-same : (m : Setting) (d : Disks) (resetting : ℕ → Bool) (r : Record) → IsOnPages m.geometry d r → IsOnPages m.geometry (record d { resetting = resetting }) r
-on-same m d resetting r on = on
-
 -- a reset is written where all is acknowledged and on the pages
 pub keeps-reset : (m : Setting) (s : State) (d : Disks) (node : ℕ) → Fits m s d → All (IsOnPages m.geometry d) (records_of m s d node) → length (records_of m s d node) ≤ s.ack node → Fits m s (with_reset d node)
 keeps-reset m s d node fits on all_acked = record {

@@ -1,20 +1,19 @@
 -- The machine's rows, one lemma for each answer: from what holds of the state, the row holds.
-use Rattle.std.proofs.Common.{◌≡◌, ◌≢◌, ℕ, ◌+◌, ◌<◌, ◌≤◌, ◌++◌, Bool, true, false, length, List, take, drop, nat_le, Some, None, not, ◌&&◌, ◌||◌, ◌==◌, is_some, ltb-true, refl, inl, inr, eq-eqb, ne_eqb, lt-ltb, le-ltb, arith}
+use Rattle.std.proofs.Common.{◌≡◌, ◌≢◌, ℕ, ◌+◌, ◌<◌, ◌≤◌, ◌++◌, Bool, true, false, length, List, take, drop, nat_le, Some, None, not, ◌&&◌, ◌||◌, ◌==◌, is_some, ltb-true, refl, inl, inr, eq-eqb, ne_eqb, le-ltb, arith}
 use Rattle.std.specs.List.{list_all}
 use Rattle.lc_record.specs.Content.{segment_of}
 use Rattle.lc_record.specs.Transaction.{Transaction, locks, holds, all_set}
 use Rattle.lc_record.specs.Geometry.{segment_len}
 use Rattle.lc_record.specs.declared.geometry.Geometry.{Geometry}
 use Rattle.lc_model.specs.History.{front, reserved}
-use Rattle.lc_model.specs.State.{At, Travelling, Up, DownAt, Setting, State, fresh, running_of, has_unclosed, is_held}
-use Rattle.lc_model.specs.History.{Cut, kept}
+use Rattle.lc_model.specs.State.{At, Travelling, Setting, State, running_of, has_unclosed, is_held}
 use Rattle.lc_record.specs.Marks.{ranges, is_empty, ascending, marked, written}
 use Rattle.lc_model.specs.Refusals.{refuse_if, common_refusal, is_known, are_known, by_thread, by_node, is_node, is_thread, is_segment, is_page, is_up, works_down, is_halted, is_at, first_taken, leave_refusal}
-use Rattle.lc_model.specs.Machine.{Step, Row, FlushRow, begun, changed, dropped, appended, closed_by, flushed_to, halting, acknowledged, placed, seen, may_refuse_reserve, may_deliver, may_trim}
+use Rattle.lc_model.specs.Machine.{Step, Row, FlushRow, begun, changed, dropped, appended, closed_by, flushed_to, halting, acknowledged, placed, seen, may_refuse_reserve}
 use Rattle.lc_model.specs.declared.event.Event.{Event}
-use Rattle.lc_model.specs.declared.event.Event.TheVariants.{Begin, SetRange, Write, Read, Abort, Reserve, Close, Leave, Arrive, Deliver, Trim, RecoverStep}
+use Rattle.lc_model.specs.declared.event.Event.TheVariants.{Begin, SetRange, Write, Read, Abort, Reserve, Close, Leave, Arrive}
 use Rattle.lc_model.specs.declared.reply.Reply.{Reply}
-use Rattle.lc_model.specs.declared.reply.Reply.TheVariants.{Ok as Accepted, Bytes, Reserved, Ended, Stepped, Acked, Nothing, Recovered, Refused}
+use Rattle.lc_model.specs.declared.reply.Reply.TheVariants.{Ok as Accepted, Bytes, Reserved, Ended, Acked, Nothing, Refused}
 use Rattle.lc_model.specs.declared.refusal.Refusal.{Refusal}
 use Rattle.lc_model.specs.declared.refusal.Refusal.TheVariants.{Down, Unknown, Halted, OutOfTurn, NotHere, NotLocked, ReadOnly, EmptyRange, OutOfSegment, NoRange, TooManyRanges, Held, Writing, Unflushed, Behind, DeviceFault}
 
@@ -23,18 +22,6 @@ use Rattle.lc_model.specs.declared.refusal.Refusal.TheVariants.{Down, Unknown, H
 -- where no common refusal comes first, the event's row is the step
 pub step-row : (m : Setting) (s : State) (event : Event) (reply : Reply) (new : State) → common_refusal m.geometry s event ≡ None → Row m s event reply new → Step m s event reply new
 step-row m s event reply new none row = rw none row
-
-pub row-step : (m : Setting) (s : State) (event : Event) (reply : Reply) (new : State) → common_refusal m.geometry s event ≡ None → Step m s event reply new → Row m s event reply new
-row-step m s event reply new none step = rw none at step
-
-pub step-refused : (m : Setting) (s : State) (event : Event) (refusal : Refusal) → common_refusal m.geometry s event ≡ Some refusal → Step m s event (Refused refusal) s
-step-refused m s event refusal some = rw some (refl, refl)
-
-pub step-down : (m : Setting) (s : State) (event : Event) → is_up s.phase ≡ false → works_down event ≡ false → Step m s event (Refused Down) s
-step-down m s event down works = rw (down, works) (refl, refl)
-
-pub common-unknown : (g : Geometry) (s : State) (event : Event) → is_up s.phase ≡ true → is_known g event ≡ false → common_refusal g s event ≡ Some Unknown
-common-unknown g s event up known = rw (up, known) refl
 
 pub common-halted : (g : Geometry) (s : State) (event : Event) → is_up s.phase ≡ true → is_known g event ≡ true → is_halted s.halted event ≡ true → common_refusal g s event ≡ Some Halted
 common-halted g s event up known halted = rw (up, known, halted) refl
@@ -73,9 +60,6 @@ node_known g node segments pages h =
     let b = and-both (is_node g node && true && true) (list_all (is_segment g) segments) a.0 in
     let c = and-both (is_node g node && true) true b.0 in
     ltb-true node g.nodes (and-both (is_node g node) true c.0).0
-
-pub known_seat : (g : Geometry) (node thread : ℕ) (segments : List ℕ) → is_node g node ≡ true → is_thread g thread ≡ true → list_all (is_segment g) segments ≡ true → are_known g (by_thread node thread segments) ≡ true
-known_seat g node thread segments a b c = rw (a, b, c) refl
 
 -- Begin
 
@@ -176,18 +160,6 @@ close-done m s node thread some = rw some (refl, refl)
 pub flush-nothing : (s : State) (node taken : ℕ) → front node s.history ≡ s.ack node → FlushRow s node 0 taken Nothing s
 flush-nothing s node taken same = rw (eq-eqb (front node s.history) (s.ack node) same) (refl, refl)
 
-pub flush-first : (s : State) (node taken : ℕ) → front node s.history ≢ s.ack node → FlushRow s node 0 taken (Stepped 1) (flushed_to s node 1 (front node s.history))
-flush-first s node taken differ = rw (ne_eqb (front node s.history) (s.ack node) differ) (inl (refl, refl))
-
-pub flush-first_fault : (s : State) (node taken : ℕ) → front node s.history ≢ s.ack node → FlushRow s node 0 taken (Refused DeviceFault) (halting (flushed_to s node 1 (front node s.history)) node)
-flush-first_fault s node taken differ = rw (ne_eqb (front node s.history) (s.ack node) differ) (inr (refl, refl))
-
-pub flush-next : (s : State) (node steps taken : ℕ) → steps ≢ 0 → steps < 3 → FlushRow s node steps taken (Stepped (steps + 1)) (flushed_to s node (steps + 1) taken)
-flush-next s node steps taken some less = rw (ne_eqb steps 0 some, lt-ltb steps 3 less) (inl (refl, refl))
-
-pub flush-next_fault : (s : State) (node steps taken : ℕ) → steps ≢ 0 → steps < 3 → FlushRow s node steps taken (Refused DeviceFault) (halting (flushed_to s node (steps + 1) taken) node)
-flush-next_fault s node steps taken some less = rw (ne_eqb steps 0 some, lt-ltb steps 3 less) (inr (refl, refl))
-
 pub flush-last : (s : State) (node steps taken : ℕ) → 3 ≤ steps → FlushRow s node steps taken (Acked taken) (acknowledged s node taken)
 flush-last s node steps taken all =
     let some : steps ≢ 0 = omega arith in
@@ -229,23 +201,3 @@ arrive-done m s node segment travelling = rw travelling (inl (refl, refl))
 
 pub arrive-behind : (m : Setting) (s : State) (node segment applied seq : ℕ) → s.place segment ≡ Travelling → Row m s (Arrive node segment) (Refused (Behind applied seq)) s
 arrive-behind m s node segment applied seq travelling = rw travelling (inr (applied, seq, refl, refl))
-
--- Deliver, Trim and RecoverStep
-
-pub deliver-any : (m : Setting) (s : State) (sender number segment to : ℕ) (reply : Reply) → may_deliver reply ≡ true → Row m s (Deliver sender number segment to) reply s
-deliver-any m s sender number segment to reply may = (may, refl)
-
-pub trim-any : (m : Setting) (s : State) (node : ℕ) (reply : Reply) → may_trim reply ≡ true → Row m s (Trim node) reply s
-trim-any m s node reply may = (may, refl)
-
-pub recover-no_turn : (m : Setting) (s : State) → s.phase ≡ Up → Row m s RecoverStep (Refused OutOfTurn) s
-recover-no_turn m s up = rw up (refl, refl)
-
-pub recover-stepped : (m : Setting) (s : State) (cut : Cut) (steps : ℕ) → s.phase ≡ DownAt cut → Row m s RecoverStep (Stepped steps) s
-recover-stepped m s cut steps down = rw down (inl (steps, refl, refl))
-
-pub recover-fault : (m : Setting) (s : State) (cut : Cut) → s.phase ≡ DownAt cut → Row m s RecoverStep (Refused DeviceFault) s
-recover-fault m s cut down = rw down (inr (inl (refl, refl)))
-
-pub recover-done : (m : Setting) (s : State) (cut : Cut) → s.phase ≡ DownAt cut → Row m s RecoverStep Recovered (fresh m.geometry (s.earlier ++ kept s.history cut) Up)
-recover-done m s cut down = rw down (inr (inr (refl, refl)))

@@ -1,15 +1,14 @@
 -- What the changes of a state leave of each thread's transaction, and of the history's value and counts.
-use Rattle.std.proofs.Common.{◌≡◌, ◌≢◌, ℕ, suc, ◌+◌, Bool, true, false, not, ◌||◌, ◌==◌, List, [], ◌∷◌, ◌++◌, length, filter, find, Some, None, refl, sym, ◌∙◌, ap, subst, eqb-true, eq-eqb, append-nil, length-append}
+use Rattle.std.proofs.Common.{◌≡◌, ◌≢◌, ℕ, Bool, true, false, not, ◌||◌, ◌==◌, List, [], ◌∷◌, ◌++◌, filter, find, Some, None, refl, sym, ◌∙◌, ap, subst, eqb-true, eq-eqb}
 use Rattle.std.specs.Prelude.{if◌then◌else◌}
 use Rattle.std.specs.List.{list_any}
-use Rattle.std.proofs.lemmas.List.Elements.{filter-append}
-use Rattle.lc_record.specs.Content.{Content, put, on_segment}
-use Rattle.lc_record.specs.Transaction.{Transaction, Written, writes_on, effect, effects}
+use Rattle.lc_record.specs.Content.{Content}
+use Rattle.lc_record.specs.Transaction.{Transaction, effect, effects}
 use Rattle.lc_record.specs.declared.geometry.Geometry.{Geometry}
-use Rattle.lc_model.specs.History.{Entry, History, transactions, value, is_of, entries_of, reserved}
-use Rattle.lc_model.specs.State.{State, Phase, update, fresh, is_by, running_of, without, with_changed, is_unclosed, has_unclosed}
-use Rattle.lc_record.specs.Marks.{ascending, beside, no_marks, written}
-use Rattle.lc_model.specs.Machine.{begun, changed, dropped, appended, closed_by, seen}
+use Rattle.lc_model.specs.History.{History, transactions, value}
+use Rattle.lc_model.specs.State.{State, update, is_by, running_of, without, with_changed, is_unclosed, has_unclosed}
+use Rattle.lc_record.specs.Marks.{ascending, beside, no_marks}
+use Rattle.lc_model.specs.Machine.{begun, changed, dropped, appended, closed_by}
 use Rattle.lc_model.proofs.Law.{effects-append}
 use Rattle.lc_model.proofs.Fronts.{entry, transactions-closed}
 use Rattle.lc_model.proofs.Holders.{is_by-both, is_by-same}
@@ -186,33 +185,3 @@ value-appended start s t =
 
 pub value-closed : (start : Content) (earlier : List Transaction) (node thread : ℕ) (history : History) → value start earlier (closed_by node thread history) ≡ value start earlier history
 value-closed start earlier node thread history = ap (λ ts. effects (earlier ++ ts) start) (transactions-closed node thread history)
-
-pub value-fresh : (start : Content) (g : Geometry) (earlier : List Transaction) (phase : Phase) → value start (fresh g earlier phase).earlier (fresh g earlier phase).history ≡ effects earlier start
-value-fresh start g earlier phase = ap (λ ts. effects ts start) (append-nil earlier)
-
-pub writes_on-push : (ws : List Written) (w : Written) (content : Content) → writes_on (ws ++ w ∷ []) content ≡ on_segment w.segment (put w.offset w.bytes) (writes_on ws content)
-writes_on-push [] w content = refl
-writes_on-push (v ∷ ws) w content = writes_on-push ws w (on_segment v.segment (put v.offset v.bytes) content)
-
-pub seen-written : (start : Content) (s : State) (t : Transaction) (segment offset : ℕ) (bytes : List ℕ) → seen start s (written t segment offset bytes) ≡ on_segment segment (put offset bytes) (seen start s t)
-seen-written start s t segment offset bytes = writes_on-push t.writes (record { segment = segment; offset = offset; bytes = bytes }) (value start s.earlier s.history)
-
-pub reserved-appended : (s : State) (t : Transaction) (node : ℕ) → reserved node (appended s t).history ≡ reserved node s.history + (if is_of node t then 1 else 0)
-reserved-appended s t node =
-    ap length (filter-append (λ (e : Entry). is_of node e.transaction) s.history (entry t false ∷ []))
-    ∙ length-append (entries_of node s.history) (entries_of node (entry t false ∷ []))
-    ∙ ap (λ n. reserved node s.history + n) (elim (is_of node t) as (λ b. length (if b then entry t false ∷ [] else []) ≡ (if b then 1 else 0)) [ true ↦ refl | false ↦ refl ])
-
-closed-transaction : (node thread : ℕ) (e : Entry) → (if is_unclosed node thread e then record e { closed = true } else e).transaction ≡ e.transaction
-closed-transaction node thread e =
-    elim (is_unclosed node thread e) as (λ b. (if b then record e { closed = true } else e).transaction ≡ e.transaction) [ true ↦ refl | false ↦ refl ]
-
-reserved-one : (node : ℕ) (e f : Entry) (es fs : History) → e.transaction ≡ f.transaction → reserved node es ≡ reserved node fs → reserved node (e ∷ es) ≡ reserved node (f ∷ fs)
-reserved-one node e f es fs same next =
-    subst (λ (b : Bool). length (if b then e ∷ entries_of node es else entries_of node es) ≡ length (if is_of node f.transaction then f ∷ entries_of node fs else entries_of node fs)) (ap (is_of node) (sym same))
-    (elim (is_of node f.transaction) as (λ b. length (if b then e ∷ entries_of node es else entries_of node es) ≡ length (if b then f ∷ entries_of node fs else entries_of node fs)) [ true ↦ ap suc next | false ↦ next ])
-
-pub reserved-closed : (node n k : ℕ) (history : History) → reserved node (closed_by n k history) ≡ reserved node history
-reserved-closed node n k [] = refl
-reserved-closed node n k (e ∷ es) =
-    reserved-one node (if is_unclosed n k e then record e { closed = true } else e) e (closed_by n k es) es (closed-transaction n k e) (reserved-closed node n k es)

@@ -2,7 +2,6 @@ pub mod History
 pub mod State
 pub mod Refusals
 pub mod Machine
-pub mod Follows
 pub mod Numbers
 pub mod Stops
 pub mod Sound

@@ -48,9 +48,6 @@ module _ {A B : Type 0} (R : A → B → A → Type 0) where
     pub front : (k : ℕ) → k < length left → slice_get now k ≡ slice_get xs k
     pub done : (k : ℕ) (x : A) (y : B) (z : A) → length left ≤ k → slice_get xs k ≡ Some x → slice_get ys k ≡ Some y → slice_get now k ≡ Some z → R x y z
 
-  pub start : (xs : List A) (ys : List B) → length ys ≡ length xs → Backwards xs xs ys ys
-  start xs ys same = record { long = refl; same = same; few = omega arith; rest = λ k l. refl; front = λ k l. refl; done = λ k x y z past x_at y_at z_at. absurd (let l = slice_get_within ys k y y_at in omega arith) }
-
   pub step : (xs now : List A) (ys whole left : List B) (y : B) (x : A) → Backwards xs now ys whole → whole ≡ left ++ y ∷ [] → x ≡ get_or now (length left) x
       → (slice_get xs (length left) ≡ Some x) × (slice_get ys (length left) ≡ Some y) × ((z : A) → R x y z → Backwards xs (set now (length left) z) ys left)
   step xs now ys whole left y x b split at =

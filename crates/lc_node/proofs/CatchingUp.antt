@@ -1,5 +1,5 @@
 -- The parts that are held back are applied, one after another.
-use Rattle.std.proofs.Common.{◌≡◌, ℕ, ◌+◌, ◌<◌, ◌≤◌, suc, List, Some, None, [], ◌∷◌, ◌++◌, length, refl, sym, ap, ◌∙◌, append_assoc, arith}
+use Rattle.std.proofs.Common.{◌≡◌, ℕ, ◌+◌, ◌≤◌, suc, List, Some, None, [], ◌∷◌, ◌++◌, length, refl, sym, ap, ◌∙◌, append_assoc, arith}
 use Rattle.std.specs.Prelude.{Option}
 use Rattle.std.proofs.lemmas.List.{append-nil, length-append}
 use Rattle.lc_disk.specs.declared.area.Area.{Ghosts}
@@ -75,11 +75,6 @@ module _ {D : Type 0} (start l m : SegView D) (m_is : m ≡ record l { backlog =
         let kept : length l.backlog.kept ≡ suc (length m.backlog.kept) = ap length taken.0 in
         let same = ap (λ (b : Backlog). length b.kept) backlog_is in
         let rooms : n.room ≡ l.room = ap (λ (s : SegView D). s.room) n_is ∙ ap (λ (s : SegView D). s.room) m_is in omega arith
-
-    pub fewer_step : length n.backlog.kept < length l.backlog.kept
-    fewer_step =
-        let kept : length l.backlog.kept ≡ suc (length m.backlog.kept) = ap length taken.0 in
-        let same = ap (λ (b : Backlog). length b.kept) backlog_is in omega arith
 
   -- none follows any more
   pub all_taken : HandsOutKept l.backlog None m.backlog → m ≡ record start { applied = start.applied ++ ready_in start.backlog; backlog = caught_up start.backlog }

@@ -5,7 +5,7 @@ use Rattle.std.specs.Global.{Vec, Global}
 use Rattle.std.specs.declared.collections.VecDeque.{VecDeque}
 use Rattle.std.specs.List.{concat}
 use Rattle.std.proofs.lemmas.List.{append-nil, map-append}
-use Rattle.std.proofs.lemmas.List.Elements.{All-head, All-tail, All-append, All-cons, All-nil}
+use Rattle.std.proofs.lemmas.List.Elements.{All-tail, All-append, All-cons, All-nil}
 use Rattle.std.proofs.lemmas.List.Folds.{concat-append}
 use Rattle.lc_node.specs.Messages.{records_in, tokens_among, record_message, words_of, numbered}
 use Rattle.lc_node.specs.Published.{IsStart}
@@ -79,15 +79,6 @@ module _ {P : Type 0} where
     pub sends : SendsThese front old now
     pub fit : FitBehind now.place left
 
-  pub begins : (all : List (Vec ℕ)) (old : PeerEnd P) → FitBehind old.place all → IsSending all all 0 old old
-  begins all old fit = record {
-    front = [];
-    split = refl;
-    many = refl;
-    sends = record { records = sym (append-nil (records_in (sent_to old))); tokens = refl; line = refl };
-    fit = fit;
-  }
-
   count_now : (front : List (Vec ℕ)) (old now : PeerEnd P) → SendsThese front old now → count_of now ≡ count_of old + length front
   count_now front old now sends = let both = length-append (records_in (sent_to old)) (numbered (count_of old + 1) (texts front)) in
       let long = length_numbered (count_of old + 1) (texts front) in let many = length_texts front in
@@ -127,28 +118,6 @@ module _ {P : Type 0} where
       length-map : (xs : List (Vec ℕ)) → length (texts xs) ≡ length xs
       length-map [] = refl
       length-map (x ∷ xs) = ap suc (length-map xs)
-
-  -- the record in front can be sent
-  pub can_go : (all left items : List (Vec ℕ)) (count : ℕ) (old now : PeerEnd P) (words : Vec ℕ) → items ≡ words ∷ left → IsSending all items count old now → (0 < length words.items) × (now.place + length words.items < 2 ^ 64)
-  can_go all left items count old now words is s = let fit : FitBehind now.place (words ∷ left) = subst (FitBehind now.place) is s.fit in
-      (All-head (λ (w : Vec ℕ). 0 < length w.items) words left fit.filled, (let whole = fit.within in let both = words_both (words ∷ []) left in let one = one_text words in omega arith))
-
-  -- no more are sent
-  pub ends : (all left : List (Vec ℕ)) (count : ℕ) (old now : PeerEnd P) → IsSending all left count old now → SendsFirst all count old now
-  ends all left count old now s = (s.front, left, s.split, s.many, s.sends)
-
-  pub refused : (all left : List (Vec ℕ)) (count : ℕ) (old now new : PeerEnd P) → IsSending all left count old now → sent_to new ≡ sent_to now → line_of new ≡ line_of now → SendsFirst all count old new
-  refused all left count old now new s same line = (
-    s.front,
-    left,
-    s.split,
-    s.many,
-    record {
-      records = ap records_in same ∙ s.sends.records;
-      tokens = ap tokens_among same ∙ s.sends.tokens;
-      line = line ∙ s.sends.line;
-    },
-  )
 
   pub count_after : (copies : List (Vec ℕ)) (count : ℕ) (old new : PeerEnd P) → SendsFirst copies count old new → count_of new ≡ count_of old + count
   count_after copies count old new s = count_now s.0 old new s.4 ∙ ap (λ (n : ℕ). count_of old + n) s.3

@@ -13,9 +13,6 @@ module _ {A : Type 0} (R : A → A → Type 0) where
     pub behind : (k : ℕ) → n ≤ k → slice_get now k ≡ slice_get xs k
     pub done : (k : ℕ) (x z : A) → k < n → slice_get xs k ≡ Some x → slice_get now k ≡ Some z → R x z
 
-  pub begin : (xs : List A) → Forwards xs xs 0
-  begin xs = record { long = refl; behind = λ k l. refl; done = λ k x z low. absurd (omega arith) }
-
   pub next : (xs now : List A) (n : ℕ) (x z : A) → Forwards xs now n → n < length now → x ≡ get_or now n x → R x z → Forwards xs (set now n z) (n + 1)
   next xs now n x z f within at r =
       let now_x : slice_get now n ≡ Some x = got_at now n x at within in

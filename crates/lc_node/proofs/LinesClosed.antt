@@ -9,13 +9,11 @@ use Rattle.lc_recover.proofs.Images.{get-drop}
 use Rattle.lc_node.specs.Closing.{AreJoined, Gives, GivesAll, GivesBoth, Grows, IsBehindFirst, StandIn, left_on}
 use Rattle.lc_node.specs.Each.{Each}
 use Rattle.lc_node.specs.Keys.{AreWiredAs}
-use Rattle.lc_node.specs.Messages.{tokens_among}
 use Rattle.lc_node.specs.Peers.{place_of}
 use Rattle.lc_node.specs.Receiving.{origin_of, taken_of}
 use Rattle.lc_node.specs.Spread.{line_of, sent_to}
 use Rattle.lc_node.specs.Wiring.{AreLines, HasPeers, end_to, inbox_from}
 use Rattle.lc_node.specs.declared.message.Message.{Message}
-use Rattle.lc_node.specs.declared.message.Message.TheVariants.{Record, Token}
 use Rattle.lc_node.specs.declared.peer_end.PeerEnd.{PeerEnd}
 use Rattle.lc_node.specs.declared.peer_inbox.PeerInbox.{PeerInbox}
 use Rattle.lc_node.specs.declared.wiring.Ends.{Ends}
@@ -37,10 +35,6 @@ split_first (y ∷ ys) left x some is rest = ap (λ z. z ∷ ys) (sym is) ∙ ap
 -- Tokens that are added
 
 module _ {P : Type 0} where
-  pub first_token : (m : Message P) (ms : List (Message P)) → tokens_among (m ∷ ms) ≡ tokens_among (m ∷ []) ++ tokens_among ms
-  first_token (Record number words) ms = refl
-  first_token (Token token) ms = refl
-
   pub grows_same : (xs : List P) → Grows xs xs
   grows_same xs = ([], sym (append-nil xs))
 

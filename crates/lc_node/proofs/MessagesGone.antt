@@ -14,9 +14,6 @@ use Rattle.lc_node.specs.declared.pumped.Pumped.TheVariants.{Applied, HeldBack, 
 some_same : {A : Type 0} (x y : A) → Some x ≡ Some y → x ≡ y
 some_same x y e = cc
 
-none_some : {A : Type 0} (x : A) → None ≡ Some x → ⊥
-none_some x e = absurd cc
-
 module _ {P : Type 0} (old new : List (PeerInbox P)) (peer : ℕ) (result : Option (Message P))
     (again : IsSome (kept_at old peer) → (result ≡ kept_at old peer) × (taken_at new peer ≡ taken_at old peer))
     (taken : kept_at old peer ≡ None → MatchOption result (taken_at new peer ≡ taken_at old peer) (λ m. taken_at new peer ≡ taken_at old peer ++ m ∷ []))
@@ -33,15 +30,6 @@ module _ {P : Type 0} (old new : List (PeerInbox P)) (peer : ℕ) (result : Opti
       let both = again (some_is one.0 one.1) in
       let same : m ≡ one.0 = some_same m one.0 (sym is ∙ (both.0 ∙ one.1)) in
       both.1 ∙ (one.2 ∙ ap (λ (x : Message P). gone ++ x ∷ []) (sym same))
-
-  -- where there is none, those are all
-  pub none_is : IsGoneOn old peer gone → result ≡ None → (kept_at old peer ≡ None) × (taken_at new peer ≡ gone)
-  none_is (inl all) is =
-      let took : taken_at new peer ≡ taken_at old peer = subst (λ r. MatchOption r (taken_at new peer ≡ taken_at old peer) (λ x. taken_at new peer ≡ taken_at old peer ++ x ∷ [])) is (taken all.0) in
-      (all.0, took ∙ all.1)
-  none_is (inr one) is =
-      let both = again (some_is one.0 one.1) in
-      absurd (none_some one.0 (sym is ∙ (both.0 ∙ one.1)))
 
 -- a message that did not come back was gone on with
 pub goes_on : {P : Type 0} (pumped : Pumped) (message : Message P) (gone : List (Message P)) (ends : List (PeerInbox P)) (peer : ℕ) → IsOfMessage message pumped

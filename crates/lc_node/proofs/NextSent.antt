@@ -5,7 +5,6 @@ use Rattle.std.specs.Global.{Vec}
 use Rattle.std.specs.List.{concat}
 use Rattle.lc_node.specs.Messages.{records_in, record_message, words_of, numbered}
 use Rattle.lc_node.specs.Published.{IsStart}
-use Rattle.lc_node.proofs.Published.{got_behind}
 use Rattle.lc_node.specs.declared.message.Message.{Message}
 use Rattle.lc_node.specs.declared.message.Message.TheVariants.{Record, Token}
 
@@ -60,16 +59,3 @@ next_begins published sent count place counted placed p = (
 pub one_further : (published front behind : List (List ℕ)) (words : List ℕ) → published ≡ front ++ behind → slice_get behind 0 ≡ Some words → (rest : List (List ℕ)) × (published ≡ (front ++ words ∷ []) ++ rest)
 one_further published front [] words is got = absurd cc
 one_further published front (r ∷ behind) words is got = let same : r ≡ words = cc in (behind, is ∙ (ap (λ x. front ++ x ∷ behind) same ∙ sym (append_assoc front (words ∷ []) behind)))
-
-pub next_prefix : {P : Type 0} (published : List (List ℕ)) (old new : List (Message P)) (number : ℕ) (words : Vec ℕ) → new ≡ old ++ record_message number words ∷ [] → number ≡ length (records_in old) + 1
-    → slice_get published (length (records_in old)) ≡ Some words.items → HasPrefix published old → HasPrefix published new
-next_prefix published old new number words sent named got p =
-    let count : length (records_in old) ≡ length p.0 = ap (λ l. length l) p.3 ∙ length_numbered 1 p.0 in
-    let first : slice_get p.1 0 ≡ Some words.items = sym (got_behind p.0 p.1 (length (records_in old)) count) ∙ (ap (λ l. slice_get l (length (records_in old))) (sym p.2) ∙ got) in
-    let more = one_further published p.0 p.1 words.items p.2 first in
-    let name : number ≡ 1 + length p.0 = omega arith in (
-      p.0 ++ words.items ∷ [],
-      more.0,
-      more.1,
-      records_grow old new number words sent ∙ ((λ k. p.3 k ++ (name k, words.items) ∷ []) ∙ sym (numbered_append 1 p.0 (words.items ∷ []))),
-    )

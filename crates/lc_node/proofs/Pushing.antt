@@ -1,5 +1,5 @@
 -- A list is changed element by element, from the front, and beside each change an element is put behind another list.
-use Rattle.std.proofs.Common.{◌≡◌, ℕ, ◌+◌, ◌<◌, ◌≤◌, List, [], ◌∷◌, ◌++◌, All, Some, length, get_or, set, refl, sym, ap, subst, ◌∙◌, arith, length-append}
+use Rattle.std.proofs.Common.{◌≡◌, ℕ, ◌+◌, ◌<◌, ◌≤◌, List, [], ◌∷◌, ◌++◌, All, Some, length, get_or, set, sym, ap, subst, ◌∙◌, arith, length-append}
 use mathlib.Core.Logic.{dite}
 use native.Mathlib.Decide.{dec_le}
 use Rattle.std.specs.Prelude.{slice_get}
@@ -14,14 +14,6 @@ module _ {A B : Type 0} (R : A → B → A → Type 0) where
     pub count : length ys ≡ n
     pub behind : (k : ℕ) → n ≤ k → slice_get now k ≡ slice_get xs k
     pub done : (k : ℕ) (x : A) (y : B) (z : A) → slice_get xs k ≡ Some x → slice_get ys k ≡ Some y → slice_get now k ≡ Some z → R x y z
-
-  pub begin : (xs : List A) (ys : List B) → ys ≡ [] → Pushing xs xs ys 0
-  begin xs ys none = let e : length ys ≡ 0 = ap (λ (l : List B). length l) none in record {
-    long = refl;
-    count = e;
-    behind = λ k l. refl;
-    done = λ k x y z x_at y_at z_at. absurd (let l = slice_get_within ys k y y_at in omega arith);
-  }
 
   pub next : (xs now : List A) (ys more : List B) (n : ℕ) (x : A) (y : B) (z : A) → Pushing xs now ys n → n < length now → x ≡ get_or now n x → more ≡ ys ++ y ∷ [] → R x y z → Pushing xs (set now n z) more (n + 1)
   next xs now ys more n x y z p within at pushed r =

@@ -1,5 +1,5 @@
 -- What a committer's view becomes as a record is staged.
-use Rattle.std.proofs.Common.{◌≡◌, ℕ, ◌+◌, ◌*◌, ◌<◌, ◌≤◌, Bool, true, false, List, [], ◌∷◌, length, get_or, set, refl, sym, ap, subst, ◌∙◌, arith, length-set, get_or-set_other, get_or-set_same, eq-eqb, ne_eqb, inl, inr, true≢false}
+use Rattle.std.proofs.Common.{◌≡◌, ℕ, ◌+◌, ◌*◌, ◌<◌, Bool, true, false, List, [], ◌∷◌, length, get_or, set, refl, sym, ap, subst, ◌∙◌, arith, length-set, get_or-set_other, get_or-set_same, eq-eqb, ne_eqb, inl, inr, true≢false}
 use mathlib.Core.Logic.{dite}
 use native.Mathlib.Decide.{ℕ_discrete}
 use Rattle.std.proofs.lemmas.List.{ext_get_or}
@@ -8,15 +8,8 @@ use Rattle.lc_stage.proofs.Latest.{latest_one}
 use Rattle.std.proofs.lemmas.Bool.{lt-ltb}
 use Rattle.lc_stage.specs.declared.view.View.{View}
 use Rattle.lc_stage.specs.declared.view.Reservation.{Reservation}
-use Rattle.lc_stage.specs.Staging.{saw, reserved, filled, shut_with, latest, later, rank, LieBelow, newest, with_newest, open_count, offset_of, round_of}
-use Rattle.lc_stage.specs.Seats.{IsIdle}
+use Rattle.lc_stage.specs.Staging.{saw, reserved, filled, shut_with, latest, later, rank, LieBelow, newest, with_newest, offset_of, round_of}
 use Rattle.lc_node.specs.Stages.{Sees, Wins, IsFilling, with_words, Closes}
-
-pub sees_more : (v w : View) (n : ℕ) → Sees v w → Sees v (saw n w)
-sees_more v w n h = ap (saw n) h
-
-pub idle_still : (v w : View) → Sees v w → IsIdle v → IsIdle w
-idle_still v w h idle = ap (λ (z : View). open_count z.mine) h ∙ idle
 
 pub wins : (v u w : View) (at n : ℕ) → Sees v u → at ≡ u.seen → w ≡ reserved at n u → LieBelow at u.mine → Wins n v w
 wins v u w at n sees last is below = let seen : w.seen ≡ u.seen = ap (λ (z : View). z.seen) is in (
@@ -44,35 +37,12 @@ last_behind r mine at shut some round place below near =
           | inr here ↦ (let a = here.0 in let b = here.1 in lt-ltb (rank (latest mine)) (rank r) (omega arith))
         ])
 
-same_mine : (l : List Reservation) → with_newest (λ r. record r { words = (newest l).words }) l ≡ l
-same_mine [] = refl
-same_mine (r ∷ rs) = refl
-
 newest_with : (us : List ℕ) (l : List Reservation) → (newest l).closed ≡ false → newest (with_newest (λ r. record r { words = us }) l) ≡ record (newest l) { words = us }
 newest_with us [] e = absurd (true≢false e)
 newest_with us (r ∷ rs) e = refl
 
-filled_again : (i x : ℕ) (us : List ℕ) (l : List Reservation) → with_newest (λ r. record r { words = set r.words i x }) (with_newest (λ r. record r { words = us }) l) ≡ with_newest (λ r. record r { words = set us i x }) l
-filled_again i x us [] = refl
-filled_again i x us (r ∷ rs) = refl
-
-pub none_filled : (v : View) (words : List ℕ) → length (newest v.mine).words ≡ length words → IsFilling v words 1 v
-none_filled v words long = record { filled = (newest v.mine).words; is = sym (ap (λ (l : List Reservation). record v { mine = l }) (same_mine v.mine)); long = long; same = λ j a b. absurd (omega arith) }
-
 pub still_open : (v w : View) (words : List ℕ) (i : ℕ) → (newest v.mine).closed ≡ false → (f : IsFilling v words i w) → newest w.mine ≡ record (newest v.mine) { words = f.filled }
 still_open v w words i shut f = ap (λ (z : View). newest z.mine) f.is ∙ newest_with f.filled v.mine shut
-
-pub one_filled : (v w z : View) (words : List ℕ) (i : ℕ) → IsFilling v words i w → i < length words → z ≡ filled i (get_or words i 0) w → IsFilling v words (i + 1) z
-one_filled v w z words i f more is = let x = get_or words i 0 in let long = f.long in record {
-  filled = set f.filled i x;
-  is = is ∙ (ap (filled i x) f.is ∙ ap (λ (l : List Reservation). record v { mine = l }) (filled_again i x f.filled v.mine));
-  long = length-set f.filled i x ∙ f.long;
-  same = λ j some below. dite (ℕ_discrete j i) (λ here. ap (λ (k : ℕ). get_or (set f.filled i x) k 0) here ∙ (get_or-set_same f.filled i x 0 (omega arith) ∙ ap (λ (k : ℕ). get_or words k 0) (sym here)))
-      (λ other. get_or-set_other f.filled i j x 0 other ∙ f.same j some (omega arith));
-}
-
-pub filled_enough : (v w : View) (words : List ℕ) (i n : ℕ) → IsFilling v words i w → n ≤ i → IsFilling v words n w
-filled_enough v w words i n f enough = record { filled = f.filled; is = f.is; long = f.long; same = λ j a b. f.same j a (omega arith) }
 
 -- with its header the record is whole
 pub with_header : (filled words : List ℕ) → length filled ≡ length words → 0 < length words → ((j : ℕ) → 0 < j → j < length words → get_or filled j 0 ≡ get_or words j 0) → set filled 0 (get_or words 0 0) ≡ words

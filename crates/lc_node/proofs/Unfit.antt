@@ -47,10 +47,6 @@ module _ {D : Type 0} (s : LogView D) where
   pub none_unclean : CanReset s → (segment seq : ℕ) → IsFirstUnclean segment seq → ⊥
   none_unclean can segment seq first = can.2 segment seq first.2.is
 
-  -- nor where nothing is stable
-  pub nothing_unclean : s.stable ≡ [] → (segment seq : ℕ) → IsFirstUnclean segment seq → ⊥
-  nothing_unclean none segment seq first = first.0.1 none
-
   -- there is still room for the words of its round
   pub room_still : (t : LogView D) → HasRoom s → Seals s t → HasRoom t
   room_still t has seals = let kept : IsKept s t = seals.1 in let long : length t.ended ≡ length s.ended = ap (λ (l : List ℕ). length l) kept.5 in let most = kept.6 in let words = kept.7 in omega arith

@@ -2,7 +2,7 @@
 use Rattle.std.specs.Prelude.{◌≡◌, ℕ, ◌+◌, ◌/◌, ◌<◌, true, List, ◌∷◌, length, slice_index}
 use Rattle.lc_stage.specs.declared.view.View.{View}
 use Rattle.lc_stage.specs.declared.view.Reservation.{Reservation}
-use Rattle.lc_stage.specs.Staging.{saw, reserved, latest, with_newest, offset_of, seal_of, IsOneRecord, LieBelow}
+use Rattle.lc_stage.specs.Staging.{saw, reserved, latest, with_newest, offset_of, seal_of, LieBelow}
 use Rattle.lc_node.specs.declared.node_fault.NodeFault.{NodeFault}
 use Rattle.lc_node.specs.declared.node_fault.NodeFault.TheVariants.{Full, Sealed, Lost}
 
@@ -40,7 +40,3 @@ pub record Closes (words : List ℕ) (v w : View) : Type 0 where
   pub of_tail : (reservation.round ≡ w.seen / 65536) × (reservation.place ≡ offset_of w.seen)
   pub is : w ≡ record v { seen = w.seen; mine = reservation ∷ v.mine }
   pub last : latest w.mine ≡ reservation
-
--- of the words of some record
-abbrev pub ClosesOne : View → View → Type 0
-ClosesOne v w = (words : List ℕ) × IsOneRecord words × Closes words v w

@@ -104,7 +104,6 @@ pub use put::Put;
 pub use recv_ends::RecvEnds;
 pub use seg_side::SegSide;
 pub use send_ends::SendEnds;
-pub use sending::Next;
 pub use snapshot::Snapshot;
 pub use spreading::Spread;
 pub use staging::stage_record;

@@ -7,7 +7,7 @@ use Rattle.lc_range.specs.Range.{HasPosition}
 use Rattle.lc_range.specs.RangeSet.{Has, IsCanonical, EndWithin, AddsPositions, MissesSome, NeedsRunsAbove}
 use Rattle.lc_range.specs.Walk.{merged, some_holds}
 use Rattle.lc_range.specs.declared.range.Range.{Range}
-use Rattle.lc_range.proofs.SetLemmas.{one_canonical, adds_merged, canonical_merged, ends_merged, needs_above, above_needs, held, holds_from}
+use Rattle.lc_range.proofs.SetLemmas.{one_canonical, adds_merged, canonical_merged, ends_merged, held, holds_from}
 
 module _ (old : List Range) (range : Range) (new : List Range) (c : IsCanonical old) (some : 1 ≤ range.len) (same : new ≡ merged range old) where
   pub adds : AddsPositions old range.segment range.offset range.len new
@@ -15,15 +15,6 @@ module _ (old : List Range) (range : Range) (new : List Range) (c : IsCanonical 
 
   pub canonical : IsCanonical new
   canonical = subst (λ (l : List Range). IsCanonical l) (sym same) (canonical_merged range old some c)
-
-  pub above : (n : ℕ) → n < length new → NeedsRunsAbove n old range.segment range.offset range.len
-  above n more = needs_above n range old some c (subst (λ (l : List Range). n < length l) same more)
-
-  pub not_above : (n : ℕ) → length new ≤ n → NeedsRunsAbove n old range.segment range.offset range.len → ⊥
-  not_above n few needs = few_many (length new) n few (subst (λ (l : List Range). n < length l) (sym same) (above_needs n range old some c needs))
-    where
-      few_many : (m n : ℕ) → m ≤ n → n < m → ⊥
-      few_many m n few many = omega arith
 
 pub ends : (old : List Range) (range : Range) (new : List Range) (bound : ℕ) → new ≡ merged range old → range.offset + range.len ≤ bound → EndWithin old bound → EndWithin new bound
 ends old range new bound same end within = subst (λ (l : List Range). EndWithin l bound) (sym same) (ends_merged range old bound end within)

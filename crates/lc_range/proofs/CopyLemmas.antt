@@ -85,12 +85,6 @@ total_more ranges i j d within one = subst (λ (n : ℕ). total_len (take n rang
     by_suc (r ∷ rs) zero d within = omega arith
     by_suc (r ∷ rs) (suc i) d within = omega (arith, by_suc rs i d (omega arith))
 
-pub total_part : (ranges : List Range) (i : ℕ) → total_len (take i ranges) ≤ total_len ranges
-total_part [] zero = omega arith
-total_part [] (suc i) = omega arith
-total_part (r ∷ rs) zero = omega arith
-total_part (r ∷ rs) (suc i) = omega (arith, total_part rs i)
-
 -- a position of a range has a byte that is kept
 kept_some : (ranges : List Range) (bytes : List ℕ) (i k : ℕ) (d : Range) → length bytes ≡ total_len ranges → i < length ranges
     → (get_or ranges i d).offset ≤ k → k < (get_or ranges i d).offset + (get_or ranges i d).len → IsSome (kept (copies_of ranges bytes) (get_or ranges i d).segment k)

@@ -3,7 +3,6 @@ use Rattle.std.proofs.Common.{◌≡◌, ◌⊎◌, ℕ, ◌+◌, ◌-◌, ◌<�
 use Rattle.std.proofs.lemmas.Bool.{cond_both, and_parts, and_cases, eqb-true, eqb-false, ltb-true, ltb-false, cases_lt}
 use Rattle.lc_range.specs.Range.{HasPosition}
 use Rattle.lc_range.specs.RangeSet.{Has, LiesBefore, IsCanonical, EndWithin, AreOutside, MissesSome, total_len}
-use Rattle.lc_range.specs.Copies.{AreSome}
 use Rattle.lc_range.specs.Walk.{piece, is_in_way, parts}
 use Rattle.lc_range.specs.declared.range.Range.{Range}
 use Rattle.lc_range.proofs.SetLemmas.{past}
@@ -160,10 +159,6 @@ canonical-parts s from to (run ∷ runs) c =
     (λ less. (omega (arith, ltb-true _ _ less), lies_parts (the_piece s from run.offset) s (run.offset + run.len) to runs refl (omega (arith, c.0, ltb-true _ _ less)), rest))
     (λ less. rest))
     (λ e. canonical-parts s from to runs c.2)
-
-pub some_from_canonical : (runs : List Range) → IsCanonical runs → AreSome runs
-some_from_canonical [] c = tt
-some_from_canonical (run ∷ runs) c = (c.0, some_from_canonical runs c.2)
 
 pub ends_weaker : (runs : List Range) (one other : ℕ) → one ≤ other → EndWithin runs one → EndWithin runs other
 ends_weaker [] one other le ends = tt

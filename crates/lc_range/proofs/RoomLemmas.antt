@@ -14,9 +14,6 @@ pub length_placed : (runs : List Range) (place : Touched) → IsTouched runs pla
 length_placed runs place is =
     subst (λ (l : List Range). length l + place.end ≡ length runs + place.start + 1) is.added (length_replaced runs place.run place.start place.end is.ordered is.within)
 
-pub same_place : (runs slice : List Range) (place : Touched) → slice ≡ runs → IsTouched slice place → IsTouched runs place
-same_place runs slice place same is = subst (λ (l : List Range). IsTouched l place) same is
-
 module _ (runs : List Range) (range : Range) (place : Touched) (same : place.range ≡ range) (canonical : IsCanonical runs) (some : 1 ≤ range.len) (has : Bool)
     (room : (has ≡ true) ↔ (length (merged place.range runs) ≤ 64)) where
   -- where there is no room, too many runs would stand

@@ -92,11 +92,6 @@ pub words_of-bytes_of-all : (ws : List ℕ) → AreWords ws → words_of (bytes_
 words_of-bytes_of-all ws fit =
     ap words_of (sym (append-nil (bytes_of ws))) ∙ words_of-bytes_of ws [] fit ∙ ap (λ (l : List ℕ). ws ++ l) words_of-nil ∙ append-nil ws
 
--- eight bytes of zero are a word of zero
-pub words_of-zeros : (rest : List ℕ) → words_of (0 ∷ 0 ∷ 0 ∷ 0 ∷ 0 ∷ 0 ∷ 0 ∷ 0 ∷ rest) ≡ 0 ∷ words_of rest
-unfolding words_of
-words_of-zeros rest = refl
-
 -- the low byte of a word is its first
 pub low_byte : (a b c d e f g h : ℕ) → a < 256 → from_le_bytes w64 (a ∷ b ∷ c ∷ d ∷ e ∷ f ∷ g ∷ h ∷ []) % 256 ≡ a
 low_byte a b c d e f g h fits = omega arith

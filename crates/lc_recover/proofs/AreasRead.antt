@@ -12,7 +12,6 @@ use Rattle.lc_log.proofs.WalkBackLemmas.{words_within}
 use Rattle.lc_model.specs.Merge.{Store}
 use Rattle.lc_recover.proofs.Images.{get-map, get-some, get-take, len-log}
 use Rattle.lc_recover.proofs.Meanings.{kept-store}
-use Rattle.lc_recover.proofs.MergeRead.{kept-texts}
 use Rattle.lc_recover.proofs.MergeStep.{its-store}
 use Rattle.lc_recover.proofs.ReadLemmas.{count-read, counted-log, counted-none, counted-segment, first-more, read-log, read-segment, read-none as kept-none}
 use Rattle.lc_recover.specs.Kept.{IsKept}
@@ -157,9 +156,6 @@ module _ (g : Geometry) (bytes : List (List ℕ)) (r : ReadAreas) (whole : IsRea
 
   pub own-store : IsKept r.kept.logs.items r.kept.segments.items (kept_store r.kept.logs.items r.kept.segments.items)
   own-store = subst (λ (s : Store). IsKept r.kept.logs.items r.kept.segments.items s) (sym same-store) (its-store g bytes r whole)
-
-  pub log-count : length r.kept.logs.items ≡ g.nodes
-  log-count = (kept-texts g bytes r.kept whole.kept whole.count).count
 
   -- a log is short
   pub short-log : (node : ℕ) (default : List ℕ) → node < g.nodes → length (get_or r.kept.logs.items node default) ≤ 4097

@@ -1,5 +1,5 @@
 -- The page that is written next: its changes, its bytes and its number.
-use Rattle.std.proofs.Common.{◌≡◌, ℕ, zero, suc, ◌+◌, ◌-◌, ◌*◌, ◌^◌, ◌<◌, ◌≤◌, Bool, true, false, ◌&&◌, true≢false, List, [], ◌∷◌, ◌++◌, length, get_or, take, drop, Some, All, Contains, refl, sym, ◌∙◌, ap, subst, arith, inl, inr}
+use Rattle.std.proofs.Common.{◌≡◌, ℕ, zero, suc, ◌+◌, ◌-◌, ◌*◌, ◌^◌, ◌<◌, ◌≤◌, List, [], ◌∷◌, ◌++◌, length, get_or, take, drop, Some, All, Contains, refl, sym, ◌∙◌, ap, subst, arith, inl, inr}
 use Rattle.std.specs.Prelude.{slice_get, max}
 use Rattle.std.specs.Option.{option_or}
 use Rattle.std.proofs.Math.Nat.{le-max_right}
@@ -67,10 +67,6 @@ some_segment segment page [] text is = absurd (none-some text (sym (slice_get_pa
 some_segment zero page (x ∷ xs) text is = absurd (none-some text (sym (slice_get_past {X = Page} [] page (omega arith)) ∙ is))
 some_segment (suc zero) page (x ∷ xs) text is = (omega arith, omega arith)
 some_segment (suc (suc n)) page (x ∷ xs) text is = (omega arith, omega (arith, (some_segment (suc n) page xs text is).1))
-
-both_true : (a b : Bool) → (a && b) ≡ true → b ≡ true
-both_true true b h = h
-both_true false b h = absurd (true≢false (sym h))
 
 module _ (g : Geometry) (w : PageWrites) (i : IsWriting g w) (c : Change) (at : slice_get w.merged.changes.items w.next ≡ Some c) where
   pub its_change : IsChange w.kept.logs.items i.store c

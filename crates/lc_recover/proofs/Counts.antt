@@ -196,12 +196,6 @@ pub record AllFilled (counts : List ℕ) (ns : List LockNumber) (now : List ℕ)
   pub count : length now ≡ length counts
   pub each : (segment : ℕ) → 1 ≤ segment → segment ≤ length counts → Filled (count_of counts segment) segment ns (count_of now segment)
 
-pub filled-none : (counts : List ℕ) → AllFilled counts [] counts
-filled-none counts = record {
-  count = refl;
-  each = λ segment some within. record { at_least = le_refl (count_of counts segment); all = λ n c e. absurd (omega (arith, c.1)); full = λ seq above below. absurd (omega arith) };
-}
-
 filled-kept : (count segment : ℕ) (ns : List LockNumber) (n : LockNumber) (now : ℕ) → (n.segment ≡ segment → n.seq ≤ now) → Filled count segment ns now → Filled count segment (ns ++ n ∷ []) now
 filled-kept count segment ns n now upto f = record {
   at_least = f.at_least;

@@ -33,10 +33,6 @@ or_some : (o p : Option ℕ) → is_some o ≡ true → option_or o p ≡ o
 or_some None p some = absurd (true≢false (sym some))
 or_some (Some x) p some = refl
 
-both_true : (a b : Bool) → (a && b) ≡ true → (a ≡ true) × (b ≡ true)
-both_true true b h = (refl, h)
-both_true false b h = absurd (true≢false (sym h))
-
 both_are : (a b : Bool) → a ≡ true → b ≡ true → (a && b) ≡ true
 both_are true b one other = other
 both_are false b one other = absurd (true≢false (sym one))

@@ -9,7 +9,6 @@ use Rattle.lc_model.proofs.Visible.{contains-filter}
 use Rattle.lc_recover.specs.Kept.{AreAscending, IsBefore}
 use Rattle.lc_recover.specs.Page.{IsOf, IsOfAnother, IsFirstPage, page_of, is_another, pages_of, AreListed, AreDifferent, ArePagesAscending, BeginWithTheFirst, IsPageBefore}
 use Rattle.lc_recover.specs.declared.change.Change.{Change}
-use Rattle.lc_recover.proofs.MergedPage.{ascending_behind}
 
 -- Pairs
 
@@ -218,10 +217,6 @@ pub begin_with_the_first : (changes : List Change) → BeginWithTheFirst changes
 begin_with_the_first changes front first its is ascending =
     first_of changes front its.rest first its.whole (its.some (has_first changes first is)) is (its.of_first first is) (its.no_more first is ascending)
     ∙ ap (λ (cs : List Change). page_of first ∷ pages_of cs) (sym (rest_is changes front its))
-
-pub ascending_rest : (changes front : List Change) → IsFirstPage changes front → AreAscending changes → AreAscending (drop (length front) changes)
-ascending_rest changes front its ascending =
-    subst AreAscending (sym (rest_is changes front its)) (ascending_behind front its.rest (subst AreAscending its.whole ascending))
 
 pub one_page_more : (changes front : List Change) → IsFirstPage changes front → 1 ≤ length changes → AreAscending changes → length (pages_of changes) ≡ 1 + length (pages_of (drop (length front) changes))
 one_page_more changes front its some ascending =

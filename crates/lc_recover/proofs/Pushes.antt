@@ -49,9 +49,6 @@ number-next segment locks i lock at other so_far =
 
 -- What a push adds
 
-pub adds-none : (Such : Change → Type 0) (xs : List Change) → Adds Such xs xs
-adds-none Such xs = record { kept = λ c there. there; only = λ c there. inl there }
-
 pub adds-more : (Such Other : Change → Type 0) (xs ys zs : List Change) → Adds Such xs ys → Adds Other ys zs → ((c : Change) → Other c → Such c) → Adds Such xs zs
 adds-more Such Other xs ys zs first second such = record {
   kept = λ c there. second.kept c (first.kept c there);
@@ -166,9 +163,6 @@ covers-all pages s i changes all covers = λ segment page offset text at within 
     (change_on s found.0 page, there, own, refl, ap (λ (n : ℕ). number_or_zero n s.its.locks) own, (omega (arith, known.1, start), omega (arith, known.2, start, long)))
 
 -- Seats
-
-pub of-none : (pages : List (List Page)) → AreOf pages [] []
-of-none pages = record { sound = λ c there. absurd (omega (arith, there.1)); whole = λ s there. absurd (omega (arith, there.1)) }
 
 pub of-more : (pages : List (List Page)) (seats : List Seat) (s : Seat) (before after : List Change) → AreOf pages seats before → Adds (IsOf pages s) before after → Covers pages s after → AreOf pages (seats ++ s ∷ []) after
 of-more pages seats s before after so_far adds covers = record {

@@ -3,7 +3,7 @@ use Rattle.std.proofs.Common.{◌≡◌, ◌⊎◌, ℕ, zero, suc, ◌+◌, ◌
 use Rattle.std.specs.Prelude.{slice_get, All}
 use Rattle.std.specs.Option.{option_or}
 use Rattle.std.proofs.lemmas.Bool.{cases_Bool, eqb-true, eq-eqb, true≢false}
-use Rattle.std.proofs.lemmas.Option.{none-some, same_Some, slice_get_cases, slice_get-get_or}
+use Rattle.std.proofs.lemmas.Option.{slice_get_cases, slice_get-get_or}
 use Rattle.std.proofs.lemmas.List.Elements.{All-nil, All-cons, All-head, All-tail, All-weaker}
 use Rattle.lc_record.specs.GrammarVersion.{end_of}
 use Rattle.lc_record.specs.Newest.{byte_from, byte_in, byte_of}
@@ -46,11 +46,6 @@ byte_in-known segment place range h = elim (cases_Bool (range.segment == segment
   | inl own ↦ (let bounds = byte_from-known range.offset range.bytes place (rw own at h) in (eqb-true range.segment segment own, bounds.0, bounds.1))
   | inr other ↦ absurd (true≢false (sym (rw other at h)))
 ]
-
-pub byte_of-some : (segment place : ℕ) (ranges : List RangeData) (k : ℕ) (range : RangeData) → slice_get ranges k ≡ Some range → is_some (byte_in segment place range) ≡ true → is_some (byte_of segment place ranges) ≡ true
-byte_of-some segment place [] k range at h = absurd (none-some range at)
-byte_of-some segment place (r ∷ rs) zero range at h = or-right (byte_of segment place rs) (byte_in segment place r) (ap (λ (x : RangeData). is_some (byte_in segment place x)) (same_Some r range at) ∙ h)
-byte_of-some segment place (r ∷ rs) (suc k) range at h = or-left (byte_of segment place rs) (byte_in segment place r) (byte_of-some segment place rs k range at h)
 
 pub byte_of-known : (segment place : ℕ) (ranges : List RangeData) → is_some (byte_of segment place ranges) ≡ true → (k : ℕ) × (range : RangeData) × (slice_get ranges k ≡ Some range) × (is_some (byte_in segment place range) ≡ true)
 byte_of-known segment place [] h = absurd (true≢false (sym h))

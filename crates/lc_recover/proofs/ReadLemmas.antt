@@ -3,10 +3,9 @@ use Rattle.std.proofs.Common.{◌≡◌, ℕ, zero, suc, ◌+◌, ◌*◌, ◌<�
 use Rattle.std.proofs.lemmas.List.{length-append, length-map, map-append, take-append-drop, take-append-le, take_all}
 use Rattle.std.proofs.lemmas.List.Concat.{flat_map-append}
 use Rattle.std.proofs.lemmas.List.Sorted.{IsPermutation-append_left}
-use Rattle.lc_record.specs.Record.{lock_words, spelling}
+use Rattle.lc_record.specs.Record.{spelling}
 use Rattle.lc_record.specs.Words.{words_of}
 use Rattle.lc_record.specs.declared.geometry.Geometry.{Geometry}
-use Rattle.lc_record.specs.declared.record.Lock.{Lock}
 use Rattle.lc_record.specs.declared.record.Record.{Record}
 use Rattle.lc_record.proofs.SpellingLemmas.{length-spelling}
 use Rattle.lc_log.specs.InPlace.{records_in}
@@ -73,10 +72,6 @@ same-counted r other same is = record {
 }
 
 -- Room for the numbers of a log's records
-
-numbers-of_locks : (locks : List Lock) → length (map number_of locks) * 2 ≡ length (flat_map lock_words locks)
-numbers-of_locks [] = refl
-numbers-of_locks (lock ∷ locks) = omega (arith, numbers-of_locks locks, length-append (lock_words lock) (flat_map lock_words locks))
 
 numbers-of_record : (r : Record) → length (numbers_of r) * 2 ≤ length (spelling r)
 numbers-of_record r = omega (arith, length-map r.locks number_of, length-spelling r)

@@ -1,5 +1,5 @@
 -- What is known of the areas while logs are emptied, and what a stop leaves of them.
-use Rattle.std.proofs.Common.{◌≡◌, ◌≢◌, ℕ, ◌+◌, ◌-◌, ◌*◌, ◌<◌, ◌≤◌, Bool, true, false, Some, None, List, [], length, refl, sym, ◌∙◌, ap, subst, arith, inl, inr, lt-ltb, le-ltb, true≢false}
+use Rattle.std.proofs.Common.{◌≡◌, ◌≢◌, ℕ, ◌+◌, ◌-◌, ◌*◌, ◌<◌, ◌≤◌, Bool, true, false, Some, None, List, [], length, refl, sym, ◌∙◌, ap, subst, arith, inl, inr, lt-ltb, true≢false}
 use Rattle.std.specs.Prelude.{slice_get, slice_set, slice_index_or, if◌then◌else◌, nat_lt}
 use Rattle.lc_disk.specs.Area.{IsImage}
 use Rattle.lc_disk.specs.declared.area.Area.{Ghosts}
@@ -25,11 +25,6 @@ use Rattle.lc_recover.specs.declared.stage.Stage.TheVariants.{Resetting, Syncing
 
 pub log_len : (g : Geometry) (k : ℕ) → k < g.nodes → area_len g k ≡ Some (8 * (g.words + 1))
 log_len g k less = ap (λ (b : Bool). if b then Some (8 * (g.words + 1)) else if nat_lt k (area_count g) then Some (2 * 272 * g.pages) else None) (lt-ltb k g.nodes less)
-
-pub segment_area_len : (g : Geometry) (k : ℕ) → g.nodes ≤ k → k < area_count g → area_len g k ≡ Some (2 * 272 * g.pages)
-segment_area_len g k more less =
-    ap (λ (b : Bool). if b then Some (8 * (g.words + 1)) else if nat_lt k (area_count g) then Some (2 * 272 * g.pages) else None) (le-ltb k g.nodes more)
-    ∙ ap (λ (b : Bool). if b then Some (2 * 272 * g.pages) else None) (lt-ltb k (area_count g) less)
 
 pub long_log : {D : Type 0} (a : Ghosts D) (g : Geometry) (k : ℕ) (area : D) → k < g.nodes → Some (length (a.now area)) ≡ area_len g k → 8 ≤ length (a.now area)
 long_log a g k area less is =

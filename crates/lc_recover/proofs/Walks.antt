@@ -20,7 +20,6 @@ use Rattle.lc_log.specs.InPlace.{records_in}
 use Rattle.lc_log.proofs.WalkLemmas.{begins_whole}
 use Rattle.lc_log.proofs.InPlaceLemmas.{records_text, records_are}
 use Rattle.lc_model.specs.Merge.{Page, HasInLog, IsLeast}
-use Rattle.lc_model.proofs.Lists.{All-from_map}
 use Rattle.lc_model.proofs.Visible.{log-known}
 use Rattle.lc_recover.specs.Reading.{left_of, placed_in, store_of}
 use Rattle.lc_recover.specs.declared.segment_pages.SegmentPages.{SegmentPages}
@@ -60,9 +59,6 @@ pub record Passed {A : Type 0} (P : List A → Type 0) (all left : List A) : Typ
   pub split : all ≡ seen ++ left
   pub holds : P seen
 
-pub passed-none : {A : Type 0} (P : List A → Type 0) (all left : List A) → left ≡ all → P [] → Passed P all left
-passed-none P all left is holds = record { seen = []; split = sym is; holds = holds }
-
 pub passed-next : {A : Type 0} (P Q : List A → Type 0) (all left behind : List A) (x : A) → left ≡ x ∷ behind → Passed P all left
     → ((seen : List A) → P seen → Q (seen ++ x ∷ [])) → Passed Q all behind
 passed-next {A = A} P Q all left behind x is passed more = record {
@@ -83,9 +79,6 @@ placed-records place (r ∷ rs) = ap (λ (l : List Record). r ∷ l) (placed-rec
 pub all-records : (P : Record → Type 0) (ws : List ℕ) → All (λ (x : ℕ × Record). P x.1) (placed_in ws) → All P (records_in ws)
 all-records P ws all = subst (λ (l : List Record). All P l) (placed-records 0 (records_in ws)) (All-map P (λ (x : ℕ × Record). x.1) (placed_in ws) all)
 
-pub all-places : (P : Record → Type 0) (ws : List ℕ) → All P (records_in ws) → All (λ (x : ℕ × Record). P x.1) (placed_in ws)
-all-places P ws all = All-from_map P (λ (x : ℕ × Record). x.1) (placed_in ws) (subst (λ (l : List Record). All P l) (sym (placed-records 0 (records_in ws))) all)
-
 -- what comes next is of the list
 pub next-in : {A : Type 0} (P : List A → Type 0) (all left behind : List A) (x : A) → left ≡ x ∷ behind → Passed P all left → Contains all x
 next-in {A = A} P all left behind x is passed =
@@ -100,9 +93,6 @@ record-in ws x c = subst (λ (l : List Record). Contains l x.1) (placed-records 
 -- each record of a log has a spelling
 pub all-canonical : (ws : List ℕ) → All IsCanonical (records_in ws)
 all-canonical ws = All-weaker IsWhole IsCanonical (λ r w. w.canonical) (records_in ws) (All-from_recursion IsWhole (records_in ws) (records_text ws).whole)
-
-pub placed-canonical : (ws : List ℕ) (x : ℕ × Record) → Contains (placed_in ws) x → IsCanonical x.1
-placed-canonical ws x c = All-contains (λ (y : ℕ × Record). IsCanonical y.1) (placed_in ws) x (all-places IsCanonical ws (all-canonical ws)) c
 
 -- The first log
 

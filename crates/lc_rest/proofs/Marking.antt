@@ -1,6 +1,6 @@
 -- Numbers that are marked, one record after another.
 use Rattle.std.proofs.Common.{◌≡◌, ℕ, zero, suc, ◌+◌, ◌-◌, ◌<◌, ◌≤◌, Bool, true, false, ◌==◌, List, [], ◌∷◌, ◌++◌, filter, length, take, drop, All, add-one, refl, sym, ◌∙◌, ap, subst, arith, inl, inr, eq-eqb, ne_eqb, append_assoc, length-append, length-set}
-use Rattle.std.specs.Prelude.{Option, Some, None, slice_index_or, slice_set, if◌then◌else◌}
+use Rattle.std.specs.Prelude.{Option, Some, slice_index_or, slice_set, if◌then◌else◌}
 use Rattle.std.specs.List.{list_all}
 use Rattle.std.specs.Option.{unwrap_or}
 use Rattle.std.proofs.lemmas.Bool.{and_from, and_parts, cases_eq}
@@ -38,15 +38,6 @@ how-more segment number rs r b is =
   where
     end : (n : ℕ) → n + 0 ≡ n
     end n = omega arith
-
-pub mark-none : (segment first : ℕ) (rs : List Record) (marks : List Bool) (r : Record) → number_in segment r.locks ≡ None → AreMarked segment first rs marks → AreMarked segment first (rs ++ r ∷ []) marks
-mark-none segment first rs marks r none are = record {
-  between = All-push (IsBetween segment first (first + length marks)) rs r are.between (λ number has. absurd (let no : None ≡ Some number = sym none ∙ has in cc));
-  each = λ place d less.
-      (let more = how-more segment (first + 1 + place) rs r false (has-other segment (first + 1 + place) r None none (λ e. absurd (omega (arith, e)))) in
-      let same : how_many segment (first + 1 + place) (rs ++ r ∷ []) ≡ how_many segment (first + 1 + place) rs = omega (arith, more) in
-      same ∙ are.each place d less);
-}
 
 pub mark-one : (segment first : ℕ) (rs : List Record) (marks : List Bool) (r : Record) (number place : ℕ) → number_in segment r.locks ≡ Some number → number ≡ first + 1 + place → place < length marks
     → ((d : Bool) → slice_index_or marks place d ≡ false) → AreMarked segment first rs marks → AreMarked segment first (rs ++ r ∷ []) (slice_set marks place true)

@@ -104,10 +104,6 @@ has-writes (r ∷ ranges) segment place has = elim has [
 pub range-locks : (r : Record) → IsCanonical r → (segment : ℕ) → is_member segment (map (λ (l : RangeData). l.segment) r.ranges) ≡ true → is_member segment (locked r) ≡ true
 range-locks r canonical segment is = lock-member segment r.locks ((canonical.same_segments segment).1 (member-write segment r.ranges is))
 
-or-true : (a : Bool) → a ≡ true → (a || false) ≡ true
-or-true true is = refl
-or-true false is = absurd (true≢false (sym is))
-
 -- the places of each range are marked
 range-set : (g : Geometry) (r : Record) → IsTaken g r → (ranges : List RangeData) → ((s k : ℕ) → Has (map run_of ranges) s k → Has (map run_of r.ranges) s k)
     → All (λ (w : Written). IsTrue (all_set w.offset (length w.bytes) (segment_of w.segment (marks_of g r.ranges)))) (map write_of ranges)

@@ -1,11 +1,11 @@
 -- The last of a seat's closed records.
-use Rattle.std.proofs.Common.{◌≡◌, ◌⊎◌, ℕ, zero, suc, ◌+◌, ◌*◌, ◌<◌, ◌≤◌, cond, eqb, nat_lt, Bool, true, false, List, [], ◌∷◌, ◌++◌, length, sym, refl, ap, ◌∙◌, subst, inl, inr, ⊎_elim, arith, true≢false}
+use Rattle.std.proofs.Common.{◌≡◌, ◌⊎◌, ℕ, zero, suc, ◌+◌, ◌*◌, ◌<◌, ◌≤◌, cond, eqb, nat_lt, Bool, true, false, List, [], ◌∷◌, ◌++◌, length, sym, refl, ap, ◌∙◌, subst, inl, inr, ⊎_elim, arith}
 use mathlib.Core.Logic.{dite}
 use native.Mathlib.Decide.{dec_le}
 use Rattle.std.proofs.lemmas.Bool.{lt-ltb, le-ltb}
 use Rattle.lc_stage.specs.declared.view.Reservation.{Reservation}
 use Rattle.lc_stage.specs.declared.receipt.Receipt.{Receipt}
-use Rattle.lc_stage.specs.Staging.{Owns, rank, later, latest, newest, with_newest, reservation}
+use Rattle.lc_stage.specs.Staging.{Owns, rank, later, latest, reservation}
 use Rattle.lc_stage.specs.Receipts.{rank_in, IsReceiptOf}
 
 is_less : (m n : ℕ) → m < n → nat_lt m n ≡ true
@@ -45,16 +45,6 @@ latest_append [] ys = sym (later_second (reservation 0 0 [] true) (latest ys) (o
 latest_append (x ∷ xs) ys = ⊎_elim
     (λ (e : x.closed ≡ true). of_closed x (xs ++ ys) e ∙ (ap (later x) (latest_append xs ys) ∙ (assoc x (latest xs) (latest ys) ∙ ap (λ (z : Reservation). later z (latest ys)) (sym (of_closed x xs e)))))
     (λ (e : x.closed ≡ false). of_open x (xs ++ ys) e ∙ (latest_append xs ys ∙ ap (λ (z : Reservation). later z (latest ys)) (sym (of_open x xs e)))) (closed_or x.closed)
-
--- once the newest is closed, it is the later of itself and that
-pub latest_closed : (f : Reservation → Reservation) (rs : List Reservation) → (newest rs).closed ≡ false → (f (newest rs)).closed ≡ true → latest (with_newest f rs) ≡ later (f (newest rs)) (latest rs)
-latest_closed f [] is_open shut = absurd (true≢false is_open)
-latest_closed f (r ∷ rs) is_open shut = of_closed (f r) rs shut ∙ ap (later (f r)) (sym (of_open r rs is_open))
-
--- filling the newest leaves it
-pub latest_filled : (f : Reservation → Reservation) (rs : List Reservation) → (newest rs).closed ≡ false → (f (newest rs)).closed ≡ false → latest (with_newest f rs) ≡ latest rs
-latest_filled f [] is_open still = refl
-latest_filled f (r ∷ rs) is_open still = of_open (f r) rs still ∙ sym (of_open r rs is_open)
 
 -- the last of the closed reservations is one of them
 pub latest_one : (rs : List Reservation) → 0 < length (latest rs).words → Owns rs (latest rs) × ((latest rs).closed ≡ true)

@@ -6,7 +6,7 @@ use native.Mathlib.Decide.{ℕ_discrete, dec_le}
 use lib.ListN.{get_elem?, get_or-append}
 use lib.Seq.{get_or-append-add}
 use Rattle.atomic_table.specs.Table.{step, keeps, Allows}
-use Rattle.atomic_table.proofs.Lists.{at_set, at_snoc, at_last}
+use Rattle.atomic_table.proofs.Lists.{at_set, at_snoc}
 use Rattle.lc_stage.specs.declared.view.Reservation.{Reservation}
 use Rattle.lc_stage.specs.declared.view.View.{View}
 use Rattle.lc_stage.specs.declared.view.Load.{Load}
@@ -170,8 +170,3 @@ publishes room slots id me end flushes same_room is_end s rule _ at _ = let f : 
       kept,
       (refl, refl, (is_end, (let y = known.published in omega arith))),
     )
-
--- a view that says of a closed reservation's place that it was just read as 0 breaks the rule
-pub not_made_up : (room : ℕ) (s : St) → (f : View) (r : Reservation) → get_elem? s.views 0 ≡ some f → Has (set s.views 0 (loaded r.place 0 f)) r → r.closed ≡ true → r.after ≤ length f.loads
-    → (rule : Staged room record { words = s.words; homes = s.homes; views = set s.views 0 (loaded r.place 0 f) }) → r.round ≡ rule.round → ⊥
-not_made_up room s f r at has shut early rule here = let w : View = loaded r.place 0 f in let y = (rule.honest w (at_here s.views 0 f w at)).0 (length f.loads) r.place (at_last f.loads (load r.place 0) (length f.loads) refl) r has here refl shut in absurd (omega arith)

@@ -68,10 +68,6 @@ last_lock writing reading line total over so_far =
     rw (none_first (words line) over) (ap₂ (λ (w r : List ℕ). Some (w, r)) (append-nil writing) (append-nil reading)) in
     sym one ∙ so_far
 
-pub first_lock : (read : Option Locks) → with_locks ([], []) read ≡ read
-first_lock None = refl
-first_lock (Some locks) = refl
-
 -- The digits of a word
 
 -- two items in front

@@ -57,47 +57,12 @@ merge_verdict (Twice segment seq) = refl
 merge_verdict (Gap segment seq) = refl
 
 module _ {D : Type 0} (a : Ghosts D) (old new : World D a) (held holds : Option (List ℕ)) where
-  -- there was no memory
-  pub no_memory_opens : (status : ℕ) → status ≡ 1 → Appends held holds no_memory_text → OpensStore a old held holds (Some status) new
-  no_memory_opens status is shown m s x fits = (no_memory_text, inl (refl, is), shown)
-
-  pub no_memory_first : (status : ℕ) → status ≡ 1 → Appends held holds no_memory_text → RefusesFirst a old held holds (Some status)
-  no_memory_first status is shown fault refused = (no_memory_text, inr (inr (refl, is)), shown)
-
   module _ (reply : Reply) (follows : FollowsAll a (FitsWorld a) old RecoverStep reply new) (refuses : RefusesAll a old reply) where
-    pub done_opens : Done ≡ verdict_of reply → Keeps held holds → OpensStore a old held holds None new
-    done_opens is keeps = (
-      (λ m s x fits. let led = follows m s x fits in (led.0, led.1, (reply, led.2, sym is), led.3)),
-      keeps,
-    )
-
     pub done_first : Done ≡ verdict_of reply → RefusesFirst a old held holds None
     done_first is fault refused =
         elim (refuses fault refused) [
           | inl merge ↦ let bad : Done ≡ Refused = is ∙ ap verdict_of merge ∙ merge_verdict fault in absurd cc
           | inr device ↦ let bad : Done ≡ Faulted = is ∙ ap verdict_of device in absurd cc
-        ]
-
-    pub refused_opens : (status : ℕ) → Refused ≡ verdict_of reply → status ≡ 1 → Appends held holds (reply_text reply) → OpensStore a old held holds (Some status) new
-    refused_opens status is by shown m s x fits =
-        let led = follows m s x fits in (reply_text reply, inr (reply, led.0, led.1, led.2, rw (← is) (refl, by)), shown)
-
-    pub refused_first : (status : ℕ) → Refused ≡ verdict_of reply → status ≡ 1 → Appends held holds (reply_text reply) → RefusesFirst a old held holds (Some status)
-    refused_first status is by shown fault refused =
-        elim (refuses fault refused) [
-          | inl merge ↦ (reply_text reply, inl (ap reply_text merge, by), shown)
-          | inr device ↦ let bad : Refused ≡ Faulted = is ∙ ap verdict_of device in absurd cc
-        ]
-
-    pub faulted_opens : (status : ℕ) → Faulted ≡ verdict_of reply → status ≡ 3 → Appends held holds (reply_text reply) → OpensStore a old held holds (Some status) new
-    faulted_opens status is by shown m s x fits =
-        let led = follows m s x fits in (reply_text reply, inr (reply, led.0, led.1, led.2, rw (← is) (refl, by)), shown)
-
-    pub faulted_first : (status : ℕ) → Faulted ≡ verdict_of reply → status ≡ 3 → Appends held holds (reply_text reply) → RefusesFirst a old held holds (Some status)
-    faulted_first status is by shown fault refused =
-        elim (refuses fault refused) [
-          | inl merge ↦ let bad : Faulted ≡ Refused = is ∙ ap verdict_of merge ∙ merge_verdict fault in absurd cc
-          | inr device ↦ (reply_text reply, inr (inl (ap reply_text device, by)), shown)
         ]
 
 -- The recovery of any areas

@@ -14,15 +14,6 @@ pub record DirtyBelow (pages : List Entry) (end : ℕ) (numbers : List ℕ) : Ty
   pub ascend : AllPairs (λ a b. a < b) numbers
   pub each : (page : ℕ) → Contains numbers page ↔ ((page < end) × IsDirtyPage pages page)
 
-none_contained : (x : ℕ) → Contains {X = ℕ} [] x → ⊥
-none_contained x c = let within = c.1 in omega arith
-
-pub none_below : (pages : List Entry) → DirtyBelow pages 0 []
-none_below pages = record {
-  ascend = λ i j d less within. omega arith;
-  each = λ page. (λ c. absurd (none_contained page c), λ p. let below = p.0 in absurd (omega arith));
-}
-
 pub dirty_more : (pages : List Entry) (end : ℕ) (numbers : List ℕ) → IsDirtyPage pages end → DirtyBelow pages end numbers → DirtyBelow pages (end + 1) (numbers ++ end ∷ [])
 dirty_more pages end numbers dirty below = record {
   ascend = all_pairs_push (λ (a b : ℕ). a < b) numbers end below.ascend (λ k d within. ((below.each (get_or numbers k d)).0 (Contains-get_or numbers k d within)).0);

@@ -55,9 +55,6 @@ one_above known lock = elim (cases_Bool (ltb (known lock.segment) lock.seq)) [
 ]
 
 module _ (known : ℕ → ℕ) where
-  no_lock_above : (segment seq : ℕ) → IsAboveIn [] known segment seq → ⊥
-  no_lock_above segment seq its = let within = its.0.1.1 in absurd (omega arith)
-
   abbrev AmongLocks : List Lock → Lock → ℕ → ℕ → Type 0
   AmongLocks locks lock segment seq = IsAboveIn locks known segment seq ⊎ IsItAbove known lock segment seq
 

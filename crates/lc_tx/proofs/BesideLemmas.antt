@@ -1,6 +1,6 @@
 -- A transaction beside changes of segments that it did not lock.
 use Rattle.std.proofs.Common.{◌≡◌, ◌≢◌, ℕ, ◌<◌, true, false, ◌==◌, List, [], ◌∷◌, ◌++◌, map, length, refl, sym, ap, subst, ◌∙◌, inl, inr, arith, true≢false, eqb-true, eq-eqb}
-use Rattle.std.specs.Prelude.{IfOk, OnErr, Result, Ok, Err, unwrap_or, slice_index}
+use Rattle.std.specs.Prelude.{unwrap_or, slice_index}
 use Rattle.std.proofs.lemmas.Bool.{cases_Bool, false_from_ne_true}
 use Rattle.std.proofs.lemmas.List.{length-map}
 use Rattle.lc_record.specs.Content.{Content, put, on_segment, segment_of}
@@ -10,9 +10,8 @@ use Rattle.lc_range.specs.Undo.{kept, LiesBelow}
 use Rattle.lc_tx.specs.declared.images.Images.{Ghosts}
 use Rattle.lc_tx.specs.declared.image.Image.{Image as Picture}
 use Rattle.lc_tx.specs.declared.tx.Tx.{Tx}
-use Rattle.lc_tx.specs.declared.tx_fault.TxFault.{TxFault}
 use Rattle.lc_tx.specs.Holders.{reads}
-use Rattle.lc_tx.specs.Images.{AreFreed, IsLockable, IsSame, IsSameBut, IsWritten, bytes_of, holders_of}
+use Rattle.lc_tx.specs.Images.{AreFreed, IsLockable, IsSameBut, IsWritten, bytes_of, holders_of}
 use Rattle.lc_tx.specs.Tx.{Begins, Holds, Locked, Reads, RunsOn, KeepsLocked}
 use Rattle.lc_tx.specs.StandsFor.{StandsFor}
 use Rattle.lc_tx.proofs.HolderLemmas.{free_not_writer, free_reads_not, one_writer, others_read, still_read, writer_is_some, writer_reads_not}
@@ -118,13 +117,6 @@ module _ {I : Type 0} (m : Ghosts I) where
             (false_from_ne_true (is_member s tx.locked.items) (λ asked.
             free_reads_not (holders_of m old s) other.thread ((free s).for_writing (asked_writing m old new thread segments reading tx begins s asked)).1 (on.reads s read)))
             not)
-
-  -- whether it begins or is refused
-  pub tried_keeps : (old new : I) (other : Tx) (thread : ℕ) (segments reading : List ℕ) (result : Result Tx TxFault) → RunsOn m old other
-      → IfOk result (λ tx. Begins m thread segments reading old new tx) → IfOk result (λ tx. (s : ℕ) → IsLockable m old segments reading s)
-      → OnErr result (IsSame m old new) → KeepsLocked m old new other
-  tried_keeps old new other thread segments reading (Ok tx) on begins free same = begin_keeps old new tx other on thread segments reading begins free
-  tried_keeps old new other thread segments reading (Err fault) on begins free same = apart_keeps old new [] other on same (λ s held. refl)
 
   module _ (old new : I) (tx other : Tx) (on : RunsOn m old other) where
     module _ (also : RunsOn m old tx) (differ : tx.thread ≢ other.thread) where

@@ -53,12 +53,6 @@ from_runs segment offset [] = tt
 from_runs segment offset (true ∷ marks) = from_position segment offset (runs_from segment (offset + 1) marks) (from_runs segment (offset + 1) marks)
 from_runs segment offset (false ∷ marks) = from_weaker segment (offset + 1) offset (runs_from segment (offset + 1) marks) (omega arith) (from_runs segment (offset + 1) marks)
 
--- a run lies before runs of its segment that begin behind a gap
-before_from : (segment offset : ℕ) (run : Range) (runs : List Range) → run.segment ≡ segment → run.offset + run.len < offset → AreFrom segment offset runs → LiesBefore run runs
-before_from segment offset run [] same gap are = tt
-before_from segment offset run (next ∷ runs) same gap are =
-    (inr (same ∙ sym are.0, omega (arith, are.1)), before_from segment offset run runs same gap are.3)
-
 -- what lies behind a run lies behind a longer one with the same end
 before_longer : (run longer : Range) (runs : List Range) → longer.segment ≡ run.segment → longer.offset + longer.len ≡ run.offset + run.len → LiesBefore run runs → LiesBefore longer runs
 before_longer run longer [] same end before = tt

@@ -85,17 +85,3 @@ of_others n these (x ∷ those) e =
         | inr later ↦ let is = of_others n these those later in (or_right (eqb x n) (is_member n those) is.0, is.1)
       ]
     ] refl e
-
-pub is_other : (n : ℕ) (these those : List ℕ) → is_member n those ≡ true → is_member n these ≡ false → is_member n (none_of these those) ≡ true
-is_other n these [] e none = absurd (false≢true e)
-is_other n these (x ∷ those) e none =
-    elim (is_member x these) as (λ b. is_member x these ≡ b → is_member n (if not b then x ∷ none_of these those else none_of these those) ≡ true) [
-      | true ↦ λ one. elim (or_cases (eqb x n) (is_member n those) e) [
-        | inl here ↦ absurd (false≢true (sym none ∙ subst (λ (k : ℕ). is_member k these ≡ true) (eqb-true x n here) one))
-        | inr later ↦ is_other n these those later none
-      ]
-      | false ↦ λ not_one. elim (or_cases (eqb x n) (is_member n those) e) [
-        | inl here ↦ or_left (eqb x n) (is_member n (none_of these those)) here
-        | inr later ↦ or_right (eqb x n) (is_member n (none_of these those)) (is_other n these those later none)
-      ]
-    ] refl

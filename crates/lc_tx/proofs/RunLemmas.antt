@@ -1,5 +1,5 @@
 -- The segments of runs, and how their record is laid out.
-use Rattle.std.proofs.Common.{◌≡◌, ℕ, zero, suc, ◌+◌, ◌/◌, ◌<◌, ◌≤◌, eqb, List, [], ◌∷◌, length, drop, get_or, refl, sym, ap, subst, ◌∙◌, inl, inr, arith}
+use Rattle.std.proofs.Common.{◌≡◌, ℕ, ◌+◌, ◌/◌, ◌<◌, ◌≤◌, eqb, List, [], ◌∷◌, length, drop, get_or, refl, sym, ap, subst, ◌∙◌, inl, inr, arith}
 use Rattle.std.specs.Prelude.{if◌then◌else◌, ◌==◌}
 use Rattle.std.proofs.lemmas.Bool.{cond-true, cond-false, cases_eq, eq-eqb, ne_eqb}
 use Rattle.std.proofs.lemmas.List.{drop_more}
@@ -46,11 +46,6 @@ others_same last runs i d within same = ap (others last) (drop_more runs i d wit
 pub others_next : (last : ℕ) (runs : List Range) (i : ℕ) (d : Range) → i < length runs → ((get_or runs i d).segment ≡ last → ⊥)
     → others last (drop i runs) ≡ (get_or runs i d).segment ∷ others (get_or runs i d).segment (drop (i + 1) runs)
 others_next last runs i d within other = ap (others last) (drop_more runs i d within) ∙ cond-false _ _ _ (ne_eqb (get_or runs i d).segment last other)
-
-pub end_at : (runs : List Range) (bound i : ℕ) (d : Range) → EndWithin runs bound → i < length runs → (get_or runs i d).offset + (get_or runs i d).len ≤ bound
-end_at [] bound i d ends within = absurd (omega arith)
-end_at (run ∷ runs) bound zero d ends within = ends.0
-end_at (run ∷ runs) bound (suc i) d ends within = end_at runs bound i d ends.1 (omega arith)
 
 -- Layouts
 

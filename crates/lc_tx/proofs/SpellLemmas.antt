@@ -32,9 +32,6 @@ module _ (r : Record) where
     locked =
         is_second ∙ ap (λ (s : SpellingView). and_words s (flat_map lock_words r.locks)) (is_first ∙ ap (λ (x : Layout). first_of x r.node) laid ∙ first_is)
 
-    abbrev parts : List ℕ
-    parts = flat_map lock_words r.locks ++ flat_map (range_words (version_of r.ranges)) r.ranges
-
     whole : 3 + length (flat_map lock_words r.locks) + length (flat_map (range_words (version_of r.ranges)) r.ranges) ≡ record_len r
     whole =
         omega (

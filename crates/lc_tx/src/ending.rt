@@ -1,5 +1,5 @@
 //! The end of a transaction.
-ghost use Rattle.std.specs.Prelude.{◌≡◌, ◌↔◌, ◌<◌, ◌≤◌, ℕ, [], None, List, length, vec_capacity, IfOk, IfErr, OnErr, IfSome, IsTrue, MatchResult, Some};
+ghost use Rattle.std.specs.Prelude.{◌≡◌, ◌↔◌, ◌<◌, ◌≤◌, ℕ, [], None, List, length, vec_capacity, IfOk, IfErr, OnErr, IsTrue, MatchResult, Some};
 ghost use Rattle.lc_record.specs.Record.{record_layout, record_len, IsRecord};
 ghost use Rattle.lc_record.specs.declared.layout.Layout.{Layout as Laid};
 ghost use Rattle.lc_tx.specs.Images.{AreReleased, AreRestored, IsSame};
@@ -54,37 +54,6 @@ impl Tx {
             });
         }
         Ok(Some(layout))
-    }
-
-    /// How many words the record of the transaction takes, 1 to 4096, or None where nothing is set: those of its `layout`. It
-    /// takes no memory.
-    ///
-    /// # Errors
-    ///
-    /// `SequenceSpent` of the least segment that has used its last number and `TooLong`, looked at in this order.
-    pub fn end_needs<I: Images>(&self, images: &I) -> Result<Option<u32>, TxFault>
-        requires runs { RunsOn I.Images images.now self.now }
-        requires small { AreSmall I.Images images.now self.now.locked.items }
-
-        // Whichever node logs it.
-        ensures empty { (result ≡ Ok None) ↔ (self.now.set ≡ []) }
-        ensures words { (node words : ℕ) → (result ≡ Ok (Some words)) ↔ (IsLoggable I.Images images.now self.now node
-            × (words ≡ record_len (final_record I.Images images.now self.now node))) }
-        ensures spent { (node s : ℕ) → (result ≡ Err (TxFault.SequenceSpent s))
-            ↔ IsFirstSpent (final_record I.Images images.now self.now node).locks s }
-        ensures too_long { (node words : ℕ) → (result ≡ Err (TxFault.TooLong words))
-            ↔ (AreUnspent (final_record I.Images images.now self.now node).locks
-            × (4096 < record_len (final_record I.Images images.now self.now node))
-            × (words ≡ record_len (final_record I.Images images.now self.now node))) }
-
-        ensures few { IfOk result (λ needs. IfSome needs (λ words. (1 ≤ words) × (words ≤ 4096))) }
-        ensures faults { IfErr result (λ fault. IsTrue (is_of_needs fault)) }
-        ensures canonical { IsCanonical self.now.set }
-    {
-        let Some(needed) = self.layout(images)? else {
-            return Ok(None);
-        };
-        Ok(Some(needed.words() as u32))
     }
 
     /// The record of the transaction, as a node is about to log it: the next number of each segment that has a set
