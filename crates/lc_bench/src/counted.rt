@@ -25,6 +25,10 @@ impl<D: Area + Drop> Area for Counted<D> {
 
     ghost honest = { λ c. D.honest c.area };
 
+    ghost reads_bytes = { λ c. D.reads_bytes c.area };
+
+    ghost len_fits = { λ c. D.len_fits c.area };
+
     fn len(&self) -> usize {
         self.area.len()
     }

@@ -1,5 +1,6 @@
 //! An area in memory that a file mirrors.
 ghost use Rattle.std.specs.Prelude.{◌≡◌, ◌+◌, ◌≤◌, ◌<◌, ◌^◌, ◌%◌, ℕ, None, Some, true, false, length, slice_index_or, option_copied, take, drop, Ok, IfOk, OnErr};
+ghost use Rattle.std.proofs.Common.{rules};
 ghost use Rattle.lc_disk.specs.Area.{IsImage, IsSameOutside, BecomeDirty, overlaid};
 ghost use Rattle.lc_disk.specs.MemArea.{memory_calls, memory_dirty, memory_now, memory_stable, KeepsMemory};
 ghost use Rattle.lc_disk.specs.Stop.{left_by_stop};
@@ -93,6 +94,10 @@ impl Area for MirrorArea {
 
     ghost honest = { λ m. true };
 
+    ghost reads_bytes = { λ m honest k. m.area.fits k };
+
+    ghost len_fits = { Prim.search rules };
+
     fn len(&self) -> usize {
         self.area.len()
     }
@@ -114,7 +119,6 @@ impl Area for MirrorArea {
     fn write_at(&mut self, at: usize, bytes: &[u8]) -> Result<(), DeviceFault>
         requires { at + length bytes.now ≤ length (memory_now (mirror_area self.old)) }
         ensures done { result ≡ Ok tt }
-        ensures fits { (k : ℕ) → slice_index_or (memory_now (mirror_area self.old)) k 0 < 256 }
         ensures written { memory_now (mirror_area self.new) ≡ overlaid (memory_now (mirror_area self.old)) at bytes.now }
         ensures torn { IsSameOutside at (length bytes.now) (memory_now (mirror_area self.old)) (memory_now (mirror_area self.new)) }
         ensures dirtied { BecomeDirty at (length bytes.now) (memory_dirty (mirror_area self.old)) (memory_dirty (mirror_area self.new)) }

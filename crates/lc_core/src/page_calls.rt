@@ -45,8 +45,6 @@ impl<D: Area> Pages<D> {
     {
         let place = write.draft().page as usize;
         let begun = Writing::begin(write, &mut self.area);
-        // What an honest area holds are bytes.
-        let _len = self.area.len();
         self.begun += 1;
         match begun {
             Ok(write) => {
@@ -81,8 +79,6 @@ impl<D: Area> Pages<D> {
         };
         let number = write.draft().seq;
         let next = write.step(&mut self.area);
-        // What an honest area holds are bytes.
-        let _len = self.area.len();
         match next {
             Ok(left) => match left {
                 Some(next) => {

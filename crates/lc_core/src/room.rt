@@ -144,7 +144,6 @@ impl<D: Area + Drop> Room<D> {
             contents,
             tokens.as_mut_slice(),
         );
-        ask_lengths(areas.as_slice());
         let (segments, spare) = with_areas(segments, writes, areas);
         let running = Running {
             geometry,
@@ -215,7 +214,6 @@ fn open_logs<D: Area + Drop>(nodes: &mut [Node<D>], recovered: Recovered<D>) -> 
     ensures room { length recovered.areas ≤ vec_capacity result }
 {
     let mut areas = recovered.areas();
-    ask_lengths(areas.as_slice());
     for node in nodes.iter_mut() {
         let area = areas.remove(0);
         node.journal.open(area);
@@ -248,15 +246,6 @@ fn with_areas<D: Area + Drop>(
     (segments, areas)
 }
 
-// Asks each area for its length: what an honest one holds are bytes.
-fn ask_lengths<D: Area>(areas: &[D])
-    ensures { AreOfBytes D.Area areas.now }
-{
-    for area in areas {
-        let _len = area.len();
-    }
-}
-
 impl<D: Area + Drop> Journal<D> {
     // The log is that of this area, which begins with no open gate, and has no record. It takes no memory.
     fn open(&mut self, area: D)
@@ -269,8 +258,6 @@ impl<D: Area + Drop> Journal<D> {
         ensures works { is_idle D.Area self.new.log ≡ true }
         ensures blank { (g : Geometry) → IsBlankJournal D.Area g self.old → IsBlankJournal D.Area g self.new }
     {
-        // Its length is below 2^64.
-        let _len = area.len();
         self.log = Log::Idle(Idle { area, end: 0 });
     }
 }

@@ -30,8 +30,7 @@ pub trait Area {
 
     /// The length in bytes.
     fn len(&self) -> usize
-        ensures len { result ≡ length (now self.now) }
-        ensures fits { honest self.now ≡ true → (k : ℕ) → slice_index_or (now self.now) k 0 < 256 };
+        ensures len { result ≡ length (now self.now) };
 
     /// Fills a buffer with the bytes from a position on.
     fn read(&mut self, at: usize, buffer: &mut [u8]) -> Result<(), DeviceFault>
@@ -49,7 +48,6 @@ pub trait Area {
         requires { at + length bytes.now ≤ length (now self.old) }
         ensures honest { honest self.new ≡ honest self.old }
         ensures len { length (now self.new) ≡ length (now self.old) }
-        ensures fits { honest self.old ≡ true → (k : ℕ) → slice_index_or (now self.old) k 0 < 256 }
         ensures written { OnOk result (honest self.old ≡ true → now self.new ≡ overlaid (now self.old) at bytes.now) }
         ensures torn { honest self.old ≡ true → IsSameOutside at (length bytes.now) (now self.old) (now self.new) }
         ensures dirtied { honest self.old ≡ true → BecomeDirty at (length bytes.now) (dirty self.old) (dirty self.new) }
@@ -69,4 +67,10 @@ pub trait Area {
     /// How often the device has failed, or 2^64 - 1 where it was more often.
     fn faults(&self) -> u64
         ensures { result ≡ min (failures self.now) (2 ^ 64 - 1) };
+
+    /// What an honest area reads are bytes.
+    ghost reads_bytes: { (d : Self) → honest d ≡ true → (k : ℕ) → slice_index_or (now d) k 0 < 256 };
+
+    /// The length fits `usize`.
+    ghost len_fits: { (d : Self) → length (now d) < 2 ^ 64 };
 }

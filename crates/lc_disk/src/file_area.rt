@@ -1,5 +1,7 @@
 //! An area over a file.
-ghost use Rattle.std.specs.Prelude.{◌≡◌, ◌≢◌, ◌↔◌, ◌+◌, ◌<◌, ◌≤◌, ℕ, true, false, length, replicate, IfOk, IsErr, if◌then◌else◌, is_ok};
+ghost use Rattle.std.specs.Prelude.{◌≡◌, ◌≢◌, ◌↔◌, ◌+◌, ◌<◌, ◌≤◌, ◌^◌, ℕ, true, false, length, replicate, IfOk, IsErr, if◌then◌else◌, is_ok};
+ghost use Rattle.std.proofs.Common.{rules};
+ghost use Rattle.std.proofs.lemmas.List.{length-replicate};
 ghost use Rattle.lc_disk.specs.Count.{counted};
 ghost use Rattle.lc_disk.specs.Tally.{tallied};
 
@@ -38,6 +40,7 @@ pub struct FileArea<F = File, W = NoWitness> {
     is_given_up: bool,
     is_unsynced: bool,
     witness: W,
+    ghost fits: { len < 2 ^ 64 },
 }
 
 impl<F: HeldFile> FileArea<F> {
@@ -289,6 +292,10 @@ impl<F: HeldFile, W: FaultWitness> Area for FileArea<F, W> {
     ghost failures = { λ a. counted a.faults };
 
     ghost honest = { λ a. false };
+
+    ghost reads_bytes = { Prim.search rules };
+
+    ghost len_fits = { λ a. Prim.search (rules, length-replicate) };
 
     fn len(&self) -> usize {
         self.len

@@ -1,5 +1,6 @@
 //! An area in memory of which chosen calls fail.
-ghost use Rattle.std.specs.Prelude.{◌≡◌, ◌+◌, ◌<◌, ◌≤◌, ℕ, [], true, false, length, take, drop, Err, OnOk, OnErr, is_ok, not, slice_index_or};
+ghost use Rattle.std.specs.Prelude.{◌≡◌, ◌+◌, ◌≤◌, ℕ, [], true, false, length, take, drop, Err, OnOk, OnErr, is_ok, not, slice_index_or};
+ghost use Rattle.std.proofs.Common.{rules};
 ghost use Rattle.lc_disk.specs.Area.{IsImage, IsSameOutside, BecomeDirty, overlaid};
 ghost use Rattle.lc_disk.specs.Count.{counted};
 ghost use Rattle.lc_disk.specs.Stop.{left_by_stop};
@@ -75,6 +76,10 @@ impl Area for Fuse {
 
     ghost honest = { λ f. true };
 
+    ghost reads_bytes = { λ f honest k. f.area.fits k };
+
+    ghost len_fits = { Prim.search rules };
+
     fn len(&self) -> usize {
         self.area.len()
     }
@@ -95,7 +100,6 @@ impl Area for Fuse {
     fn write_at(&mut self, at: usize, bytes: &[u8]) -> Result<(), DeviceFault>
         requires { at + length bytes.now ≤ length (memory_now (fuse_area self.old)) }
         ensures counted { IsCounted self.old self.new (not (is_ok result)) }
-        ensures fits { (k : ℕ) → slice_index_or (memory_now (fuse_area self.old)) k 0 < 256 }
         ensures written { OnOk result (memory_now (fuse_area self.new) ≡ overlaid (memory_now (fuse_area self.old)) at bytes.now) }
         ensures kept { OnErr result (memory_now (fuse_area self.new) ≡ memory_now (fuse_area self.old)) }
         ensures torn { IsSameOutside at (length bytes.now) (memory_now (fuse_area self.old)) (memory_now (fuse_area self.new)) }

@@ -18,8 +18,7 @@ pub fn clean_image()
     ensures { (now : List ℕ) (dirty : ℕ → Bool) → IsClean dirty → (image : List ℕ) → IsImage now dirty image → image ≡ now }
 {}
 
-/// An area that reads bytes reads as one of its own images. That an honest one reads bytes, a caller has from
-/// `Area::len`.
+/// An area that reads bytes, as each honest one does, reads as one of its own images.
 pub fn reads_as_image()
     ensures { (now : List ℕ) (dirty : ℕ → Bool) → ((k : ℕ) → slice_index_or now k 0 < 256) → IsImage now dirty now }
 {}

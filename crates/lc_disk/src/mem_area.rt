@@ -1,5 +1,6 @@
 //! An area in memory, which never fails.
 ghost use Rattle.std.specs.Prelude.{◌≡◌, ◌+◌, ◌≤◌, ◌<◌, ◌^◌, ℕ, Bool, true, false, [], length, replicate, slice_index_or, take, drop, Ok, IfOk, OnErr};
+ghost use Rattle.std.proofs.Common.{rules};
 ghost use Rattle.lc_disk.specs.Area.{IsImage, IsSameOutside, BecomeDirty, IsClean, overlaid};
 ghost use Rattle.lc_disk.specs.Span.{IsSpan};
 ghost use Rattle.lc_disk.specs.Stop.{left_by_stop};
@@ -111,6 +112,10 @@ impl Area for MemArea {
 
     ghost honest = { λ m. true };
 
+    ghost reads_bytes = { λ m honest k. m.fits k };
+
+    ghost len_fits = { Prim.search rules };
+
     fn len(&self) -> usize {
         self.bytes.len()
     }
@@ -130,7 +135,6 @@ impl Area for MemArea {
     fn write_at(&mut self, at: usize, bytes: &[u8]) -> Result<(), DeviceFault>
         requires { at + length bytes.now ≤ length (memory_now self.old) }
         ensures done { result ≡ Ok tt }
-        ensures fits { (k : ℕ) → slice_index_or (memory_now self.old) k 0 < 256 }
         ensures written { memory_now self.new ≡ overlaid (memory_now self.old) at bytes.now }
         ensures torn { IsSameOutside at (length bytes.now) (memory_now self.old) (memory_now self.new) }
         ensures dirtied { BecomeDirty at (length bytes.now) (memory_dirty self.old) (memory_dirty self.new) }

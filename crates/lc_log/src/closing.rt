@@ -47,8 +47,6 @@ impl<D: Area> Closing<D> {
         ensures cause { IfErr result (λ failed. D.failures failed.area ≡ D.failures area + 1) }
         ensures call { MatchResult result (λ log. IsOneCall D.Area true area log.area) (λ failed. IsOneCall D.Area false area failed.area) }
     {
-        // Its length is below 2^64.
-        let _len = area.len();
         let mut area = area;
         match close_first_gate(&mut area, is_open) {
             Ok(()) => Ok(Closing { area }),

@@ -36,8 +36,6 @@ impl<D: Area> Idle<D> {
         ensures area { result.area ≡ area }
         ensures end { result.end ≡ 0 }
     {
-        // Its length is below 2^64.
-        let _len = area.len();
         Idle { area, end: 0 }
     }
 

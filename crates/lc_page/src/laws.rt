@@ -23,7 +23,7 @@ pub fn same_page_beside()
 {}
 
 /// And whatever a stop leaves of it a stop may have left before, where the area has both its slots and its bytes are
-/// below 256, as `Area::len` says.
+/// below 256, as `Area` says of an honest one.
 pub fn same_images_beside()
     ensures { (page : ℕ) (now later : List ℕ) (dirty soiled : ℕ → Bool) → (2 * page + 2) * 272 ≤ length now
         → ((k : ℕ) → slice_index_or now k 0 < 256) → SameInside page now dirty later soiled
@@ -46,7 +46,7 @@ pub fn settled_when_clean()
 {}
 
 /// A page is settled where the area has both its slots, and each image says this of the page and has the same page as
-/// the area reads. That its bytes are below 256, without which it may have no image, a caller has from `Area::len`.
+/// the area reads. That its bytes are below 256, without which it may have no image, is a law of `Area`.
 pub fn settled_from_images()
     ensures { (now : List ℕ) (dirty : ℕ → Bool) (page : ℕ) (text : PageText) → (2 * page + 2) * 272 ≤ length now
         → ((k : ℕ) → slice_index_or now k 0 < 256)
@@ -54,7 +54,7 @@ pub fn settled_from_images()
         → IsSettled now dirty page text }
 {}
 
-/// Of a settled page the area reads what is said of it, where its bytes are below 256, as `Area::len` says.
+/// Of a settled page the area reads what is said of it, where its bytes are below 256, as `Area` says of an honest one.
 pub fn settled_reads()
     ensures { (now : List ℕ) (dirty : ℕ → Bool) (page : ℕ) (text : PageText)
         → ((k : ℕ) → slice_index_or now k 0 < 256) → IsSettled now dirty page text → text_in now page ≡ text }

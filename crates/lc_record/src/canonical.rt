@@ -113,6 +113,4 @@ pub fn hold_bytes(ranges: &[RangeData])
 
 fn are_bytes(bytes: &[u8])
     ensures { AreBytes bytes.now }
-{
-    let _len = bytes.len();
-}
+{}

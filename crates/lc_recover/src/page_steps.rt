@@ -146,15 +146,13 @@ fn begin_page<D: Area>(
     bytes.copy_from_slice(pages.page(change.page));
     put_changes(&writes.kept.logs, changes, &mut bytes);
     let number = writes.merged.numbers[segment];
-    let begun = match PageWrite::begin(&pages.texts, change.page, &bytes, number) {
+    match PageWrite::begin(&pages.texts, change.page, &bytes, number) {
         Ok(write) => match Writing::begin(write, area) {
             Ok(write) => Ok(write),
             Err(fault) => Err(device_fault(fault)),
         },
         Err(fault) => Err(device_fault(fault)),
-    };
-    let _len = area.len();
-    begun
+    }
 }
 
 // Makes the next call of a page write.
@@ -170,9 +168,7 @@ fn go_on<D: Area>(write: Writing, area: &mut D) -> Result<Option<Writing>, Devic
     ensures clean { OnOk result (calls_of write ≡ 5 → D.honest area.old ≡ true → (k : ℕ) → D.dirty area.new k ≡ false) }
     ensures bytes { D.honest area.new ≡ true → (at : ℕ) → slice_index_or (D.now area.new) at 0 < 256 }
 {
-    let next = write.step(area);
-    let _len = area.len();
-    next.map_err(device_fault)
+    write.step(area).map_err(device_fault)
 }
 
 // Puts a page that was written in the place of the one before.

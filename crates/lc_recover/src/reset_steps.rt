@@ -91,9 +91,7 @@ fn close_log<D: Area>(area: &mut D, is_open: bool) -> Result<(), DeviceFault>
     ensures device { IsOneCall D.Area (is_ok result) area.old area.new }
     ensures bytes { D.honest area.new ≡ true → (at : ℕ) → slice_index_or (D.now area.new) at 0 < 256 }
 {
-    let closed = close_first_gate(area, is_open);
-    let _len = area.len();
-    closed
+    close_first_gate(area, is_open)
 }
 
 // Makes a closed gate stable.
@@ -106,7 +104,5 @@ fn settle_log<D: Area>(area: &mut D) -> Result<(), DeviceFault>
     ensures device { IsOneCall D.Area (is_ok result) area.old area.new }
     ensures bytes { D.honest area.new ≡ true → (at : ℕ) → slice_index_or (D.now area.new) at 0 < 256 }
 {
-    let settled = settle_first_gate(area);
-    let _len = area.len();
-    settled
+    settle_first_gate(area)
 }

@@ -1,5 +1,7 @@
 //! Areas whose bytes outlive them.
-ghost use Rattle.std.specs.Prelude.{length, replicate, true, false};
+ghost use Rattle.std.specs.Prelude.{◌<◌, ◌^◌, length, replicate, true, false};
+ghost use Rattle.std.proofs.Common.{rules};
+ghost use Rattle.std.proofs.lemmas.List.{length-replicate};
 ghost use Rattle.lc_disk.specs.Tally.{tallied};
 ghost use Rattle.lc_disk.specs.When.{IsCountable};
 
@@ -61,6 +63,7 @@ pub(crate) fn zeros(alloc: Global, len: usize) -> Result<Vec<AtomicU8>, AllocErr
 pub(crate) struct SharedArea<'a> {
     bytes: &'a [AtomicU8],
     calls: Tally,
+    ghost fits: { length bytes.now < 2 ^ 64 },
 }
 
 /// The area of these bytes.
@@ -92,6 +95,10 @@ impl Area for SharedArea<'_> {
     ghost failures = { λ a. 0 };
 
     ghost honest = { λ a. false };
+
+    ghost reads_bytes = { Prim.search rules };
+
+    ghost len_fits = { λ a. Prim.search (rules, length-replicate) };
 
     fn len(&self) -> usize {
         self.bytes.len()
@@ -158,6 +165,10 @@ impl Area for Mirror<'_> {
     ghost failures = { λ m. fuse_failures m.fuse };
 
     ghost honest = { λ m. true };
+
+    ghost reads_bytes = { λ m honest k. m.fuse.area.fits k };
+
+    ghost len_fits = { Prim.search rules };
 
     fn len(&self) -> usize {
         self.fuse.len()

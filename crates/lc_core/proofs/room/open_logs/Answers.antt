@@ -1,8 +1,7 @@
-use Rattle.std.proofs.Common.{◌≡◌, ◌+◌, ◌*◌, ◌<◌, true, [], drop, length, Some, sym, ap, subst, ◌∙◌, arith}
+use Rattle.std.proofs.Common.{◌≡◌, ◌+◌, ◌*◌, ◌<◌, true, [], drop, length, Some, sym, ap, ◌∙◌, arith}
 use Rattle.std.specs.Prelude.{slice_get, slice_index_or}
 use Rattle.std.proofs.lemmas.List.{drop-drop}
 use Rattle.std.proofs.lemmas.Option.{slice_get-get_or, slice_get_within}
-use Rattle.lc_recover.specs.Reads.{AreOfBytes}
 use Rattle.lc_recover.specs.Recovered.{AreFinished}
 use Rattle.lc_core.specs.Blank.{IsFilledNode}
 use Rattle.lc_core.specs.Log.{Stands, area_of, is_idle}
@@ -89,7 +88,7 @@ returns-clause-logs g c = λ finished n node got.
     c.loop-node.invariant.logs n node (omega (arith, within, c.loop-node.auto.nodes, c.loop-node-test.false)) got finished
 
 pub returns-clause-bytes : goal.returns-clause-bytes
-returns-clause-bytes g c = subst (AreOfBytes g.D.Area) (c.as_slice.ensures.value ∙ c.areas-areas.ensures) c.ask_lengths.ensures
+returns-clause-bytes g c = λ k area is. g.met.D.Area.reads_bytes area
 
 pub returns-clause-areas : goal.returns-clause-areas
 returns-clause-areas g c =

@@ -9,7 +9,7 @@ returns-clause-closing g c =
     let was : g.D.Area.honest c.args.area.now ≡ true = sym c.write_at.ensures.honest ∙ honest in
     let h = c.write_at.ensures in
     let long : 0 < length (g.D.Area.now c.args.area.now) = omega (arith, c.requires.room) in
-    reset_written _ _ _ _ records (holds was) long c.args.is_open (reads was) _ c.closing_bytes.ensures (h.torn was) (h.dirtied was) (h.fits was) (written was))
+    reset_written _ _ _ _ records (holds was) long c.args.is_open (reads was) _ c.closing_bytes.ensures (h.torn was) (h.dirtied was) (g.met.D.Area.reads_bytes c.args.area.now was) (written was))
 
 pub returns-clause-images : goal.returns-clause-images
 returns-clause-images g c records reads holds honest =

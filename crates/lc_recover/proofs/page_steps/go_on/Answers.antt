@@ -6,5 +6,5 @@ use Rattle.lc_recover.proofs.page_steps.go_on.Goals as goal
 
 pub returns-clause-device : goal.returns-clause-device
 returns-clause-device g c =
-    subst (λ (ok : Bool). IsOneCall g.D.Area ok c.args.area.now c.step-next.new.area) (sym c.map_err.ensures.variant)
-    (calls_call g.D.Area c.args.write c.args.area.now c.step-next.new.area (is_ok c.step-next.result) c.step-next.ensures.call)
+    subst (λ (ok : Bool). IsOneCall g.D.Area ok c.args.area.now c.step.new.area) (sym c.map_err.ensures.variant)
+    (calls_call g.D.Area c.args.write c.args.area.now c.step.new.area (is_ok c.step.result) c.step.ensures.call)

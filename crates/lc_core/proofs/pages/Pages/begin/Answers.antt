@@ -40,14 +40,14 @@ invariant_of-self-in-Err g c =
 pub returns-in-Ok-clause-follows : goal.returns-in-Ok-clause-follows
 returns-in-Ok-clause-follows g c =
     let call : IsCall g.D.Area c.args.write.draft.page c.args.self.now.area c.begin-begun.new.area =
-    record { honest = c.begin-begun.ensures.device.honest; bytes = c.len-len.ensures.fits; others = c.begin-begun.ensures.others } in
+    record { honest = c.begin-begun.ensures.device.honest; bytes = g.met.D.Area.reads_bytes c.begin-begun.new.area; others = c.begin-begun.ensures.others } in
     begins g.D.Area c.args.self.now _ c.args.write.draft c.args.write.state.gate call c.in-Ok.write c.in-Ok.ensures.draft c.in-Ok.ensures.calls
     (ap (λ (d : Draft). slice_set c.args.self.now.writes.items d.page (UnderWay c.in-Ok.write)) c.draft.ensures) c.in-Ok.ensures.under_way
 
 pub returns-in-Err-clause-follows : goal.returns-in-Err-clause-follows
 returns-in-Err-clause-follows g c =
     let call : IsCall g.D.Area c.args.write.draft.page c.args.self.now.area c.begin-begun.new.area =
-    record { honest = c.begin-begun.ensures.device.honest; bytes = c.len-len.ensures.fits; others = c.begin-begun.ensures.others } in
+    record { honest = c.begin-begun.ensures.device.honest; bytes = g.met.D.Area.reads_bytes c.begin-begun.new.area; others = c.begin-begun.ensures.others } in
     begin_fails g.D.Area c.args.self.now _ c.args.write.draft c.args.write.state.gate call
     (ap (λ (d : Draft). slice_set c.args.self.now.writes.items d.page Failed) c.draft.ensures) c.begin-begun.ensures.page
 

@@ -81,7 +81,7 @@ returns-in-Some-clause-follows g c =
     let named = c.args.self.now.named c.args.page write at in
     let call : IsCall g.D.Area c.args.page c.args.self.now.area c.step-next.new.area = record {
       honest = c.step-next.ensures.device.honest;
-      bytes = c.len-len.ensures.fits;
+      bytes = g.met.D.Area.reads_bytes c.step-next.new.area;
       others = λ other differ. c.step-next.ensures.others other (λ same. differ (same ∙ named));
     } in
     goes_on g.D.Area c.args.self.now _ c.args.page write at call c.in-Some.next c.calls-calls.result next_is.0 (sym c.calls-calls.ensures.calls)
@@ -94,7 +94,7 @@ returns-in-None-clause-follows g c =
     let named = c.args.self.now.named c.args.page write at in
     let call : IsCall g.D.Area c.args.page c.args.self.now.area c.step-next.new.area = record {
       honest = c.step-next.ensures.device.honest;
-      bytes = c.len-len.ensures.fits;
+      bytes = g.met.D.Area.reads_bytes c.step-next.new.area;
       others = λ other differ. c.step-next.ensures.others other (λ same. differ (same ∙ named));
     } in
     is_over g.D.Area c.args.self.now _ c.args.page write at call c.draft.result.now.seq (set_twice c.args.self.now.writes.items c.args.page c.replace.new.dest AtRest) (subst (λ (next : Option Writing). (text : PageText) (old : Page) → IsUnderWay g.D.Area c.args.self.now.area write text old → GoesOn g.D.Area c.step-next.new.area (draft_of write) text old next) c.in-None.is c.in-Ok.ensures.goes_on)
@@ -106,7 +106,7 @@ returns-in-Err-clause-follows g c =
     let named = c.args.self.now.named c.args.page write at in
     let call : IsCall g.D.Area c.args.page c.args.self.now.area c.step-next.new.area = record {
       honest = c.step-next.ensures.device.honest;
-      bytes = c.len-len.ensures.fits;
+      bytes = g.met.D.Area.reads_bytes c.step-next.new.area;
       others = λ other differ. c.step-next.ensures.others other (λ same. differ (same ∙ named));
     } in
     step_fails g.D.Area c.args.self.now _ c.args.page write at call c.in-Err.fault (ap (λ state. slice_set c.args.self.now.writes.items c.args.page state) c.replace.ensures.after)

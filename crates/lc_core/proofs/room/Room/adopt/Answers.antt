@@ -3,7 +3,6 @@ use Rattle.std.specs.Prelude.{slice_get}
 use Rattle.std.specs.Option.{ForSome}
 use Rattle.std.proofs.lemmas.List.{length-map, length-replicate}
 use Rattle.lc_record.specs.declared.geometry.Geometry.{Geometry}
-use Rattle.lc_recover.specs.Reads.{AreOfBytes}
 use Rattle.lc_core.specs.Blank.{IsBlankNode}
 use Rattle.lc_core.specs.Pieces.{AreNodePieces, IsTokenOf}
 use Rattle.lc_core.specs.declared.page_state.PageState.TheVariants.{AtRest}
@@ -102,5 +101,5 @@ returns-clause-made g c =
 pub returns-clause-adopted : goal.returns-clause-adopted
 returns-clause-adopted g c = λ f found.
     made_adopted g.D.Area f c.args.contents.now c.args.tokens.items c.args.pieces.items c.args.areas.items c.args.self.geometry _ found c.requires.geometry
-    (omega (arith, c.requires.all_nodes, c.args.pieces.ok.0)) (omega (arith, c.requires.all_tokens, c.args.tokens.ok.0)) (subst (AreOfBytes g.D.Area) c.as_slice.ensures.value c.ask_lengths.ensures)
+    (omega (arith, c.requires.all_nodes, c.args.pieces.ok.0)) (omega (arith, c.requires.all_tokens, c.args.tokens.ok.0)) (λ k area is. g.met.D.Area.reads_bytes area)
     (returns-clause-made g c)

@@ -10,7 +10,7 @@ returns-in-Ok-clause-closing g c text begun settled honest =
     let h = c.in-Ok.ensures in
     let choice : ((c.args.self.state.gate ≡ false) × (c.if-state.gate.now ≡ [])) ⊎ ((c.args.self.state.gate ≡ true) × (c.if-state.gate.now ≡ 0 ∷ [])) =
     elim c.if-state.branch [ then-state w ↦ inr (search rules, search rules) | else-state w ↦ inl (search rules, search rules) ] in
-    first_closing _ _ _ _ c.args.self.draft c.place.result c.place.ensures c.args.self.state.gate _ choice (h.torn was) (h.dirtied was) text (h.fits was) (settled was) begun c.requires (h.written was)
+    first_closing _ _ _ _ c.args.self.draft c.place.result c.place.ensures c.args.self.state.gate _ choice (h.torn was) (h.dirtied was) text (g.met.D.Area.reads_bytes c.args.area.now was) (settled was) begun c.requires (h.written was)
 
 pub returns-in-Ok-clause-page : goal.returns-in-Ok-clause-page
 returns-in-Ok-clause-page g c text begun settled honest =
@@ -18,7 +18,7 @@ returns-in-Ok-clause-page g c text begun settled honest =
     let h = c.write_at.ensures in
     let choice : ((c.args.self.state.gate ≡ false) × (c.if-state.gate.now ≡ [])) ⊎ ((c.args.self.state.gate ≡ true) × (c.if-state.gate.now ≡ 0 ∷ [])) =
     elim c.if-state.branch [ then-state w ↦ inr (search rules, search rules) | else-state w ↦ inl (search rules, search rules) ] in
-    first_shows _ _ _ _ c.args.self.draft c.place.result c.place.ensures c.args.self.state.gate _ choice (h.torn was) (h.dirtied was) text (h.fits was) (settled was) begun
+    first_shows _ _ _ _ c.args.self.draft c.place.result c.place.ensures c.args.self.state.gate _ choice (h.torn was) (h.dirtied was) text (g.met.D.Area.reads_bytes c.args.area.now was) (settled was) begun
 
 pub returns-in-Err-clause-page : goal.returns-in-Err-clause-page
 returns-in-Err-clause-page g c text begun settled honest =
@@ -26,7 +26,7 @@ returns-in-Err-clause-page g c text begun settled honest =
     let h = c.write_at.ensures in
     let choice : ((c.args.self.state.gate ≡ false) × (c.if-state.gate.now ≡ [])) ⊎ ((c.args.self.state.gate ≡ true) × (c.if-state.gate.now ≡ 0 ∷ [])) =
     elim c.if-state.branch [ then-state w ↦ inr (search rules, search rules) | else-state w ↦ inl (search rules, search rules) ] in
-    first_shows _ _ _ _ c.args.self.draft c.place.result c.place.ensures c.args.self.state.gate _ choice (h.torn was) (h.dirtied was) text (h.fits was) (settled was) begun
+    first_shows _ _ _ _ c.args.self.draft c.place.result c.place.ensures c.args.self.state.gate _ choice (h.torn was) (h.dirtied was) text (g.met.D.Area.reads_bytes c.args.area.now was) (settled was) begun
 
 pub returns-in-Ok-clause-call : goal.returns-in-Ok-clause-call
 returns-in-Ok-clause-call g c =
