@@ -9,12 +9,13 @@ use Rattle.lc_record.specs.Content.{Content, segment_of}
 use Rattle.lc_record.specs.Transaction.{Transaction, all_set, is_member, locks, holds}
 use Rattle.lc_record.specs.declared.geometry.Geometry.{Geometry}
 use Rattle.lc_record.proofs.LockLemmas.{lock_holds}
+use Rattle.lc_record.proofs.ListLemmas.{slice_get_some as some_at, All-append_left as All-left, All-append_right as All-right}
 use Rattle.lc_model.specs.History.{Entry, History, value}
 use Rattle.lc_model.specs.State.{At, Setting, State, running_of, has_unclosed, is_by, is_held, is_locked, some_holder}
 use Rattle.lc_model.specs.Sound.{Sound, IsProper, holders, unclosed}
 use Rattle.lc_model.proofs.Fronts.{no_holder, none-unclosed}
 use Rattle.lc_model.proofs.Holders.{is_by-both, is_by-same}
-use Rattle.lc_model.proofs.Lists.{All-left, All-right, found-all, found-only, not_found, All-from_map}
+use Rattle.lc_model.proofs.Lists.{found-all, found-only, not_found, All-from_map}
 use Rattle.lc_tx.specs.Holders.{reads, writer_of}
 use Rattle.lc_tx.specs.Images.{IsHere, holders_of}
 use Rattle.lc_tx.specs.declared.holders.Holders.{Holders}
@@ -28,7 +29,7 @@ use Rattle.lc_core.specs.Places.{same_some}
 use Rattle.lc_core.specs.Seat.{Seat, Free, Open, Reserved, holder_of}
 use Rattle.lc_core.specs.Seats.{Runs, AllRun}
 use Rattle.lc_core.specs.declared.here.Here.{Here}
-use Rattle.lc_core.proofs.Seating.{seat_of, some_at}
+use Rattle.lc_core.proofs.Seating.{seat_of}
 
 -- Lists
 

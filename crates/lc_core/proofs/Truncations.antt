@@ -8,6 +8,7 @@ use Rattle.lc_model.specs.declared.event.Event.TheVariants.{FlushStep, PageStep,
 use Rattle.lc_model.specs.declared.refusal.Refusal.{Refusal}
 use Rattle.lc_model.specs.declared.reply.Reply.{Reply}
 use Rattle.lc_model.specs.declared.reply.Reply.TheVariants.{Ok as IsDone, Bytes, Reserved, Ended, Stepped, Acked, Nothing, Applied, HeldBack, Ignored, Trimmed, Written, Reset, Down as IsDown, Recovered, Refused}
+use Rattle.lc_record.proofs.ListLemmas.{sub_suc as one_more, sub_none as none_more}
 use Rattle.lc_core.specs.Truncating.{AsksFirst, empties, ending, CallsDue, CallsIf, EachFrom, Repeats, Round, StepsTo, WritesSegment, is_due, refusal_in, stopping}
 use Rattle.lc_core.specs.Truncation.{IsAtDue, IsFewer, IsNext, IsOn, Leads, Then, ThenCleans, ThenResets, WritesAt, WritesFrom, WritesIf, steps_if}
 use Rattle.lc_core.specs.declared.page_cursor.PageCursor.{PageCursor}
@@ -35,12 +36,6 @@ pub no_stop : (event : Event) → empties event ≡ true → (choices : List (Li
 no_stop event is choices stops = subst (λ (e : Event). empties e ≡ true → ⊥) (sym stops) (λ e. absurd cc) is
 
 -- How much is left
-
-one_more : (n k : ℕ) → k < n → suc (n - (k + 1)) ≡ n - k
-one_more n k lt = omega (arith, lt)
-
-none_more : (n k : ℕ) → n ≤ k → 0 ≡ n - k
-none_more n k past = omega (arith, past)
 
 all_left : (n : ℕ) → n - 0 ≡ n
 all_left n = omega arith

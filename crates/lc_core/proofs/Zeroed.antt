@@ -9,10 +9,10 @@ use Rattle.lc_disk.specs.MemArea.{memory_dirty, memory_now}
 use Rattle.lc_disk.specs.contracts.mem_area.MemAreaArea.TheImpl.{ghosts}
 use Rattle.lc_disk.specs.declared.mem_area.MemArea.{MemArea}
 use Rattle.lc_record.specs.declared.geometry.Geometry.{Geometry}
+use Rattle.lc_record.proofs.ListLemmas.{slice_get_some as some_at}
 use Rattle.lc_recover.specs.Reads.{AreZeros, HaveLengths, area_count, area_len}
 use Rattle.lc_recover.proofs.Images.{len-none, len-some}
 use Rattle.lc_core.specs.Places.{same_some}
-use Rattle.lc_core.proofs.Seating.{some_at}
 
 -- an area of zeros, as long as the geometry has it at this place
 abbrev IsMade : Geometry → ℕ → MemArea → Type 0

@@ -1,11 +1,10 @@
 -- What the making of a store's files has made, and taken away.
-use Rattle.std.proofs.Common.{◌≡◌, ◌<◌, ◌≤◌, ℕ, ◌+◌, arith, refl, sym, ◌∙◌, ap, subst, below_more, ◌⊎◌, inl, inr, Bool, true, false, None, Some, Option}
-use Rattle.std.specs.Prelude.{is_some, Result, Err}
+use Rattle.std.proofs.Common.{◌≡◌, ◌<◌, ◌≤◌, ℕ, ◌+◌, arith, refl, sym, ◌∙◌, ap, subst, below_more, inl, inr, Bool, false, None}
+use Rattle.std.specs.Prelude.{Err}
 use Rattle.std.proofs.lemmas.Bool.{cases_lt}
 use Rattle.lc_record.specs.declared.geometry.Geometry.{Geometry}
-use Rattle.lc_files.specs.Files.{Files, store_name_at}
+use Rattle.lc_files.specs.Files.{Files}
 use Rattle.lc_files.specs.Making.{ChangesAt, Inits, IsOther, MadeFirst, NoneTaken, Puts, new_at, new_bytes, new_count, new_name, new_name_at}
-use Rattle.lc_files.specs.Renewing.{Removes}
 use Rattle.lc_files.specs.declared.folder.FolderFault.{FolderFault}
 use Rattle.lc_files.specs.declared.making.Cause.TheVariants.{Folder}
 use Rattle.lc_files.specs.declared.making.Unmade.{Unmade}
@@ -75,7 +74,3 @@ module _ (g : Geometry) where
       → (other : StoreName) → IsOther g (place + 1) other → new other ≡ old other
   begun_others place file old mid new is made changes other is_other =
       changes other (λ same. is_other place (omega arith) (same ∙ ap new_name is)) ∙ made.others other (fewer_is_other place (place + 1) other (omega arith) is_other)
-
-pub is_none : {A : Type 0} (o : Option A) → is_some o ≡ false → o ≡ None
-is_none None none = refl
-is_none (Some x) none = absurd cc

@@ -3,6 +3,7 @@ use Rattle.std.proofs.Common.{◌≡◌, ◌≢◌, ℕ, suc, ◌+◌, Bool, tru
 use Rattle.std.specs.Prelude.{if◌then◌else◌}
 use Rattle.std.specs.List.{list_any}
 use Rattle.std.proofs.lemmas.List.Elements.{filter-append}
+use Rattle.std.proofs.Math.Bool.{or-false, or-true}
 use Rattle.lc_record.specs.Content.{Content, put, on_segment}
 use Rattle.lc_record.specs.Transaction.{Transaction, Written, writes_on, effect, effects}
 use Rattle.lc_record.specs.declared.geometry.Geometry.{Geometry}
@@ -128,14 +129,6 @@ list_any-append : {A : Type 0} (p : A → Bool) (xs ys : List A) → list_any p 
 list_any-append p [] ys = refl
 list_any-append p (x ∷ xs) ys =
     elim (p x) as (λ b. (b || list_any p (xs ++ ys)) ≡ ((b || list_any p xs) || list_any p ys)) [ true ↦ refl | false ↦ list_any-append p xs ys ]
-
-or-true : (a : Bool) → (a || true) ≡ true
-or-true true = refl
-or-true false = refl
-
-or-false : (a : Bool) → (a || false) ≡ a
-or-false true = refl
-or-false false = refl
 
 pub unclosed-appended : (s : State) (t : Transaction) → has_unclosed t.node t.thread (appended s t) ≡ true
 unclosed-appended s t =

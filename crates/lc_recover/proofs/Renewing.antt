@@ -6,6 +6,7 @@ use Rattle.std.proofs.lemmas.List.{length-map, length-set}
 use Rattle.lc_disk.specs.Area.{overlaid}
 use Rattle.lc_record.specs.Content.{Content, segment_of}
 use Rattle.lc_record.specs.Marks.{counting}
+use Rattle.lc_record.proofs.ListLemmas.{length-counting, slice_get-map_some as get-map}
 use Rattle.lc_page.specs.PageVector.{entry_at, entry_text, settled}
 use Rattle.lc_page.specs.declared.draft.Draft.{Draft}
 use Rattle.lc_page.specs.declared.entry.Entry.{Entry}
@@ -13,7 +14,7 @@ use Rattle.lc_model.specs.Merge.{Page}
 use Rattle.lc_recover.proofs.AreaLemmas.{set-get, set-others}
 use Rattle.lc_recover.proofs.Bridge.{same_page}
 use Rattle.lc_recover.proofs.Going.{same_lists}
-use Rattle.lc_recover.proofs.Images.{get-map, get-counting, get-segment, length-counting}
+use Rattle.lc_recover.proofs.Images.{get-counting, get-segment}
 use Rattle.lc_recover.proofs.Settles.{entry_set, entry_other, page_over, page_beside}
 use Rattle.lc_recover.specs.Pages.{bytes_of_page, kept_page, kept_pages}
 use Rattle.lc_recover.specs.Recovered.{page_read, recovered_pages}

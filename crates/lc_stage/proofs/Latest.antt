@@ -1,8 +1,8 @@
 -- The last of a seat's closed records.
-use Rattle.std.proofs.Common.{◌≡◌, ◌⊎◌, ℕ, zero, suc, ◌+◌, ◌*◌, ◌<◌, ◌≤◌, cond, eqb, nat_lt, Bool, true, false, List, [], ◌∷◌, ◌++◌, length, sym, refl, ap, ◌∙◌, subst, inl, inr, ⊎_elim, arith, true≢false}
+use Rattle.std.proofs.Common.{◌≡◌, ℕ, zero, suc, ◌+◌, ◌*◌, ◌<◌, ◌≤◌, cond, eqb, nat_lt, Bool, true, false, List, [], ◌∷◌, ◌++◌, length, sym, refl, ap, ◌∙◌, subst, ⊎_elim, arith, true≢false}
 use mathlib.Core.Logic.{dite}
 use native.Mathlib.Decide.{dec_le}
-use Rattle.std.proofs.lemmas.Bool.{lt-ltb, le-ltb}
+use Rattle.std.proofs.lemmas.Bool.{lt-ltb, le-ltb, cases_Bool as closed_or}
 use Rattle.lc_stage.specs.declared.view.Reservation.{Reservation}
 use Rattle.lc_stage.specs.declared.receipt.Receipt.{Receipt}
 use Rattle.lc_stage.specs.Staging.{Owns, rank, later, latest, newest, with_newest, reservation}
@@ -34,10 +34,6 @@ of_closed r rs e = ap (λ (b : Bool). cond b (later r (latest rs)) (latest rs)) 
 
 of_open : (r : Reservation) (rs : List Reservation) → r.closed ≡ false → latest (r ∷ rs) ≡ latest rs
 of_open r rs e = ap (λ (b : Bool). cond b (later r (latest rs)) (latest rs)) e
-
-closed_or : (b : Bool) → (b ≡ true) ⊎ (b ≡ false)
-closed_or true = inl refl
-closed_or false = inr refl
 
 -- that of two seats together is the later of theirs
 pub latest_append : (xs ys : List Reservation) → latest (xs ++ ys) ≡ later (latest xs) (latest ys)
