@@ -4,6 +4,7 @@ use Rattle.std.specs.Prelude.{◌↔◌, IsTrue, slice_get, if◌then◌else◌}
 use Rattle.std.specs.List.{list_any}
 use Rattle.std.proofs.lemmas.Bool.{cases_Bool, false_from_ne_true, true_from_ne_false, or_right, or_from}
 use Rattle.std.proofs.lemmas.List.Elements.{All-head, All-tail, All-append, All-map, All-filter}
+use Rattle.std.proofs.lemmas.List.Folds.{list_any_none as any-none}
 use Rattle.lc_range.specs.RangeSet.{Has}
 use Rattle.lc_record.specs.Content.{Content, segment_of}
 use Rattle.lc_record.specs.Transaction.{Transaction, all_set, is_member, locks, holds}
@@ -46,11 +47,6 @@ find-right p (z ∷ xs) ys none = elim (p z) as (λ b. (if b then Some z else fi
   | true ↦ λ e. absurd cc
   | false ↦ λ e. find-right p xs ys e
 ] none
-
-any-none : {A : Type 0} (p : A → Bool) (xs : List A) → All (λ x. p x ≡ false) xs → list_any p xs ≡ false
-any-none p [] all = refl
-any-none p (x ∷ xs) all =
-    or_from (p x) (list_any p xs) (All-head (λ y. p y ≡ false) x xs all) (any-none p xs (All-tail (λ y. p y ≡ false) x xs all))
 
 any-unclosed : (p : Transaction → Bool) (history : History) → All (λ u. p u ≡ false) (unclosed history) → list_any (λ e. not e.closed && p e.transaction) history ≡ false
 any-unclosed p [] all = refl

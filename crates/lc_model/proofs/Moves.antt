@@ -3,7 +3,7 @@ use Rattle.std.proofs.Common.{◌≡◌, ◌≢◌, ◌⊎◌, ℕ, suc, ◌+◌
 use Rattle.std.specs.Prelude.{if◌then◌else◌}
 use Rattle.std.proofs.Math.Nat.{le_refl}
 use Rattle.std.proofs.lemmas.List.Elements.{All-cons, All-head, All-tail, All-take, All-weaker, filter-append}
-use Rattle.std.proofs.lemmas.List.{map-append, take_all as take-all}
+use Rattle.std.proofs.lemmas.List.{map-append, take_all as take-all, take-append-le as take-front}
 use Rattle.lc_record.proofs.LockLemmas.{lock_holds}
 use Rattle.lc_record.specs.Content.{Content}
 use Rattle.lc_record.specs.Transaction.{Transaction, IsWellFormed, locks, effect, effects}
@@ -24,7 +24,6 @@ use Rattle.lc_model.proofs.Lists.{All-from_map}
 use Rattle.lc_model.specs.Merge.{Page}
 use Rattle.lc_model.specs.Stored.{Disks, Fits, IsOnPages, Shows, Stands, base, records_of, up_to, page_bytes, acked, stable_number}
 use Rattle.lc_model.specs.Moves.{update_at, with_begun, with_opened, with_settled, with_reset, with_dropped, page_now}
-use Rattle.lc_model.proofs.Pages.{take-front}
 use Rattle.lc_model.proofs.Shown.{kept-more, get-acked, known-nodes, passing-more, proper-well}
 
 -- Of the machine

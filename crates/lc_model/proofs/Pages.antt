@@ -3,6 +3,7 @@ use Rattle.std.proofs.Common.{◌≡◌, ◌⊎◌, ℕ, zero, suc, ◌+◌, ◌
 use Rattle.std.specs.Prelude.{if◌then◌else◌, slice_get}
 use Rattle.std.proofs.lemmas.Bool.{cases_lt}
 use Rattle.std.proofs.lemmas.List.Elements.{All-head, All-tail, All-append, All-contains, All-filter, All-map, filter-append}
+use Rattle.std.proofs.lemmas.List.{length-take-le as take-length}
 use Rattle.lc_record.specs.Content.{Content, segment_of}
 use Rattle.lc_record.specs.Transaction.{Transaction, IsWellFormed, locks, effects}
 use Rattle.lc_record.specs.declared.record.Record.{Record}
@@ -17,20 +18,6 @@ use Rattle.lc_model.proofs.RecordBytes.{sets-locks}
 use Rattle.lc_model.proofs.Merging.{by_number-all, of_a_segment, counted-length}
 
 -- Lists
-
-pub take-front : {X : Type 0} (k : ℕ) (xs ys : List X) → k ≤ length xs → take k (xs ++ ys) ≡ take k xs
-take-front zero xs ys within = refl
-take-front (suc k) [] ys within = absurd (omega arith)
-take-front (suc k) (x ∷ xs) ys within =
-    let less : k ≤ length xs = omega arith in
-    ap (λ zs. x ∷ zs) (take-front k xs ys less)
-
-pub take-length : {X : Type 0} (k : ℕ) (xs : List X) → k ≤ length xs → length (take k xs) ≡ k
-take-length zero xs within = refl
-take-length (suc k) [] within = absurd (omega arith)
-take-length (suc k) (x ∷ xs) within =
-    let less : k ≤ length xs = omega arith in
-    ap suc (take-length k xs less)
 
 -- What is kept has the first transactions of each segment
 

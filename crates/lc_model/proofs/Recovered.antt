@@ -7,6 +7,7 @@ use Rattle.std.proofs.lemmas.Bool.{cases_lt}
 use Rattle.std.proofs.lemmas.Nat.{div-add-mod'}
 use Rattle.std.proofs.lemmas.Option.{slice_get_within, slice_get_past}
 use Rattle.std.proofs.lemmas.List.Elements.{All-nil, All-weaker, All-contains, Contains-append_right}
+use Rattle.std.proofs.lemmas.List.{length-take-le as take-length}
 use Rattle.lc_record.specs.Content.{Content, segment_of}
 use Rattle.lc_record.specs.Transaction.{Transaction, effects}
 use Rattle.lc_record.specs.Geometry.{segment_len}
@@ -23,7 +24,6 @@ use Rattle.lc_model.specs.Merge.{Page, Store, greatest, all_records, page_number
 use Rattle.lc_model.specs.Stored.{Disks, Fits, IsImage, IsOnPages, Stands, base, up_to, page_bytes}
 use Rattle.lc_model.specs.Recovered.{HasByte, IsBehind, AreRenewed, IsReadable, recovered_disks}
 use Rattle.lc_model.proofs.Numbers.{part-replicate, length-shape, numbered-byte, at_most-greatest}
-use Rattle.lc_model.proofs.Pages.{take-length}
 use Rattle.lc_model.proofs.Shown.{kept_of}
 use Rattle.lc_model.proofs.Result.{Known, known, merged, shape-effects, shape-pages, part-known}
 

@@ -5,6 +5,7 @@ use Rattle.std.proofs.Math.Nat.{max-le, le-max_left, le-max_right, le_antisymm}
 use Rattle.std.proofs.lemmas.Bool.{cases_lt, and_parts as both-true}
 use Rattle.std.proofs.lemmas.Option.{slice_get_within}
 use Rattle.std.proofs.lemmas.List.Elements.{All-weaker, All-contains}
+use Rattle.std.proofs.lemmas.List.{take-append-le as take-front}
 use Rattle.lc_record.specs.Content.{Content, put, on_segment, segment_of}
 use Rattle.lc_record.specs.Transaction.{Transaction, Written, IsWellFormed, writes_on, effects}
 use Rattle.lc_record.specs.Geometry.{segment_len}
@@ -25,7 +26,7 @@ use Rattle.lc_model.specs.Stored.{Disks, Fits, IsImage, IsOnPages, Shows, Stands
 use Rattle.lc_model.proofs.Visible.{contains-count}
 use Rattle.lc_model.specs.Recovered.{HasByte}
 use Rattle.lc_model.proofs.Numbers.{one-number, has-record, part-replicate, length-shape, numbered-byte, greatest-at_most, greatest-all, all-greatest}
-use Rattle.lc_model.proofs.Pages.{take-front, kept-first, by_number-some, page-byte}
+use Rattle.lc_model.proofs.Pages.{kept-first, by_number-some, page-byte}
 use Rattle.lc_model.proofs.Shown.{kept_of, proper-well, Shown, shown-of, page-read, on_pages-number, acked-within}
 
 -- Shapes

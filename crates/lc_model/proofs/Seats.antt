@@ -3,6 +3,7 @@ use Rattle.std.proofs.Common.{◌≡◌, ◌≢◌, ℕ, suc, ◌+◌, Bool, tru
 use Rattle.std.specs.Prelude.{if◌then◌else◌}
 use Rattle.std.specs.List.{list_any}
 use Rattle.std.proofs.lemmas.List.Elements.{filter-append}
+use Rattle.std.proofs.lemmas.List.Folds.{list_any-append}
 use Rattle.std.proofs.Math.Bool.{or-false, or-true}
 use Rattle.lc_record.specs.Content.{Content, put, on_segment}
 use Rattle.lc_record.specs.Transaction.{Transaction, Written, writes_on, effect, effects}
@@ -124,11 +125,6 @@ pub running-dropped_other : (s : State) (node thread n k : ℕ) → Differ node 
 running-dropped_other s node thread n k differ = dropped-other node thread n k s.running differ
 
 -- Unclosed entries
-
-list_any-append : {A : Type 0} (p : A → Bool) (xs ys : List A) → list_any p (xs ++ ys) ≡ (list_any p xs || list_any p ys)
-list_any-append p [] ys = refl
-list_any-append p (x ∷ xs) ys =
-    elim (p x) as (λ b. (b || list_any p (xs ++ ys)) ≡ ((b || list_any p xs) || list_any p ys)) [ true ↦ refl | false ↦ list_any-append p xs ys ]
 
 pub unclosed-appended : (s : State) (t : Transaction) → has_unclosed t.node t.thread (appended s t) ≡ true
 unclosed-appended s t =

@@ -4,10 +4,10 @@ use mathlib.Core.Logic.{dite}
 use native.Mathlib.Decide.{dec_le}
 use Rattle.std.specs.Prelude.{slice_get}
 use Rattle.std.proofs.lemmas.Option.{slice_get_read, same_Some as some_same}
-use Rattle.std.proofs.lemmas.List.{get_or_default}
+use Rattle.std.proofs.lemmas.List.{get_or_default, length-set as length_set}
 use Rattle.lc_record.proofs.ListLemmas.{slice_get-set_same as get_same, slice_get-set_other as get_other}
 use Rattle.lc_node.specs.Each.{Each}
-use Rattle.lc_node.proofs.Backwards.{length_set, got_at}
+use Rattle.lc_node.proofs.Backwards.{got_at}
 
 module _ {A : Type 0} (R : A → A → Type 0) where
   pub record Forwards (xs now : List A) (n : ℕ) : Type 0 where

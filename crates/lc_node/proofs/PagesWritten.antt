@@ -1,8 +1,8 @@
 -- What the pages of held segments are behind their writes.
 use Rattle.std.proofs.Common.{◌≡◌, ℕ, zero, suc, ◌+◌, ◌*◌, ◌<◌, ◌≤◌, List, [], ◌∷◌, All, Some, None, length, take, refl, set, get_or, sym, ap, subst, ◌∙◌, inl, inr, arith}
-use Rattle.std.specs.Prelude.{Option, Result, Ok, Err, IfOk, IsSomeAnd, IsSome, slice_get}
+use Rattle.std.specs.Prelude.{Option, IsSomeAnd, IsSome, slice_get}
 use Rattle.std.proofs.lemmas.Bool.{cases_lt, cases_eq, eq-eqb, ne_eqb, lt-ltb, le-ltb}
-use Rattle.std.proofs.lemmas.List.{take_more, take_all, get_or_default}
+use Rattle.std.proofs.lemmas.List.{take_more, take_all, get_or_default, length-set as length_set}
 use Rattle.std.proofs.lemmas.Option.{slice_get_read, slice_get_within, same_Some as some_same}
 use Rattle.lc_lock.specs.Loans.{IsLoanOf}
 use Rattle.std.proofs.lemmas.List.Elements.{All-append}
@@ -30,7 +30,7 @@ use Rattle.lc_node.specs.Truncates.{HasPagesIn, IsFolded, IsOfTruncation, IsUntr
 use Rattle.lc_node.specs.declared.held.HeldSide.{HeldSide}
 use Rattle.lc_node.specs.declared.page_area.PageArea.{PageArea}
 use Rattle.lc_node.specs.declared.page_area.PageArea.TheVariants.{Serves}
-use Rattle.lc_node.proofs.Backwards.{length_set, got_at}
+use Rattle.lc_node.proofs.Backwards.{got_at}
 use Rattle.lc_node.proofs.Forwards.{Forwards, next, all_of}
 use Rattle.lc_node.proofs.Knowing.{all_alone}
 
@@ -77,10 +77,6 @@ token_seen o t old new is sees = subst (λ x. SeesToken old x new) (sym is) sees
 
 pub none_seen : (o : Option Token) (old new : List ℕ) → o ≡ None → new ≡ old → SeesToken old o new
 none_seen o old new is same = subst (λ x. SeesToken old x new) (sym is) same
-
-pub if_ok : {A E : Type 0} (r : Result A E) (P Q : A → Type 0) → ((x : A) → P x → Q x) → IfOk r P → IfOk r Q
-if_ok (Ok x) P Q to p = to x p
-if_ok (Err e) P Q to p = p
 
 -- the item of a walk
 pub got_item : {A : Type 0} (ys : List A) (k : ℕ) (y : A) → k < length ys → y ≡ get_or ys k y → slice_get ys k ≡ Some y

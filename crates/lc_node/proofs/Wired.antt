@@ -5,6 +5,7 @@ use native.Mathlib.Decide.{dec_le, ℕ_discrete as dec_eq}
 use Rattle.std.specs.Prelude.{slice_get, All, Option, option_and_then}
 use Rattle.std.proofs.lemmas.List.Elements.{All-nil, All-push}
 use Rattle.std.proofs.lemmas.Option.{slice_get_within, slice_get-get_or, same_Some as some_same}
+use Rattle.std.proofs.lemmas.List.{length-set as length_set}
 use Rattle.lc_record.proofs.ListLemmas.{slice_get-append_left as get_front, All-slice_get as all_got, slice_get_push as get_last, slice_get-set_same as get_same, slice_get-set_other as get_other}
 use Rattle.lc_node.specs.Peers.{place_of}
 use Rattle.lc_node.specs.Receiving.{origin_of}
@@ -13,7 +14,6 @@ use Rattle.lc_node.specs.Wiring.{HasSends, HasTakes, HasPeers, IsUnsent, IsUntak
 use Rattle.lc_node.specs.declared.peer_end.PeerEnd.{PeerEnd}
 use Rattle.lc_node.specs.declared.peer_inbox.PeerInbox.{PeerInbox}
 use Rattle.lc_node.specs.declared.wiring.Ends.{Ends}
-use Rattle.lc_node.proofs.Backwards.{length_set}
 use Rattle.lc_node.proofs.PeerPlaces.{place_below, place_above}
 
 -- How many ends there are

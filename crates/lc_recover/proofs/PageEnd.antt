@@ -1,7 +1,7 @@
 -- Behind the last page that is written.
-use Rattle.std.proofs.Common.{◌≡◌, ◌⊎◌, ℕ, ◌+◌, ◌-◌, ◌*◌, false, Option, Some, None, List, [], ◌∷◌, ◌++◌, length, drop, Contains, refl, sym, ◌∙◌, ap, subst, arith, inl, inr}
+use Rattle.std.proofs.Common.{◌≡◌, ◌⊎◌, ℕ, ◌+◌, ◌-◌, ◌*◌, false, Option, Some, None, List, [], ◌++◌, length, drop, Contains, refl, sym, ◌∙◌, ap, subst, arith, inl, inr}
 use Rattle.std.specs.Prelude.{slice_get, slice_index_or, if◌then◌else◌, IfOk, IsTrue, Result}
-use Rattle.std.proofs.lemmas.List.{drop_all, length-append, nil_from_length as empty_list}
+use Rattle.std.proofs.lemmas.List.{drop_all, length-append, nil_from_length as empty_list, append-nil as append_nothing}
 use Rattle.std.proofs.lemmas.List.Elements.{All-contains}
 use Rattle.std.proofs.lemmas.Option.{none-some, slice_get_within, same_Some as one_item}
 use Rattle.std.proofs.lemmas.Result.{IfOk-weaker}
@@ -53,10 +53,6 @@ module _ (logs : List (List ℕ)) (store : Store) (changes : List Change) (index
       (one.0, one.1, (one.2, one.3))
 
 -- Behind the last page
-
-append_nothing : {A : Type 0} (xs : List A) → xs ++ [] ≡ xs
-append_nothing [] = refl
-append_nothing (x ∷ xs) = ap (λ ys. x ∷ ys) (append_nothing xs)
 
 module _ (g : Geometry) (w : PageWrites) (i : IsWriting g w) (end : w.next ≡ length w.merged.changes.items) where
   back-empty : i.between.back ≡ []

@@ -2,7 +2,7 @@
 use Rattle.std.proofs.Common.{◌≡◌, ℕ, zero, suc, ◌<◌, ◌≤◌, List, [], ◌∷◌, ◌++◌, length, get_or, take, drop, Option, Some, None, All, refl, sym, ◌∙◌, ap, subst, arith, inl, inr}
 use Rattle.std.specs.Prelude.{slice_get, slice_index_or}
 use Rattle.std.specs.Option.{option_or}
-use Rattle.std.proofs.lemmas.List.{append-nil, drop_all}
+use Rattle.std.proofs.lemmas.List.{append-nil, drop_all, get_or_past}
 use Rattle.std.proofs.lemmas.List.Elements.{All-nil, All-cons, All-head, All-tail, All-weaker}
 use Rattle.std.proofs.lemmas.Option.{same_Some}
 use Rattle.lc_record.specs.Newest.{byte_from, byte_in, byte_of}
@@ -114,11 +114,6 @@ one_range_more segment place front r old =
 
 -- Words behind others
 
-past : {A : Type 0} (n : ℕ) (xs : List A) (d : A) → length xs ≤ n → get_or xs n d ≡ d
-past n [] d le = refl
-past zero (x ∷ xs) d le = absurd (omega (arith, le))
-past (suc n) (x ∷ xs) d le = past n xs d (omega (arith, le))
-
 none_from : (offset place : ℕ) → byte_from offset [] place ≡ None
 none_from zero place = refl
 none_from (suc offset) zero = refl
@@ -133,7 +128,7 @@ pub put_nothing : (logs : List (List ℕ)) (log place words len offset at : ℕ)
     → old ≡ option_or (byte_from offset (take len (bytes_of (drop words (drop place (slice_index_or logs log []))))) at) old
 put_nothing logs log place words len offset at old le =
     let none : drop words (drop place (slice_index_or logs log [])) ≡ [] =
-    ap (λ (l : List ℕ). drop words (drop place l)) (past log logs [] le) ∙ ap (drop words) (drop_all place [] (omega arith)) ∙ drop_all words [] (omega arith) in
+    ap (λ (l : List ℕ). drop words (drop place l)) (get_or_past logs log [] le) ∙ ap (drop words) (drop_all place [] (omega arith)) ∙ drop_all words [] (omega arith) in
     sym (ap (λ (l : List ℕ). option_or (byte_from offset (take len (bytes_of l)) at) old) none
     ∙ ap (λ (l : List ℕ). option_or (byte_from offset l at) old) (take_none len (bytes_of []) refl)
     ∙ ap (λ (o : Option ℕ). option_or o old) (none_from offset at))

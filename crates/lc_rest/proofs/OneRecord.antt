@@ -1,5 +1,5 @@
 -- The record of the transaction that a record stands for is that record.
-use Rattle.std.proofs.Common.{◌≡◌, ◌⊎◌, ℕ, zero, suc, ◌+◌, ◌<◌, ◌≤◌, Bool, true, false, ◌==◌, List, [], ◌∷◌, map, length, take, drop, Option, Some, None, All, refl, sym, ◌∙◌, ap, subst, arith, inl, inr, true≢false, eqb-true, eq-eqb}
+use Rattle.std.proofs.Common.{◌≡◌, ℕ, zero, suc, ◌+◌, ◌<◌, ◌≤◌, Bool, true, false, ◌==◌, List, [], ◌∷◌, map, length, take, drop, Option, Some, None, All, refl, sym, ◌∙◌, ap, subst, arith, inl, inr, true≢false, eqb-true, eq-eqb}
 use Rattle.std.specs.Prelude.{◌↔◌, if◌then◌else◌, slice_get, is_some}
 use Rattle.std.specs.Option.{option_or}
 use Rattle.std.proofs.lemmas.List.Elements.{All-nil, All-cons, All-head, All-tail}
@@ -16,6 +16,7 @@ use Rattle.lc_record.proofs.ViewLemmas.{get_taken}
 use Rattle.lc_record.proofs.ListLemmas.{option_or-some as or-first, slice_get-drop as at_drop, option_or_right as some-or, option_or_cases as or-some, none_from_not_some as none-of}
 use Rattle.lc_record.proofs.PuttingLemmas.{byte_from-some as from-some, byte_from-known as some-from}
 use Rattle.std.proofs.lemmas.Option.{slice_get_past}
+use Rattle.std.proofs.lemmas.Bool.{cases_lt as nat_cases}
 use Rattle.std.proofs.Math.Bool.{and-true}
 use Rattle.lc_model.proofs.Bytes.{over_byte, byte-laid, same-items}
 use Rattle.lc_model.specs.Merging.{byte_at}
@@ -92,9 +93,6 @@ part-past f from (suc n) (suc i) less = part-past f (from + 1) n i (omega (arith
 part-none : {A : Type 0} (f : ℕ → List A) (from n : ℕ) → segment_of 0 (map f (counting from n)) ≡ []
 part-none f from zero = refl
 part-none f from (suc n) = refl
-
-nat_cases : (i n : ℕ) → (i < n) ⊎ (n ≤ i)
-nat_cases i n = grind arith
 
 one_more : (i : ℕ) → 1 + i ≡ suc i
 one_more i = omega arith
