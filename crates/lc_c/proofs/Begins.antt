@@ -1,14 +1,12 @@
 -- One thread after another is asked to begin.
-use Rattle.std.proofs.Common.{◌≡◌, ◌<◌, ◌+◌, ◌-◌, ℕ, suc, true, false, List, refl, sym, subst, arith}
+use Rattle.std.proofs.Common.{◌≡◌, ◌<◌, ◌+◌, ◌-◌, ℕ, true, false, List, refl, sym, subst}
 use Rattle.std.specs.Prelude.{Ok}
 use Rattle.lc_model.specs.declared.event.Event.TheVariants.{Begin}
 use Rattle.lc_model.specs.declared.reply.Reply.{Reply}
+use Rattle.lc_record.proofs.ListLemmas.{sub_suc as one_more}
 use Rattle.lc_c.specs.BeginsFree.{BeginsFrom, GoesOn, is_taken}
 use Rattle.lc_c.specs.Stage.{StepsStage}
 use Rattle.lc_c.specs.declared.stage.Stage.{Stage}
-
-one_more : (n k : ℕ) → k < n → suc (n - (k + 1)) ≡ n - k
-one_more n k lt = omega (arith, lt)
 
 module _ (n k node : ℕ) (writing reading : List ℕ) (old mid : Stage) (first : Reply) where
   pub next_asked : k < n → StepsStage old (Begin node k writing reading) (Ok first) mid → is_taken first ≡ true → (found : ℕ) (reply : Reply) (new : Stage)

@@ -5,10 +5,10 @@ use Rattle.std.proofs.lemmas.Bool.{eqb-true, lt-ltb}
 use Rattle.std.proofs.lemmas.Option.{slice_get_within}
 use Rattle.lc_disk.specs.declared.area.Area.{Ghosts}
 use Rattle.lc_record.specs.declared.geometry.Geometry.{Geometry}
+use Rattle.lc_record.proofs.ListLemmas.{slice_get_some as some_at, slice_get-map_some as get-map}
 use Rattle.lc_model.specs.Refusals.{is_at}
 use Rattle.lc_model.specs.State.{Place, At, Travelling}
 use Rattle.lc_recover.specs.Reads.{AreOfBytes}
-use Rattle.lc_recover.proofs.Images.{get-map}
 use Rattle.lc_rest.specs.Found.{Found, machine_disks, machine_setting, machine_state, own_records}
 use Rattle.lc_rest.specs.Holder.{IsPlaced, node_of}
 use Rattle.lc_rest.specs.declared.holder.Holder.{Holder}
@@ -33,7 +33,6 @@ use Rattle.lc_core.specs.declared.segment_piece.SegmentPiece.{SegmentPiece}
 use Rattle.lc_core.specs.declared.segment_pieces.SegmentPieces.{SegmentPieces}
 use Rattle.lc_core.specs.declared.slot.Slot.{Slot}
 use Rattle.lc_core.specs.declared.up.Up.{Up}
-use Rattle.lc_core.proofs.Seating.{some_at}
 
 -- where a token is, by the machine
 

@@ -2,7 +2,7 @@
 use Rattle.std.proofs.Common.{◌≡◌, ℕ, zero, suc, ◌+◌, ◌-◌, ◌<◌, ◌≤◌, true, false, ◌==◌, List, [], ◌∷◌, map, filter, length, take, drop, replicate, All, Option, Some, None, refl, sym, ap, subst, ◌∙◌, inl, inr, arith, true≢false}
 use Rattle.std.specs.Prelude.{slice_get, IsSome, if◌then◌else◌}
 use Rattle.std.specs.List.{AllByRecursion}
-use Rattle.std.proofs.lemmas.List.{length-map, length-replicate}
+use Rattle.std.proofs.lemmas.List.{length-map, length-replicate, take_all}
 use Rattle.std.proofs.lemmas.List.Elements.{All-nil, All-head, All-tail, All-filter}
 use Rattle.std.proofs.lemmas.Option.{slice_get_within}
 use Rattle.lc_disk.specs.declared.area.Area.{Ghosts}
@@ -15,6 +15,7 @@ use Rattle.lc_record.specs.Transaction.{Transaction, effects}
 use Rattle.lc_record.specs.declared.geometry.Geometry.{Geometry}
 use Rattle.lc_record.specs.declared.part.Part.{Part}
 use Rattle.lc_record.specs.declared.record.Record.{Record}
+use Rattle.lc_record.proofs.ListLemmas.{slice_get_some as get-some, drop-take_same as drop-taken, slice_get_from_map as from-map}
 use Rattle.lc_log.specs.LogText.{IsWhole}
 use Rattle.lc_model.specs.History.{Entry as Reserved, entries_of, value}
 use Rattle.lc_model.specs.Merge.{Page}
@@ -34,7 +35,6 @@ use Rattle.lc_core.specs.Slots.{FitsToken}
 use Rattle.lc_core.specs.declared.log.Log.{Log}
 use Rattle.lc_core.specs.declared.running.Running.{Running}
 use Rattle.std.specs.List.{list_any}
-use Rattle.std.proofs.Math.Seq.{take-nil}
 use Rattle.lc_tx.specs.Holders.{reads, writer_of}
 use Rattle.lc_tx.specs.Images.{IsHere, bytes_of, holders_of}
 use Rattle.lc_tx.specs.declared.holders.Holders.{Holders}
@@ -45,7 +45,6 @@ use Rattle.lc_model.specs.State.{is_unclosed}
 use Rattle.lc_model.proofs.Merging.{of_a_segment, counted-length}
 use Rattle.lc_model.proofs.Numbers.{part-replicate}
 use Rattle.lc_model.proofs.Result.{shape-effects}
-use Rattle.lc_recover.proofs.Images.{from-map, get-some}
 use Rattle.lc_core.specs.Desk.{FitsDesk, FitsSeat}
 use Rattle.lc_core.specs.Here.{beside, number_at, number_in, the_images}
 use Rattle.lc_core.specs.Node.{FitsNode}
@@ -160,11 +159,6 @@ map-drop h zero xs = refl
 map-drop h (suc n) [] = refl
 map-drop h (suc n) (x ∷ xs) = map-drop h n xs
 
-drop-taken : {A : Type 0} (n : ℕ) (xs : List A) → drop n (take n xs) ≡ []
-drop-taken zero xs = refl
-drop-taken (suc n) [] = refl
-drop-taken (suc n) (x ∷ xs) = drop-taken n xs
-
 to-recursion : (rs : List Record) → All IsWhole rs → AllByRecursion IsWhole rs
 to-recursion [] all = tt
 to-recursion (r ∷ rs) all = (All-head IsWhole r rs all, to-recursion rs (All-tail IsWhole r rs all))
@@ -200,16 +194,11 @@ pub segment-last : (f : Found) → IsConsistent f → (segment number : ℕ) →
 segment-last f is segment number same =
     let ts : List Transaction = transactions_of f.geometry f.records in
     let count : number ≡ f.numbers segment + length (filter (sets segment) ts) = same ∙ counted-length f.numbers ts segment in
-    let all : take (number - f.numbers segment) (filter (sets segment) ts) ≡ filter (sets segment) ts = take_of_length-le (number - f.numbers segment) (filter (sets segment) ts) (omega (arith, count)) in
+    let all : take (number - f.numbers segment) (filter (sets segment) ts) ≡ filter (sets segment) ts = take_all (number - f.numbers segment) (filter (sets segment) ts) (omega (arith, count)) in
     ap (λ (us : List Transaction). segment_of segment (effects (take (number - f.numbers segment) (filter (sets segment) us)) f.base)) (transactions-are f.geometry f.records)
     ∙ ap (λ (us : List Transaction). segment_of segment (effects us f.base)) all
     ∙ sym (of_a_segment f.base ts segment (all-well f.geometry f.records is.tested.taken))
     ∙ ap (segment_of segment) (sym (value-is f))
-  where
-    take_of_length-le : {A : Type 0} (n : ℕ) (xs : List A) → length xs ≤ n → take n xs ≡ xs
-    take_of_length-le n [] less = take-nil n
-    take_of_length-le zero (x ∷ xs) less = absurd (omega (arith, less))
-    take_of_length-le (suc n) (x ∷ xs) less = ap (λ l. x ∷ l) (take_of_length-le n xs (omega (arith, less)))
 
 value-shape : (f : Found) → IsConsistent f → map length (value f.base [] (machine_state f).history) ≡ replicate f.geometry.segments (segment_len f.geometry)
 value-shape f is = ap (λ (c : Content). map length c) (value-is f) ∙ shape-effects (transactions_of f.geometry f.records) f.base ∙ is.stored.shape

@@ -6,6 +6,7 @@ use Rattle.std.proofs.lemmas.List.{length-set}
 use Rattle.std.proofs.lemmas.List.Elements.{All-head, All-tail}
 use Rattle.lc_record.specs.Content.{Content, segment_of}
 use Rattle.lc_record.specs.Transaction.{Transaction, is_member, effect}
+use Rattle.lc_record.proofs.ListLemmas.{slice_get_push as get-end}
 use Rattle.lc_model.specs.History.{Entry, value, entries_of, reserved, is_of}
 use Rattle.lc_model.specs.State.{Setting, State, running_of, has_unclosed, is_by, without}
 use Rattle.lc_model.specs.Machine.{appended}
@@ -37,10 +38,6 @@ use Rattle.lc_core.proofs.Holding.{find-left, find-right}
 none-found : {A : Type 0} (p : A → Bool) (xs : List A) → All (λ x. p x ≡ false) xs → find p xs ≡ None
 none-found p [] all = refl
 none-found p (x ∷ xs) all = rw (All-head (λ y. p y ≡ false) x xs all) (none-found p xs (All-tail (λ y. p y ≡ false) x xs all))
-
-pub get-end : {A : Type 0} (xs : List A) (x : A) → slice_get (xs ++ x ∷ []) (length xs) ≡ Some x
-get-end [] x = refl
-get-end (y ∷ xs) x = get-end xs x
 
 pub get-before : {A : Type 0} (xs ys : List A) (k : ℕ) (x : A) → slice_get xs k ≡ Some x → slice_get (xs ++ ys) k ≡ Some x
 get-before [] ys k x is = absurd cc

@@ -1,6 +1,6 @@
 -- The area behind those of the logs is that of a segment.
 use Rattle.std.proofs.Common.{◌≡◌, ℕ, ◌-◌, ◌≤◌, List, drop, slice_get, ap, ◌∙◌, arith}
-use Rattle.lc_recover.proofs.Images.{get-drop}
+use Rattle.lc_record.proofs.ListLemmas.{slice_get-drop as get-drop}
 
 pub behind_logs : {D : Type 0} (segments areas : List D) (count n place : ℕ) → segments ≡ drop count areas → n ≡ count → n ≤ place
     → slice_get segments (place - n) ≡ slice_get areas place

@@ -3,7 +3,7 @@ use Rattle.std.proofs.Common.{◌≡◌, ℕ, zero, suc, ◌+◌, ◌-◌, ◌<�
 use Rattle.std.specs.Prelude.{slice_get, slice_index_or, vec_len, IsSome, if◌then◌else◌}
 use Rattle.std.specs.List.{list_all}
 use Rattle.std.proofs.lemmas.Option.{slice_get_read}
-use Rattle.std.proofs.lemmas.Bool.{le-leb, leb-true}
+use Rattle.std.proofs.lemmas.Bool.{le-leb, leb-true, and_parts as and-both}
 use Rattle.lc_disk.specs.declared.area.Area.{Ghosts}
 use Rattle.lc_record.specs.Part.{number_in, part_of}
 use Rattle.lc_record.specs.Transaction.{is_member}
@@ -11,6 +11,7 @@ use Rattle.lc_record.specs.declared.geometry.Geometry.{Geometry}
 use Rattle.lc_record.specs.declared.part.Part.{Part}
 use Rattle.lc_record.specs.declared.record.Lock.{Lock}
 use Rattle.lc_record.specs.declared.record.Record.{Record}
+use Rattle.lc_record.proofs.ListLemmas.{slice_get-map_some as get-map}
 use Rattle.lc_token.specs.Backlog.{IsNext, is_known as knows}
 use Rattle.lc_token.specs.declared.received.Received.{Received}
 use Rattle.lc_token.specs.declared.received.Received.TheVariants.{Applied, HeldBack, Ignored}
@@ -23,7 +24,6 @@ use Rattle.lc_model.specs.Stored.{records_of}
 use Rattle.lc_model.specs.declared.event.Event.TheVariants.{Deliver}
 use Rattle.lc_model.specs.declared.refusal.Refusal.TheVariants.{Unknown}
 use Rattle.lc_model.specs.declared.reply.Reply.TheVariants.{Ignored as IsIgnored, Refused}
-use Rattle.lc_model.proofs.Rows.{and-both}
 use Rattle.lc_core.specs.Delivers.{Brings, CopiesPart, HasNewPart}
 use Rattle.lc_core.specs.Here.{beside}
 use Rattle.lc_core.specs.Node.{FitsNode, GoesOn}
@@ -42,7 +42,6 @@ use Rattle.lc_core.specs.declared.running.Running.{Running}
 use Rattle.lc_core.specs.declared.slot.Slot.{Slot}
 use Rattle.lc_core.proofs.Away.{stands_there}
 use Rattle.lc_core.proofs.Caught.{ignored_is}
-use Rattle.lc_core.proofs.Closes.{get-map}
 use Rattle.lc_core.proofs.Delivered.{acked_counted}
 use Rattle.lc_core.proofs.Dropping.{still}
 use Rattle.lc_core.proofs.Gained.{aside_received, deliver_settled, deliver_trimmed, deliver_turns, deliver_unknown, log_received, logs_received}

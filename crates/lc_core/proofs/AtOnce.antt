@@ -1,6 +1,6 @@
 -- What a store that is up refuses at once.
 use Rattle.std.proofs.Common.{◌≡◌, ℕ, ◌<◌, Bool, true, false, ◌&&◌, List, Option, Some, None, get_or, sym, ap, ◌∙◌, arith}
-use Rattle.std.proofs.lemmas.Bool.{ltb-true}
+use Rattle.std.proofs.lemmas.Bool.{ltb-true, and_parts as and-both}
 use Rattle.std.proofs.lemmas.Option.{slice_get_read}
 use Rattle.std.specs.Prelude.{option_map, slice_get}
 use Rattle.std.specs.List.{list_all}
@@ -10,7 +10,7 @@ use Rattle.lc_model.specs.Refusals.{Named, named, are_known, acts_halted, is_kno
 use Rattle.lc_model.specs.State.{Setting, State}
 use Rattle.lc_model.specs.declared.event.Event.{Event}
 use Rattle.lc_model.specs.declared.refusal.Refusal.TheVariants.{Halted}
-use Rattle.lc_model.proofs.Rows.{and-both, common-halted, common-none}
+use Rattle.lc_model.proofs.Rows.{common-halted, common-none}
 use Rattle.lc_core.specs.Log.{is_failed}
 use Rattle.lc_core.specs.Numbers.{Numbers}
 use Rattle.lc_core.specs.Places.{same_some}

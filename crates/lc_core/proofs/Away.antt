@@ -14,6 +14,7 @@ use Rattle.lc_tx.specs.Tx.{KeepsLocked}
 use Rattle.lc_tx.specs.declared.image.Image.{Image as Picture}
 use Rattle.lc_tx.specs.declared.tx.Tx.{Tx}
 use Rattle.lc_tx.proofs.BesideLemmas.{runs_beside}
+use Rattle.lc_record.proofs.ListLemmas.{slice_get-map_some as get-map}
 use Rattle.lc_core.specs.Desk.{FitsDesk}
 use Rattle.lc_core.specs.Here.{the_images, number_in, number_at, image_at, beside}
 use Rattle.lc_core.specs.Leaves.{IsAsBefore}
@@ -24,7 +25,6 @@ use Rattle.lc_core.specs.Slots.{AreInPlace, Besides, besides_of}
 use Rattle.lc_core.specs.declared.desk.Desk.{Desk}
 use Rattle.lc_core.specs.declared.here.Here.{Here}
 use Rattle.lc_core.specs.declared.slot.Slot.{Slot}
-use Rattle.lc_core.proofs.Closes.{get-map}
 use Rattle.lc_core.proofs.Dropping.{runs_same, desk_seen, seat_beside}
 use Rattle.lc_core.proofs.Left.{same_items}
 use Rattle.lc_core.proofs.Seating.{set_same}

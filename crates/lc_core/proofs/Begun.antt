@@ -2,13 +2,14 @@
 use Rattle.std.proofs.Common.{◌≡◌, ℕ, zero, suc, ◌+◌, ◌<◌, ◌≤◌, Bool, true, false, not, ◌||◌, List, [], ◌∷◌, ◌++◌, map, length, filter, replicate, Option, Some, None, is_some, refl, sym, ap, subst, ◌∙◌, arith, inl, inr, eq-eqb, ne_eqb, leb-true, nat_le, true≢false}
 use Rattle.std.specs.Prelude.{◌↔◌, slice_get, slice_set, Result, Err, if◌then◌else◌}
 use Rattle.std.specs.List.{list_all}
-use Rattle.std.proofs.lemmas.Bool.{cases_eq, cases_Bool, or_cases, or_left, or_right, false≢true}
+use Rattle.std.proofs.lemmas.Bool.{cases_eq, cases_Bool, or_cases, or_left, or_right, false≢true, and_parts as and-both}
 use Rattle.std.proofs.lemmas.List.{length-set, length-map, length-replicate}
 use Rattle.lc_record.specs.Content.{Content, segment_of}
 use Rattle.lc_record.specs.Transaction.{Transaction, is_member}
 use Rattle.lc_record.specs.Geometry.{segment_len}
 use Rattle.lc_record.specs.Marks.{ascending, beside, counting}
 use Rattle.lc_record.specs.declared.geometry.Geometry.{Geometry}
+use Rattle.lc_record.proofs.LockLemmas.{member_left as in_first, member_right as in_second}
 use Rattle.lc_model.specs.History.{value}
 use Rattle.lc_model.specs.State.{Place, At, Setting, State, running_of, has_unclosed, is_held, is_locked}
 use Rattle.lc_model.specs.Sound.{Sound}
@@ -18,7 +19,7 @@ use Rattle.lc_model.specs.declared.event.Event.TheVariants.{Begin}
 use Rattle.lc_model.specs.declared.refusal.Refusal.{Refusal}
 use Rattle.lc_model.specs.declared.refusal.Refusal.TheVariants.{Busy, NotHere, OutOfTurn}
 use Rattle.lc_model.specs.declared.reply.Reply.TheVariants.{Ok as Accepted, Refused}
-use Rattle.lc_model.proofs.Rows.{begin-no_turn, begin-refused, begin-done, and-both, seat_known}
+use Rattle.lc_model.proofs.Rows.{begin-no_turn, begin-refused, begin-done, seat_known}
 use Rattle.lc_model.proofs.Seats.{new_one, running-begun, running-begun_other}
 use Rattle.lc_tx.specs.Holders.{reads, writer_of}
 use Rattle.lc_tx.specs.Images.{IsHere, IsLockable, IsFirstTaken, bytes_of, holders_of}
@@ -32,7 +33,7 @@ use Rattle.lc_tx.specs.declared.tx_fault.TxFault.{TxFault}
 use Rattle.lc_tx.specs.declared.tx_fault.TxFault.TheVariants.{Busy as IsBusy, NotHere as IsNotHere, NoRange as HasNoRange, OutOfSegment as IsOutside, NotLocked as IsNotLocked, NoMemory, TooLong as IsTooLong, SequenceSpent as IsSpent, EmptyRange as IsEmpty, TooManyRanges as AreTooMany, ReadOnly as IsReadOnly}
 use Rattle.lc_tx.proofs.BesideLemmas.{runs_beside, begin_keeps}
 use Rattle.lc_tx.proofs.HoldsLemmas.{asked_reading}
-use Rattle.lc_tx.proofs.MemberLemmas.{in_first, in_second, not_both, member_both}
+use Rattle.lc_tx.proofs.MemberLemmas.{not_both, member_both}
 use Rattle.lc_tx.proofs.StandsLemmas.{begun_stands}
 use Rattle.lc_tx.proofs.AscendLemmas.{set_is_ascending}
 use Rattle.lc_core.specs.Places.{get_set_same, get_set_other, same_some}

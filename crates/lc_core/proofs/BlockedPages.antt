@@ -4,7 +4,7 @@ use Rattle.std.specs.Prelude.{◌↔◌, IsTrue, slice_get, IsSome, option_map, 
 use Rattle.std.specs.List.{list_any}
 use Rattle.std.specs.Option.{unwrap_or}
 use Rattle.std.proofs.lemmas.Option.{slice_get-map, slice_get_cases}
-use Rattle.std.proofs.lemmas.Bool.{eq-eqb, eqb-true, false_from_ne_true}
+use Rattle.std.proofs.lemmas.Bool.{eq-eqb, eqb-true, false_from_ne_true, and_parts as and-both, and_from as both_true}
 use Rattle.std.proofs.lemmas.List.{length-map}
 use Rattle.lc_disk.specs.declared.area.Area.{Ghosts}
 use Rattle.lc_page.specs.Page.{Page}
@@ -14,7 +14,6 @@ use Rattle.lc_token.specs.declared.token.Token.{Token}
 use Rattle.lc_model.specs.Refusals.{is_at, is_up}
 use Rattle.lc_model.specs.Sound.{holders}
 use Rattle.lc_model.specs.State.{At, Setting, State}
-use Rattle.lc_model.proofs.Rows.{and-both}
 use Rattle.lc_core.specs.Due.{is_blocked_then, number_then}
 use Rattle.lc_core.specs.Here.{beside, number_at, number_in, the_images}
 use Rattle.lc_core.specs.Node.{FitsNode}
@@ -85,11 +84,6 @@ module _ {D : Type 0} (a : Ghosts D) where
 
     back : (k + 1) - 1 ≡ k
     back = omega arith
-
-    both_true : (b c : Bool) → b ≡ true → c ≡ true → (b && c) ≡ true
-    both_true true true is has = refl
-    both_true true false is has = absurd cc
-    both_true false c is has = absurd cc
 
     not_here : (P : Type 0) → (P → ⊥) → is_at node (s.place (k + 1)) ≡ false → Same P
     not_here P none away = (λ p. absurd (none p), λ is. absurd (true≢false (sym (and-both _ _ is).0 ∙ away)))

@@ -9,6 +9,8 @@ use Rattle.lc_record.specs.Part.{number_in, part_of}
 use Rattle.lc_record.specs.Transaction.{is_member}
 use Rattle.lc_record.specs.declared.part.Part.{Part}
 use Rattle.lc_record.specs.declared.record.Record.{Record}
+use Rattle.lc_record.proofs.ListLemmas.{slice_get-map_some as get-map}
+use Rattle.lc_model.proofs.Moves.{update_at-own as own_at}
 use Rattle.lc_token.specs.Backlog.{Backlog, Ascends, Receives, advanced, due_behind, is_known, keeping, numbered, run_of}
 use Rattle.lc_token.specs.declared.received.Received.{Received}
 use Rattle.lc_token.specs.declared.received.Received.TheVariants.{Applied, HeldBack, Ignored}
@@ -32,9 +34,8 @@ use Rattle.lc_core.specs.declared.desk.Desk.{Desk}
 use Rattle.lc_core.specs.declared.here.Here.{Here}
 use Rattle.lc_core.specs.declared.slot.Slot.{Slot}
 use Rattle.lc_core.proofs.Away.{with_slot, desk_away}
-use Rattle.lc_core.proofs.Closes.{get-map}
 use Rattle.lc_core.proofs.Dropping.{desk_seen}
-use Rattle.lc_core.proofs.Gained.{gained, awaits_still, slots_gained, own_at, other_segment}
+use Rattle.lc_core.proofs.Gained.{gained, awaits_still, slots_gained, other_segment}
 use Rattle.lc_core.proofs.Kept.{numbers, member_is, put_is, above_is, above_ascends, all_put, run_reaches, run_within, run_over}
 use Rattle.lc_core.proofs.Left.{same_items}
 use Rattle.lc_core.proofs.PartPut.{is_part, part_put}

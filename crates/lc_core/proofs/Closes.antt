@@ -1,10 +1,11 @@
 -- A reservation that is closed, and a transaction that set nothing and is over, at a node's desk.
-use Rattle.std.proofs.Common.{◌≡◌, ◌≢◌, ℕ, zero, suc, true, false, List, [], ◌∷◌, map, find, length, Some, None, refl, sym, ap, subst, ◌∙◌, inl, inr}
+use Rattle.std.proofs.Common.{◌≡◌, ◌≢◌, ℕ, true, false, List, [], ◌∷◌, map, find, length, Some, None, refl, sym, ap, subst, ◌∙◌, inl, inr}
 use Rattle.std.specs.Prelude.{slice_get, slice_set, if◌then◌else◌}
 use Rattle.std.proofs.lemmas.Bool.{false_from_ne_true}
 use Rattle.lc_record.specs.Content.{Content, segment_of}
 use Rattle.lc_record.specs.Transaction.{Transaction, all_set, effect}
 use Rattle.lc_record.proofs.SegmentLemmas.{length-writes_on}
+use Rattle.lc_record.proofs.ListLemmas.{slice_get-map_some as get-map}
 use Rattle.lc_range.specs.RangeSet.{Has}
 use Rattle.lc_range.specs.declared.range.Range.{Range}
 use Rattle.lc_model.specs.History.{Entry, History, value, entries_of, is_of}
@@ -46,11 +47,6 @@ entries_shut n node i (e ∷ es) =
       | true ↦ ap (λ l. shut node i e ∷ l) (entries_shut n node i es)
       | false ↦ entries_shut n node i es
     ]
-
-pub get-map : {A B : Type 0} (f : A → B) (xs : List A) (k : ℕ) (x : A) → slice_get xs k ≡ Some x → slice_get (map f xs) k ≡ Some (f x)
-get-map f [] k x is = absurd cc
-get-map f (y ∷ xs) zero x is = (let same : y ≡ x = cc in ap (λ z. Some (f z)) same)
-get-map f (y ∷ xs) (suc k) x is = get-map f xs k x is
 
 -- what another thread is doing fits as before
 seat_closed : (old new : Here) (node i j : ℕ) (content next : Content) (s : State) (seat : Seat) → j ≢ i → next ≡ content → FitsSeat old node j content s seat

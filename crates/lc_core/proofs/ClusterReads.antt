@@ -7,6 +7,7 @@ use Rattle.std.proofs.lemmas.List.{get_or_past, length-map}
 use Rattle.std.proofs.lemmas.Option.{get_or_from_slice_get, slice_get_within}
 use Rattle.lc_disk.specs.declared.area.Area.{Ghosts}
 use Rattle.lc_record.specs.declared.record.Record.{Record}
+use Rattle.lc_record.proofs.ListLemmas.{slice_get_some as some_at, slice_get-map_some as get-map, slice_get_from_map as mapped_at}
 use Rattle.lc_rest.specs.Merge.{logs_of}
 use Rattle.lc_token.specs.declared.token.Token.{Token}
 use Rattle.lc_core.specs.AsRead.{AreAsRead, IsAsRead}
@@ -25,16 +26,7 @@ use Rattle.lc_rest.specs.declared.parts.Parts.{Parts}
 use Rattle.lc_core.specs.declared.read_nodes.ReadNodes.{ReadNodes}
 use Rattle.lc_core.specs.declared.read_parts.ReadParts.{ReadParts}
 use Rattle.lc_rest.specs.declared.segment_part.SegmentPart.{SegmentPart}
-use Rattle.lc_core.proofs.Closes.{get-map}
-use Rattle.lc_core.proofs.Seating.{some_at}
 use Rattle.lc_core.proofs.TokenReads.{index_at}
-
--- what is mapped to an item of a list
-pub mapped_at : {A B : Type 0} (f : A → B) (xs : List A) (k : ℕ) (y : B) → slice_get (map f xs) k ≡ Some y → (x : A) × (slice_get xs k ≡ Some x) × (f x ≡ y)
-mapped_at f xs k y got =
-    let within = slice_get_within (map f xs) k y got in
-    let at = some_at xs k (omega (arith, within, length-map xs f)) in
-    (at.0, at.1, same_some (f at.0) y (sym (get-map f xs k at.0 at.1) ∙ got))
 
 here : {A : Type 0} (xs : List A) (k : ℕ) (x : A) → slice_get xs k ≡ Some x → slice_index_or xs k x ≡ x
 here xs k x got = get_or_from_slice_get xs k x x got

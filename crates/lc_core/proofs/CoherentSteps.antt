@@ -3,7 +3,7 @@ use Rattle.std.proofs.Common.{◌≡◌, ℕ, ◌+◌, ◌-◌, ◌<◌, ◌≤�
 use Rattle.std.specs.Prelude.{◌^◌, find, is_some, option_map, nat_le, slice_get, if◌then◌else◌}
 use Rattle.std.specs.List.{list_all, list_any}
 use Rattle.std.specs.Option.{ForSome}
-use Rattle.std.proofs.lemmas.Bool.{ltb-true}
+use Rattle.std.proofs.lemmas.Bool.{ltb-true, and_parts as and-both}
 use Rattle.lc_record.specs.Marks.{is_empty}
 use Rattle.lc_record.specs.Record.{record_len}
 use Rattle.lc_record.specs.Transaction.{Transaction}
@@ -25,7 +25,7 @@ use Rattle.lc_model.proofs.Holders.{is_by-both}
 use Rattle.lc_model.proofs.Keeps.{match-case}
 use Rattle.lc_model.proofs.Lists.{found-passes}
 use Rattle.lc_model.proofs.Merging.{counted-length}
-use Rattle.lc_model.proofs.Rows.{and-both, known, node_known}
+use Rattle.lc_model.proofs.Rows.{known, node_known}
 use Rattle.lc_model.proofs.Steps.{step-keeps}
 use Rattle.lc_trunc.specs.Clean.{TokenFits, closed_of}
 use Rattle.lc_trunc.proofs.CleanLemmas.{token-appended}

@@ -13,7 +13,8 @@ use Rattle.lc_record.specs.Recorded.{records_from}
 use Rattle.lc_record.specs.Transaction.{Transaction, effects}
 use Rattle.lc_record.specs.declared.geometry.Geometry.{Geometry}
 use Rattle.lc_record.specs.declared.record.Record.{Record}
-use Rattle.lc_recover.proofs.Images.{get-counting, get-map, length-counting}
+use Rattle.lc_record.proofs.ListLemmas.{length-counting, slice_get-map_some as get-map}
+use Rattle.lc_recover.proofs.Images.{get-counting}
 use Rattle.lc_model.specs.History.{transactions}
 use Rattle.lc_model.specs.Merge.{Page}
 use Rattle.lc_model.specs.Recovered.{recovered_disks}

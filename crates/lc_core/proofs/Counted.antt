@@ -22,6 +22,7 @@ use Rattle.lc_record.specs.Transaction.{Transaction, all_set, IsWellFormed, effe
 use Rattle.lc_record.specs.declared.geometry.Geometry.{Geometry}
 use Rattle.lc_record.specs.declared.record.Lock.{Lock}
 use Rattle.lc_record.proofs.LockLemmas.{lock_holds, meet_locks}
+use Rattle.lc_record.proofs.ListLemmas.{slice_get_some as get-some, same_Bool as same_truth, All-append_right as All-right}
 use Rattle.lc_model.specs.History.{Entry as HistoryEntry, History, transactions}
 use Rattle.lc_model.specs.Machine.{closed_by}
 use Rattle.lc_model.specs.Merging.{sets, counted_all, is_from}
@@ -32,11 +33,10 @@ use Rattle.lc_model.specs.Stored.{base, records_of}
 use Rattle.lc_model.proofs.Fronts.{entry, transactions-closed}
 use Rattle.lc_model.proofs.Holders.{is_by-both}
 use Rattle.lc_model.proofs.Law.{AllPairs-head, AllPairs-tail}
-use Rattle.lc_model.proofs.Lists.{All-from_map, All-right, found-all, found-passes, split}
+use Rattle.lc_model.proofs.Lists.{All-from_map, found-all, found-passes, split}
 use Rattle.lc_model.proofs.Merging.{counted-length}
 use Rattle.lc_model.proofs.RecordBytes.{place-set, record-number, set-place, sets-locks}
 use Rattle.lc_model.proofs.Visible.{none-pass}
-use Rattle.lc_model.proofs.Numbers.{get-some}
 use Rattle.lc_token.specs.Backlog.{Ascends, Backlog, above}
 use Rattle.lc_token.specs.Standing.{Standing}
 use Rattle.lc_token.specs.declared.token.Token.{Token}
@@ -210,11 +210,6 @@ unspent_of m n i segment s x t sound found whole set =
     (All-from_recursion IsWhole (records_of m s x.disks n) whole)
 
 -- Positions
-
-pub same_truth : (a b : Bool) → (a ≡ true → b ≡ true) → (b ≡ true → a ≡ true) → a ≡ b
-same_truth true b there back = sym (there refl)
-same_truth false true there back = back refl
-same_truth false false there back = refl
 
 set_take : (n k : ℕ) (marks : List Bool) → all_set k 1 (take n marks) ≡ true → (k < n) × (all_set k 1 marks ≡ true)
 set_take zero k marks set = absurd (true≢false (sym set))

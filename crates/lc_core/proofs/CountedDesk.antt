@@ -5,6 +5,7 @@ use Rattle.std.proofs.lemmas.Bool.{cases_Bool, MatchBool-at_true, MatchBool-at_f
 use Rattle.std.proofs.lemmas.Option.{slice_get-map}
 use Rattle.lc_range.specs.declared.range.Range.{Range}
 use Rattle.lc_record.specs.declared.part.Part.{Part}
+use Rattle.lc_record.proofs.ListLemmas.{slice_get-map_some as get-map}
 use Rattle.lc_model.specs.History.{value}
 use Rattle.lc_model.specs.State.{Setting, State}
 use Rattle.lc_token.specs.declared.token.Token.{Token}
@@ -23,7 +24,6 @@ use Rattle.lc_core.specs.Seats.{AllRun, AreShort}
 use Rattle.lc_core.specs.Slots.{AreInPlace, Besides, besides_of}
 use Rattle.lc_core.specs.declared.here.Here.{Here}
 use Rattle.lc_core.specs.declared.slot.Slot.{Slot}
-use Rattle.lc_core.proofs.Closes.{get-map}
 use Rattle.lc_core.proofs.Counting.{same_map}
 use Rattle.lc_core.proofs.Dropping.{seat_beside}
 

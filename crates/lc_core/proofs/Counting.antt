@@ -1,32 +1,23 @@
 -- A closed record in the slots of its segments, one range after another.
 use Rattle.std.proofs.Common.{◌≡◌, ◌≢◌, ◌⊎◌, inl, inr, ◌<◌, ◌≤◌, ◌+◌, ℕ, zero, suc, max, List, [], ◌∷◌, ◌++◌, length, map, take, Bool, true, false, ◌||◌, ◌&&◌, ◌==◌, Some, None, if◌then◌else◌, ap, sym, refl, subst, ◌∙◌, arith}
-use Rattle.std.proofs.lemmas.Bool.{both_ways, cases_Bool, cases_eq, eq-eqb, eqb-true, ne_eqb, or_cases, MatchBool-at_true, MatchBool-at_false}
+use Rattle.std.proofs.lemmas.Bool.{both_ways, cases_Bool, cases_eq, eq-eqb, eqb-true, ne_eqb, or_cases, MatchBool-at_true, MatchBool-at_false, or_parts as or_clear}
 use Rattle.std.proofs.lemmas.List.{length-set}
 use Rattle.std.proofs.lemmas.List.Folds.{list_any-append}
-use Rattle.std.specs.Prelude.{slice_set, slice_get, slice_index_or, Option, MatchBool, MatchOption}
+use Rattle.std.proofs.lemmas.Option.{slice_get_within as within}
+use Rattle.std.specs.Prelude.{slice_set, slice_get, Option, MatchBool, MatchOption}
+use Rattle.std.proofs.Math.Bool.{or-false as or_none, or-true as or_set}
 use Rattle.lc_page.specs.declared.entry.Entry.{Entry}
 use Rattle.lc_page.specs.PageVector.{entry_at, touched_at}
 use Rattle.lc_range.specs.declared.range.Range.{Range}
 use Rattle.lc_range.specs.RangeSet.{IsCanonical, LiesBefore}
 use Rattle.lc_token.specs.Standing.{Standing}
 use Rattle.lc_token.specs.declared.token.Token.{Token}
+use Rattle.lc_record.proofs.ListLemmas.{slice_get_some as there}
 use Rattle.lc_core.specs.Places.{same_some, get_set_other, get_set_same}
 use Rattle.lc_core.specs.declared.slot.Slot.{Slot}
 use Rattle.lc_core.specs.Counts.{Counts, CountsAll, CountsSlot, CountsToken, TouchesSlot, TouchesToken, countable, counting, is_on, names, names_page}
 
 -- what one range more names
-
-or_clear : (a b : Bool) → (a || b) ≡ false → (a ≡ false) × (b ≡ false)
-or_clear true b none = absurd cc
-or_clear false b none = (refl, none)
-
-or_set : (b : Bool) → (b || true) ≡ true
-or_set true = refl
-or_set false = refl
-
-or_none : (b : Bool) → (b || false) ≡ b
-or_none true = refl
-or_none false = refl
 
 names_other : (segment : ℕ) (done : List Range) (r : Range) → r.segment ≢ segment → names segment (done ++ r ∷ []) ≡ names segment done
 names_other segment done r differ =
@@ -225,16 +216,6 @@ none_done flag slots = record {
   outcome = λ k slot after is there here. absurd (omega (arith, is));
 }
 
-within : {A : Type 0} (xs : List A) (k : ℕ) (x : A) → slice_get xs k ≡ Some x → k < length xs
-within [] k x is = absurd cc
-within (y ∷ xs) zero x is = omega arith
-within (y ∷ xs) (suc k) x is = omega (arith, within xs k x is)
-
-there : {A : Type 0} (xs : List A) (k : ℕ) → k < length xs → (x : A) × (slice_get xs k ≡ Some x)
-there [] k lt = absurd (omega (arith, lt))
-there (y ∷ xs) zero lt = (y, refl)
-there (y ∷ xs) (suc k) lt = there xs k (omega (arith, lt))
-
 names_more : (segment : ℕ) (done : List Range) (r : Range) → names segment done ≡ true → names segment (done ++ r ∷ []) ≡ true
 names_more segment done r some =
     list_any-append (λ (q : Range). q.segment == segment) done (r ∷ []) ∙ ap (λ b. b || ((r.segment == segment) || false)) some
@@ -353,11 +334,6 @@ pub take_next : (ranges : List Range) (k : ℕ) (x : Range) → slice_get ranges
 take_next ranges k x is =
     let same : k + 1 ≡ suc k = omega arith in
     ap (λ (n : ℕ). take n ranges) same ∙ take_suc ranges k x is
-
-pub got : {A : Type 0} (xs : List A) (k : ℕ) (d : A) → k < length xs → slice_get xs k ≡ Some (slice_index_or xs k d)
-got [] k d lt = absurd (omega (arith, lt))
-got (x ∷ xs) zero d lt = refl
-got (x ∷ xs) (suc k) d lt = got xs k d (omega (arith, lt))
 
 -- what callers want
 

@@ -10,6 +10,7 @@ use Rattle.lc_record.specs.Recorded.{counted, record_of, records_from}
 use Rattle.lc_record.specs.Transaction.{IsWellFormed, Meet, effect, effects}
 use Rattle.lc_record.specs.declared.record.Record.{Record}
 use Rattle.lc_record.proofs.LockLemmas.{lock_holds}
+use Rattle.lc_record.proofs.ListLemmas.{All-append_left as All-left, All-append_right as All-right}
 use Rattle.lc_trunc.specs.Clean.{all_of, closed_of}
 use Rattle.lc_model.specs.History.{Entry, History, transactions, entries_of, is_of, front, leading}
 use Rattle.lc_model.specs.Merging.{counted_all, is_from, sets}
@@ -17,7 +18,7 @@ use Rattle.lc_model.specs.Sound.{Sound, IsClosedBefore, unclosed}
 use Rattle.lc_model.specs.State.{Setting, State}
 use Rattle.lc_model.specs.Stored.{base, records_of}
 use Rattle.lc_model.proofs.Keeps.{history-well}
-use Rattle.lc_model.proofs.Lists.{All-filter_if, All-from_map, All-left, All-right, split}
+use Rattle.lc_model.proofs.Lists.{All-filter_if, All-from_map, split}
 use Rattle.lc_model.proofs.Merging.{counted-length}
 use Rattle.lc_model.proofs.RecordBytes.{sets-locks}
 use Rattle.lc_core.specs.Numbers.{Numbers, token_number}

@@ -5,6 +5,7 @@ use Rattle.std.proofs.lemmas.List.{length-replicate}
 use Rattle.std.proofs.lemmas.Option.{slice_get-map, slice_get_within}
 use Rattle.lc_disk.specs.declared.area.Area.{Ghosts}
 use Rattle.lc_record.specs.declared.geometry.Geometry.{Geometry}
+use Rattle.lc_record.proofs.ListLemmas.{slice_get-map_some as get-map, slice_get-drop as get-drop}
 use Rattle.lc_core.specs.Devices.{HaveLogs, HavePages, HaveSegments, HonestLogs}
 use Rattle.lc_core.specs.FaultReplies.{device_kind, kind_of}
 use Rattle.lc_core.specs.Faults.{CountsLogs, SameDevices, SameLogs, log_kinds, logs_of}
@@ -15,7 +16,6 @@ use Rattle.lc_core.specs.declared.pages.Pages.{Pages}
 use Rattle.lc_model.specs.declared.event.Event.{Event}
 use Rattle.lc_model.specs.declared.reply.Reply.{Reply}
 use Rattle.lc_recover.specs.Reads.{HaveLengths}
-use Rattle.lc_recover.proofs.Images.{get-drop, get-map}
 use Rattle.lc_core.proofs.Faults.{same_devices}
 use Rattle.lc_core.proofs.Opening.{log_area, segment_len}
 use Rattle.lc_core.specs.Places.{same_some}

@@ -4,6 +4,7 @@ use Rattle.std.specs.Prelude.{vec_len}
 use Rattle.std.proofs.lemmas.Bool.{cases_eq}
 use Rattle.lc_record.specs.Record.{Chain}
 use Rattle.lc_record.specs.Transaction.{is_member}
+use Rattle.lc_record.proofs.LockLemmas.{member_first as first_member}
 use Rattle.lc_tx.specs.Images.{IsLockable}
 use Rattle.lc_tx.specs.Tx.{IsSetOf, none_of}
 use Rattle.lc_tx.proofs.MemberLemmas.{of_others}
@@ -22,9 +23,6 @@ greater x (y ∷ ys) n chain member = elim (cases_eq y n) [
 behind : (x : ℕ) (xs : List ℕ) → Chain (λ a b. a < b) (x ∷ xs) → Chain (λ a b. a < b) xs
 behind x [] chain = chain
 behind x (y ∷ ys) chain = chain.1
-
-first_member : (x : ℕ) (xs : List ℕ) → is_member x (x ∷ xs) ≡ true
-first_member x xs = rw (eq-eqb x x refl) refl
 
 later_member : (x : ℕ) (xs : List ℕ) (n : ℕ) → is_member n xs ≡ true → is_member n (x ∷ xs) ≡ true
 later_member x xs n member = elim (cases_eq x n) [

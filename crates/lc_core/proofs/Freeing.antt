@@ -1,7 +1,7 @@
 -- A thread's locks are free, at a node's desk.
-use Rattle.std.proofs.Common.{◌≡◌, ◌≢◌, ℕ, Bool, true, false, not, ◌&&◌, ◌==◌, List, ◌++◌, map, length, Option, Some, None, sym, ap, subst, ◌∙◌, inl, inr, true≢false}
+use Rattle.std.proofs.Common.{◌≡◌, ◌≢◌, ℕ, true, false, not, ◌&&◌, ◌==◌, List, ◌++◌, map, length, Option, Some, None, sym, ap, subst, ◌∙◌, inl, inr, true≢false}
 use Rattle.std.specs.Prelude.{slice_get, slice_set, IsSome}
-use Rattle.std.proofs.lemmas.Bool.{cases_eq, cases_Bool, eq-eqb}
+use Rattle.std.proofs.lemmas.Bool.{cases_eq, cases_Bool, eq-eqb, and_parts}
 use Rattle.std.proofs.lemmas.List.{length-set}
 use Rattle.lc_record.specs.Content.{Content, segment_of}
 use Rattle.lc_record.specs.Transaction.{is_member}
@@ -100,7 +100,7 @@ module _ (old new : Here) (seats : List Seat) (i : ℕ) (seat : Seat) (at : slic
           elim (cases_eq tx.thread k) [
             | inl mine ↦ absurd (true≢false (sym left ∙ ap (λ b. not b && reads (holders_of the_images old segment) k) (eq-eqb tx.thread k mine)))
             | inr differ ↦
-                let theirs = h.readers segment k (was_here segment here) (second (not (tx.thread == k)) (reads (holders_of the_images old segment) k) left) in
+                let theirs = h.readers segment k (was_here segment here) (and_parts (not (tx.thread == k)) (reads (holders_of the_images old segment) k) left).1 in
                 (theirs.0, still_sits k theirs.0 (λ e. differ (own_runs.own ∙ sym e)) theirs.1, theirs.2)
           ])
           (λ no_lock no_read other.
@@ -109,10 +109,6 @@ module _ (old new : Here) (seats : List Seat) (i : ℕ) (seat : Seat) (at : slic
             | inl mine ↦ absurd (true≢false (sym theirs.2 ∙ ap (λ (x : Tx). is_member segment x.reading.items) (sym (own_sits theirs.0 (subst (λ (n : ℕ). Sits seats n theirs.0) mine theirs.1))) ∙ no_read))
             | inr differ ↦ (theirs.0, still_sits k theirs.0 differ theirs.1, theirs.2)
           ])
-        where
-          second : (a b : Bool) → (a && b) ≡ true → b ≡ true
-          second true b e = e
-          second false b e = absurd (true≢false (sym e))
 
       -- where what it read shows the content, and what it wrote does so now
       pub desk_freed : ((segment : ℕ) → Reads tx segment → bytes_of the_images old segment ≡ segment_of segment content)

@@ -1,47 +1,31 @@
 -- Lists that are made or filled item by item, and what a desk has whose slots are of their segments.
-use Rattle.std.proofs.Common.{◌≡◌, ◌≢◌, ℕ, zero, suc, ◌+◌, ◌*◌, ◌<◌, ◌≤◌, Bool, true, false, List, [], ◌∷◌, ◌++◌, map, take, drop, length, Option, Some, None, refl, sym, ap, subst, ◌∙◌, arith}
+use Rattle.std.proofs.Common.{◌≡◌, ℕ, zero, suc, ◌+◌, ◌*◌, ◌<◌, ◌≤◌, Bool, true, false, List, [], ◌∷◌, ◌++◌, map, take, drop, length, Option, Some, None, refl, sym, ap, subst, ◌∙◌, arith}
 use Rattle.std.specs.Prelude.{slice_get, slice_index_or, slice_set, option_map, replicate, if◌then◌else◌}
 use Rattle.std.specs.List.{flat_map}
 use Rattle.std.specs.Option.{ForSome}
-use Rattle.std.proofs.lemmas.List.{append_assoc, length-map, map-append, take-append-le, take_all, take_more_set}
+use Rattle.std.proofs.lemmas.List.{append_assoc, length-map, map-append, take-append-le, take_all, take_more_set, append-nil as append_none}
 use Rattle.std.proofs.lemmas.Grind.{flat_map-append}
 use Rattle.std.proofs.lemmas.Option.{slice_get-map}
 use Rattle.lc_page.specs.PageVector.{new_entry}
 use Rattle.lc_record.specs.Content.{put}
 use Rattle.lc_record.specs.Marks.{counting}
 use Rattle.lc_record.specs.declared.geometry.Geometry.{Geometry}
+use Rattle.lc_record.proofs.ListLemmas.{length-counting as length_counting, slice_get-map_some as get-map, counting_push_zero as counting_more}
 use Rattle.lc_recover.specs.Recovered.{RecoveredStore, page_of}
 use Rattle.lc_token.specs.declared.token.Token.{Token}
 use Rattle.lc_core.specs.Blank.{AreOfSegments}
 use Rattle.lc_core.specs.Fresh.{fresh_token}
 use Rattle.lc_core.specs.Here.{beside, image_at}
 use Rattle.lc_core.specs.Nodes.{AreNamed}
-use Rattle.lc_core.specs.Places.{same_some, get_set_other}
+use Rattle.lc_core.specs.Places.{same_some}
 use Rattle.lc_core.specs.Seats.{AllRun, AreShort}
 use Rattle.lc_core.specs.Slots.{AreInPlace, Besides, besides_of}
 use Rattle.lc_core.specs.declared.here.Here.{Here}
 use Rattle.lc_core.specs.Seat.{Seat, Free}
 use Rattle.lc_core.specs.declared.slot.Slot.{Slot}
-use Rattle.lc_core.proofs.Closes.{get-map}
 use Rattle.lc_core.proofs.Seating.{nobody_runs}
 
 -- The pages of a segment, one after another
-
-counting_next : (from n : ℕ) → counting from (suc n) ≡ counting from n ++ (from + n) ∷ []
-counting_next from zero = (let same : from ≡ from + 0 = omega arith in ap (λ (k : ℕ). k ∷ []) same)
-counting_next from (suc n) =
-    let same : (from + 1) + n ≡ from + suc n = omega arith in
-    ap (λ (l : List ℕ). from ∷ l) (counting_next (from + 1) n ∙ ap (λ (k : ℕ). counting (from + 1) n ++ k ∷ []) same)
-
-pub counting_more : (n : ℕ) → counting 0 (n + 1) ≡ counting 0 n ++ n ∷ []
-counting_more n =
-    let more : n + 1 ≡ suc n = omega arith in
-    let same : 0 + n ≡ n = omega arith in
-    ap (counting 0) more ∙ counting_next 0 n ∙ ap (λ (k : ℕ). counting 0 n ++ k ∷ []) same
-
-append_none : (xs : List ℕ) → xs ++ [] ≡ xs
-append_none [] = refl
-append_none (x ∷ xs) = ap (λ (l : List ℕ). x ∷ l) (append_none xs)
 
 take_put : (place : ℕ) (items old : List ℕ) (n : ℕ) → n ≡ place + length items → n ≤ length old → take n (put place items old) ≡ take place old ++ items
 take_put zero [] [] n is within = (let none : n ≡ 0 = omega (arith, is) in ap (λ (k : ℕ). take k (put zero [] [])) none)
@@ -73,13 +57,6 @@ entry_put {A} f page item old is within before =
 -- Each item of a list
 
 module _ {A : Type 0} where
-  pub each_pushed : (P : ℕ → A → Type 0) (xs : List A) (y : A) → ((k : ℕ) (x : A) → slice_get xs k ≡ Some x → P k x) → P (length xs) y
-      → (k : ℕ) (x : A) → slice_get (xs ++ y ∷ []) k ≡ Some x → P k x
-  each_pushed P [] y h p zero x got = subst (P zero) (same_some y x got) p
-  each_pushed P [] y h p (suc k) x got = absurd cc
-  each_pushed P (z ∷ xs) y h p zero x got = h zero x got
-  each_pushed P (z ∷ xs) y h p (suc k) x got = each_pushed (λ j. P (suc j)) xs y (λ j w. h (suc j) w) p k x got
-
   pub each_set : (P : ℕ → A → Type 0) (xs : List A) (i : ℕ) (y : A) → ((k : ℕ) (x : A) → slice_get xs k ≡ Some x → P k x) → P i y
       → (k : ℕ) (x : A) → slice_get (slice_set xs i y) k ≡ Some x → P k x
   each_set P [] i y h p k x got = absurd cc
@@ -98,11 +75,6 @@ module _ {A : Type 0} where
   front_set P (z ∷ xs) (suc i) y h p (suc k) x less got =
       front_set (λ j. P (suc j)) xs i y (λ j w before. h (suc j) w (omega (arith, before))) p k x (omega (arith, less)) got
 
-  -- those behind it stay
-  pub behind_set : (first xs : List A) (i : ℕ) (y : A) → ((k : ℕ) → i ≤ k → slice_get xs k ≡ slice_get first k)
-      → (k : ℕ) → i + 1 ≤ k → slice_get (slice_set xs i y) k ≡ slice_get first k
-  behind_set first xs i y h k behind = (let other : k ≢ i = λ same. absurd (omega (arith, same, behind)) in get_set_other xs i k y other ∙ h k (omega (arith, behind)))
-
   -- what was written back of all items
   pub all_back : (n : ℕ) (new rest : List A) → n ≡ length new → take n (new ++ rest) ≡ new
   all_back n new rest same = take-append-le n new rest (omega (arith, same)) ∙ take_all n new (omega (arith, same))
@@ -120,10 +92,6 @@ goes_over {A} {B} f done later (b ∷ bs) rest all item first more less is some 
     ∙ ap (λ (y : B). map f done ++ y ∷ bs) (same ∙ value) ∙ is
 
 -- The slots of a desk
-
-pub length_counting : (from n : ℕ) → length (counting from n) ≡ n
-length_counting from zero = refl
-length_counting from (suc n) = ap suc (length_counting (from + 1) n)
 
 -- the token that a recovery makes has an entry for each page
 pub entries_fit : {D : Type 0} (r : RecoveredStore D) (segment : ℕ) (b : Bool) (token : Option Token) → token ≡ (if b then Some (fresh_token r segment) else None)

@@ -26,9 +26,6 @@ use Rattle.lc_core.specs.Turns.{applied_to, held_back, numbers_after, put_number
 use Rattle.lc_core.specs.declared.log.Log.{Log}
 use Rattle.lc_core.proofs.Slotted.{aside_same, slot_kept}
 
-pub own_at : {A : Type 0} (table : ℕ → ℕ → A) (node segment : ℕ) (item : A) → update_at table node segment item node segment ≡ item
-own_at table node segment item = rw (eq-eqb node node refl, eq-eqb segment segment refl) refl
-
 pub other_node : {A : Type 0} (table : ℕ → ℕ → A) (node segment : ℕ) (item : A) (other any : ℕ) → other ≢ node → update_at table node segment item other any ≡ table other any
 other_node table node segment item other any differ = rw (ne_eqb other node differ) refl
 

@@ -8,13 +8,13 @@ use Rattle.std.proofs.lemmas.Result.{IfOk-from_err}
 use Rattle.lc_disk.specs.declared.area.Area.{Ghosts}
 use Rattle.lc_disk.specs.declared.choice.Choice.{Choice}
 use Rattle.lc_record.specs.declared.geometry.Geometry.{Geometry}
+use Rattle.lc_record.proofs.ListLemmas.{slice_get_some as get-some}
 use Rattle.lc_model.specs.Refusals.{is_known, is_node}
 use Rattle.lc_model.specs.declared.event.Event.{Event}
 use Rattle.lc_model.specs.declared.event.Event.TheVariants.{RecoverStep, Stop}
 use Rattle.lc_model.specs.declared.refusal.Refusal.TheVariants.{Unknown}
 use Rattle.lc_model.specs.declared.reply.Reply.{Reply}
 use Rattle.lc_model.specs.declared.reply.Reply.TheVariants.{Down as IsDown, Refused}
-use Rattle.lc_recover.proofs.Images.{get-some}
 use Rattle.lc_recover.specs.Reads.{HaveLengths}
 use Rattle.lc_recover.specs.Recovery.{Recovering}
 use Rattle.lc_recover.specs.declared.fault.RecoverFault.{RecoverFault}

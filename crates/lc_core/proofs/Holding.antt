@@ -4,17 +4,19 @@ use Rattle.std.specs.Prelude.{◌↔◌, IsTrue, slice_get, if◌then◌else◌}
 use Rattle.std.specs.List.{list_any}
 use Rattle.std.proofs.lemmas.Bool.{cases_Bool, false_from_ne_true, true_from_ne_false, or_right, or_from}
 use Rattle.std.proofs.lemmas.List.Elements.{All-head, All-tail, All-append, All-map, All-filter}
+use Rattle.std.proofs.lemmas.List.Folds.{list_any_none as any-none}
 use Rattle.lc_range.specs.RangeSet.{Has}
 use Rattle.lc_record.specs.Content.{Content, segment_of}
 use Rattle.lc_record.specs.Transaction.{Transaction, all_set, is_member, locks, holds}
 use Rattle.lc_record.specs.declared.geometry.Geometry.{Geometry}
 use Rattle.lc_record.proofs.LockLemmas.{lock_holds}
+use Rattle.lc_record.proofs.ListLemmas.{slice_get_some as some_at, All-append_left as All-left, All-append_right as All-right}
 use Rattle.lc_model.specs.History.{Entry, History, value}
 use Rattle.lc_model.specs.State.{At, Setting, State, running_of, has_unclosed, is_by, is_held, is_locked, some_holder}
 use Rattle.lc_model.specs.Sound.{Sound, IsProper, holders, unclosed}
 use Rattle.lc_model.proofs.Fronts.{no_holder, none-unclosed}
 use Rattle.lc_model.proofs.Holders.{is_by-both, is_by-same}
-use Rattle.lc_model.proofs.Lists.{All-left, All-right, found-all, found-only, not_found, All-from_map}
+use Rattle.lc_model.proofs.Lists.{found-all, found-only, not_found, All-from_map}
 use Rattle.lc_tx.specs.Holders.{reads, writer_of}
 use Rattle.lc_tx.specs.Images.{IsHere, holders_of}
 use Rattle.lc_tx.specs.declared.holders.Holders.{Holders}
@@ -28,7 +30,7 @@ use Rattle.lc_core.specs.Places.{same_some}
 use Rattle.lc_core.specs.Seat.{Seat, Free, Open, Reserved, holder_of}
 use Rattle.lc_core.specs.Seats.{Runs, AllRun}
 use Rattle.lc_core.specs.declared.here.Here.{Here}
-use Rattle.lc_core.proofs.Seating.{seat_of, some_at}
+use Rattle.lc_core.proofs.Seating.{seat_of}
 
 -- Lists
 
@@ -45,11 +47,6 @@ find-right p (z ∷ xs) ys none = elim (p z) as (λ b. (if b then Some z else fi
   | true ↦ λ e. absurd cc
   | false ↦ λ e. find-right p xs ys e
 ] none
-
-any-none : {A : Type 0} (p : A → Bool) (xs : List A) → All (λ x. p x ≡ false) xs → list_any p xs ≡ false
-any-none p [] all = refl
-any-none p (x ∷ xs) all =
-    or_from (p x) (list_any p xs) (All-head (λ y. p y ≡ false) x xs all) (any-none p xs (All-tail (λ y. p y ≡ false) x xs all))
 
 any-unclosed : (p : Transaction → Bool) (history : History) → All (λ u. p u ≡ false) (unclosed history) → list_any (λ e. not e.closed && p e.transaction) history ≡ false
 any-unclosed p [] all = refl

@@ -10,6 +10,7 @@ use Rattle.lc_record.specs.Content.{Content, segment_of}
 use Rattle.lc_record.specs.Transaction.{effects}
 use Rattle.lc_record.specs.Words.{words_of}
 use Rattle.lc_record.specs.declared.geometry.Geometry.{Geometry}
+use Rattle.lc_record.proofs.ListLemmas.{slice_get_some as get-some, slice_get-map_some as get-map, slice_get-take as get-take, slice_get-drop as get-drop, slice_get_from_map as from-map}
 use Rattle.lc_log.specs.InPlace.{records_in}
 use Rattle.lc_model.specs.History.{Cut, kept}
 use Rattle.lc_model.specs.Merge.{MergesTo, Page}
@@ -20,7 +21,6 @@ use Rattle.lc_model.specs.Stored.{IsImage as IsImageOf, Shows}
 use Rattle.lc_model.proofs.Result.{merged}
 use Rattle.lc_model.proofs.Unrefused.{image-merges}
 use Rattle.lc_recover.specs.Reads.{AllMergeTo, AreHonest, AreImages, HaveLengths, area_count, store_of}
-use Rattle.lc_recover.proofs.Images.{from-map, get-drop, get-map, get-some, get-take}
 use Rattle.lc_core.specs.Areas.{AreOf, AreStopped, IsStopped}
 use Rattle.lc_core.specs.Faults.{area_failures}
 use Rattle.lc_core.specs.Numbers.{Numbers}

@@ -5,12 +5,13 @@ use Rattle.std.proofs.lemmas.List.{length-drop, length-map}
 use Rattle.std.proofs.lemmas.Option.{slice_get_within}
 use Rattle.lc_record.specs.Content.{segment_of}
 use Rattle.lc_record.specs.declared.geometry.Geometry.{Geometry}
+use Rattle.lc_record.proofs.ListLemmas.{slice_get-drop as get-drop, slice_get_from_map as from-map}
 use Rattle.lc_page.specs.Page.{Page as PageText}
 use Rattle.lc_model.specs.Merge.{Page}
 use Rattle.lc_model.specs.Stored.{Shows}
 use Rattle.lc_recover.specs.Pages.{page_read, pages_read}
 use Rattle.lc_recover.specs.Reads.{area_count, store_of}
-use Rattle.lc_recover.proofs.Images.{from-map, get-drop, get-pages_read, in-segment, length-pages_read, shape-of}
+use Rattle.lc_recover.proofs.Images.{get-pages_read, in-segment, length-pages_read, shape-of}
 use Rattle.lc_core.specs.Numbers.{Numbers}
 use Rattle.lc_core.specs.Pages.{IsStored}
 use Rattle.lc_core.specs.Places.{same_some}

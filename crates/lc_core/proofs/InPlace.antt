@@ -9,6 +9,7 @@ use Rattle.lc_disk.specs.declared.area.Area.{Ghosts}
 use Rattle.lc_record.specs.Part.{number_in, part_of}
 use Rattle.lc_record.specs.declared.part.Part.{Part}
 use Rattle.lc_record.specs.declared.record.Record.{Record}
+use Rattle.lc_record.proofs.ListLemmas.{slice_get_some as some_at}
 use Rattle.lc_token.specs.Backlog.{Backlog, PassesOn, Receives, counted}
 use Rattle.lc_token.specs.declared.received.Received.{Received}
 use Rattle.lc_tx.specs.Image.{laid_over}
@@ -43,7 +44,6 @@ use Rattle.lc_core.proofs.Dropping.{desk_seen}
 use Rattle.lc_core.proofs.Faults.{logs_stay}
 use Rattle.lc_core.proofs.Left.{same_items}
 use Rattle.lc_core.proofs.Onward.{stays_onward, whole_set}
-use Rattle.lc_core.proofs.Seating.{some_at}
 
 -- At the desk
 

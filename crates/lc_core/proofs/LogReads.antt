@@ -1,8 +1,8 @@
 -- A log that is read: it stands as before, and what it reads as is what its node has logged.
-use Rattle.std.proofs.Common.{◌≡◌, ℕ, zero, suc, ◌+◌, ◌*◌, ◌<◌, ◌≤◌, Bool, true, false, List, [], ◌∷◌, ◌++◌, drop, length, take, Option, Some, None, refl, sym, ap, subst, ◌∙◌, inl, inr, arith}
+use Rattle.std.proofs.Common.{◌≡◌, ℕ, ◌+◌, ◌*◌, ◌<◌, ◌≤◌, Bool, true, false, List, [], ◌++◌, drop, length, take, Option, Some, None, refl, sym, ap, subst, ◌∙◌, inl, inr, arith}
 use Rattle.std.proofs.lemmas.Bool.{cases_Bool, cases_eq, lt-ltb}
 use Rattle.std.proofs.lemmas.Option.{slice_get-map}
-use Rattle.std.proofs.lemmas.List.{length-set, take-append-le}
+use Rattle.std.proofs.lemmas.List.{length-set, take-append-le, drop-set-lt}
 use Rattle.std.proofs.Math.Seq.{take-length}
 use Rattle.std.specs.Prelude.{◌⊎◌, if◌then◌else◌, map, nat_lt, not, option_map, slice_get, slice_index_or, slice_set, option_and_then, vec_items, Result, Err, Vec}
 use Rattle.std.specs.Global.{Global}
@@ -95,12 +95,6 @@ front_shown now bytes words slice shown found len bytes_are words_are slice_is t
     shown_is ∙ ap (λ (l : List ℕ). take len l) all ∙ ap (λ (n : ℕ). take n (words_of now)) len_is
     ∙ text_front (words_of now) found its ∙ ap joined (one_text-by (words_of now) found records its other)
 
-drop_set : {A : Type 0} (xs : List A) (n k : ℕ) (y : A) → k < n → drop n (slice_set xs k y) ≡ drop n xs
-drop_set xs zero k y below = absurd (omega (arith, below))
-drop_set [] (suc n) k y below = refl
-drop_set (x ∷ xs) (suc n) zero y below = refl
-drop_set (x ∷ xs) (suc n) (suc k) y below = drop_set xs n k y (omega (arith, below))
-
 module _ {D : Type 0} (a : Ghosts D) where
   -- The areas of a store that is down
 
@@ -160,7 +154,7 @@ module _ {D : Type 0} (a : Ghosts D) where
     down_same : HaveLengths a r.geometry news → IsSameBut a node (Down r) (Down new)
     down_same lengths_now = record {
       others = λ other differ. ap (λ o. if nat_lt other r.geometry.nodes then o else None) (others other differ);
-      segments = ap (drop r.geometry.nodes) read.call.is ∙ drop_set r.areas r.geometry.nodes node read.call.new below;
+      segments = ap (drop r.geometry.nodes) read.call.is ∙ drop-set-lt r.geometry.nodes r.areas node read.call.new below;
       geometry = refl;
       still = still_down lengths_now;
       lives = still_lives;

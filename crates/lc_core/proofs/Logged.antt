@@ -11,6 +11,7 @@ use Rattle.lc_record.specs.Recorded.{record_of, records_from, counted}
 use Rattle.lc_record.specs.Transaction.{Transaction, effect}
 use Rattle.lc_record.specs.declared.record.Record.{Record}
 use Rattle.lc_record.proofs.SpellingLemmas.{length-spelling}
+use Rattle.lc_record.proofs.ListLemmas.{slice_get-map_some as get-map}
 use Rattle.lc_log.specs.LogText.{IsWhole, joined}
 use Rattle.lc_model.specs.History.{Entry, entries_of, is_of, leading, reserved, transactions}
 use Rattle.lc_model.specs.Machine.{appended, closed_by}
@@ -27,7 +28,7 @@ use Rattle.lc_core.specs.declared.log.Log.{Log}
 use Rattle.lc_core.specs.Log.{Stands}
 use Rattle.lc_core.specs.Journal.{FitsLog}
 use Rattle.lc_core.proofs.Appending.{filter-end}
-use Rattle.lc_core.proofs.Closes.{entries_shut, get-map}
+use Rattle.lc_core.proofs.Closes.{entries_shut}
 use Rattle.lc_core.proofs.Flushing.{part_of, span_joined}
 use Rattle.lc_core.proofs.Spans.{closed_in, words_more, leading_more, leading_le, leading_set, closing_count, closing_marks}
 use Rattle.lc_core.proofs.OneOpen.{shut_marks, one_open}
@@ -37,14 +38,6 @@ use Rattle.lc_core.proofs.OneOpen.{shut_marks, one_open}
 pub ok_or : {X E A B : Type 0} (r : Result X E) → IfOk r (λ _. A) → OnErr r B → A ⊎ B
 ok_or (Ok x) done none = inl done
 ok_or (Err e) done none = inr none
-
-pub ok_both : {X E : Type 0} {P Q R : X → Type 0} (r : Result X E) → IfOk r P → IfOk r Q → ((x : X) → P x → Q x → R x) → IfOk r R
-ok_both (Ok x) one other next = next x one other
-ok_both (Err e) one other next = tt
-
-pub err_any : {A E P : Type 0} (r : Result A E) → P → OnErr r P
-err_any (Ok value) holds = tt
-err_any (Err fault) holds = holds
 
 pub err_then : {X E A B : Type 0} (r : Result X E) → OnErr r A → (A → B) → OnErr r B
 err_then (Ok x) none next = tt

@@ -1,7 +1,7 @@
 -- Which replies an event may get at all, kind by kind.
 use Rattle.std.proofs.Common.{◌≡◌, ℕ, ◌+◌, Bool, true, false, ◌&&◌, ◌||◌, List, length, nat_le, Option, None, Some, refl, sym, ap, subst, ◌∙◌, true≢false, inl, inr}
 use Rattle.std.specs.Prelude.{IfErr, IsOk, IsSome, IsTrue, Result, Ok, Err, is_some}
-use Rattle.std.proofs.lemmas.Bool.{cases_Bool, cases_lt, or_from}
+use Rattle.std.proofs.lemmas.Bool.{cases_Bool, cases_lt, or_from, or_right, or_left}
 use Rattle.lc_disk.specs.declared.area.Area.{Ghosts}
 use Rattle.lc_log.specs.declared.idle.Idle.{Idle as IdleLog}
 use Rattle.lc_record.specs.Transaction.{is_member}
@@ -189,13 +189,6 @@ few_calls (AtFilled w) = refl
 few_calls (AtOpening w) = refl
 
 -- What an event may be replied
-
-or_left : (x y : Bool) → x ≡ true → (x || y) ≡ true
-or_left x y is = ap (λ (b : Bool). b || y) is
-
-or_right : (x y : Bool) → y ≡ true → (x || y) ≡ true
-or_right true y is = refl
-or_right false y is = is
 
 -- what it answers
 pub answers_may : (event : Event) (reply : Reply) → may_answer event reply ≡ true → may_reply event reply ≡ true

@@ -10,7 +10,7 @@ use Rattle.lc_disk.specs.declared.area.Area.{Ghosts}
 use Rattle.lc_log.specs.LogText.{IsWhole}
 use Rattle.lc_record.specs.declared.geometry.Geometry.{Geometry}
 use Rattle.lc_record.specs.declared.record.Record.{Record}
-use Rattle.lc_recover.proofs.KeptLemmas.{get-append, get-append_end}
+use Rattle.lc_record.proofs.ListLemmas.{slice_get-append_left as get-append, slice_get_push as get-append_end, each_push as each_pushed}
 use Rattle.lc_rest.specs.Merge.{logs_of}
 use Rattle.lc_rest.specs.AtRest.{IsReadLog}
 use Rattle.lc_core.specs.Kept.{closed_record}
@@ -24,7 +24,6 @@ use Rattle.lc_rest.specs.declared.node_part.NodePart.{NodePart}
 use Rattle.lc_core.specs.declared.node_piece.NodePiece.{NodePiece}
 use Rattle.lc_core.specs.declared.read_node.ReadNode.{ReadNode}
 use Rattle.lc_core.specs.declared.read_nodes.ReadNodes.{ReadNodes}
-use Rattle.lc_core.proofs.Furnishing.{each_pushed}
 
 -- One node
 

@@ -10,6 +10,8 @@ use Rattle.lc_record.specs.Content.{segment_of}
 use Rattle.lc_record.specs.Recorded.{records_from}
 use Rattle.lc_record.specs.Transaction.{effects}
 use Rattle.lc_record.specs.declared.part.Part.{Part}
+use Rattle.lc_record.proofs.ListLemmas.{slice_get-map_some as get-map}
+use Rattle.lc_model.proofs.Moves.{update_at-own as own_at}
 use Rattle.lc_token.specs.Token.{IsWritten}
 use Rattle.lc_token.specs.declared.token.Token.{Token}
 use Rattle.lc_trunc.specs.Clean.{closed_of}
@@ -38,9 +40,8 @@ use Rattle.lc_core.specs.declared.here.Here.{Here}
 use Rattle.lc_core.specs.declared.node.Node.{Node}
 use Rattle.lc_core.specs.declared.slot.Slot.{Slot}
 use Rattle.lc_core.proofs.Calling.{SameForLogs, journal_paged, logs_paged}
-use Rattle.lc_core.proofs.Closes.{get-map}
 use Rattle.lc_core.proofs.Emptying.{stays_itself}
-use Rattle.lc_core.proofs.Gained.{other_node, other_segment, own_at}
+use Rattle.lc_core.proofs.Gained.{other_node, other_segment}
 use Rattle.lc_core.proofs.Noted.{desk_noted}
 use Rattle.lc_core.proofs.Others.{beside_logged}
 use Rattle.lc_core.proofs.Slotted.{slot_kept}

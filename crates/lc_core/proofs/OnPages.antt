@@ -7,6 +7,7 @@ use Rattle.std.proofs.lemmas.Bool.{false_from_ne_true, true_from_ne_false}
 use Rattle.lc_record.specs.Content.{Content, segment_of}
 use Rattle.lc_record.specs.Transaction.{Transaction, all_set, holds, locks}
 use Rattle.lc_record.proofs.LockLemmas.{lock_holds}
+use Rattle.lc_record.proofs.ListLemmas.{slice_get_some as some_at, same_Bool as same_truth, All-append_left as All-left}
 use Rattle.lc_model.specs.History.{value}
 use Rattle.lc_model.specs.Merging.{sets}
 use Rattle.lc_model.specs.Sound.{IsHere as HasTokens, IsProper, Sound, holders, unclosed}
@@ -14,7 +15,7 @@ use Rattle.lc_model.specs.State.{At, Setting, State, is_by}
 use Rattle.lc_model.specs.Stored.{page_bytes}
 use Rattle.lc_model.proofs.Bytes.{byte-unset}
 use Rattle.lc_model.proofs.Holders.{is_by-same}
-use Rattle.lc_model.proofs.Lists.{All-left, found-all, found-passes, none_of}
+use Rattle.lc_model.proofs.Lists.{found-all, found-passes, none_of}
 use Rattle.lc_model.proofs.RecordBytes.{sets-locks}
 use Rattle.lc_core.specs.Desk.{FitsDesk}
 use Rattle.lc_core.specs.Numbers.{sets_on}
@@ -26,9 +27,8 @@ use Rattle.lc_tx.specs.Images.{IsHere, bytes_of}
 use Rattle.lc_core.specs.Uncommitted.{HasSeatOn, SetsPage}
 use Rattle.lc_tx.specs.declared.tx.Tx.{Tx}
 use Rattle.lc_core.specs.declared.here.Here.{Here}
-use Rattle.lc_core.proofs.Counted.{on_place, place_on, same_truth, unset_on}
+use Rattle.lc_core.proofs.Counted.{on_place, place_on, unset_on}
 use Rattle.lc_core.proofs.Holding.{free-none, holders-proper, only-holder, seat-holds}
-use Rattle.lc_core.proofs.Seating.{some_at}
 use Rattle.lc_core.proofs.Shown.{here_shows}
 
 -- one of a list passes

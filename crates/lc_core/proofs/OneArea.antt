@@ -2,11 +2,12 @@
 use Rattle.std.proofs.Common.{◌≡◌, ℕ, zero, suc, ◌+◌, ◌-◌, ◌*◌, ◌<◌, ◌≤◌, Bool, true, false, List, [], ◌∷◌, drop, length, map, Option, Some, None, slice_get, slice_set, refl, sym, ap, subst, ◌∙◌, inl, inr, arith}
 use Rattle.std.specs.Prelude.{Result, Ok, Err, IfOk, OnErr, OnOk, is_ok, not, option_map}
 use Rattle.std.proofs.lemmas.Bool.{cases_eq}
-use Rattle.std.proofs.lemmas.List.{length-map, length-set, map-set}
+use Rattle.std.proofs.lemmas.List.{length-map, length-set, map-set, drop-set-lt}
 use Rattle.std.proofs.lemmas.Option.{slice_get-map, slice_get_within}
 use Rattle.std.proofs.lemmas.Result.{IfOk-from_err, IfOk-weaker}
 use Rattle.lc_disk.specs.declared.area.Area.{Ghosts}
 use Rattle.lc_record.specs.declared.geometry.Geometry.{Geometry}
+use Rattle.lc_record.proofs.ListLemmas.{slice_get-map_some as get-map, slice_get-drop as get-drop}
 use Rattle.lc_log.specs.OneCall.{IsOneCall}
 use Rattle.lc_model.specs.declared.event.Event.{Event}
 use Rattle.lc_model.specs.declared.event.Event.TheVariants.{PageStep, RecoverStep}
@@ -20,7 +21,7 @@ use Rattle.lc_recover.specs.declared.fault.RecoverFault.{RecoverFault}
 use Rattle.lc_recover.specs.declared.fault.RecoverFault.TheVariants.{BadGeometry, Gap, Twice, OutOfSegment, DeviceFault as Failed, NoMemory}
 use Rattle.lc_recover.specs.declared.progress.Progress.{Progress}
 use Rattle.lc_recover.specs.declared.progress.Progress.TheVariants.{Stepped as HasStepped, Recovered as HasRecovered}
-use Rattle.lc_recover.proofs.Images.{count-areas, get-drop, get-map}
+use Rattle.lc_recover.proofs.Images.{count-areas}
 use Rattle.lc_core.specs.Areas.{AreOf}
 use Rattle.lc_core.specs.CallReplies.{CalledAs, CalledIf, calls_log, calls_area, tells_call}
 use Rattle.lc_core.specs.Calls.{CallsArea, CallsOne, CallsTold, CallsWhere, KeepsAreas}
@@ -41,12 +42,6 @@ use Rattle.lc_core.proofs.CallsTold.{log_called_by, plain_calls, step_free, step
 use Rattle.lc_core.proofs.Failures.{StepCalls}
 use Rattle.lc_core.proofs.Recoveries.{if_ok_at}
 use Rattle.lc_core.proofs.Seating.{set_same}
-
-drop_set : {A : Type 0} (xs : List A) (n k : ℕ) (y : A) → k < n → drop n (slice_set xs k y) ≡ drop n xs
-drop_set xs zero k y below = absurd (omega (arith, below))
-drop_set [] (suc n) k y below = refl
-drop_set (x ∷ xs) (suc n) zero y below = refl
-drop_set (x ∷ xs) (suc n) (suc k) y below = drop_set xs n k y (omega (arith, below))
 
 set_drop : {A : Type 0} (xs : List A) (n k : ℕ) (y : A) → slice_set (drop n xs) k y ≡ drop n (slice_set xs (n + k) y)
 set_drop xs zero k y = (let same : k ≡ 0 + k = omega arith in ap (λ (i : ℕ). slice_set xs i y) same)
@@ -114,7 +109,7 @@ module _ {D : Type 0} (a : Ghosts D) where
           count = length-set areas calls.at calls.new ∙ are.count ∙ ap area_count (sym geometry);
           logs = λ n node at. set_logs (areas_in a up.running.nodes.items) areas calls.at calls.old calls.new (logs_at up.running.nodes.items areas are.logs) calls.was n (area_of a node.journal.log)
               (ap (λ (l : List (Option D)). slice_get l n) (sym calls.is) ∙ got_log later.running.nodes.items n node at);
-          segments = behind segments ∙ ap (λ (g : Geometry). drop g.nodes areas) geometry ∙ sym (drop_set areas up.running.geometry.nodes calls.at calls.new within)
+          segments = behind segments ∙ ap (λ (g : Geometry). drop g.nodes areas) geometry ∙ sym (drop-set-lt up.running.geometry.nodes areas calls.at calls.new within)
               ∙ ap (λ (g : Geometry). drop g.nodes (slice_set areas calls.at calls.new)) (sym geometry);
         }
 

@@ -5,7 +5,7 @@ use Rattle.std.proofs.lemmas.List.{length-drop, length-replicate}
 use Rattle.std.proofs.lemmas.Option.{slice_get-map, slice_get_within, get_or_from_slice_get}
 use Rattle.lc_disk.specs.declared.area.Area.{Ghosts}
 use Rattle.lc_record.specs.declared.geometry.Geometry.{Geometry}
-use Rattle.lc_record.proofs.PuttingLemmas.{at_drop}
+use Rattle.lc_record.proofs.ListLemmas.{slice_get-drop as at_drop}
 use Rattle.lc_recover.specs.Reads.{HaveLengths, area_count}
 use Rattle.lc_recover.specs.Recovered.{RecoveredStore, AreFinished}
 use Rattle.lc_recover.proofs.Images.{count-areas, len-log, len-segment}

@@ -5,6 +5,7 @@ use Rattle.std.proofs.lemmas.Bool.{cases_eq, false_from_ne_true, ne_eqb}
 use Rattle.lc_record.specs.Content.{segment_of}
 use Rattle.lc_record.specs.Transaction.{Transaction, is_member}
 use Rattle.lc_record.proofs.LockLemmas.{lock_holds}
+use Rattle.lc_record.proofs.ListLemmas.{slice_get-map_some as get-map, All-append_left as All-left}
 use Rattle.lc_model.specs.History.{Entry, entries_of, is_of}
 use Rattle.lc_model.specs.State.{Place, At, Travelling, Setting, State, running_of, is_by, update}
 use Rattle.lc_model.specs.Machine.{appended, closed_by, placed}
@@ -12,7 +13,7 @@ use Rattle.lc_model.specs.Refusals.{is_at}
 use Rattle.lc_model.specs.Sound.{Sound, IsHere, IsProper, unclosed}
 use Rattle.lc_model.proofs.Fronts.{entry, unclosed-push, unclosed-closed}
 use Rattle.lc_model.proofs.Holders.{is_by-both}
-use Rattle.lc_model.proofs.Lists.{All-left, found-all, found-passes}
+use Rattle.lc_model.proofs.Lists.{found-all, found-passes}
 use Rattle.lc_model.proofs.Result.{shape-effects}
 use Rattle.lc_model.proofs.Seats.{is_by-other, running-dropped_other, unclosed-appended_other, unclosed-closed_other, value-appended, value-closed, update-own, update-other}
 use Rattle.lc_tx.specs.Tx.{Holds, RunsOn}
@@ -29,7 +30,7 @@ use Rattle.lc_core.specs.Seat.{Seat, Free, Open, Reserved, holder_of}
 use Rattle.lc_core.specs.Seats.{AllRun}
 use Rattle.lc_core.specs.declared.here.Here.{Here}
 use Rattle.lc_core.proofs.Appending.{keeps_itself, get-before, filter-end}
-use Rattle.lc_core.proofs.Closes.{entries_shut, get-map, shut}
+use Rattle.lc_core.proofs.Closes.{entries_shut, shut}
 use Rattle.lc_core.proofs.Holding.{find-left}
 
 module _ (m : Setting) (node other : ℕ) (s after : State) (differ : other ≢ node) (beside : Beside m node s after) (here : Here) (seats : List Seat) (h : FitsDesk m other here seats s) where

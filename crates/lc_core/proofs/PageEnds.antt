@@ -14,7 +14,7 @@ use Rattle.lc_model.specs.Moves.{update_at, with_settled}
 use Rattle.lc_model.specs.State.{Setting, State, update}
 use Rattle.lc_model.specs.Stored.{Fits as FitsDisks}
 use Rattle.lc_model.proofs.Keeps.{update-case}
-use Rattle.lc_model.proofs.Moves.{keeps-settled, shows-settled}
+use Rattle.lc_model.proofs.Moves.{keeps-settled, shows-settled, update_at-own as entry_own}
 use Rattle.lc_model.proofs.Seats.{update-other, update-own}
 use Rattle.lc_trunc.specs.Clean.{TokenFits}
 use Rattle.lc_trunc.proofs.CleanLemmas.{token-fewer, token-written}
@@ -22,7 +22,7 @@ use Rattle.lc_core.specs.Coherent.{AreCoherent, IsWriteOf, entries_of}
 use Rattle.lc_core.specs.Numbers.{Numbers, stable, token_number}
 use Rattle.lc_core.specs.Turns.{cleaned, is_dirty as is_page_dirty, oldest_dirty, seen, settled_with, written}
 use Rattle.lc_core.proofs.Cohering.{coherent_texts, entries_count, entry_is, token_alike}
-use Rattle.lc_core.proofs.PageNumbers.{entry_other, entry_own, page_cases, write_as}
+use Rattle.lc_core.proofs.PageNumbers.{entry_other, page_cases, write_as}
 
 -- The node has seen the token's `clean`
 

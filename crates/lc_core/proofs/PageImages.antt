@@ -8,12 +8,12 @@ use Rattle.lc_disk.specs.Area.{IsImage}
 use Rattle.lc_disk.specs.declared.area.Area.{Ghosts}
 use Rattle.lc_record.specs.Marks.{counting}
 use Rattle.lc_record.specs.declared.geometry.Geometry.{Geometry}
+use Rattle.lc_record.proofs.ListLemmas.{slice_get_some as get-some}
 use Rattle.lc_page.specs.Page.{Page, page_in}
 use Rattle.lc_page.specs.PageWrite.{IsEither, drafted}
 use Rattle.lc_page.specs.Writing.{calls_of, draft_of}
 use Rattle.lc_page.proofs.StateLemmas.{settled_images}
 use Rattle.lc_page.proofs.WritingLemmas.{either_under_way, old_under_way}
-use Rattle.lc_recover.proofs.Images.{get-some}
 use Rattle.lc_model.specs.State.{Setting, State}
 use Rattle.lc_core.specs.Numbers.{Numbers}
 use Rattle.lc_core.specs.PageState.{is_begun}

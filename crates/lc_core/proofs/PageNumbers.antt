@@ -18,7 +18,7 @@ use Rattle.lc_model.specs.declared.reply.Reply.{Reply}
 use Rattle.lc_model.specs.declared.reply.Reply.TheVariants.{Refused, Stepped, Written}
 use Rattle.lc_model.proofs.Holders.{at_is}
 use Rattle.lc_model.proofs.Keeps.{acked-reserved}
-use Rattle.lc_model.proofs.Moves.{keeps-begun, keeps-opening, stands-now, token-stable}
+use Rattle.lc_model.proofs.Moves.{keeps-begun, keeps-opening, stands-now, token-stable, update_at-own as entry_own}
 use Rattle.lc_model.proofs.Seats.{update-other, update-own}
 use Rattle.lc_trunc.specs.Clean.{closed_of}
 use Rattle.lc_trunc.proofs.CleanLemmas.{token-fewer, token-opened}
@@ -29,10 +29,6 @@ use Rattle.lc_core.specs.Settled.{IsAnswer, begun_number, is_unflushed, page_ans
 use Rattle.lc_core.specs.Turns.{called, numbers_after, opened_with, written}
 
 -- Tables
-
-pub entry_own : {A : Type 0} (table : ℕ → ℕ → A) (segment page : ℕ) (item : A) → update_at table segment page item segment page ≡ item
-entry_own {A} table segment page item =
-    ap (λ (f : ℕ → A). f page) (update-own table segment (update (table segment) page item)) ∙ update-own (table segment) page item
 
 pub entry_other : {A : Type 0} (table : ℕ → ℕ → A) (segment page : ℕ) (item : A) (n k : ℕ) → (n ≡ segment → k ≡ page → ⊥) → update_at table segment page item n k ≡ table n k
 entry_other {A} table segment page item n k differ = elim (cases_eq n segment) [

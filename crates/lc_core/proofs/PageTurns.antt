@@ -8,12 +8,13 @@ use Rattle.lc_model.specs.Merge.{Page as StorePage}
 use Rattle.lc_model.specs.Moves.{page_now, update_at, with_begun}
 use Rattle.lc_model.specs.State.{Setting, State}
 use Rattle.lc_model.specs.Stored.{Disks}
+use Rattle.lc_model.proofs.Moves.{update_at-own as own_at}
 use Rattle.lc_core.specs.Numbers.{Numbers}
 use Rattle.lc_core.specs.Pages.{HasBegun}
 use Rattle.lc_rest.specs.Pages.{as_read}
 use Rattle.lc_core.specs.Settled.{begun_number}
 use Rattle.lc_core.specs.Turns.{call_made, called, opened_with, page_settled, settled_with}
-use Rattle.lc_core.proofs.Gained.{other_node, other_segment, own_at}
+use Rattle.lc_core.proofs.Gained.{other_node, other_segment}
 use Rattle.lc_core.proofs.PageWrites.{SameAt}
 
 -- another page of the segment, or a page of another

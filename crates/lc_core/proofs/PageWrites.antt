@@ -4,6 +4,7 @@ use Rattle.std.specs.Prelude.{slice_get}
 use Rattle.std.specs.Global.{Vec}
 use Rattle.lc_disk.specs.declared.area.Area.{Ghosts}
 use Rattle.lc_record.specs.declared.geometry.Geometry.{Geometry}
+use Rattle.lc_record.proofs.ListLemmas.{slice_get-map_some as get-map}
 use Rattle.lc_page.specs.Page.{Page}
 use Rattle.lc_page.specs.PageWrite.{SettledIn, HasPage, IsEither, drafted}
 use Rattle.lc_page.specs.Writing.{IsUnderWay, calls_of, draft_of}
@@ -11,7 +12,6 @@ use Rattle.lc_page.specs.declared.page_text.PageText.{PageText}
 use Rattle.lc_model.specs.Merge.{Page as StorePage}
 use Rattle.lc_model.specs.State.{Setting}
 use Rattle.lc_core.specs.Numbers.{Numbers}
-use Rattle.lc_core.proofs.Closes.{get-map}
 use Rattle.lc_core.proofs.Rising.{get-replicate}
 use Rattle.lc_core.specs.PageState.{AreAtRest, AreNamed, resting}
 use Rattle.lc_core.specs.Pages.{RestsAll, FitsArea, FitsPages, HasBegun, IsPageAt}

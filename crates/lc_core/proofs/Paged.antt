@@ -2,7 +2,7 @@
 use Rattle.std.proofs.Common.{◌≡◌, ℕ, suc, ◌+◌, ◌-◌, ◌*◌, ◌<◌, ◌≤◌, Bool, true, false, List, [], ◌∷◌, Option, Some, None, length, drop, refl, sym, ap, subst, ◌∙◌, inl, inr, arith, true≢false}
 use Rattle.std.specs.Prelude.{◌&&◌, nat_le, slice_get, slice_set, vec_len, Err, IsSome, Ok}
 use Rattle.std.specs.List.{list_any}
-use Rattle.std.proofs.lemmas.Bool.{cases_eq, leb-true, lt-leb, ltb-false, ltb-true}
+use Rattle.std.proofs.lemmas.Bool.{cases_eq, leb-true, lt-leb, ltb-false, ltb-true, and_parts as and-both}
 use Rattle.std.proofs.lemmas.List.{length-drop, length-take-le}
 use Rattle.lc_disk.specs.declared.area.Area.{Ghosts}
 use Rattle.lc_page.specs.Page.{Page}
@@ -12,6 +12,7 @@ use Rattle.lc_page.specs.declared.draft.Draft.{Draft}
 use Rattle.lc_page.specs.declared.writing.Writing.{Writing}
 use Rattle.lc_record.specs.Geometry.{segment_len}
 use Rattle.lc_record.specs.declared.geometry.Geometry.{Geometry}
+use Rattle.lc_record.proofs.ListLemmas.{slice_get_some as some_at, slice_get-map_some as get-map, some_from_is_some as some_token}
 use Rattle.lc_token.specs.Token.{IsWritten}
 use Rattle.lc_token.specs.declared.token.Token.{Token}
 use Rattle.lc_trunc.specs.KnownClean.{Sees}
@@ -31,7 +32,7 @@ use Rattle.lc_model.specs.declared.reply.Reply.{Reply}
 use Rattle.lc_model.specs.declared.reply.Reply.TheVariants.{Refused, Stepped, Written}
 use Rattle.lc_model.proofs.Keeps.{acked-reserved}
 use Rattle.lc_model.proofs.Law.{effects-append}
-use Rattle.lc_model.proofs.Rows.{and-both, known, not_halted}
+use Rattle.lc_model.proofs.Rows.{known, not_halted}
 use Rattle.lc_model.proofs.Seats.{update-own}
 use Rattle.lc_tx.specs.Images.{IsHere, bytes_of}
 use Rattle.lc_core.specs.Drafts.{IsDraft, MayDraft}
@@ -58,14 +59,12 @@ use Rattle.lc_page.specs.declared.fault.PageFault.{PageFault}
 use Rattle.lc_core.specs.declared.pages.Pages.{Pages}
 use Rattle.lc_core.specs.declared.slot.Slot.{Slot}
 use Rattle.lc_core.proofs.Calling.{by_calls, called_same, nothing_called}
-use Rattle.lc_core.proofs.Closes.{get-map}
 use Rattle.lc_core.proofs.Emptying.{stays_itself, stays_or_halts}
 use Rattle.lc_core.proofs.NodeWritten.{by_written}
 use Rattle.lc_core.proofs.OnPages.{page_shown}
 use Rattle.lc_core.proofs.PageAnswers.{fault_row, first_call, later_call, last_call, settled_fault, settled_here, stepped_row}
 use Rattle.lc_core.proofs.PageCalls.{few_calls, some_calls}
 use Rattle.lc_core.proofs.PageWrites.{area_same, same_at}
-use Rattle.lc_core.proofs.Seating.{some_at}
 
 -- what the event names is known
 pub page_known : (g : Geometry) (node segment page : ℕ) → are_known g (by_node node (segment ∷ []) (page ∷ [])) ≡ true → (1 ≤ segment) × (segment ≤ g.segments) × (page < g.pages)
@@ -76,11 +75,6 @@ page_known g node segment page h =
     let d = and-both (nat_le 1 segment) (nat_le segment g.segments) c.0 in
     let e = and-both (is_page g page) true a.1 in
     (leb-true 1 segment d.0, leb-true segment g.segments d.1, ltb-true page g.pages e.0)
-
--- the slot of a segment whose token stands here
-pub some_token : (o : Option Token) → IsSome o → (token : Token) × (o ≡ Some token)
-some_token None some = absurd cc
-some_token (Some token) some = (token, refl)
 
 pub record Stood (here : Here) (segment : ℕ) : Type 0 where
   pub slot : Slot

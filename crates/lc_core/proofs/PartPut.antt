@@ -14,6 +14,7 @@ use Rattle.lc_record.specs.declared.part.Part.{Part}
 use Rattle.lc_record.specs.declared.record.RangeData.{RangeData}
 use Rattle.lc_record.specs.declared.record.Record.{Record}
 use Rattle.lc_record.proofs.SegmentLemmas.{segment_of-same, segment_of-other}
+use Rattle.lc_record.proofs.ListLemmas.{All-append_left as All-left, All-append_right as All-right}
 use Rattle.lc_trunc.specs.Clean.{all_of}
 use Rattle.lc_tx.specs.Image.{laid_over}
 use Rattle.lc_model.specs.History.{transactions}
@@ -23,7 +24,6 @@ use Rattle.lc_model.specs.State.{Setting, State}
 use Rattle.lc_model.specs.Stored.{Disks, base}
 use Rattle.lc_model.proofs.Keeps.{history-well}
 use Rattle.lc_model.proofs.Law.{effects-append}
-use Rattle.lc_model.proofs.Lists.{All-left, All-right}
 use Rattle.std.proofs.lemmas.List.Elements.{All-head}
 use Rattle.lc_model.proofs.Merging.{counted-length, of_a_segment}
 use Rattle.lc_model.proofs.RecordBytes.{record-laid, record-number}

@@ -12,6 +12,7 @@ use Rattle.lc_record.specs.Part.{number_in}
 use Rattle.lc_record.specs.declared.geometry.Geometry.{Geometry}
 use Rattle.lc_record.specs.declared.record.Lock.{Lock}
 use Rattle.lc_record.specs.declared.record.Record.{Record}
+use Rattle.lc_record.proofs.ListLemmas.{slice_get_some as some_at}
 use Rattle.lc_model.specs.Refusals.{is_at}
 use Rattle.lc_model.specs.Sound.{IsPlace}
 use Rattle.lc_model.specs.State.{Place, At}
@@ -36,7 +37,6 @@ use Rattle.lc_core.specs.declared.segment_piece.SegmentPiece.{SegmentPiece}
 use Rattle.lc_core.specs.declared.segment_pieces.SegmentPieces.{SegmentPieces}
 use Rattle.lc_core.proofs.Adoptions.{at_here}
 use Rattle.lc_core.proofs.OneSpelling.{one_spelling}
-use Rattle.lc_core.proofs.Seating.{some_at}
 use Rattle.lc_core.proofs.StableCounts.{stable_within}
 
 -- the parts are kept, what was read of them passes all tests, and the pieces are built of it

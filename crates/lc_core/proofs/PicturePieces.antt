@@ -6,6 +6,7 @@ use Rattle.std.proofs.lemmas.List.{get_or-map}
 use Rattle.std.proofs.lemmas.Option.{get_or_from_slice_get}
 use Rattle.lc_record.specs.Newest.{number_or_zero}
 use Rattle.lc_record.specs.declared.record.Record.{Record}
+use Rattle.lc_record.proofs.ListLemmas.{slice_get_some as some_at}
 use Rattle.lc_rest.specs.Holder.{node_of}
 use Rattle.lc_rest.specs.Merge.{logs_of, merged_after, number_at}
 use Rattle.lc_rest.specs.Replay.{IsReplay, bytes_above, bytes_after, laid_on}
@@ -24,7 +25,6 @@ use Rattle.lc_core.specs.Readings.{KeepsPictures, at_segment, first_numbers, no_
 use Rattle.lc_core.specs.declared.node_images.NodeImages.{NodeImages}
 use Rattle.lc_core.specs.declared.read_parts.ReadParts.{ReadParts}
 use Rattle.lc_core.specs.declared.segment_piece.SegmentPiece.{SegmentPiece}
-use Rattle.lc_core.proofs.Seating.{some_at}
 use Rattle.lc_core.proofs.TokenReads.{at_next, number_next}
 
 -- Lengths

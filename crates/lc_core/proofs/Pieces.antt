@@ -1,15 +1,14 @@
 -- What stands in a store that is made of pieces.
-use Rattle.std.proofs.Common.{◌≡◌, ℕ, zero, suc, ◌+◌, ◌-◌, ◌++◌, ◌*◌, ◌<◌, true, false, List, [], ◌∷◌, drop, length, Option, Some, None, refl, sym, ap, subst, ◌∙◌, inl, inr, arith}
+use Rattle.std.proofs.Common.{◌≡◌, ℕ, zero, suc, ◌+◌, ◌-◌, ◌++◌, ◌*◌, true, false, List, [], ◌∷◌, length, Option, Some, None, refl, sym, ap, subst, ◌∙◌, inl, inr, arith}
 use Rattle.std.specs.Option.{ForSome}
-use Rattle.std.specs.Prelude.{option_map, slice_get, slice_index_or, if◌then◌else◌}
+use Rattle.std.specs.Prelude.{option_map, slice_get, if◌then◌else◌}
 use Rattle.std.proofs.lemmas.Bool.{cases_eq, cases_lt, eq-eqb, le-ltb, lt-ltb, ne_eqb}
 use Rattle.std.proofs.lemmas.List.{length-replicate}
-use Rattle.std.proofs.lemmas.Option.{get_or_from_slice_get, slice_get_within}
+use Rattle.std.proofs.lemmas.Option.{slice_get_within}
 use Rattle.lc_disk.specs.declared.area.Area.{Ghosts}
 use Rattle.lc_record.specs.Content.{put}
 use Rattle.lc_record.specs.declared.geometry.Geometry.{Geometry}
-use Rattle.lc_record.proofs.PuttingLemmas.{at_drop}
-use Rattle.lc_recover.proofs.Images.{get-map}
+use Rattle.lc_record.proofs.ListLemmas.{slice_get_some as some_at, slice_get-map_some as get-map}
 use Rattle.lc_rest.specs.declared.holder.Holder.{Holder}
 use Rattle.lc_rest.specs.declared.holder.Holder.TheVariants.{Here, Left}
 use Rattle.lc_token.specs.declared.token.Token.{Token}
@@ -27,7 +26,6 @@ use Rattle.lc_core.specs.declared.node.Node.{Node}
 use Rattle.lc_core.specs.declared.node_piece.NodePiece.{NodePiece}
 use Rattle.lc_core.specs.declared.pages.Pages.{Pages}
 use Rattle.lc_core.specs.declared.segment_piece.SegmentPiece.{SegmentPiece}
-use Rattle.lc_core.proofs.Seating.{some_at}
 use Rattle.lc_core.proofs.Spans.{closed_in}
 
 -- bytes that are put over as many are there alone
@@ -80,20 +78,6 @@ left_next node (Here other) token = elim (cases_eq other node) [
       ]
 ]
 left_next node (Left other) token = refl
-
--- what is left of a list begins with what stands at the place
-pub first_left : {A : Type 0} (all left : List A) (n : ℕ) (x : A) → left ≡ drop n all → slice_get all n ≡ Some x → slice_get left 0 ≡ Some x
-first_left {A} all left n x is got =
-    let same : n + 0 ≡ n = omega arith in
-    ap (λ (l : List A). slice_get l 0) is ∙ at_drop n 0 all ∙ ap (slice_get all) same ∙ got
-
-pub some_left_over : {A : Type 0} (all left : List A) (n : ℕ) → left ≡ drop n all → n < length all → 0 < length left
-some_left_over all left n is within = (let at = some_at all n within in slice_get_within left 0 at.0 (first_left all left n at.0 is at.1))
-
-pub next_left : {A : Type 0} (all left : List A) (n : ℕ) (x : A) → left ≡ drop n all → n < length all → x ≡ slice_index_or left 0 x → slice_get all n ≡ Some x
-next_left {A} all left n x is within value =
-    let at = some_at all n within in
-    at.1 ∙ ap (λ (y : A). Some y) (sym (value ∙ get_or_from_slice_get left 0 at.0 x (first_left all left n at.0 is at.1)))
 
 -- tokens that a node has left are still of their segments
 pub tokens_left : (g : Geometry) (node : ℕ) (pieces : List SegmentPiece) (olds news : List (Option Token)) → length pieces ≡ length olds → length news ≡ length olds → AreTokens g olds → AreLeftAt node pieces olds news → AreTokens g news

@@ -5,8 +5,8 @@ use Rattle.std.proofs.lemmas.List.{append-nil, take-append-drop}
 use Rattle.lc_record.specs.Codec.{BeginsWith, BeginsNoRecord}
 use Rattle.lc_record.specs.Record.{IsRecord, record_len, spelling}
 use Rattle.lc_record.specs.declared.record.Record.{Record}
-use Rattle.lc_record.proofs.PuttingLemmas.{at_drop}
 use Rattle.lc_record.proofs.RecordLemmas.{one_reading}
+use Rattle.lc_record.proofs.ListLemmas.{slice_get-drop as at_drop}
 use Rattle.lc_disk.specs.declared.area.Area.{Ghosts}
 use Rattle.lc_log.specs.LogText.{IsWhole}
 use Rattle.lc_model.specs.State.{Setting, State}

@@ -1,7 +1,7 @@
 -- What a thread sets, and why it may not.
 use Rattle.std.proofs.Common.{◌≡◌, ◌≢◌, ℕ, ◌+◌, ◌-◌, ◌^◌, ◌<◌, ◌≤◌, min, true, false, ◌==◌, ◌||◌, nat_le, List, length, Some, None, refl, sym, ap, subst, ◌∙◌, arith, le-leb, ne_eqb, eq-eqb, true≢false, inl, inr}
 use Rattle.std.specs.Prelude.{Result, Ok, Err, OnOk, OnErr}
-use Rattle.std.proofs.lemmas.Bool.{cases_lt, cases_Bool, false_from_ne_true, or_from}
+use Rattle.std.proofs.lemmas.Bool.{cases_lt, cases_Bool, false_from_ne_true, or_from, lt-leb as le-false}
 use Rattle.lc_record.specs.Transaction.{is_member, locks, holds}
 use Rattle.lc_record.specs.Geometry.{segment_len}
 use Rattle.lc_record.specs.Marks.{marked, ranges}
@@ -28,7 +28,6 @@ use Rattle.lc_core.specs.declared.here.Here.{Here}
 use Rattle.lc_core.specs.Seat.{Seat}
 use Rattle.lc_core.specs.Desk.{IsOpen, FitsDesk}
 use Rattle.lc_core.specs.SeatCalls.{RangeAnswers}
-use Rattle.lc_core.proofs.Refusing.{le-false}
 
 -- The locks of an open transaction, and the length of what it locked
 

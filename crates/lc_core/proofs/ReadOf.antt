@@ -7,6 +7,7 @@ use Rattle.std.proofs.lemmas.Option.{get_or_from_slice_get, slice_get_within}
 use Rattle.lc_disk.specs.declared.area.Area.{Ghosts}
 use Rattle.lc_model.specs.State.{Travelling}
 use Rattle.lc_record.specs.declared.record.Record.{Record}
+use Rattle.lc_record.proofs.ListLemmas.{slice_get_some as some_at, slice_get-map_some as get-map, slice_get_from_map as mapped_at}
 use Rattle.lc_rest.specs.Holder.{IsPlaced}
 use Rattle.lc_rest.specs.Merge.{logs_of, number_at}
 use Rattle.lc_rest.specs.Passed.{Read, merged as merged_records}
@@ -36,9 +37,6 @@ use Rattle.lc_core.specs.declared.read_cluster.ReadCluster.{ReadCluster}
 use Rattle.lc_core.specs.declared.read_parts.ReadParts.{ReadParts}
 use Rattle.lc_rest.specs.declared.segment_part.SegmentPart.{SegmentPart}
 use Rattle.lc_core.specs.declared.up.Up.{Up}
-use Rattle.lc_core.proofs.Closes.{get-map}
-use Rattle.lc_core.proofs.ClusterReads.{mapped_at}
-use Rattle.lc_core.proofs.Seating.{some_at}
 use Rattle.lc_core.proofs.TokenReads.{at_next, length_numbers, number_next}
 
 mapped_or : {A B : Type 0} (f : A → B) (xs : List A) (n : ℕ) (x : A) (d : B) → slice_get xs n ≡ Some x → slice_index_or (map f xs) n d ≡ f x

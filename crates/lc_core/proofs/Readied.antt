@@ -4,7 +4,7 @@ use Rattle.std.specs.Prelude.{◌↔◌, ◌^◌, slice_get, Result, Ok, Err, Is
 use Rattle.std.specs.Option.{ForSome}
 use Rattle.std.proofs.lemmas.Bool.{false_from_ne_true, lt-ltb, le-ltb}
 use Rattle.std.proofs.lemmas.List.Elements.{All-head, All-tail}
-use Rattle.std.proofs.lemmas.Option.{slice_get_read}
+use Rattle.std.proofs.lemmas.Option.{slice_get_read, slice_get_within as below}
 use Rattle.lc_record.specs.Marks.{is_empty}
 use Rattle.lc_record.specs.Layout.{layout_len}
 use Rattle.lc_record.specs.Record.{record_layout, record_len}
@@ -13,6 +13,7 @@ use Rattle.lc_record.specs.declared.layout.Layout.{Layout}
 use Rattle.lc_record.specs.declared.record.Record.{Record}
 use Rattle.lc_record.specs.declared.record.Lock.{Lock}
 use Rattle.lc_record.proofs.LockLemmas.{meet_locks}
+use Rattle.lc_record.proofs.ListLemmas.{All-append_right as All-right}
 use Rattle.lc_range.specs.RangeSet.{IsCanonical}
 use Rattle.lc_model.specs.History.{History, transactions, value}
 use Rattle.lc_model.specs.Machine.{Row, dropped, may_refuse_reserve}
@@ -27,7 +28,7 @@ use Rattle.lc_model.specs.declared.reply.Reply.{Reply}
 use Rattle.lc_model.specs.declared.reply.Reply.TheVariants.{Reserved, Ended, Refused}
 use Rattle.lc_model.proofs.Fronts.{entry}
 use Rattle.lc_model.proofs.Holders.{is_by-both}
-use Rattle.lc_model.proofs.Lists.{All-right, found-all, found-passes, split}
+use Rattle.lc_model.proofs.Lists.{found-all, found-passes, split}
 use Rattle.lc_model.proofs.Merging.{counted-length}
 use Rattle.lc_model.proofs.RecordBytes.{sets-locks}
 use Rattle.lc_model.proofs.Rows.{reserve-ended, reserve-refused}
@@ -60,11 +61,6 @@ use Rattle.lc_core.proofs.Seating.{open_seat}
 use Rattle.lc_core.proofs.Settling.{may_all, refusal-may}
 
 -- What it locked is small
-
-below : {A : Type 0} (xs : List A) (k : ℕ) (x : A) → slice_get xs k ≡ Some x → k < length xs
-below [] k x is = absurd cc
-below (y ∷ ys) zero x is = omega arith
-below (y ∷ ys) (suc k) x is = (let less : k < length ys = below ys k x is in omega (arith, less))
 
 -- a segment that is here is one of 16
 pub known_here : (here : Here) → vec_len here.slots ≤ 16 → (segment : ℕ) → IsHere the_images here segment → (1 ≤ segment) × (segment ≤ 16)

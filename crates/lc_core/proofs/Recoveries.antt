@@ -8,6 +8,7 @@ use Rattle.lc_disk.specs.declared.choice.Choice.{Choice}
 use Rattle.lc_record.specs.Content.{Content}
 use Rattle.lc_record.specs.declared.geometry.Geometry.{Geometry}
 use Rattle.lc_record.specs.Transaction.{Transaction, effects}
+use Rattle.lc_record.proofs.ListLemmas.{slice_get-map_some as get-map, OnErr_from as on_err, slice_get-drop as get-drop}
 use Rattle.std.proofs.lemmas.List.{length-drop, length-map, length-replicate}
 use Rattle.std.proofs.lemmas.Option.{slice_get_within}
 use Rattle.lc_page.specs.Page.{slot_at}
@@ -16,8 +17,7 @@ use Rattle.lc_page.specs.declared.page_text.PageText.{PageText}
 use Rattle.lc_page.proofs.StateLemmas.{clean_settled}
 use Rattle.lc_recover.specs.Reads.{AreHonest, AreOfBytes, AllMergeTo, HaveLengths, area_count}
 use Rattle.lc_recover.specs.Recovered.{page_read_of}
-use Rattle.lc_recover.proofs.Images.{count-areas, get-drop}
-use Rattle.lc_core.proofs.Closes.{get-map}
+use Rattle.lc_recover.proofs.Images.{count-areas}
 use Rattle.lc_core.proofs.PageWrites.{of_pages, pages_same}
 use Rattle.lc_core.proofs.PagesTurned.{halts_still}
 use Rattle.lc_core.proofs.Rising.{IsResult, get-replicate, result_of, rises}
@@ -54,7 +54,6 @@ use Rattle.lc_core.specs.Recovering.{ComesUp, RepliesTo}
 use Rattle.lc_core.specs.Pages.{FitsArea, FitsPages, IsAtRest, IsPageAt, areas_of}
 use Rattle.lc_core.specs.HonestAreas.{HonestUp}
 use Rattle.lc_core.specs.World.{Begins, BeginsAnew, FitsDown, FitsPhase, FitsUp, FollowsAnyhow, FollowsUp, Leads, LeadsTo, StillFitsUp}
-use Rattle.lc_core.proofs.Refusing.{on_err}
 use Rattle.lc_core.specs.declared.phase.Phase.{Phase}
 use Rattle.lc_core.specs.declared.phase.Phase.TheVariants.{Down, Up, Taken}
 use Rattle.lc_core.specs.declared.page_state.PageState.{PageState}

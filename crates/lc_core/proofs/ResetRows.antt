@@ -6,6 +6,7 @@ use Rattle.std.proofs.lemmas.List.{length-drop, length-take-le}
 use Rattle.std.specs.Prelude.{◌==◌, nat_lt, is_some, IsTrue, if◌then◌else◌}
 use Rattle.lc_disk.specs.declared.area.Area.{Ghosts}
 use Rattle.lc_record.specs.declared.record.Record.{Record}
+use Rattle.lc_record.proofs.ListLemmas.{drop-take_same as nothing_behind}
 use Rattle.lc_trunc.specs.declared.unclean.Unclean.{Unclean as Pair}
 use Rattle.lc_model.specs.History.{reserved}
 use Rattle.lc_model.specs.Machine.{Row, halting, may_reset}
@@ -31,7 +32,7 @@ use Rattle.lc_core.specs.declared.journal.Journal.{Journal}
 use Rattle.lc_core.specs.declared.log.Log.{Log}
 use Rattle.lc_core.specs.declared.log.Log.TheVariants.{Idle, Written, Synced, Opened, Sealed, Closing, Emptied, Failed, Torn, Taken}
 use Rattle.lc_core.proofs.Logged.{as_many, count_same}
-use Rattle.lc_core.proofs.Sealing.{nothing_behind, reset_fits, torn_fits}
+use Rattle.lc_core.proofs.Sealing.{reset_fits, torn_fits}
 
 -- What is settled
 

@@ -17,6 +17,7 @@ use Rattle.lc_record.specs.Marks.{counting}
 use Rattle.lc_record.specs.Transaction.{Transaction, effects}
 use Rattle.lc_record.specs.declared.geometry.Geometry.{Geometry}
 use Rattle.lc_record.specs.declared.part.Part.{Part}
+use Rattle.lc_record.proofs.ListLemmas.{slice_get_some as get-some, length-counting, slice_get-map_some as get-map, slice_get_from_map as from-map}
 use Rattle.lc_token.specs.Backlog.{Backlog, Ascends}
 use Rattle.lc_token.specs.Standing.{Standing}
 use Rattle.lc_token.specs.declared.token.Token.{Token}
@@ -37,7 +38,7 @@ use Rattle.lc_model.proofs.One.{one-result}
 use Rattle.lc_model.proofs.Recovered.{renewed-fits}
 use Rattle.lc_recover.specs.Reads.{AllMergeTo, AreHonest, AreImages, AreOfBytes, store_of}
 use Rattle.lc_recover.specs.Recovered.{RecoveredStore, page_of, page_read_of, sequence_of, IsMade}
-use Rattle.lc_recover.proofs.Images.{from-map, get-counting, get-map, get-some, in-segment, length-counting, own-image}
+use Rattle.lc_recover.proofs.Images.{get-counting, in-segment, own-image}
 use Rattle.lc_core.specs.Desk.{FitsDesk, FitsSeat}
 use Rattle.lc_core.specs.Fresh.{segment_bytes, fresh_token, text_read_of, IsFresh, IsFreshNode}
 use Rattle.lc_core.specs.Here.{beside, hidden, image_at, number_at, number_in, the_images}

@@ -30,11 +30,6 @@ pub drop_all : {A : Type 0} (xs : List A) → drop (length xs) xs ≡ []
 drop_all [] = refl
 drop_all (x ∷ xs) = drop_all xs
 
-pub nothing_behind : {A : Type 0} (n : ℕ) (xs : List A) → drop n (take n xs) ≡ []
-nothing_behind zero xs = refl
-nothing_behind (suc n) [] = refl
-nothing_behind (suc n) (x ∷ xs) = nothing_behind n xs
-
 pub drop_at : {A : Type 0} (n : ℕ) (xs : List A) (x : A) → slice_get xs n ≡ Some x → drop n xs ≡ x ∷ drop (suc n) xs
 drop_at n [] x is = absurd cc
 drop_at {A} zero (y ∷ xs) x is = ap (λ (z : A). z ∷ xs) (same_some y x is)

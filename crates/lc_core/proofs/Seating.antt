@@ -1,5 +1,5 @@
 -- The seats of a node's threads.
-use Rattle.std.proofs.Common.{◌≡◌, ◌≢◌, ℕ, zero, suc, ◌<◌, true, false, List, [], ◌∷◌, length, Option, Some, None, is_some, refl, sym, ap, ◌∙◌, inl, inr, arith}
+use Rattle.std.proofs.Common.{◌≡◌, ◌≢◌, ℕ, zero, suc, true, false, List, [], ◌∷◌, Option, Some, None, is_some, refl, sym, ap, ◌∙◌, inl, inr}
 use Rattle.std.specs.Prelude.{slice_get, slice_set, replicate, ◌⊎◌}
 use Rattle.std.proofs.lemmas.Bool.{cases_eq}
 use Rattle.lc_tx.specs.declared.tx.Tx.{Tx}
@@ -14,12 +14,6 @@ pub set_same : {A : Type 0} (xs : List A) (k : ℕ) (x : A) → slice_get xs k �
 set_same [] k x is = refl
 set_same (z ∷ xs) zero x is = ap (λ y. y ∷ xs) (sym (same_some z x is))
 set_same (z ∷ xs) (suc k) x is = ap (λ ys. z ∷ ys) (set_same xs k x is)
-
--- each place of a list has an element
-pub some_at : {A : Type 0} (xs : List A) (k : ℕ) → k < length xs → (x : A) × (slice_get xs k ≡ Some x)
-some_at [] k below = absurd (omega (arith, below))
-some_at (x ∷ xs) zero below = (x, refl)
-some_at (x ∷ xs) (suc k) below = (let less : k < length xs = omega (arith, below) in some_at xs k less)
 
 pub not_open : (seat : Seat) → is_open seat ≡ false → open_of seat ≡ None
 not_open Free is = refl

@@ -1,7 +1,7 @@
 -- What a thread reads at a node, and why it may not.
 use Rattle.std.proofs.Common.{◌≡◌, ℕ, ◌+◌, ◌<◌, ◌≤◌, Bool, true, false, List, length, take, drop, Some, None, sym, ap, subst, ◌∙◌, arith, le-leb, true≢false, inl, inr, ◌||◌}
 use Rattle.std.specs.Prelude.{◌↔◌, Result, Ok, Err}
-use Rattle.std.proofs.lemmas.Bool.{cases_lt, cases_Bool, false_from_ne_true}
+use Rattle.std.proofs.lemmas.Bool.{cases_lt, cases_Bool, false_from_ne_true, lt-leb as le-false}
 use Rattle.lc_record.specs.Transaction.{is_member, holds}
 use Rattle.lc_record.specs.Geometry.{segment_len}
 use Rattle.lc_model.specs.History.{value}
@@ -24,7 +24,6 @@ use Rattle.lc_core.specs.Here.{the_images}
 use Rattle.lc_core.specs.declared.here.Here.{Here}
 use Rattle.lc_core.specs.Seat.{Seat}
 use Rattle.lc_core.specs.Desk.{IsOpen, FitsDesk}
-use Rattle.lc_core.proofs.Refusing.{le-false}
 
 pub record ReadAnswers {V : Type 0} (bytes : List ℕ) (tx : Tx) (n offset len : ℕ) (r : Result V TxFault) : Type 0 where
   pub not_locked : (r ≡ Err IsNotLocked) ↔ (Holds tx n → ⊥)

@@ -1,5 +1,5 @@
 -- What a slot at a node shows is what the machine and the numbers have there.
-use Rattle.std.proofs.lemmas.Bool.{eq-eqb, leb-true, ltb-true, or_left}
+use Rattle.std.proofs.lemmas.Bool.{eq-eqb, leb-true, ltb-true, or_left, and_parts as and-both}
 use Rattle.std.proofs.Common.{◌≡◌, ℕ, suc, ◌+◌, true, false, List, find, All, Option, None, Some, refl, sym, ap, subst, ◌∙◌, arith, true≢false}
 use Rattle.std.specs.Prelude.{◌&&◌, ◌==◌, ◌≤◌, nat_le, ◌<◌, if◌then◌else◌, option_map, slice_get, IsSome}
 use Rattle.std.proofs.lemmas.Option.{slice_get-map}
@@ -7,13 +7,13 @@ use Rattle.lc_record.specs.Content.{Content, segment_of}
 use Rattle.lc_record.specs.Transaction.{Transaction, is_member, locks}
 use Rattle.lc_record.specs.declared.geometry.Geometry.{Geometry}
 use Rattle.lc_record.proofs.LockLemmas.{lock_holds}
+use Rattle.lc_record.proofs.ListLemmas.{slice_get_some as some_at, All-append_left as All-left}
 use Rattle.lc_model.specs.History.{value}
 use Rattle.lc_model.specs.Refusals.{is_at, is_node, is_page, is_segment}
 use Rattle.lc_model.specs.Sound.{Sound, IsHere as HasTokens, IsProper, unclosed}
 use Rattle.lc_model.specs.State.{At, Setting, State, is_by}
 use Rattle.lc_model.proofs.Holders.{is_by-same}
-use Rattle.lc_model.proofs.Rows.{and-both}
-use Rattle.lc_model.proofs.Lists.{All-left, found-all, found-passes, not_found}
+use Rattle.lc_model.proofs.Lists.{found-all, found-passes, not_found}
 use Rattle.lc_tx.specs.Holders.{writer_of}
 use Rattle.lc_tx.specs.Images.{IsHere, bytes_of, holders_of}
 use Rattle.lc_tx.specs.declared.tx.Tx.{Tx}
@@ -27,7 +27,7 @@ use Rattle.lc_core.specs.Slots.{FitsSlots, besides_of, segment_to}
 use Rattle.lc_core.specs.declared.here.Here.{Here}
 use Rattle.lc_core.specs.declared.slot.Slot.{Slot}
 use Rattle.lc_core.proofs.Holding.{find-left, only-holder}
-use Rattle.lc_core.proofs.Seating.{seat_of, some_at}
+use Rattle.lc_core.proofs.Seating.{seat_of}
 
 -- a page that there is
 pub page_known : (g : Geometry) (node segment page : ℕ) → (is_node g node && is_segment g segment && is_page g page) ≡ true → (node < g.nodes) × (1 ≤ segment) × (segment ≤ g.segments)

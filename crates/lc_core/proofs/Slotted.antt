@@ -13,6 +13,7 @@ use Rattle.lc_record.specs.Recorded.{records_from}
 use Rattle.lc_record.specs.Transaction.{Transaction, effects, holds}
 use Rattle.lc_record.specs.declared.part.Part.{Part}
 use Rattle.lc_record.proofs.LockLemmas.{lock_holds}
+use Rattle.lc_record.proofs.ListLemmas.{slice_get-map_some as get-map, All-append_right as All-right}
 use Rattle.lc_token.specs.declared.token.Token.{Token}
 use Rattle.lc_trunc.specs.Clean.{all_of, closed_of}
 use Rattle.lc_tx.specs.declared.holders.Holders.TheVariants.{Free}
@@ -27,7 +28,6 @@ use Rattle.lc_model.specs.Stored.{base, up_to}
 use Rattle.lc_model.proofs.Fronts.{entry, no_holder}
 use Rattle.lc_model.proofs.Keeps.{transactions-push, history-well, unclosed-here}
 use Rattle.lc_model.proofs.Law.{effects-append}
-use Rattle.lc_model.proofs.Lists.{All-right}
 use Rattle.lc_model.proofs.Merging.{counted-length, of_a_segment, records_from-append}
 use Rattle.lc_model.proofs.Numbers.{part-replicate}
 use Rattle.lc_model.proofs.RecordBytes.{sets-locks}
@@ -48,7 +48,6 @@ use Rattle.lc_core.specs.declared.here.Here.{Here}
 use Rattle.lc_core.specs.Seat.{Seat}
 use Rattle.lc_core.specs.declared.slot.Slot.{Slot}
 use Rattle.lc_core.proofs.Appending.{get-before}
-use Rattle.lc_core.proofs.Closes.{get-map}
 use Rattle.lc_core.proofs.Holding.{holders-proper}
 use Rattle.lc_core.proofs.Reserved.{closed_appended}
 

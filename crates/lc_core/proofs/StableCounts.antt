@@ -5,6 +5,7 @@ use Rattle.std.proofs.Math.Seq.{take-nil}
 use Rattle.std.proofs.lemmas.Bool.{cases_lt, le-ltb, lt-ltb}
 use Rattle.std.proofs.lemmas.List.Elements.{All-head, All-tail, filter-append}
 use Rattle.lc_record.specs.declared.record.Record.{Record}
+use Rattle.lc_rest.proofs.Stables.{count-behind as dropped_one}
 use Rattle.lc_model.specs.Merging.{is_from}
 use Rattle.lc_rest.specs.Adopted.{count_from}
 use Rattle.lc_rest.specs.Stable.{stable_count}
@@ -40,10 +41,6 @@ total_more f h (suc m) more (suc n) less its others =
     omega (arith, one, rest)
 
 -- In the logs
-
-dropped_one : (counts : List ℕ) (k : ℕ) → slice_index_or (drop 1 counts) k 0 ≡ slice_index_or counts (suc k) 0
-dropped_one [] k = refl
-dropped_one (count ∷ counts) k = refl
 
 in_logs : (segment : ℕ) (logs : List (List Record)) (counts : List ℕ) → stable_count segment logs counts ≡ total (λ n. count_log segment (take (slice_index_or counts n 0) (slice_index_or logs n []))) (length logs)
 unfolding total

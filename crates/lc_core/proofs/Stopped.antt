@@ -8,10 +8,11 @@ use Rattle.std.proofs.lemmas.Option.{slice_get-map, slice_get_past, slice_get_wi
 use Rattle.lc_disk.specs.declared.area.Area.{Ghosts}
 use Rattle.lc_disk.specs.declared.choice.Choice.{Choice}
 use Rattle.lc_record.specs.declared.geometry.Geometry.{Geometry}
+use Rattle.lc_record.proofs.ListLemmas.{slice_get_some as get-some, slice_get-append_left as front_get, slice_get-map_some as get-map, slice_get-drop as get-drop}
 use Rattle.lc_recover.specs.Reads.{AreHonest, HaveLengths, area_count}
 use Rattle.lc_recover.specs.Recovery.{Recovering, begun}
 use Rattle.lc_recover.proofs.Going.{same_lists}
-use Rattle.lc_recover.proofs.Images.{get-drop, get-map, get-some, len-log, len-none, len-segment}
+use Rattle.lc_recover.proofs.Images.{len-log, len-none, len-segment}
 use Rattle.lc_model.specs.Machine.{Row, StopRow}
 use Rattle.lc_model.specs.Refusals.{Unless, common_refusal}
 use Rattle.lc_model.specs.State.{Phase as Condition, DownAt, Up as IsUpNow, Setting, State}
@@ -36,7 +37,6 @@ use Rattle.lc_core.specs.declared.phase.Phase.TheVariants.{Down, Up, Taken}
 use Rattle.lc_core.specs.declared.up.Up.{Up as Rising}
 use Rattle.lc_core.proofs.Devices.{log_area_of}
 use Rattle.lc_core.proofs.Failures.{beside_segments}
-use Rattle.lc_core.proofs.Gathering.{front_get}
 use Rattle.lc_core.proofs.ImagesFit.{stopped_failures, stopped_honest, stopped_lengths, stopped_merge_one, stopped_merge_same}
 
 -- the choices of a stop

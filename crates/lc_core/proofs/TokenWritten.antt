@@ -7,6 +7,7 @@ use Rattle.lc_page.specs.declared.entry.Entry.{Entry}
 use Rattle.lc_page.specs.declared.page_text.PageText.{PageText}
 use Rattle.lc_page.specs.PageVector.{entry_at, entry_text, is_dirty as is_dirty_entry, no_entry, settled, settled_text}
 use Rattle.lc_record.specs.Marks.{counting}
+use Rattle.lc_model.proofs.Moves.{update_at-own as own_at}
 use Rattle.lc_token.specs.Token.{IsWritten}
 use Rattle.lc_token.specs.declared.token.Token.{Token}
 use Rattle.lc_trunc.specs.Clean.{closed_of}
@@ -19,7 +20,7 @@ use Rattle.lc_core.specs.Numbers.{Numbers, stable, token_number}
 use Rattle.lc_core.specs.Settled.{begun_number}
 use Rattle.lc_core.specs.Slots.{FitsToken}
 use Rattle.lc_core.specs.Turns.{is_dirty, oldest_dirty, page_settled, settled_with, written}
-use Rattle.lc_core.proofs.Gained.{other_segment, own_at}
+use Rattle.lc_core.proofs.Gained.{other_segment}
 use Rattle.lc_core.proofs.Oldest.{reached_is}
 
 module _ (m : Setting) (s : State) (x : Numbers) (node segment page : ℕ) (old new : Token) (text : Page) (begun : x.disks.begun segment page ≡ Some text)

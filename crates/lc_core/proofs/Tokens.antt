@@ -5,6 +5,8 @@ use Rattle.std.specs.Option.{ForSome}
 use Rattle.std.proofs.lemmas.Bool.{cases_eq, eq-eqb, le-ltb, lt-ltb, ne_eqb}
 use Rattle.lc_disk.specs.declared.area.Area.{Ghosts}
 use Rattle.lc_record.specs.Content.{segment_of}
+use Rattle.lc_record.proofs.ListLemmas.{slice_get-map_some as get-map}
+use Rattle.lc_model.proofs.Moves.{update_at-own as own_at}
 use Rattle.lc_model.specs.History.{reserved, value}
 use Rattle.lc_model.specs.Machine.{Row, placed}
 use Rattle.lc_model.specs.Refusals.{refuse_if, leave_refusal}
@@ -39,10 +41,9 @@ use Rattle.lc_core.specs.declared.here.Here.{Here}
 use Rattle.lc_core.specs.declared.journal.Journal.{Journal}
 use Rattle.lc_core.specs.declared.node.Node.{Node}
 use Rattle.lc_core.specs.declared.slot.Slot.{Slot}
-use Rattle.lc_core.proofs.Closes.{get-map}
 use Rattle.lc_trunc.specs.KnownClean.{Sees, known as known_of}
 use Rattle.lc_model.specs.Moves.{update_at}
-use Rattle.lc_core.proofs.Gained.{other_node, other_segment, own_at}
+use Rattle.lc_core.proofs.Gained.{other_node, other_segment}
 use Rattle.lc_core.proofs.Going.{settled_by, stays_so}
 use Rattle.lc_core.proofs.Holding.{free-unheld}
 use Rattle.lc_core.proofs.Others.{beside_placed}

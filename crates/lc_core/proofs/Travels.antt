@@ -2,7 +2,7 @@
 use Rattle.std.proofs.Common.{◌≡◌, ◌⊎◌, ℕ, zero, suc, ◌+◌, ◌-◌, List, [], ◌∷◌, get_or, true, ◌≤◌, leb-true, Option, Some, None, refl, sym, ap, subst, ◌∙◌, inl, inr, arith}
 use Rattle.std.specs.Prelude.{slice_get, slice_set, nat_le, ◌&&◌}
 use Rattle.std.specs.Option.{ForSome}
-use Rattle.std.proofs.lemmas.Bool.{cases_eq}
+use Rattle.std.proofs.lemmas.Bool.{cases_eq, and_parts as and-both}
 use Rattle.std.proofs.lemmas.List.{length-set}
 use Rattle.std.proofs.lemmas.Option.{slice_get_read}
 use Rattle.lc_disk.specs.declared.area.Area.{Ghosts}
@@ -15,7 +15,7 @@ use Rattle.lc_model.specs.declared.refusal.Refusal.TheVariants.{OutOfTurn}
 use Rattle.lc_model.specs.declared.reply.Reply.{Reply}
 use Rattle.lc_model.specs.declared.reply.Reply.TheVariants.{Refused}
 use Rattle.lc_model.specs.Refusals.{are_known, by_node, is_node, is_segment}
-use Rattle.lc_model.proofs.Rows.{and-both, arrive-no_turn, node_known}
+use Rattle.lc_model.proofs.Rows.{arrive-no_turn, node_known}
 use Rattle.lc_core.specs.Node.{GoesOn, moved_by}
 use Rattle.lc_core.specs.Nodes.{AreNamed}
 use Rattle.lc_core.specs.Numbers.{Numbers}

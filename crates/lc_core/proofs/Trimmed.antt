@@ -1,10 +1,11 @@
 -- The published records that every node has applied are counted, and trimmed.
-use Rattle.std.proofs.Common.{◌≡◌, ℕ, zero, suc, ◌+◌, ◌-◌, ◌<◌, ◌≤◌, Bool, true, false, List, [], ◌∷◌, map, length, take, All, Some, slice_get, refl, sym, ap, subst, ◌∙◌, arith, below_more}
+use Rattle.std.proofs.Common.{◌≡◌, ℕ, zero, suc, ◌+◌, ◌-◌, ◌<◌, ◌≤◌, Bool, true, false, List, [], ◌∷◌, map, length, take, All, Some, slice_get, refl, sym, ap, ◌∙◌, arith, below_more}
 use Rattle.std.specs.Prelude.{◌&&◌, if◌then◌else◌}
 use Rattle.std.specs.List.{list_all}
 use Rattle.std.proofs.lemmas.List.{length-map, length-drop, length-replicate, length-take-le}
 use Rattle.std.proofs.lemmas.List.Elements.{All-nil, All-cons, All-head, All-tail, All-weaker}
-use Rattle.std.proofs.lemmas.Option.{get_or_from_slice_get, slice_get_within}
+use Rattle.std.proofs.lemmas.Option.{slice_get_within}
+use Rattle.std.proofs.Math.Bool.{and-false as and_false}
 use Rattle.lc_disk.specs.declared.area.Area.{Ghosts}
 use Rattle.lc_record.specs.Content.{Content}
 use Rattle.lc_record.specs.Geometry.{segment_len}
@@ -12,7 +13,7 @@ use Rattle.lc_record.specs.Marks.{counting}
 use Rattle.lc_record.specs.Recorded.{is_set, locks_of, record_of, records_from, counted}
 use Rattle.lc_record.specs.Transaction.{Marks, Transaction, effect}
 use Rattle.lc_record.specs.declared.record.Record.{Record}
-use Rattle.lc_record.proofs.PuttingLemmas.{at_drop}
+use Rattle.lc_record.proofs.ListLemmas.{All-slice_get as got, slice_get-take as get_take, slice_get-drop as at_drop}
 use Rattle.lc_model.specs.History.{leading, transactions}
 use Rattle.lc_model.specs.Merging.{is_from}
 use Rattle.lc_model.specs.Sound.{Sound, IsProper}
@@ -31,10 +32,6 @@ use Rattle.lc_core.proofs.Published.{kept_at}
 use Rattle.lc_core.proofs.Spans.{leading_le}
 
 -- Lists
-
-and_false : (b : Bool) → (b && false) ≡ false
-and_false true = refl
-and_false false = refl
 
 pub all_pass : {A : Type 0} (p : A → Bool) (xs : List A) → ((k : ℕ) (x : A) → slice_get xs k ≡ Some x → p x ≡ true) → list_all p xs ≡ true
 all_pass p [] each = refl
@@ -80,15 +77,6 @@ leads_to p (y ∷ xs) (suc count) x is fails each =
     let some : 0 < suc count = omega arith in
     let rest = leads_to p xs count x is fails (λ k z below at. (let less : suc k < suc count = omega (arith, below) in each (suc k) z less at)) in
     ap (λ b. leading (b ∷ map p xs)) (each 0 y some refl) ∙ omega (arith, rest)
-
-pub get_take : {A : Type 0} (n k : ℕ) (xs : List A) → k < n → slice_get (take n xs) k ≡ slice_get xs k
-get_take zero k xs within = absurd (omega (arith, within))
-get_take (suc n) k [] within = refl
-get_take (suc n) zero (x ∷ xs) within = refl
-get_take (suc n) (suc k) (x ∷ xs) within = (let less : k < n = omega (arith, within) in get_take n k xs less)
-
-got : {A : Type 0} (P : A → Type 0) (xs : List A) (k : ℕ) (x : A) → All P xs → slice_get xs k ≡ Some x → P x
-got P xs k x all is = subst P (get_or_from_slice_get xs k x x is) (all k x (slice_get_within xs k x is))
 
 -- What a record has locks on
 

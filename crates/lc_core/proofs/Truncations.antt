@@ -9,18 +9,13 @@ use Rattle.lc_model.specs.declared.reply.Reply.{Reply}
 use Rattle.lc_model.specs.declared.reply.Reply.TheVariants.{Ok as IsDone, Bytes, Reserved, Ended, Stepped, Acked, Nothing, Applied, HeldBack, Ignored, Trimmed, Written, Reset, Down as IsDown, Recovered, Refused}
 use Rattle.lc_core.specs.Truncating.{AsksFirst, ending, CallsDue, CallsIf, EachFrom, Repeats, Round, StepsTo, WritesSegment, is_due, refusal_in, stopping}
 use Rattle.lc_core.specs.Truncation.{IsNext, IsOn, Leads, Then, ThenCleans, ThenResets, WritesAt, WritesFrom, WritesIf}
+use Rattle.lc_record.proofs.ListLemmas.{sub_suc as one_more, sub_none as none_more}
 use Rattle.lc_core.specs.declared.page_cursor.PageCursor.{PageCursor}
 use Rattle.lc_core.specs.declared.truncation_step.TruncationStep.{TruncationStep}
 use Rattle.lc_core.specs.declared.truncation_step.TruncationStep.TheVariants.{Continues, Ends}
 use Rattle.lc_core.specs.declared.world.World.{World}
 
 -- How much is left
-
-one_more : (n k : ℕ) → k < n → suc (n - (k + 1)) ≡ n - k
-one_more n k lt = omega (arith, lt)
-
-none_more : (n k : ℕ) → n ≤ k → 0 ≡ n - k
-none_more n k past = omega (arith, past)
 
 all_left : (n : ℕ) → n - 0 ≡ n
 all_left n = omega arith

@@ -1,7 +1,7 @@
 -- What a thread writes, and why it may not.
 use Rattle.std.proofs.Common.{◌≡◌, ◌≢◌, ℕ, ◌+◌, ◌<◌, ◌≤◌, true, nat_le, List, length, Some, None, refl, sym, ap, subst, ◌∙◌, arith, le-leb, true≢false, inl, inr}
 use Rattle.std.specs.Prelude.{◌↔◌, Result, Ok, Err, IsOk, OnOk, OnErr}
-use Rattle.std.proofs.lemmas.Bool.{cases_lt, cases_Bool, false_from_ne_true, or_from}
+use Rattle.std.proofs.lemmas.Bool.{cases_lt, cases_Bool, false_from_ne_true, or_from, lt-leb as le-false}
 use Rattle.lc_record.specs.Content.{segment_of}
 use Rattle.lc_record.specs.Transaction.{is_member, all_set}
 use Rattle.lc_record.specs.Geometry.{segment_len}
@@ -30,7 +30,6 @@ use Rattle.lc_core.specs.Places.{same_some}
 use Rattle.lc_core.specs.Seats.{Runs}
 use Rattle.lc_core.proofs.Changing.{seen_keeps}
 use Rattle.lc_core.proofs.RangeRows.{lock_is, read_holds, none_holds, size_is}
-use Rattle.lc_core.proofs.Refusing.{le-false}
 
 -- Every other thread's transaction has what it stands on, whether the write is done or refused
 pub write_leaves : (old new : Here) (tx : Tx) (i n offset : ℕ) (bytes : List ℕ) (r : Result (Unit {0}) TxFault) → Runs old i tx

@@ -1,11 +1,10 @@
 -- What the making of a store's files has made, and taken away.
-use Rattle.std.proofs.Common.{◌≡◌, ◌<◌, ◌≤◌, ℕ, ◌+◌, arith, sym, ◌∙◌, ap, ◌⊎◌, inl, inr, Bool, true, false, None}
-use Rattle.std.specs.Prelude.{Result, Err}
+use Rattle.std.proofs.Common.{◌≡◌, ◌<◌, ◌≤◌, ℕ, ◌+◌, arith, sym, ◌∙◌, ap, inl, inr, Bool, false, None}
+use Rattle.std.specs.Prelude.{Err}
 use Rattle.std.proofs.lemmas.Bool.{cases_lt}
 use Rattle.lc_record.specs.declared.geometry.Geometry.{Geometry}
-use Rattle.lc_files.specs.Files.{Files, store_name_at}
+use Rattle.lc_files.specs.Files.{Files}
 use Rattle.lc_files.specs.Making.{ChangesAt, Inits, IsOther, MadeFirst, NoneTaken, new_at, new_count, new_name, new_name_at}
-use Rattle.lc_files.specs.Renewing.{Removes}
 use Rattle.lc_files.specs.declared.folder.FolderFault.{FolderFault}
 use Rattle.lc_files.specs.declared.making.Cause.TheVariants.{Folder}
 use Rattle.lc_files.specs.declared.making.Unmade.{Unmade}

@@ -1,8 +1,9 @@
 -- What is left of what was sent.
-use Rattle.std.proofs.Common.{◌≡◌, List, [], ◌∷◌, ◌++◌, length, drop, sym, refl, ap, ◌∙◌, append_assoc, arith}
+use Rattle.std.proofs.Common.{◌≡◌, List, [], ◌∷◌, ◌++◌, length, drop, sym, ap, ◌∙◌, append_assoc}
 use Rattle.std.specs.Prelude.{Result, Ok, Err, MatchOption, MatchResult}
 use Rattle.std.specs.Result.{result_ok}
 use Rattle.std.proofs.lemmas.List.Prefix.{front_rest}
+use Rattle.std.proofs.lemmas.List.{nil_from_length as no_items}
 use Rattle.crossbeam_channel.specs.Fifo.{Held}
 use Rattle.lc_line.specs.declared.log.Log.{Log}
 use Rattle.lc_line.specs.Order.{TakesFirst, IsTotal}
@@ -10,10 +11,6 @@ use Rattle.lc_line.specs.Order.{TakesFirst, IsTotal}
 module _ {T : Type 0} where
   abbrev pub left : Log T → List T
   left v = drop (length v.taken) v.sent
-
-  no_items : (l : List T) → length l ≡ 0 → l ≡ []
-  no_items [] e = refl
-  no_items (x ∷ xs) e = absurd (omega arith)
 
   none_left : (v : Log T) → Held 0 (IsTotal v) → left v ≡ []
   none_left v held = front_rest v.sent v.taken held.0 held.2.0 ∙ no_items held.0 held.1

@@ -1,5 +1,5 @@
 -- The records that a log's words begin with, and where they stand.
-use Rattle.std.proofs.Common.{◌≡◌, ◌⊎◌, ℕ, zero, suc, ◌+◌, ◌≤◌, ◌<◌, ◌^◌, Bool, ltb, cond, List, [], ◌∷◌, ◌++◌, Option, Some, None, length, take, drop, refl, sym, ◌∙◌, ap, subst, inl, inr, arith, append_assoc, length-append, length-drop, take-append-drop}
+use Rattle.std.proofs.Common.{◌≡◌, ℕ, zero, suc, ◌+◌, ◌≤◌, ◌<◌, ◌^◌, Bool, ltb, cond, List, [], ◌∷◌, ◌++◌, Option, Some, None, length, take, drop, refl, sym, ◌∙◌, ap, subst, inl, inr, arith, append_assoc, length-append, length-drop, take-append-drop}
 use Rattle.std.specs.Prelude.{slice_get}
 use Rattle.std.specs.Borrow.{Bor}
 use Rattle.std.specs.Option.{option_map_or}
@@ -14,6 +14,7 @@ use Rattle.lc_record.specs.declared.record.Record.{Record}
 use Rattle.lc_record.proofs.SpellingLemmas.{length-spelling, nothing_begins_none}
 use Rattle.lc_record.proofs.ReadingLemmas.{bind_some}
 use Rattle.lc_record.proofs.RecordLemmas.{Reads, len_takes, none_begins, record_length, record_some, record_words, begins_from}
+use Rattle.lc_record.proofs.ListLemmas.{cases_Option as cases_option}
 use Rattle.lc_log.specs.LogText.{IsLogText, joined}
 use Rattle.lc_log.specs.InPlace.{spans_from, words_in_front, first_record, read_records, records_in, left_of}
 use Rattle.lc_log.proofs.WalkLemmas.{begins_whole, begins_len}
@@ -61,10 +62,6 @@ front_begins_none ws none r front rest is e =
     none r front (words_in_front rest) is (ap words_in_front e ∙ front-append front rest (record_words r front is))
 
 -- The record at the front
-
-cases_option : {A : Type 0} (o : Option A) → (o ≡ None) ⊎ ((x : A) × (o ≡ Some x))
-cases_option None = inl refl
-cases_option (Some x) = inr (x, refl)
 
 begins_len_of : (ws : List ℕ) (r : Record) (len : ℕ) → BeginsWith ws r len → len ≡ record_len r
 begins_len_of ws r len b = begins_len ws r len b ∙ length-spelling r

@@ -1,6 +1,5 @@
 -- How the first gate is closed over whatever stands behind it.
-use Rattle.std.proofs.Common.{◌≡◌, ◌≢◌, ◌↔◌, ℕ, zero, suc, ◌<◌, ◌%◌, Bool, true, false, IsTrue, if◌then◌else◌, List, [], ◌∷◌, ◌++◌, ◌≤◌, length, slice_index, slice_index_or, slice_get, Option, Some, None, ◌+◌, drop, refl, sym, ◌∙◌, ap, subst, inl, inr, arith}
-use Rattle.std.specs.Prelude.{Result, Ok, Err, OnOk}
+use Rattle.std.proofs.Common.{◌≡◌, ◌≢◌, ◌↔◌, ℕ, zero, suc, ◌<◌, ◌%◌, Bool, true, false, IsTrue, if◌then◌else◌, List, [], ◌∷◌, ◌++◌, ◌≤◌, length, slice_index, slice_index_or, slice_get, Option, Some, None, drop, refl, sym, ◌∙◌, ap, subst, inl, inr, arith}
 use Rattle.std.specs.Option.{unwrap_or}
 use Rattle.std.proofs.lemmas.Option.{none-some}
 use Rattle.std.proofs.lemmas.Bool.{cases_eq, false≢true}
@@ -138,11 +137,6 @@ first_word (a ∷ b ∷ c ∷ d ∷ []) ws fits long is = absurd (omega (arith, 
 first_word (a ∷ b ∷ c ∷ d ∷ e ∷ []) ws fits long is = absurd (omega (arith, long))
 first_word (a ∷ b ∷ c ∷ d ∷ e ∷ f ∷ []) ws fits long is = absurd (omega (arith, long))
 first_word (a ∷ b ∷ c ∷ d ∷ e ∷ f ∷ g ∷ []) ws fits long is = absurd (omega (arith, long))
-
--- what follows from what holds on success holds on success
-pub on_ok : {A B P Q : Type 0} (r : Result A B) → OnOk r P → (P → Q) → OnOk r Q
-on_ok (Ok x) given so = so given
-on_ok (Err e) given so = tt
 
 pub front_some : (ws : List ℕ) (w : ℕ) → 0 < length ws → slice_get ws 0 ≡ Some w → slice_index ws 0 ≡ w
 front_some [] w long is = absurd (omega (arith, long))

@@ -3,7 +3,7 @@ use Rattle.std.proofs.Common.{◌≡◌, ℕ, zero, suc, ◌+◌, ◌-◌, ◌*�
 use Rattle.std.specs.Int.{w64, from_le_bytes}
 use Rattle.std.specs.List.{flat_map, AllByRecursion}
 use Rattle.std.proofs.Math.Seq.{take-add, take-append_seam, drop-append_seam}
-use Rattle.std.proofs.lemmas.List.{reverse-append, length-take-le}
+use Rattle.std.proofs.lemmas.List.{reverse-append, length-take-le, nil_from_length as no_length}
 use Rattle.lc_record.specs.Codec.{BeginsWith}
 use Rattle.lc_record.specs.Record.{record_len, spelling, lock_words, range_words, version_of, header, IsRecord}
 use Rattle.lc_record.specs.Layout.{second_word}
@@ -57,10 +57,6 @@ last_word r = (
 at_seam : (xs : List ℕ) (y : ℕ) (ys : List ℕ) (d : ℕ) → get_or (xs ++ y ∷ ys) (length xs) d ≡ y
 at_seam [] y ys d = refl
 at_seam (x ∷ xs) y ys d = at_seam xs y ys d
-
-no_length : (xs : List ℕ) → length xs ≡ 0 → xs ≡ []
-no_length [] none = refl
-no_length (x ∷ xs) none = absurd (omega (arith, none))
 
 -- The records behind a place are found, the last first; the text has these before it and these behind it.
 pub record FoundBack (words : List ℕ) (found : List (ℕ × Record)) (end : ℕ) : Type 0 where

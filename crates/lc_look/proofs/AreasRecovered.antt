@@ -9,6 +9,7 @@ use Rattle.lc_disk.specs.declared.area.Area.{Ghosts}
 use Rattle.lc_record.specs.Content.{Content}
 use Rattle.lc_record.specs.Marks.{counting}
 use Rattle.lc_record.specs.declared.geometry.Geometry.{Geometry}
+use Rattle.lc_record.proofs.ListLemmas.{counting_push as counting_more}
 use Rattle.lc_model.specs.Merge.{MergeFault, MergesTo, Refuses, Store}
 use Rattle.lc_model.proofs.Outcome.{fault-apart, one-value}
 use Rattle.lc_model.specs.declared.refusal.Refusal.{Refusal}
@@ -168,12 +169,6 @@ module _ {D : Type 0} (a : Ghosts D) (g : Geometry) (areas : List D) where
 -- the numbers of the first segments
 abbrev pub first_segments : (ℕ → ℕ) → ℕ → List ℕ
 first_segments numbers count = flat_map (λ segment. segment_text segment (numbers segment)) (counting 1 count)
-
-pub counting_more : (from n : ℕ) → counting from (suc n) ≡ counting from n ++ (from + n) ∷ []
-counting_more from zero = ap (λ (k : ℕ). k ∷ []) (omega arith)
-counting_more from (suc n) =
-    let next : from + 1 + n ≡ from + suc n = omega arith in
-    ap (λ (l : List ℕ). from ∷ l) (counting_more (from + 1) n ∙ ap (λ (k : ℕ). counting (from + 1) n ++ k ∷ []) next)
 
 pub one_segment : (numbers : ℕ → ℕ) (segment : ℕ) (o m n : Option (List ℕ)) → 1 ≤ segment → Appends o m (first_segments numbers (segment - 1)) → Appends m n (segment_text segment (numbers segment))
     → Appends o n (first_segments numbers (segment + 1 - 1))

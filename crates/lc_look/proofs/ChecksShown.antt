@@ -8,13 +8,14 @@ use Rattle.std.proofs.lemmas.List.{flat_map_more}
 use Rattle.std.proofs.lemmas.List.Elements.{All-push, All-contains_itself, All-weaker, All-nil, All-head, All-tail, Contains-append_cases, Contains-append_left, Contains-append_right}
 use Rattle.lc_record.specs.Marks.{counting}
 use Rattle.lc_record.specs.declared.geometry.Geometry.{Geometry}
+use Rattle.lc_record.proofs.ListLemmas.{counting_push as counting_more}
 use Rattle.lc_model.specs.Merge.{MergesTo, Store}
 use Rattle.lc_model.specs.declared.reply.Reply.TheVariants.{Recovered as IsReply}
 use Rattle.lc_recover.specs.Forecast.{Foretold, IsForecast, IsPageBehind, sequence_of}
 use Rattle.lc_text.proofs.Writes.{same_bytes}
 use Rattle.lc_text.specs.Text.{number_text, recovered_text, reply_text, segment_text}
 use Rattle.lc_look.specs.Checks.{AreBehindIn, AreRising, BehindTexts, EndsWithRecovery, IsBehindText, Shows, behind_text, logs_text}
-use Rattle.lc_look.proofs.AreasRecovered.{counting_more, same_numbers}
+use Rattle.lc_look.proofs.AreasRecovered.{same_numbers}
 
 -- a text for each number, one behind the other
 pub next_text : (f : ℕ → List ℕ) (from n : ℕ) (o m p : Option (List ℕ)) → Appends o m (flat_map f (counting from n)) → Appends m p (f (from + n)) → Appends o p (flat_map f (counting from (n + 1)))

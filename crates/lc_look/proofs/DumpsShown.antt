@@ -7,11 +7,12 @@ use Rattle.lc_text.proofs.Writes.{same_bytes}
 use Rattle.lc_text.specs.Text.{hex_text}
 use Rattle.std.proofs.lemmas.Bool.{cases_lt}
 use Rattle.std.proofs.lemmas.List.{flat_map_more, length-map, length-set, take_more}
-use Rattle.std.proofs.lemmas.Option.{slice_get_past, slice_get_within}
+use Rattle.std.proofs.lemmas.Option.{slice_get_past, slice_get_within, same_Some as one_item}
 use Rattle.lc_disk.specs.declared.area.Area.{Ghosts}
 use Rattle.lc_record.specs.declared.geometry.Geometry.{Geometry}
-use Rattle.lc_recover.proofs.AreaLemmas.{get-set, one_item}
-use Rattle.lc_recover.proofs.Images.{count-areas, get-map, get-some, len-segment}
+use Rattle.lc_record.proofs.ListLemmas.{slice_get_some as get-some, slice_get-map_some as get-map}
+use Rattle.lc_recover.proofs.AreaLemmas.{get-set}
+use Rattle.lc_recover.proofs.Images.{count-areas, len-segment}
 use Rattle.lc_recover.specs.Reads.{AreHonest, AreLeftAs, IsLeftAs, HaveLengths, store_of}
 use Rattle.lc_recover.specs.declared.fault.RecoverFault.{RecoverFault}
 use Rattle.lc_recover.specs.declared.fault.RecoverFault.TheVariants.{BadGeometry, Gap, Twice, OutOfSegment, DeviceFault, NoMemory}

@@ -4,9 +4,10 @@ use Rattle.std.specs.Prelude.{slice_get, slice_set}
 use Rattle.std.specs.Io.KnownBytes.{Appends}
 use Rattle.std.proofs.lemmas.Bool.{cases_lt}
 use Rattle.std.proofs.lemmas.List.{length-append, length-map, length-set, take_more}
-use Rattle.std.proofs.lemmas.Option.{slice_get_within, slice_get-get_or, get_or_from_slice_get}
+use Rattle.std.proofs.lemmas.Option.{slice_get_within, slice_get-get_or, get_or_from_slice_get, same_Some as one_item}
 use Rattle.lc_disk.specs.declared.area.Area.{Ghosts}
 use Rattle.lc_record.specs.declared.geometry.Geometry.{Geometry}
+use Rattle.lc_record.proofs.ListLemmas.{slice_get_some as get-some, slice_get-map_some as get-map}
 use Rattle.lc_model.specs.Merge.{Store}
 use Rattle.lc_picture.specs.Picture.{picture_text}
 use Rattle.lc_picture.specs.declared.store_picture.StorePicture.{StorePicture}
@@ -15,8 +16,8 @@ use Rattle.lc_recover.specs.Forecast.{Foretold, IsForecast, sequence_of}
 use Rattle.lc_recover.specs.Reads.{area_len, AreHonest, AreLeftAs, HaveLengths, IsLeftAs, store_of}
 use Rattle.lc_recover.specs.declared.fault.RecoverFault.{RecoverFault}
 use Rattle.lc_recover.specs.declared.fault.RecoverFault.TheVariants.{BadGeometry, Gap, Twice, OutOfSegment, DeviceFault, NoMemory}
-use Rattle.lc_recover.proofs.AreaLemmas.{get-pushed, get-set, one_item}
-use Rattle.lc_recover.proofs.Images.{get-map, get-some, len-log, len-segment}
+use Rattle.lc_recover.proofs.AreaLemmas.{get-pushed, get-set}
+use Rattle.lc_recover.proofs.Images.{len-log, len-segment}
 use Rattle.lc_look.specs.Draws.{AreBarsOf, AreEach, AreFieldsOf, DrawsAreas, FindsPicture, HaveBytes, IsPictureOf, ShowsPicture}
 use Rattle.lc_look.specs.Dumps.{StopsAt, StopsDump}
 use Rattle.lc_look.specs.Printed.{Stops}

@@ -27,14 +27,6 @@ over-over (Some byte) None old = refl
 over-over (Some byte) (Some other) None = refl
 over-over (Some byte) (Some other) (Some old) = refl
 
-pub option_or-none : (x : Option ℕ) → option_or x None ≡ x
-option_or-none None = refl
-option_or-none (Some byte) = refl
-
-pub option_or-assoc : (x y z : Option ℕ) → option_or (option_or x y) z ≡ option_or x (option_or y z)
-option_or-assoc None y z = refl
-option_or-assoc (Some byte) y z = refl
-
 pub get-put : (offset : ℕ) (items xs : List ℕ) (place : ℕ) → slice_get (put offset items xs) place ≡ over_byte (byte_from offset items place) (slice_get xs place)
 get-put offset items [] place = sym (over-none (byte_from offset items place))
 get-put zero [] (x ∷ xs) place = refl

@@ -6,12 +6,12 @@ use Rattle.std.proofs.lemmas.List.Elements.{All-nil, All-cons, filter-append}
 use Rattle.std.proofs.lemmas.List.{map-append}
 use Rattle.lc_record.specs.Transaction.{Transaction, locks, holds}
 use Rattle.lc_record.proofs.LockLemmas.{lock_holds}
-use Rattle.std.proofs.lemmas.Bool.{and_parts, and_from, or_from}
+use Rattle.std.proofs.lemmas.Bool.{and_parts, and_from, or_from, or_parts as or-neither}
 use Rattle.lc_model.specs.History.{Entry, History, transactions, entries_of, is_of, reserved, leading, front}
 use Rattle.lc_model.specs.State.{State, is_by, is_unclosed, some_holder, is_held, is_locked}
 use Rattle.lc_model.specs.Machine.{closed_by}
 use Rattle.lc_model.specs.Sound.{unclosed, holders}
-use Rattle.lc_model.proofs.Lists.{or-neither, none_of}
+use Rattle.lc_model.proofs.Lists.{none_of}
 use Rattle.std.proofs.lemmas.List.Elements.{All-append}
 
 abbrev pub entry : Transaction → Bool → Entry

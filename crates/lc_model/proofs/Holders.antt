@@ -13,11 +13,11 @@ use Rattle.lc_model.specs.declared.refusal.Refusal.{Refusal}
 use Rattle.lc_model.specs.declared.refusal.Refusal.TheVariants.{NotHere, Busy}
 use Rattle.lc_model.specs.Sound.{AreApart, IsHere, holders, unclosed}
 use Rattle.lc_model.proofs.Law.{AllPairs-head, AllPairs-tail}
-use Rattle.lc_model.proofs.Lists.{Parts, split, join, All-left, All-right, found-all, found-only, found-apart, not_found, All-filter_if}
+use Rattle.lc_model.proofs.Lists.{Parts, split, join, found-all, found-only, found-apart, not_found, All-filter_if}
 use Rattle.lc_model.proofs.Fronts.{no_holder, no_lock, none-unclosed}
-use Rattle.std.proofs.lemmas.Bool.{or_cases}
-use Rattle.lc_model.proofs.Rows.{and-both}
+use Rattle.std.proofs.lemmas.Bool.{or_cases, and_parts as and-both, not-true}
 use Rattle.lc_record.proofs.LockLemmas.{lock_holds, meet_either, meet_sides, meet_same, holds_same, member_ascending, ascending_member, member_left, member_right, member_filter}
+use Rattle.lc_record.proofs.ListLemmas.{All-append_left as All-left, All-append_right as All-right}
 
 pub apart-sides : (t u : Transaction) → AreApart t u → AreApart u t
 apart-sides t u apart = record {
@@ -120,10 +120,6 @@ pub All-second : (P : Transaction → Type 0) (p : Transaction → Bool) (xs ys 
 All-second P p xs ys all = All-append P xs (filter p ys) (All-left P xs ys all) (All-filter p P ys (All-right P xs ys all))
 
 -- One goes from the first part to the end of the second
-
-not-true : (b : Bool) → not b ≡ true → b ≡ false
-not-true true h = absurd (true≢false (sym h))
-not-true false h = refl
 
 pub moved-parts : (node thread : ℕ) (t : Transaction) (xs ys : List Transaction) → find (is_by node thread) xs ≡ Some t → AllPairs AreApart (xs ++ ys) → AllPairs AreApart (without node thread xs ++ (ys ++ t ∷ []))
 moved-parts node thread t xs ys found pairs =

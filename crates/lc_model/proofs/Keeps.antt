@@ -14,6 +14,7 @@ use Rattle.lc_record.specs.declared.geometry.Geometry.{Geometry}
 use Rattle.lc_model.specs.History.{Entry, Numbered, History, Cut, transactions, numbered, numbered_after, is_of, is_kept, kept, reserved, front}
 use Rattle.lc_model.specs.State.{Place, At, Travelling, Flush, Phase, Up, DownAt, Setting, State, update, fresh, first_state, is_by, running_of, has_unclosed, is_unclosed, is_held, without, with_changed}
 use Rattle.lc_record.specs.Marks.{ranges, is_empty, ascending, beside, no_marks, marked, written}
+use Rattle.lc_record.proofs.ListLemmas.{none_from_is_some as is_none, All-append_left as All-left, All-append_right as All-right}
 use Rattle.lc_model.specs.Stops.{MayCut}
 use Rattle.lc_model.specs.Refusals.{is_up, works_down, refuse_if, Unless, OfRunning, common_refusal, is_known, is_at, first_taken, begin_refusal, set_range_refusal, write_refusal, read_refusal, leave_refusal}
 use Rattle.lc_model.specs.Machine.{Step, Row, FlushRow, Moves, ReserveRow, LeaveRow, ArriveRow, OrHalts, StopRow, may_page, may_reset, RecoverRow, begun, changed, dropped, appended, closed_by, flushed_to, halting, acknowledged, placed, Run}
@@ -25,10 +26,10 @@ use Rattle.lc_model.specs.declared.refusal.Refusal.{Refusal}
 use Rattle.lc_model.specs.declared.refusal.Refusal.TheVariants.{Down, NotHere, Held, OutOfTurn, NotLocked, ReadOnly, EmptyRange, OutOfSegment, NoRange, TooManyRanges}
 use Rattle.lc_model.proofs.Prefix.{count}
 use Rattle.lc_model.proofs.Law.{all-numbered_after, AllPairs-head, AllPairs-tail}
-use Rattle.lc_model.proofs.Lists.{split, AllPairs-nil, All-left, All-right, All-from_map, found-all, found-passes, or-neither, is_none}
+use Rattle.lc_model.proofs.Lists.{split, AllPairs-nil, All-from_map, found-all, found-passes}
 use Rattle.lc_model.proofs.Marks.{proper-new, proper-marked, proper-written}
 use Rattle.lc_model.proofs.Rows.{known, seat_known, node_known}
-use Rattle.std.proofs.lemmas.Bool.{leb-true, ltb-true}
+use Rattle.std.proofs.lemmas.Bool.{leb-true, ltb-true, or_parts as or-neither, not-false}
 use Rattle.lc_model.proofs.Fronts.{entry, closing, unclosed-push, front-push, transactions-closed, unclosed-closed, front-closed, front-reserved, no_holder}
 use Rattle.lc_model.proofs.Holders.{SameHolder, is_by-both, changed-same, All-changed, map-parts, map-here, dropped-parts, closed-parts, All-first, All-second, moved-parts, All-moved, at_is, not_refused, Asks, new-apart, new-here}
 
@@ -501,10 +502,6 @@ match-case P false A B first second h = second refl h
 passed : (b : Bool) (r : Refusal) (others : Option Refusal) → refuse_if b r others ≡ None → (b ≡ false) × (others ≡ None)
 passed true r others h = absurd cc
 passed false r others h = (refl, h)
-
-not-false : (b : Bool) → not b ≡ false → b ≡ true
-not-false true h = refl
-not-false false h = absurd (true≢false h)
 
 pub some_steps : (n : ℕ) → (n == 0) ≡ false → 1 ≤ n
 some_steps zero h = absurd (true≢false h)

@@ -9,6 +9,7 @@ use Rattle.lc_record.specs.Marks.{stretches, ranges, ascending, no_marks, marked
 use Rattle.lc_model.specs.Sound.{IsProper}
 use Rattle.lc_record.proofs.LockLemmas.{member_ascending}
 use Rattle.std.proofs.lemmas.Bool.{or_cases}
+use Rattle.std.proofs.lemmas.List.{length-replicate}
 use Rattle.lc_record.proofs.SegmentLemmas.{length-put, shape-on_segment, well-marked, well-written}
 
 -- Changes of an open transaction
@@ -36,10 +37,6 @@ well-new g node thread segments reading = record {
   write_locked = All-nil (λ (v : Written). _);
   write_set = All-nil (λ (v : Written). _);
 }
-
-length-replicate : {A : Type 0} (n : ℕ) (x : A) → length (replicate n x) ≡ n
-length-replicate zero x = refl
-length-replicate (suc n) x = ap suc (length-replicate n x)
 
 shape-replicate : (n k : ℕ) → map length (replicate n (replicate k false)) ≡ replicate n k
 shape-replicate zero k = refl

@@ -1,6 +1,6 @@
 -- Records put on in order, and merged by number, are the transactions' writes.
 use Rattle.std.proofs.Common.{◌≡◌, ◌≢◌, ◌⊎◌, ℕ, ◌+◌, ◌<◌, ◌≤◌, Bool, true, false, not, ◌&&◌, ◌==◌, nat_lt, List, [], ◌∷◌, ◌++◌, map, length, filter, get_or, Option, Some, None, is_some, All, AllPairs, IsTrue, refl, sym, ◌∙◌, ap, subst, arith, inl, inr, true≢false, eqb-true, eq-eqb, ne_eqb, ltb-true, lt-ltb, le-ltb}
-use Rattle.std.proofs.Common.{◌-◌, zero, suc, take, slice_index, Contains, subst₂, ltb-false}
+use Rattle.std.proofs.Common.{◌-◌, suc, take, slice_index, Contains, subst₂, ltb-false}
 use Rattle.std.proofs.Math.Seq.{take-nil}
 use Rattle.std.proofs.lemmas.List.Elements.{Contains-get_or}
 use Rattle.lc_model.specs.History.{is_of, numbered_after}
@@ -12,6 +12,7 @@ use Rattle.std.proofs.lemmas.Bool.{cases_lt}
 use Rattle.std.proofs.lemmas.List.Kept.{AllPairs-cons}
 use Rattle.lc_model.proofs.Lists.{AllPairs-nil}
 use Rattle.std.proofs.lemmas.List.Elements.{All-nil, All-cons, All-head, All-tail, All-append, All-weaker, All-contains, Contains-append_right}
+use Rattle.std.proofs.lemmas.List.{get_or_default as get_or-default}
 use Rattle.lc_record.specs.Content.{Content, put, on_segment, segment_of}
 use Rattle.lc_record.proofs.LockLemmas.{meet_locks}
 use Rattle.lc_record.specs.Transaction.{Transaction, Written, Marks, Meet, IsWellFormed, all_set, locks, writes_on, effect, effects}
@@ -28,15 +29,9 @@ use Rattle.lc_model.proofs.Law.{effects-append, Pulls, passing, passing-yes, pas
 use Rattle.lc_record.proofs.SegmentLemmas.{segment_of-other, segment_of-same}
 use Rattle.lc_model.proofs.Keeps.{All-kept}
 use Rattle.lc_record.proofs.SegmentLemmas.{length-writes_on}
+use Rattle.lc_record.proofs.ListLemmas.{option_or-some as some-or}
 use Rattle.lc_model.proofs.Bytes.{same-items, byte-unset}
 use Rattle.lc_model.proofs.RecordBytes.{marked_byte, marked_byte-set, marked_byte-unset, byte-ranges_of, part_from, part_from-below, part_from-segment, record-byte, record-laid, record-number, place-set, sets-locks}
-
-get_or-default : {X : Type 0} (xs : List X) (k : ℕ) (d e : X) → k < length xs → get_or xs k d ≡ get_or xs k e
-get_or-default [] k d e within = absurd (omega arith)
-get_or-default (x ∷ xs) zero d e within = refl
-get_or-default (x ∷ xs) (suc k) d e within =
-    let behind : k < length xs = omega arith in
-    get_or-default xs k d e behind
 
 -- In order
 
@@ -301,10 +296,6 @@ some-byte (Some byte) b h = (refl, h)
 none-or : (x y : Option ℕ) → is_some x ≡ false → option_or x y ≡ y
 none-or None y h = refl
 none-or (Some byte) y h = absurd (true≢false h)
-
-some-or : (x y : Option ℕ) → is_some x ≡ true → option_or x y ≡ x
-some-or None y h = absurd (true≢false (sym h))
-some-or (Some byte) y h = refl
 
 -- of a segment that it did not set a transaction has no byte
 byte-none : (t : Transaction) (content : Content) (segment place : ℕ) → sets segment t ≡ false → byte_of segment place (ranges_of 1 t.marks content) ≡ None

@@ -1,9 +1,9 @@
 -- The moves of a store keep its disks fitting the machine's state.
-use Rattle.std.proofs.Common.{◌≡◌, ◌≢◌, ◌⊎◌, ℕ, zero, suc, ◌+◌, ◌-◌, ◌*◌, ◌<◌, ◌≤◌, Bool, true, false, ◌==◌, List, [], ◌∷◌, ◌++◌, map, length, filter, get_or, take, drop, Option, Some, None, All, IsTrue, refl, sym, ◌∙◌, ap, subst, arith, inl, inr, true≢false, eqb-true, eq-eqb, ne_eqb, le_trans, length-append, slice_index, lt-ltb, append_assoc}
+use Rattle.std.proofs.Common.{◌≡◌, ◌≢◌, ◌⊎◌, ℕ, suc, ◌+◌, ◌-◌, ◌*◌, ◌<◌, ◌≤◌, Bool, true, false, ◌==◌, List, [], ◌∷◌, ◌++◌, map, length, filter, get_or, take, drop, Option, Some, None, All, IsTrue, refl, sym, ◌∙◌, ap, subst, arith, inl, inr, true≢false, eqb-true, eq-eqb, ne_eqb, le_trans, length-append, slice_index, lt-ltb, append_assoc}
 use Rattle.std.specs.Prelude.{if◌then◌else◌}
 use Rattle.std.proofs.Math.Nat.{le_refl}
 use Rattle.std.proofs.lemmas.List.Elements.{All-cons, All-head, All-tail, All-take, All-weaker, filter-append}
-use Rattle.std.proofs.lemmas.List.{map-append}
+use Rattle.std.proofs.lemmas.List.{map-append, take_all as take-all, take-append-le as take-front}
 use Rattle.lc_record.proofs.LockLemmas.{lock_holds}
 use Rattle.lc_record.specs.Content.{Content}
 use Rattle.lc_record.specs.Transaction.{Transaction, IsWellFormed, locks, effect, effects}
@@ -24,7 +24,6 @@ use Rattle.lc_model.proofs.Lists.{All-from_map}
 use Rattle.lc_model.specs.Merge.{Page}
 use Rattle.lc_model.specs.Stored.{Disks, Fits, IsOnPages, Shows, Stands, base, records_of, up_to, page_bytes, acked, stable_number}
 use Rattle.lc_model.specs.Moves.{update_at, with_begun, with_opened, with_settled, with_reset, with_dropped, page_now}
-use Rattle.lc_model.proofs.Pages.{take-front}
 use Rattle.lc_model.proofs.Shown.{kept-more, get-acked, known-nodes, passing-more, proper-well}
 
 -- Of the machine
@@ -340,7 +339,7 @@ shows-settled d segment page text is x y z shows =
       | inr one ↦ update_at-case (λ o a b. o ≡ Some z → Shows d a b z) d.opened segment page None x y (λ own. absurd (let no : None ≡ Some z = own in cc)) (λ other. inr other) one
     ]
 
-update_at-own : {A : Type 0} (table : ℕ → ℕ → A) (segment page : ℕ) (item : A) → update_at table segment page item segment page ≡ item
+pub update_at-own : {A : Type 0} (table : ℕ → ℕ → A) (segment page : ℕ) (item : A) → update_at table segment page item segment page ≡ item
 update_at-own table segment page item = rw (eq-eqb segment segment refl, eq-eqb page page refl) refl
 
 pub settled-only : (d : Disks) (segment page : ℕ) (text z : Page) → Shows (with_settled d segment page text) segment page z → z ≡ text
@@ -440,14 +439,6 @@ keeps-dropped m s d node fits known reset = record {
 }
 
 -- The page as it is now
-
-take-all : {X : Type 0} (n : ℕ) (xs : List X) → length xs ≤ n → take n xs ≡ xs
-take-all zero [] within = refl
-take-all zero (x ∷ xs) within = absurd (omega arith)
-take-all (suc n) [] within = refl
-take-all (suc n) (x ∷ xs) within =
-    let less : length xs ≤ n = omega arith in
-    ap (λ ys. x ∷ ys) (take-all n xs less)
 
 -- it stands where all of the segment's transactions are acknowledged
 pub stands-now : (m : Setting) (s : State) (d : Disks) (segment page : ℕ) → Sound m.geometry s → counted_all d.numbers (transactions s.history) segment ≤ stable_number m.geometry s d segment → Stands m s d segment page (page_now m s d segment page)

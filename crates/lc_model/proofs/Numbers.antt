@@ -10,6 +10,7 @@ use Rattle.lc_record.specs.declared.record.Record.{Record}
 use Rattle.lc_record.specs.Recorded.{record_of, records_from, counted, locks_of, is_set}
 use Rattle.lc_record.proofs.SegmentLemmas.{length-written_segment}
 use Rattle.lc_record.specs.Newest.{number_or_zero, byte_of}
+use Rattle.lc_record.proofs.ListLemmas.{slice_get_some as get-some}
 use Rattle.lc_model.specs.Merging.{byte_at, sets, counted_all, Rises}
 use Rattle.lc_model.proofs.Law.{AllPairs-head, AllPairs-tail}
 use Rattle.lc_model.proofs.RecordBytes.{record-number, set-place}
@@ -91,13 +92,6 @@ length-shape (suc n) k [] same = absurd cc
 length-shape (suc n) k (x ∷ xs) same =
     let others : map length xs ≡ replicate n k = cc in
     ap suc (length-shape n k xs others)
-
-pub get-some : {A : Type 0} (xs : List A) (k : ℕ) → k < length xs → (x : A) × (slice_get xs k ≡ Some x)
-get-some [] k within = absurd (omega arith)
-get-some (x ∷ xs) zero within = (x, refl)
-get-some (x ∷ xs) (suc k) within =
-    let behind : k < length xs = omega arith in
-    get-some xs k behind
 
 set-within : (marks : List Bool) (place : ℕ) → all_set place 1 marks ≡ true → place < length marks
 set-within [] place set = absurd (true≢false (sym set))

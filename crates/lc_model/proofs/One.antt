@@ -5,17 +5,19 @@ use Rattle.std.proofs.lemmas.Bool.{cases_lt}
 use Rattle.std.proofs.lemmas.Nat.{div-add-mod'}
 use Rattle.std.proofs.lemmas.Option.{slice_get_past}
 use Rattle.std.proofs.lemmas.List.Elements.{All-contains}
+use Rattle.std.proofs.lemmas.List.{get_or_default as get_or-any}
 use Rattle.lc_record.specs.Content.{Content, segment_of}
 use Rattle.lc_record.specs.declared.record.Record.{Record}
 use Rattle.lc_record.specs.Newest.{number_or_zero, byte_of, has_byte, IsNewest, IsByNumber}
+use Rattle.lc_record.proofs.ListLemmas.{slice_get_some as get-some}
 use Rattle.lc_model.specs.Merging.{byte_at}
 use Rattle.lc_model.proofs.Bytes.{same-bytes}
 use Rattle.lc_model.specs.Merge.{Page, Store, all_records, has_number, IsMerged}
 use Rattle.lc_model.proofs.Visible.{count-cons, contains-count}
-use Rattle.lc_model.proofs.Numbers.{part-length, get-some}
+use Rattle.lc_model.proofs.Numbers.{part-length}
 use Rattle.lc_model.proofs.Result.{number-counts}
 
-two-pass : {X : Type 0} (p : X → Bool) (xs : List X) (i j : ℕ) (x y : X) → i < j → j < length xs → get_or xs i x ≡ x → get_or xs j y ≡ y → p x ≡ true → p y ≡ true → 2 ≤ length (filter p xs)
+pub two-pass : {X : Type 0} (p : X → Bool) (xs : List X) (i j : ℕ) (x y : X) → i < j → j < length xs → get_or xs i x ≡ x → get_or xs j y ≡ y → p x ≡ true → p y ≡ true → 2 ≤ length (filter p xs)
 two-pass p [] i j x y less within x_is y_is x_passes y_passes = absurd (omega arith)
 two-pass p (z ∷ zs) zero zero x y less within x_is y_is x_passes y_passes = absurd (omega arith)
 two-pass p (z ∷ zs) (suc i) zero x y less within x_is y_is x_passes y_passes = absurd (omega arith)
@@ -28,13 +30,6 @@ two-pass p (z ∷ zs) (suc i) (suc j) x y less within x_is y_is x_passes y_passe
     let next_less : i < j = omega arith in
     let behind : j < length zs = omega arith in
     le_trans (two-pass p zs i j x y next_less behind x_is y_is x_passes y_passes) (count-cons p z zs)
-
-get_or-any : {X : Type 0} (xs : List X) (k : ℕ) (d e : X) → k < length xs → get_or xs k d ≡ get_or xs k e
-get_or-any [] k d e within = absurd (omega arith)
-get_or-any (x ∷ xs) zero d e within = refl
-get_or-any (x ∷ xs) (suc k) d e within =
-    let behind : k < length xs = omega arith in
-    get_or-any xs k d e behind
 
 pub only-one : (p : Record → Bool) (rs : List Record) (r q : Record) → (2 ≤ length (filter p rs) → ⊥) → Contains rs r → Contains rs q → p r ≡ true → p q ≡ true → r ≡ q
 only-one p rs r q once r_in q_in r_passes q_passes =

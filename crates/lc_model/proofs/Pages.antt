@@ -3,48 +3,21 @@ use Rattle.std.proofs.Common.{◌≡◌, ◌⊎◌, ℕ, zero, suc, ◌+◌, ◌
 use Rattle.std.specs.Prelude.{if◌then◌else◌, slice_get}
 use Rattle.std.proofs.lemmas.Bool.{cases_lt}
 use Rattle.std.proofs.lemmas.List.Elements.{All-head, All-tail, All-append, All-contains, All-filter, All-map, filter-append}
+use Rattle.std.proofs.lemmas.List.{length-take-le as take-length}
 use Rattle.lc_record.specs.Content.{Content, segment_of}
 use Rattle.lc_record.specs.Transaction.{Transaction, IsWellFormed, locks, effects}
 use Rattle.lc_record.specs.declared.record.Record.{Record}
 use Rattle.lc_record.specs.Recorded.{records_from}
 use Rattle.lc_model.specs.History.{Numbered, History, Cut, transactions, numbered, kept, rest, is_kept, IsClosed}
 use Rattle.lc_record.specs.Newest.{number_or_zero, byte_of, has_byte, IsNewest, IsByNumber}
+use Rattle.lc_record.proofs.ListLemmas.{slice_get-take as get-take, All-append_left as All-left, All-append_right as All-right, slice_get-drop as get-drop}
 use Rattle.lc_model.specs.Merging.{byte_at, sets, counted_all}
 use Rattle.lc_model.proofs.Law.{law_order, all-numbered_after}
-use Rattle.lc_model.proofs.Lists.{All-from_map, All-left, All-right}
+use Rattle.lc_model.proofs.Lists.{All-from_map}
 use Rattle.lc_model.proofs.RecordBytes.{sets-locks}
 use Rattle.lc_model.proofs.Merging.{by_number-all, of_a_segment, counted-length}
 
 -- Lists
-
-pub take-front : {X : Type 0} (k : ℕ) (xs ys : List X) → k ≤ length xs → take k (xs ++ ys) ≡ take k xs
-take-front zero xs ys within = refl
-take-front (suc k) [] ys within = absurd (omega arith)
-take-front (suc k) (x ∷ xs) ys within =
-    let less : k ≤ length xs = omega arith in
-    ap (λ zs. x ∷ zs) (take-front k xs ys less)
-
-pub take-length : {X : Type 0} (k : ℕ) (xs : List X) → k ≤ length xs → length (take k xs) ≡ k
-take-length zero xs within = refl
-take-length (suc k) [] within = absurd (omega arith)
-take-length (suc k) (x ∷ xs) within =
-    let less : k ≤ length xs = omega arith in
-    ap suc (take-length k xs less)
-
-pub get-take : {X : Type 0} (n k : ℕ) (xs : List X) → k < n → slice_get (take n xs) k ≡ slice_get xs k
-get-take zero k xs within = absurd (omega arith)
-get-take (suc n) k [] within = refl
-get-take (suc n) zero (x ∷ xs) within = refl
-get-take (suc n) (suc k) (x ∷ xs) within =
-    let less : k < n = omega arith in
-    get-take n k xs less
-
-pub get-drop : {X : Type 0} (n k : ℕ) (xs : List X) → slice_get (drop n xs) k ≡ slice_get xs (n + k)
-get-drop zero k xs = (let same : k ≡ 0 + k = omega arith in ap (slice_get xs) same)
-get-drop (suc n) k [] = refl
-get-drop (suc n) k (x ∷ xs) =
-    let next : suc (n + k) ≡ suc n + k = omega arith in
-    get-drop n k xs ∙ ap (slice_get (x ∷ xs)) next
 
 -- What is kept has the first transactions of each segment
 

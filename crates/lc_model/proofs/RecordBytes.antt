@@ -12,7 +12,8 @@ use Rattle.lc_record.specs.Part.{number_in}
 use Rattle.lc_record.specs.Newest.{byte_from, byte_in, byte_of, number_or_zero}
 use Rattle.lc_model.specs.Merging.{byte_at, sets}
 use Rattle.lc_record.proofs.SegmentLemmas.{length-writes_on, length-written_segment}
-use Rattle.lc_model.proofs.Bytes.{over_byte, option_or-none, option_or-assoc, byte-laid, byte-unset, same-bytes, same-presence, length-laid, segment_of-zero}
+use Rattle.lc_record.proofs.ListLemmas.{option_or-none, option_or_assoc as option_or-assoc}
+use Rattle.lc_model.proofs.Bytes.{over_byte, byte-laid, byte-unset, same-bytes, same-presence, length-laid, segment_of-zero}
 
 -- The stretches of one segment
 

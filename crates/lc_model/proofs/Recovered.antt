@@ -7,6 +7,7 @@ use Rattle.std.proofs.lemmas.Bool.{cases_lt}
 use Rattle.std.proofs.lemmas.Nat.{div-add-mod'}
 use Rattle.std.proofs.lemmas.Option.{slice_get_within, slice_get_past}
 use Rattle.std.proofs.lemmas.List.Elements.{All-nil, All-weaker, All-contains, Contains-append_right}
+use Rattle.std.proofs.lemmas.List.{length-take-le as take-length}
 use Rattle.lc_record.specs.Content.{Content, segment_of}
 use Rattle.lc_record.specs.Transaction.{Transaction, effects}
 use Rattle.lc_record.specs.Geometry.{segment_len}
@@ -15,14 +16,14 @@ use Rattle.lc_model.specs.History.{Cut, kept}
 use Rattle.lc_model.specs.State.{State, Setting, Up, fresh, first_state}
 use Rattle.lc_model.specs.Sound.{Sound, IsProper}
 use Rattle.lc_record.specs.Newest.{number_or_zero, byte_of, has_byte, IsByNumber}
+use Rattle.lc_record.proofs.ListLemmas.{slice_get_some as get-some, slice_get-take as get-take, slice_get-drop as get-drop}
 use Rattle.lc_model.specs.Merging.{byte_at, counted_all}
 use Rattle.lc_model.proofs.Bytes.{same-items}
 use Rattle.lc_model.proofs.Keeps.{sound-recovered, sound-first, sound-phase, up-cut}
 use Rattle.lc_model.specs.Merge.{Page, Store, greatest, all_records, page_number, record_number, IsMerged}
 use Rattle.lc_model.specs.Stored.{Disks, Fits, IsImage, IsOnPages, Stands, base, up_to, page_bytes}
 use Rattle.lc_model.specs.Recovered.{HasByte, IsBehind, AreRenewed, IsReadable, recovered_disks}
-use Rattle.lc_model.proofs.Numbers.{part-replicate, length-shape, get-some, numbered-byte, at_most-greatest}
-use Rattle.lc_model.proofs.Pages.{get-take, get-drop, take-length}
+use Rattle.lc_model.proofs.Numbers.{part-replicate, length-shape, numbered-byte, at_most-greatest}
 use Rattle.lc_model.proofs.Shown.{kept_of}
 use Rattle.lc_model.proofs.Result.{Known, known, merged, shape-effects, shape-pages, part-known}
 

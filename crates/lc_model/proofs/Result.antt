@@ -1,10 +1,11 @@
 -- An image of all areas merges to what its cut keeps.
-use Rattle.std.proofs.Common.{◌≡◌, ◌⊎◌, ℕ, zero, suc, ◌+◌, ◌-◌, ◌*◌, ◌<◌, ◌≤◌, Bool, true, false, ◌&&◌, nat_lt, true≢false, List, [], ◌∷◌, ◌++◌, map, length, filter, take, replicate, Some, is_some, All, Contains, refl, sym, ◌∙◌, ap, subst, arith, inl, inr, eq-eqb, ltb-true, le_trans}
+use Rattle.std.proofs.Common.{◌≡◌, ◌⊎◌, ℕ, zero, suc, ◌+◌, ◌-◌, ◌*◌, ◌<◌, ◌≤◌, true, nat_lt, List, [], ◌∷◌, ◌++◌, map, length, filter, take, replicate, Some, is_some, All, Contains, refl, sym, ◌∙◌, ap, subst, arith, inl, inr, eq-eqb, ltb-true, le_trans}
 use Rattle.std.specs.Prelude.{max, slice_get}
 use Rattle.std.proofs.Math.Nat.{max-le, le-max_left, le-max_right, le_antisymm}
-use Rattle.std.proofs.lemmas.Bool.{cases_lt}
+use Rattle.std.proofs.lemmas.Bool.{cases_lt, and_parts as both-true}
 use Rattle.std.proofs.lemmas.Option.{slice_get_within}
 use Rattle.std.proofs.lemmas.List.Elements.{All-weaker, All-contains}
+use Rattle.std.proofs.lemmas.List.{take-append-le as take-front}
 use Rattle.lc_record.specs.Content.{Content, put, on_segment, segment_of}
 use Rattle.lc_record.specs.Transaction.{Transaction, Written, IsWellFormed, writes_on, effects}
 use Rattle.lc_record.specs.Geometry.{segment_len}
@@ -25,7 +26,7 @@ use Rattle.lc_model.specs.Stored.{Disks, Fits, IsImage, IsOnPages, Shows, Stands
 use Rattle.lc_model.proofs.Visible.{contains-count}
 use Rattle.lc_model.specs.Recovered.{HasByte}
 use Rattle.lc_model.proofs.Numbers.{one-number, has-record, part-replicate, length-shape, numbered-byte, greatest-at_most, greatest-all, all-greatest}
-use Rattle.lc_model.proofs.Pages.{take-front, kept-first, by_number-some, page-byte}
+use Rattle.lc_model.proofs.Pages.{kept-first, by_number-some, page-byte}
 use Rattle.lc_model.proofs.Shown.{kept_of, proper-well, Shown, shown-of, page-read, on_pages-number, acked-within}
 
 -- Shapes
@@ -160,10 +161,6 @@ number-is m s d cut store fits image k segment some last =
     le_antisymm least (max-le pages_within records_within)
 
 -- The bytes
-
-both-true : (a b : Bool) → (a && b) ≡ true → (a ≡ true) × (b ≡ true)
-both-true true b h = (refl, h)
-both-true false b h = absurd (true≢false (sym h))
 
 pub number-counts : (segment place floor : ℕ) (r : Record) → has_byte segment place floor r ≡ true → (is_some (byte_of segment place r.ranges) ≡ true) × (floor < number_or_zero segment r.locks)
 number-counts segment place floor r has =

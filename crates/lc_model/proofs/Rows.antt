@@ -1,6 +1,7 @@
 -- The machine's rows, one lemma for each answer: from what holds of the state, the row holds.
 use Rattle.std.proofs.Common.{◌≡◌, ◌≢◌, ℕ, ◌+◌, ◌<◌, ◌≤◌, ◌++◌, Bool, true, false, length, List, take, drop, nat_le, Some, None, not, ◌&&◌, ◌||◌, ◌==◌, is_some, ltb-true, refl, inl, inr, eq-eqb, ne_eqb, le-ltb, arith}
 use Rattle.std.specs.List.{list_all}
+use Rattle.std.proofs.lemmas.Bool.{and_parts as and-both}
 use Rattle.lc_record.specs.Content.{segment_of}
 use Rattle.lc_record.specs.Transaction.{Transaction, locks, holds, all_set}
 use Rattle.lc_record.specs.Geometry.{segment_len}
@@ -41,10 +42,6 @@ known g s event none = (none_refused (not (is_up s.phase) && not (works_down eve
 
 pub not_halted : (g : Geometry) (s : State) (event : Event) → common_refusal g s event ≡ None → is_halted s.halted event ≡ false
 not_halted g s event none = (none_refused (not (is_up s.phase) && not (works_down event)) (is_known g event) (is_halted s.halted event) none).2
-
-pub and-both : (a b : Bool) → (a && b) ≡ true → (a ≡ true) × (b ≡ true)
-and-both true b h = (refl, h)
-and-both false b h = absurd cc
 
 -- what an event of a thread names is known where its parts are
 pub seat_known : (g : Geometry) (node thread : ℕ) (segments : List ℕ) → are_known g (by_thread node thread segments) ≡ true → (node < g.nodes) × (thread < g.threads) × (list_all (is_segment g) segments ≡ true)

@@ -4,6 +4,8 @@ use Rattle.std.specs.Prelude.{if◌then◌else◌}
 use Rattle.std.specs.List.{list_any}
 use Rattle.lc_record.specs.Content.{Content}
 use Rattle.lc_record.specs.Transaction.{Transaction, effect, effects}
+use Rattle.std.proofs.lemmas.List.Folds.{list_any-append}
+use Rattle.std.proofs.Math.Bool.{or-false, or-true}
 use Rattle.lc_record.specs.declared.geometry.Geometry.{Geometry}
 use Rattle.lc_model.specs.History.{History, transactions, value}
 use Rattle.lc_model.specs.State.{State, update, is_by, running_of, without, with_changed, is_unclosed, has_unclosed}
@@ -122,19 +124,6 @@ pub running-dropped_other : (s : State) (node thread n k : ℕ) → Differ node 
 running-dropped_other s node thread n k differ = dropped-other node thread n k s.running differ
 
 -- Unclosed entries
-
-list_any-append : {A : Type 0} (p : A → Bool) (xs ys : List A) → list_any p (xs ++ ys) ≡ (list_any p xs || list_any p ys)
-list_any-append p [] ys = refl
-list_any-append p (x ∷ xs) ys =
-    elim (p x) as (λ b. (b || list_any p (xs ++ ys)) ≡ ((b || list_any p xs) || list_any p ys)) [ true ↦ refl | false ↦ list_any-append p xs ys ]
-
-or-true : (a : Bool) → (a || true) ≡ true
-or-true true = refl
-or-true false = refl
-
-or-false : (a : Bool) → (a || false) ≡ a
-or-false true = refl
-or-false false = refl
 
 pub unclosed-appended : (s : State) (t : Transaction) → has_unclosed t.node t.thread (appended s t) ≡ true
 unclosed-appended s t =

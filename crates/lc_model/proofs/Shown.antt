@@ -14,6 +14,7 @@ use Rattle.lc_record.specs.Recorded.{record_of, records_from, counted}
 use Rattle.lc_model.specs.History.{Numbered, Cut, transactions, numbered, kept, is_kept, IsClosed}
 use Rattle.lc_model.specs.State.{State, Setting}
 use Rattle.lc_record.specs.Newest.{number_or_zero, byte_of}
+use Rattle.lc_record.proofs.ListLemmas.{slice_get_some as get-some}
 use Rattle.lc_model.specs.Merging.{sets, counted_all, is_from}
 use Rattle.lc_model.specs.Sound.{Sound, IsProper}
 use Rattle.lc_model.proofs.Law.{all-numbered_after}
@@ -24,7 +25,7 @@ use Rattle.lc_model.specs.Merge.{Page, Store, all_records, page_number}
 use Rattle.lc_model.specs.Stored.{Disks, Fits, IsImage, IsOnPages, Shows, base, records_of, acked, stable_number}
 use Rattle.lc_model.proofs.Visible.{contains-filter, contains-parts, all-take-take, all-logs, in-logs, count-drop, logs-count}
 use Rattle.lc_model.specs.Recovered.{HasByte}
-use Rattle.lc_model.proofs.Numbers.{part-replicate, get-some, at_most-greatest}
+use Rattle.lc_model.proofs.Numbers.{part-replicate, at_most-greatest}
 
 -- the records of what a cut keeps
 abbrev pub kept_of : Setting → State → Disks → Cut → List Record

@@ -3,6 +3,7 @@ use Rattle.std.proofs.Common.{◌≡◌, ℕ, zero, suc, ◌==◌, ◌&&◌, ◌
 use Rattle.std.proofs.lemmas.List.Elements.{All-cons, All-nil}
 use Rattle.std.proofs.lemmas.List.Kept.{AllPairs-cons}
 use Rattle.lc_record.specs.Transaction.{Meet, holds, locks}
+use Rattle.lc_model.proofs.Lists.{AllPairs-nil as pairs_none}
 use Rattle.lc_model.specs.History.{Numbered, Cut, StandsBefore, is_kept}
 use Rattle.lc_model.specs.State.{State, Up, DownAt}
 use Rattle.lc_model.specs.Stops.{MayCut}
@@ -20,9 +21,6 @@ lost cut x y is meet kept = absurd (let e : is_kept cut y ≡ true = kept in tru
 
 pub here : (cut : Cut) (x y : Numbered) → IsTrue (is_kept cut x) → Pulls cut x y
 here cut x y is meet kept = is
-
-pairs_none : {X : Type 0} (R : X → X → Type 0) → AllPairs R []
-pairs_none R = λ i j d i_lt j_in. absurd (omega arith)
 
 pub pairs_two : (P : Numbered → Numbered → Type 0) (x y : Numbered) → P x y → AllPairs P (x ∷ y ∷ [])
 pairs_two P x y here = AllPairs-cons P x (y ∷ []) (All-cons (P x) y [] here (All-nil (P x))) (AllPairs-cons P y [] (All-nil (P y)) (pairs_none P))

@@ -13,9 +13,10 @@ use Rattle.lc_record.specs.declared.record.Record.{Record}
 use Rattle.lc_record.specs.declared.record.Lock.{Lock}
 use Rattle.lc_record.specs.declared.record.RangeData.{RangeData}
 use Rattle.lc_record.specs.Newest.{number_or_zero, byte_of, has_byte, IsNewest, IsByNumber}
+use Rattle.lc_record.proofs.ListLemmas.{slice_get_some as get-some}
 use Rattle.lc_model.specs.Merging.{byte_at}
 use Rattle.lc_model.specs.Merge.{Page, Store, all_records, page_number, record_number, has_number, how_many, IsTwice, IsGap, IsMerged, MergeFault, BadGeometry, OutOfSegment, Twice, Gap, HasOtherNode, IsOutside, HasOutside, HasGap, AreWithin, AreOnce, Refuses, MergesTo}
-use Rattle.lc_model.proofs.Numbers.{all-greatest, get-some}
+use Rattle.lc_model.proofs.Numbers.{all-greatest}
 use Rattle.lc_model.proofs.Result.{number-counts}
 use Rattle.lc_model.proofs.Visible.{log-known, log-of}
 use Rattle.lc_model.proofs.Decided.{Either, in-list, least-found, least_pair-found, either-less, either-at_most, either-same, either-not, either-both, either-three, either-one}

@@ -1,5 +1,5 @@
 -- What a run's events and replies tell is what it makes.
-use Rattle.std.proofs.Common.{◌≡◌, ◌≢◌, ℕ, zero, suc, ◌+◌, ◌<◌, ◌≤◌, Bool, true, false, not, ◌==◌, nat_lt, List, [], ◌∷◌, ◌++◌, map, length, filter, find, get_or, Option, Some, None, All, AllPairs, Contains, refl, sym, ◌∙◌, ap, subst, arith, inl, inr, append_assoc, append-nil, lt-ltb, ltb-true}
+use Rattle.std.proofs.Common.{◌≡◌, ◌≢◌, ℕ, ◌+◌, ◌<◌, ◌≤◌, Bool, true, false, not, ◌==◌, nat_lt, List, [], ◌∷◌, ◌++◌, map, filter, find, get_or, Option, Some, None, All, AllPairs, Contains, refl, sym, ◌∙◌, ap, subst, arith, inl, inr, append_assoc, append-nil, lt-ltb, ltb-true}
 use Rattle.std.specs.Prelude.{if◌then◌else◌, slice_index}
 use Rattle.std.proofs.Math.Nat.{le_refl, lt_of_lt_of_le}
 use Rattle.std.proofs.lemmas.List.Elements.{All-head, All-tail, All-contains, Contains-append_right, Contains-append_left, filter-append}
@@ -7,6 +7,7 @@ use Rattle.std.proofs.lemmas.List.{map-append}
 use Rattle.lc_record.specs.Transaction.{Transaction}
 use Rattle.lc_record.specs.Marks.{is_empty, marked, written}
 use Rattle.lc_record.specs.declared.geometry.Geometry.{Geometry}
+use Rattle.lc_record.proofs.ListLemmas.{Contains-map as contains-map}
 use Rattle.lc_disk.specs.declared.choice.Choice.{Choice}
 use Rattle.lc_model.specs.History.{Numbered, History, Cut, transactions, numbered, numbered_after, is_kept, kept, front}
 use Rattle.lc_model.specs.State.{Place, At, Travelling, Phase, Up, DownAt, Setting, State, fresh, is_by, running_of, has_unclosed, without, with_changed}
@@ -158,13 +159,6 @@ module _ (g : Geometry) (s : State) (sound : Sound g s) (node thread : ℕ) (t :
       subst (λ (n : ℕ). map (λ u. if is_by n new.thread u then new else u) s.running ≡ on_thread node thread change s.running) (sym (same_node ∙ its.0))
       (subst (λ (k : ℕ). map (λ u. if is_by node k u then new else u) s.running ≡ on_thread node thread change s.running) (sym (same_thread ∙ its.1))
       (changed-only (is_by node thread) t new change s.running is only))
-
-contains-map : {X Y : Type 0} (f : X → Y) (xs : List X) (x : X) → Contains xs x → Contains (map f xs) (f x)
-contains-map f [] x among = absurd (omega (arith, among.1))
-contains-map f (y ∷ ys) x (zero, k_in, is) = (0, (omega arith), ap f is)
-contains-map f (y ∷ ys) x (suc k, k_in, is) =
-    let behind : k < length ys = omega (arith, k_in) in
-    Contains-append_right (f y ∷ []) (map f ys) (f x) (contains-map f ys x (k, behind, is))
 
 -- What a step makes
 

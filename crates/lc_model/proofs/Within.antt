@@ -2,19 +2,18 @@
 use Rattle.std.proofs.Common.{true≢false, ◌≡◌, ◌⊎◌, ℕ, suc, ◌+◌, ◌*◌, ◌/◌, ◌%◌, ◌<◌, ◌≤◌, Bool, true, false, ◌&&◌, nat_lt, List, [], ◌∷◌, ◌++◌, map, length, filter, get_or, flat_map, Some, is_some, All, Contains, IsTrue, max, refl, sym, ◌∙◌, ap, subst, arith, inl, inr, le_trans, lt-ltb, le-ltb, length-append}
 use Rattle.std.specs.Prelude.{slice_get, drop}
 use Rattle.std.proofs.Math.Nat.{max-le, le-max_left, le-max_right, le_refl, le_antisymm}
-use Rattle.std.proofs.lemmas.Bool.{cases_lt}
+use Rattle.std.proofs.lemmas.Bool.{cases_lt, false_from_ne_true as false-if-not}
 use Rattle.std.proofs.lemmas.Nat.{div-add-mod'}
 use Rattle.std.proofs.lemmas.Option.{slice_get_within}
 use Rattle.std.proofs.lemmas.List.Elements.{All-nil, All-append, All-weaker, All-contains, All-contains_itself, Contains-get_or, filter-append}
 use Rattle.lc_record.specs.Content.{Content, segment_of}
 use Rattle.lc_record.specs.declared.record.Record.{Record}
 use Rattle.lc_record.specs.Newest.{number_or_zero, byte_of, has_byte, IsByNumber}
+use Rattle.lc_record.proofs.ListLemmas.{slice_get_some as get-some, slice_get-take as get-take, All-append_left as All-left, All-append_right as All-right, slice_get-drop as get-drop}
 use Rattle.lc_model.specs.Merging.{byte_at}
-use Rattle.lc_model.proofs.Lists.{All-left, All-right}
 use Rattle.lc_model.specs.Merge.{Page, Store, all_records, page_number, record_number, how_many, has_number, greatest, IsMerged}
 use Rattle.lc_model.specs.Recovered.{HasByte, IsBehind, IsPartlyRenewed, AreStill, IsPartlyReset}
-use Rattle.lc_model.proofs.Numbers.{part-length, get-some, at_most-greatest, greatest-at_most, greatest-all, all-greatest}
-use Rattle.lc_model.proofs.Pages.{get-take, get-drop}
+use Rattle.lc_model.proofs.Numbers.{part-length, at_most-greatest, greatest-at_most, greatest-all, all-greatest}
 use Rattle.lc_model.proofs.Result.{part-known}
 use Rattle.lc_model.proofs.One.{shape-length}
 
@@ -171,10 +170,6 @@ still-number store segment still bytes =
           absurd (still segment (byte.0 / 256) old.0 old.1 (get_or (all_records store) k d, Contains-get_or (all_records store) k d k_in, byte.0 % 256, offset_in, has))
       | inr low ↦ low
     ])
-
-false-if-not : (b : Bool) → (b ≡ true → ⊥) → b ≡ false
-false-if-not true never = absurd (never refl)
-false-if-not false never = refl
 
 pub reset-merged : (store new : Store) (content : Content) (numbers : ℕ → ℕ) → IsMerged store content numbers → AreStill store → ((segment : ℕ) → All (HasByte segment (length (segment_of segment store.pages) * 256)) (all_records store)) → IsPartlyReset store new → IsMerged new content numbers
 reset-merged store new content numbers result still bytes reset =

@@ -4,6 +4,7 @@ use Rattle.std.specs.Prelude.{slice_get}
 use Rattle.std.proofs.Math.Nat.{max-le, le_antisymm}
 use Rattle.std.proofs.lemmas.Option.{slice_get_within}
 use Rattle.std.proofs.lemmas.List.Elements.{All-nil}
+use Rattle.std.proofs.lemmas.List.{length-replicate as length-same}
 use Rattle.lc_record.specs.Content.{segment_of}
 use Rattle.lc_record.specs.Geometry.{segment_len}
 use Rattle.lc_record.specs.declared.geometry.Geometry.{Geometry}
@@ -18,10 +19,6 @@ use Rattle.lc_model.proofs.Result.{part-known, shape-pages}
 no-records : (n : ℕ) → flat_map (λ (log : List Record). log) (replicate n []) ≡ []
 no-records zero = refl
 no-records (suc n) = no-records n
-
-length-same : {A : Type 0} (n : ℕ) (x : A) → length (replicate n x) ≡ n
-length-same zero x = refl
-length-same (suc n) x = ap suc (length-same n x)
 
 map-same : {A : Type 0} (n k : ℕ) (x : A) → map length (replicate n (replicate k x)) ≡ replicate n k
 map-same zero k x = refl

@@ -2,26 +2,16 @@
 use Rattle.std.proofs.Common.{◌≡◌, ℕ, zero, suc, ◌+◌, ◌<◌, ◌≤◌, ◌||◌, cond, eqb, Bool, true, false, List, [], ◌∷◌, ◌++◌, All, length, drop, get_or, refl, sym, ap, subst, ◌∙◌, inl, inr, arith, eqb-true, eq-eqb}
 use Rattle.std.proofs.lemmas.List.{append-nil, drop_more}
 use Rattle.std.proofs.lemmas.Bool.{cases_Bool, cases_lt, or_cases, or_left, or_right, ne_eqb, false≢true}
+use Rattle.std.proofs.Math.Bool.{or-false as or_false}
 use Rattle.lc_record.specs.Record.{Chain}
 use Rattle.lc_record.specs.Transaction.{is_member}
+use Rattle.lc_tx.proofs.MemberLemmas.{member_both}
 use Rattle.lc_tx.specs.Tx.{IsSetOf}
 
 -- those of the first numbers, from 1, that are among these
 abbrev pub asked_to : List ℕ → ℕ → List ℕ
 asked_to segments zero = []
 asked_to segments (suc n) = asked_to segments n ++ cond (is_member (suc n) segments) (suc n ∷ []) []
-
-member_both : (n : ℕ) (xs ys : List ℕ) → is_member n (xs ++ ys) ≡ (is_member n xs || is_member n ys)
-member_both n [] ys = refl
-member_both n (x ∷ xs) ys = ap (λ (b : Bool). eqb x n || b) (member_both n xs ys) ∙ sym (or_again (eqb x n) (is_member n xs) (is_member n ys))
-  where
-    or_again : (a b c : Bool) → ((a || b) || c) ≡ (a || (b || c))
-    or_again true b c = refl
-    or_again false b c = refl
-
-or_false : (b : Bool) → (b || false) ≡ b
-or_false true = refl
-or_false false = refl
 
 only : (segments : List ℕ) (n x : ℕ) → (n ≡ x → ⊥) → is_member x (cond (is_member n segments) (n ∷ []) []) ≡ false
 only segments n x apart = elim (is_member n segments) as (λ (b : Bool). is_member x (cond b (n ∷ []) []) ≡ false) [

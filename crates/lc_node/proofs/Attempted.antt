@@ -1,9 +1,10 @@
 -- What an attempt of a transaction leaves, and how it is undone.
-use Rattle.std.proofs.Common.{◌≡◌, ℕ, true, false, ◌||◌, eqb, Bool, List, [], ◌∷◌, ◌++◌, length, unwrap_or, refl, sym, ap, subst, ◌∙◌, inl, inr}
+use Rattle.std.proofs.Common.{◌≡◌, ℕ, true, false, List, [], ◌++◌, length, unwrap_or, refl, sym, ap, subst, ◌∙◌}
 use Rattle.std.specs.Prelude.{IsSome, IsTrue, slice_index}
-use Rattle.std.proofs.lemmas.Bool.{or_from, cases_Bool, false≢true, false_from_ne_true}
 use Rattle.std.proofs.lemmas.List.{ext_get_or}
 use Rattle.lc_record.specs.Transaction.{is_member}
+use Rattle.lc_record.proofs.LockLemmas.{member_left as in_front}
+use Rattle.lc_tx.proofs.MemberLemmas.{not_both as none_in}
 use Rattle.lc_range.specs.RangeSet.{Has}
 use Rattle.lc_range.specs.Undo.{OldBytes, kept}
 use Rattle.lc_tx.specs.declared.holders.Holders.TheVariants.{Free}
@@ -13,18 +14,6 @@ use Rattle.lc_tx.specs.Images.{IsLockable, IsSameBut, IsSame, AreRestored, AreRe
 use Rattle.lc_tx.specs.Tx.{Begins}
 use Rattle.lc_node.specs.Works.{Works}
 use Rattle.lc_node.specs.Attempts.{Leaves, IsUndone}
-
-none_in : (n : ℕ) (xs ys : List ℕ) → is_member n xs ≡ false → is_member n ys ≡ false → is_member n (xs ++ ys) ≡ false
-none_in n [] ys e f = f
-none_in n (x ∷ xs) ys e f = or_from (eqb x n) (is_member n (xs ++ ys)) (false_from_ne_true (eqb x n) (λ is. false≢true (sym e ∙ ap (λ (b : Bool). b || is_member n xs) is)))
-    (none_in n xs ys (false_from_ne_true (is_member n xs) (λ is. false≢true (sym e ∙ (elim (cases_Bool (eqb x n)) [ inl y ↦ ap (λ (b : Bool). b || is_member n xs) y | inr z ↦ ap (λ (b : Bool). b || is_member n xs) z ∙ is ])))) f)
-
-pub in_front : (n : ℕ) (xs ys : List ℕ) → is_member n xs ≡ true → is_member n (xs ++ ys) ≡ true
-in_front n [] ys e = absurd (false≢true e)
-in_front n (x ∷ xs) ys e = elim (cases_Bool (eqb x n)) [
-  | inl y ↦ ap (λ (b : Bool). b || is_member n (xs ++ ys)) y
-  | inr z ↦ ap (λ (b : Bool). b || is_member n (xs ++ ys)) z ∙ in_front n xs ys (sym (ap (λ (b : Bool). b || is_member n xs) z) ∙ e)
-]
 
 module _ {I : Type 0} (m : Ghosts I) (chained : (s t u : I) → m.IsSameBeside s t → m.IsSameBeside t u → m.IsSameBeside s u) where
   -- two changes within the same segments

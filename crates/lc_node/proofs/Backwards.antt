@@ -1,41 +1,14 @@
 -- A list is changed element by element, from the back, beside another that is taken apart.
-use Rattle.std.proofs.Common.{◌≡◌, ℕ, zero, suc, ◌+◌, ◌<◌, ◌≤◌, List, [], ◌∷◌, ◌++◌, Some, length, get_or, set, refl, sym, ap, subst, ◌∙◌, arith, length-append}
+use Rattle.std.proofs.Common.{◌≡◌, ℕ, ◌+◌, ◌<◌, ◌≤◌, List, [], ◌∷◌, ◌++◌, Some, length, get_or, set, refl, sym, ap, subst, ◌∙◌, arith, length-append}
 use mathlib.Core.Logic.{dite}
 use native.Mathlib.Decide.{dec_le}
 use Rattle.std.specs.Prelude.{slice_get}
-use Rattle.std.proofs.lemmas.Option.{slice_get_within, slice_get_read}
+use Rattle.std.proofs.lemmas.Option.{slice_get_within, slice_get_read, same_Some as some_same}
+use Rattle.std.proofs.lemmas.List.{length-set as length_set}
+use Rattle.lc_record.proofs.ListLemmas.{slice_get-append_left as get_front, slice_get_push as get_last, slice_get-set_same as get_same, slice_get-set_other as get_other}
 use Rattle.lc_node.specs.Each.{Each, EachThree}
 
 module _ {A : Type 0} where
-  pub some_same : (x y : A) → Some x ≡ Some y → x ≡ y
-  some_same x y e = cc
-
-  pub get_same : (xs : List A) (k : ℕ) (x y : A) → slice_get xs k ≡ Some x → slice_get (set xs k y) k ≡ Some y
-  get_same [] k x y is = absurd cc
-  get_same (z ∷ xs) zero x y is = refl
-  get_same (z ∷ xs) (suc k) x y is = get_same xs k x y is
-
-  pub get_other : (xs : List A) (k j : ℕ) (y : A) → (j ≡ k → ⊥) → slice_get (set xs k y) j ≡ slice_get xs j
-  get_other [] k j y differ = refl
-  get_other (z ∷ xs) zero zero y differ = absurd (differ refl)
-  get_other (z ∷ xs) zero (suc j) y differ = refl
-  get_other (z ∷ xs) (suc k) zero y differ = refl
-  get_other (z ∷ xs) (suc k) (suc j) y differ = get_other xs k j y (λ e. differ (ap suc e))
-
-  pub length_set : (xs : List A) (k : ℕ) (y : A) → length (set xs k y) ≡ length xs
-  length_set [] k y = refl
-  length_set (z ∷ xs) zero y = refl
-  length_set (z ∷ xs) (suc k) y = ap suc (length_set xs k y)
-
-  pub get_front : (xs ys : List A) (k : ℕ) → k < length xs → slice_get (xs ++ ys) k ≡ slice_get xs k
-  get_front [] ys k l = absurd (omega arith)
-  get_front (x ∷ xs) ys zero l = refl
-  get_front (x ∷ xs) ys (suc k) l = get_front xs ys k (omega arith)
-
-  pub get_last : (xs : List A) (x : A) → slice_get (xs ++ x ∷ []) (length xs) ≡ Some x
-  get_last [] x = refl
-  get_last (y ∷ xs) x = get_last xs x
-
   pub got_at : (xs : List A) (k : ℕ) (x : A) → x ≡ get_or xs k x → k < length xs → slice_get xs k ≡ Some x
   got_at xs k x is within = slice_get_read xs (length xs) k x refl within is
 

@@ -6,6 +6,7 @@ use Rattle.lc_record.specs.Part.{part_of}
 use Rattle.lc_record.specs.Record.{IsRecord}
 use Rattle.lc_record.specs.Transaction.{is_member}
 use Rattle.lc_record.specs.declared.part.Part.{Part}
+use Rattle.lc_record.proofs.LockLemmas.{member_left as in_front}
 use Rattle.lc_range.specs.RangeSet.{IsCanonical}
 use Rattle.lc_tx.specs.declared.images.Images.{Ghosts}
 use Rattle.lc_tx.specs.declared.image.Image.{Image as Picture}
@@ -19,7 +20,6 @@ use Rattle.lc_tx.proofs.RecordLemmas.{inside_from}
 use Rattle.lc_node.specs.Attempts.{Leaves}
 use Rattle.lc_node.specs.Ran.{AgreeOn, Brings, Ran, Tells, ranges_in}
 use Rattle.lc_node.proofs.Applied.{laid_is_left}
-use Rattle.lc_node.proofs.Attempted.{in_front}
 use Rattle.lc_node.proofs.PartsOf.{lie_inside, none_set, part_is}
 
 module _ {I : Type 0} (m : Ghosts I) where

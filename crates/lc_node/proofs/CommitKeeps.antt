@@ -1,12 +1,13 @@
 -- What a commit makes of held segments.
-use Rattle.std.proofs.Common.{◌≡◌, ℕ, zero, suc, ◌+◌, ◌<◌, ◌≤◌, ◌^◌, ◌==◌, true, List, [], ◌∷◌, Some, None, length, map, refl, sym, ap, subst, ◌∙◌, arith, All, filter}
+use Rattle.std.proofs.Common.{◌≡◌, ℕ, ◌+◌, ◌≤◌, ◌^◌, ◌==◌, true, List, [], Some, None, length, map, refl, sym, ap, subst, ◌∙◌, arith, All, filter}
 use Rattle.std.specs.Prelude.{slice_get, slice_index, Option, IsSome, unwrap_or}
 use Rattle.std.proofs.lemmas.List.{ext_get_or, length-map}
-use Rattle.std.proofs.lemmas.Option.{slice_get_within, get_or_from_slice_get}
+use Rattle.std.proofs.lemmas.Option.{slice_get_within, same_Some as some_same}
 use Rattle.lc_record.specs.Part.{number_in, part_of}
 use Rattle.lc_record.specs.Transaction.{is_member}
 use Rattle.lc_record.specs.declared.part.Part.{Part}
 use Rattle.lc_record.specs.declared.record.Record.{Record}
+use Rattle.lc_record.proofs.ListLemmas.{slice_get_some as some_at, All-slice_get as all_at}
 use Rattle.lc_range.specs.RangeSet.{Has}
 use Rattle.lc_stage.specs.declared.view.View.{View}
 use Rattle.lc_token.specs.declared.token.Token.{Token}
@@ -27,7 +28,6 @@ use Rattle.lc_node.specs.declared.held.HeldSide.{HeldSide}
 use Rattle.lc_node.specs.declared.lent.LentSlot.{LentSlot}
 use Rattle.lc_node.specs.declared.lent.Lent.{Lent}
 use Rattle.lc_node.proofs.Applied.{laid_is_left}
-use Rattle.lc_node.proofs.Backwards.{some_same}
 use Rattle.lc_node.proofs.Laying.{laid_more}
 use Rattle.lc_node.proofs.PartsOf.{number_made, number_fits, part_is, none_set, lie_inside}
 use Rattle.lc_node.proofs.Slots.{AscendFrom, SameBeside, each_map, each_of, each_to, got_map, map_got, member_here, member_place, segments_in, image_is, number_is, same_beside, same_segments, hidden_image}
@@ -39,14 +39,6 @@ number_some (Some t) n is = (t, refl, some_same t.seq n is)
 some_number : (o : Option ℕ) → IsSome o → (n : ℕ) × (o ≡ Some n)
 some_number None is = absurd cc
 some_number (Some n) is = (n, refl)
-
-pub some_at : {A : Type 0} (xs : List A) (k : ℕ) → k < length xs → (x : A) × (slice_get xs k ≡ Some x)
-some_at [] k l = absurd (omega arith)
-some_at (x ∷ xs) zero l = (x, refl)
-some_at (x ∷ xs) (suc k) l = some_at xs k (omega arith)
-
-pub all_at : {A : Type 0} (P : A → Type 0) (xs : List A) (k : ℕ) (x : A) → All P xs → slice_get xs k ≡ Some x → P x
-all_at P xs k x all is = subst P (get_or_from_slice_get xs k x x is) (all k x (slice_get_within xs k x is))
 
 module _ {D : Type 0} where
   abbrev segments : List (HeldSide D) → List ℕ

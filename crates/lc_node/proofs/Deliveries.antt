@@ -5,9 +5,10 @@ use native.Mathlib.Decide.{ℕ_discrete as dec_eq}
 use Rattle.std.specs.Option.{ForSome}
 use Rattle.std.specs.Prelude.{◌↔◌, slice_get, Option, IsSome, IsSomeAnd, IsTrue}
 use Rattle.std.proofs.lemmas.List.Elements.{All-set}
-use Rattle.std.proofs.lemmas.Option.{slice_get_within}
+use Rattle.std.proofs.lemmas.Option.{slice_get_within, same_Some as some_same}
 use Rattle.lc_record.specs.Part.{part_of}
 use Rattle.lc_record.specs.declared.record.Record.{Record}
+use Rattle.lc_record.proofs.ListLemmas.{slice_get_some as some_at, slice_get-set_same as get_same, slice_get-set_other as get_other}
 use Rattle.lc_token.specs.declared.received.Received.{Received}
 use Rattle.lc_node.specs.Arriving.{MayArrive, with_token}
 use Rattle.lc_node.specs.Delivering.{Admits, Answers, HasArrived, IsDelivered, IsReadiedSide}
@@ -17,8 +18,7 @@ use Rattle.lc_node.specs.Receptions.{IsFinished, IsForgone, IsPrepared}
 use Rattle.lc_node.specs.SegView.{SegView}
 use Rattle.lc_node.specs.declared.held.HeldSide.{HeldSide}
 use Rattle.lc_node.specs.declared.reception.Reception.{Reception}
-use Rattle.lc_node.proofs.Backwards.{Backwards, step, finish, some_same, get_same, get_other}
-use Rattle.lc_node.proofs.CommitKeeps.{some_at}
+use Rattle.lc_node.proofs.Backwards.{Backwards, step, finish}
 
 module _ {A B : Type 0} where
   -- two changes that go by one list are one

@@ -1,11 +1,13 @@
 -- What a record that a peer published keeps of held segments, and what they are like once it was made ready for.
-use Rattle.std.proofs.Common.{◌≡◌, ◌<◌, ℕ, zero, suc, List, [], ◌∷◌, All, Some, None, length, get_or, refl, sym, ap, subst, ◌∙◌, inl, inr, arith}
+use Rattle.std.proofs.Common.{◌≡◌, List, [], All, Some, None, length, get_or, refl, sym, ap, subst, ◌∙◌, inl, inr, arith}
 use Rattle.std.specs.Prelude.{◌↔◌, slice_get, Option, IsSome}
 use Rattle.std.proofs.lemmas.Option.{slice_get_read, slice_get_within}
+use Rattle.std.proofs.lemmas.List.{get_or_default}
 use Rattle.lc_lock.specs.Loans.{IsLoanOf}
 use Rattle.lc_record.specs.Part.{part_of}
 use Rattle.lc_record.specs.declared.part.Part.{Part}
 use Rattle.lc_record.specs.declared.record.Record.{Record}
+use Rattle.lc_record.proofs.ListLemmas.{slice_get_some as some_at, All-slice_get as all_at}
 use Rattle.lc_token.specs.declared.received.Received.{Received}
 use Rattle.lc_token.specs.declared.received.Received.TheVariants.{Applied, HeldBack, Ignored}
 use Rattle.lc_node.specs.Delivering.{Admits, HasArrived, IsDelivered, IsReadiedSide, TakesIn}
@@ -16,7 +18,6 @@ use Rattle.lc_node.specs.SegView.{SegView}
 use Rattle.lc_node.specs.declared.held.HeldSide.{HeldSide}
 use Rattle.lc_node.specs.declared.node.Node.{Node}
 use Rattle.lc_node.specs.declared.reception.Reception.{Reception}
-use Rattle.lc_node.proofs.CommitKeeps.{some_at, all_at}
 use Rattle.lc_node.proofs.Deliveries.{IsSomewhere}
 use Rattle.lc_node.proofs.Received.{can_finish, of_readied, same_standing}
 
@@ -24,14 +25,9 @@ use Rattle.lc_node.proofs.Received.{can_finish, of_readied, same_standing}
 pub all_through : {A : Type 0} (P Q : A → Type 0) (R : A → A → Type 0) (xs zs : List A) → Each R xs zs → ((x z : A) → P x → R x z → Q z) → All P xs → All Q zs
 all_through {A = A} P Q R xs zs each step all k d l =
     let z : A = get_or zs k d in
-    let z_at : slice_get zs k ≡ Some z = slice_get_read zs (length zs) k z refl l (same_default zs k d l) in
+    let z_at : slice_get zs k ≡ Some z = slice_get_read zs (length zs) k z refl l (get_or_default zs k d z l) in
     let x = some_at xs k (let e = each.long in omega arith) in
     step x.0 z (all_at P xs k x.0 all x.1) (each.each k x.0 z x.1 z_at)
-  where
-    same_default : (ys : List A) (k : ℕ) (d : A) → k < length ys → get_or ys k d ≡ get_or ys k (get_or ys k d)
-    same_default [] k d l = absurd (omega arith)
-    same_default (y ∷ ys) zero d l = refl
-    same_default (y ∷ ys) (suc k) d l = same_default ys k d (omega arith)
 
 module _ {D : Type 0} where
   -- it is the same one, by its lock

@@ -2,17 +2,9 @@
 use Rattle.std.proofs.Common.{◌≡◌, ℕ, zero, suc, ◌+◌, ◌<◌, List, [], ◌∷◌, ◌++◌, drop, length, Some, sym, ap, subst, ◌∙◌}
 use Rattle.std.specs.Prelude.{slice_get, slice_index_or}
 use Rattle.std.proofs.lemmas.Option.{slice_get-get_or}
-use Rattle.lc_recover.proofs.AreaLemmas.{one_item}
-use Rattle.lc_recover.proofs.Images.{get-drop}
+use Rattle.lc_record.proofs.ListLemmas.{slice_get-drop as get-drop, each_push as each_pushed}
 
 module _ {A : Type 0} where
-  each_pushed : (P : ℕ → A → Type 0) (xs : List A) (y : A) → ((k : ℕ) (x : A) → slice_get xs k ≡ Some x → P k x) → P (length xs) y
-      → (k : ℕ) (x : A) → slice_get (xs ++ y ∷ []) k ≡ Some x → P k x
-  each_pushed P [] y h p zero x got = subst (P zero) (one_item y x got) p
-  each_pushed P [] y h p (suc k) x got = absurd cc
-  each_pushed P (z ∷ xs) y h p zero x got = h zero x got
-  each_pushed P (z ∷ xs) y h p (suc k) x got = each_pushed (λ j. P (suc j)) xs y (λ j w. h (suc j) w) p k x got
-
   none_at : (k : ℕ) (x : A) → slice_get [] k ≡ Some x → ⊥
   none_at zero x got = cc
   none_at (suc k) x got = cc

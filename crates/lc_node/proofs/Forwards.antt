@@ -1,11 +1,13 @@
 -- A list is changed element by element, from the front.
-use Rattle.std.proofs.Common.{◌≡◌, ℕ, zero, suc, ◌+◌, ◌<◌, ◌≤◌, List, [], ◌∷◌, All, Some, length, get_or, set, refl, sym, ap, subst, ◌∙◌, arith}
+use Rattle.std.proofs.Common.{◌≡◌, ℕ, ◌+◌, ◌<◌, ◌≤◌, List, [], All, Some, length, get_or, set, refl, sym, ap, subst, ◌∙◌, arith}
 use mathlib.Core.Logic.{dite}
 use native.Mathlib.Decide.{dec_le}
 use Rattle.std.specs.Prelude.{slice_get}
-use Rattle.std.proofs.lemmas.Option.{slice_get_read}
+use Rattle.std.proofs.lemmas.Option.{slice_get_read, same_Some as some_same}
+use Rattle.std.proofs.lemmas.List.{get_or_default, length-set as length_set}
+use Rattle.lc_record.proofs.ListLemmas.{slice_get-set_same as get_same, slice_get-set_other as get_other}
 use Rattle.lc_node.specs.Each.{Each}
-use Rattle.lc_node.proofs.Backwards.{some_same, get_same, get_other, length_set, got_at}
+use Rattle.lc_node.proofs.Backwards.{got_at}
 
 module _ {A : Type 0} (R : A → A → Type 0) where
   pub record Forwards (xs now : List A) (n : ℕ) : Type 0 where
@@ -40,9 +42,4 @@ module _ {A : Type 0} (R : A → A → Type 0) where
   pub each_new : (P : A → Type 0) (xs now : List A) (n : ℕ) → Forwards xs now n → length now ≤ n → ((x z : A) → R x z → P z) → All P now
   each_new P xs now n f whole has = λ k d l.
       let z : A = get_or now k d in let x : A = get_or xs k d in
-      has x z (f.done k x z (omega arith) (slice_get_read xs (length xs) k x refl (let e = f.long in omega arith) (same_default xs k d (let e = f.long in omega arith))) (slice_get_read now (length now) k z refl l (same_default now k d l)))
-    where
-      same_default : (ys : List A) (k : ℕ) (d : A) → k < length ys → get_or ys k d ≡ get_or ys k (get_or ys k d)
-      same_default [] k d l = absurd (omega arith)
-      same_default (y ∷ ys) zero d l = refl
-      same_default (y ∷ ys) (suc k) d l = same_default ys k d (omega arith)
+      has x z (f.done k x z (omega arith) (slice_get_read xs (length xs) k x refl (let e = f.long in omega arith) (get_or_default xs k d x (let e = f.long in omega arith))) (slice_get_read now (length now) k z refl l (get_or_default now k d z l)))

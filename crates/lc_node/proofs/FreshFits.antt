@@ -1,7 +1,7 @@
 -- The areas of a recovered store fit the log and the segments that come up on them.
 use Rattle.std.proofs.Common.{◌≡◌, ℕ, ◌+◌, ◌*◌, ◌<◌, length, Some, refl, sym, ap, subst, ◌∙◌, arith}
 use Rattle.std.specs.Prelude.{slice_get, option_map}
-use Rattle.std.proofs.lemmas.Option.{slice_get-map, slice_get_within}
+use Rattle.std.proofs.lemmas.Option.{slice_get-map, slice_get_within, same_Some as one_item}
 use Rattle.lc_disk.specs.declared.area.Area.{Ghosts}
 use Rattle.lc_page.specs.Page.{Page, slot_at}
 use Rattle.lc_page.specs.PageVector.{entry_at, new_entry}
@@ -10,7 +10,6 @@ use Rattle.lc_page.specs.declared.entry.Entry.{Entry}
 use Rattle.lc_page.proofs.StateLemmas.{clean_settled}
 use Rattle.lc_recover.specs.Reads.{HaveLengths, area_count, area_len}
 use Rattle.lc_recover.specs.Recovered.{RecoveredStore, AreFinished, page_of}
-use Rattle.lc_recover.proofs.AreaLemmas.{one_item}
 use Rattle.lc_recover.proofs.Images.{count-areas, len-log, len-segment}
 use Rattle.lc_token.specs.declared.token.Token.{Token}
 use Rattle.lc_node.specs.Fresh.{HasWholePages, fresh_token, segment_bytes}

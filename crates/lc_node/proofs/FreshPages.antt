@@ -2,29 +2,14 @@
 use Rattle.std.proofs.Common.{◌≡◌, ℕ, zero, suc, ◌+◌, ◌*◌, ◌<◌, List, [], ◌∷◌, ◌++◌, map, take, drop, length, refl, sym, ap, subst, ◌∙◌, arith, inl, inr}
 use Rattle.std.specs.List.{flat_map}
 use Rattle.std.proofs.Math.Seq.{drop-append-add}
-use Rattle.std.proofs.lemmas.List.{map-append, take-append-le, take_all, length-append}
+use Rattle.std.proofs.lemmas.List.{map-append, take-append-le, take_all, length-append, append-nil as append_none}
 use Rattle.std.proofs.lemmas.Grind.{flat_map-append}
 use Rattle.std.proofs.lemmas.Bool.{cases_eq}
 use Rattle.lc_record.specs.Marks.{counting}
+use Rattle.lc_record.proofs.ListLemmas.{counting_push_zero as counting_more}
 use Rattle.lc_page.specs.PageVector.{entry_at, new_entry}
 use Rattle.lc_page.specs.declared.page_text.PageText.{PageText}
 use Rattle.lc_node.specs.Pages.{page_bytes}
-
-counting_next : (from n : ℕ) → counting from (suc n) ≡ counting from n ++ (from + n) ∷ []
-counting_next from zero = (let same : from ≡ from + 0 = omega arith in ap (λ (k : ℕ). k ∷ []) same)
-counting_next from (suc n) =
-    let same : (from + 1) + n ≡ from + suc n = omega arith in
-    ap (λ (l : List ℕ). from ∷ l) (counting_next (from + 1) n ∙ ap (λ (k : ℕ). counting (from + 1) n ++ k ∷ []) same)
-
-counting_more : (n : ℕ) → counting 0 (n + 1) ≡ counting 0 n ++ n ∷ []
-counting_more n =
-    let more : n + 1 ≡ suc n = omega arith in
-    let same : 0 + n ≡ n = omega arith in
-    ap (counting 0) more ∙ counting_next 0 n ∙ ap (λ (k : ℕ). counting 0 n ++ k ∷ []) same
-
-append_none : (xs : List ℕ) → xs ++ [] ≡ xs
-append_none [] = refl
-append_none (x ∷ xs) = ap (λ (l : List ℕ). x ∷ l) (append_none xs)
 
 -- one more page
 pub bytes_more : (f : ℕ → List ℕ) (page : ℕ) (new old items : List ℕ) → new ≡ old ++ items → old ≡ flat_map f (counting 0 page) → items ≡ f page → new ≡ flat_map f (counting 0 (page + 1))

@@ -4,7 +4,7 @@ use Rattle.std.specs.List.{concat}
 use Rattle.std.proofs.Math.ListN.{take, drop}
 use lib.ListN.{get_or-append}
 use lib.Seq.{get_or-append-add}
-use Rattle.std.proofs.lemmas.List.{ext_get_or, append-nil, get_or-take, get_or-drop, take-append-drop, length-take-le, length-drop}
+use Rattle.std.proofs.lemmas.List.{ext_get_or, append-nil, get_or-take, get_or-drop, take-append-drop, length-take-le, length-drop, nil_from_length as no_words}
 use Rattle.std.proofs.lemmas.List.Elements.{All-head, All-tail, All-append}
 use Rattle.std.proofs.lemmas.List.Folds.{concat-append}
 use Rattle.lc_stage.specs.Staging.{IsOneRecord, AreRecords}
@@ -32,10 +32,6 @@ Next words place at count = IsPassing words place (at + get_or words at 0 / 2 ^ 
 one_alone : (x : List ℕ) → IsOneRecord x → All IsOneRecord (x ∷ [])
 one_alone x h zero d l = h
 one_alone x h (suc k) d l = absurd (omega arith)
-
-pub no_words : (xs : List ℕ) → length xs ≡ 0 → xs ≡ []
-no_words [] e = refl
-no_words (x ∷ xs) e = absurd (omega arith)
 
 step : (words : List ℕ) (place at count : ℕ) → place ≤ length words → at < place → count ≤ at → (passed coming : List (List ℕ)) → All IsOneRecord passed → All IsOneRecord coming
     → take place words ≡ concat passed ++ concat coming → length (concat passed) ≡ at → length passed ≡ count → Next words place at count

@@ -1,12 +1,13 @@
 -- Lists that are filled side by side, and a list of which each thing is so, taken from its front; and the nodes that came up so.
-use Rattle.std.proofs.Common.{◌≡◌, ℕ, zero, suc, ◌<◌, List, [], ◌∷◌, ◌++◌, All, drop, length, Some, refl, sym, ap, subst, arith}
+use Rattle.std.proofs.Common.{◌≡◌, ℕ, ◌<◌, List, [], ◌∷◌, ◌++◌, All, drop, length, Some, refl, sym, ap, subst, arith}
 use Rattle.std.specs.Prelude.{option_map, slice_get, slice_index_or}
 use Rattle.std.proofs.lemmas.List.Elements.{All-drop, All-push}
-use Rattle.std.proofs.lemmas.Option.{get_or_from_slice_get, slice_get-get_or, slice_get_within}
+use Rattle.std.proofs.lemmas.Option.{slice_get-get_or, slice_get_within}
 use Rattle.lc_recover.specs.Recovered.{RecoveredStore}
 use Rattle.lc_stage.specs.Seats.{commit_view, IsIdle}
 use Rattle.lc_stage.specs.Staging.{newcomer}
 use Rattle.lc_stage.specs.declared.seats.CommitSeat.{CommitSeat as Seat}
+use Rattle.lc_record.proofs.ListLemmas.{slice_get_some as stands, All-slice_get as at_each}
 use Rattle.lc_node.specs.Cluster.{IsSeatAt}
 use Rattle.lc_node.specs.Opened.{IsOpened}
 use Rattle.lc_node.specs.declared.cluster.Cluster.{Cluster}
@@ -44,14 +45,6 @@ module _ {A B : Type 0} where
 
 -- what stands at a place of a list
 module _ {A : Type 0} where
-  pub stands : (xs : List A) (k : ℕ) → k < length xs → (x : A) × (slice_get xs k ≡ Some x)
-  stands [] k within = absurd (omega (arith, within))
-  stands (x ∷ xs) zero within = (x, refl)
-  stands (x ∷ xs) (suc k) within = stands xs k (omega (arith, within))
-
-  pub at_each : (P : A → Type 0) (xs : List A) (k : ℕ) (x : A) → All P xs → slice_get xs k ≡ Some x → P x
-  at_each P xs k x all got = subst P (get_or_from_slice_get xs k x x got) (all k x (slice_get_within xs k x got))
-
   pub each_is : (P : A → Type 0) (xs : List A) → ((k : ℕ) (x : A) → slice_get xs k ≡ Some x → P x) → All P xs
   each_is P xs each k d within = each k (slice_index_or xs k d) (slice_get-get_or xs k d within)
 

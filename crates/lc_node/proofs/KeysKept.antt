@@ -1,8 +1,9 @@
 -- The keys of locks go with them.
-use Rattle.std.proofs.Common.{◌≡◌, ◌≢◌, ◌+◌, ◌<◌, ℕ, All, List, [], ◌∷◌, ◌++◌, Option, Some, length, map, refl, sym, ap, subst, ◌∙◌, arith}
+use Rattle.std.proofs.Common.{◌≡◌, ◌≢◌, ◌+◌, ◌<◌, ℕ, All, List, [], ◌∷◌, ◌++◌, Option, Some, length, map, sym, ap, subst, ◌∙◌, arith}
 use Rattle.std.specs.Prelude.{option_and_then, option_map, slice_get}
 use Rattle.std.proofs.lemmas.Option.{slice_get-map, slice_get_within}
 use Rattle.std.proofs.lemmas.List.{append_assoc, length-map, map-append}
+use Rattle.lc_record.proofs.ListLemmas.{slice_get_some as stands, All-slice_get as at_each, slice_get-map_some as mapped}
 use Rattle.lc_node.specs.Each.{Each}
 use Rattle.lc_lock.specs.Loans.{key_of}
 use Rattle.lc_node.specs.Keys.{AreOnLines, AreWiredAs, wired_in}
@@ -12,12 +13,9 @@ use Rattle.lc_node.specs.Receiving.{origin_of}
 use Rattle.lc_node.specs.Spread.{line_of}
 use Rattle.lc_node.specs.Wiring.{HasPeers, end_to, inbox_from}
 use Rattle.lc_node.specs.declared.wiring.Ends.{Ends}
-use Rattle.lc_node.proofs.Joined.{at_each, each_is, stands}
+use Rattle.lc_node.proofs.Joined.{each_is}
 use Rattle.lc_node.proofs.LinesClosed.{is_some_of}
 use Rattle.lc_node.proofs.PeerPlaces.{place_within}
-
-mapped : {A B : Type 0} (f : A → B) (xs : List A) (k : ℕ) (x : A) → slice_get xs k ≡ Some x → slice_get (map f xs) k ≡ Some (f x)
-mapped f xs k x got = slice_get-map f xs k ∙ ap (λ (o : Option _). option_map f o) got
 
 module _ {A C : Type 0} (f : A → C) where
   -- the first of those that are left is the last of those that have come
@@ -27,10 +25,6 @@ module _ {A C : Type 0} (f : A → C) where
       ∙ (ap (λ (l : List C). l ++ left) (map-append f olds (x ∷ []))
       ∙ (append_assoc (map f olds) (f x ∷ []) left
       ∙ ap (λ (l : List C). map f olds ++ l) (ap (λ (k : C). k ∷ left) own ∙ sym first)))
-
-pub is_nil : {A : Type 0} (xs : List A) → length xs ≡ 0 → xs ≡ []
-is_nil [] none = refl
-is_nil (x ∷ xs) none = absurd (omega (arith, none))
 
 -- what is so with each key is so with each
 pub at_mapped : {A B : Type 0} (f : A → B) (Q : B → Type 0) (xs : List A) (k : ℕ) (x : A) → All Q (map f xs) → slice_get xs k ≡ Some x → Q (f x)

@@ -4,13 +4,14 @@ use Rattle.std.specs.Global.{Vec}
 use Rattle.std.specs.Prelude.{slice_get, vec_len}
 use Rattle.std.proofs.lemmas.List.{length-map}
 use Rattle.std.proofs.lemmas.List.Elements.{All-map}
-use Rattle.std.proofs.lemmas.Option.{slice_get-map}
+use Rattle.std.proofs.lemmas.Option.{slice_get-map, same_Some as some_same}
 use Rattle.lc_disk.specs.declared.area.Area.{Ghosts}
 use Rattle.lc_lock.specs.Loans.{key_of}
 use Rattle.lc_stage.specs.Seats.{IsSeatOf}
 use Rattle.lc_stage.specs.declared.seats.CommitSeat.{CommitSeat}
 use Rattle.lc_rest.specs.Parts.{AreKept, KeepsPages}
 use Rattle.lc_rest.specs.declared.parts.Parts.{Parts}
+use Rattle.lc_record.proofs.ListLemmas.{All-slice_get as at_each}
 use Rattle.lc_node.specs.Keys.{AreWiredAs, HasOneKey, wired_by, wired_in}
 use Rattle.lc_node.specs.LeftBy.{AreOwnSeats, HaveOwnSeats, IsLeftNode, node_in, post_of}
 use Rattle.lc_node.specs.Journey.{Journey}
@@ -19,8 +20,7 @@ use Rattle.lc_node.specs.declared.joining.Post.{Post}
 use Rattle.lc_node.specs.declared.member.Member.{Member}
 use Rattle.lc_node.specs.declared.node.Node.{Node}
 use Rattle.lc_node.specs.declared.wiring.Ends.{Ends}
-use Rattle.lc_node.proofs.Backwards.{some_same}
-use Rattle.lc_node.proofs.Joined.{at_each, each_is}
+use Rattle.lc_node.proofs.Joined.{each_is}
 
 keys_of_posts : {D : Type 0} (members : List (Member D)) → wired_in (map post_of members) ≡ wired_by members
 keys_of_posts [] = refl

@@ -7,10 +7,9 @@ use Rattle.lc_token.specs.declared.token.Token.{Token}
 use Rattle.lc_rest.specs.declared.holder.Holder.TheVariants.{Here}
 use Rattle.lc_rest.specs.Parts.{KeepsPages}
 use Rattle.lc_rest.specs.declared.segment_part.SegmentPart.{SegmentPart}
-use Rattle.std.proofs.lemmas.Option.{none-some}
+use Rattle.std.proofs.lemmas.Option.{none-some, same_Some as some_same}
 use Rattle.lc_node.specs.LeftBy.{IsServingArea, IsSettledPart, token_here}
 use Rattle.lc_node.specs.SegSide.{FitsArea}
-use Rattle.lc_node.proofs.Backwards.{some_same}
 use Rattle.lc_node.specs.declared.page_area.PageArea.{PageArea}
 use Rattle.lc_node.specs.declared.page_area.PageArea.TheVariants.{Elsewhere, Serves, Failed}
 

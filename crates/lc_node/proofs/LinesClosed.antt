@@ -3,9 +3,8 @@ use Rattle.std.proofs.Common.{◌≡◌, ◌≢◌, ℕ, zero, suc, ◌+◌, ◌
 use Rattle.std.specs.Prelude.{slice_get, slice_index_or, option_and_then, option_map, None}
 use Rattle.std.proofs.lemmas.List.{append-nil, append_assoc}
 use Rattle.std.proofs.Math.Seq.{drop-append_seam}
-use Rattle.std.specs.Prelude.{OnOk, Result, Ok, Err}
-use Rattle.std.proofs.lemmas.Option.{slice_get_within}
-use Rattle.lc_recover.proofs.Images.{get-drop}
+use Rattle.std.proofs.lemmas.Option.{slice_get_within, same_Some as some_same}
+use Rattle.lc_record.proofs.ListLemmas.{slice_get_some as stands, All-slice_get as at_each, slice_get-drop as get-drop}
 use Rattle.lc_node.specs.Closing.{AreJoined, Gives, GivesAll, GivesBoth, Grows, IsBehindFirst, StandIn, left_on}
 use Rattle.lc_node.specs.Each.{Each}
 use Rattle.lc_node.specs.Keys.{AreWiredAs}
@@ -17,15 +16,10 @@ use Rattle.lc_node.specs.declared.message.Message.{Message}
 use Rattle.lc_node.specs.declared.peer_end.PeerEnd.{PeerEnd}
 use Rattle.lc_node.specs.declared.peer_inbox.PeerInbox.{PeerInbox}
 use Rattle.lc_node.specs.declared.wiring.Ends.{Ends}
-use Rattle.lc_node.proofs.Backwards.{some_same}
-use Rattle.lc_node.proofs.Joined.{at_each, each_is, stands}
+use Rattle.lc_node.proofs.Joined.{each_is}
 use Rattle.lc_node.proofs.PeerPlaces.{place_above, place_below}
 use mathlib.Core.Logic.{dite}
 use native.Mathlib.Decide.{dec_le}
-
-pub on_ok : {T E : Type 0} {A B : Type 0} (r : Result T E) → OnOk r A → (A → B) → OnOk r B
-on_ok (Ok x) h f = f h
-on_ok (Err e) h f = tt
 
 -- what is taken from the front of a list, and what is left of it
 pub split_first : {A : Type 0} (xs left : List A) (x : A) → 0 < length xs → x ≡ slice_index_or xs 0 x → left ≡ drop 1 xs → xs ≡ x ∷ left

@@ -1,18 +1,16 @@
 -- The messages of a peer are gone on with one after another.
 use Rattle.std.proofs.Common.{◌≡◌, ℕ, List, [], ◌∷◌, ◌++◌, Some, None, refl, sym, ap, subst, ◌∙◌, inl, inr}
-use Rattle.std.specs.Prelude.{Bool, Err, IfOk, IsSome, MatchOption, Ok, OnErr, Option, Result}
+use Rattle.std.specs.Prelude.{Bool, Err, IfOk, IsSome, MatchOption, Ok, Option, Result}
+use Rattle.std.proofs.lemmas.Option.{same_Some as some_same}
 use Rattle.lc_token.specs.declared.received.Received.{Received}
 use Rattle.lc_token.specs.declared.received.Received.TheVariants.{Applied as IsApplied, HeldBack as IsHeldBack, Ignored as IsIgnored}
-use Rattle.lc_node.specs.Pumping.{GoesOn, HasGoneOn, IsGoneOn, IsOfMessage, IsOfRecord, answer_of}
+use Rattle.lc_node.specs.Pumping.{GoesOn, IsGoneOn, IsOfMessage, IsOfRecord, answer_of}
 use Rattle.lc_node.specs.Receiving.{kept_at, taken_at}
 use Rattle.lc_node.specs.declared.message.Message.{Message}
 use Rattle.lc_node.specs.declared.message.Message.TheVariants.{Record, Token}
 use Rattle.lc_node.specs.declared.peer_inbox.PeerInbox.{PeerInbox}
 use Rattle.lc_node.specs.declared.pumped.Pumped.{Pumped}
 use Rattle.lc_node.specs.declared.pumped.Pumped.TheVariants.{Applied, HeldBack, Ignored, Arrived, Waiting, Empty}
-
-some_same : {A : Type 0} (x y : A) → Some x ≡ Some y → x ≡ y
-some_same x y e = cc
 
 module _ {P : Type 0} (old new : List (PeerInbox P)) (peer : ℕ) (result : Option (Message P))
     (again : IsSome (kept_at old peer) → (result ≡ kept_at old peer) × (taken_at new peer ≡ taken_at old peer))
@@ -61,7 +59,3 @@ pub goes_on_if : {P E : Type 0} (r : Result Pumped E) (message : Message P) (gon
     → kept_at ends peer ≡ None → taken_at ends peer ≡ gone ++ message ∷ [] → IfOk r (λ p. GoesOn p gone ends peer)
 goes_on_if (Ok p) message gone ends peer is none took = goes_on p message gone ends peer is none took
 goes_on_if (Err e) message gone ends peer is none took = is
-
-pub on_err : {A E : Type 0} (r : Result A E) (X : Type 0) → X → OnErr r X
-on_err (Ok a) X x = tt
-on_err (Err e) X x = x

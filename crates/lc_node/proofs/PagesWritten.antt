@@ -1,9 +1,9 @@
 -- What the pages of held segments are behind their writes.
 use Rattle.std.proofs.Common.{◌≡◌, ℕ, zero, suc, ◌+◌, ◌*◌, ◌<◌, ◌≤◌, List, [], ◌∷◌, All, Some, None, length, take, refl, set, get_or, sym, ap, subst, ◌∙◌, inl, inr, arith}
-use Rattle.std.specs.Prelude.{Option, Result, Ok, Err, IfOk, IfErr, IsSomeAnd, IsSome, slice_get}
+use Rattle.std.specs.Prelude.{Option, IsSomeAnd, IsSome, slice_get}
 use Rattle.std.proofs.lemmas.Bool.{cases_lt, cases_eq, eq-eqb, ne_eqb, lt-ltb, le-ltb}
-use Rattle.std.proofs.lemmas.List.{take_more, take_all}
-use Rattle.std.proofs.lemmas.Option.{slice_get_read, slice_get_within}
+use Rattle.std.proofs.lemmas.List.{take_more, take_all, get_or_default, length-set as length_set}
+use Rattle.std.proofs.lemmas.Option.{slice_get_read, slice_get_within, same_Some as some_same}
 use Rattle.lc_lock.specs.Loans.{IsLoanOf}
 use Rattle.std.proofs.lemmas.List.Elements.{All-append}
 use Rattle.std.specs.Option.{ForSome}
@@ -14,6 +14,7 @@ use Rattle.lc_stage.specs.Seats.{flush_view}
 use Rattle.lc_trunc.specs.KnownClean.{Sees}
 use Rattle.lc_token.specs.Standing.{Standing}
 use Rattle.lc_token.specs.declared.token.Token.{Token}
+use Rattle.lc_record.proofs.ListLemmas.{slice_get_some as some_at, All-slice_get as all_at, slice_get-set_same as get_same, slice_get-set_other as get_other}
 use Rattle.lc_node.specs.Pages.{AreWritten, FitsToken}
 use Rattle.lc_node.specs.SegSide.{FitsArea}
 use Rattle.lc_node.specs.Each.{Each}
@@ -29,9 +30,8 @@ use Rattle.lc_node.specs.Truncates.{HasPagesIn, IsFolded, IsOfTruncation, IsUntr
 use Rattle.lc_node.specs.declared.held.HeldSide.{HeldSide}
 use Rattle.lc_node.specs.declared.page_area.PageArea.{PageArea}
 use Rattle.lc_node.specs.declared.page_area.PageArea.TheVariants.{Serves}
-use Rattle.lc_node.proofs.Backwards.{some_same, get_same, get_other, length_set, got_at}
+use Rattle.lc_node.proofs.Backwards.{got_at}
 use Rattle.lc_node.proofs.Forwards.{Forwards, next, all_of}
-use Rattle.lc_node.proofs.CommitKeeps.{some_at, all_at}
 use Rattle.lc_node.proofs.Knowing.{all_alone}
 
 -- where an area serves the token is here, and the area stands as it says
@@ -77,19 +77,6 @@ token_seen o t old new is sees = subst (λ x. SeesToken old x new) (sym is) sees
 
 pub none_seen : (o : Option Token) (old new : List ℕ) → o ≡ None → new ≡ old → SeesToken old o new
 none_seen o old new is same = subst (λ x. SeesToken old x new) (sym is) same
-
-pub if_ok : {A E : Type 0} (r : Result A E) (P Q : A → Type 0) → ((x : A) → P x → Q x) → IfOk r P → IfOk r Q
-if_ok (Ok x) P Q to p = to x p
-if_ok (Err e) P Q to p = p
-
-pub if_err : {A E : Type 0} (r : Result A E) (P Q : E → Type 0) → ((e : E) → P e → Q e) → IfErr r P → IfErr r Q
-if_err (Ok x) P Q to p = p
-if_err (Err e) P Q to p = to e p
-
-same_default : {A : Type 0} (ys : List A) (k : ℕ) (d : A) → k < length ys → get_or ys k d ≡ get_or ys k (get_or ys k d)
-same_default [] k d l = absurd (omega arith)
-same_default (y ∷ ys) zero d l = refl
-same_default (y ∷ ys) (suc k) d l = same_default ys k d (omega arith)
 
 -- the item of a walk
 pub got_item : {A : Type 0} (ys : List A) (k : ℕ) (y : A) → k < length ys → y ≡ get_or ys k y → slice_get ys k ≡ Some y
@@ -158,7 +145,7 @@ module _ {D : Type 0} where
   pub still_held : (node : Node D) (olds news : List (HeldSide D)) → Each IsSameHeld olds news → All (IsHeldOf node) olds → All (IsHeldOf node) news
   still_held node olds news same all k d l =
       let g : HeldSide D = get_or news k d in
-      let g_at : slice_get news k ≡ Some g = slice_get_read news (length news) k g refl l (same_default news k d l) in
+      let g_at : slice_get news k ≡ Some g = slice_get_read news (length news) k g refl l (get_or_default news k d g l) in
       let old = some_at olds k (let e = same.long in omega arith) in
       let h : HeldSide D = old.0 in
       let is = same.each k h g old.1 g_at in

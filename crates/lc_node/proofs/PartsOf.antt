@@ -2,7 +2,7 @@
 use Rattle.std.proofs.Common.{◌≡◌, ℕ, ◌+◌, ◌≤◌, ◌^◌, ◌==◌, cond, Bool, true, false, List, [], ◌∷◌, Some, None, length, map, filter, refl, sym, ap, subst, ◌∙◌, inl, inr, arith, eqb-true, eq-eqb, true≢false}
 use Rattle.std.specs.Prelude.{Option, option_map}
 use Rattle.std.specs.List.{AllByRecursion}
-use Rattle.std.proofs.lemmas.Option.{none-some}
+use Rattle.std.proofs.lemmas.Option.{none-some, same_Some as some_same}
 use Rattle.lc_record.specs.Part.{number_in, part_of}
 use Rattle.lc_record.specs.Record.{IsLock, IsRecord, Locks, Writes}
 use Rattle.lc_record.specs.declared.part.Part.{Part}
@@ -15,7 +15,6 @@ use Rattle.lc_tx.specs.Images.{bytes_of}
 use Rattle.lc_tx.specs.declared.images.Images.{Ghosts}
 use Rattle.lc_tx.specs.Prepared.{run_data}
 use Rattle.lc_node.specs.Laid.{LieInside}
-use Rattle.lc_node.proofs.Backwards.{some_same}
 
 -- Its number
 

@@ -10,6 +10,7 @@ use Rattle.std.proofs.lemmas.List.Folds.{concat-append}
 use Rattle.lc_stage.specs.Staging.{IsOneRecord, AreRecords}
 use Rattle.lc_stage.specs.Seats.{flush_view}
 use Rattle.lc_stage.proofs.Records.{some_record, header_tells}
+use Rattle.lc_record.proofs.ListLemmas.{All-append_right as all_behind}
 use Rattle.lc_node.specs.Among.{AreInFront}
 use Rattle.lc_node.specs.LogView.{LogView}
 use Rattle.lc_node.specs.Published.{records_behind, records_of, published, IsStart, IsWhole}
@@ -103,10 +104,6 @@ overlap (x ∷ xs) ys (u ∷ us) vs e = let whole : x ∷ (xs ++ ys) ≡ u ∷ (
       | inl w ↦ inl (w.0, (λ k. sym heads k ∷ w.1 k), w.2)
       | inr w ↦ inr (w.0, (λ k. heads k ∷ w.1 k), w.2)
     ]
-
-all_behind : {X : Type 0} (P : X → Type 0) (xs ys : List X) → All P (xs ++ ys) → All P ys
-all_behind P [] ys all = all
-all_behind P (x ∷ xs) ys all = all_behind P xs ys (All-tail P x (xs ++ ys) all)
 
 -- records without a word are none
 none_there : (rs : List (List ℕ)) → All IsOneRecord rs → length (concat rs) ≡ 0 → rs ≡ []

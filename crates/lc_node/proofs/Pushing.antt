@@ -4,8 +4,10 @@ use mathlib.Core.Logic.{dite}
 use native.Mathlib.Decide.{dec_le}
 use Rattle.std.specs.Prelude.{slice_get}
 use Rattle.std.proofs.lemmas.List.Elements.{All-append}
-use Rattle.std.proofs.lemmas.Option.{slice_get_within}
-use Rattle.lc_node.proofs.Backwards.{some_same, get_same, get_other, length_set, get_front, get_last, got_at}
+use Rattle.std.proofs.lemmas.Option.{slice_get_within, same_Some as some_same}
+use Rattle.std.proofs.lemmas.List.{length-set as length_set}
+use Rattle.lc_record.proofs.ListLemmas.{slice_get-append_left as get_front, slice_get_push as get_last, slice_get-set_same as get_same, slice_get-set_other as get_other}
+use Rattle.lc_node.proofs.Backwards.{got_at}
 use Rattle.lc_node.proofs.Knowing.{all_alone}
 
 module _ {A B : Type 0} (R : A → B → A → Type 0) where

@@ -1,12 +1,13 @@
 -- Where what a cluster leaves is refused.
 use Rattle.std.proofs.Common.{◌≡◌, ◌⊎◌, ◌+◌, ◌*◌, ◌<◌, ◌≤◌, ◌++◌, ◌∷◌, [], ℕ, List, All, length, Some, inl, inr, refl, sym, ap, subst, ◌∙◌, arith, length-append}
-use Rattle.std.specs.Prelude.{Any, Err, IfErr, IsErrAnd, Result, map, option_map, slice_get}
+use Rattle.std.specs.Prelude.{Any, IfErr, IsErrAnd, Result, map, option_map, slice_get}
 use Rattle.std.proofs.lemmas.Result.{err_from_is_err_and}
 use Rattle.std.proofs.lemmas.List.{length-map}
 use Rattle.std.proofs.lemmas.List.Elements.{All-cons, All-head, All-nil}
-use Rattle.std.proofs.lemmas.Option.{slice_get-get_or, slice_get-map}
+use Rattle.std.proofs.lemmas.Option.{slice_get-get_or, slice_get-map, same_Some as some_same}
 use Rattle.lc_disk.specs.declared.area.Area.{Ghosts}
 use Rattle.lc_record.specs.declared.geometry.Geometry.{Geometry}
+use Rattle.lc_record.proofs.ListLemmas.{slice_get_some as stands}
 use Rattle.lc_stage.specs.Staging.{end_of}
 use Rattle.lc_stage.specs.declared.view.View.{View}
 use Rattle.lc_rest.specs.declared.part.Part.TheVariants.{Seat, Log}
@@ -18,8 +19,6 @@ use Rattle.lc_node.specs.declared.node.Node.{Node}
 use Rattle.lc_node.specs.declared.node_fault.NodeFault.{NodeFault}
 use Rattle.lc_node.specs.declared.node_fault.NodeFault.TheVariants.{Mismatch, NoMemory}
 use Rattle.lc_node.specs.declared.page_area.PageArea.{PageArea}
-use Rattle.lc_node.proofs.Backwards.{some_same}
-use Rattle.lc_node.proofs.Joined.{stands}
 
 -- what a call was refused for is handed on
 pub handed_on : {A : Type 0} (res : Result A NodeFault) (fault : NodeFault) (P : NodeFault → Type 0) → IsErrAnd res (λ y. y ≡ fault) → P fault → IfErr res P

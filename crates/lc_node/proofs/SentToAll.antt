@@ -1,9 +1,9 @@
 -- What is sent to all peers, one after another.
-use Rattle.std.proofs.Common.{◌≡◌, ℕ, zero, suc, ◌<◌, List, [], ◌∷◌, ◌++◌, Some, length, map, get_or, set, refl, ap, ◌∙◌, arith, length-append}
-use Rattle.std.specs.Prelude.{slice_get}
+use Rattle.std.proofs.Common.{◌≡◌, ℕ, zero, suc, ◌<◌, List, [], ◌∷◌, ◌++◌, length, map, get_or, set, refl, ap, ◌∙◌, arith, length-append}
 use Rattle.std.specs.Global.{Vec, Global}
 use Rattle.std.specs.declared.collections.VecDeque.{VecDeque}
 use Rattle.std.proofs.lemmas.Option.{slice_get_within}
+use Rattle.lc_record.proofs.ListLemmas.{slice_get_some as got_some}
 use Rattle.lc_node.specs.Copies.{texts, CanBeSent, AreNext}
 use Rattle.lc_node.specs.Each.{Each, EachThree}
 use Rattle.lc_node.specs.Spread.{ArePrefixes, SendsFew}
@@ -15,11 +15,6 @@ pub same_map : {A B : Type 0} (f : A → B) (xs : List A) (n : ℕ) (x z : A) �
 same_map f [] n x z is within same = absurd (omega arith)
 same_map f (y ∷ xs) zero x z is within same = ap (λ b. b ∷ map f xs) (same ∙ ap f is)
 same_map f (y ∷ xs) (suc n) x z is within same = ap (λ l. f y ∷ l) (same_map f xs n x z is (omega arith) same)
-
-got_some : {A : Type 0} (xs : List A) (k : ℕ) → k < length xs → (x : A) × (slice_get xs k ≡ Some x)
-got_some [] k within = absurd (omega arith)
-got_some (x ∷ xs) zero within = (x, refl)
-got_some (x ∷ xs) (suc k) within = got_some xs k (omega arith)
 
 pub prefixes_after : {P : Type 0} (published : List (List ℕ)) (xs now : List (PeerEnd P)) (ys : List (VecDeque (Vec ℕ) Global)) → EachThree IsSentFirst xs ys now → Each (λ peer lacks. AreNext published peer lacks.items) xs ys
     → ArePrefixes published xs → ArePrefixes published now

@@ -2,11 +2,12 @@
 use Rattle.std.proofs.Common.{◌≡◌, ℕ, suc, ◌==◌, cond, Bool, true, false, ◌||◌, List, [], ◌∷◌, Some, None, map, refl, sym, ap, subst, ◌∙◌, inl, inr, arith, eqb-true}
 use Rattle.std.specs.Prelude.{slice_get, Option, IsSome, IsTrue}
 use Rattle.std.proofs.lemmas.Bool.{or_cases, false≢true}
-use Rattle.std.proofs.lemmas.Option.{slice_get_within}
+use Rattle.std.proofs.lemmas.Option.{slice_get_within, same_Some as some_same}
 use Rattle.lc_record.specs.Part.{part_of}
 use Rattle.lc_record.specs.Transaction.{is_member}
 use Rattle.lc_record.specs.declared.part.Part.{Part}
 use Rattle.lc_record.specs.declared.record.Record.{Record}
+use Rattle.lc_record.proofs.ListLemmas.{slice_get_some as some_at}
 use Rattle.lc_tx.specs.declared.holders.Holders.TheVariants.{Free}
 use Rattle.lc_tx.specs.declared.image.Image.{Image as Picture}
 use Rattle.lc_tx.specs.declared.tx_fault.TxFault.{TxFault}
@@ -22,8 +23,6 @@ use Rattle.lc_node.specs.Sides.{number_in, IsBack, IsOut, IsRoomier}
 use Rattle.lc_node.specs.declared.held.HeldSide.{HeldSide}
 use Rattle.lc_node.specs.declared.lent.LentSlot.{LentSlot}
 use Rattle.lc_node.specs.declared.lent.Lent.{Lent}
-use Rattle.lc_node.proofs.Backwards.{some_same}
-use Rattle.lc_node.proofs.CommitKeeps.{some_at}
 use Rattle.lc_node.proofs.Slots.{AscendFrom, each_head, each_map, each_tail, each_to, got_map, image_is, map_got, member_place, number_is, same_beside, same_segments, segments_in}
 use Rattle.lc_node.proofs.Standing.{roomier_image, roomier_segment, takes_segment}
 

@@ -3,6 +3,7 @@ use Rattle.std.proofs.Common.{◌≡◌, ℕ, zero, suc, ◌+◌, ◌<◌, ◌�
 use Rattle.std.specs.Prelude.{slice_get, Option}
 use Rattle.std.proofs.lemmas.Bool.{or_cases, or_left, or_right, ne_eqb, false≢true}
 use Rattle.std.proofs.lemmas.List.{length-map}
+use Rattle.std.proofs.lemmas.Option.{same_Some as some_same}
 use Rattle.lc_record.specs.Record.{Chain}
 use Rattle.lc_record.specs.Transaction.{is_member}
 use Rattle.lc_tx.specs.declared.image.Image.{Image as Picture}
@@ -10,7 +11,6 @@ use Rattle.lc_node.specs.Each.{Each}
 use Rattle.lc_node.specs.Lent.{the_images, beside, hidden, slot_of, place_of, image_at, number_at}
 use Rattle.lc_node.specs.declared.lent.LentSlot.{LentSlot}
 use Rattle.lc_node.specs.declared.lent.Lent.{Lent}
-use Rattle.lc_node.proofs.Backwards.{some_same}
 
 -- Lists beside each other
 

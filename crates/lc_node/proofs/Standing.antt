@@ -2,20 +2,19 @@
 use Rattle.std.proofs.Common.{◌≡◌, ℕ, zero, suc, ◌<◌, true, false, true≢false, Ok, Err, List, [], ◌∷◌, Some, None, length, map, refl, sym, ap, subst, ◌∙◌, inl, inr, arith, All, get_or}
 use Rattle.std.specs.Prelude.{slice_get, Option, IsSome, Result, OnErr, OnOk}
 use Rattle.std.specs.Result.{is_err}
-use Rattle.std.proofs.lemmas.Option.{slice_get_within, get_or_from_slice_get}
+use Rattle.std.proofs.lemmas.Option.{slice_get_within, get_or_from_slice_get, same_Some as some_same}
 use Rattle.lc_lock.specs.Loans.{IsLoanOf}
 use Rattle.lc_record.specs.Part.{part_of}
 use Rattle.lc_record.specs.declared.part.Part.{Part}
 use Rattle.lc_record.specs.declared.record.Record.{Record}
+use Rattle.lc_record.proofs.ListLemmas.{All-slice_get as all_at}
 use Rattle.lc_node.specs.Commits.{IsAsBefore, IsKept, IsKeptTidy, TakesOf, TakesPart}
 use Rattle.lc_node.specs.Each.{Each}
 use Rattle.lc_node.specs.Held.{IsHeldOf}
 use Rattle.lc_node.specs.Sides.{IsRoomier, HasFewParts}
 use Rattle.lc_node.specs.declared.held.HeldSide.{HeldSide}
 use Rattle.lc_node.specs.declared.node.Node.{Node}
-use Rattle.lc_node.proofs.CommitKeeps.{all_at}
 use Rattle.lc_node.proofs.Slots.{each_map, each_of, each_to}
-use Rattle.lc_node.proofs.Backwards.{some_same}
 
 module _ {D : Type 0} where
   -- Parts are folded, and there is more room

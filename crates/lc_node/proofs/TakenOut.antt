@@ -4,6 +4,7 @@ use Rattle.std.specs.Prelude.{position, remove, slice_get}
 use Rattle.std.specs.List.{find, position_from}
 use Rattle.std.proofs.lemmas.Bool.{cases_Bool, cond-true, cond-false, eq-eqb, eqb-true}
 use Rattle.std.proofs.lemmas.Iterator.Adapters.{position_from-zero}
+use Rattle.std.proofs.lemmas.Option.{same_Some, none-some as none_found}
 
 -- the kinds with one more, and with one less
 abbrev pub with_one : ℕ → (ℕ → Bool) → ℕ → Bool
@@ -11,9 +12,6 @@ with_one kind kinds other = cond (eqb other kind) true (kinds other)
 
 abbrev pub with_none : ℕ → (ℕ → Bool) → ℕ → Bool
 with_none kind kinds other = cond (eqb other kind) false (kinds other)
-
-number_is : (a b : ℕ) → Some a ≡ Some b → a ≡ b
-number_is a b e = cc
 
 none_some : (a : ℕ) → None ≡ Some a → ⊥
 none_some a e = cc
@@ -159,19 +157,13 @@ module _ {A : Type 0} (kind_of : A → ℕ) where
     pub stays : IsTakenOut kinds xs place → ⊥
     pub before : (other : ℕ) → other < place → IsTakenOut kinds xs other
 
-  none_found : (y : A) → None ≡ Some y → ⊥
-  none_found y e = cc
-
-  some_is : (x y : A) → Some x ≡ Some y → x ≡ y
-  some_is x y e = cc
-
   at_front : (kinds : ℕ → Bool) (x : A) (xs : List A) → kinds (kind_of x) ≡ true → IsTakenOut kinds (x ∷ xs) 0
   at_front kinds x xs out = record { thing = x; here = refl; kind = out; before = λ other another less. absurd (omega (arith, less)) }
 
   others_before : (x : A) (xs : List A) (place : ℕ) (thing : A) → kind_of thing ≢ kind_of x
       → ((other : ℕ) (another : A) → other < place → slice_get xs other ≡ Some another → kind_of another ≢ kind_of thing)
       → (other : ℕ) (another : A) → other < suc place → slice_get (x ∷ xs) other ≡ Some another → kind_of another ≢ kind_of thing
-  others_before x xs place thing differ before zero another less got = λ same. differ (sym same ∙ ap kind_of (sym (some_is x another got)))
+  others_before x xs place thing differ before zero another less got = λ same. differ (sym same ∙ ap kind_of (sym (same_Some x another got)))
   others_before x xs place thing differ before (suc other) another less got = before other another (omega (arith, less)) got
 
   -- one place further
@@ -214,7 +206,7 @@ module _ {A : Type 0} (kind_of : A → ℕ) where
         let same : x ≡ y = heads x y (left kinds xs) ys (sym (left_in kinds x xs stays) ∙ is) in record {
           place = 0;
           here = ap Some same;
-          stays = λ taken. same_false (kinds (kind_of x)) (ap (λ (z : A). kinds (kind_of z)) (some_is x taken.thing taken.here) ∙ taken.kind) stays;
+          stays = λ taken. same_false (kinds (kind_of x)) (ap (λ (z : A). kinds (kind_of z)) (same_Some x taken.thing taken.here) ∙ taken.kind) stays;
           before = λ other less. absurd (omega (arith, less));
         })
   ]
@@ -230,7 +222,7 @@ module _ {A : Type 0} (kind_of : A → ℕ) where
       let test : A → Bool = λ y. eqb (kind_of y) kind in
       elim (cases_Bool (eqb (kind_of x) kind)) [
         | inl same ↦ (
-            let here : from ≡ place = number_is from place (sym (cond-true (eqb (kind_of x) kind) (Some from) (position_from test (from + 1) xs) same) ∙ is) in (
+            let here : from ≡ place = same_Some from place (sym (cond-true (eqb (kind_of x) kind) (Some from) (position_from test (from + 1) xs) same) ∙ is) in (
               0,
               omega (arith, here),
               record {
@@ -273,6 +265,6 @@ module _ {A : Type 0} (kind_of : A → ℕ) where
   of_kind kind (x ∷ xs) y is =
       let test : A → Bool = λ z. eqb (kind_of z) kind in
       elim (cases_Bool (eqb (kind_of x) kind)) [
-        | inl same ↦ ap kind_of (sym (some_is x y (sym (cond-true (eqb (kind_of x) kind) (Some x) (find test xs) same) ∙ is))) ∙ eqb-true (kind_of x) kind same
+        | inl same ↦ ap kind_of (sym (same_Some x y (sym (cond-true (eqb (kind_of x) kind) (Some x) (find test xs) same) ∙ is))) ∙ eqb-true (kind_of x) kind same
         | inr other ↦ of_kind kind xs y (sym (cond-false (eqb (kind_of x) kind) (Some x) (find test xs) other) ∙ is)
       ]

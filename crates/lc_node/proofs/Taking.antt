@@ -2,26 +2,12 @@
 use Rattle.std.proofs.Common.{◌≡◌, ℕ, zero, suc, ◌+◌, ◌<◌, ◌≤◌, Bool, true, false, if◌then◌else◌, List, [], ◌∷◌, ◌++◌, Option, None, Some, IfSome, drop, length, set, take, refl, sym, ap, subst, ◌∙◌, arith, inl, inr}
 use Rattle.std.specs.Prelude.{option_map, slice_get}
 use Rattle.std.proofs.lemmas.Bool.{cases_eq, cases_lt}
-use Rattle.std.proofs.lemmas.Option.{slice_get_past}
+use Rattle.std.proofs.lemmas.Option.{slice_get_past, same_Some as one_item}
 use Rattle.std.proofs.lemmas.List.{take-append-le, take_all}
-use Rattle.lc_recover.proofs.AreaLemmas.{one_item}
-use Rattle.lc_recover.proofs.Images.{get-drop}
+use Rattle.lc_record.proofs.ListLemmas.{slice_get-drop as get-drop, slice_get-set_same as set_here, slice_get-set_other as set_beside}
 use Rattle.lc_node.proofs.EachPlace.{each_more}
 
 module _ {A : Type 0} where
-  set_here : (xs : List A) (i : ℕ) (old new : A) → slice_get xs i ≡ Some old → slice_get (set xs i new) i ≡ Some new
-  set_here [] zero old new got = absurd cc
-  set_here [] (suc i) old new got = absurd cc
-  set_here (x ∷ xs) zero old new got = refl
-  set_here (x ∷ xs) (suc i) old new got = set_here xs i old new got
-
-  set_beside : (xs : List A) (i k : ℕ) (new : A) → (k ≡ i → ⊥) → slice_get (set xs i new) k ≡ slice_get xs k
-  set_beside [] i k new other = refl
-  set_beside (x ∷ xs) zero zero new other = absurd (other refl)
-  set_beside (x ∷ xs) zero (suc k) new other = refl
-  set_beside (x ∷ xs) (suc i) zero new other = refl
-  set_beside (x ∷ xs) (suc i) (suc k) new other = set_beside xs i k new (λ same. other (ap suc same))
-
   -- a list that is changed place by place: up to a place it is changed
   pub changed_more : (f : ℕ → A → A) (all xs : List A) (i : ℕ) (old new : A) → slice_get xs i ≡ Some old → new ≡ f i old
       → ((k : ℕ) → k < i → slice_get xs k ≡ option_map (f k) (slice_get all k)) → ((k : ℕ) → i ≤ k → slice_get xs k ≡ slice_get all k)
@@ -33,10 +19,6 @@ module _ {A : Type 0} where
         subst (λ (n : ℕ). slice_get (set xs i new) n ≡ option_map (f n) (slice_get all n)) (sym same) here)
     | inr other ↦ set_beside xs i k new other ∙ changed k (omega (arith, within, other))
   ]
-
-  -- and from there on it is not
-  pub unchanged_behind : (all xs : List A) (i : ℕ) (new : A) → ((k : ℕ) → i ≤ k → slice_get xs k ≡ slice_get all k) → (k : ℕ) → i + 1 ≤ k → slice_get (set xs i new) k ≡ slice_get all k
-  unchanged_behind all xs i new rest k behind = set_beside xs i k new (λ same. omega (arith, behind, same)) ∙ rest k (omega (arith, behind))
 
   pub changed_all : (f : ℕ → A → A) (all xs : List A) (n : ℕ) → length all ≤ n → ((k : ℕ) → k < n → slice_get xs k ≡ option_map (f k) (slice_get all k))
       → ((k : ℕ) → n ≤ k → slice_get xs k ≡ slice_get all k) → (k : ℕ) → slice_get xs k ≡ option_map (f k) (slice_get all k)

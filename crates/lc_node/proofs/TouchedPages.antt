@@ -1,13 +1,15 @@
 -- The pages that ranges touch, one range and one page after another.
-use Rattle.std.proofs.Common.{◌≡◌, ◌≢◌, ℕ, zero, suc, ◌+◌, ◌*◌, ◌<◌, ◌≤◌, ◌&&◌, ◌||◌, Bool, true, false, cond, max, nat_lt, ◌^◌, Option, None, List, [], ◌∷◌, ◌++◌, length, Some, refl, sym, ap, subst, ◌∙◌, inl, inr, arith, below_more, get_or-set_other, get_or-set_same}
+use Rattle.std.proofs.Common.{◌≡◌, ◌≢◌, ℕ, zero, suc, ◌+◌, ◌*◌, ◌<◌, ◌≤◌, ◌||◌, Bool, true, false, cond, max, nat_lt, ◌^◌, Option, List, [], ◌∷◌, ◌++◌, length, Some, refl, sym, ap, subst, ◌∙◌, inl, inr, arith, below_more, get_or-set_other, get_or-set_same}
 use Rattle.std.proofs.lemmas.Bool.{cases_lt, lt-ltb, le-ltb}
 use Rattle.std.proofs.lemmas.List.{ext_get_or, length-set}
 use Rattle.std.proofs.lemmas.List.Folds.{list_any-append}
 use Rattle.std.specs.List.{list_any}
 use Rattle.std.specs.Prelude.{slice_set, IsSome}
+use Rattle.std.proofs.Math.Bool.{and-false as and_false}
 use Rattle.lc_page.specs.declared.entry.Entry.{Entry}
 use Rattle.lc_page.specs.PageVector.{entry_at, no_entry, touched_at}
 use Rattle.lc_record.specs.declared.record.RangeData.{RangeData}
+use Rattle.lc_record.proofs.ListLemmas.{some_from_is_some as some_token}
 use Rattle.lc_token.specs.Standing.{Standing}
 use Rattle.lc_token.specs.declared.token.Token.{Token}
 use Rattle.lc_node.specs.Touched.{is_on, touched_by, touched_from, touched_pages}
@@ -73,10 +75,6 @@ touched_more ranges range seq entries = from_more ranges range seq 0 entries
 pub on_page : (range : RangeData) (page : ℕ) → 0 < length range.bytes → range.offset < page * 256 + 256 → page * 256 < range.offset + length range.bytes
     → is_on page range ≡ true
 on_page range page some begins ends = rw (lt-ltb 0 (length range.bytes) some, lt-ltb range.offset (page * 256 + 256) begins, lt-ltb (page * 256) (range.offset + length range.bytes) ends) refl
-
-and_false : (b : Bool) → (b && false) ≡ false
-and_false true = refl
-and_false false = refl
 
 before_page : (range : RangeData) (page : ℕ) → page * 256 + 256 ≤ range.offset → is_on page range ≡ false
 before_page range page before =
@@ -191,10 +189,6 @@ pub no_range : (token : Token) (place : Standing) → place.token ≡ Some token
 no_range token place is =
     ap (λ o. record place { token = o }) is
     ∙ ap (λ (es : List Entry). record place { token = Some (record token { pages = es }) }) (sym (touched_none token.seq token.pages))
-
-some_token : (o : Option Token) → IsSome o → (token : Token) × (o ≡ Some token)
-some_token None is = absurd cc
-some_token (Some token) is = (token, refl)
 
 same_token : (x y : Token) → Some x ≡ Some y → x ≡ y
 same_token x y is = cc

@@ -4,7 +4,9 @@ use mathlib.Core.Logic.{dite}
 use native.Mathlib.Decide.{dec_le, ℕ_discrete as dec_eq}
 use Rattle.std.specs.Prelude.{slice_get, All, Option, option_and_then}
 use Rattle.std.proofs.lemmas.List.Elements.{All-nil, All-push}
-use Rattle.std.proofs.lemmas.Option.{slice_get_within, slice_get-get_or, get_or_from_slice_get}
+use Rattle.std.proofs.lemmas.Option.{slice_get_within, slice_get-get_or, same_Some as some_same}
+use Rattle.std.proofs.lemmas.List.{length-set as length_set}
+use Rattle.lc_record.proofs.ListLemmas.{slice_get-append_left as get_front, All-slice_get as all_got, slice_get_push as get_last, slice_get-set_same as get_same, slice_get-set_other as get_other}
 use Rattle.lc_node.specs.Peers.{place_of}
 use Rattle.lc_node.specs.Receiving.{origin_of}
 use Rattle.lc_node.specs.Spread.{line_of}
@@ -12,7 +14,6 @@ use Rattle.lc_node.specs.Wiring.{HasSends, HasTakes, HasPeers, IsUnsent, IsUntak
 use Rattle.lc_node.specs.declared.peer_end.PeerEnd.{PeerEnd}
 use Rattle.lc_node.specs.declared.peer_inbox.PeerInbox.{PeerInbox}
 use Rattle.lc_node.specs.declared.wiring.Ends.{Ends}
-use Rattle.lc_node.proofs.Backwards.{some_same, get_same, get_other, length_set, get_front, get_last}
 use Rattle.lc_node.proofs.PeerPlaces.{place_below, place_above}
 
 -- How many ends there are
@@ -89,9 +90,6 @@ module _ {A : Type 0} where
 
   pub all_pushed : (Q : A → Type 0) (new old : List A) (x : A) → new ≡ old ++ x ∷ [] → All Q old → Q x → All Q new
   all_pushed Q new old x is all here = subst (All Q) (sym is) (All-push Q old x all here)
-
-  all_got : (Q : A → Type 0) (xs : List A) (k : ℕ) (x : A) → All Q xs → slice_get xs k ≡ Some x → Q x
-  all_got Q xs k x all got = subst Q (get_or_from_slice_get xs k x x got) (all k x (slice_get_within xs k x got))
 
   got_all : (Q : A → Type 0) (xs : List A) → ((k : ℕ) (x : A) → slice_get xs k ≡ Some x → Q x) → All Q xs
   got_all Q xs each = λ k d within. each k (get_or xs k d) (slice_get-get_or xs k d within)

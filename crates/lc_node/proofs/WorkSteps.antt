@@ -4,6 +4,7 @@ use Rattle.std.specs.Prelude.{◌↔◌, IsSome, slice_index, Result, Ok, Err, I
 use Rattle.std.proofs.lemmas.Bool.{cases_Bool, cases_lt, cases_eq, false_from_ne_true}
 use Rattle.lc_record.specs.Transaction.{is_member}
 use Rattle.lc_record.proofs.SegmentLemmas.{length-put}
+use Rattle.lc_record.proofs.ListLemmas.{none_not_some as none_is_none}
 use Rattle.lc_range.specs.RangeSet.{Has}
 use Rattle.lc_range.specs.Undo.{kept}
 use Rattle.lc_tx.specs.declared.image.Image.{Image as Picture}
@@ -15,9 +16,6 @@ use Rattle.lc_tx.specs.Tx.{AreSet, Locked, RunsOn, SetsRange}
 use Rattle.lc_tx.proofs.MemberLemmas.{is_one}
 use Rattle.lc_node.specs.Works.{Works}
 use Rattle.lc_node.proofs.Applied.{put_out}
-
-none_is_none : (o : Option ℕ) → o ≡ None → IsSome o → ⊥
-none_is_none o none some = true≢false (sym (subst (λ (x : Option ℕ). IsSome x) none some))
 
 module _ {I : Type 0} (m : Ghosts I) where
   -- where all images are the same, only the transaction may have changed

@@ -1,6 +1,6 @@
 -- Which of two slots is the page.
-use Rattle.std.proofs.Common.{◌≡◌, ◌≢◌, ℕ, ◌<◌, ◌≤◌, ◌^◌, ◌&&◌, Bool, true, false, cond, leb, ltb, Option, Some, None, List, [], ◌∷◌, length, get_or, set, take, refl, sym, ◌∙◌, ap, arith}
-use Rattle.std.proofs.lemmas.Bool.{ne_eqb, leb-true, le-leb, le-ltb, lt-ltb}
+use Rattle.std.proofs.Common.{◌≡◌, ◌≢◌, ℕ, ◌<◌, ◌≤◌, ◌^◌, Bool, true, false, cond, leb, ltb, Option, Some, None, List, [], ◌∷◌, length, get_or, set, take, refl, sym, ◌∙◌, ap, arith}
+use Rattle.std.proofs.lemmas.Bool.{ne_eqb, leb-true, le-leb, le-ltb, lt-ltb, and_parts}
 use Rattle.std.proofs.lemmas.Nat.{from_le_bytes-to_le_bytes_8}
 use Rattle.std.proofs.lemmas.List.{take_all}
 use Rattle.lc_page.specs.declared.slot.Slot.{Slot}
@@ -170,13 +170,9 @@ written_page seq bytes small long =
 
 -- bounds of a page that is read
 
-both_end : (x y : Bool) → (x && y) ≡ true → y ≡ true
-both_end true y e = e
-both_end false y e = absurd (cc)
-
 open_small : (slot : List ℕ) → is_open slot ≡ true → sequence_of slot ≤ 2 ^ 60
 unfolding is_open
-open_small slot e = leb-true _ _ (both_end _ _ e)
+open_small slot e = leb-true _ _ (and_parts _ _ e).1
 
 -- the present slot is open
 first_open : (first second newer : Bool) → chosen_slot first second newer ≡ Some First → first ≡ true

@@ -13,3 +13,4 @@ pub mod LockLemmas
 pub mod PuttingLemmas
 pub mod LockWordsLemmas
 pub mod SpansLemmas
+pub mod ListLemmas

@@ -61,6 +61,9 @@ meet_same t u v locked reading meet = elim (meet_either t v meet.0 meet.1) [
 
 -- Members
 
+pub member_first : (x : ℕ) (xs : List ℕ) → is_member x (x ∷ xs) ≡ true
+member_first x xs = rw (eq-eqb x x refl) refl
+
 pub member_left : (n : ℕ) (xs ys : List ℕ) → is_member n xs ≡ true → is_member n (xs ++ ys) ≡ true
 member_left n [] ys e = absurd (true≢false (sym e))
 member_left n (x ∷ xs) ys e = elim (or_cases (x == n) (is_member n xs) e) [

@@ -3,6 +3,7 @@ use Rattle.std.proofs.Common.{◌≡◌, ◌≢◌, ℕ, suc, ◌+◌, ◌-◌, 
 use Rattle.std.proofs.lemmas.Bool.{eq-eqb, ne_eqb, cases_Bool}
 use Rattle.std.proofs.lemmas.List.{append-nil, length-take-le}
 use Rattle.std.proofs.lemmas.Option.{cond_some, same_Some}
+use Rattle.std.proofs.Math.Bool.{and-false as and_false}
 use Rattle.lc_record.specs.Words.{bytes_of}
 use Rattle.lc_record.specs.GrammarVersion.{number, later, end_of, version_to}
 use Rattle.lc_record.specs.Record.{span_of, version_of}
@@ -48,10 +49,6 @@ module _ {A : Type 0} (read : List ℕ → Option (A × List ℕ)) (front : List
 -- what stands behind ranges that follow, where those before them want a version
 abbrev pub walked_on : GrammarVersion → GrammarVersion → Place → Option (List RangeData × List ℕ) → Option (List ℕ)
 walked_on needed version before read = read >>= λ ranges. cond (follow before ranges.0 && eqb (number (later needed (version_of ranges.0))) (number version)) (Some ranges.1) None
-
-and_false : (b : Bool) → (b && false) ≡ false
-and_false true = refl
-and_false false = refl
 
 module _ (needed version : GrammarVersion) (before : Place) (n i : ℕ) (words : List ℕ) (total : Option (List ℕ))
     (so_far : walked_on needed version before (ranges_at version (n - i) words) ≡ total) where

@@ -1,11 +1,11 @@
 -- Bytes that are put over others.
-use Rattle.std.proofs.Common.{◌≡◌, ◌≢◌, ℕ, zero, suc, ◌+◌, ◌-◌, ◌*◌, ◌/◌, ◌%◌, ◌<◌, ◌≤◌, Bool, List, [], ◌∷◌, ◌++◌, length, get_or, min, take, drop, Option, Some, None, refl, sym, ap, ◌∙◌, arith, inl, inr, ne_eqb, eq-eqb}
-use Rattle.std.specs.Prelude.{slice_get, if◌then◌else◌}
+use Rattle.std.proofs.Common.{◌≡◌, ◌≢◌, ℕ, zero, suc, ◌+◌, ◌-◌, ◌*◌, ◌/◌, ◌%◌, ◌<◌, ◌≤◌, Bool, true, List, [], ◌∷◌, ◌++◌, length, get_or, min, take, drop, Option, Some, None, refl, sym, ap, ◌∙◌, arith, inl, inr, ne_eqb, eq-eqb}
+use Rattle.std.specs.Prelude.{is_some, slice_get, if◌then◌else◌}
 use Rattle.std.specs.Int.{w64, to_le_bytes}
 use Rattle.std.specs.Option.{option_or}
 use Rattle.std.proofs.lemmas.List.{length-take, take_all}
-use Rattle.std.proofs.lemmas.Bool.{cases_lt}
-use Rattle.std.proofs.lemmas.Option.{slice_get-get_or, slice_get_past}
+use Rattle.std.proofs.lemmas.Bool.{cases_lt, true≢false}
+use Rattle.std.proofs.lemmas.Option.{slice_get-get_or, slice_get_cases, slice_get_past}
 use borrow.Rule.Slice.PartMut.{put_mid, post_of}
 use Rattle.lc_record.specs.Words.{bytes_of}
 use Rattle.lc_record.specs.Newest.{byte_from, byte_in, byte_of}
@@ -13,18 +13,9 @@ use Rattle.lc_record.specs.Reading.{◌>>=◌}
 use Rattle.lc_record.specs.declared.record.RangeData.{RangeData}
 use Rattle.lc_record.proofs.ViewLemmas.{byte_there, get_taken}
 use Rattle.lc_record.proofs.WordLemmas.{length-bytes_of}
+use Rattle.lc_record.proofs.ListLemmas.{slice_get-append_left as at_front, slice_get-drop as at_drop, option_or-none as none-behind, option_or_assoc as option_or-regroup}
 
 -- A part that was written
-
-pub at_drop : {A : Type 0} (n k : ℕ) (xs : List A) → slice_get (drop n xs) k ≡ slice_get xs (n + k)
-at_drop zero k xs = let same : 0 + k ≡ k = omega arith in ap (slice_get xs) (sym same)
-at_drop (suc n) k [] = refl
-at_drop (suc n) k (x ∷ xs) = let next : suc n + k ≡ suc (n + k) = omega arith in at_drop n k xs ∙ ap (slice_get (x ∷ xs)) (sym next)
-
-at_front : {A : Type 0} (xs ys : List A) (i : ℕ) → i < length xs → slice_get (xs ++ ys) i ≡ slice_get xs i
-at_front [] ys i lt = absurd (omega (arith, lt))
-at_front (x ∷ xs) ys zero lt = refl
-at_front (x ∷ xs) ys (suc i) lt = at_front xs ys i (omega (arith, lt))
 
 at_behind : {A : Type 0} (xs ys : List A) (n i : ℕ) → length xs ≡ n → n ≤ i → slice_get (xs ++ ys) i ≡ slice_get ys (i - n)
 at_behind [] ys n i long le = let same : i ≡ i - n = omega (arith, long) in ap (slice_get ys) same
@@ -91,15 +82,22 @@ byte_from-behind zero bytes place i is = let same : place ≡ i = omega (arith, 
 byte_from-behind (suc offset) bytes zero i is = absurd (omega (arith, is))
 byte_from-behind (suc offset) bytes (suc place) i is = byte_from-behind offset bytes place i (omega (arith, is))
 
+pub byte_from-some : (offset : ℕ) (bytes : List ℕ) (place : ℕ) → offset ≤ place → place < offset + length bytes → is_some (byte_from offset bytes place) ≡ true
+byte_from-some zero bytes place from within =
+    let inside : place < length bytes = omega (arith, within) in
+    ap is_some (slice_get-get_or bytes place 0 inside)
+byte_from-some (suc offset) bytes zero from within = absurd (omega (arith, from))
+byte_from-some (suc offset) bytes (suc place) from within = byte_from-some offset bytes place (omega (arith, from)) (omega (arith, within))
+
+pub byte_from-known : (offset : ℕ) (bytes : List ℕ) (place : ℕ) → is_some (byte_from offset bytes place) ≡ true → (offset ≤ place) × (place < offset + length bytes)
+byte_from-known zero bytes place some = elim (slice_get_cases bytes place).1 [
+  | inl there ↦ (omega arith, omega (arith, there.1))
+  | inr past ↦ absurd (true≢false (sym some ∙ ap is_some past.1))
+]
+byte_from-known (suc offset) bytes zero some = absurd (true≢false (sym some))
+byte_from-known (suc offset) bytes (suc place) some = let rest = byte_from-known offset bytes place some in (omega (arith, rest.0), omega (arith, rest.1))
+
 -- one range more
-
-option_or-regroup : (a b c : Option ℕ) → option_or (option_or a b) c ≡ option_or a (option_or b c)
-option_or-regroup None b c = refl
-option_or-regroup (Some x) b c = refl
-
-none-behind : (o : Option ℕ) → option_or o None ≡ o
-none-behind None = refl
-none-behind (Some x) = refl
 
 pub byte_of-push : (segment place : ℕ) (front : List RangeData) (range : RangeData) → byte_of segment place (front ++ range ∷ []) ≡ option_or (byte_in segment place range) (byte_of segment place front)
 byte_of-push segment place [] range = sym (none-behind (byte_in segment place range))

@@ -1,8 +1,7 @@
 -- A list of areas of which one is called.
 use Rattle.std.proofs.Common.{◌≡◌, ◌≢◌, ◌⊎◌, ℕ, zero, suc, ◌<◌, Bool, true, false, Option, Some, List, [], ◌∷◌, ◌++◌, map, length, refl, sym, ◌∙◌, ap, subst, arith, inl, inr}
 use Rattle.std.specs.Prelude.{slice_get, slice_set, slice_index_or, Result, Ok, Err, OnOk, OnErr, IsErr, is_ok}
-use Rattle.std.specs.Option.{unwrap_or}
-use Rattle.std.proofs.lemmas.Option.{none-some, slice_get_within, get_or_from_slice_get}
+use Rattle.std.proofs.lemmas.Option.{none-some, slice_get_within, get_or_from_slice_get, same_Some as one_item}
 use Rattle.std.proofs.Math.Seq.{map-set_same}
 use Rattle.std.proofs.lemmas.List.{length-set, length-append}
 use Rattle.std.proofs.lemmas.Bool.{cases_eq, cases_lt}
@@ -11,15 +10,12 @@ use Rattle.lc_disk.specs.declared.area.Area.{Ghosts}
 use Rattle.lc_disk.proofs.Images.{image_kept}
 use Rattle.lc_record.specs.Content.{Content}
 use Rattle.lc_record.specs.declared.geometry.Geometry.{Geometry}
-use Rattle.lc_recover.proofs.KeptLemmas.{get-append, get-append_end}
+use Rattle.lc_record.proofs.ListLemmas.{slice_get-append_left as get-append, slice_get_push as get-append_end}
 use Rattle.lc_recover.specs.Reads.{AreHonest, AllMergeTo}
 use Rattle.lc_log.specs.OneCall.{IsOneCall}
 use Rattle.lc_recover.specs.Stage.{AreaFits, AreasFit, OneCall, Quiet}
 use Rattle.lc_recover.specs.declared.stage.Stage.{Stage}
 use Rattle.lc_recover.specs.declared.stage.Stage.TheVariants.{Syncing}
-
-pub one_item : {A : Type 0} (x y : A) → Some x ≡ Some y → x ≡ y
-one_item {A = A} x y same = ap (λ (o : Option A). unwrap_or o x) same
 
 -- what stands in a list of which one place was set
 pub get-set : {A : Type 0} (xs : List A) (k : ℕ) (y : A) (j : ℕ) (x : A) → slice_get (slice_set xs k y) j ≡ Some x → ((j ≡ k) × (x ≡ y)) ⊎ ((j ≢ k) × (slice_get xs j ≡ Some x))
@@ -153,7 +149,3 @@ pub on_ok : {A B : Type 0} (r : Result A B) (P Q : Type 0) → OnOk r P → (P �
 on_ok (Ok x) P Q holds leads = leads holds
 on_ok (Err e) P Q holds leads = tt
 
--- what holds whatever is answered
-pub on_err : {A B : Type 0} (r : Result A B) (P : Type 0) → P → OnErr r P
-on_err (Ok x) P holds = tt
-on_err (Err e) P holds = holds

@@ -7,10 +7,11 @@ use Rattle.std.proofs.lemmas.Option.{none-some, same_Some, slice_get_within, get
 use Rattle.lc_disk.specs.declared.area.Area.{Ghosts}
 use Rattle.lc_record.specs.Words.{words_of}
 use Rattle.lc_record.specs.declared.geometry.Geometry.{Geometry}
-use Rattle.lc_recover.proofs.AreaLemmas.{each-set, get-set, one_item, quiet-reads, set-get, set-others}
+use Rattle.lc_record.proofs.ListLemmas.{slice_get_some as get-some, slice_get-map_some as get-map, slice_get-take as get-take}
+use Rattle.lc_recover.proofs.AreaLemmas.{each-set, get-set, quiet-reads, set-get, set-others}
 use Rattle.lc_log.proofs.WalkBackLemmas.{words_within}
 use Rattle.lc_model.specs.Merge.{Store}
-use Rattle.lc_recover.proofs.Images.{get-map, get-some, get-take, len-log}
+use Rattle.lc_recover.proofs.Images.{len-log}
 use Rattle.lc_recover.proofs.Meanings.{kept-store}
 use Rattle.lc_recover.proofs.MergeStep.{its-store}
 use Rattle.lc_recover.proofs.ReadLemmas.{count-read, counted-log, counted-none, counted-segment, first-more, read-log, read-segment, read-none as kept-none}
@@ -52,10 +53,10 @@ module _ {D : Type 0} (a : Ghosts D) (g : Geometry) (areas : List D) where
     each = λ j before after there then.
         elim (get-set areas k is j after then) [
           | inl here ↦
-              let its : old ≡ before = one_item old before (sym was ∙ ap (slice_get areas) (sym here.0) ∙ there) in
+              let its : old ≡ before = same_Some old before (sym was ∙ ap (slice_get areas) (sym here.0) ∙ there) in
               subst (λ (x : D). IsLeftAs a before x) (sym here.1) (subst (λ (x : D). IsLeftAs a x is) its left)
           | inr other ↦
-              let its : before ≡ after = one_item before after (sym there ∙ other.1) in
+              let its : before ≡ after = same_Some before after (sym there ∙ other.1) in
               subst (λ (x : D). IsLeftAs a before x) its (record { honest = refl; len = refl; same = λ honest. refl; same_dirty = λ honest at. refl })
         ];
   }
@@ -65,7 +66,7 @@ module _ {D : Type 0} (a : Ghosts D) (g : Geometry) (areas : List D) where
   left-none = record {
     count = refl;
     each = λ k before after there then.
-        let its : before ≡ after = one_item before after (sym there ∙ then) in
+        let its : before ≡ after = same_Some before after (sym there ∙ then) in
         subst (λ (x : D). IsLeftAs a before x) its (record { honest = refl; len = refl; same = λ honest. refl; same_dirty = λ honest at. refl });
   }
 
@@ -100,7 +101,7 @@ module _ {D : Type 0} (a : Ghosts D) (g : Geometry) (areas : List D) where
     were_honest honest j area there =
         elim (cases_eq j k) [
           | inl same ↦
-              let its : area ≡ old = one_item area old (sym there ∙ ap (slice_get areas) same ∙ was) in
+              let its : area ≡ old = same_Some area old (sym there ∙ ap (slice_get areas) same ∙ was) in
               ap a.honest its ∙ sym quiet.honest ∙ honest k is (set-get areas k is old was)
           | inr differ ↦ honest j area (set-others areas k is j area differ there)
         ]
@@ -165,5 +166,5 @@ module _ (g : Geometry) (bytes : List (List ℕ)) (r : ReadAreas) (whole : IsRea
       let there : slice_get bytes node ≡ Some here.0 = sym (get-take g.nodes node bytes less) ∙ here.1 in
       let words : get_or r.kept.logs.items node default ≡ words_of here.0 =
       get_or_from_slice_get r.kept.logs.items node (words_of here.0) default (ap (λ (l : List (List ℕ)). slice_get l node) whole.kept.logs ∙ get-map words_of (take g.nodes bytes) node here.0 here.1) in
-      let long : length here.0 ≡ 8 * (g.words + 1) = one_item (length here.0) (8 * (g.words + 1)) (whole.first.lengths node here.0 there ∙ len-log g node less) in
+      let long : length here.0 ≡ 8 * (g.words + 1) = same_Some (length here.0) (8 * (g.words + 1)) (whole.first.lengths node here.0 there ∙ len-log g node less) in
       omega (arith, ap (λ (l : List ℕ). length l) words, words_within here.0, long, g.few_words)

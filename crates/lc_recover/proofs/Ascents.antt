@@ -7,7 +7,7 @@ use Rattle.std.specs.List.{dedup}
 use Rattle.std.specs.List.Sorted.{IsStrictlySortedBy, IsSorted}
 use Rattle.std.proofs.lemmas.Bool.{cases_order, and_parts, eqb-true, eq-eqb, ne_eqb, lt-ltb, le-ltb}
 use Rattle.std.proofs.lemmas.Cmp.{nat_cmp_total, on_total, then_total, nat_eq_equiv, on_equiv, and_equiv}
-use Rattle.std.proofs.lemmas.List.{map-append, get_or-map}
+use Rattle.std.proofs.lemmas.List.{map-append, get_or-map, get_or_default as same-item}
 use Rattle.std.proofs.lemmas.List.Elements.{All-from_recursion, Contains-append_cases}
 use Rattle.std.proofs.lemmas.List.Kept.{Contains-dedup, Contains-from_dedup, IsStrictlySortedBy-dedup}
 use Rattle.std.proofs.lemmas.List.Sorted.{Contains-permutation, IsPermutation-sym}
@@ -27,6 +27,7 @@ use Rattle.lc_record.specs.declared.span.Span.{Span}
 use Rattle.lc_record.proofs.SpansLemmas.{give_ranges}
 use Rattle.lc_record.specs.declared.record.Record.{Record}
 use Rattle.lc_record.proofs.SpellingLemmas.{length-spelling}
+use Rattle.lc_record.proofs.ListLemmas.{Contains-slice_get as contains-at}
 use Rattle.lc_log.specs.LogText.{placed}
 use Rattle.lc_log.specs.InPlace.{records_in, spans_from}
 use Rattle.lc_log.proofs.InPlaceLemmas.{records_text, span_begins}
@@ -36,8 +37,8 @@ use Rattle.lc_recover.specs.Reading.{placed_in, store_of}
 use Rattle.lc_recover.specs.Changes.{Seat, seat, seats_of, seats_from, IsOf, AreOf}
 use Rattle.lc_recover.specs.declared.change.Change.{Change}
 use Rattle.lc_recover.specs.declared.segment_pages.SegmentPages.{SegmentPages}
-use Rattle.lc_recover.proofs.Walks.{contains-at, placed-records, record-in}
-use Rattle.lc_recover.proofs.Counts.{contains-cons, same-item}
+use Rattle.lc_recover.proofs.Walks.{placed-records, record-in}
+use Rattle.lc_recover.proofs.Counts.{contains-cons}
 
 -- Comparing
 

@@ -12,6 +12,7 @@ use Rattle.lc_record.specs.Newest.{number_or_zero, byte_of}
 use Rattle.lc_record.specs.declared.geometry.Geometry.{Geometry}
 use Rattle.lc_record.specs.declared.record.Record.{Record}
 use Rattle.lc_record.specs.declared.record.RangeData.{RangeData}
+use Rattle.lc_record.proofs.ListLemmas.{slice_get-append_left as get-append, slice_get-take as get-take, slice_get-drop as get-drop, Contains-slice_get as contains_at}
 use Rattle.lc_page.specs.PageVector.{entry_at}
 use Rattle.lc_model.specs.Merge.{Page, all_records, page_number, record_number}
 use Rattle.lc_model.specs.Merging.{byte_at}
@@ -20,8 +21,6 @@ use Rattle.lc_model.proofs.Bytes.{same-items}
 use Rattle.lc_model.proofs.Numbers.{at_most-greatest}
 use Rattle.lc_model.proofs.One.{by_number-one, part-times}
 use Rattle.lc_model.proofs.Visible.{in-logs, log-known}
-use Rattle.lc_recover.proofs.Images.{get-take, get-drop}
-use Rattle.lc_recover.proofs.KeptLemmas.{get-append}
 use Rattle.lc_recover.proofs.MergedPage.{ascending_behind, page_merged, ranges_stand}
 use Rattle.lc_recover.proofs.PagesOf.{all_behind}
 use Rattle.lc_recover.specs.Kept.{IsChange, AreAscending}
@@ -32,9 +31,6 @@ use Rattle.lc_recover.specs.Stage.{AsFarAs, IsNext, IsOld, IsWriting}
 use Rattle.lc_recover.specs.declared.change.Change.{Change}
 use Rattle.lc_recover.specs.declared.page_writes.PageWrites.{PageWrites}
 use Rattle.lc_recover.specs.declared.segment_pages.SegmentPages.{SegmentPages}
-
-pub contains_at : {A : Type 0} (xs : List A) (k : ℕ) (x : A) → slice_get xs k ≡ Some x → Contains xs x
-contains_at xs k x is = (k, slice_get_within xs k x is, get_or_from_slice_get xs k x x is)
 
 pub found_at : {A : Type 0} (xs : List A) (k : ℕ) (x : A) → Contains xs x → (k : ℕ) × (slice_get xs k ≡ Some x)
 found_at xs k x has = (has.0, slice_get-get_or xs has.0 x has.1 ∙ ap Some has.2)

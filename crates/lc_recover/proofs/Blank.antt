@@ -3,13 +3,14 @@ use Rattle.std.proofs.Common.{◌≡◌, ℕ, zero, suc, ◌+◌, ◌-◌, ◌*�
 use Rattle.std.specs.Prelude.{◌&&◌, ◌==◌, ◌^◌, nat_lt, nat_le, slice_get, slice_index, slice_index_or}
 use Rattle.std.specs.List.{list_all}
 use Rattle.std.proofs.lemmas.List.{drop-replicate, length-drop, length-replicate, length-take-le}
-use Rattle.std.proofs.lemmas.Option.{slice_get_within}
+use Rattle.std.proofs.lemmas.Option.{slice_get_within, same_Some as one_item}
 use Rattle.lc_disk.specs.declared.area.Area.{Ghosts}
 use Rattle.lc_disk.proofs.Images.{image_clean}
 use Rattle.lc_record.specs.Marks.{counting}
 use Rattle.lc_record.specs.Words.{words_of}
 use Rattle.lc_record.specs.declared.geometry.Geometry.{Geometry}
 use Rattle.lc_record.specs.declared.record.Record.{Record}
+use Rattle.lc_record.proofs.ListLemmas.{length-counting, slice_get-map_some as get-map, slice_get-take as get-take, slice_get-drop as get-drop}
 use Rattle.lc_log.specs.InPlace.{records_in}
 use Rattle.lc_log.proofs.InPlaceLemmas.{records_are}
 use Rattle.lc_log.proofs.LogLemmas.{at_rest_none, text_at_rest}
@@ -19,10 +20,9 @@ use Rattle.lc_page.specs.declared.slot.Slot.TheVariants.{First, Second}
 use Rattle.lc_model.specs.Merge.{Page, Store, MergesTo}
 use Rattle.lc_model.specs.Recovered.{zero_content, zero_store}
 use Rattle.lc_model.proofs.Unrefused.{zeros-merge}
-use Rattle.lc_recover.proofs.AreaLemmas.{one_item}
 use Rattle.lc_recover.specs.Pages.{page_read, pages_read}
 use Rattle.lc_recover.specs.Reads.{AllMergeTo, AreImages, AreZeros, HaveLengths, area_count, area_len, store_of}
-use Rattle.lc_recover.proofs.Images.{count-images, get-drop, get-map, get-take, left-of, len-log, length-counting}
+use Rattle.lc_recover.proofs.Images.{count-images, left-of, len-log}
 
 -- Zeros
 

@@ -1,13 +1,13 @@
 -- From what a stop leaves of areas to one result.
-use Rattle.std.proofs.Common.{◌≡◌, ◌⊎◌, ℕ, zero, suc, ◌+◌, ◌*◌, ◌<◌, ◌≤◌, Bool, true, false, ◌==◌, Option, Some, None, is_some, List, [], ◌∷◌, map, length, drop, replicate, get_or, All, Contains, refl, sym, ◌∙◌, ap, subst, arith, inl, inr, eqb-true, eq-eqb, true≢false}
+use Rattle.std.proofs.Common.{◌≡◌, ◌⊎◌, ℕ, zero, suc, ◌+◌, ◌*◌, ◌<◌, ◌≤◌, Bool, true, false, ◌==◌, Some, None, is_some, List, [], ◌∷◌, map, length, drop, replicate, get_or, All, Contains, refl, sym, ◌∙◌, ap, subst, arith, inl, inr, eqb-true, eq-eqb}
 use Rattle.std.specs.Prelude.{slice_get, slice_index_or, if◌then◌else◌}
 use Rattle.std.specs.List.{AllByRecursion}
-use Rattle.std.specs.Option.{option_or, unwrap_or}
+use Rattle.std.specs.Option.{unwrap_or}
 use Rattle.std.proofs.Math.Numerals.{add-one}
 use Rattle.std.proofs.lemmas.Bool.{cases_lt}
-use Rattle.std.proofs.lemmas.List.{ext_get_or, length-map}
+use Rattle.std.proofs.lemmas.List.{ext_get_or, length-map, get_or_past as past-end}
 use Rattle.std.proofs.lemmas.List.Elements.{Contains-get_or, Contains-append_right}
-use Rattle.std.proofs.lemmas.Option.{slice_get_within, slice_get_past, unwrap_or-slice_get, get_or_from_slice_get}
+use Rattle.std.proofs.lemmas.Option.{slice_get_within, get_or_from_slice_get, same_Some as one_item}
 use Rattle.lc_disk.specs.declared.area.Area.{Ghosts}
 use Rattle.lc_record.specs.Content.{Content, segment_of}
 use Rattle.lc_record.specs.Marks.{counting}
@@ -19,6 +19,7 @@ use Rattle.lc_record.specs.declared.geometry.Geometry.{Geometry}
 use Rattle.lc_record.specs.declared.record.Record.{Record}
 use Rattle.lc_record.specs.declared.record.Lock.{Lock}
 use Rattle.lc_record.specs.declared.record.RangeData.{RangeData}
+use Rattle.lc_record.proofs.ListLemmas.{slice_get_some as get-some, length-counting, slice_get-map_some as get-map, slice_get-drop as get-drop, option_or_right as or-right, option_or_left as or-left, slice_get_from_map as from-map}
 use Rattle.lc_log.specs.InPlace.{records_in}
 use Rattle.lc_log.specs.LogText.{IsWhole as IsWholeRecord}
 use Rattle.lc_log.proofs.InPlaceLemmas.{records_are}
@@ -27,8 +28,7 @@ use Rattle.lc_model.specs.Recovered.{HasByte, IsBehind, IsPartlyRenewed, IsPartl
 use Rattle.lc_model.specs.Stored.{page_bytes}
 use Rattle.lc_model.proofs.Visible.{log-of, log-known}
 use Rattle.lc_page.specs.declared.entry.Entry.{Entry}
-use Rattle.lc_recover.proofs.AreaLemmas.{one_item}
-use Rattle.lc_recover.proofs.Images.{get-some, get-drop, from-map, get-map, length-counting, get-counting, get-segment, in-segment, shape-of, Left, left-of, count-segments, store-shape, page-of, count-logs, log-left}
+use Rattle.lc_recover.proofs.Images.{get-counting, get-segment, in-segment, shape-of, Left, left-of, count-segments, store-shape, page-of, count-logs, log-left}
 use Rattle.lc_model.proofs.Unrefused.{renewed-merges, reset-merges}
 use Rattle.lc_model.proofs.Within.{still-renewed}
 use Rattle.lc_recover.specs.Pages.{page_read, pages_read, kept_page, kept_pages}
@@ -41,9 +41,6 @@ pub same_page : (p q : Page) → p.sequence ≡ q.sequence → p.bytes ≡ q.byt
 same_page p q sequence bytes =
     ap (λ (n : ℕ). let x : Page = record { sequence = n; bytes = p.bytes } in x) sequence
     ∙ ap (λ (l : List ℕ). let x : Page = record { sequence = q.sequence; bytes = l } in x) bytes
-
-past-end : {A : Type 0} (xs : List A) (k : ℕ) (d : A) → length xs ≤ k → get_or xs k d ≡ d
-past-end xs k d past = sym (unwrap_or-slice_get xs k d) ∙ ap (λ o. unwrap_or o d) (slice_get_past xs k past)
 
 -- Pages as they are kept
 
@@ -104,14 +101,6 @@ first-byte : (offset : ℕ) (bytes : List ℕ) → 1 ≤ length bytes → is_som
 first-byte zero [] some = absurd (omega (arith, some))
 first-byte zero (b ∷ bytes) some = refl
 first-byte (suc offset) bytes some = first-byte offset bytes some
-
-or-right : (o p : Option ℕ) → is_some p ≡ true → is_some (option_or o p) ≡ true
-or-right None p is = is
-or-right (Some x) p is = refl
-
-or-left : (o p : Option ℕ) → is_some o ≡ true → is_some (option_or o p) ≡ true
-or-left None p is = absurd (true≢false (sym is))
-or-left (Some x) p is = refl
 
 -- a range of the segment, and its first byte among those of all ranges
 record HasRange (segment : ℕ) (ranges : List RangeData) : Type 0 where

@@ -4,17 +4,18 @@ use Rattle.std.proofs.Math.Nat.{le_refl, max_comm, max-le, le-max_left, le-max_r
 use Rattle.std.specs.Ordering.{ord_max, nat_cmp}
 use Rattle.std.proofs.Math.Seq.{drop-cons}
 use Rattle.std.proofs.lemmas.Bool.{cases_lt, cases_order, cases_eq, cases_Bool, and_parts, and_from, eqb-true, eq-eqb, ne_eqb, lt-ltb, le-ltb, true≢false}
-use Rattle.std.proofs.lemmas.List.{take_more, map-append, take-append-drop, get_or-set_same, get_or-set_other, length-set, get_or-map}
+use Rattle.std.proofs.lemmas.List.{take_more, map-append, take-append-drop, get_or-set_same, get_or-set_other, length-set, get_or-map, get_or_default as same-item}
 use Rattle.std.proofs.lemmas.List.Elements.{Contains-append_left, Contains-append_right, Contains-append_cases, Contains-get_or, Contains-push_cases, Contains-push, All-contains}
 use Rattle.lc_record.specs.Marks.{counting}
+use Rattle.lc_record.proofs.ListLemmas.{length-counting}
+use Rattle.lc_model.proofs.One.{two-pass}
 use Rattle.lc_model.specs.Merge.{Page, IsLeastPair, greatest}
 use Rattle.lc_model.proofs.Visible.{none-pass, contains-count}
-use Rattle.lc_model.proofs.Visible.{count-cons}
 use Rattle.lc_recover.specs.Pages.{kept_page, kept_pages}
 use Rattle.lc_recover.specs.Locks.{is_number, times, IsUpTo, AreInOrder, StandsTwice, count_of, IsMissing, IsNumbering}
 use Rattle.lc_recover.specs.declared.lock_number.LockNumber.{LockNumber}
 use Rattle.lc_recover.specs.declared.segment_pages.SegmentPages.{SegmentPages}
-use Rattle.lc_recover.proofs.Walks.{length-counting, length-kept}
+use Rattle.lc_recover.proofs.Walks.{length-kept}
 
 -- Lists
 
@@ -30,17 +31,6 @@ all-from P xs each = λ k d h. each (get_or xs k d) (Contains-get_or xs k d h)
 
 pub split-at : {A : Type 0} (xs : List A) (i : ℕ) (x : A) → i < length xs → get_or xs i x ≡ x → xs ≡ take i xs ++ x ∷ drop (suc i) xs
 split-at {A = A} xs i x h e = sym (take-append-drop i xs) ∙ ap (λ (l : List A). take i xs ++ l) (drop-cons xs i x h ∙ ap (λ (y : A). y ∷ drop (suc i) xs) e)
-
--- what two places pass, two pass
-pub two-pass : {A : Type 0} (p : A → Bool) (xs : List A) (i j : ℕ) (x y : A) → i < j → j < length xs → get_or xs i x ≡ x → get_or xs j y ≡ y → p x ≡ true → p y ≡ true → 2 ≤ length (filter p xs)
-two-pass p [] i j x y less within x_is y_is x_passes y_passes = absurd (omega arith)
-two-pass p (z ∷ zs) zero zero x y less within x_is y_is x_passes y_passes = absurd (omega arith)
-two-pass p (z ∷ zs) (suc i) zero x y less within x_is y_is x_passes y_passes = absurd (omega arith)
-two-pass p (z ∷ zs) zero (suc j) x y less within x_is y_is x_passes y_passes =
-    let one : 1 ≤ length (filter p zs) = contains-count p zs y y_passes (j, omega arith, y_is) in
-    rw (ap p x_is ∙ x_passes) (omega (arith, one))
-two-pass p (z ∷ zs) (suc i) (suc j) x y less within x_is y_is x_passes y_passes =
-    le_trans (two-pass p zs i j x y (omega arith) (omega arith) x_is y_is x_passes y_passes) (count-cons p z zs)
 
 -- Which number it is
 
@@ -353,12 +343,6 @@ greatest-next s page h =
     ap (λ (l : List Page). greatest (map (λ (p : Page). p.sequence) l)) (take_more (kept_pages s) page (kept_page s page) inside ∙ ap (λ (p : Page). take page (kept_pages s) ++ p ∷ []) (kept-at s page (kept_page s page) h))
     ∙ ap greatest (map-append (λ (p : Page). p.sequence) (take page (kept_pages s)) (kept_page s page ∷ []))
     ∙ greatest-push (map (λ (p : Page). p.sequence) (take page (kept_pages s))) (kept_page s page).sequence
-
--- the item at a place, whatever is asked for past the end
-pub same-item : {A : Type 0} (xs : List A) (i : ℕ) (d e : A) → i < length xs → get_or xs i d ≡ get_or xs i e
-same-item [] i d e h = absurd (omega arith)
-same-item (x ∷ xs) zero d e h = refl
-same-item (x ∷ xs) (suc i) d e h = same-item xs i d e (omega arith)
 
 number-same : (a b : LockNumber) → a.segment ≡ b.segment → a.seq ≡ b.seq → a ≡ b
 number-same a b s q = ap₂ (λ (x y : ℕ). record { segment = x; seq = y }) s q

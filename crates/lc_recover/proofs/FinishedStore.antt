@@ -4,12 +4,13 @@ use Rattle.std.specs.Prelude.{slice_get}
 use Rattle.std.specs.Option.{unwrap_or}
 use Rattle.std.proofs.Math.Numerals.{add-one}
 use Rattle.std.proofs.lemmas.Bool.{cases_lt}
-use Rattle.std.proofs.lemmas.Option.{slice_get_within, get_or_from_slice_get}
+use Rattle.std.proofs.lemmas.Option.{slice_get_within, get_or_from_slice_get, same_Some as one_item}
 use Rattle.lc_disk.specs.Area.{IsClean}
 use Rattle.lc_disk.specs.declared.area.Area.{Ghosts}
 use Rattle.lc_record.specs.Content.{segment_of}
 use Rattle.lc_record.specs.Marks.{counting}
 use Rattle.lc_record.specs.declared.geometry.Geometry.{Geometry}
+use Rattle.lc_record.proofs.ListLemmas.{slice_get_some as get-some, slice_get-map_some as get-map}
 use Rattle.lc_page.specs.Page.{Page as AreaPage, page_in, text_in}
 use Rattle.lc_page.specs.PageVector.{entry_at, entry_text}
 use Rattle.lc_page.specs.declared.page_text.PageText.{PageText}
@@ -17,16 +18,15 @@ use Rattle.lc_page.proofs.StateLemmas.{settled_reads}
 use Rattle.lc_model.specs.Merge.{Page, Store}
 use Rattle.lc_model.specs.Recovered.{IsRenewed}
 use Rattle.lc_recover.specs.Pages.{bytes_of_page}
-use Rattle.lc_recover.specs.Reads.{AreHonest, HaveLengths}
+use Rattle.lc_recover.specs.Reads.{HaveLengths}
 use Rattle.lc_recover.specs.Recovered.{RecoveredPage, RecoveredStore, recovered_pages, no_page, page_of, page_read_of, AreFinished, HasPages, IsMade}
 use Rattle.lc_recover.specs.Stage.{AreasFit, AreTexts, IsWhole, IsEmptied, Rests, RestsAt}
 use Rattle.lc_recover.specs.declared.finished.Finished.{Finished}
 use Rattle.lc_recover.specs.declared.segment_pages.SegmentPages.{SegmentPages}
 use Rattle.lc_recover.specs.declared.stage.Stage.TheVariants.{Done}
 use Rattle.lc_model.proofs.Numbers.{at_most-greatest}
-use Rattle.lc_recover.proofs.AreaLemmas.{one_item}
 use Rattle.lc_recover.proofs.Bridge.{same_page}
-use Rattle.lc_recover.proofs.Images.{get-some, get-map, get-counting, get-segment, in-segment}
+use Rattle.lc_recover.proofs.Images.{get-counting, get-segment, in-segment}
 use Rattle.lc_recover.proofs.Readable.{readable}
 use Rattle.lc_recover.proofs.Showing.{done-merges, have-lengths}
 

@@ -11,6 +11,7 @@ use Rattle.lc_record.specs.Content.{Content, segment_of}
 use Rattle.lc_record.specs.Newest.{byte_of}
 use Rattle.lc_record.specs.declared.geometry.Geometry.{Geometry}
 use Rattle.lc_record.specs.declared.record.RangeData.{RangeData}
+use Rattle.lc_record.proofs.ListLemmas.{slice_get_some as get-some, slice_get-take as get-take, slice_get-drop as get-drop, Contains-slice_get as contains-at}
 use Rattle.lc_model.specs.Merge.{Page, Store, MergesTo, all_records}
 use Rattle.lc_model.specs.Merging.{byte_at}
 use Rattle.lc_model.specs.Stored.{page_bytes}
@@ -18,12 +19,10 @@ use Rattle.lc_model.proofs.Bytes.{same-items}
 use Rattle.lc_model.proofs.One.{by_number-one}
 use Rattle.lc_model.proofs.Outcome.{one-value}
 use Rattle.lc_recover.proofs.AreasRead.{same-store}
-use Rattle.lc_recover.proofs.Images.{get-some, get-take, get-drop}
 use Rattle.lc_recover.proofs.MergeStep.{merged-from}
 use Rattle.lc_recover.proofs.MergedPage.{one_of_these, page_merged, ranges_stand}
 use Rattle.lc_recover.proofs.PagesBehind.{pages-behind}
 use Rattle.lc_recover.proofs.PagesOf.{are_listed}
-use Rattle.lc_recover.proofs.Walks.{contains-at}
 use Rattle.lc_recover.specs.Forecast.{IsForecast, IsForetold, IsPageBehind, foretold}
 use Rattle.lc_recover.specs.Kept.{IsKept, IsMerging}
 use Rattle.lc_recover.specs.KeptAreas.{IsReadWhole}

@@ -1,7 +1,7 @@
 -- How far a recovery is, by the part that is under way.
 use Rattle.std.proofs.Common.{◌≡◌, ℕ, suc, ◌+◌, ◌-◌, ◌*◌, ◌<◌, ◌≤◌, Bool, true, false, Option, Some, None, List, [], ◌∷◌, ◌++◌, map, take, length, true≢false, refl, sym, ◌∙◌, ap, subst, arith, inl, inr}
 use Rattle.std.specs.Prelude.{slice_get, slice_set, drop, if◌then◌else◌}
-use Rattle.std.proofs.lemmas.Option.{none-some, slice_get_within}
+use Rattle.std.proofs.lemmas.Option.{none-some, slice_get_within, same_Some as one_item}
 use Rattle.std.proofs.lemmas.Bool.{cases_lt}
 use Rattle.std.proofs.lemmas.List.{length-drop, length-map, length-take-le, take-append-le, take_all}
 use Rattle.lc_disk.specs.Area.{IsClean}
@@ -12,8 +12,8 @@ use Rattle.lc_page.specs.declared.writing.Writing.TheVariants.{AtClosing, AtClos
 use Rattle.lc_record.specs.Content.{Content}
 use Rattle.lc_record.specs.Words.{words_of}
 use Rattle.lc_record.specs.declared.geometry.Geometry.{Geometry}
-use Rattle.lc_recover.proofs.AreaLemmas.{one_item}
-use Rattle.lc_recover.proofs.Images.{count-areas, from-map, get-drop, get-map, get-some, get-take}
+use Rattle.lc_record.proofs.ListLemmas.{slice_get_some as get-some, slice_get-map_some as get-map, slice_get-take as get-take, slice_get-drop as get-drop, slice_get_from_map as from-map}
+use Rattle.lc_recover.proofs.Images.{count-areas}
 use Rattle.lc_recover.proofs.ReadLemmas.{count-read}
 use Rattle.lc_recover.proofs.SameArea.{same-areas-fit}
 use Rattle.lc_recover.specs.Page.{pages_of}

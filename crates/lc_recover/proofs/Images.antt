@@ -1,10 +1,9 @@
 -- What a stop leaves of areas, as a store: its logs, its pages, and how it merges.
 use Rattle.std.proofs.Common.{◌≡◌, ℕ, zero, suc, ◌+◌, ◌*◌, ◌<◌, ◌≤◌, Some, None, List, [], ◌∷◌, map, length, take, drop, replicate, get_or, refl, sym, ◌∙◌, ap, subst, arith, inl, inr, lt-ltb, le-ltb}
 use Rattle.std.specs.Prelude.{slice_get, slice_index_or}
-use Rattle.std.specs.Option.{option_map}
 use Rattle.std.proofs.lemmas.Bool.{cases_lt}
 use Rattle.std.proofs.lemmas.List.{length-map, length-drop, length-take-le}
-use Rattle.std.proofs.lemmas.Option.{none-some, slice_get_within, slice_get_past, slice_get-map, slice_get-get_or, get_or_from_slice_get}
+use Rattle.std.proofs.lemmas.Option.{none-some, slice_get_within, slice_get_past, slice_get-get_or, get_or_from_slice_get, same_Some as one_item}
 use Rattle.lc_disk.specs.Area.{IsImage}
 use Rattle.lc_disk.specs.declared.area.Area.{Ghosts}
 use Rattle.lc_disk.proofs.Images.{image_own}
@@ -12,44 +11,14 @@ use Rattle.lc_record.specs.Content.{Content, segment_of}
 use Rattle.lc_record.specs.Marks.{counting}
 use Rattle.lc_record.specs.Words.{words_of}
 use Rattle.lc_record.specs.declared.geometry.Geometry.{Geometry}
+use Rattle.lc_record.proofs.ListLemmas.{slice_get_some as get-some, length-counting, slice_get-map_some as get-map, slice_get-take as get-take, slice_get-drop as get-drop, slice_get_from_map as from-map}
 use Rattle.lc_log.specs.InPlace.{records_in}
 use Rattle.lc_model.specs.Merge.{Page, IsMerged}
 use Rattle.lc_model.proofs.One.{one-result}
-use Rattle.lc_recover.proofs.AreaLemmas.{one_item}
 use Rattle.lc_recover.specs.Pages.{page_read, pages_read}
 use Rattle.lc_recover.specs.Reads.{AreImages, AllMergeTo, HaveLengths, area_len, area_count, store_of}
 
 -- Lists
-
-pub get-some : {A : Type 0} (xs : List A) (k : ℕ) → k < length xs → (x : A) × (slice_get xs k ≡ Some x)
-get-some [] k within = absurd (omega arith)
-get-some (x ∷ xs) zero within = (x, refl)
-get-some (x ∷ xs) (suc k) within = get-some xs k (omega (arith, within))
-
-pub get-take : {A : Type 0} (n k : ℕ) (xs : List A) → k < n → slice_get (take n xs) k ≡ slice_get xs k
-get-take zero k xs within = absurd (omega arith)
-get-take (suc n) k [] within = refl
-get-take (suc n) zero (x ∷ xs) within = refl
-get-take (suc n) (suc k) (x ∷ xs) within = get-take n k xs (omega (arith, within))
-
-pub get-drop : {A : Type 0} (n k : ℕ) (xs : List A) → slice_get (drop n xs) k ≡ slice_get xs (n + k)
-get-drop zero k xs = (let same : k ≡ 0 + k = omega arith in ap (slice_get xs) same)
-get-drop (suc n) k [] = refl
-get-drop (suc n) k (x ∷ xs) =
-    let next : suc (n + k) ≡ suc n + k = omega arith in
-    get-drop n k xs ∙ ap (slice_get (x ∷ xs)) next
-
-pub from-map : {A B : Type 0} (f : A → B) (xs : List A) (k : ℕ) (y : B) → slice_get (map f xs) k ≡ Some y → (x : A) × (slice_get xs k ≡ Some x) × (f x ≡ y)
-from-map f [] k y is = absurd (none-some y is)
-from-map f (x ∷ xs) zero y is = (x, refl, one_item (f x) y is)
-from-map f (x ∷ xs) (suc k) y is = from-map f xs k y is
-
-pub get-map : {A B : Type 0} (f : A → B) (xs : List A) (k : ℕ) (x : A) → slice_get xs k ≡ Some x → slice_get (map f xs) k ≡ Some (f x)
-get-map f xs k x is = slice_get-map f xs k ∙ ap (option_map f) is
-
-pub length-counting : (first n : ℕ) → length (counting first n) ≡ n
-length-counting first zero = refl
-length-counting first (suc n) = ap suc (length-counting (first + 1) n)
 
 pub get-counting : (first n k : ℕ) → k < n → slice_get (counting first n) k ≡ Some (first + k)
 get-counting first zero k within = absurd (omega arith)

@@ -2,6 +2,7 @@
 use Rattle.std.proofs.Common.{◌≡◌, ℕ, ◌-◌, ◌<◌, ◌≤◌, Bool, true, Some, List, sym, ◌∙◌, ap, subst, arith, inl, inr}
 use Rattle.std.specs.Prelude.{slice_get}
 use Rattle.std.proofs.lemmas.Bool.{cases_eq}
+use Rattle.std.proofs.lemmas.Option.{same_Some as one_item}
 use Rattle.lc_disk.specs.declared.area.Area.{Ghosts}
 use Rattle.lc_record.specs.Content.{Content}
 use Rattle.lc_record.specs.declared.geometry.Geometry.{Geometry}
@@ -12,7 +13,7 @@ use Rattle.lc_recover.specs.declared.finished.Finished.{Finished}
 use Rattle.lc_recover.specs.declared.log_resets.LogResets.{LogResets}
 use Rattle.lc_recover.specs.declared.page_writes.PageWrites.{PageWrites}
 use Rattle.lc_recover.specs.declared.stage.Stage.TheVariants.{Syncing, Writing as WritingPages, Resetting, Done}
-use Rattle.lc_recover.proofs.AreaLemmas.{one_item, set-get, set-others}
+use Rattle.lc_recover.proofs.AreaLemmas.{set-get, set-others}
 use Rattle.lc_recover.proofs.Bridge.{show_logs-merge, show_pages-merge}
 use Rattle.lc_recover.proofs.Images.{same-result}
 use Rattle.lc_recover.proofs.Showing.{have-lengths, hold-bytes, resetting-merges, writing-merges}

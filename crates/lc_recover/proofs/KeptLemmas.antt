@@ -1,22 +1,14 @@
 -- What is kept of the areas that were read.
-use Rattle.std.proofs.Common.{◌≡◌, ℕ, zero, suc, ◌+◌, ◌<◌, Option, Some, List, [], ◌∷◌, ◌++◌, length, refl, sym, ◌∙◌, ap, subst, arith, inl, inr}
+use Rattle.std.proofs.Common.{◌≡◌, ℕ, ◌+◌, ◌<◌, Option, Some, List, [], ◌∷◌, ◌++◌, length, refl, sym, ◌∙◌, ap, subst, arith, inl, inr}
 use Rattle.std.specs.Prelude.{slice_get}
 use Rattle.std.specs.Option.{unwrap_or}
 use Rattle.std.proofs.lemmas.Bool.{cases_lt}
 use Rattle.std.proofs.lemmas.List.{length-append}
 use Rattle.std.proofs.lemmas.Option.{slice_get_within, none-some}
+use Rattle.lc_record.proofs.ListLemmas.{slice_get-append_left as get-append, slice_get_push as get-append_end}
 use Rattle.lc_recover.specs.Pages.{AreKept}
 use Rattle.lc_recover.specs.KeptAreas.{AreAllKept}
 use Rattle.lc_recover.specs.declared.segment_pages.SegmentPages.{SegmentPages}
-
-pub get-append : {A : Type 0} (xs ys : List A) (k : ℕ) → k < length xs → slice_get (xs ++ ys) k ≡ slice_get xs k
-get-append [] ys k within = absurd (omega arith)
-get-append (x ∷ xs) ys zero within = refl
-get-append (x ∷ xs) ys (suc k) within = get-append xs ys k (omega (arith, within))
-
-pub get-append_end : {A : Type 0} (xs : List A) (y : A) → slice_get (xs ++ y ∷ []) (length xs) ≡ Some y
-get-append_end [] y = refl
-get-append_end (x ∷ xs) y = get-append_end xs y
 
 -- one more area is kept
 pub all_kept-none : (pages : ℕ) → AreAllKept pages [] []

@@ -3,7 +3,7 @@ use Rattle.std.proofs.Common.{◌≡◌, ℕ, zero, suc, ◌+◌, ◌-◌, ◌<�
 use Rattle.std.specs.Prelude.{slice_get}
 use Rattle.std.proofs.Math.Nat.{max-le, le-max_left, le-max_right, le_trans, le_antisymm}
 use Rattle.std.proofs.lemmas.Bool.{cases_lt, cases_Bool, eqb-true, eq-eqb, ne_eqb}
-use Rattle.std.proofs.lemmas.List.{length-map, get_or-map}
+use Rattle.std.proofs.lemmas.List.{length-map, get_or-map, get_or_default as same-item}
 use Rattle.std.proofs.lemmas.List.Elements.{All-nil, All-cons, All-head, All-tail, All-weaker, All-contains, All-from_recursion, Contains-append_cases, filter-append}
 use Rattle.std.proofs.lemmas.List.Sums.{length-filter}
 use Rattle.std.proofs.lemmas.List.Sorted.{Contains-permutation, IsPermutation-sym, sum_by-IsPermutation}
@@ -13,6 +13,7 @@ use Rattle.lc_record.specs.Newest.{number_or_zero}
 use Rattle.lc_record.specs.Record.{Chain, IsLock, IsCanonical}
 use Rattle.lc_record.specs.declared.record.Lock.{Lock}
 use Rattle.lc_record.specs.declared.record.Record.{Record}
+use Rattle.lc_model.proofs.Numbers.{greatest-all}
 use Rattle.lc_log.specs.InPlace.{records_in}
 use Rattle.lc_model.specs.Merge.{Page, Store, greatest, all_records, page_number, record_number, has_number, how_many, IsTwice, HasGap, IsLeastPair, AreOwn, AreWithin, AreOnce}
 use Rattle.lc_model.proofs.Visible.{log-of, contains-count}
@@ -27,7 +28,7 @@ use Rattle.lc_recover.specs.declared.fault.RecoverFault.TheVariants.{Twice, Gap}
 use Rattle.lc_recover.specs.declared.lock_number.LockNumber.{LockNumber}
 use Rattle.lc_recover.specs.declared.segment_pages.SegmentPages.{SegmentPages}
 use Rattle.lc_recover.proofs.Walks.{all-canonical, segment-at}
-use Rattle.lc_recover.proofs.Counts.{one-at, is-number, times-none, times-some, contains-cons, all-from, same-item}
+use Rattle.lc_recover.proofs.Counts.{one-at, is-number, times-none, times-some, contains-cons, all-from}
 use Rattle.lc_recover.proofs.Ascents.{contains-from_map, contains-behind}
 
 -- Locks that ascend
@@ -86,10 +87,6 @@ times-moved s q xs ys moved =
     ∙ sym (length-filter (is_number s q) ys)
 
 -- The greatest
-
-greatest-all : {A : Type 0} (f : A → ℕ) (most : ℕ) (xs : List A) → All (λ x. f x ≤ most) xs → greatest (map f xs) ≤ most
-greatest-all f most [] all = omega arith
-greatest-all {A = A} f most (x ∷ xs) all = max-le (All-head (λ (y : A). f y ≤ most) x xs all) (greatest-all f most xs (All-tail (λ (y : A). f y ≤ most) x xs all))
 
 greatest-above : {A : Type 0} (f : A → ℕ) (xs : List A) (x : A) → Contains xs x → f x ≤ greatest (map f xs)
 greatest-above f [] x c = absurd (omega (arith, c.1))

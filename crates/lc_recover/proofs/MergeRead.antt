@@ -6,7 +6,7 @@ use Rattle.std.proofs.Math.Nat.{max-le}
 use Rattle.std.proofs.lemmas.Bool.{cases_Bool}
 use Rattle.std.proofs.lemmas.List.{length-map, length-take-le, length-drop}
 use Rattle.std.proofs.lemmas.List.Elements.{All-contains, All-from_recursion}
-use Rattle.std.proofs.lemmas.Option.{get_or_from_slice_get, slice_get_within, none-some}
+use Rattle.std.proofs.lemmas.Option.{get_or_from_slice_get, slice_get_within, none-some, same_Some as one_item}
 use Rattle.lc_record.specs.Content.{Content, segment_of}
 use Rattle.lc_record.specs.Marks.{counting}
 use Rattle.lc_record.specs.Newest.{number_or_zero}
@@ -15,6 +15,7 @@ use Rattle.lc_record.specs.Words.{words_of}
 use Rattle.lc_record.specs.declared.geometry.Geometry.{Geometry}
 use Rattle.lc_record.specs.declared.record.Lock.{Lock}
 use Rattle.lc_record.specs.declared.record.Record.{Record}
+use Rattle.lc_record.proofs.ListLemmas.{slice_get_some as get-some, slice_get-map_some as get-map, slice_get_from_map as from-map}
 use Rattle.lc_log.specs.InPlace.{records_in}
 use Rattle.lc_log.specs.LogText.{IsLogText, IsWhole}
 use Rattle.lc_log.proofs.InPlaceLemmas.{records_text}
@@ -36,8 +37,7 @@ use Rattle.lc_recover.specs.declared.kept.Kept.{Kept}
 use Rattle.lc_recover.specs.declared.merged.Merged.{Merged}
 use Rattle.lc_recover.specs.declared.page_writes.PageWrites.{PageWrites}
 use Rattle.lc_recover.specs.declared.segment_pages.SegmentPages.{SegmentPages}
-use Rattle.lc_recover.proofs.Images.{get-some, get-map, from-map, get-segment, in-segment, length-pages_read, get-pages_read}
-use Rattle.lc_recover.proofs.AreaLemmas.{one_item}
+use Rattle.lc_recover.proofs.Images.{get-segment, in-segment, length-pages_read, get-pages_read}
 use Rattle.lc_recover.proofs.Newer.{faultless-merges}
 use Rattle.lc_recover.proofs.Counts.{all-from}
 

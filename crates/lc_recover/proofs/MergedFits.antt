@@ -6,6 +6,7 @@ use Rattle.std.proofs.lemmas.Option.{none-some, slice_get_within, get_or_from_sl
 use Rattle.lc_disk.specs.declared.area.Area.{Ghosts}
 use Rattle.lc_record.specs.Content.{segment_of}
 use Rattle.lc_record.specs.declared.geometry.Geometry.{Geometry}
+use Rattle.lc_record.proofs.ListLemmas.{slice_get_some as get-some}
 use Rattle.lc_page.specs.Page.{slot_at}
 use Rattle.lc_page.specs.PageVector.{entry_text}
 use Rattle.lc_page.specs.PageWrite.{IsSettled}
@@ -24,7 +25,7 @@ use Rattle.lc_recover.specs.declared.page_writes.PageWrites.{PageWrites}
 use Rattle.lc_recover.specs.declared.read_areas.ReadAreas.{ReadAreas}
 use Rattle.lc_recover.specs.declared.segment_pages.SegmentPages.{SegmentPages}
 use Rattle.lc_recover.specs.declared.stage.Stage.TheVariants.{Reading, Writing as WritingPages}
-use Rattle.lc_recover.proofs.Images.{get-some, in-segment}
+use Rattle.lc_recover.proofs.Images.{in-segment}
 use Rattle.lc_recover.proofs.MergeRead.{kept-pages-are}
 use Rattle.lc_recover.proofs.PagesBehind.{pages-behind, few-pages}
 

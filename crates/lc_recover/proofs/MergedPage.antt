@@ -1,14 +1,15 @@
 -- A page with the ranges of its changes put on it has of each byte that of the record with the greatest number.
-use Rattle.std.proofs.Common.{◌≡◌, ◌⊎◌, ℕ, ◌+◌, ◌*◌, ◌<◌, ◌≤◌, Bool, true, false, ◌&&◌, nat_lt, true≢false, List, [], ◌∷◌, ◌++◌, Option, Some, None, is_some, All, Contains, IsTrue, refl, sym, ◌∙◌, ap, subst, arith, inl, inr}
+use Rattle.std.proofs.Common.{◌≡◌, ◌⊎◌, ℕ, ◌+◌, ◌*◌, ◌<◌, ◌≤◌, true, false, nat_lt, true≢false, List, [], ◌∷◌, ◌++◌, Option, Some, None, is_some, All, Contains, IsTrue, refl, sym, ◌∙◌, ap, subst, arith, inl, inr}
 use Rattle.std.specs.Prelude.{slice_get}
 use Rattle.std.specs.Option.{option_or}
-use Rattle.std.proofs.lemmas.Bool.{cases_Bool, lt-ltb}
+use Rattle.std.proofs.lemmas.Bool.{cases_Bool, lt-ltb, and_from as both_are}
 use Rattle.std.proofs.lemmas.List.Elements.{All-nil, All-cons, All-head, All-tail, All-weaker, All-contains, All-contains_itself, Contains-append_right, Contains-append_cases}
 use Rattle.std.proofs.lemmas.Option.{same_Some}
 use Rattle.lc_record.specs.Content.{segment_of}
 use Rattle.lc_record.specs.Newest.{number_or_zero, byte_in, byte_of, has_byte, IsByNumber}
 use Rattle.lc_record.specs.declared.record.Record.{Record}
 use Rattle.lc_record.specs.declared.record.RangeData.{RangeData}
+use Rattle.lc_record.proofs.ListLemmas.{option_or-some as or_some, All-append_right as all_behind, All-append_left as all_front}
 use Rattle.lc_model.specs.Merge.{Page, Store, all_records}
 use Rattle.lc_model.proofs.Visible.{in-logs, log-known}
 use Rattle.lc_recover.specs.Kept.{Names, Reaches, IsChange, IsBefore, AreAscending, IsIndex}
@@ -28,14 +29,6 @@ none_is_not_some o none some = true≢false (sym some ∙ ap (λ (p : Option ℕ
 
 or_none : (o p : Option ℕ) → o ≡ None → option_or o p ≡ p
 or_none o p none = ap (λ (q : Option ℕ). option_or q p) none
-
-or_some : (o p : Option ℕ) → is_some o ≡ true → option_or o p ≡ o
-or_some None p some = absurd (true≢false (sym some))
-or_some (Some x) p some = refl
-
-both_are : (a b : Bool) → a ≡ true → b ≡ true → (a && b) ≡ true
-both_are true b one other = other
-both_are false b one other = absurd (true≢false (sym one))
 
 -- One change
 
@@ -153,14 +146,6 @@ module _ (segment page : ℕ) where
   )
 
 -- The changes of the page, among all
-
-pub all_front : {A : Type 0} (P : A → Type 0) (xs ys : List A) → All P (xs ++ ys) → All P xs
-all_front P [] ys all = All-nil P
-all_front P (x ∷ xs) ys all = All-cons P x xs (All-head P x (xs ++ ys) all) (all_front P xs ys (All-tail P x (xs ++ ys) all))
-
-pub all_behind : {A : Type 0} (P : A → Type 0) (xs ys : List A) → All P (xs ++ ys) → All P ys
-all_behind P [] ys all = all
-all_behind P (x ∷ xs) ys all = all_behind P xs ys (All-tail P x (xs ++ ys) all)
 
 pub ascending_front : (cs ds : List Change) → AreAscending (cs ++ ds) → AreAscending cs
 ascending_front [] ds ascending = tt

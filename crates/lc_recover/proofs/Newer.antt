@@ -1,7 +1,7 @@
 -- Where a record is to be put on a page, it is newer than the page.
 use Rattle.std.proofs.Common.{◌≡◌, ℕ, zero, suc, ◌+◌, Some, List, [], ◌∷◌, map, length, Contains, sym, subst, arith, inl, inr}
 use Rattle.std.specs.Prelude.{slice_get}
-use Rattle.std.proofs.lemmas.Option.{none-some}
+use Rattle.std.proofs.lemmas.Option.{none-some, same_Some as one_item}
 use Rattle.std.proofs.lemmas.List.Elements.{Contains-append_left, Contains-append_right}
 use Rattle.lc_model.specs.Merge.{Page, Store, all_records, MergeFault, MergesTo, Refuses, BadGeometry, OutOfSegment, Twice, Gap}
 use Rattle.lc_model.proofs.SomeOutcome.{some-outcome}
@@ -14,7 +14,6 @@ use Rattle.lc_recover.specs.Reading.{store_of}
 use Rattle.lc_recover.specs.Recovery.{HasPageToWrite}
 use Rattle.lc_recover.specs.declared.change.Change.{Change}
 use Rattle.lc_recover.specs.declared.segment_pages.SegmentPages.{SegmentPages}
-use Rattle.lc_recover.proofs.AreaLemmas.{one_item}
 use Rattle.lc_recover.proofs.Ascents.{is-change}
 use Rattle.lc_recover.proofs.MergedPage.{change_has}
 

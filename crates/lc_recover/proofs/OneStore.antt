@@ -5,6 +5,7 @@ use Rattle.std.proofs.lemmas.List.{length-map}
 use Rattle.lc_record.specs.Words.{words_of}
 use Rattle.lc_record.specs.declared.geometry.Geometry.{Geometry}
 use Rattle.lc_record.specs.declared.record.Record.{Record}
+use Rattle.lc_record.proofs.ListLemmas.{slice_get_some as get-some, slice_get-map_some as get-map}
 use Rattle.lc_log.specs.InPlace.{records_in}
 use Rattle.lc_log.specs.LogText.{IsLogText}
 use Rattle.lc_log.proofs.InPlaceLemmas.{records_are, records_text}
@@ -12,7 +13,6 @@ use Rattle.lc_model.specs.Merge.{Page, Store}
 use Rattle.lc_recover.specs.Reads.{store_of}
 use Rattle.lc_recover.specs.ReadsAs.{ReadsAs}
 use Rattle.lc_recover.proofs.Going.{same_lists}
-use Rattle.lc_recover.proofs.Images.{get-map, get-some}
 
 abbrev records_of : List ℕ → List Record
 records_of bytes = records_in (words_of bytes)

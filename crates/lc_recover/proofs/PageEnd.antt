@@ -1,9 +1,9 @@
 -- Behind the last page that is written.
-use Rattle.std.proofs.Common.{◌≡◌, ◌⊎◌, ℕ, ◌+◌, ◌-◌, ◌*◌, false, Option, Some, None, List, [], ◌∷◌, ◌++◌, length, drop, Contains, refl, sym, ◌∙◌, ap, subst, arith, inl, inr}
+use Rattle.std.proofs.Common.{◌≡◌, ◌⊎◌, ℕ, ◌+◌, ◌-◌, ◌*◌, false, Option, Some, None, List, [], ◌++◌, length, drop, Contains, refl, sym, ◌∙◌, ap, subst, arith, inl, inr}
 use Rattle.std.specs.Prelude.{slice_get, slice_index_or, if◌then◌else◌, IfOk, IsTrue, Result}
-use Rattle.std.proofs.lemmas.List.{drop_all, length-append}
+use Rattle.std.proofs.lemmas.List.{drop_all, length-append, nil_from_length as empty_list, append-nil as append_nothing}
 use Rattle.std.proofs.lemmas.List.Elements.{All-contains}
-use Rattle.std.proofs.lemmas.Option.{none-some, slice_get_within}
+use Rattle.std.proofs.lemmas.Option.{none-some, slice_get_within, same_Some as one_item}
 use Rattle.std.proofs.lemmas.Result.{IfOk-weaker}
 use Rattle.lc_disk.specs.declared.area.Area.{Ghosts}
 use Rattle.lc_record.specs.Content.{segment_of}
@@ -15,7 +15,6 @@ use Rattle.lc_page.specs.declared.writing.Writing.{Writing}
 use Rattle.lc_model.specs.Merge.{Page, Store, all_records}
 use Rattle.lc_model.specs.Recovered.{IsBehind}
 use Rattle.lc_model.proofs.Visible.{in-logs, log-known}
-use Rattle.lc_recover.proofs.AreaLemmas.{one_item}
 use Rattle.lc_recover.proofs.MergedPage.{change_has}
 use Rattle.lc_recover.specs.Kept.{IsChange, IsIndex}
 use Rattle.lc_recover.specs.Page.{IsOf, pages_of}
@@ -54,14 +53,6 @@ module _ (logs : List (List ℕ)) (store : Store) (changes : List Change) (index
       (one.0, one.1, (one.2, one.3))
 
 -- Behind the last page
-
-empty_list : {A : Type 0} (xs : List A) → length xs ≡ 0 → xs ≡ []
-empty_list [] none = refl
-empty_list (x ∷ xs) none = absurd (omega (arith, none))
-
-append_nothing : {A : Type 0} (xs : List A) → xs ++ [] ≡ xs
-append_nothing [] = refl
-append_nothing (x ∷ xs) = ap (λ ys. x ∷ ys) (append_nothing xs)
 
 module _ (g : Geometry) (w : PageWrites) (i : IsWriting g w) (end : w.next ≡ length w.merged.changes.items) where
   back-empty : i.between.back ≡ []

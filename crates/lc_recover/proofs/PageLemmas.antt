@@ -1,16 +1,15 @@
 -- The changes of one page, and their ranges.
-use Rattle.std.proofs.Common.{◌≡◌, ℕ, zero, suc, ◌<◌, ◌≤◌, List, [], ◌∷◌, ◌++◌, length, get_or, min, take, drop, Option, Some, None, All, refl, sym, ◌∙◌, ap, subst, arith, inl, inr}
+use Rattle.std.proofs.Common.{◌≡◌, ℕ, zero, suc, ◌<◌, ◌≤◌, List, [], ◌∷◌, ◌++◌, length, get_or, take, drop, Option, Some, None, All, refl, sym, ◌∙◌, ap, subst, arith, inl, inr}
 use Rattle.std.specs.Prelude.{slice_get, slice_index_or}
 use Rattle.std.specs.Option.{option_or}
-use Rattle.std.proofs.lemmas.Bool.{cases_lt}
-use Rattle.std.proofs.lemmas.List.{append-nil}
+use Rattle.std.proofs.lemmas.List.{append-nil, drop_all, get_or_past}
 use Rattle.std.proofs.lemmas.List.Elements.{All-nil, All-cons, All-head, All-tail, All-weaker}
 use Rattle.std.proofs.lemmas.Option.{same_Some}
 use Rattle.lc_record.specs.Newest.{byte_from, byte_in, byte_of}
 use Rattle.lc_record.specs.Words.{bytes_of}
 use Rattle.lc_record.specs.declared.record.RangeData.{RangeData}
-use Rattle.lc_model.proofs.Bytes.{option_or-assoc}
 use Rattle.lc_record.proofs.PuttingLemmas.{byte_in-same, byte_of-push}
+use Rattle.lc_record.proofs.ListLemmas.{option_or_assoc as option_or-assoc}
 use Rattle.lc_recover.specs.Kept.{Names, IsBefore, AreAscending}
 use Rattle.lc_recover.specs.Page.{IsOf, IsOfAnother, AreAt, IsFirstPage}
 use Rattle.lc_recover.specs.declared.change.Change.{Change}
@@ -115,26 +114,6 @@ one_range_more segment place front r old =
 
 -- Words behind others
 
-pub drop_all : {A : Type 0} (n : ℕ) (xs : List A) → length xs ≤ n → drop n xs ≡ []
-drop_all zero [] le = refl
-drop_all zero (x ∷ xs) le = absurd (omega (arith, le))
-drop_all (suc n) [] le = refl
-drop_all (suc n) (x ∷ xs) le = drop_all n xs (omega (arith, le))
-
-pub drop_least : {A : Type 0} (n : ℕ) (xs : List A) → drop (min n (length xs)) xs ≡ drop n xs
-drop_least n xs = elim (cases_lt n (length xs)) [
-  | inl few ↦ (let same : min n (length xs) ≡ n = omega (arith, few) in ap (λ (m : ℕ). drop m xs) same)
-  | inr all ↦
-      (let same : min n (length xs) ≡ length xs = omega (arith, all) in
-      let le : length xs ≤ length xs = omega arith in
-      ap (λ (m : ℕ). drop m xs) same ∙ drop_all (length xs) xs le ∙ sym (drop_all n xs all))
-]
-
-past : {A : Type 0} (n : ℕ) (xs : List A) (d : A) → length xs ≤ n → get_or xs n d ≡ d
-past n [] d le = refl
-past zero (x ∷ xs) d le = absurd (omega (arith, le))
-past (suc n) (x ∷ xs) d le = past n xs d (omega (arith, le))
-
 none_from : (offset place : ℕ) → byte_from offset [] place ≡ None
 none_from zero place = refl
 none_from (suc offset) zero = refl
@@ -149,7 +128,7 @@ pub put_nothing : (logs : List (List ℕ)) (log place words len offset at : ℕ)
     → old ≡ option_or (byte_from offset (take len (bytes_of (drop words (drop place (slice_index_or logs log []))))) at) old
 put_nothing logs log place words len offset at old le =
     let none : drop words (drop place (slice_index_or logs log [])) ≡ [] =
-    ap (λ (l : List ℕ). drop words (drop place l)) (past log logs [] le) ∙ ap (drop words) (drop_all place [] (omega arith)) ∙ drop_all words [] (omega arith) in
+    ap (λ (l : List ℕ). drop words (drop place l)) (get_or_past logs log [] le) ∙ ap (drop words) (drop_all place [] (omega arith)) ∙ drop_all words [] (omega arith) in
     sym (ap (λ (l : List ℕ). option_or (byte_from offset (take len (bytes_of l)) at) old) none
     ∙ ap (λ (l : List ℕ). option_or (byte_from offset l at) old) (take_none len (bytes_of []) refl)
     ∙ ap (λ (o : Option ℕ). option_or o old) (none_from offset at))

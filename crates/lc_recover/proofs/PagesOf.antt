@@ -1,7 +1,7 @@
 -- The pages of a list of changes.
 use Rattle.std.proofs.Common.{◌≡◌, ◌≢◌, ℕ, zero, suc, ◌+◌, ◌-◌, ◌<◌, ◌≤◌, ◌⊎◌, Bool, true, false, not, ◌&&◌, ◌==◌, true≢false, List, [], ◌∷◌, ◌++◌, length, get_or, take, drop, filter, Some, All, Contains, refl, sym, ◌∙◌, ap, subst, arith, inl, inr, eqb-true, eq-eqb}
 use Rattle.std.specs.Prelude.{slice_get, if◌then◌else◌}
-use Rattle.std.proofs.lemmas.Bool.{cases_Bool}
+use Rattle.std.proofs.lemmas.Bool.{cases_Bool, and_parts as and_true, and_from as both_true, not-true as not_true, not-false as not_false}
 use Rattle.std.proofs.lemmas.List.Elements.{All-head, All-tail, All-weaker, All-contains, All-contains_itself, All-filter, filter_passes, Contains-append_left, Contains-append_right, Contains-append_cases}
 use Rattle.std.proofs.lemmas.List.{take_all, length-drop}
 use Rattle.std.proofs.lemmas.Option.{same_Some, slice_get-get_or}
@@ -20,22 +20,6 @@ same_pair p q first second =
     let one : ◌≡◌ {A = Pair} (p.0, p.1) (q.0, p.1) = ap (λ (n : ℕ). let x : Pair = (n, p.1) in x) first in
     let two : ◌≡◌ {A = Pair} (q.0, p.1) (q.0, q.1) = ap (λ (n : ℕ). let x : Pair = (q.0, n) in x) second in
     one ∙ two
-
-and_true : (a b : Bool) → (a && b) ≡ true → (a ≡ true) × (b ≡ true)
-and_true true b both = (refl, both)
-and_true false b both = absurd (true≢false (sym both))
-
-not_true : (b : Bool) → not b ≡ true → b ≡ false
-not_true true is = absurd (true≢false (sym is))
-not_true false is = refl
-
-not_false : (b : Bool) → not b ≡ false → b ≡ true
-not_false true is = refl
-not_false false is = absurd (true≢false is)
-
-both_true : (a b : Bool) → a ≡ true → b ≡ true → (a && b) ≡ true
-both_true true b one other = other
-both_true false b one other = absurd (true≢false (sym one))
 
 -- a test that fails says that the pairs are the same
 not_another : (p q : Pair) → is_another p q ≡ false → p ≡ q

@@ -1,7 +1,7 @@
 -- The changes of one page, picked from all.
 use Rattle.std.proofs.Common.{◌≡◌, ℕ, ◌+◌, ◌-◌, Some, List, ◌++◌, length, take, drop, All, ◌∙◌, ap, subst, arith}
 use Rattle.std.specs.Prelude.{slice_get}
-use Rattle.lc_recover.proofs.Images.{get-drop}
+use Rattle.lc_record.proofs.ListLemmas.{slice_get-drop as get-drop}
 use Rattle.lc_recover.proofs.MergedPage.{ascending_behind}
 use Rattle.lc_recover.proofs.PageLemmas.{take_and_drop}
 use Rattle.lc_recover.proofs.PagesOf.{all_behind}

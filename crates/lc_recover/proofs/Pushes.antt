@@ -19,13 +19,14 @@ use Rattle.lc_record.specs.declared.record.RangeData.{RangeData}
 use Rattle.lc_record.specs.declared.grammar_version.GrammarVersion.{GrammarVersion}
 use Rattle.lc_record.specs.declared.placed_span.PlacedSpan.{PlacedSpan}
 use Rattle.lc_record.specs.declared.span.Span.{Span}
+use Rattle.lc_record.proofs.ListLemmas.{Contains-slice_get as contains-at}
 use Rattle.lc_page.specs.PageVector.{entry_at}
 use Rattle.lc_model.specs.Merge.{Page}
 use Rattle.lc_recover.specs.Pages.{kept_page, kept_pages}
 use Rattle.lc_recover.specs.Changes.{Seat, Touches, Adds, IsOnRange, IsOf, HasOf, Covers, AreOf, change_on, change_under}
 use Rattle.lc_recover.specs.declared.change.Change.{Change}
 use Rattle.lc_recover.specs.declared.segment_pages.SegmentPages.{SegmentPages}
-use Rattle.lc_recover.proofs.Walks.{length-kept, contains-at}
+use Rattle.lc_recover.proofs.Walks.{length-kept}
 use Rattle.lc_recover.proofs.Counts.{kept-at, contains-cons}
 use Rattle.lc_recover.proofs.RangeBytes.{byte_in-known, byte_of-known}
 

@@ -1,42 +1,16 @@
 -- Which ranges have a byte for a place, and that of a record at most one has.
-use Rattle.std.proofs.Common.{◌≡◌, ◌⊎◌, ℕ, zero, suc, ◌+◌, ◌<◌, ◌≤◌, true, ◌==◌, List, [], ◌∷◌, length, Contains, Option, Some, None, is_some, arith, refl, sym, ◌∙◌, ap, inl, inr}
+use Rattle.std.proofs.Common.{◌≡◌, ℕ, suc, ◌<◌, ◌≤◌, true, ◌==◌, List, [], ◌∷◌, Contains, Option, Some, None, is_some, arith, refl, sym, ◌∙◌, ap, inl, inr}
 use Rattle.std.specs.Prelude.{slice_get, All}
 use Rattle.std.specs.Option.{option_or}
 use Rattle.std.proofs.lemmas.Bool.{cases_Bool, eqb-true, eq-eqb, true≢false}
-use Rattle.std.proofs.lemmas.Option.{slice_get_cases, slice_get-get_or}
 use Rattle.std.proofs.lemmas.List.Elements.{All-nil, All-cons, All-head, All-tail, All-weaker}
 use Rattle.lc_record.specs.GrammarVersion.{end_of}
-use Rattle.lc_record.specs.Newest.{byte_from, byte_in, byte_of}
+use Rattle.lc_record.specs.Newest.{byte_in, byte_of}
 use Rattle.lc_record.specs.Record.{span_of, Chain, IsBefore}
 use Rattle.lc_record.specs.declared.record.RangeData.{RangeData}
+use Rattle.lc_record.proofs.ListLemmas.{option_or-some as some_first, option_or_right as or-right, option_or_left as or-left, option_or_cases as or-cases, none_from_not_some as not_some}
+use Rattle.lc_record.proofs.PuttingLemmas.{byte_from-some, byte_from-known}
 use Rattle.lc_recover.proofs.Counts.{contains-cons}
-
-or-left : (x y : Option ℕ) → is_some x ≡ true → is_some (option_or x y) ≡ true
-or-left None y h = absurd (true≢false (sym h))
-or-left (Some n) y h = refl
-
-or-right : (x y : Option ℕ) → is_some y ≡ true → is_some (option_or x y) ≡ true
-or-right None y h = h
-or-right (Some n) y h = refl
-
-or-cases : (x y : Option ℕ) → is_some (option_or x y) ≡ true → (is_some x ≡ true) ⊎ (is_some y ≡ true)
-or-cases None y h = inr h
-or-cases (Some n) y h = inl refl
-
-byte_from-some : (offset : ℕ) (bytes : List ℕ) (place : ℕ) → offset ≤ place → place < offset + length bytes → is_some (byte_from offset bytes place) ≡ true
-byte_from-some zero bytes place h within =
-    let inside : place < length bytes = omega arith in
-    ap is_some (slice_get-get_or bytes place 0 inside)
-byte_from-some (suc offset) bytes zero h within = absurd (omega arith)
-byte_from-some (suc offset) bytes (suc place) h within = byte_from-some offset bytes place (omega arith) (omega arith)
-
-pub byte_from-known : (offset : ℕ) (bytes : List ℕ) (place : ℕ) → is_some (byte_from offset bytes place) ≡ true → (offset ≤ place) × (place < offset + length bytes)
-byte_from-known zero bytes place h = elim (slice_get_cases bytes place).1 [
-  | inl some ↦ (omega arith, omega (arith, some.1))
-  | inr past ↦ absurd (true≢false (sym h ∙ ap is_some past.1))
-]
-byte_from-known (suc offset) bytes zero h = absurd (true≢false (sym h))
-byte_from-known (suc offset) bytes (suc place) h = (let rest = byte_from-known offset bytes place h in (omega (arith, rest.0), omega (arith, rest.1)))
 
 pub byte_in-some : (segment place : ℕ) (range : RangeData) → range.segment ≡ segment → range.offset ≤ place → place < end_of (span_of range) → is_some (byte_in segment place range) ≡ true
 byte_in-some segment place range own from upto = rw (eq-eqb range.segment segment own) (byte_from-some range.offset range.bytes place from upto)
@@ -83,19 +57,11 @@ none_behind segment place a b one before other =
       | inr same ↦ omega (arith, same.1, here.2, there.1)
     ]
 
-not_some : (o : Option ℕ) → (is_some o ≡ true → ⊥) → o ≡ None
-not_some None never = refl
-not_some (Some x) never = absurd (never refl)
-
 none_of : (segment place : ℕ) (rs : List RangeData) → All (λ r. is_some (byte_in segment place r) ≡ true → ⊥) rs → byte_of segment place rs ≡ None
 none_of segment place [] none = refl
 none_of segment place (r ∷ rs) none =
     ap (λ (o : Option ℕ). option_or o (byte_in segment place r)) (none_of segment place rs (All-tail (λ r. is_some (byte_in segment place r) ≡ true → ⊥) r rs none))
     ∙ not_some (byte_in segment place r) (All-head (λ r. is_some (byte_in segment place r) ≡ true → ⊥) r rs none)
-
-some_first : (o p : Option ℕ) → is_some o ≡ true → option_or o p ≡ o
-some_first None p some = absurd (true≢false (sym some))
-some_first (Some x) p some = refl
 
 -- where a range of ascending ones has the byte, it is theirs
 pub one_range : (segment place : ℕ) (rs : List RangeData) (r : RangeData) → Chain IsBefore rs → Contains rs r → is_some (byte_in segment place r) ≡ true → byte_of segment place rs ≡ byte_in segment place r

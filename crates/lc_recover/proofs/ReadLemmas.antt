@@ -1,6 +1,6 @@
 -- What is known of areas that were read, the first ones of a store or all.
 use Rattle.std.proofs.Common.{◌≡◌, ℕ, zero, suc, ◌+◌, ◌*◌, ◌<◌, ◌≤◌, Some, List, [], ◌∷◌, ◌++◌, map, flat_map, length, take, drop, IsPermutation, refl, sym, ◌∙◌, ap, subst, arith, append-nil}
-use Rattle.std.proofs.lemmas.List.{length-append, length-map, map-append, take-append-drop, take-append-le, take_all}
+use Rattle.std.proofs.lemmas.List.{length-append, length-map, map-append, take-append-drop, take-append-le, take_all, drop_all as drop-past}
 use Rattle.std.proofs.lemmas.List.Concat.{flat_map-append}
 use Rattle.std.proofs.lemmas.List.Sorted.{IsPermutation-append_left}
 use Rattle.lc_record.specs.Record.{spelling}
@@ -99,12 +99,6 @@ drop-more : {A : Type 0} (n : ℕ) (xs : List A) (x : A) → n ≤ length xs →
 drop-more zero xs x within = refl
 drop-more (suc n) [] x within = absurd (omega (arith, within))
 drop-more (suc n) (y ∷ xs) x within = drop-more n xs x (omega (arith, within))
-
-drop-past : {A : Type 0} (n : ℕ) (xs : List A) → length xs ≤ n → drop n xs ≡ []
-drop-past zero [] past = refl
-drop-past zero (x ∷ xs) past = absurd (omega (arith, past))
-drop-past (suc n) [] past = refl
-drop-past (suc n) (x ∷ xs) past = drop-past n xs (omega (arith, past))
 
 all-records-more : (logs : List (List ℕ)) (words : List ℕ) → numbers_in (all_records (store_of (logs ++ words ∷ []) [])) ≡ numbers_in (all_records (store_of logs [])) ++ numbers_in (records_in words)
 all-records-more logs words =

@@ -17,11 +17,12 @@ use Rattle.lc_record.specs.declared.record.Lock.{Lock}
 use Rattle.lc_record.specs.declared.record.RangeData.{RangeData}
 use Rattle.lc_record.specs.declared.record.Record.{Record}
 use Rattle.lc_record.proofs.PuttingLemmas.{byte_from-behind, byte_in-same}
+use Rattle.lc_record.proofs.ListLemmas.{slice_get_some as get-some}
 use Rattle.lc_log.specs.LogText.{IsWhole}
 use Rattle.lc_model.specs.Merge.{Page, Store, all_records, IsOutside, AreWithin}
 use Rattle.lc_model.specs.Recovered.{HasByte, IsReadable}
 use Rattle.lc_model.proofs.Visible.{all-logs}
-use Rattle.lc_recover.proofs.Images.{get-segment, get-some, shape-of}
+use Rattle.lc_recover.proofs.Images.{get-segment, shape-of}
 use Rattle.lc_recover.specs.Stage.{AreTexts}
 
 -- A byte of a record

@@ -1,11 +1,12 @@
 -- What is kept of a segment once one of its pages is written.
-use Rattle.std.proofs.Common.{◌≡◌, ◌≢◌, ℕ, zero, suc, ◌+◌, ◌-◌, ◌*◌, ◌<◌, ◌≤◌, List, [], ◌∷◌, map, take, drop, length, Some, refl, sym, ◌∙◌, ap, arith, inl, inr}
+use Rattle.std.proofs.Common.{◌≡◌, ◌≢◌, ℕ, suc, ◌+◌, ◌-◌, ◌*◌, ◌<◌, ◌≤◌, List, [], ◌∷◌, map, take, drop, length, Some, refl, sym, ◌∙◌, ap, arith, inl, inr}
 use Rattle.std.specs.Prelude.{slice_get, slice_set}
 use Rattle.std.proofs.lemmas.Bool.{cases_eq}
-use Rattle.std.proofs.lemmas.List.{length-map, length-set}
+use Rattle.std.proofs.lemmas.List.{length-map, length-set, map-set}
 use Rattle.lc_disk.specs.Area.{overlaid}
 use Rattle.lc_record.specs.Content.{Content, segment_of}
 use Rattle.lc_record.specs.Marks.{counting}
+use Rattle.lc_record.proofs.ListLemmas.{length-counting, slice_get-map_some as get-map}
 use Rattle.lc_page.specs.PageVector.{entry_at, entry_text, settled}
 use Rattle.lc_page.specs.declared.draft.Draft.{Draft}
 use Rattle.lc_page.specs.declared.entry.Entry.{Entry}
@@ -13,7 +14,7 @@ use Rattle.lc_model.specs.Merge.{Page}
 use Rattle.lc_recover.proofs.AreaLemmas.{set-get, set-others}
 use Rattle.lc_recover.proofs.Bridge.{same_page}
 use Rattle.lc_recover.proofs.Going.{same_lists}
-use Rattle.lc_recover.proofs.Images.{get-map, get-counting, get-segment, length-counting}
+use Rattle.lc_recover.proofs.Images.{get-counting, get-segment}
 use Rattle.lc_recover.proofs.Settles.{entry_set, entry_other, page_over, page_beside}
 use Rattle.lc_recover.specs.Pages.{bytes_of_page, kept_page, kept_pages}
 use Rattle.lc_recover.specs.Recovered.{page_read, recovered_pages}
@@ -22,11 +23,6 @@ use Rattle.lc_recover.specs.Shows.{new_page}
 use Rattle.lc_recover.specs.Stage.{IsDraft}
 use Rattle.lc_recover.specs.declared.change.Change.{Change}
 use Rattle.lc_recover.specs.declared.segment_pages.SegmentPages.{SegmentPages}
-
-map-set : {A B : Type 0} (f : A → B) (xs : List A) (k : ℕ) (y : A) → map f (slice_set xs k y) ≡ slice_set (map f xs) k (f y)
-map-set f [] k y = refl
-map-set f (x ∷ xs) zero y = refl
-map-set f (x ∷ xs) (suc k) y = ap (λ l. f x ∷ l) (map-set f xs k y)
 
 count-kept : (s : SegmentPages) → length (kept_pages s) ≡ length s.texts
 count-kept s = length-map (counting 0 (length s.texts)) (kept_page s) ∙ length-counting 0 (length s.texts)

@@ -1,6 +1,7 @@
 -- What is known of the areas while logs are emptied, and what a stop leaves of them.
 use Rattle.std.proofs.Common.{◌≡◌, ◌≢◌, ℕ, ◌+◌, ◌-◌, ◌*◌, ◌<◌, ◌≤◌, Bool, true, false, Some, None, List, [], length, refl, sym, ◌∙◌, ap, subst, arith, inl, inr, lt-ltb, true≢false}
 use Rattle.std.specs.Prelude.{slice_get, slice_set, slice_index_or, if◌then◌else◌, nat_lt}
+use Rattle.std.proofs.lemmas.Option.{same_Some as one_item}
 use Rattle.lc_disk.specs.Area.{IsImage}
 use Rattle.lc_disk.specs.declared.area.Area.{Ghosts}
 use Rattle.lc_disk.proofs.Images.{image_clean}
@@ -14,7 +15,7 @@ use Rattle.lc_page.specs.Page.{page_in, text_in}
 use Rattle.lc_page.specs.declared.page_text.PageText.{PageText}
 use Rattle.lc_page.proofs.StateLemmas.{settled_reads}
 use Rattle.lc_page.specs.PageVector.{entry_at, entry_text}
-use Rattle.lc_recover.proofs.AreaLemmas.{one_item, get-set, fits-set, begins}
+use Rattle.lc_recover.proofs.AreaLemmas.{get-set, fits-set, begins}
 use Rattle.lc_recover.specs.Reads.{AreHonest, area_len, area_count}
 use Rattle.lc_recover.specs.Pages.{page_read, kept_page}
 use Rattle.lc_recover.specs.Shows.{ShowLogs}

@@ -8,6 +8,7 @@ use Rattle.std.proofs.lemmas.Option.{none-some, slice_get_within, slice_get_past
 use Rattle.lc_disk.specs.Area.{overlaid}
 use Rattle.lc_record.specs.Content.{segment_of}
 use Rattle.lc_record.specs.declared.geometry.Geometry.{Geometry}
+use Rattle.lc_record.proofs.ListLemmas.{slice_get-append_left as get-append, slice_get-take as get-take, slice_get-drop as get-drop, Contains-slice_get as contains_at}
 use Rattle.lc_page.specs.PageVector.{entry_at, settled}
 use Rattle.lc_page.specs.declared.draft.Draft.{Draft}
 use Rattle.lc_page.specs.declared.entry.Entry.{Entry}
@@ -15,9 +16,7 @@ use Rattle.lc_model.specs.Merge.{Page}
 use Rattle.lc_model.specs.Stored.{page_bytes}
 use Rattle.lc_model.proofs.Bytes.{same-items}
 use Rattle.lc_recover.proofs.AreaLemmas.{get-set, set-get, set-others}
-use Rattle.lc_recover.proofs.Begins.{ComesNext, contains_at, its_segment, its_page, one_more, still_old, back_is, back_ascends, there}
-use Rattle.lc_recover.proofs.Images.{get-take, get-drop}
-use Rattle.lc_recover.proofs.KeptLemmas.{get-append}
+use Rattle.lc_recover.proofs.Begins.{ComesNext, its_segment, its_page, one_more, still_old, back_is, back_ascends, there}
 use Rattle.lc_recover.proofs.PagesOf.{begin_with_the_first, one_page_more}
 use Rattle.lc_recover.specs.Kept.{IsMerging}
 use Rattle.lc_recover.specs.Page.{IsOf, IsOfAnother, page_of, pages_of}

@@ -1,15 +1,16 @@
 -- What a stop leaves of the areas in each part of a recovery.
-use Rattle.std.proofs.Common.{◌≡◌, ◌⊎◌, ℕ, ◌+◌, ◌-◌, ◌*◌, ◌<◌, ◌≤◌, true, Option, Some, None, List, [], map, length, refl, sym, ◌∙◌, ap, subst, arith, inl, inr}
+use Rattle.std.proofs.Common.{◌≡◌, ◌⊎◌, ℕ, ◌+◌, ◌-◌, ◌*◌, ◌<◌, ◌≤◌, true, Some, List, [], map, length, sym, ◌∙◌, ap, subst, arith, inl, inr}
 use Rattle.std.specs.Prelude.{slice_get, slice_index_or}
 use Rattle.std.proofs.lemmas.Bool.{cases_eq, cases_lt}
 use Rattle.std.proofs.lemmas.List.{length-map}
-use Rattle.std.proofs.lemmas.Option.{none-some, slice_get_within, slice_get_past}
+use Rattle.std.proofs.lemmas.Option.{none-some, slice_get_within, slice_get_past, same_Some as one_item}
 use Rattle.lc_disk.specs.Area.{IsImage}
 use Rattle.lc_disk.specs.declared.area.Area.{Ghosts}
 use Rattle.lc_disk.proofs.Images.{image_clean}
 use Rattle.lc_record.specs.Content.{segment_of}
 use Rattle.lc_record.specs.Words.{words_of}
 use Rattle.lc_record.specs.declared.geometry.Geometry.{Geometry}
+use Rattle.lc_record.proofs.ListLemmas.{slice_get_some as get-some, slice_get-map_some as get-map, cases_Option as cases_option}
 use Rattle.lc_log.specs.LogText.{IsLogText}
 use Rattle.lc_log.proofs.LogLemmas.{at_rest_none}
 use Rattle.lc_log.proofs.StateLemmas.{rest_image}
@@ -23,9 +24,8 @@ use Rattle.lc_page.specs.declared.page_text.PageText.{PageText}
 use Rattle.lc_page.specs.declared.writing.Writing.{Writing}
 use Rattle.lc_page.proofs.StateLemmas.{settled_images}
 use Rattle.lc_page.proofs.WritingLemmas.{either_under_way}
-use Rattle.lc_recover.proofs.AreaLemmas.{one_item}
 use Rattle.lc_recover.proofs.Bridge.{same_page, show_pages-merge, show_logs-merge}
-use Rattle.lc_recover.proofs.Images.{HoldBytes, get-some, get-map, len-none, len-log, len-segment}
+use Rattle.lc_recover.proofs.Images.{HoldBytes, len-none, len-log, len-segment}
 use Rattle.lc_recover.specs.Pages.{page_read, kept_page, bytes_of_page}
 use Rattle.lc_recover.specs.Reads.{AllMergeTo, AreHonest, HaveLengths}
 use Rattle.lc_recover.specs.Shows.{ShowPages, ShowLogs, new_page}
@@ -37,10 +37,6 @@ use Rattle.lc_recover.specs.declared.page_writes.PageWrites.{PageWrites}
 use Rattle.lc_recover.specs.declared.segment_pages.SegmentPages.{SegmentPages}
 use Rattle.lc_recover.specs.declared.stage.Stage.{Stage}
 use Rattle.lc_recover.specs.declared.stage.Stage.TheVariants.{Writing as WritingPages, Resetting, Done}
-
-cases_option : {A : Type 0} (o : Option A) → (o ≡ None) ⊎ ((x : A) × (o ≡ Some x))
-cases_option None = inl refl
-cases_option (Some x) = inr (x, refl)
 
 -- a page of an area as it is kept
 kept-as : (area : List ℕ) (pages : SegmentPages) (page : ℕ) → (page_in area page).sequence ≡ (entry_at pages.texts page).stable → (page_in area page).content ≡ bytes_of_page pages page → page_read area page ≡ kept_page pages page

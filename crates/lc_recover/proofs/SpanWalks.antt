@@ -6,8 +6,8 @@ use Rattle.lc_record.specs.Spans.{placed_spans}
 use Rattle.lc_record.specs.declared.placed_span.PlacedSpan.{PlacedSpan}
 use Rattle.lc_record.specs.declared.record.Record.{Record}
 use Rattle.lc_record.specs.declared.record.RangeData.{RangeData}
-use Rattle.lc_record.proofs.PuttingLemmas.{at_drop}
 use Rattle.lc_record.proofs.SpansLemmas.{span_at, no_span}
+use Rattle.lc_record.proofs.ListLemmas.{slice_get-drop as at_drop}
 
 -- so many are passed, and the rest is still to come
 pub record Reached (P : ℕ → Type 0) (r : Record) (left : List PlacedSpan) : Type 0 where

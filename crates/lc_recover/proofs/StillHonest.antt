@@ -2,12 +2,13 @@
 use Rattle.std.proofs.Common.{◌≡◌, ◌⊎◌, ℕ, ◌+◌, Bool, true, List, sym, ◌∙◌, ap, subst, inl, inr}
 use Rattle.std.specs.Prelude.{slice_get}
 use Rattle.std.proofs.lemmas.Bool.{cases_eq}
+use Rattle.std.proofs.lemmas.Option.{same_Some as one_item}
 use Rattle.lc_disk.specs.declared.area.Area.{Ghosts}
 use Rattle.lc_recover.specs.Reads.{AreHonest}
 use Rattle.lc_recover.specs.Recovery.{Recovering, IsMergeNext, MakesItsCall}
 use Rattle.lc_recover.specs.Stage.{OneCall}
 use Rattle.lc_recover.specs.Steps.{first_steps}
-use Rattle.lc_recover.proofs.AreaLemmas.{one_item, each-set, set-get, set-others}
+use Rattle.lc_recover.proofs.AreaLemmas.{each-set, set-get, set-others}
 
 module _ {D : Type 0} (a : Ghosts D) where
   -- all are honest before and after, or neither

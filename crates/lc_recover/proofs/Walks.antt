@@ -3,9 +3,9 @@ use Rattle.std.proofs.Common.{◌≡◌, ℕ, zero, suc, ◌+◌, ◌<◌, ◌�
 use Rattle.std.specs.Borrow.{Bor}
 use Rattle.std.proofs.lemmas.Bool.{cases_lt}
 use Rattle.std.proofs.lemmas.List.{drop-drop, length-map, get_or-map, take_all}
-use Rattle.std.proofs.lemmas.List.Elements.{All-map, All-weaker, All-contains, All-from_recursion, Contains-append_right, at_read, All-more}
+use Rattle.std.proofs.lemmas.List.Elements.{All-map, All-weaker, All-contains, All-from_recursion, Contains-append_right, at_read}
 use Rattle.std.specs.Prelude.{slice_get}
-use Rattle.std.proofs.lemmas.Option.{none-some, same_Some, slice_get_cases, slice_get_within, get_or_from_slice_get, slice_get-get_or, slice_get_past}
+use Rattle.std.proofs.lemmas.Option.{none-some, same_Some, slice_get_cases, slice_get-get_or, slice_get_past}
 use Rattle.std.specs.Option.{MatchOption, IfSome, IfNone}
 use Rattle.lc_record.specs.Content.{segment_of}
 use Rattle.lc_record.specs.Marks.{counting}
@@ -15,6 +15,8 @@ use Rattle.lc_record.specs.Record.{spelling, record_len, IsCanonical}
 use Rattle.lc_record.specs.Codec.{BeginsWith, BeginsNoRecord}
 use Rattle.lc_record.specs.declared.record.Record.{Record}
 use Rattle.lc_record.proofs.SpellingLemmas.{length-spelling}
+use Rattle.lc_record.proofs.ListLemmas.{length-counting, Contains-map as contains-map}
+use Rattle.lc_model.proofs.Bytes.{segment_of-zero as segment-zero}
 use Rattle.lc_log.specs.LogText.{IsLogText, IsWhole, joined, placed}
 use Rattle.lc_log.specs.InPlace.{records_in}
 use Rattle.lc_log.proofs.WalkLemmas.{begins_whole}
@@ -84,9 +86,6 @@ pub next-in : {A : Type 0} (P : List A → Type 0) (all left behind : List A) (x
 next-in {A = A} P all left behind x is passed =
     subst (λ (l : List A). Contains l x) (sym (passed.split ∙ ap (λ (l : List A). passed.seen ++ l) is)) (Contains-append_right passed.seen (x ∷ behind) x (0, omega arith, refl))
 
-pub contains-map : {A B : Type 0} (f : A → B) (xs : List A) (x : A) → Contains xs x → Contains (map f xs) (f x)
-contains-map f xs x c = (c.0, rw length-map c.1, get_or-map f xs c.0 x (f x) c.1 ∙ ap f c.2)
-
 pub record-in : (ws : List ℕ) (x : ℕ × Record) → Contains (placed_in ws) x → Contains (records_in ws) x.1
 record-in ws x c = subst (λ (l : List Record). Contains l x.1) (placed-records 0 (records_in ws)) (contains-map (λ (y : ℕ × Record). y.1) (placed_in ws) x c)
 
@@ -138,14 +137,6 @@ segment-past f [] i is = refl
 segment-past f (y ∷ ys) zero is = absurd (none-some y (sym is))
 segment-past f (y ∷ ys) (suc i) is = segment-past f ys i is
 
-pub segment-zero : {A : Type 0} (xs : List (List A)) → segment_of 0 xs ≡ []
-segment-zero [] = refl
-segment-zero (x ∷ xs) = refl
-
-pub length-counting : (n m : ℕ) → length (counting n m) ≡ m
-length-counting n zero = refl
-length-counting n (suc m) = ap suc (length-counting (n + 1) m)
-
 pub length-kept : (s : SegmentPages) → length (kept_pages s) ≡ length s.texts
 length-kept s = length-map (counting 0 (length s.texts)) (kept_page s) ∙ length-counting 0 (length s.texts)
 
@@ -181,14 +172,8 @@ pages-none segments segment place (Some x) some is found = tt
 pub all-taken : {A : Type 0} (P : A → Type 0) (n : ℕ) (xs : List A) → length xs ≤ n → All P (take n xs) → All P xs
 all-taken P n xs h all = subst (λ (l : List _). All P l) (take_all n xs h) all
 
-pub all-more : {A : Type 0} (P : A → Type 0) (xs : List A) (i : ℕ) (x : A) → slice_get xs i ≡ Some x → All P (take i xs) → P x → All P (take (i + 1) xs)
-all-more P xs i x at all it = All-more P xs i x (slice_get_within xs i x at) all (subst P (sym (get_or_from_slice_get xs i x x at)) it)
-
 pub none-within : {A : Type 0} (xs : List A) (i : ℕ) → slice_get xs i ≡ None → i < length xs → ⊥
 none-within xs i none within = elim (slice_get_cases xs i).1 [
   | inl some ↦ none-some some.0 (sym none ∙ some.2)
   | inr past ↦ omega (arith, past.0)
 ]
-
-pub contains-at : {A : Type 0} (xs : List A) (i : ℕ) (x : A) → slice_get xs i ≡ Some x → Contains xs x
-contains-at xs i x at = (i, slice_get_within xs i x at, get_or_from_slice_get xs i x x at)

@@ -2,10 +2,11 @@
 use Rattle.std.proofs.Common.{ℕ, List, ◌++◌, All, Contains, sym, ◌∙◌, ap, subst}
 use Rattle.std.proofs.lemmas.List.Elements.{All-append, All-weaker, All-contains}
 use Rattle.std.proofs.lemmas.Option.{slice_get_within, get_or_from_slice_get}
+use Rattle.lc_record.proofs.ListLemmas.{All-append_right as all_behind}
 use Rattle.lc_recover.specs.Kept.{AreAscending}
 use Rattle.lc_recover.specs.Page.{IsOf, IsOfAnother, AreApart, TakenPageByPage}
 use Rattle.lc_recover.specs.declared.change.Change.{Change}
-use Rattle.lc_recover.proofs.MergedPage.{all_behind, ascending_behind}
+use Rattle.lc_recover.proofs.MergedPage.{ascending_behind}
 use Rattle.lc_recover.proofs.PagesOf.{rest_is}
 
 pub taken_page_by_page : TakenPageByPage

@@ -1,14 +1,15 @@
 -- What is known of the areas while a page is written.
 use Rattle.std.proofs.Common.{◌≡◌, ◌≢◌, ◌⊎◌, ℕ, ◌+◌, ◌-◌, ◌*◌, ◌<◌, ◌≤◌, true, false, Option, Some, None, List, [], length, take, drop, true≢false, refl, sym, ◌∙◌, ap, subst, arith, inl, inr}
-use Rattle.std.specs.Prelude.{slice_get, slice_set, slice_index_or, Result, Ok, Err, IfOk}
+use Rattle.std.specs.Prelude.{slice_get, slice_set, slice_index_or}
 use Rattle.std.specs.Option.{is_some}
 use Rattle.std.proofs.lemmas.Bool.{cases_eq}
 use Rattle.std.proofs.lemmas.List.Elements.{All-contains}
-use Rattle.std.proofs.lemmas.Option.{none-some, slice_get_within, get_or_from_slice_get}
+use Rattle.std.proofs.lemmas.Option.{none-some, slice_get_within, get_or_from_slice_get, same_Some as one_item}
 use Rattle.lc_disk.specs.Area.{IsClean, IsImage, overlaid}
 use Rattle.lc_disk.specs.declared.area.Area.{Ghosts}
 use Rattle.lc_record.specs.Content.{segment_of}
 use Rattle.lc_record.specs.declared.geometry.Geometry.{Geometry}
+use Rattle.lc_record.proofs.ListLemmas.{slice_get_some as get-some}
 use Rattle.lc_page.specs.Page.{Page, page_in, text_in}
 use Rattle.lc_page.specs.PageVector.{entry_at, entry_text, settled, settled_text}
 use Rattle.lc_page.specs.PageWrite.{KeepsPage, HasPage, IsEither, IsSettled, drafted}
@@ -18,12 +19,12 @@ use Rattle.lc_page.specs.declared.draft.Draft.{Draft}
 use Rattle.lc_page.specs.declared.entry.Entry.{Entry}
 use Rattle.lc_page.specs.declared.writing.Writing.{Writing}
 use Rattle.lc_page.proofs.StateLemmas.{settled_reads, kept_settled, kept_page}
-use Rattle.lc_recover.proofs.AreaLemmas.{one_item, set-get, set-others, get-set, fits-set, begins}
+use Rattle.lc_recover.proofs.AreaLemmas.{set-get, set-others, get-set, fits-set, begins}
 use Rattle.lc_model.specs.Merge.{Page as StorePage}
 use Rattle.lc_model.specs.Stored.{page_bytes}
 use Rattle.lc_recover.proofs.Bridge.{same_page as same_stored}
 use Rattle.lc_recover.proofs.Showing.{rests-as, kept-or_new, writing-shows}
-use Rattle.lc_recover.proofs.Images.{get-some, in-segment, len-segment}
+use Rattle.lc_recover.proofs.Images.{in-segment, len-segment}
 use Rattle.lc_recover.proofs.Settles.{page_over, page_beside, entry_set, entry_other}
 use Rattle.lc_recover.specs.Kept.{IsChange}
 use Rattle.lc_recover.specs.Pages.{bytes_of_page, page_read, kept_page as page_kept}
@@ -269,10 +270,6 @@ module _ {D : Type 0} (a : Ghosts D) where
                   ];
               writes = λ page other at. absurd (none-some other (sym none ∙ at.0));
             })))
-
-pub both-ok : {A B : Type 0} {P Q R : A → Type 0} (r : Result A B) → IfOk r P → IfOk r Q → ((x : A) → P x → Q x → R x) → IfOk r R
-both-ok (Ok x) one two so = so x one two
-both-ok (Err e) one two so = tt
 
 pub segment-room : {D : Type 0} (a : Ghosts D) (g : Geometry) (w : PageWrites) (c : Change) (k : ℕ) (area : D) → AreaFits a g (WritingPages w) k area → 1 ≤ c.segment → c.segment ≤ g.segments → k + 1 ≡ g.nodes + c.segment → length (a.now area) ≡ 2 * 272 * g.pages
 segment-room a g w c k area fits some known here =

@@ -3,15 +3,15 @@ use Rattle.std.proofs.Common.{◌≡◌, ◌⊎◌, ℕ, zero, suc, ◌<◌, ◌
 use Rattle.std.specs.Prelude.{slice_get, option_map}
 use Rattle.std.proofs.lemmas.Bool.{cases_lt}
 use Rattle.std.proofs.lemmas.List.{length-append, length-map, length-replicate}
-use Rattle.std.proofs.lemmas.Option.{none-some, slice_get-map, slice_get_past}
+use Rattle.std.proofs.lemmas.Option.{none-some, same_Some, slice_get-map, slice_get_past}
 use Rattle.lc_disk.specs.Area.{IsClean}
 use Rattle.lc_disk.specs.MemArea.{memory_dirty, memory_now}
 use Rattle.lc_disk.specs.contracts.mem_area.MemAreaArea.TheImpl.{ghosts}
 use Rattle.lc_disk.specs.declared.mem_area.MemArea.{MemArea}
 use Rattle.lc_record.specs.declared.geometry.Geometry.{Geometry}
+use Rattle.lc_record.proofs.ListLemmas.{slice_get_some as some_at}
 use Rattle.lc_recover.specs.Reads.{AreZeros, HaveLengths, area_count, area_len}
-use Rattle.lc_recover.proofs.Images.{get-some, len-none, len-some}
-use Rattle.lc_recover.proofs.AreaLemmas.{one_item}
+use Rattle.lc_recover.proofs.Images.{len-none, len-some}
 
 -- an area of zeros, as long as the geometry has it at this place
 abbrev IsMade : Geometry → ℕ → MemArea → Type 0
@@ -25,7 +25,7 @@ pub none_made : (g : Geometry) → AreMade g []
 none_made g = record { each = λ k area there. absurd cc; few = omega arith }
 
 get_pushed : {A : Type 0} (xs : List A) (y : A) (k : ℕ) (x : A) → slice_get (xs ++ y ∷ []) k ≡ Some x → (slice_get xs k ≡ Some x) ⊎ ((k ≡ length xs) × (y ≡ x))
-get_pushed [] y zero x is = inr (refl, one_item y x is)
+get_pushed [] y zero x is = inr (refl, same_Some y x is)
 get_pushed [] y (suc k) x is = absurd cc
 get_pushed (z ∷ zs) y zero x is = inl is
 get_pushed (z ∷ zs) y (suc k) x is = elim (get_pushed zs y k x is) [
@@ -56,7 +56,7 @@ one_made g areas area n made len bytes clean =
 pub all_lengths : (g : Geometry) (areas : List MemArea) → AreMade g areas → area_len g (length areas) ≡ None → HaveLengths ghosts g areas
 all_lengths g areas made none k = elim (cases_lt k (length areas)) [
   | inl below ↦
-      (let one = get-some areas k below in
+      (let one = some_at areas k below in
       slice_get-map (λ d. length (memory_now d)) areas k ∙ ap (option_map (λ (d : MemArea). length (memory_now d))) one.1 ∙ sym (made.each k one.0 one.1).0)
   | inr above ↦
       (let all : area_count g ≤ length areas = (elim (cases_lt (length areas) (area_count g)) [

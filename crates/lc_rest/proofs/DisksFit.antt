@@ -2,7 +2,6 @@
 use Rattle.std.proofs.Common.{◌≡◌, ℕ, ◌+◌, ◌-◌, ◌*◌, ◌≤◌, List, [], ◌∷◌, ◌++◌, map, filter, length, take, drop, replicate, All, refl, sym, ◌∙◌, ap, subst, arith, inl, inr, true≢false}
 use Rattle.std.specs.Prelude.{max, slice_index_or}
 use Rattle.std.proofs.lemmas.List.{map-append, take_at}
-use Rattle.lc_model.proofs.Lists.{All-left}
 use Rattle.std.proofs.lemmas.List.Elements.{All-nil, All-cons, All-head, All-tail, All-take, All-filter, filter-append}
 use Rattle.lc_record.specs.Content.{Content, segment_of}
 use Rattle.lc_record.specs.Geometry.{segment_len}
@@ -11,6 +10,7 @@ use Rattle.lc_record.specs.Recorded.{records_from}
 use Rattle.lc_record.specs.Transaction.{Transaction, IsWellFormed, effect, effects}
 use Rattle.lc_record.specs.declared.geometry.Geometry.{Geometry}
 use Rattle.lc_record.specs.declared.record.Record.{Record}
+use Rattle.lc_record.proofs.ListLemmas.{All-append_left as All-left}
 use Rattle.lc_model.specs.Merge.{Page}
 use Rattle.lc_model.specs.Merging.{counted_all, is_from, put_on, sets}
 use Rattle.lc_model.specs.State.{Place}

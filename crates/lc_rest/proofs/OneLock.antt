@@ -1,5 +1,5 @@
 -- The locks of the transaction that a record stands for are the record's.
-use Rattle.std.proofs.Common.{◌≡◌, ◌≢◌, ℕ, ◌+◌, ◌<◌, ◌≤◌, Bool, true, false, ◌||◌, ◌==◌, List, [], ◌∷◌, map, All, refl, sym, ◌∙◌, ap, arith, inl, inr, true≢false, eqb-true, eq-eqb}
+use Rattle.std.proofs.Common.{◌≡◌, ◌≢◌, ℕ, ◌+◌, ◌<◌, ◌≤◌, true, false, ◌||◌, ◌==◌, List, [], ◌∷◌, map, All, refl, sym, ◌∙◌, ap, arith, inl, inr, true≢false, eqb-true, eq-eqb}
 use Rattle.std.proofs.lemmas.Bool.{or_cases, or_right}
 use Rattle.std.specs.Prelude.{if◌then◌else◌}
 use Rattle.std.proofs.lemmas.List.Elements.{All-nil, All-cons, All-head, All-tail}
@@ -9,6 +9,7 @@ use Rattle.lc_record.specs.declared.geometry.Geometry.{Geometry}
 use Rattle.lc_record.specs.declared.record.Lock.{Lock}
 use Rattle.lc_record.specs.declared.record.RangeData.{RangeData}
 use Rattle.lc_record.specs.declared.record.Record.{Record}
+use Rattle.lc_record.proofs.ListLemmas.{same_Bool as same-bool, or_again as or-same}
 use Rattle.lc_range.specs.RangeSet.{LiesBefore, IsCanonical as AreRuns}
 use Rattle.lc_range.specs.declared.range.Range.{Range}
 use Rattle.lc_tx.specs.Prepared.{segments_of, with_number}
@@ -18,10 +19,6 @@ use Rattle.lc_rest.proofs.OneRecord.{run_of}
 
 abbrev Rises : List ℕ → Type 0
 Rises xs = Chain (λ a b. a < b) xs
-
-or-same : (a b : Bool) → (a || (a || b)) ≡ (a || b)
-or-same true b = refl
-or-same false b = refl
 
 member-with : (k n : ℕ) (xs : List ℕ) → is_member k (with_number n xs) ≡ ((n == k) || is_member k xs)
 member-with k n [] = refl
@@ -95,12 +92,6 @@ member-write s (l ∷ ranges) is = elim (or_cases (l.segment == s) (is_member s 
   | inl same ↦ inl (eqb-true l.segment s same)
   | inr later ↦ inr (member-write s ranges later)
 ]
-
-pub same-bool : (a b : Bool) → (a ≡ true → b ≡ true) → (b ≡ true → a ≡ true) → a ≡ b
-same-bool true true one two = refl
-same-bool true false one two = sym (one refl)
-same-bool false true one two = two refl
-same-bool false false one two = refl
 
 pub member-inside : (g : Geometry) (ranges : List RangeData) → All (IsInside g) ranges → (s : ℕ) → is_member s (map (λ (l : RangeData). l.segment) ranges) ≡ true → (1 ≤ s) × (s ≤ g.segments)
 member-inside g [] all s is = absurd (true≢false (sym is))

@@ -1,5 +1,5 @@
 -- The record of the transaction that a record stands for is that record.
-use Rattle.std.proofs.Common.{◌≡◌, ◌⊎◌, ℕ, zero, suc, ◌+◌, ◌<◌, ◌≤◌, Bool, true, false, ◌&&◌, ◌==◌, List, [], ◌∷◌, map, length, take, drop, Option, Some, None, All, refl, sym, ◌∙◌, ap, subst, arith, inl, inr, true≢false, eqb-true, eq-eqb}
+use Rattle.std.proofs.Common.{◌≡◌, ℕ, zero, suc, ◌+◌, ◌<◌, ◌≤◌, Bool, true, false, ◌==◌, List, [], ◌∷◌, map, length, take, drop, Option, Some, None, All, refl, sym, ◌∙◌, ap, subst, arith, inl, inr, true≢false, eqb-true, eq-eqb}
 use Rattle.std.specs.Prelude.{◌↔◌, if◌then◌else◌, slice_get, is_some}
 use Rattle.std.specs.Option.{option_or}
 use Rattle.std.proofs.lemmas.List.Elements.{All-nil, All-cons, All-head, All-tail}
@@ -12,9 +12,12 @@ use Rattle.lc_record.specs.Transaction.{all_set, writes_on}
 use Rattle.lc_record.specs.Recorded.{laid}
 use Rattle.lc_record.specs.declared.geometry.Geometry.{Geometry}
 use Rattle.lc_record.specs.declared.record.RangeData.{RangeData}
-use Rattle.lc_record.proofs.PuttingLemmas.{at_drop}
 use Rattle.lc_record.proofs.ViewLemmas.{get_taken}
+use Rattle.lc_record.proofs.ListLemmas.{option_or-some as or-first, slice_get-drop as at_drop, option_or_right as some-or, option_or_cases as or-some, none_from_not_some as none-of}
+use Rattle.lc_record.proofs.PuttingLemmas.{byte_from-some as from-some, byte_from-known as some-from}
 use Rattle.std.proofs.lemmas.Option.{slice_get_past}
+use Rattle.std.proofs.lemmas.Bool.{cases_lt as nat_cases}
+use Rattle.std.proofs.Math.Bool.{and-true}
 use Rattle.lc_model.proofs.Bytes.{over_byte, byte-laid, same-items}
 use Rattle.lc_model.specs.Merging.{byte_at}
 use Rattle.lc_tx.proofs.DataLemmas.{data_in}
@@ -35,20 +38,6 @@ run_of range = record { segment = range.segment; offset = range.offset; len = le
 
 -- Which places a range has a byte for
 
-from-some : (offset : ℕ) (bytes : List ℕ) (place : ℕ) → offset ≤ place → place < offset + length bytes → is_some (byte_from offset bytes place) ≡ true
-from-some zero [] place low high = absurd (omega (arith, high))
-from-some zero (b ∷ bytes) zero low high = refl
-from-some zero (b ∷ bytes) (suc place) low high = from-some zero bytes place (omega arith) (omega (arith, high))
-from-some (suc offset) bytes zero low high = absurd (omega (arith, low))
-from-some (suc offset) bytes (suc place) low high = from-some offset bytes place (omega (arith, low)) (omega (arith, high))
-
-some-from : (offset : ℕ) (bytes : List ℕ) (place : ℕ) → is_some (byte_from offset bytes place) ≡ true → (offset ≤ place) × (place < offset + length bytes)
-some-from zero [] place some = absurd (true≢false (sym some))
-some-from zero (b ∷ bytes) zero some = (omega arith, omega arith)
-some-from zero (b ∷ bytes) (suc place) some = let is : (0 ≤ place) × (place < 0 + length bytes) = some-from zero bytes place some in (omega arith, omega (arith, is.1))
-some-from (suc offset) bytes zero some = absurd (true≢false (sym some))
-some-from (suc offset) bytes (suc place) some = let is : (offset ≤ place) × (place < offset + length bytes) = some-from offset bytes place some in (omega (arith, is.0), omega (arith, is.1))
-
 in-some : (segment place : ℕ) (range : RangeData) → HasPosition (run_of range) segment place → is_some (byte_in segment place range) ≡ true
 in-some segment place range has = rw (eq-eqb range.segment segment (sym has.0)) (from-some range.offset range.bytes place has.1 has.2)
 
@@ -58,18 +47,6 @@ some-in segment place range some =
       | true ↦ λ e is. let place_is : (range.offset ≤ place) × (place < range.offset + length range.bytes) = some-from range.offset range.bytes place is in (sym (eqb-true range.segment segment e), place_is.0, place_is.1)
       | false ↦ λ e is. absurd (true≢false (sym is))
     ] refl some
-
-or-some : (x y : Option ℕ) → is_some (option_or x y) ≡ true → (is_some x ≡ true) ⊎ (is_some y ≡ true)
-or-some None y some = inr some
-or-some (Some n) y some = inl refl
-
-some-or : (x y : Option ℕ) → is_some y ≡ true → is_some (option_or x y) ≡ true
-some-or None y some = some
-some-or (Some n) y some = refl
-
-or-first : (x y : Option ℕ) → is_some x ≡ true → option_or x y ≡ x
-or-first None y some = absurd (true≢false (sym some))
-or-first (Some n) y some = refl
 
 pub has-byte : (ranges : List RangeData) (segment place : ℕ) → Has (map run_of ranges) segment place → is_some (byte_of segment place ranges) ≡ true
 has-byte [] segment place has = absurd has
@@ -86,10 +63,6 @@ byte-has (range ∷ ranges) segment place some = elim (or-some (byte_of segment 
 ]
 
 -- The marks
-
-and-true : (b : Bool) → (b && true) ≡ b
-and-true true = refl
-and-true false = refl
 
 counted-set : (f : ℕ → Bool) (from n k : ℕ) → k < n → all_set k 1 (map f (counting from n)) ≡ f (from + k)
 counted-set f from zero k less = absurd (omega (arith, less))
@@ -120,9 +93,6 @@ part-past f from (suc n) (suc i) less = part-past f (from + 1) n i (omega (arith
 part-none : {A : Type 0} (f : ℕ → List A) (from n : ℕ) → segment_of 0 (map f (counting from n)) ≡ []
 part-none f from zero = refl
 part-none f from (suc n) = refl
-
-nat_cases : (i n : ℕ) → (i < n) ⊎ (n ≤ i)
-nat_cases i n = grind arith
 
 one_more : (i : ℕ) → 1 + i ≡ suc i
 one_more i = omega arith
@@ -213,10 +183,6 @@ none-behind a (b ∷ ranges) k less before has = elim has [
   ]
   | inr later ↦ none-behind a ranges k less before.1 later
 ]
-
-none-of : (x : Option ℕ) → (is_some x ≡ true → ⊥) → x ≡ None
-none-of None none = refl
-none-of (Some n) none = absurd (none refl)
 
 from-own : (offset : ℕ) (bytes : List ℕ) (k : ℕ) → byte_from offset bytes (offset + k) ≡ slice_get bytes k
 from-own zero bytes k = ap (byte_from 0 bytes) (zero-more k)

@@ -10,7 +10,7 @@ use Rattle.lc_rest.specs.Turns.{has_lock}
 
 -- Logs
 
-count-behind : (counts : List ℕ) (i : ℕ) → slice_index_or (drop 1 counts) i 0 ≡ slice_index_or counts (suc i) 0
+pub count-behind : (counts : List ℕ) (i : ℕ) → slice_index_or (drop 1 counts) i 0 ≡ slice_index_or counts (suc i) 0
 count-behind [] i = refl
 count-behind (count ∷ counts) i = refl
 

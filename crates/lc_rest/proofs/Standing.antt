@@ -16,6 +16,7 @@ use Rattle.lc_record.specs.declared.geometry.Geometry.{Geometry}
 use Rattle.lc_record.specs.declared.record.Lock.{Lock}
 use Rattle.lc_record.specs.declared.record.RangeData.{RangeData}
 use Rattle.lc_record.specs.declared.record.Record.{Record}
+use Rattle.lc_record.proofs.ListLemmas.{length-counting, true_from_or-false as no-reading}
 use Rattle.lc_range.specs.RangeSet.{Has, IsCanonical as AreRuns}
 use Rattle.lc_range.specs.declared.range.Range.{Range}
 use Rattle.lc_model.specs.Sound.{IsProper}
@@ -40,10 +41,6 @@ pub marks-are : (g : Geometry) (r : Record) → IsTaken g r → map run_of r.ran
 marks-are g r taken = set_is_runs (map run_of r.ranges) (marks_of g r.ranges) (runs-are g r taken) (marks-has g r.ranges taken.inside)
 
 -- the shape of the marks
-
-length-counting : (from n : ℕ) → length (counting from n) ≡ n
-length-counting from zero = refl
-length-counting from (suc n) = ap suc (length-counting (from + 1) n)
 
 rows : (f : ℕ → List Bool) (k from n : ℕ) → ((segment : ℕ) → length (f segment) ≡ k) → map length (map f (counting from n)) ≡ replicate n k
 rows f k from zero long = refl
@@ -130,10 +127,6 @@ well-own g r taken = record {
 
 pub count-own : (g : Geometry) (r : Record) → IsTaken g r → count_ranges (marks_of g r.ranges) ≡ length r.ranges
 count-own g r taken = sym (count_all 1 (marks_of g r.ranges)) ∙ ap length (sym (marks-are g r taken)) ∙ length-map r.ranges run_of
-
-no-reading : (a : Bool) → (a || false) ≡ true → a ≡ true
-no-reading true is = refl
-no-reading false is = absurd (true≢false (sym is))
 
 pub proper-own : (g : Geometry) (r : Record) → IsTaken g r → r.node < g.nodes → 0 < g.threads → IsProper g (transaction_of g r)
 proper-own g r taken node threads = record {

@@ -1,5 +1,5 @@
 -- What one pass over the records tests is what is asked of their transactions.
-use Rattle.std.proofs.Common.{◌≡◌, ◌⊎◌, ℕ, suc, Bool, true, false, ◌||◌, ◌==◌, List, [], ◌∷◌, ◌++◌, filter, length, All, AllPairs, refl, sym, ◌∙◌, ap, subst, inl, inr, true≢false}
+use Rattle.std.proofs.Common.{◌≡◌, ◌⊎◌, ℕ, suc, true, false, ◌==◌, List, [], ◌∷◌, ◌++◌, filter, length, All, AllPairs, refl, sym, ◌∙◌, ap, subst, inl, inr, true≢false}
 use Rattle.std.specs.Prelude.{nat_lt, if◌then◌else◌}
 use Rattle.std.proofs.lemmas.Bool.{ltb-true, lt-ltb}
 use Rattle.std.proofs.lemmas.List.{map-append}
@@ -9,6 +9,7 @@ use Rattle.lc_record.specs.Transaction.{Transaction, Meet, holds}
 use Rattle.lc_record.specs.declared.geometry.Geometry.{Geometry}
 use Rattle.lc_record.specs.declared.record.Record.{Record}
 use Rattle.lc_record.proofs.LockLemmas.{meet_holds}
+use Rattle.lc_record.proofs.ListLemmas.{true_from_or-false as or-none}
 use Rattle.lc_model.specs.History.{Numbered, numbered, numbered_after, is_of}
 use Rattle.lc_model.specs.Merging.{is_from}
 use Rattle.lc_model.specs.Sound.{IsAcked, IsHereOrAcked}
@@ -18,10 +19,6 @@ use Rattle.lc_rest.specs.Adopted.{transaction_of, history_of, count_from}
 use Rattle.lc_rest.specs.Turns.{Turn, turns_of, has_lock, IsAtHome, Bars, AreBehind}
 use Rattle.lc_rest.proofs.Standing.{transactions_of}
 use Rattle.lc_rest.proofs.SoundState.{transactions-are}
-
-or-none : (a : Bool) → (a || false) ≡ true → a ≡ true
-or-none true is = refl
-or-none false is = absurd (true≢false (sym is))
 
 -- the number of a transaction within its node is that of its record
 pub count-same : (g : Geometry) (node : ℕ) (rs : List Record) → length (filter (is_of node) (transactions_of g rs)) ≡ count_from node rs

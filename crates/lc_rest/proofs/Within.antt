@@ -9,6 +9,7 @@ use Rattle.lc_record.specs.Transaction.{Transaction, all_set}
 use Rattle.lc_record.specs.declared.geometry.Geometry.{Geometry}
 use Rattle.lc_record.specs.declared.record.RangeData.{RangeData}
 use Rattle.lc_record.specs.declared.record.Record.{Record}
+use Rattle.lc_record.proofs.ListLemmas.{same_Bool as same-bool}
 use Rattle.lc_range.specs.RangeSet.{Has}
 use Rattle.lc_model.specs.History.{Cut, Numbered, numbered_after, is_of, is_kept, kept}
 use Rattle.lc_model.specs.Merge.{Page}
@@ -21,7 +22,7 @@ use Rattle.lc_model.proofs.Shown.{get-acked}
 use Rattle.lc_rest.specs.Adopted.{transaction_of, marks_of, history_of, state_of, disks_of, count_from, IsTaken}
 use Rattle.lc_rest.specs.Turns.{Turn, turns_of, has_lock, stable_on}
 use Rattle.lc_rest.proofs.OneRecord.{run_of, marks-has}
-use Rattle.lc_rest.proofs.OneLock.{member-lock, same-bool}
+use Rattle.lc_rest.proofs.OneLock.{member-lock}
 use Rattle.lc_rest.proofs.Standing.{transactions_of, has-writes, range-locks, some-bytes}
 use Rattle.lc_rest.proofs.SoundState.{transactions-are}
 use Rattle.lc_rest.proofs.Turned.{count-same}

@@ -1,18 +1,12 @@
 -- The last of a seat's closed records.
-use Rattle.std.proofs.Common.{◌≡◌, ◌⊎◌, ℕ, zero, suc, ◌+◌, ◌*◌, ◌<◌, ◌≤◌, cond, eqb, nat_lt, Bool, true, false, List, [], ◌∷◌, ◌++◌, length, sym, refl, ap, ◌∙◌, subst, inl, inr, ⊎_elim, arith}
+use Rattle.std.proofs.Common.{◌≡◌, ◌⊎◌, zero, suc, ◌+◌, ◌*◌, ◌<◌, ◌≤◌, cond, eqb, nat_lt, Bool, true, false, List, [], ◌∷◌, ◌++◌, length, sym, refl, ap, ◌∙◌, subst, ⊎_elim, arith}
 use mathlib.Core.Logic.{dite}
 use native.Mathlib.Decide.{dec_le}
-use Rattle.std.proofs.lemmas.Bool.{lt-ltb, le-ltb}
+use Rattle.std.proofs.lemmas.Bool.{cases_Bool as closed_or, lt-ltb as is_less, le-ltb as not_less}
 use Rattle.lc_stage.specs.declared.view.Reservation.{Reservation}
 use Rattle.lc_stage.specs.declared.receipt.Receipt.{Receipt}
 use Rattle.lc_stage.specs.Staging.{Owns, rank, later, latest, reservation}
 use Rattle.lc_stage.specs.Receipts.{rank_in, IsReceiptOf}
-
-is_less : (m n : ℕ) → m < n → nat_lt m n ≡ true
-is_less m n l = lt-ltb m n l
-
-not_less : (m n : ℕ) → n ≤ m → nat_lt m n ≡ false
-not_less m n l = le-ltb m n l
 
 pub later_first : (q r : Reservation) → rank r < rank q → later q r ≡ q
 later_first q r l = ap (λ (b : Bool). cond b q r) (is_less (rank r) (rank q) l)
@@ -34,10 +28,6 @@ of_closed r rs e = ap (λ (b : Bool). cond b (later r (latest rs)) (latest rs)) 
 
 of_open : (r : Reservation) (rs : List Reservation) → r.closed ≡ false → latest (r ∷ rs) ≡ latest rs
 of_open r rs e = ap (λ (b : Bool). cond b (later r (latest rs)) (latest rs)) e
-
-closed_or : (b : Bool) → (b ≡ true) ⊎ (b ≡ false)
-closed_or true = inl refl
-closed_or false = inr refl
 
 -- that of two seats together is the later of theirs
 pub latest_append : (xs ys : List Reservation) → latest (xs ++ ys) ≡ later (latest xs) (latest ys)

@@ -1,5 +1,5 @@
 -- The flusher's steps keep the rule of the stage.
-use Rattle.std.proofs.Common.{◌≡◌, ◌≢◌, ◌⊎◌, ℕ, ◌+◌, ◌-◌, ◌/◌, ◌^◌, ◌<◌, ◌≤◌, Bool, true, false, List, [], ◌∷◌, ◌++◌, length, get_or, set, sym, refl, ap, ◌∙◌, subst, inl, inr, ⊎_elim, arith, le_refl, length-set, length-append, get_or-set_other, get_or-set_same}
+use Rattle.std.proofs.Common.{◌≡◌, ◌≢◌, ℕ, ◌+◌, ◌-◌, ◌/◌, ◌^◌, ◌<◌, ◌≤◌, true, false, List, [], ◌∷◌, ◌++◌, length, get_or, set, sym, refl, ap, ◌∙◌, subst, inl, inr, ⊎_elim, arith, le_refl, length-set, length-append, get_or-set_other, get_or-set_same}
 use mathlib.Core.Logic.{dite}
 use mathlib.Core.Option.{none, some}
 use native.Mathlib.Decide.{ℕ_discrete, dec_le}
@@ -14,13 +14,10 @@ use Rattle.lc_stage.specs.Staging.{row, word_of, place_in, below, covered, end_o
 use Rattle.lc_stage.proofs.Records.{header_tells, header_not_zero}
 use Rattle.std.proofs.Math.ListN.{take}
 use Rattle.std.proofs.lemmas.List.{take_at, take-append-le}
+use Rattle.std.proofs.lemmas.Bool.{cases_Bool as open_or_closed}
 use Rattle.lc_stage.proofs.Calls.{one_more}
 use Rattle.lc_stage.proofs.Counting.{lies_in, lies_of}
 use Rattle.lc_stage.proofs.Keeps.{St, M, tail, alone, ends_below, covers, SamePlaces, at_here, has_back, honest_back, ended_back, sound_kept, knows_more, rebuilt, quiet, loads}
-
-open_or_closed : (b : Bool) → (b ≡ true) ⊎ (b ≡ false)
-open_or_closed true = inl refl
-open_or_closed false = inr refl
 
 -- a word that is not 0, behind what was taken, is the header of a closed reservation of this round whose words stand there
 pub header_at : (room : ℕ) (s : St) → (rule : Staged room s) → (f : View) → get_elem? s.views 0 ≡ some f → length f.taken < room → get_or s.words (word_of room rule.round (length f.taken)) 0 ≢ 0 → f.cleared ≡ 0

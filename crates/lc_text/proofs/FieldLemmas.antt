@@ -1,6 +1,6 @@
 -- How many words the fields of a line take.
 use Rattle.std.proofs.Common.{◌≡◌, ℕ, ◌+◌, List, [], ◌∷◌, length, Option, Some, None, refl, ap, arith}
-use Rattle.std.specs.Prelude.{option_map, OnErr, Result, Ok, Err}
+use Rattle.std.specs.Prelude.{option_map}
 use Rattle.lc_text.specs.Line.{◌>>=◌, first, u16_of, u32_of, thread_of, spot_of}
 
 bound : {A B : Type 0} (o : Option A) (f : A → Option B) (y : B) → (o >>= f) ≡ Some y → (x : A) × (o ≡ Some x) × (f x ≡ Some y)
@@ -31,7 +31,3 @@ spot_len fields x e =
     let offset = bound (u32_of segment.0.1) _ x segment.2 in
     let same : x.1 ≡ offset.0.1 = cc in
     omega (arith, thread_len fields who.0 who.1, first_len _ who.0.1 segment.0 segment.1, first_len _ segment.0.1 offset.0 offset.1, ap (λ (l : List (List ℕ)). length l) same)
-
-pub on_err : {A E : Type 0} {P : Type 0} (r : Result A E) → P → OnErr r P
-on_err (Ok x) p = tt
-on_err (Err x) p = p

@@ -6,6 +6,7 @@ use Rattle.std.specs.Result.{OkIff, result_ok}
 use Rattle.std.proofs.lemmas.List.{drop_all}
 use Rattle.std.proofs.lemmas.Bool.{le-ltb, lt-ltb, ltb-false}
 use Rattle.std.proofs.lemmas.Bool.Decides.{nat_tests}
+use Rattle.std.proofs.Math.Bool.{and-false as and_false}
 use Rattle.lc_text.specs.Line.{is_digit, value_after, number_after, number_of}
 
 digit_yes : (b : ℕ) → 48 ≤ b → b ≤ 57 → is_digit b ≡ true
@@ -31,10 +32,6 @@ at_other limit n word i lt out =
 grows : (n : ℕ) (digits : List ℕ) → n ≤ value_after n digits
 grows n [] = omega arith
 grows n (digit ∷ digits) = omega (arith, grows (10 * n + (digit - 48)) digits)
-
-and_false : (b : Bool) → (b && false) ≡ false
-and_false true = refl
-and_false false = refl
 
 pub too_large : (limit n : ℕ) (digits : List ℕ) → limit ≤ n → number_after limit n digits ≡ None
 unfolding number_after

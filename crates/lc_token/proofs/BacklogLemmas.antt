@@ -4,6 +4,7 @@ use Rattle.std.specs.declared.alloc.AllocError.{AllocError}
 use Rattle.std.proofs.lemmas.Bool.{cond-true, cond-false, or_parts, leb-false, lt-leb, eq-eqb, ne_eqb, lt-ltb, le-ltb, cases_eq, cases_lt}
 use Rattle.std.proofs.lemmas.Bool.Decides.{nat_tests}
 use Rattle.lc_record.specs.declared.part.Part.{Part}
+use Rattle.lc_record.proofs.ListLemmas.{none_from_is_some as none_is}
 use Rattle.lc_token.specs.declared.received.Received.TheVariants.{Applied}
 use Rattle.lc_token.specs.Backlog.{Backlog, Ascends, AreDue, HandsOutKept, IsNext, PassesOn, TakesNext, above, advanced, counted, due_behind, due_of, forgetting, is_known, is_next, keeping, led_by, numbered, put, rest_of, run_of, without}
 
@@ -305,10 +306,6 @@ none_next a (p ∷ ps) up not = elim (cases_eq p.seq (a + 1)) [
 ]
 
 -- What is known
-
-none_is : {A : Type 0} (o : Option A) → is_some o ≡ false → o ≡ None
-none_is None e = refl
-none_is (Some x) e = absurd (cc)
 
 pub unknown : (b : Backlog) (n : ℕ) → is_known b n ≡ false → (b.applied < n) × (numbered n b.kept ≡ None)
 unknown b n e =

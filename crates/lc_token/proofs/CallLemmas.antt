@@ -2,6 +2,7 @@
 use Rattle.std.proofs.Common.{◌≡◌, ◌≢◌, ◌⊎◌, ℕ, zero, suc, ◌+◌, ◌<◌, ◌≤◌, true, false, leb, is_some, Option, Some, None, List, [], ◌∷◌, ◌++◌, length, get_or, Contains, refl, sym, ap, subst, ◌∙◌, inl, inr, arith, append_assoc, append-nil, length-append}
 use Rattle.std.proofs.lemmas.Bool.{cases_eq, leb-true, or_cases}
 use Rattle.lc_record.specs.declared.part.Part.{Part}
+use Rattle.lc_record.proofs.ListLemmas.{some_from_is_some as some_is}
 use Rattle.lc_token.specs.declared.received.Received.{Received}
 use Rattle.lc_token.specs.declared.received.Received.TheVariants.{Applied, HeldBack, Ignored}
 use Rattle.lc_token.specs.Backlog.{Backlog, AreDue, Receives, advanced, due_behind, fresh, is_known, numbered, put}
@@ -40,10 +41,6 @@ at_other n (q ∷ ps) p ne = elim (cases_eq q.seq n) [
 -- and is found where none had its number
 at_own : (ps : List Part) (p : Part) → numbered p.seq ps ≡ None → numbered p.seq (ps ++ p ∷ []) ≡ Some p
 at_own ps p none = numbered_behind p.seq ps (p ∷ []) none ∙ numbered_here p.seq p [] refl
-
-some_is : {A : Type 0} (o : Option A) → is_some o ≡ true → (x : A) × (o ≡ Some x)
-some_is None e = absurd (cc)
-some_is (Some x) e = (x, refl)
 
 module _ (a : ℕ) (got given : List Part) (b : Backlog) (agrees : Agrees a got given b) where
   none_next : numbered (b.applied + 1) got ≡ None

@@ -1,6 +1,7 @@
 -- Behind a flush or a reset that is not refused the store is up, and has the node, which is not halted.
 use Rattle.std.proofs.Common.{◌≡◌, ℕ, zero, suc, ◌+◌, ◌==◌, ◌&&◌, Bool, true, false, not, nat_lt, Option, Some, None, refl, sym, ap, subst, ◌∙◌, inl, inr, true≢false}
 use Rattle.std.specs.Prelude.{MatchBool, MatchOption}
+use Rattle.std.proofs.lemmas.Bool.{and_parts as and-both}
 use Rattle.lc_record.specs.declared.geometry.Geometry.{Geometry}
 use Rattle.lc_model.specs.History.{front}
 use Rattle.lc_model.specs.Machine.{FlushRow, Moves, OrHalts, Row, Step, may_reset}
@@ -12,7 +13,7 @@ use Rattle.lc_model.specs.declared.refusal.Refusal.{Refusal}
 use Rattle.lc_model.specs.declared.refusal.Refusal.TheVariants.{DeviceFault, Uncommitted}
 use Rattle.lc_model.specs.declared.reply.Reply.{Reply}
 use Rattle.lc_model.specs.declared.reply.Reply.TheVariants.{Acked, Nothing, Refused, Stepped}
-use Rattle.lc_model.proofs.Rows.{and-both, none_refused}
+use Rattle.lc_model.proofs.Rows.{none_refused}
 use Rattle.lc_core.specs.Numbers.{Numbers}
 use Rattle.lc_core.specs.Truncating.{ending, stopping}
 use Rattle.lc_tool.specs.Answers.{Answers}

@@ -4,6 +4,7 @@ use Rattle.std.specs.Option.{ForSome}
 use Rattle.std.specs.Prelude.{Result, Ok, Err, IfOk, MatchBool, is_some, if◌then◌else◌}
 use Rattle.lc_disk.specs.declared.area.Area.{Ghosts}
 use Rattle.lc_record.specs.declared.geometry.Geometry.{Geometry}
+use Rattle.lc_record.proofs.ListLemmas.{none_from_is_some as none_some, some_from_is_some as some_some}
 use Rattle.lc_model.specs.Refusals.{Named, are_known, is_node, named}
 use Rattle.lc_model.specs.declared.event.Event.{Event}
 use Rattle.lc_model.specs.declared.refusal.Refusal.{Refusal}
@@ -49,14 +50,6 @@ module _ {D : Type 0} (a : Ghosts D) where
   steps_keep old new event (Err e) outside at_once first same = tt
 
   -- The log of a node
-
-  none_some : {A : Type 0} (o : Option A) → is_some o ≡ false → o ≡ None
-  none_some None none = refl
-  none_some (Some x) none = absurd (true≢false none)
-
-  some_some : {A : Type 0} (o : Option A) → is_some o ≡ true → (x : A) × (o ≡ Some x)
-  some_some None is = absurd (true≢false (sym is))
-  some_some (Some x) is = (x, refl)
 
   -- be it read or not, the store lives on
   pub log_lives : {X Y : Type 0} (node : ℕ) (old new : Phase D a) (failed : Bool) → (log_area a old node ≡ None → X × ReadsNone a node old new)

@@ -1,7 +1,7 @@
 -- What the machine answers keeps to the geometry, and so does what a command prints.
 use Rattle.std.proofs.Common.{◌≡◌, ◌⊎◌, ◌∙◌, ℕ, zero, suc, ◌+◌, ◌<◌, ◌≤◌, ◌==◌, Bool, true, false, not, ◌&&◌, nat_lt, List, [], ◌∷◌, ◌++◌, Option, Some, None, refl, sym, ap, subst, arith, inl, inr, lt-ltb, true≢false}
 use Rattle.std.specs.Prelude.{IsTrue, MatchBool, MatchOption, nat_le}
-use Rattle.std.proofs.lemmas.Bool.{le-leb}
+use Rattle.std.proofs.lemmas.Bool.{le-leb, and_parts as and-both}
 use Rattle.lc_record.specs.Marks.{ascending, is_empty}
 use Rattle.lc_record.specs.Transaction.{Transaction}
 use Rattle.lc_record.specs.declared.geometry.Geometry.{Geometry}
@@ -15,7 +15,6 @@ use Rattle.lc_model.specs.declared.refusal.Refusal.{Refusal}
 use Rattle.lc_model.specs.declared.refusal.Refusal.TheVariants.{Busy, Down as IsDown, EmptyRange, Halted, Held, NoRange, NotHere, NotLocked, OutOfSegment, OutOfTurn, ReadOnly, TooManyRanges, Uncommitted, Unknown}
 use Rattle.lc_model.specs.declared.reply.Reply.{Reply}
 use Rattle.lc_model.specs.declared.reply.Reply.TheVariants.{Recovered, Refused}
-use Rattle.lc_model.proofs.Rows.{and-both}
 use Rattle.lc_core.specs.Geometries.{is_delivery}
 use Rattle.lc_core.specs.Lives.{AnswersDown, AnswersOne, AnswersUp, IsBorn, Life}
 use Rattle.lc_core.specs.Numbers.{Numbers}

@@ -1,5 +1,6 @@
 -- The recovery that comes before a script: where the store's areas read as one whose merge is refused, that refusal ends it.
-use Rattle.std.proofs.Common.{◌≡◌, ◌∙◌, ◌⊎◌, ℕ, ◌+◌, ◌≤◌, ◌<◌, List, map, refl, sym, ap, ap₂, subst, arith, inl, inr, eqb-true, eq-eqb, ltb-true, ltb-false, nat_lt, ◌==◌, Bool, true, false}
+use Rattle.std.proofs.Common.{◌≡◌, ◌∙◌, ◌⊎◌, ℕ, ◌+◌, ◌≤◌, ◌<◌, List, map, refl, sym, ap, ap₂, subst, arith, inl, inr, ltb-true, ltb-false, nat_lt, Bool, true, false}
+use Rattle.std.proofs.lemmas.Bool.{cases_eq as same_or_not}
 use Rattle.lc_disk.specs.declared.area.Area.{Ghosts}
 use Rattle.lc_record.specs.declared.geometry.Geometry.{Geometry}
 use Rattle.lc_model.specs.Merge.{MergeFault, Refuses, Store}
@@ -16,13 +17,6 @@ use Rattle.lc_tool.specs.Answers.{IsStepped}
 use Rattle.lc_look.specs.Refused.{merge_refusal}
 use Rattle.lc_tool.proofs.Fitting.{reads_same}
 use Rattle.lc_look.proofs.Refusals.{not_refused, same_refusal}
-
-same_or_not : (k n : ℕ) → (k ≡ n) ⊎ (k ≡ n → ⊥)
-same_or_not k n = go (k == n) refl
-  where
-    go : (b : Bool) → (k == n) ≡ b → (k ≡ n) ⊎ (k ≡ n → ⊥)
-    go true e = inl (eqb-true k n e)
-    go false e = inr (λ same. let bad : true ≡ false = sym (eq-eqb k n same) ∙ e in cc)
 
 less_or_same : (k n : ℕ) → k ≤ n → (k ≡ n → ⊥) → k < n
 less_or_same k n within other = go (nat_lt k n) refl

@@ -4,6 +4,7 @@ use Rattle.std.proofs.KnownBytes.{Appends-trans}
 use Rattle.std.proofs.lemmas.List.{length-take, take_all}
 use Rattle.std.specs.Prelude.{if◌then◌else◌, option_map}
 use Rattle.std.specs.Io.KnownBytes.{Appends, Keeps}
+use Rattle.std.proofs.Math.Bool.{or-false, or-true}
 use Rattle.lc_disk.specs.declared.area.Area.{Ghosts}
 use Rattle.lc_record.specs.declared.geometry.Geometry.{Geometry}
 use Rattle.lc_model.specs.State.{Setting, State}
@@ -49,14 +50,6 @@ fronted_kept a front old new line number held mid holds (Ends status) keeps leav
   leaves.0,
   λ m s x fits. let led = leaves.1 m s x fits in (led.0, led.1, then_keeps held mid holds (front number ++ led.0) led.2 keeps),
 )
-
-or-false : (b : Bool) → (b || false) ≡ b
-or-false true = refl
-or-false false = refl
-
-or-true : (b : Bool) → (b || true) ≡ true
-or-true true = refl
-or-true false = refl
 
 -- behind the text of a command that lets the script go on
 pub goes_on : (next : Rest) (refused : Bool) (verdict : Verdict) (was : Bool) (shown rest : List ℕ) (status : ℕ) → GoesBehind verdict was

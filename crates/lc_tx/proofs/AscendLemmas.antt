@@ -1,11 +1,11 @@
 -- Numbers as a set have one ascending list.
-use Rattle.std.proofs.Common.{◌≡◌, ◌≢◌, ◌⊎◌, ℕ, zero, suc, ◌+◌, ◌<◌, ◌≤◌, Bool, true, false, ◌||◌, ◌==◌, List, [], ◌∷◌, filter, refl, sym, ◌∙◌, ap, subst, arith, inl, inr, true≢false, eqb-true, eq-eqb, ne_eqb}
+use Rattle.std.proofs.Common.{◌≡◌, ◌⊎◌, ℕ, zero, suc, ◌+◌, ◌<◌, ◌≤◌, Bool, true, false, ◌||◌, ◌==◌, List, [], ◌∷◌, filter, refl, sym, ◌∙◌, ap, subst, arith, inl, inr, true≢false, eqb-true}
 use Rattle.std.specs.Prelude.{if◌then◌else◌, IsTrue}
-use Rattle.std.proofs.lemmas.Bool.{cases_order}
 use Rattle.lc_record.specs.Record.{Chain}
 use Rattle.lc_record.specs.Transaction.{is_member}
 use Rattle.lc_record.specs.Marks.{counting, ascending}
 use Rattle.lc_record.specs.declared.geometry.Geometry.{Geometry}
+use Rattle.lc_record.proofs.LockLemmas.{counted_from, is_counted, member_first}
 use Rattle.lc_tx.specs.Tx.{IsSetOf}
 
 abbrev Ascends : List ℕ → Type 0
@@ -29,9 +29,6 @@ not_behind x xs chain = elim (is_member x xs) as (λ b. is_member x xs ≡ b →
   | true ↦ λ e. absurd (let less : x < x = greater x xs x chain e in omega (arith, less))
   | false ↦ λ e. refl
 ] refl
-
-member_first : (x : ℕ) (xs : List ℕ) → is_member x (x ∷ xs) ≡ true
-member_first x xs = rw (eq-eqb x x refl) refl
 
 -- a member is the first, or greater
 first_or_greater : (x : ℕ) (xs : List ℕ) (n : ℕ) → Ascends (x ∷ xs) → is_member n (x ∷ xs) ≡ true → (n ≡ x) ⊎ (x < n)
@@ -70,44 +67,12 @@ chain_front : (x from : ℕ) (xs : List ℕ) → ((n : ℕ) → is_member n xs �
 chain_front x from [] least less chain = chain
 chain_front x from (y ∷ ys) least less chain = (let first : from ≤ y = least y (member_first y ys) in omega (arith, less, first), chain)
 
-counted_from : (p : ℕ → Bool) (from len n : ℕ) → is_member n (filter p (counting from len)) ≡ true → (from ≤ n) × (n < from + len) × (p n ≡ true)
-counted_from p from zero n member = absurd (true≢false (sym member))
-counted_from p from (suc len) n member =
-    let next : is_member n (filter p (counting (from + 1) len)) ≡ true → (from ≤ n) × (n < from + suc len) × (p n ≡ true) =
-    λ later. let are : (from + 1 ≤ n) × (n < from + 1 + len) × (p n ≡ true) = counted_from p (from + 1) len n later in (omega (arith, are.0), omega (arith, are.1), are.2) in
-    elim (p from) as (λ b. p from ≡ b → is_member n (if b then from ∷ filter p (counting (from + 1) len) else filter p (counting (from + 1) len)) ≡ true → (from ≤ n) × (n < from + suc len) × (p n ≡ true)) [
-      | true ↦ λ passes. elim (from == n) as (λ b. (from == n) ≡ b → (b || is_member n (filter p (counting (from + 1) len))) ≡ true → (from ≤ n) × (n < from + suc len) × (p n ≡ true)) [
-        | true ↦ λ e here. let same : from ≡ n = eqb-true from n e in (omega (arith, same), omega (arith, same), ap p (sym same) ∙ passes)
-        | false ↦ λ e later. next later
-      ] refl
-      | false ↦ λ fails. next
-    ] refl member
-
 ascends_counted : (p : ℕ → Bool) (from len : ℕ) → Ascends (filter p (counting from len))
 ascends_counted p from zero = tt
 ascends_counted p from (suc len) = elim (p from) as (λ b. Ascends (if b then from ∷ filter p (counting (from + 1) len) else filter p (counting (from + 1) len))) [
   | true ↦ chain_front from (from + 1) (filter p (counting (from + 1) len)) (λ n member. (counted_from p (from + 1) len n member).0) (omega arith) (ascends_counted p (from + 1) len)
   | false ↦ ascends_counted p (from + 1) len
 ]
-
-is_counted : (p : ℕ → Bool) (from len n : ℕ) → from ≤ n → n < from + len → p n ≡ true → is_member n (filter p (counting from len)) ≡ true
-is_counted p from zero n low high passes = absurd (omega (arith, low, high))
-is_counted p from (suc len) n low high passes =
-    elim (cases_order from n) [
-      | inl same ↦
-          let here : p from ≡ true = ap p same ∙ passes in
-          rw (here, eq-eqb from n same) refl
-      | inr either ↦ elim either [
-        | inl less ↦
-            let later : is_member n (filter p (counting (from + 1) len)) ≡ true = is_counted p (from + 1) len n (omega (arith, less)) (omega (arith, high)) passes in
-            let differ : from ≢ n = omega (arith, less) in
-            elim (p from) as (λ b. is_member n (if b then from ∷ filter p (counting (from + 1) len) else filter p (counting (from + 1) len)) ≡ true) [
-              | true ↦ rw (ne_eqb from n differ) later
-              | false ↦ later
-            ]
-        | inr more ↦ absurd (omega (arith, low, more))
-      ]
-    ]
 
 pub set_is_ascending : (g : Geometry) (segments set : List ℕ) → IsSetOf segments set → ((s : ℕ) → IsTrue (is_member s segments) → (1 ≤ s) × (s ≤ g.segments)) → set ≡ ascending g segments
 set_is_ascending g segments set is known =

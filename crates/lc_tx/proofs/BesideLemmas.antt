@@ -6,6 +6,7 @@ use Rattle.std.proofs.lemmas.List.{length-map}
 use Rattle.lc_record.specs.Content.{Content, put, on_segment, segment_of}
 use Rattle.lc_record.specs.Transaction.{Transaction, Written, is_member, writes_on}
 use Rattle.lc_record.proofs.SegmentLemmas.{segment_of-other, segment_of-same}
+use Rattle.lc_record.proofs.LockLemmas.{member_right as in_second}
 use Rattle.lc_range.specs.Undo.{kept, LiesBelow}
 use Rattle.lc_tx.specs.declared.images.Images.{Ghosts}
 use Rattle.lc_tx.specs.declared.image.Image.{Image as Picture}
@@ -17,7 +18,7 @@ use Rattle.lc_tx.specs.StandsFor.{StandsFor}
 use Rattle.lc_tx.proofs.HolderLemmas.{free_not_writer, free_reads_not, one_writer, others_read, still_read, writer_is_some, writer_reads_not}
 use Rattle.lc_tx.proofs.HoldsLemmas.{asked_reading, asked_writing, held_cases, locked_holds, reads_holds}
 use Rattle.lc_tx.proofs.ImagesLemmas.{here_along}
-use Rattle.lc_tx.proofs.MemberLemmas.{in_second, not_both, not_one}
+use Rattle.lc_tx.proofs.MemberLemmas.{not_both, not_one}
 
 written_same : (s : ℕ) (ws : List Written) (a b : Content) → segment_of s a ≡ segment_of s b → segment_of s (writes_on ws a) ≡ segment_of s (writes_on ws b)
 written_same s [] a b same = same

@@ -1,6 +1,8 @@
 -- Who holds a segment.
 use Rattle.std.proofs.Common.{◌≡◌, ◌≢◌, ℕ, Bool, true, false, not, ◌&&◌, ◌||◌, eqb, None, Some, refl, sym, ap, ◌∙◌}
 use Rattle.std.proofs.lemmas.Bool.{false≢true, eq-eqb, ne_eqb, or_left}
+use Rattle.std.proofs.Math.Bool.{and-false, or-true}
+use Rattle.lc_record.proofs.ListLemmas.{or_again}
 use Rattle.lc_tx.specs.Holders.{Joins, Leaves, reads, writer_of}
 use Rattle.lc_tx.specs.LockMode.{Takes}
 use Rattle.lc_tx.specs.declared.holders.Holders.{Holders}
@@ -36,11 +38,7 @@ free_not_writer holders thread is free = writer_is_some holders thread is (ap wr
 -- what its writer gives back is free
 pub free_of : (thread : ℕ) (old new : Holders) → old ≡ Writer thread → Leaves thread old new → new ≡ Free
 free_of thread old new is left =
-    who_is_free new left.no_writer (λ other. left.readers_are other ∙ ap (λ (b : Bool). not (eqb thread other) && b) (reads_of_writer old thread other is) ∙ none (not (eqb thread other)))
-  where
-    none : (b : Bool) → (b && false) ≡ false
-    none true = refl
-    none false = refl
+    who_is_free new left.no_writer (λ other. left.readers_are other ∙ ap (λ (b : Bool). not (eqb thread other) && b) (reads_of_writer old thread other is) ∙ and-false (not (eqb thread other)))
 
 -- the others still read
 pub others_read : (thread other : ℕ) (old new : Holders) → thread ≢ other → Leaves thread old new → reads old other ≡ true → reads new other ≡ true
@@ -49,11 +47,7 @@ others_read thread other old new differ left reader =
 
 -- so do those that read before
 pub still_read : (thread other : ℕ) (old new : Holders) → Joins thread old new → reads old other ≡ true → reads new other ≡ true
-still_read thread other old new joins reader = joins.readers_are other ∙ ap (λ (b : Bool). eqb thread other || b) reader ∙ all (eqb thread other)
-  where
-    all : (b : Bool) → (b || true) ≡ true
-    all true = refl
-    all false = refl
+still_read thread other old new joins reader = joins.readers_are other ∙ ap (λ (b : Bool). eqb thread other || b) reader ∙ or-true (eqb thread other)
 
 -- so does the one that joins them
 pub joined_reads : (thread other : ℕ) (old new : Holders) → other ≡ thread → Joins thread old new → reads new other ≡ true
@@ -65,12 +59,8 @@ pub takes_twice : (mode : LockMode) (thread : ℕ) (a b c : Holders) → Takes m
 takes_twice Exclusive thread a b c one two = two
 takes_twice Shared thread a b c one two = record {
   no_writer = two.no_writer;
-  readers_are = λ other. two.readers_are other ∙ ap (λ (x : Bool). eqb thread other || x) (one.readers_are other) ∙ twice (eqb thread other) (reads a other);
+  readers_are = λ other. two.readers_are other ∙ ap (λ (x : Bool). eqb thread other || x) (one.readers_are other) ∙ or_again (eqb thread other) (reads a other);
 }
-  where
-    twice : (x y : Bool) → (x || (x || y)) ≡ (x || y)
-    twice true y = refl
-    twice false y = refl
 
 pub leaves_twice : (thread : ℕ) (a b c : Holders) → Leaves thread a b → Leaves thread b c → Leaves thread a c
 leaves_twice thread a b c one two = record {

@@ -2,12 +2,10 @@
 use Rattle.std.proofs.Common.{◌≡◌, ◌⊎◌, ℕ, zero, suc, ◌<◌, Bool, true, false, not, ◌||◌, eqb, List, [], ◌∷◌, ◌++◌, length, take, get_or, refl, sym, ap, subst, ◌∙◌, inl, inr, arith}
 use Rattle.std.proofs.lemmas.Bool.{cases_Bool, false≢true, eqb-true, eq-eqb, ne_eqb, or_cases, or_from, or_left, or_right, false_from_ne_true}
 use Rattle.std.specs.Prelude.{if◌then◌else◌}
+use Rattle.std.proofs.Math.Bool.{or_assoc}
 use Rattle.lc_record.specs.Transaction.{is_member}
+use Rattle.lc_record.proofs.LockLemmas.{member_left, member_right as in_second}
 use Rattle.lc_tx.specs.Tx.{none_of}
-
-pub member_left : (n : ℕ) (xs ys : List ℕ) → is_member n xs ≡ true → is_member n (xs ++ ys) ≡ true
-member_left n [] ys e = absurd (false≢true e)
-member_left n (x ∷ xs) ys e = elim (or_cases (eqb x n) (is_member n xs) e) [ inl here ↦ or_left (eqb x n) _ here | inr later ↦ or_right (eqb x n) _ (member_left n xs ys later) ]
 
 pub member_last : (n : ℕ) (xs : List ℕ) → is_member n (xs ++ n ∷ []) ≡ true
 member_last n [] = or_left (eqb n n) false (eq-eqb n n refl)
@@ -49,24 +47,14 @@ member_take n (suc i) (x ∷ xs) e = elim (or_cases (eqb x n) (is_member n (take
 
 pub member_both : (n : ℕ) (xs ys : List ℕ) → is_member n (xs ++ ys) ≡ (is_member n xs || is_member n ys)
 member_both n [] ys = refl
-member_both n (x ∷ xs) ys = ap (λ (b : Bool). eqb x n || b) (member_both n xs ys) ∙ sym (or-assoc (eqb x n) (is_member n xs) (is_member n ys))
-  where
-    or-assoc : (a b c : Bool) → ((a || b) || c) ≡ (a || (b || c))
-    or-assoc true b c = refl
-    or-assoc false b c = refl
+member_both n (x ∷ xs) ys = ap (λ (b : Bool). eqb x n || b) (member_both n xs ys) ∙ sym (or_assoc (eqb x n) (is_member n xs) (is_member n ys))
 
 pub of_both : (n : ℕ) (xs ys : List ℕ) → is_member n (xs ++ ys) ≡ true → (is_member n xs ≡ true) ⊎ (is_member n ys ≡ true)
 of_both n xs ys e = or_cases (is_member n xs) (is_member n ys) (sym (member_both n xs ys) ∙ e)
 
-pub in_first : (n : ℕ) (xs ys : List ℕ) → is_member n xs ≡ true → is_member n (xs ++ ys) ≡ true
-in_first n xs ys e = member_left n xs ys e
-
-pub in_second : (n : ℕ) (xs ys : List ℕ) → is_member n ys ≡ true → is_member n (xs ++ ys) ≡ true
-in_second n xs ys e = member_both n xs ys ∙ or_right (is_member n xs) (is_member n ys) e
-
 pub neither : (n : ℕ) (xs ys : List ℕ) → is_member n (xs ++ ys) ≡ false → (is_member n xs ≡ false) × (is_member n ys ≡ false)
 neither n xs ys e = (
-  false_from_ne_true (is_member n xs) (λ is. false≢true (sym e ∙ in_first n xs ys is)),
+  false_from_ne_true (is_member n xs) (λ is. false≢true (sym e ∙ member_left n xs ys is)),
   false_from_ne_true (is_member n ys) (λ is. false≢true (sym e ∙ in_second n xs ys is)),
 )
 

@@ -3,6 +3,7 @@ use Rattle.std.proofs.Common.{◌≡◌, ℕ, zero, suc, ◌<◌, ◌≤◌, Boo
 use Rattle.std.proofs.lemmas.Bool.{cases_Bool, cases_eq, false≢true, eq-eqb, ne_eqb, or_left, or_right, or_cases}
 use Rattle.std.specs.Bool.{beq}
 use Rattle.std.specs.List.{list_any}
+use Rattle.std.proofs.Math.Bool.{or-false}
 use Rattle.lc_tx.specs.Readers.{some_reads}
 
 pub some_at : (xs : List Bool) (i : ℕ) → get_or xs i false ≡ true → some_reads xs ≡ true
@@ -70,8 +71,4 @@ set_some xs i within = some_at (set xs i true) i (set_true xs i i within ∙ or_
 
 -- one alone
 pub of_nobody : (i j : ℕ) → i < 16 → get_or (set (replicate 16 false) i true) j false ≡ eqb i j
-of_nobody i j within = set_true (replicate 16 false) i j within ∙ ap (λ (b : Bool). eqb i j || b) (none_at (replicate 16 false) refl j) ∙ none (eqb i j)
-  where
-    none : (b : Bool) → (b || false) ≡ b
-    none true = refl
-    none false = refl
+of_nobody i j within = set_true (replicate 16 false) i j within ∙ ap (λ (b : Bool). eqb i j || b) (none_at (replicate 16 false) refl j) ∙ or-false (eqb i j)

@@ -1,15 +1,15 @@
 -- The record of a transaction.
-use Rattle.std.proofs.Common.{◌≡◌, ℕ, zero, suc, ◌+◌, ◌-◌, ◌/◌, ◌^◌, ◌<◌, ◌≤◌, eqb, leb, List, [], ◌∷◌, length, map, take, drop, get_or, Option, Some, unwrap_or, refl, sym, ap, subst, ◌∙◌, inl, inr, arith}
+use Rattle.std.proofs.Common.{◌≡◌, ℕ, zero, suc, ◌+◌, ◌-◌, ◌^◌, ◌<◌, ◌≤◌, eqb, leb, List, [], ◌∷◌, length, map, take, drop, get_or, Option, Some, unwrap_or, refl, sym, ap, subst, ◌∙◌, inl, inr, arith}
 use Rattle.std.specs.Prelude.{◌↔◌}
 use Rattle.std.proofs.lemmas.Bool.{cond-true, cond-false, cases_eq, cases_Bool, cases_lt, eq-eqb, ne_eqb, leb-true, leb-false, lt-leb}
 use Rattle.std.proofs.lemmas.List.{length-map, length-drop, length-take-le}
+use Rattle.std.proofs.lemmas.Option.{same_Some}
 use Rattle.lc_range.specs.RangeSet.{Has, IsCanonical, EndWithin}
 use Rattle.lc_range.specs.declared.range.Range.{Range}
 use Rattle.lc_record.specs.Record.{spans_of, record_layout}
 use Rattle.lc_record.specs.Layout.{layout_of}
 use Rattle.lc_record.specs.declared.span.Span.{Span}
 use Rattle.lc_record.specs.declared.record.Lock.{Lock}
-use Rattle.lc_record.specs.declared.record.RangeData.{RangeData}
 use Rattle.lc_tx.specs.declared.images.Images.{Ghosts}
 use Rattle.lc_tx.specs.Images.{IsHere, bytes_of, IsSame}
 use Rattle.lc_tx.specs.Prepared.{segments_of, next_number, run_data, runs_record, IsFirstSpent, AreUnspent}
@@ -49,7 +49,7 @@ module _ {I : Type 0} (m : Ghosts I) where
       elim (cases_Bool (leb (2 ^ 60) n)) [
         | inl spent ↦
             let is : spent_in m images (run ∷ runs) ≡ Some run.segment = cond-true (leb (2 ^ 60) n) (Some run.segment) (spent_in m images runs) spent in (
-              λ e. inl (omega (arith, leb-true (2 ^ 60) n spent), same_some s run.segment (sym e ∙ is)),
+              λ e. inl (omega (arith, leb-true (2 ^ 60) n spent), same_Some s run.segment (sym e ∙ is)),
               λ f. elim f [ inl here ↦ is ∙ ap (λ (k : ℕ). Some k) (sym here.1) | inr after ↦ absurd (omega (arith, leb-true (2 ^ 60) n spent, after.0)) ],
             )
         | inr not ↦
@@ -59,9 +59,6 @@ module _ {I : Type 0} (m : Ghosts I) where
               λ f. elim f [ inl here ↦ absurd (omega (arith, low, here.0)) | inr after ↦ is ∙ (later low).1 after.1 ],
             )
       ]
-    where
-      same_some : (a b : ℕ) → Some a ≡ Some b → a ≡ b
-      same_some a b e = cc
 
   -- where this segment's number is not spent
   spent_others : (images : I) (last : ℕ) (runs : List Range) (s : ℕ) → Unspent images last → (spent_in m images runs ≡ Some s) ↔ IsFirstSpent (map (lock_of images) (others last runs)) s

@@ -6,18 +6,15 @@ use Rattle.std.specs.List.{list_any}
 use Rattle.std.specs.Prelude.{if◌then◌else◌}
 use Rattle.lc_record.specs.Record.{Chain}
 use Rattle.lc_record.specs.Transaction.{is_member}
+use Rattle.lc_record.proofs.LockLemmas.{member_left}
+use Rattle.lc_record.proofs.ListLemmas.{same_Bool as same_bool}
 use Rattle.lc_tx.specs.Prepared.{with_number}
 use Rattle.lc_tx.specs.Tx.{IsSetOf, none_of}
 use Rattle.lc_tx.specs.Walk.{with_in_order}
-use Rattle.lc_tx.proofs.MemberLemmas.{member_left, member_last, member_push}
+use Rattle.lc_tx.proofs.MemberLemmas.{member_last, member_push}
 
 abbrev Ascend : List ℕ → Type 0
 Ascend xs = Chain (λ a b. a < b) xs
-
-same_bool : (a b : Bool) → (a ≡ true → b ≡ true) → (b ≡ true → a ≡ true) → a ≡ b
-same_bool true b f g = sym (f refl)
-same_bool false true f g = g refl
-same_bool false false f g = refl
 
 -- a number before all of an ascending list
 before_number : (x n : ℕ) (xs : List ℕ) → x < n → Ascend (x ∷ xs) → Ascend (x ∷ with_in_order n xs)
@@ -74,6 +71,10 @@ set_more xs set next n is e = subst (λ (l : List ℕ). IsSetOf (xs ++ n ∷ [])
 pub any_is : (n : ℕ) (xs : List ℕ) → list_any (λ y. eqb y n) xs ≡ is_member n xs
 any_is n [] = refl
 any_is n (x ∷ xs) = ap (λ (b : Bool). eqb x n || b) (any_is n xs)
+
+-- what `contains` found in these
+pub any_found : (result told : Bool) (n : ℕ) (xs ys : List ℕ) → result ≡ list_any (λ y. eqb y n) xs → xs ≡ ys → result ≡ told → is_member n ys ≡ told
+any_found result told n xs ys is same e = sym (is ∙ any_is n xs ∙ ap (is_member n) same) ∙ e
 
 -- How many there are
 

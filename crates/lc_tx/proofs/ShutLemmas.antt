@@ -3,12 +3,13 @@ use Rattle.std.proofs.Common.{◌≡◌, ◌⊎◌, ℕ, ◌<◌, ◌≤◌, min
 use Rattle.std.specs.Prelude.{◌↔◌, None, Some}
 use Rattle.std.proofs.lemmas.Bool.{cases_lt, or_left, or_right}
 use Rattle.lc_record.specs.Transaction.{is_member}
+use Rattle.lc_record.proofs.LockLemmas.{member_left}
 use Rattle.lc_tx.specs.Images.{IsFirstTaken, IsLockable}
 use Rattle.lc_tx.specs.Locking.{CanLock, IsLeastShut, lesser}
 use Rattle.lc_tx.specs.declared.images.Images.{Ghosts}
 use Rattle.lc_tx.specs.declared.lock_mode.LockMode.{LockMode}
 use Rattle.lc_tx.specs.declared.lock_mode.LockMode.TheVariants.{Exclusive, Shared}
-use Rattle.lc_tx.proofs.MemberLemmas.{member_left, member_last, member_push}
+use Rattle.lc_tx.proofs.MemberLemmas.{member_last, member_push}
 
 module _ {I : Type 0} (m : Ghosts I) where
   pub shut_none : (mode : LockMode) (images : I) (xs : List ℕ) (x : ℕ) (first : Option ℕ) → IsLeastShut m mode images xs first → CanLock m mode images x → IsLeastShut m mode images (xs ++ x ∷ []) first

@@ -8,6 +8,8 @@ use Rattle.lc_record.specs.Transaction.{Transaction, Written, is_member, all_set
 use Rattle.lc_record.specs.Marks.{ranges, is_empty, marked, written}
 use Rattle.lc_record.specs.Recorded.{record_of, locks_of}
 use Rattle.lc_record.proofs.SegmentLemmas.{segment_of-other, segment_of-same, shape-on_segment, length-put, length-written_segment, all_set-put, well-marked, well-written}
+use Rattle.lc_record.proofs.LockLemmas.{member_left as in_first, member_right as in_second}
+use Rattle.lc_record.proofs.ListLemmas.{none_not_some as none_is_not_some}
 use Rattle.lc_range.specs.RangeSet.{Has, IsCanonical, AddsPositions, NeedsRunsAbove}
 use Rattle.lc_range.specs.Undo.{kept}
 use Rattle.lc_range.specs.declared.range.Range.{Range}
@@ -18,7 +20,7 @@ use Rattle.lc_tx.specs.Tx.{Locked, Reads, Holds, AreSet, RunsOn, Begins, SetsRan
 use Rattle.lc_tx.specs.Prepared.{final_record, next_number, segments_of}
 use Rattle.lc_tx.specs.StandsFor.{StandsFor, Show, AreNumbers, begun_on, unmarked}
 use Rattle.lc_tx.proofs.HoldsLemmas.{asked_reading, asked_writing, held_cases, held_here, locked_holds, read_apart, reads_holds}
-use Rattle.lc_tx.proofs.MemberLemmas.{in_first, in_second, member_both}
+use Rattle.lc_tx.proofs.MemberLemmas.{member_both}
 use Rattle.lc_tx.proofs.MarkLemmas.{runs_of, set_is_runs, count_all, canonical_all, has_positions}
 use Rattle.lc_tx.proofs.DataLemmas.{data_in, record_ranges, record_locks}
 
@@ -177,10 +179,6 @@ none_marked (suc (suc i)) k (bytes ∷ content) = none_marked (suc i) k content
 some_or_none : (o : Option ℕ) → ((b : ℕ) × (o ≡ Some b)) ⊎ (o ≡ None)
 some_or_none None = inr refl
 some_or_none (Some b) = inl (b, refl)
-
-none_is_not_some : (o : Option ℕ) → o ≡ None → IsSome o → ⊥
-none_is_not_some None none some = true≢false (sym some)
-none_is_not_some (Some b) none some = cc
 
 is_some_of : (o : Option ℕ) (b : ℕ) → o ≡ Some b → IsSome o
 is_some_of None b same = absurd cc

@@ -1,6 +1,6 @@
 -- Words with no fault name one of the subcommands, with a number in its range for each option of a size, and the word
 -- that the subcommand wants.
-use Rattle.std.proofs.Common.{◌≡◌, ◌<◌, ◌^◌, ◌||◌, ◌&&◌, ℕ, Bool, List, [], Option, Some, None, true, false, is_some, refl, sym, cond, inl, inr, codes, arith}
+use Rattle.std.proofs.Common.{◌≡◌, ◌<◌, ◌^◌, ◌&&◌, ℕ, Bool, List, [], Option, Some, None, true, false, is_some, refl, sym, cond, inl, inr, codes, arith}
 use Rattle.std.specs.List.{list_any, slice_index_or}
 use Rattle.std.specs.Option.{option_map, option_map_or}
 use Rattle.std.specs.Str.{bytes_eq}
@@ -13,6 +13,7 @@ use Rattle.clap.specs.Walk.{answers_to, arg_by_id, finished, nothing_held, rows_
 use Rattle.clap.specs.Words.{Row, Text, fault_of, subcommand_of}
 use Rattle.clap.specs.declared.builder.value_parser.ValueParser.{ValueParser}
 use Rattle.clap.specs.declared.builder.value_parser.ValueParser.TheVariants as vp
+use Rattle.lc_record.proofs.ListLemmas.{true_from_or-false as or_false}
 use Rattle.lc_words.specs.CommandLine.{HasNumberIn, HasSizeAt, HasWord, flag_rule, from_to, number_rule, option_rule, program_app, store_rule, word_rule}
 use Rattle.lc_words.proofs.OptionRows.{AllFit, AllHold, Fits, StopsElse, defaults_made, has_default, level_parts, needs_subcommand, nothing_missing, required_has_row, row_read, rows_hold, walk_stops}
 use Rattle.lc_words.proofs.OptionNumbers.{in_range}
@@ -333,10 +334,6 @@ pub data IsSubcommand (found : Option (Text × List Row)) : Type 0 where
   entered_dump : IsDump found → IsSubcommand found
   entered_draw : IsDraw found → IsSubcommand found
   entered_copy : IsCopy found → IsSubcommand found
-
-or_false : (b : Bool) → (b || false) ≡ true → b ≡ true
-or_false true e = refl
-or_false false e = e
 
 run_at : (words : List Text) → level_fault run [] nothing_held words false [] ≡ [] → IsRun (Some (rows_at run words))
 run_at words none = (

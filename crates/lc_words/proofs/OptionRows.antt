@@ -5,6 +5,7 @@ use Rattle.std.specs.List.{fold, list_all, list_any}
 use Rattle.std.specs.Option.{option_map_or}
 use Rattle.std.specs.Str.{bytes_eq, chars}
 use Rattle.std.proofs.lemmas.Slice.Eq.{bytes_eq-Decides}
+use Rattle.std.proofs.lemmas.Bool.{or_parts as neither, or_right}
 use Rattle.clap.specs.Lexer.{long_of, short_of}
 use Rattle.clap.specs.Takes.{is_given}
 use Rattle.clap.specs.Facts.{explicit_source, parser_of_value, unwrap_or_range}
@@ -501,10 +502,6 @@ module _ (taken : Text → ValueParser) where
 
 -- ---- every option has a row
 
-or_right : (a b : Bool) → b ≡ true → (a || b) ≡ true
-or_right true b e = refl
-or_right false b e = e
-
 more_kept : (id other : Text) (s : ValueSource) (vs : List Text) (missing rows : List Row) → has_row id rows ≡ true
     → has_row id (at_row other (more_values s vs) missing rows) ≡ true
 more_kept id other s vs missing [] has = cc
@@ -584,10 +581,6 @@ given_has_row id (r ∷ rs) given = go (bytes_eq r.id id) given (λ e. given_has
         → (is_given id rs ≡ true → has_row id rs ≡ true) → (b || has_row id rs) ≡ true
     go true e later = refl
     go false e later = later e
-
-neither : (a b : Bool) → (a || b) ≡ false → (a ≡ false) × (b ≡ false)
-neither true b e = cc
-neither false b e = (refl, e)
 
 pub required_has_row : (id : Text) (xs : List Rule) (rows : List Row) → list_any (λ a. bytes_eq a.id id && a.required) xs ≡ true
     → list_any (λ a. a.required && not (is_given a.id rows)) xs ≡ false → has_row id rows ≡ true

@@ -3,13 +3,13 @@ use Rattle.std.specs.Prelude.{slice_get, slice_index_or}
 use Rattle.std.proofs.lemmas.List.{drop-drop}
 use Rattle.std.proofs.lemmas.Option.{slice_get-get_or, slice_get_within}
 use Rattle.lc_token.specs.declared.token.Token.{Token}
+use Rattle.lc_record.proofs.ListLemmas.{slice_get_some as some_at, left_first as next_left, left_some as some_left_over, set_behind as behind_set}
 use Rattle.lc_core.specs.Pieces.{IsMadeNode, left_at, left_by}
 use Rattle.lc_core.specs.Places.{same_some}
 use Rattle.lc_core.specs.declared.node.Node.{Node}
 use Rattle.lc_core.specs.declared.node_piece.NodePiece.{NodePiece}
-use Rattle.lc_core.proofs.Furnishing.{behind_set, front_set}
-use Rattle.lc_core.proofs.Pieces.{left_first, left_next, made_of_all, next_left, some_left_over, tokens_left}
-use Rattle.lc_core.proofs.Seating.{some_at}
+use Rattle.lc_core.proofs.Furnishing.{front_set}
+use Rattle.lc_core.proofs.Pieces.{left_first, left_next, made_of_all, tokens_left}
 use Rattle.lc_core.proofs.adopting.adopt_nodes.Goals as goal
 
 pub loop-number-init : goal.loop-number-init

@@ -3,13 +3,13 @@ use Rattle.std.specs.Option.{ForSome}
 use Rattle.std.specs.Prelude.{slice_get, slice_index_or}
 use Rattle.std.proofs.lemmas.Option.{slice_get-get_or, slice_get_read, slice_get_within}
 use Rattle.lc_token.specs.declared.token.Token.{Token}
+use Rattle.lc_record.proofs.ListLemmas.{slice_get_some as some_at, set_behind as behind_set}
 use Rattle.lc_core.specs.Blank.{IsOfSegment}
 use Rattle.lc_core.specs.Pieces.{IsMadeSlot, IsTokenOf, left_at, standing_at}
 use Rattle.lc_core.specs.Places.{same_some}
 use Rattle.lc_core.specs.declared.segment_piece.SegmentPiece.{SegmentPiece}
-use Rattle.lc_core.proofs.Furnishing.{behind_set, each_set, front_set}
+use Rattle.lc_core.proofs.Furnishing.{each_set, front_set}
 use Rattle.lc_core.proofs.Pieces.{some_left}
-use Rattle.lc_core.proofs.Seating.{some_at}
 use Rattle.lc_core.proofs.adopting.adopt_slots.Goals as goal
 
 pub adopt-requires-clause-token : goal.adopt-requires-clause-token

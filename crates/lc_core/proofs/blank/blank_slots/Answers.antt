@@ -1,6 +1,7 @@
 use Rattle.std.proofs.Common.{◌≡◌, ◌+◌, length, ◌∷◌, ◌++◌, [], arith}
+use Rattle.lc_record.proofs.ListLemmas.{each_push as each_pushed}
 use Rattle.lc_core.specs.Blank.{IsOfSegment, StandsAt}
-use Rattle.lc_core.proofs.Furnishing.{each_pushed, each_same}
+use Rattle.lc_core.proofs.Furnishing.{each_same}
 use Rattle.lc_core.proofs.blank.blank_slots.Goals as goal
 
 pub loop-before-preserved : goal.loop-before-preserved

@@ -1,9 +1,10 @@
 use Rattle.std.proofs.Common.{◌≡◌, ◌+◌, ◌≤◌, ℕ, Some, sym, ◌∙◌, arith}
 use Rattle.std.specs.Prelude.{slice_get, slice_index_or}
 use Rattle.std.proofs.lemmas.Option.{slice_get-get_or, slice_get_within}
+use Rattle.lc_record.proofs.ListLemmas.{set_behind as behind_set}
 use Rattle.lc_core.specs.Blank.{IsOfSegment, StandAt}
 use Rattle.lc_core.specs.Fresh.{IsFreshSlot}
-use Rattle.lc_core.proofs.Furnishing.{each_set, front_set, behind_set}
+use Rattle.lc_core.proofs.Furnishing.{each_set, front_set}
 use Rattle.lc_core.proofs.filling.fill_slots.Goals as goal
 
 pub loop-place-preserved : goal.loop-place-preserved

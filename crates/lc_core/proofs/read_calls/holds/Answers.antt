@@ -1,13 +1,8 @@
-use Rattle.std.proofs.Common.{◌≡◌, ℕ, Bool, true, false, eqb, List, ◌||◌, sym, ap, ◌∙◌}
-use Rattle.std.specs.List.{list_any}
+use Rattle.std.proofs.Common.{true, false, ◌||◌, sym, ap, ◌∙◌}
 use Rattle.lc_record.specs.Transaction.{is_member}
 use Rattle.lc_tx.proofs.HoldsLemmas.{locked_holds}
-use Rattle.lc_tx.proofs.SetLemmas.{any_is}
+use Rattle.lc_tx.proofs.SetLemmas.{any_is, any_found as found}
 use Rattle.lc_core.proofs.read_calls.holds.Goals as goal
-
--- what `contains` found in these
-found : (result told : Bool) (n : ℕ) (xs ys : List ℕ) → result ≡ list_any (λ y. eqb y n) xs → xs ≡ ys → result ≡ told → is_member n ys ≡ told
-found result told n xs ys is same e = sym (is ∙ any_is n xs ∙ ap (is_member n) same) ∙ e
 
 pub returns-then-contains : goal.returns-then-contains
 returns-then-contains c =

@@ -1,13 +1,9 @@
 use Rattle.std.proofs.Common.{◌≡◌, length, ◌∙◌, arith}
-use Rattle.std.specs.Prelude.{OnOk, Result, Ok, Err}
 use Rattle.std.proofs.lemmas.List.{take_all}
+use Rattle.lc_recover.proofs.AreaLemmas.{on_ok}
 use Rattle.lc_core.specs.AsRead.{IsAsRead}
 use Rattle.lc_core.specs.Built.{IsSameArea}
 use Rattle.lc_core.proofs.reading_areas.fill.Goals as goal
-
-on_ok : {A E : Type 0} (r : Result A E) (P Q : Type 0) → OnOk r P → (P → Q) → OnOk r Q
-on_ok (Ok x) P Q p f = f p
-on_ok (Err e) P Q p f = p
 
 pub returns-clause-read : goal.returns-clause-read
 returns-clause-read g c =

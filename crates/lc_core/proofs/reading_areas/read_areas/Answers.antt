@@ -2,9 +2,10 @@ use Rattle.std.proofs.Common.{◌≡◌, ℕ, ◌<◌, ◌≤◌, Some, length, 
 use Rattle.std.specs.Prelude.{slice_get, slice_index_or, slice_set}
 use Rattle.std.specs.Global.{Vec}
 use Rattle.std.proofs.lemmas.Option.{slice_get-get_or, slice_get_within}
+use Rattle.lc_record.proofs.ListLemmas.{each_push as each_pushed, set_behind as behind_set}
 use Rattle.lc_core.specs.AsRead.{IsAsRead}
 use Rattle.lc_core.specs.Places.{get_set_other, get_set_same, same_some}
-use Rattle.lc_core.proofs.Furnishing.{behind_set, each_pushed, each_same}
+use Rattle.lc_core.proofs.Furnishing.{each_same}
 use Rattle.lc_core.proofs.reading_areas.read_areas.Goals as goal
 
 pub loop-area-preserved : goal.loop-area-preserved

@@ -3,8 +3,9 @@ use Rattle.std.specs.Prelude.{slice_get}
 use Rattle.std.specs.Global.{Vec}
 use Rattle.std.proofs.lemmas.Option.{slice_get-get_or}
 use Rattle.lc_rest.specs.Replay.{AreBytes}
+use Rattle.lc_record.proofs.ListLemmas.{each_push as each_pushed}
 use Rattle.lc_core.specs.Places.{same_some}
-use Rattle.lc_core.proofs.Furnishing.{each_pushed, each_same}
+use Rattle.lc_core.proofs.Furnishing.{each_same}
 use Rattle.lc_core.proofs.reading_areas.read_pages.Goals as goal
 
 pub loop-area-preserved : goal.loop-area-preserved

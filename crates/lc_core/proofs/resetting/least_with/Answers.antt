@@ -1,11 +1,11 @@
 use Rattle.std.proofs.Common.{◌≡◌, ◌-◌, ◌<◌, ◌++◌, ℕ, suc, List, length, drop, Option, Some, slice_get, sym, ap, ◌∙◌, arith}
 use Rattle.std.proofs.lemmas.Option.{none-some}
 use Rattle.lc_record.specs.declared.record.Lock.{Lock}
+use Rattle.lc_record.proofs.ListLemmas.{slice_get_some as some_at}
 use Rattle.lc_trunc.specs.KnownClean.{known as known_of}
 use Rattle.lc_trunc.specs.Reset.{above, lesser}
 use Rattle.lc_trunc.specs.declared.unclean.Unclean.{Unclean}
 use Rattle.lc_core.specs.Settled.{least_unclean}
-use Rattle.lc_core.proofs.Seating.{some_at}
 use Rattle.lc_core.proofs.Sealing.{drop_all, least_next}
 use Rattle.lc_core.proofs.resetting.least_with.Goals as goal
 

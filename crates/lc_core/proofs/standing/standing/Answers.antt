@@ -1,8 +1,8 @@
 use Rattle.std.proofs.Common.{◌≡◌, ◌<◌, Some, length, map, take, ap, ◌∙◌, arith}
 use Rattle.std.proofs.lemmas.List.{take_all}
 use Rattle.lc_token.specs.declared.token.Token.{Token}
-use Rattle.lc_core.proofs.Pieces.{some_left_over}
-use Rattle.lc_core.proofs.Removed.{mapped_next, next_removed, rest_removed}
+use Rattle.lc_record.proofs.ListLemmas.{left_some as some_left_over, left_more as rest_removed}
+use Rattle.lc_core.proofs.Removed.{mapped_next, next_removed}
 use Rattle.lc_core.proofs.standing.standing.Goals as goal
 
 pub remove-requires : goal.remove-requires

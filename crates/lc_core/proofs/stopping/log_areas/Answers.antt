@@ -3,11 +3,12 @@ use Rattle.std.specs.Prelude.{slice_get}
 use Rattle.std.proofs.lemmas.Bool.{cases_eq}
 use Rattle.std.proofs.lemmas.List.{drop-drop}
 use Rattle.std.proofs.lemmas.Option.{slice_get_within}
+use Rattle.lc_record.proofs.ListLemmas.{slice_get-append_left as front_get, left_first as first_left, left_some as some_left}
 use Rattle.lc_core.specs.Log.{area_of}
 use Rattle.lc_core.specs.Places.{same_some}
 use Rattle.lc_core.specs.declared.node.Node.{Node}
 use Rattle.lc_core.proofs.Devices.{log_area_of}
-use Rattle.lc_core.proofs.Gathering.{first_left, front_get, last_get, some_left}
+use Rattle.lc_core.proofs.Gathering.{last_get}
 use Rattle.lc_core.proofs.stopping.log_areas.Goals as goal
 
 pub loop-init : goal.loop-init

@@ -1,9 +1,9 @@
 use Rattle.std.proofs.Common.{◌<◌, ◌≤◌, ◌++◌, ◌∷◌, [], List, drop, length, take, refl, sym, ap, ◌∙◌, arith}
 use Rattle.std.proofs.lemmas.List.{append-nil, append_assoc, drop-drop, length-map, take_all}
+use Rattle.lc_record.proofs.ListLemmas.{slice_get-map_some as get-map, left_first as first_left, left_some as some_left}
 use Rattle.lc_core.specs.Pages.{areas_of}
 use Rattle.lc_core.specs.declared.pages.Pages.{Pages}
-use Rattle.lc_core.proofs.Closes.{get-map}
-use Rattle.lc_core.proofs.Gathering.{first_left, some_left, take_next}
+use Rattle.lc_core.proofs.Gathering.{take_next}
 use Rattle.lc_core.proofs.stopping.with_segments.Goals as goal
 
 pub loop-init : goal.loop-init

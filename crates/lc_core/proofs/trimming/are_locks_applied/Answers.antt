@@ -1,9 +1,9 @@
 use Rattle.std.proofs.Common.{◌≡◌, ◌<◌, ℕ, length, Some, slice_get, true, ap, sym, ◌∙◌, arith, below_more}
 use Rattle.std.proofs.lemmas.Option.{none-some, slice_get_within}
 use Rattle.lc_record.specs.declared.record.Lock.{Lock}
+use Rattle.lc_record.proofs.ListLemmas.{slice_get_some as some_at}
 use Rattle.lc_core.specs.Numbers.{is_applied}
 use Rattle.lc_core.specs.Places.{same_some}
-use Rattle.lc_core.proofs.Seating.{some_at}
 use Rattle.lc_core.proofs.Trimmed.{all_pass, one_fails}
 use Rattle.lc_core.proofs.trimming.are_locks_applied.Goals as goal
 

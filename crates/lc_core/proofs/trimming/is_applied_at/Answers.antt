@@ -2,8 +2,8 @@ use Rattle.std.proofs.Common.{◌≡◌, ◌+◌, ◌-◌, ℕ, length, slice_ge
 use Rattle.std.specs.Prelude.{nat_le}
 use Rattle.std.proofs.lemmas.Bool.{ltb-true}
 use Rattle.std.proofs.lemmas.Option.{slice_get_read}
+use Rattle.lc_record.proofs.ListLemmas.{slice_get-map_some as get-map}
 use Rattle.lc_core.specs.Here.{beside}
-use Rattle.lc_core.proofs.Closes.{get-map}
 use Rattle.lc_core.proofs.trimming.is_applied_at.Goals as goal
 
 pub returns-in-Some : goal.returns-in-Some

@@ -1,5 +1,6 @@
 use Rattle.std.proofs.Common.{◌≡◌, ◌∙◌, ◌<◌, length, true, sym, arith}
-use Rattle.lc_log.proofs.ResetLemmas.{reset_torn, reset_written, on_ok}
+use Rattle.lc_record.proofs.ListLemmas.{OnOk_then as on_ok}
+use Rattle.lc_log.proofs.ResetLemmas.{reset_torn, reset_written}
 use Rattle.lc_log.proofs.OneCalls.{write_call}
 use Rattle.lc_log.proofs.first_gate.close_first_gate.Goals as goal
 

@@ -1,6 +1,7 @@
 use Rattle.std.proofs.Common.{◌≡◌, ◌∙◌, sym, true, []}
+use Rattle.lc_record.proofs.ListLemmas.{OnOk_then as on_ok}
 use Rattle.lc_log.proofs.StateLemmas.{rest_kept, rest_image}
-use Rattle.lc_log.proofs.ResetLemmas.{reset_over, on_ok}
+use Rattle.lc_log.proofs.ResetLemmas.{reset_over}
 use Rattle.lc_log.proofs.OneCalls.{sync_call}
 use Rattle.lc_log.proofs.first_gate.settle_first_gate.Goals as goal
 

@@ -1,7 +1,7 @@
 use Rattle.std.proofs.Common.{◌≡◌, ℕ, ◌*◌, Some, List, [], map, take, drop, get_or, sym, ◌∙◌, ap}
 use Rattle.std.specs.Prelude.{slice_get}
 use Rattle.std.proofs.lemmas.Option.{slice_get-get_or, get_or_from_slice_get}
-use Rattle.lc_recover.proofs.Images.{get-map}
+use Rattle.lc_record.proofs.ListLemmas.{slice_get-map_some as get-map}
 use Rattle.lc_look.proofs.DumpsShown.{left-one}
 use Rattle.lc_look.proofs.dumping.read_slots.Goals as goal
 

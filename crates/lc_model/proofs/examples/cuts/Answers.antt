@@ -1,7 +1,8 @@
-use Rattle.std.proofs.Common.{[], ◌∷◌, AllPairs, IsTrue, refl, sym, arith, true≢false, lit<}
+use Rattle.std.proofs.Common.{[], ◌∷◌, IsTrue, refl, sym, true≢false, lit<}
 use Rattle.std.proofs.lemmas.List.Elements.{All-cons, All-nil}
 use Rattle.std.proofs.lemmas.List.Kept.{AllPairs-cons}
 use Rattle.lc_record.specs.Transaction.{Meet}
+use Rattle.lc_model.proofs.Lists.{AllPairs-nil as pairs_none}
 use Rattle.lc_model.specs.History.{Numbered, is_kept}
 use Rattle.lc_model.specs.Examples.{first, second, third}
 use Rattle.lc_model.proofs.examples.cuts.Goals as goal
@@ -17,9 +18,6 @@ three = record { transaction = third; number = 1 }
 
 abbrev Pulls : Numbered → Numbered → Type 0
 Pulls x y = Meet x.transaction y.transaction → IsTrue (is_kept (1 ∷ 1 ∷ []) y) → IsTrue (is_kept (1 ∷ 1 ∷ []) x)
-
-pairs_none : {X : Type 0} (R : X → X → Type 0) → AllPairs R []
-pairs_none R = λ i j d i_lt j_in. absurd (omega arith)
 
 last_not_kept : (x : Numbered) → Pulls x three
 last_not_kept x meet kept = absurd (true≢false (sym kept))

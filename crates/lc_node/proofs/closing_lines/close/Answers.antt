@@ -1,9 +1,10 @@
 use Rattle.std.proofs.Common.{◌≡◌, List, ◌++◌, sym, ap, subst, ◌∙◌}
 use Rattle.std.proofs.lemmas.List.{append-nil, append_assoc}
 use Rattle.lc_line.specs.Ends.{rest_of}
+use Rattle.lc_record.proofs.ListLemmas.{OnOk_then as on_ok}
 use Rattle.lc_node.specs.Closing.{Grows, kept_token, left_on}
 use Rattle.lc_node.specs.Messages.{tokens_among}
-use Rattle.lc_node.proofs.LinesClosed.{grows_more, grows_same, left_is_rest, on_ok}
+use Rattle.lc_node.proofs.LinesClosed.{grows_more, grows_same, left_is_rest}
 use Rattle.lc_node.proofs.closing_lines.close.Goals as goal
 use Rattle.lc_node.proofs.closing_lines.close.Goals.{in-Some+in_ok-add_token, in_default}
 

@@ -1,9 +1,10 @@
 use Rattle.std.proofs.Common.{◌≡◌, Some}
 use Rattle.std.specs.Prelude.{slice_get}
 use Rattle.std.proofs.lemmas.Option.{slice_get_within}
+use Rattle.lc_record.proofs.ListLemmas.{OnOk_then as on_ok}
 use Rattle.lc_node.specs.Closing.{left_on}
 use Rattle.lc_node.proofs.EachPlace.{first_is}
-use Rattle.lc_node.proofs.LinesClosed.{added, gives_these, on_ok, stand_more}
+use Rattle.lc_node.proofs.LinesClosed.{added, gives_these, stand_more}
 use Rattle.lc_node.proofs.closing_lines.close_both.Goals as goal
 use Rattle.std.proofs.Common.{arith}
 

@@ -1,9 +1,11 @@
 use Rattle.std.proofs.Common.{◌≡◌, ◌≢◌, ◌<◌, ℕ, Some, length, refl, sym, ap, subst, ◌∙◌, arith}
 use Rattle.std.specs.Prelude.{slice_get, slice_set}
-use Rattle.std.proofs.lemmas.Option.{slice_get_within}
+use Rattle.std.proofs.lemmas.Option.{slice_get_within, same_Some as some_same}
+use Rattle.std.proofs.lemmas.List.{length-set as length_set}
+use Rattle.lc_record.proofs.ListLemmas.{slice_get-set_same as get_same, slice_get-set_other as get_other}
 use Rattle.lc_node.specs.Closing.{GivesBoth, IsBehindFirst}
 use Rattle.lc_node.specs.declared.wiring.Ends.{Ends}
-use Rattle.lc_node.proofs.Backwards.{get_other, get_same, got_at, length_set, some_same}
+use Rattle.lc_node.proofs.Backwards.{got_at}
 use Rattle.lc_node.proofs.LinesClosed.{both_more, drop_one_more, given_there, grows_more, grows_same, joined_here}
 use Rattle.lc_node.proofs.closing_lines.close_with_all.Goals as goal
 use mathlib.Core.Logic.{dite}

@@ -1,10 +1,10 @@
 use Rattle.std.proofs.Common.{◌≡◌, ◌<◌, ◌+◌, Some, length, ap, sym, subst, ◌∙◌, arith}
 use Rattle.std.specs.Prelude.{slice_get, vec_len}
+use Rattle.std.proofs.lemmas.Option.{same_Some as some_same}
 use Rattle.lc_lock.specs.Loans.{key_of}
 use Rattle.lc_node.specs.Keys.{AreOnLines, AreWiredAs, HasOneKey, wired_in}
 use Rattle.lc_node.specs.declared.joining.Post.{Post}
 use Rattle.lc_node.specs.declared.wiring.Ends.{Ends}
-use Rattle.lc_node.proofs.Backwards.{some_same}
 use Rattle.lc_node.proofs.EachPlace.{each_more, first_is, left_is}
 use Rattle.lc_node.proofs.Joined.{front_of_all, rest_of_all}
 use Rattle.lc_node.proofs.KeysKept.{on_lines_of, still_wired, wired_long}

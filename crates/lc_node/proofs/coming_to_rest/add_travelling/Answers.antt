@@ -1,8 +1,9 @@
 use Rattle.std.proofs.Common.{◌≡◌, ◌<◌, ◌++◌, ◌∷◌, [], List, Some, length, map, take, sym, ap, ◌∙◌, arith, append_assoc}
 use Rattle.std.specs.Prelude.{slice_get}
 use Rattle.lc_rest.specs.declared.segment_part.SegmentPart.{SegmentPart}
+use Rattle.lc_record.proofs.ListLemmas.{left_first as next_is, left_more}
 use Rattle.lc_node.specs.LeftBy.{IsSettledPart, token_sent}
-use Rattle.lc_node.proofs.FromFront.{left_more, mapped_more, next_is}
+use Rattle.lc_node.proofs.FromFront.{mapped_more}
 use Rattle.lc_node.proofs.Joined.{all_more}
 use Rattle.lc_node.proofs.coming_to_rest.add_travelling.Goals as goal
 

@@ -1,8 +1,9 @@
 use Rattle.std.proofs.Common.{◌≡◌, ◌<◌, ◌≤◌, ◌++◌, ◌∷◌, [], Some, length, map, sym, ap, ◌∙◌, arith}
 use Rattle.std.specs.Prelude.{slice_get}
 use Rattle.std.proofs.lemmas.List.{take_all}
+use Rattle.lc_record.proofs.ListLemmas.{left_first as next_is, left_more}
 use Rattle.lc_node.specs.LeftBy.{node_in, post_of}
-use Rattle.lc_node.proofs.FromFront.{left_more, mapped_more, next_is}
+use Rattle.lc_node.proofs.FromFront.{mapped_more}
 use Rattle.lc_node.proofs.coming_to_rest.take_apart.Goals as goal
 
 pub loop-preserved : goal.loop-preserved

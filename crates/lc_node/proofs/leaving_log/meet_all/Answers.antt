@@ -5,7 +5,7 @@ use Rattle.lc_stage.specs.Seats.{commit_view, flush_view}
 use Rattle.lc_stage.specs.Staging.{Agree}
 use Rattle.lc_stage.specs.declared.seats.CommitSeat.{CommitSeat}
 use Rattle.lc_stage.specs.declared.view.View.{View}
-use Rattle.lc_node.proofs.FromFront.{all_more, left_more, next_is}
+use Rattle.lc_record.proofs.ListLemmas.{left_first as next_is, left_more, All-take_more as all_more}
 use Rattle.lc_node.proofs.leaving_log.meet_all.Goals as goal
 
 pub loop-preserved : goal.loop-preserved

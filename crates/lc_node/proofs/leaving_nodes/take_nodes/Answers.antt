@@ -1,17 +1,16 @@
 use Rattle.std.proofs.Common.{◌≡◌, ◌⊎◌, ◌<◌, Some, length, inr, subst, sym, ◌∙◌, arith}
 use Rattle.std.specs.Global.{Vec}
 use Rattle.std.specs.Prelude.{Any, slice_get, vec_len}
-use Rattle.std.proofs.lemmas.Option.{get_or_from_slice_get}
+use Rattle.std.proofs.lemmas.Option.{get_or_from_slice_get, same_Some as some_same}
 use Rattle.lc_rest.specs.declared.node_part.NodePart.{NodePart}
 use Rattle.lc_stage.specs.declared.seats.CommitSeat.{CommitSeat}
+use Rattle.lc_record.proofs.ListLemmas.{All-slice_get as at_each, left_first as next_is, left_more}
 use Rattle.lc_node.specs.LeftBy.{AreReceived, IsLeftNode}
 use Rattle.lc_node.specs.Refusals.{StopsNode}
 use Rattle.lc_node.specs.declared.node.Node.{Node}
 use Rattle.lc_node.specs.declared.node_fault.NodeFault.TheVariants.{NoMemory}
-use Rattle.lc_node.proofs.Backwards.{some_same}
 use Rattle.lc_node.proofs.EachPlace.{each_more}
-use Rattle.lc_node.proofs.FromFront.{left_more, next_is}
-use Rattle.lc_node.proofs.Joined.{all_more, at_each}
+use Rattle.lc_node.proofs.Joined.{all_more}
 use Rattle.lc_node.proofs.Refused.{handed_on}
 use Rattle.lc_node.proofs.leaving_nodes.take_nodes.Goals as goal
 

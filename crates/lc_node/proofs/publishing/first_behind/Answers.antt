@@ -1,8 +1,8 @@
 use Rattle.std.proofs.Common.{ℕ, List, Some, length-drop, drop, sym, ap, subst, ◌∙◌, arith}
 use Rattle.std.specs.Prelude.{slice_get}
+use Rattle.std.proofs.lemmas.List.{nil_from_length as no_words}
 use Rattle.lc_stage.specs.Staging.{AreRecords}
 use Rattle.lc_node.specs.Published.{records_of}
-use Rattle.lc_node.proofs.Fronts.{no_words}
 use Rattle.lc_node.proofs.Published.{first_none, first_there}
 use Rattle.lc_node.proofs.publishing.first_behind.Goals as goal
 use Rattle.lc_node.proofs.publishing.first_behind.Goals.{then-count-eq0-via-then-count-eq0, then-count-eq0-via-else-count-eq0+then-count-behind}

@@ -3,11 +3,12 @@ use Rattle.std.specs.Prelude.{slice_get, slice_index_or}
 use Rattle.std.proofs.lemmas.Option.{slice_get-get_or}
 use Rattle.lc_lock.specs.declared.lock.Lock.{Lock}
 use Rattle.lc_lock.specs.Loans.{key_of}
+use Rattle.lc_record.proofs.ListLemmas.{set_behind as unchanged_behind}
 use Rattle.lc_node.specs.Rooms.{FitsRoom, IsOfSegment}
 use Rattle.lc_node.specs.SegView.{SegView}
 use Rattle.lc_node.specs.Shares.{has_token, left_at}
 use Rattle.lc_node.proofs.EachPlace.{each_more, each_none, first_is, left_is}
-use Rattle.lc_node.proofs.Taking.{changed_all, changed_more, taken_is, unchanged_behind}
+use Rattle.lc_node.proofs.Taking.{changed_all, changed_more, taken_is}
 use Rattle.lc_node.proofs.seg_room.fill_all.Goals as goal
 
 pub loop-place-init : goal.loop-place-init

@@ -1,9 +1,9 @@
 use Rattle.std.proofs.Common.{◌≡◌, ◌<◌, ◌+◌, ◌*◌, ◌∙◌, ap, sym, subst, length, arith, Option, Some, eqb-true}
 use Rattle.std.proofs.lemmas.Bool.{eqb-false}
+use Rattle.std.proofs.lemmas.Option.{same_Some as some_same}
 use Rattle.std.specs.Option.{IsSomeAnd, option_copied}
 use Rattle.lc_token.specs.Standing.{Standing}
 use Rattle.lc_token.specs.declared.token.Token.{Token}
-use Rattle.lc_node.proofs.Backwards.{some_same}
 use Rattle.lc_node.proofs.TouchedPages.{touched_empty, touching_start, touching_step, touching_end}
 use Rattle.lc_node.proofs.touching.touch_range.Goals as goal
 

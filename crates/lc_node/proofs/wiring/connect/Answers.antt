@@ -1,7 +1,9 @@
 use Rattle.std.proofs.Common.{◌<◌, length, set, refl, sym, ap, ◌∙◌, arith}
+use Rattle.std.proofs.lemmas.List.{length-set as length_set}
 use Rattle.lc_line.specs.Ends.{sent_on, taken_from, line_to, line_from}
+use Rattle.lc_record.proofs.ListLemmas.{slice_get-set_other as get_other}
 use Rattle.lc_node.specs.declared.wiring.Ends.{Ends}
-use Rattle.lc_node.proofs.Backwards.{got_at, get_other, length_set}
+use Rattle.lc_node.proofs.Backwards.{got_at}
 use Rattle.lc_node.proofs.Wired.{one_line_more}
 use Rattle.lc_node.proofs.wiring.connect.Goals as goal
 

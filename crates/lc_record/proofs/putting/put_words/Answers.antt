@@ -6,7 +6,8 @@ use Rattle.std.proofs.lemmas.List.{length-drop}
 use Rattle.lc_record.specs.Words.{bytes_of}
 use Rattle.lc_record.specs.Newest.{byte_from}
 use Rattle.lc_record.proofs.ViewLemmas.{range_behind}
-use Rattle.lc_record.proofs.PuttingLemmas.{take_of_words, put_before, put_within, at_drop, byte_from-before, byte_from-behind}
+use Rattle.lc_record.proofs.PuttingLemmas.{take_of_words, put_before, put_within, byte_from-before, byte_from-behind}
+use Rattle.lc_record.proofs.ListLemmas.{slice_get-drop as at_drop}
 use Rattle.lc_record.proofs.putting.put_words.Goals as goal
 
 pub returns-then-front-bytes-clause-put : goal.returns-then-front-bytes-clause-put

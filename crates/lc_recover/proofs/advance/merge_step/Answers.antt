@@ -1,11 +1,12 @@
 use Rattle.std.proofs.Common.{◌≡◌, ◌+◌, ◌≤◌, ◌*◌, ℕ, List, refl, sym, ◌∙◌, ap, subst, Err, None, length}
+use Rattle.std.proofs.lemmas.Option.{same_Some as one_item}
 use Rattle.lc_recover.specs.KeptAreas.{IsReadWhole}
 use Rattle.lc_recover.specs.Merging.{IsMergedFrom}
 use Rattle.lc_recover.specs.Reads.{area_count}
 use Rattle.lc_recover.specs.Steps.{all_pages}
 use Rattle.lc_recover.specs.declared.kept.Kept.{Kept}
 use Rattle.lc_recover.specs.declared.page_writes.PageWrites.{PageWrites}
-use Rattle.lc_recover.proofs.AreaLemmas.{begins, one_item}
+use Rattle.lc_recover.proofs.AreaLemmas.{begins}
 use Rattle.lc_recover.proofs.Going.{all-read}
 use Rattle.lc_recover.proofs.MergedFits.{merged-fit, merged-stage, merged-few}
 use Rattle.lc_recover.proofs.MergeStep.{few-logs, few-segments, few-pages, its-store, to-write, merged-from}

@@ -1,11 +1,11 @@
 use Rattle.std.proofs.Common.{ℕ, List, [], ◌∷◌, Contains, ◌++◌, map, sym, ◌∙◌, ap, subst, append_assoc}
 use Rattle.std.proofs.lemmas.List.{map-append}
 use Rattle.lc_record.specs.declared.record.Record.{Record}
+use Rattle.lc_record.proofs.ListLemmas.{OnErr_from as on_err, Contains-map as contains-map}
 use Rattle.lc_recover.specs.Pages.{kept_pages}
 use Rattle.lc_recover.specs.Changes.{AreOf, Seat, SomeIsOf, seat, seats_of}
 use Rattle.lc_recover.specs.Reading.{placed_in}
-use Rattle.lc_recover.proofs.AreaLemmas.{on_err}
-use Rattle.lc_recover.proofs.Walks.{contains-map, next-in, passed-next}
+use Rattle.lc_recover.proofs.Walks.{next-in, passed-next}
 use Rattle.lc_recover.proofs.Pushes.{of-more}
 use Rattle.lc_recover.proofs.index.add_log.Goals as goal
 

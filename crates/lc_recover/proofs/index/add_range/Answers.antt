@@ -1,9 +1,9 @@
 use Rattle.std.proofs.Common.{◌≡◌, ℕ, ◌<◌, Contains, length, refl, arith, ap, subst, inl, inr}
 use Rattle.std.proofs.lemmas.Bool.{cases_lt}
 use Rattle.lc_page.specs.PageVector.{entry_at}
+use Rattle.lc_record.proofs.ListLemmas.{OnErr_from as on_err}
 use Rattle.lc_recover.specs.Changes.{IsOnRange, on_page}
 use Rattle.lc_recover.specs.declared.change.Change.{Change}
-use Rattle.lc_recover.proofs.AreaLemmas.{on_err}
 use Rattle.lc_recover.proofs.Pushes.{adds-more}
 use Rattle.lc_recover.proofs.index.add_range.Goals as goal
 use Rattle.lc_recover.proofs.index.add_range.Goals.{then-page-len+then-stable-change+in_ok-add, else-page-len, else-page-len-via-then-page-len+else-stable-change, else-page-len-via-else-page-len}

@@ -1,10 +1,10 @@
 use Rattle.std.proofs.Common.{◌≤◌, List, map, sym, arith, subst, ap}
 use Rattle.lc_record.specs.declared.span.Span.{Span}
 use Rattle.lc_record.specs.GrammarVersion.{end_of}
+use Rattle.lc_record.proofs.ListLemmas.{OnErr_from as on_err}
 use Rattle.lc_model.specs.Merge.{Page}
 use Rattle.lc_recover.specs.Pages.{kept_pages}
 use Rattle.lc_recover.specs.Changes.{HasOf, seat, Seat}
-use Rattle.lc_recover.proofs.AreaLemmas.{on_err}
 use Rattle.lc_recover.proofs.SpanWalks.{range-next, placed-next, reached-next, reached-all}
 use Rattle.lc_recover.proofs.Pushes.{SpanAdded, span-added, range-some, range-ends, span-newer, covers-more, covers-nothing, covers-all}
 use Rattle.lc_recover.proofs.index.add_record.Goals as goal

@@ -1,10 +1,10 @@
 use Rattle.std.proofs.Common.{◌≡◌, ◌<◌, ℕ, List, [], length, map, take, get_or, Contains, Some, sym, ◌∙◌, ap, subst, arith}
 use Rattle.std.specs.Prelude.{slice_get}
 use Rattle.std.proofs.lemmas.Option.{slice_get-get_or}
+use Rattle.lc_record.proofs.ListLemmas.{OnErr_from as on_err}
 use Rattle.lc_recover.specs.Pages.{kept_pages}
 use Rattle.lc_recover.specs.Changes.{AreOf, Seat, SomeIsOf, seats_from, seats_of}
 use Rattle.lc_recover.proofs.Walks.{item-at}
-use Rattle.lc_recover.proofs.AreaLemmas.{on_err}
 use Rattle.lc_recover.proofs.Newer.{seat-in}
 use Rattle.lc_recover.proofs.Seats.{seats-next}
 use Rattle.lc_recover.proofs.index.changes_of.Goals as goal

@@ -5,6 +5,7 @@ use Rattle.std.specs.Prelude.{slice_get}
 use Rattle.std.proofs.lemmas.List.Sorted.{IsPermutation-trans}
 use Rattle.std.proofs.lemmas.Result.{err_from_is_err_and}
 use Rattle.lc_model.specs.Merge.{Store, AreOnce, AreOwn, AreWithin, IsLeastPair, all_records}
+use Rattle.lc_record.proofs.ListLemmas.{OnErr_from as on_err}
 use Rattle.lc_recover.specs.Changes.{SomeIsOf, seats_from}
 use Rattle.lc_recover.specs.Fault.{IsRefusal}
 use Rattle.lc_recover.specs.Kept.{HasNewer, IsFaultless, IsIndex, IsMerging}
@@ -18,7 +19,6 @@ use Rattle.lc_recover.specs.declared.fault.RecoverFault.TheVariants.{Gap, Twice}
 use Rattle.lc_recover.specs.declared.lock_number.LockNumber.{LockNumber}
 use Rattle.lc_recover.specs.declared.read_areas.ReadAreas.{ReadAreas}
 use Rattle.lc_recover.specs.declared.segment_pages.SegmentPages.{SegmentPages}
-use Rattle.lc_recover.proofs.AreaLemmas.{on_err}
 use Rattle.lc_recover.proofs.Meanings.{kept-store, few, each, twice-refusal, gap-refusal, once-all, gap-none, new-long, new-count}
 use Rattle.lc_recover.proofs.Newer.{some-newer}
 use Rattle.lc_recover.proofs.Orders.{in-order}

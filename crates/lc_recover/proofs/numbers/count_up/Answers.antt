@@ -1,9 +1,9 @@
 use Rattle.std.proofs.Common.{◌≡◌, ◌<◌, ◌-◌, ◌+◌, ◌++◌, [], ◌∷◌, List, ℕ, sym, arith, take, drop, suc, length, get_or, subst, refl}
-use Rattle.std.proofs.lemmas.List.{take_all, take_more}
+use Rattle.std.proofs.lemmas.List.{take_all, take_more, get_or_default as same-item}
 use Rattle.lc_model.specs.Merge.{IsLeastPair}
 use Rattle.lc_recover.specs.Locks.{AreInOrder, IsMissing, count_of}
 use Rattle.lc_recover.specs.declared.lock_number.LockNumber.{LockNumber}
-use Rattle.lc_recover.proofs.Counts.{AllFilled, filled-same, filled-more, filled-all, first-gap, split-at, same-item}
+use Rattle.lc_recover.proofs.Counts.{AllFilled, filled-same, filled-more, filled-all, first-gap, split-at}
 use Rattle.lc_recover.proofs.numbers.count_up.Goals as goal
 use Rattle.lc_recover.proofs.numbers.count_up.Goals.{then-number-count+else-number-count-2, else-number-count}
 

@@ -1,6 +1,7 @@
 use Rattle.std.proofs.Common.{◌<◌, sym, arith, length, get_or, refl}
+use Rattle.std.proofs.lemmas.List.{get_or_default as same-item}
 use Rattle.lc_recover.specs.declared.lock_number.LockNumber.{LockNumber}
-use Rattle.lc_recover.proofs.Counts.{apart-once, apart-next, before-same, first-twice, same-item}
+use Rattle.lc_recover.proofs.Counts.{apart-once, apart-next, before-same, first-twice}
 use Rattle.lc_recover.proofs.numbers.once.Goals as goal
 
 pub loop-index-preserved : goal.loop-index-preserved

@@ -1,6 +1,6 @@
 use Rattle.std.proofs.Common.{◌∙◌, ℕ, drop, ap}
+use Rattle.std.proofs.lemmas.List.{drop_min as drop_least}
 use Rattle.lc_record.proofs.ViewLemmas.{range_behind}
-use Rattle.lc_recover.proofs.PageLemmas.{drop_least}
 use Rattle.lc_recover.proofs.page.behind.Goals as goal
 
 pub returns : goal.returns

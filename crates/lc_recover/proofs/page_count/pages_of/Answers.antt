@@ -1,6 +1,7 @@
 use Rattle.std.proofs.Common.{◌≡◌, ℕ, [], map, arith, subst}
 use Rattle.lc_record.specs.Content.{segment_of}
-use Rattle.lc_recover.proofs.Walks.{pages-some, pages-none, segment-zero}
+use Rattle.lc_model.proofs.Bytes.{segment_of-zero as segment-zero}
+use Rattle.lc_recover.proofs.Walks.{pages-some, pages-none}
 use Rattle.lc_recover.specs.Pages.{kept_pages}
 use Rattle.lc_recover.proofs.page_count.pages_of.Goals as goal
 

@@ -1,12 +1,13 @@
 use Rattle.std.proofs.Common.{◌≡◌, ◌∙◌, ◌<◌, ◌+◌, ℕ, sym, subst, true, get_or, Some, inl}
 use Rattle.std.specs.Prelude.{slice_get}
-use Rattle.std.proofs.lemmas.Option.{slice_get-get_or, none-some}
+use Rattle.std.proofs.lemmas.Option.{slice_get-get_or, none-some, same_Some as one_item}
 use Rattle.lc_page.specs.Page.{Page}
 use Rattle.lc_page.specs.PageVector.{entry_at, entry_text}
 use Rattle.lc_page.specs.Writing.{draft_of, IsUnderWay}
 use Rattle.lc_page.specs.declared.writing.Writing.{Writing}
-use Rattle.lc_recover.proofs.AreaLemmas.{one_item, one-call, set-get}
-use Rattle.lc_recover.proofs.Writes.{Next, next-of, with-current, reads-kept, write-begins, rests-of, current-fits, both-ok, segment-room, call-shows}
+use Rattle.lc_record.proofs.ListLemmas.{IfOk_both as both-ok}
+use Rattle.lc_recover.proofs.AreaLemmas.{one-call, set-get}
+use Rattle.lc_recover.proofs.Writes.{Next, next-of, with-current, reads-kept, write-begins, rests-of, current-fits, segment-room, call-shows}
 use Rattle.lc_recover.specs.Stage.{RestsAt, IsCurrent, IsDraft}
 use Rattle.lc_recover.proofs.page_steps.begin_next.Given.{Over}
 use Rattle.lc_recover.proofs.page_steps.begin_next.Goals as goal

@@ -5,14 +5,14 @@ use Rattle.lc_recover.specs.Pages.{kept_pages}
 use Rattle.lc_recover.specs.declared.segment_pages.SegmentPages.{SegmentPages}
 use Rattle.std.proofs.Common.{◌≡◌, ◌∙◌, ◌+◌, ◌-◌, ◌*◌, ℕ, List, refl, sym, ap, subst, arith, inr, Bool, true, map, length, get_or, Option, Some, None}
 use Rattle.std.specs.Prelude.{slice_get, slice_set}
-use Rattle.std.proofs.lemmas.Option.{slice_get-get_or}
+use Rattle.std.proofs.lemmas.Option.{slice_get-get_or, same_Some as one_item}
 use Rattle.lc_disk.specs.Area.{overlaid}
 use Rattle.lc_log.specs.OneCall.{IsOneCall}
 use Rattle.lc_page.specs.PageVector.{entry_at, entry_text, settled}
 use Rattle.lc_page.specs.Writing.{draft_of, calls_of, GoesOn, IsNextOf}
 use Rattle.lc_page.specs.declared.draft.Draft.{Draft}
 use Rattle.lc_page.specs.declared.writing.Writing.{Writing}
-use Rattle.lc_recover.proofs.AreaLemmas.{one_item, one-call, not_ok}
+use Rattle.lc_recover.proofs.AreaLemmas.{one-call, not_ok}
 use Rattle.lc_recover.proofs.Begins.{long_page}
 use Rattle.lc_recover.proofs.Writes.{Next, next-of, with-current, with-none, as_kept, write-begins, current-of, goes-on-fits, over-fits, none-of, some-of, same-draft, segment-room, goes-on-shows}
 use Rattle.lc_recover.specs.Stage.{IsCurrent, IsDraft}

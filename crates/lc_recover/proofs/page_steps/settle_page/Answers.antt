@@ -4,7 +4,7 @@ use Rattle.lc_recover.specs.Stage.{IsDraft, IsNext}
 use Rattle.lc_recover.specs.declared.change.Change.{Change}
 use Rattle.lc_recover.specs.declared.segment_pages.SegmentPages.{SegmentPages}
 use Rattle.std.proofs.Common.{◌+◌, ◌∷◌, drop, refl, sym, ◌∙◌, ap, subst, arith, get_or}
-use Rattle.lc_recover.proofs.AreaLemmas.{one_item}
+use Rattle.std.proofs.lemmas.Option.{same_Some as one_item}
 use Rattle.lc_recover.specs.Page.{page_of, pages_of}
 use Rattle.lc_disk.specs.Area.{overlaid}
 use Rattle.lc_page.specs.PageVector.{settled}

@@ -1,6 +1,6 @@
 use Rattle.std.proofs.Common.{◌≢◌, ◌%◌, ℕ, List, sym, subst, ◌∙◌}
 use Rattle.std.specs.Prelude.{slice_index}
-use Rattle.lc_log.proofs.ResetLemmas.{on_ok}
+use Rattle.lc_record.proofs.ListLemmas.{OnOk_then as on_ok}
 use Rattle.lc_recover.proofs.reset_steps.settle_log.Goals as goal
 
 pub returns-clause-emptied : goal.returns-clause-emptied

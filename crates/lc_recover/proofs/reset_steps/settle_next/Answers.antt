@@ -1,7 +1,7 @@
 use Rattle.std.proofs.Common.{◌≡◌, ◌∙◌, ◌<◌, ◌≤◌, ℕ, [], refl, sym, arith, true, length, get_or, Some, inl}
 use Rattle.std.specs.Prelude.{slice_get, slice_index_or}
 use Rattle.std.proofs.lemmas.Option.{slice_get-get_or}
-use Rattle.lc_log.proofs.ResetLemmas.{on_ok}
+use Rattle.lc_record.proofs.ListLemmas.{OnOk_then as on_ok}
 use Rattle.lc_recover.proofs.AreaLemmas.{one-call}
 use Rattle.lc_recover.proofs.ResetSteps.{long_log, reset-begins, reset-fits, logs-show, is-closing, passed}
 use Rattle.lc_recover.specs.Stage.{AreaFits, IsResetting}

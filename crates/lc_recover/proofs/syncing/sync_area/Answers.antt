@@ -2,7 +2,7 @@ use Rattle.std.proofs.Common.{◌≡◌, ◌∙◌, ◌<◌, ◌+◌, sym, ap, a
 use Rattle.std.specs.Prelude.{slice_get}
 use Rattle.std.proofs.lemmas.Option.{slice_get-get_or}
 use Rattle.lc_log.proofs.OneCalls.{sync_call}
-use Rattle.lc_log.proofs.ResetLemmas.{on_ok}
+use Rattle.lc_record.proofs.ListLemmas.{OnOk_then as on_ok}
 use Rattle.lc_recover.proofs.AreaLemmas.{quiet-begins, quiet-bytes, quiet-merges, quiet-reads, one-call, fits-set, cleaner}
 use Rattle.lc_recover.specs.Stage.{Quiet}
 use Rattle.lc_recover.specs.declared.stage.Stage.TheVariants.{Syncing}

@@ -1,8 +1,9 @@
 use Rattle.std.proofs.Common.{◌≤◌, sym, arith}
-use Rattle.lc_recover.proofs.Walks.{all-more, none-within, all-taken}
+use Rattle.lc_recover.proofs.Walks.{none-within, all-taken}
 use Rattle.lc_recover.proofs.within.locks_within.Goals as goal
 use Rattle.lc_recover.proofs.within.locks_within.Goals.{in-Some+else-lock-segments, in_default}
 use Rattle.lc_record.specs.declared.record.Lock.{Lock}
+use Rattle.lc_record.proofs.ListLemmas.{All-take_more as all-more}
 
 pub loop-index-preserved : goal.loop-index-preserved
 loop-index-preserved c = elim c.match-lock.branch [

@@ -4,8 +4,9 @@ use Rattle.lc_record.specs.GrammarVersion.{end_of}
 use Rattle.lc_record.specs.Record.{span_of}
 use Rattle.lc_record.specs.declared.record.RangeData.{RangeData}
 use Rattle.lc_record.specs.declared.span.Span.{Span}
+use Rattle.lc_record.proofs.ListLemmas.{All-take_more as all-more, Contains-slice_get as contains-at}
 use Rattle.lc_recover.specs.Pages.{kept_pages}
-use Rattle.lc_recover.proofs.Walks.{all-more, all-taken, contains-at, few-pages}
+use Rattle.lc_recover.proofs.Walks.{all-taken, few-pages}
 use Rattle.lc_recover.proofs.Pushes.{range-ends}
 use Rattle.lc_recover.proofs.SpanWalks.{range-next, reached-next, reached-all}
 use Rattle.lc_recover.proofs.within.ranges_within.Goals as goal

@@ -1,8 +1,9 @@
 use Rattle.std.proofs.Common.{arith}
-use Rattle.lc_text.proofs.FieldLemmas.{thread_len, on_err}
+use Rattle.lc_record.proofs.ListLemmas.{OnErr_from as on_err}
+use Rattle.lc_text.proofs.FieldLemmas.{thread_len}
 use Rattle.lc_text.specs.Line.{words}
 use Rattle.lc_text.proofs.parsing.begin.Goals as goal
 
 pub returns-in_err-locks-clause-memory : goal.returns-in_err-locks-clause-memory
 returns-in_err-locks-clause-memory c =
-    on_err c.from_residual.result (omega (arith, c.in_err-locks.ensures.memory, thread_len (words c.args.fields.rest.now) _ c.in-Some.ensures))
+    on_err c.from_residual.result _ (omega (arith, c.in_err-locks.ensures.memory, thread_len (words c.args.fields.rest.now) _ c.in-Some.ensures))

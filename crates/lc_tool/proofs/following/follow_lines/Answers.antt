@@ -1,5 +1,6 @@
-use Rattle.std.proofs.Common.{◌≡◌, ℕ, zero, suc, ◌+◌, ◌-◌, ◌<◌, ◌≤◌, ◌||◌, ◌==◌, ◌++◌, true, false, List, [], ◌∷◌, Option, Some, None, length, refl, sym, ap, subst, ◌∙◌, arith, eqb-true}
+use Rattle.std.proofs.Common.{◌≡◌, ℕ, zero, suc, ◌+◌, ◌-◌, ◌<◌, ◌≤◌, ◌||◌, ◌==◌, ◌++◌, true, false, List, [], ◌∷◌, Option, Some, None, length, sym, ap, subst, ◌∙◌, arith, eqb-true}
 use Rattle.std.proofs.lemmas.Result.{IfOk-weaker}
+use Rattle.std.proofs.lemmas.List.{nil_from_length as nil_of}
 use Rattle.std.specs.Io.BufRead.{drop_through, take_through}
 use Rattle.lc_text.specs.Lines.{script_lines}
 use Rattle.lc_text.specs.Text.{no_memory_text, too_long_text}
@@ -43,10 +44,6 @@ returns-in-Err-NoMemory-clause-tells g c =
     to_end (TellsFollowed (front_of c.args.numbered) h first 1 false (lines_followed script)) (g.W.Write.contents c.args.writer.now)
     (TellsFollowed (front_of c.args.numbered) h before.0 c.loop-raw.number c.loop-raw.refused (lines_within (18446744073709551615 - c.loop-raw.number) read.0)) (g.W.Write.contents c.loop-raw.writer) (g.W.Write.contents c.no_memory.new.writer)
     before.2 no_memory_text shown.1 status (tells_want (front_of c.args.numbered) c.loop-raw.number c.loop-raw.refused h before.0 (lines_within (18446744073709551615 - c.loop-raw.number) read.0) status shown.0))) c.no_memory.ensures.shown
-
-nil_of : (xs : List ℕ) → length xs ≡ 0 → xs ≡ []
-nil_of [] e = refl
-nil_of (x ∷ xs) e = absurd omega (arith, e)
 
 some_of : (n : ℕ) → false ≡ (n == 0) → 1 ≤ n
 some_of zero e = absurd cc

@@ -2,7 +2,7 @@ use Rattle.std.proofs.Common.{◌∙◌, sym, refl, subst}
 use Rattle.lc_model.specs.declared.event.Event.TheVariants.{Close, Reserve}
 use Rattle.lc_model.specs.declared.reply.Reply.{Reply}
 use Rattle.lc_core.specs.World.{FitsWorld}
-use Rattle.lc_text.proofs.FieldLemmas.{on_err}
+use Rattle.lc_record.proofs.ListLemmas.{OnErr_from as on_err}
 use Rattle.lc_tool.specs.Fits.{Follows, FollowsEnd, IsUpBeside}
 use Rattle.lc_tool.proofs.Beside.{not_down, refuses_down, up_follows}
 use Rattle.lc_tool.proofs.Memory.{close_asks_not}
@@ -35,7 +35,7 @@ returns g c = record {
 }
 
 pub returns-in_err-other-clause-still : goal.returns-in_err-other-clause-still
-returns-in_err-other-clause-still g c = on_err c.from_residual-in_err-other.result (absurd (close_asks_not g.D.Area c.step.new.self.phase c.args.node c.args.thread c.in_err-other.ensures.memory))
+returns-in_err-other-clause-still g c = on_err c.from_residual-in_err-other.result _ (absurd (close_asks_not g.D.Area c.step.new.self.phase c.args.node c.args.thread c.in_err-other.ensures.memory))
 
 pub returns-in-Ok-clause-follows : goal.returns-in-Ok-clause-follows
 returns-in-Ok-clause-follows g c =

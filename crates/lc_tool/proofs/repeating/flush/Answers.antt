@@ -3,9 +3,9 @@ use Rattle.std.proofs.lemmas.Result.{IfOk-weaker, on_err_weaker}
 use Rattle.lc_model.specs.declared.event.Event.TheVariants.{FlushStep}
 use Rattle.lc_model.specs.declared.reply.Reply.{Reply}
 use Rattle.lc_core.specs.World.{FitsWorld}
+use Rattle.lc_record.proofs.ListLemmas.{OnErr_from as on_err}
 use Rattle.lc_tool.specs.Fits.{Follows, IsUpBeside}
 use Rattle.lc_tool.proofs.Again.{not_step}
-use Rattle.lc_text.proofs.FieldLemmas.{on_err}
 use Rattle.lc_tool.proofs.Beside.{not_down, refuses_down, up_follows}
 use Rattle.lc_tool.proofs.Memory.{flush_asks_not}
 use Rattle.lc_tool.proofs.Performing.{first_flushed, flush_behind, flush_over, more_flushed}
@@ -19,7 +19,7 @@ loop-init g c = record {
 }
 
 pub returns-in_err-reply-clause-memory : goal.returns-in_err-reply-clause-memory
-returns-in_err-reply-clause-memory g c = on_err c.from_residual.result (flush_asks_not g.D.Area c.loop.world.phase c.args.node c.in_err-reply.ensures.memory)
+returns-in_err-reply-clause-memory g c = on_err c.from_residual.result _ (flush_asks_not g.D.Area c.loop.world.phase c.args.node c.in_err-reply.ensures.memory)
 
 pub returns-in_default : goal.returns-in_default
 returns-in_default g c = record {

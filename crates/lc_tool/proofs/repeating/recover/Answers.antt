@@ -4,8 +4,8 @@ use Rattle.lc_model.specs.declared.event.Event.TheVariants.{RecoverStep}
 use Rattle.lc_model.specs.declared.reply.Reply.{Reply}
 use Rattle.lc_core.specs.Recovers.{RecoversDown, RefusesAtOnce}
 use Rattle.lc_core.specs.World.{FollowsWorld}
+use Rattle.lc_record.proofs.ListLemmas.{OnErr_from as on_err}
 use Rattle.lc_tool.proofs.Again.{not_step}
-use Rattle.lc_text.proofs.FieldLemmas.{on_err}
 use Rattle.lc_tool.proofs.Keeping.{step_keeps, steps_keep}
 use Rattle.lc_tool.proofs.Beside.{told_all, told_by}
 use Rattle.lc_tool.proofs.Recovering.{all_down, all_gone, all_refused, all_up, first_gone, gone_asks, gone_down, gone_follows, gone_refuses, gone_up, more_gone}
@@ -15,7 +15,7 @@ pub loop-init : goal.loop-init
 loop-init g c = record { gone = first_gone g.D.Area c.args.world.now; geometry = refl }
 
 pub returns-in_err-reply-clause-memory : goal.returns-in_err-reply-clause-memory
-returns-in_err-reply-clause-memory g c = on_err c.from_residual.result (gone_asks g.D.Area c.args.world.now c.loop.world c.loop.counter c.loop.invariant.gone c.in_err-reply.ensures.memory)
+returns-in_err-reply-clause-memory g c = on_err c.from_residual.result _ (gone_asks g.D.Area c.args.world.now c.loop.world c.loop.counter c.loop.invariant.gone c.in_err-reply.ensures.memory)
 
 pub returns-in_default : goal.returns-in_default
 returns-in_default g c =
@@ -53,7 +53,7 @@ pub returns-clause-memory : goal.returns-clause-memory
 returns-clause-memory g c = on_err_weaker c.step-2.result (λ asks. gone_asks g.D.Area c.args.world.now c.loop.world c.loop.counter c.loop.invariant.gone asks) c.step-2.ensures.memory
 
 pub returns-in_err-reply-clause-still : goal.returns-in_err-reply-clause-still
-returns-in_err-reply-clause-still g c = on_err c.from_residual.result (λ h at fits. c.in_err-reply.ensures.still h at (c.loop.invariant.gone.still h at fits))
+returns-in_err-reply-clause-still g c = on_err c.from_residual.result _ (λ h at fits. c.in_err-reply.ensures.still h at (c.loop.invariant.gone.still h at fits))
 
 pub returns-clause-still : goal.returns-clause-still
 returns-clause-still g c = on_err_weaker c.step-2.result (λ still h at fits. still h at (c.loop.invariant.gone.still h at fits)) c.step-2.ensures.still

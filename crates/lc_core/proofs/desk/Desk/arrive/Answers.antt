@@ -2,9 +2,9 @@ use Rattle.std.proofs.Common.{◌≡◌, ◌-◌, ◌<◌, ℕ, [], Some, refl, 
 use Rattle.std.specs.Prelude.{slice_get}
 use Rattle.std.specs.Vec.{with_item}
 use Rattle.std.proofs.lemmas.Option.{slice_get_read}
+use Rattle.lc_record.proofs.ListLemmas.{slice_get-map_some as get-map}
 use Rattle.lc_core.specs.Here.{beside}
 use Rattle.lc_core.specs.declared.here.Here.{Here}
-use Rattle.lc_core.proofs.Closes.{get-map}
 use Rattle.lc_core.proofs.Arrived.{arrives, runs_came, same_came}
 use Rattle.lc_core.proofs.Shortness.{in_place_moved, short_moved}
 use Rattle.lc_core.proofs.desk.Desk.arrive.Goals as goal

@@ -4,6 +4,7 @@ use Rattle.std.proofs.lemmas.Option.{slice_get_read}
 use Rattle.lc_model.specs.Machine.{begun}
 use Rattle.lc_tx.specs.Images.{IsLockable, IsSame}
 use Rattle.lc_tx.specs.declared.tx_fault.TxFault.{TxFault}
+use Rattle.lc_record.proofs.ListLemmas.{OnErr_from as on_err}
 use Rattle.lc_core.specs.Here.{the_images}
 use Rattle.lc_core.specs.Seat.{Seat, Free}
 use Rattle.lc_core.specs.SeatCalls.{BeginsIn}
@@ -11,7 +12,7 @@ use Rattle.lc_core.specs.Seats.{AllRun, AreShort}
 use Rattle.lc_core.specs.Desk.{FitsDesk}
 use Rattle.lc_core.specs.declared.here.Here.{Here}
 use Rattle.lc_core.proofs.Dropping.{still, runs_same, desk_seen}
-use Rattle.lc_core.proofs.Refusing.{by_refusal, on_err, memory_wanted}
+use Rattle.lc_core.proofs.Refusing.{by_refusal, memory_wanted}
 use Rattle.lc_core.proofs.Begun.{free_seat, not_free, begin_fault, begin_row, begun_but, desk_begun, runs_begun}
 use Rattle.lc_core.proofs.Seating.{set_same}
 use Rattle.lc_core.proofs.Shortness.{few_slots, in_place_same, short_same, short_locked}

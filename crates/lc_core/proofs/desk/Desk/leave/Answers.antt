@@ -3,11 +3,11 @@ use Rattle.std.proofs.lemmas.Option.{slice_get_read}
 use Rattle.std.proofs.lemmas.Result.{IfOk-weaker}
 use Rattle.std.specs.Prelude.{◌↔◌, IsOk}
 use Rattle.lc_tx.specs.Holders.{is_free}
+use Rattle.lc_record.proofs.ListLemmas.{slice_get-map_some as get-map}
 use Rattle.lc_core.specs.Here.{beside}
 use Rattle.lc_core.specs.Leaves.{MayLeave}
 use Rattle.lc_core.specs.Places.{same_some}
 use Rattle.lc_core.specs.declared.slot.Slot.{Slot}
-use Rattle.lc_core.proofs.Closes.{get-map}
 use Rattle.lc_core.proofs.Names.{err_at, of_leave}
 use Rattle.lc_core.proofs.Left.{LeaveAnswers, leaves, may_leave, runs_left, same_left}
 use Rattle.lc_core.proofs.Shortness.{in_place_moved, short_moved}

@@ -2,6 +2,7 @@ use Rattle.std.proofs.Common.{◌≡◌, ◌<◌, ◌≤◌, ◌+◌, None, Some
 use Rattle.std.specs.Prelude.{Ok, vec_capacity}
 use Rattle.std.proofs.lemmas.Option.{slice_get_read}
 use Rattle.lc_record.specs.Record.{record_len, IsRecord}
+use Rattle.lc_record.proofs.ListLemmas.{OnErr_from as on_err}
 use Rattle.lc_model.specs.declared.reply.Reply.TheVariants.{Reserved}
 use Rattle.lc_model.proofs.Rows.{reserve-no_turn}
 use Rattle.lc_tx.specs.Prepared.{final_record}
@@ -12,7 +13,6 @@ use Rattle.lc_core.specs.Settled.{reserve_open}
 use Rattle.lc_core.specs.Seat.{Open}
 use Rattle.lc_core.proofs.Dropping.{no_turn, runs_same, desk_seen}
 use Rattle.lc_core.proofs.Readied.{seated, ready, laid_so, record_is, set_some, ended_row, answered, sealed_refused, full_refused, needs_fault}
-use Rattle.lc_core.proofs.Refusing.{on_err}
 use Rattle.lc_core.proofs.Seating.{same_open}
 use Rattle.lc_core.proofs.Shortness.{few_slots, in_place_same, short_same}
 use Rattle.lc_core.proofs.Names.{of_needs}

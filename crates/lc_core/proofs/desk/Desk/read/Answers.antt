@@ -1,9 +1,10 @@
 use Rattle.std.proofs.Common.{sym, ◌∙◌}
 use Rattle.std.proofs.lemmas.Option.{slice_get_read}
 use Rattle.lc_model.proofs.Rows.{read-no_turn}
+use Rattle.lc_record.proofs.ListLemmas.{OnErr_from as on_err}
 use Rattle.lc_core.proofs.Dropping.{own_open_runs, still, no_turn, runs_same, desk_seen, open_fits}
 use Rattle.lc_core.proofs.Seen.{read_fault, read_done}
-use Rattle.lc_core.proofs.Refusing.{by_refusal, on_err}
+use Rattle.lc_core.proofs.Refusing.{by_refusal}
 use Rattle.std.proofs.Common.{ap}
 use Rattle.std.specs.Prelude.{Err}
 use Rattle.lc_core.proofs.Refusing.{memory_wanted}

@@ -2,6 +2,7 @@ use Rattle.std.proofs.Common.{List, Some, refl, sym, ap, subst, ◌∙◌}
 use Rattle.std.specs.Prelude.{Err, slice_set}
 use Rattle.std.proofs.lemmas.Option.{slice_get_read}
 use Rattle.lc_record.specs.Marks.{marked}
+use Rattle.lc_record.proofs.ListLemmas.{OnErr_from as on_err}
 use Rattle.lc_model.specs.Machine.{changed}
 use Rattle.lc_model.specs.History.{value}
 use Rattle.lc_model.proofs.Rows.{set_range-no_turn}
@@ -15,7 +16,7 @@ use Rattle.lc_core.proofs.Seating.{not_open, open_on, set_same}
 use Rattle.lc_core.proofs.Dropping.{own_open_runs, open_fits, no_turn, still, desk_seen}
 use Rattle.lc_core.proofs.Changing.{seen_held, seen_keeps, changed_own, changed_but, runs_next, desk_next}
 use Rattle.lc_core.proofs.RangeRows.{same_thread, range_fault, range_lock, range_done}
-use Rattle.lc_core.proofs.Refusing.{by_refusal, on_err, memory_wanted}
+use Rattle.lc_core.proofs.Refusing.{by_refusal, memory_wanted}
 use Rattle.lc_core.proofs.Shortness.{few_slots, in_place_same, short_same}
 use Rattle.lc_core.proofs.Names.{of_set_range}
 use Rattle.lc_core.proofs.desk.Desk.set_range.Goals as goal

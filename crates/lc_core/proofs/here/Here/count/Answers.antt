@@ -2,11 +2,12 @@ use Rattle.std.proofs.Common.{◌≡◌, ◌+◌, ◌-◌, ◌≤◌, ◌<◌, �
 use Rattle.std.specs.Prelude.{slice_get}
 use Rattle.std.proofs.lemmas.Bool.{both_ways}
 use Rattle.std.proofs.lemmas.List.{take_all}
+use Rattle.std.proofs.lemmas.Option.{slice_get-get_or as got}
 use Rattle.lc_range.specs.declared.range.Range.{Range}
 use Rattle.lc_core.specs.Counts.{CountsAll, names}
 use Rattle.lc_core.specs.declared.slot.Slot.{Slot}
 use Rattle.lc_core.specs.declared.here.Here.{Here}
-use Rattle.lc_core.proofs.Counting.{CountsSome, Outcome, range_skipped, range_done, first_range, next_range, the_slot, outcome_touched, outcome_left, names_before, none_done, take_next, got}
+use Rattle.lc_core.proofs.Counting.{CountsSome, Outcome, range_skipped, range_done, first_range, next_range, the_slot, outcome_touched, outcome_left, names_before, none_done, take_next}
 use Rattle.lc_core.proofs.here.Here.count.Goals.{then-range-segment, else-range-segment, then-counted, else-counted}
 use Rattle.lc_core.proofs.here.Here.count.Goals as goal
 

@@ -1,13 +1,13 @@
 use Rattle.std.proofs.Common.{◌≡◌, ◌-◌, ◌<◌, ◌≤◌, ℕ, suc, List, ◌∷◌, take, drop, Some, slice_get, sym, ap, ◌∙◌, arith}
 use Rattle.lc_record.specs.declared.record.Record.{Record}
+use Rattle.lc_record.proofs.ListLemmas.{slice_get-take as get_take, drop-take_same as nothing_behind}
 use Rattle.lc_model.specs.Stored.{records_of}
 use Rattle.lc_trunc.specs.KnownClean.{known as known_of}
 use Rattle.lc_core.specs.Records.{count_of, front_of}
 use Rattle.lc_core.specs.Settled.{least_unclean, locks_in}
 use Rattle.lc_core.proofs.Published.{kept_at}
-use Rattle.lc_core.proofs.Sealing.{drop_at, nothing_behind, same_least}
+use Rattle.lc_core.proofs.Sealing.{drop_at, same_least}
 use Rattle.lc_core.proofs.Spans.{leading_le}
-use Rattle.lc_core.proofs.Trimmed.{get_take}
 use Rattle.lc_core.proofs.journal.Journal.least_unclean.Goals as goal
 
 pub loop-number-init : goal.loop-number-init

@@ -1,8 +1,9 @@
 use Rattle.std.proofs.Common.{refl, ◌≤◌, ◌+◌, ℕ, arith, length, ap, sym, subst, ◌∙◌, inl, inr, true≢false}
 use Rattle.lc_model.specs.Machine.{appended}
+use Rattle.lc_record.proofs.ListLemmas.{IfOk_both as ok_both}
 use Rattle.lc_core.specs.Records.{Kept, count_of, span_of}
 use Rattle.lc_core.specs.Journal.{FitsLog}
-use Rattle.lc_core.proofs.Logged.{Extends, err_then, ok_or, ok_both, same_extends, more_extends, count_same, fits_more}
+use Rattle.lc_core.proofs.Logged.{Extends, err_then, ok_or, same_extends, more_extends, count_same, fits_more}
 use Rattle.lc_core.proofs.JournalParts.{same_journal}
 use Rattle.lc_core.proofs.journal.Journal.reserve.Given.{Over}
 use Rattle.lc_core.proofs.journal.Journal.reserve.Goals as goal

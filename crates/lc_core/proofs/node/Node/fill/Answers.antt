@@ -1,11 +1,11 @@
 use Rattle.std.proofs.Common.{◌≡◌, ◌≢◌, ◌-◌, ◌+◌, ◌<◌, ℕ, refl, sym, ap, subst, ◌∙◌, arith, inl, inr}
 use Rattle.std.specs.Prelude.{length, max, slice_get}
 use Rattle.std.proofs.lemmas.Bool.{cases_eq, eq-eqb, ne_eqb}
+use Rattle.lc_record.proofs.ListLemmas.{slice_get_some as some_at}
 use Rattle.lc_core.specs.Node.{SeesStanding}
 use Rattle.lc_core.specs.declared.desk.Desk.{Desk}
 use Rattle.lc_core.specs.Fresh.{known_first}
 use Rattle.lc_core.proofs.Knowing.{sees_fresh, zero-max}
-use Rattle.lc_core.proofs.Seating.{some_at}
 use Rattle.lc_core.proofs.node.Node.fill.Goals as goal
 
 pub loop-before-init : goal.loop-before-init

@@ -4,12 +4,13 @@ use Rattle.std.proofs.lemmas.Option.{slice_get_read}
 use Rattle.lc_token.specs.declared.token.Token.{Token}
 use Rattle.lc_model.specs.declared.refusal.Refusal.TheVariants.{NotHere}
 use Rattle.lc_model.specs.declared.reply.Reply.TheVariants.{Refused}
+use Rattle.lc_record.proofs.ListLemmas.{some_from_is_some as some_token}
 use Rattle.lc_core.specs.Places.{same_some}
 use Rattle.lc_core.specs.declared.page_state.PageState.{PageState}
 use Rattle.lc_core.specs.declared.slot.Slot.{Slot}
 use Rattle.lc_core.proofs.Away.{slot_at}
 use Rattle.lc_core.proofs.PageAnswers.{settled_away}
-use Rattle.lc_core.proofs.Paged.{is_away, none_failed, page_stays, some_token}
+use Rattle.lc_core.proofs.Paged.{is_away, none_failed, page_stays}
 use Rattle.lc_core.specs.MayReply.{refuses_common}
 use Rattle.lc_core.proofs.node.Node.page_step.Goals as goal
 

@@ -6,13 +6,13 @@ use Rattle.lc_model.specs.declared.reply.Reply.TheVariants.{Ended, Reserved}
 use Rattle.lc_model.proofs.Holders.{is_by-both}
 use Rattle.lc_model.proofs.Lists.{found-passes}
 use Rattle.lc_model.proofs.Rows.{reserve-done}
+use Rattle.lc_record.proofs.ListLemmas.{OnErr_from as on_err}
 use Rattle.lc_core.specs.Numbers.{next_record}
 use Rattle.lc_core.specs.Places.{same_some}
 use Rattle.lc_core.specs.Prepares.{Ends, GetsPlace, Keeps}
 use Rattle.lc_core.specs.Settled.{reserve_open}
 use Rattle.lc_core.specs.declared.ending.Ending.{Ending}
 use Rattle.lc_core.specs.declared.log_end.LogEnd.{LogEnd}
-use Rattle.lc_core.proofs.Refusing.{on_err}
 use Rattle.lc_core.specs.Slots.{besides_of}
 use Rattle.lc_core.proofs.Dropping.{only_dropped}
 use Rattle.lc_core.proofs.Going.{by_desk, settled_by, slots_alike, stays_so}

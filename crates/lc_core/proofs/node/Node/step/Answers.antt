@@ -2,10 +2,10 @@ use Rattle.std.proofs.Common.{false, refl, sym, ap, subst, ◌∙◌}
 use Rattle.std.specs.Prelude.{vec_len}
 use Rattle.std.proofs.lemmas.Result.{IfOk-weaker}
 use Rattle.lc_model.specs.declared.event.Event.TheVariants.{Begin, SetRange, Write, Read, Abort, Reserve}
+use Rattle.lc_record.proofs.ListLemmas.{OnErr_from as on_err}
 use Rattle.lc_core.specs.MayReply.{may_reserve}
 use Rattle.lc_core.specs.NodeSteps.{IsOf, StepsNode}
 use Rattle.lc_core.proofs.NodeSteps.{desk_steps, plain_tells}
-use Rattle.lc_core.proofs.Refusing.{on_err}
 use Rattle.lc_core.proofs.node.Node.step.Goals as goal
 
 pub returns-in-Begin : goal.returns-in-Begin

@@ -1,9 +1,9 @@
 use Rattle.std.proofs.Common.{◌<◌, ◌≤◌, length, refl, subst, arith}
 use Rattle.std.proofs.lemmas.List.{take_all}
+use Rattle.lc_record.proofs.ListLemmas.{left_first as next_left, left_some as some_left_over, left_more as rest_removed}
 use Rattle.lc_core.specs.ReadNodes.{AreReadNodes}
 use Rattle.lc_core.proofs.NodeLogs.{none_read, one_more_read}
-use Rattle.lc_core.proofs.Pieces.{next_left, some_left_over}
-use Rattle.lc_core.proofs.Removed.{next_removed, rest_removed}
+use Rattle.lc_core.proofs.Removed.{next_removed}
 use Rattle.lc_core.proofs.read_nodes.ReadNodes.read.Goals as goal
 
 pub loop-init : goal.loop-init

@@ -1,13 +1,14 @@
 use Rattle.std.proofs.Common.{◌≡◌, ◌≤◌, ◌+◌, ℕ, [], List, Bor, below_more, map, length, ap, sym, ◌∙◌, subst, arith}
 use Rattle.std.specs.Global.{Vec}
 use Rattle.lc_record.specs.declared.record.Record.{Record}
+use Rattle.lc_record.proofs.ListLemmas.{each_push as each_pushed}
 use Rattle.lc_rest.specs.Merge.{logs_of, merged_after}
 use Rattle.lc_core.specs.Built.{IsPieceOf}
 use Rattle.lc_core.specs.Pieces.{IsLong}
 use Rattle.lc_core.specs.Readings.{KeepsPictures, tests_of}
 use Rattle.lc_core.specs.declared.segment_piece.SegmentPiece.{SegmentPiece}
 use Rattle.lc_core.proofs.Firsts.{each_segment, first_failed}
-use Rattle.lc_core.proofs.Furnishing.{each_pushed, each_same}
+use Rattle.lc_core.proofs.Furnishing.{each_same}
 use Rattle.lc_core.proofs.TokenReads.{length_numbers}
 use Rattle.lc_core.proofs.read_parts.ReadParts.test_images.Goals as goal
 

@@ -1,8 +1,8 @@
 use Rattle.std.proofs.Common.{◌≡◌, ◌<◌, length, map, take, ap, ◌∙◌, arith}
 use Rattle.std.proofs.lemmas.List.{take_all}
 use Rattle.lc_rest.specs.declared.segment_part.SegmentPart.{SegmentPart}
-use Rattle.lc_core.proofs.Pieces.{some_left_over}
-use Rattle.lc_core.proofs.Removed.{mapped_next, next_removed, rest_removed}
+use Rattle.lc_core.proofs.Removed.{mapped_next, next_removed}
+use Rattle.lc_record.proofs.ListLemmas.{left_some as some_left_over, left_more as rest_removed}
 use Rattle.lc_core.proofs.read_segments.ReadSegments.read.Goals as goal
 
 pub remove-part-requires : goal.remove-part-requires

@@ -1,10 +1,10 @@
 use Rattle.std.proofs.Common.{ℕ, ◌+◌, [], ◌∷◌, ◌++◌, List, ap, sym, subst, ◌∙◌}
 use Rattle.lc_record.specs.Record.{record_len}
 use Rattle.lc_record.specs.declared.record.Record.{Record}
+use Rattle.lc_record.proofs.ListLemmas.{OnErr_from as on_err}
 use Rattle.lc_log.proofs.WalkLemmas.{Found, found_more}
 use Rattle.lc_core.specs.Kept.{kept_behind}
 use Rattle.lc_core.proofs.KeptWords.{found_first, found_whole, with_one_more}
-use Rattle.lc_core.proofs.Refusing.{on_err}
 use Rattle.lc_core.proofs.records.Records.keep_all.Goals as goal
 
 pub returns-in_err-keep-clause-err : goal.returns-in_err-keep-clause-err

@@ -1,13 +1,13 @@
 use Rattle.std.proofs.Common.{refl, sym, subst, arith}
 use Rattle.std.specs.Prelude.{slice_set}
 use Rattle.lc_model.specs.declared.event.Event.TheVariants.{Deliver}
+use Rattle.lc_record.proofs.ListLemmas.{OnErr_from as on_err}
 use Rattle.lc_core.specs.Delivers.{Brings}
 use Rattle.lc_core.specs.Receives.{reply_of}
 use Rattle.lc_core.specs.Running.{Onward}
 use Rattle.lc_core.proofs.Arrivals.{delivers, delivery_known, node_at, slot_within}
 use Rattle.lc_core.proofs.InPlace.{Placing, again_slots, again_takes, last_logs, last_onward, last_whole, lent_short, ready_slot}
 use Rattle.lc_core.proofs.Onward.{still_onward, stays_onward, whole_set}
-use Rattle.lc_core.proofs.Refusing.{on_err}
 use Rattle.lc_core.proofs.Tokens.{same_goes}
 use Rattle.lc_core.proofs.Faults.{logs_stay}
 use Rattle.lc_core.proofs.running.Running.deliver.Given.{Over}

@@ -2,11 +2,11 @@ use Rattle.std.proofs.Common.{◌≡◌, sym, subst, ◌∙◌, true≢false, ar
 use Rattle.std.specs.Prelude.{IfNone, IfSome, IsSome}
 use Rattle.lc_record.specs.Codec.{BeginsNoRecord, BeginsWith}
 use Rattle.lc_record.specs.Part.{part_of}
+use Rattle.lc_record.proofs.ListLemmas.{OnErr_from as on_err}
 use Rattle.lc_core.specs.Delivers.{CopiesPart}
 use Rattle.lc_core.proofs.Arrivals.{delivery_known, finds_kept, finds_known, finds_next, finds_trimmed, finds_unknown, finds_unlocked, has_part, node_at, slot_within}
 use Rattle.lc_core.proofs.Away.{slot_at}
 use Rattle.lc_core.proofs.Published.{begun_so, read_so}
-use Rattle.lc_core.proofs.Refusing.{on_err}
 use Rattle.lc_core.proofs.running.Running.delivery.Goals as goal
 
 pub returns-in-Unknown-clause-brings : goal.returns-in-Unknown-clause-brings

@@ -3,6 +3,7 @@ use Rattle.std.proofs.lemmas.Result.{IfOk-weaker}
 use Rattle.lc_model.specs.declared.event.Event.{Event}
 use Rattle.lc_model.specs.declared.reply.Reply.TheVariants.{Refused}
 use Rattle.lc_model.specs.declared.event.Event.TheVariants.{Arrive, Deliver, Trim}
+use Rattle.lc_record.proofs.ListLemmas.{OnErr_from as on_err}
 use Rattle.lc_core.proofs.Asking.{asks_behind}
 use Rattle.lc_core.proofs.Logged.{err_then}
 use Rattle.lc_core.proofs.NodeSteps.{own_of}
@@ -14,7 +15,6 @@ use Rattle.lc_core.proofs.Faults.{quiet}
 use Rattle.lc_core.proofs.Geometries.{refuses_delivery, refuses_known}
 use Rattle.lc_core.proofs.OwnReplies.{own_known, own_no_fault}
 use Rattle.lc_core.proofs.Recovers.{IfOk-any}
-use Rattle.lc_core.proofs.Refusing.{on_err}
 use Rattle.lc_model.specs.Machine.{may_deliver, may_trim}
 use Rattle.lc_core.specs.MayReply.{done_or, may_answer, may_refuse_arrive, may_refuse_leave}
 use Rattle.lc_core.proofs.Names.{answers_may, common_may, common_quiet, plain_acts}

@@ -1,10 +1,10 @@
 use Rattle.std.proofs.Common.{◌≡◌, ◌∙◌, Err, sym, ap, subst, arith}
 use Rattle.std.proofs.lemmas.Result.{err_from_is_err_and}
+use Rattle.lc_record.proofs.ListLemmas.{OnErr_from as on_err}
 use Rattle.lc_core.specs.ComingUp.{RecoversTo}
 use Rattle.lc_core.specs.declared.call_fault.CallFault.{CallFault}
 use Rattle.lc_core.specs.declared.call_fault.CallFault.TheVariants.{NoMemory}
 use Rattle.lc_core.proofs.ComingUp.{Came, came_up, less_left, newborn, no_step, one_more, one_step, was_refused, wanted}
-use Rattle.lc_core.proofs.Logged.{err_any}
 use Rattle.lc_core.proofs.world.World.recover.Goals as goal
 
 pub steps-smaller : goal.steps-smaller
@@ -84,7 +84,7 @@ returns-in_err-recover_step-clause-steps g c =
 
 pub returns-in_err-recover_step-clause-kept : goal.returns-in_err-recover_step-clause-kept
 returns-in_err-recover_step-clause-kept g c =
-    err_any c.from_residual.result
+    on_err c.from_residual.result _
     (wanted g.D.Area c.args.self.now c.steps.self c.recover_step.new.self c.steps.invariant
     (no_step g.D.Area c.steps.self c.recover_step.new.self c.in_err-recover_step.ensures.memory c.in_err-recover_step.ensures.err c.in_err-recover_step.ensures.no_fault
     c.recover_step.ensures.geometry c.in_err-recover_step.ensures.kept c.in_err-recover_step.ensures.same)).1

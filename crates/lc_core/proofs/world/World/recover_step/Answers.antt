@@ -2,12 +2,13 @@ use Rattle.std.proofs.Common.{◌≡◌, Ok, Err, true, false, refl, ap, sym, �
 use Rattle.std.proofs.lemmas.Result.{IfOk-at_ok, IfOk-weaker}
 use Rattle.std.specs.Prelude.{Result, OnErr}
 use Rattle.lc_record.specs.declared.geometry.Geometry.{Geometry}
+use Rattle.lc_record.proofs.ListLemmas.{OnErr_from as on_err}
 use Rattle.lc_recover.specs.Recovery.{Recovering, IsLast, TakesMemory, all_steps}
 use Rattle.lc_core.specs.declared.phase.Phase.TheVariants.{Down, Taken, Up}
 use Rattle.lc_core.proofs.Living.{down_told, turn_told}
-use Rattle.lc_core.proofs.Refusing.{if_ok_both, on_err}
+use Rattle.lc_core.proofs.Refusing.{if_ok_both}
 use Rattle.lc_recover.specs.declared.fault.RecoverFault.{RecoverFault}
-use Rattle.lc_core.proofs.Logged.{err_any, err_then}
+use Rattle.lc_core.proofs.Logged.{err_then}
 use Rattle.lc_core.specs.Recovering.{RepliesTo}
 use Rattle.lc_core.specs.World.{AsksIn}
 use Rattle.lc_core.specs.declared.phase.Phase.{Phase}
@@ -280,7 +281,7 @@ returns-then-not-is_last-clause-kept g c =
     err_then c.reply_to.result (wants g c) (λ asks. down_keeps g.D.Area c.args.self.now.phase c.in-Down.recovery c.step.new.self c.in-Down.is asks.1)
 
 pub returns-in_err-room-clause-kept : goal.returns-in_err-room-clause-kept
-returns-in_err-room-clause-kept g c = err_any c.from_residual.result (down_keeps g.D.Area c.args.self.now.phase c.in-Down.recovery c.in-Down.recovery c.in-Down.is refl)
+returns-in_err-room-clause-kept g c = on_err c.from_residual.result _ (down_keeps g.D.Area c.args.self.now.phase c.in-Down.recovery c.in-Down.recovery c.in-Down.is refl)
 
 pub returns-in-Err-clause-kept : goal.returns-in-Err-clause-kept
 returns-in-Err-clause-kept g c =

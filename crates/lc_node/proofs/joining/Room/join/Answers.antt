@@ -2,13 +2,14 @@ use Rattle.std.proofs.Common.{◌≡◌, ◌++◌, subst, ◌+◌, ◌<◌, leng
 use Rattle.std.specs.Prelude.{slice_get, vec_len}
 use Rattle.lc_lock.specs.Loans.{key_of}
 use Rattle.lc_stage.specs.declared.seats.CommitSeat.{CommitSeat as Seat}
-use Rattle.std.proofs.lemmas.List.{append-nil}
+use Rattle.std.proofs.lemmas.List.{append-nil, nil_from_length as is_nil}
+use Rattle.lc_record.proofs.ListLemmas.{All-slice_get as at_each}
 use Rattle.lc_node.specs.Keys.{AreWiredAs, HasOneKey, HasOwnKey, wired_by, wired_in}
 use Rattle.lc_node.specs.declared.member.Member.{Member}
 use Rattle.lc_node.proofs.EachPlace.{each_more, first_is, left_is}
 use Rattle.lc_node.specs.declared.opening.Opened.{Opened}
-use Rattle.lc_node.proofs.Joined.{all_more, at_each, both_more, front_of_all, rest_of_all}
-use Rattle.lc_node.proofs.KeysKept.{is_nil, one_more_key}
+use Rattle.lc_node.proofs.Joined.{all_more, both_more, front_of_all, rest_of_all}
+use Rattle.lc_node.proofs.KeysKept.{one_more_key}
 use Rattle.lc_node.proofs.LinesClosed.{split_first}
 use Rattle.lc_node.proofs.joining.Room.join.Goals as goal
 

@@ -3,10 +3,10 @@ use Rattle.std.specs.Prelude.{slice_get}
 use Rattle.std.proofs.lemmas.List.{take_all}
 use Rattle.lc_lock.specs.declared.lock.Lock.{Lock}
 use Rattle.lc_rest.specs.declared.part.Part.TheVariants.{Log}
+use Rattle.lc_record.proofs.ListLemmas.{left_first as next_is, left_more}
 use Rattle.lc_node.specs.LeftBy.{StoodBehind}
 use Rattle.lc_node.specs.SegView.{SegView}
 use Rattle.lc_node.specs.declared.node_fault.NodeFault.TheVariants.{Mismatch, NoMemory}
-use Rattle.lc_node.proofs.FromFront.{left_more, next_is}
 use Rattle.lc_node.proofs.LeftSegments.{none_behind, one_behind}
 use Rattle.lc_node.proofs.Refused.{handed_on, of_segment}
 use Rattle.lc_node.proofs.leaving_segments.Images.take.Goals as goal

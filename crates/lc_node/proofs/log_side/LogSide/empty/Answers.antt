@@ -1,11 +1,12 @@
 use Rattle.std.proofs.Common.{rules, ◌≡◌, List, refl, sym, subst, inl, inr}
 use Rattle.std.specs.Prelude.{Err, IfErr}
+use Rattle.std.proofs.lemmas.Result.{IfErr-weaker as if_err, IfOk-weaker as if_ok}
 use Rattle.lc_node.specs.LogView.{LogView}
 use Rattle.lc_node.specs.Resets.{Empties, IsUnemptied}
 use Rattle.lc_node.specs.Truncates.{IsUntruncated, SeesSides, Truncates}
 use Rattle.lc_node.specs.declared.held.HeldSide.{HeldSide}
 use Rattle.lc_node.specs.Ended.{HasRoom}
-use Rattle.lc_node.proofs.PagesWritten.{if_ok, if_err, room_behind}
+use Rattle.lc_node.proofs.PagesWritten.{room_behind}
 use Rattle.lc_node.proofs.log_side.LogSide.empty.Goals as goal
 
 pub returns-in_err-write_all-clause-refused : goal.returns-in_err-write_all-clause-refused

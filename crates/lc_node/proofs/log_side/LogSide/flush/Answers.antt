@@ -7,13 +7,12 @@ use Rattle.lc_stage.specs.Publishing.{HoldsTaken}
 use Rattle.lc_stage.proofs.Flushed.{flush_holds}
 use Rattle.lc_trunc.specs.KnownClean.{known}
 use Rattle.lc_trunc.specs.Reset.{AreKnown}
-use Rattle.std.proofs.lemmas.List.{append-nil}
+use Rattle.std.proofs.lemmas.List.{append-nil, nil_from_length as no_words}
 use Rattle.lc_node.specs.Among.{AreInFront}
 use Rattle.lc_node.specs.Flushes.{Flushes}
 use Rattle.lc_node.specs.LogSide.{area_of, log_view}
 use Rattle.lc_node.specs.LogView.{LogView}
 use Rattle.lc_node.specs.declared.log_state.LogState.TheVariants.{Idle}
-use Rattle.lc_node.proofs.Fronts.{no_words}
 use Rattle.lc_node.proofs.Published.{flush_publishes, no_record_in_front, tail_is}
 use Rattle.lc_node.proofs.SideKeeps.{goes, steps_publishes, steps_takes, steps_twice}
 use Rattle.lc_node.proofs.FlushKeeps.{at_rest, takes_and_publishes, records_append}

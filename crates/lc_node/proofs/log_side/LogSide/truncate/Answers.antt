@@ -1,6 +1,6 @@
 use Rattle.std.proofs.Common.{inr}
+use Rattle.std.proofs.lemmas.Result.{IfErr-weaker as if_err, IfOk-weaker as if_ok}
 use Rattle.lc_node.specs.Truncates.{IsUntruncated, IsUntruncatedInRoom, Truncates, TruncatesInRoom}
-use Rattle.lc_node.proofs.PagesWritten.{if_ok, if_err}
 use Rattle.lc_node.proofs.log_side.LogSide.truncate.Goals as goal
 
 pub returns-clause-truncated : goal.returns-clause-truncated

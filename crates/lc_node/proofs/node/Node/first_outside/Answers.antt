@@ -1,5 +1,5 @@
 use Rattle.std.proofs.Common.{Some, sym, ap, ◌∙◌, true≢false}
-use Rattle.lc_node.proofs.Backwards.{some_same}
+use Rattle.std.proofs.lemmas.Option.{same_Some as some_same}
 use Rattle.lc_node.proofs.Outside.{looks, looks_on, outside_now, none_outside, all_here}
 use Rattle.lc_node.proofs.node.Node.first_outside.Goals as goal
 

@@ -1,7 +1,8 @@
 use Rattle.std.proofs.Common.{All, subst, arith}
 use Rattle.std.specs.VecDeque.{deque_capacity}
+use Rattle.std.proofs.lemmas.Result.{IfErr-weaker as if_err}
 use Rattle.lc_node.specs.Truncates.{HasPagesIn, IsOfTruncation, IsUntruncatedInRoom}
-use Rattle.lc_node.proofs.PagesWritten.{if_err, of_truncation, still_held, more_places}
+use Rattle.lc_node.proofs.PagesWritten.{of_truncation, still_held, more_places}
 use Rattle.lc_node.proofs.node.Node.truncate_held.Goals as goal
 
 pub truncate-truncated-requires-clause-room : goal.truncate-truncated-requires-clause-room

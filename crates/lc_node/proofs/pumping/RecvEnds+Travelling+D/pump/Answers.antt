@@ -1,7 +1,8 @@
 use Rattle.std.proofs.Common.{rules, ◌≡◌, ◌++◌, ◌∷◌, [], Some, ◌∙◌}
+use Rattle.lc_record.proofs.ListLemmas.{OnErr_from as on_err}
 use Rattle.lc_node.specs.Pumping.{IsGoneOn}
 use Rattle.lc_node.specs.Receiving.{taken_at}
-use Rattle.lc_node.proofs.MessagesGone.{goes_on_if, kept_back, next_is, on_err, waits_on}
+use Rattle.lc_node.proofs.MessagesGone.{goes_on_if, kept_back, next_is, waits_on}
 use Rattle.lc_node.proofs.pumping.RecvEnds+Travelling+D.pump.Goals as goal
 
 pub returns-in-Some-back-clause-gone_on : goal.returns-in-Some-back-clause-gone_on

@@ -2,11 +2,11 @@ use Rattle.std.proofs.Common.{◌≡◌, ◌-◌, ◌<◌, Some, length, sym, �
 use Rattle.std.specs.Prelude.{slice_get}
 use Rattle.std.proofs.lemmas.Option.{slice_get-get_or, get_or_from_slice_get}
 use Rattle.lc_record.specs.declared.geometry.Geometry.{Geometry}
+use Rattle.lc_record.proofs.ListLemmas.{slice_get_some as get-some}
 use Rattle.lc_page.specs.PageVector.{entry_at}
 use Rattle.lc_page.specs.declared.page_text.PageText.{PageText}
 use Rattle.lc_recover.specs.Recovered.{RecoveredPage, RecoveredStore, page_of, sequence_of}
 use Rattle.lc_recover.proofs.FinishedStore.{page-at}
-use Rattle.lc_recover.proofs.Images.{get-some}
 use Rattle.lc_recover.proofs.recovered.Recovered.text.Goals as goal
 
 pub returns-clause-text : goal.returns-clause-text

@@ -1,15 +1,10 @@
-use Rattle.std.proofs.Common.{◌≡◌, ℕ, Bool, true, false, eqb, List, refl, sym, ap, ◌∙◌, inl, inr}
-use Rattle.std.specs.List.{list_any}
+use Rattle.std.proofs.Common.{◌≡◌, true, false, refl, sym, ◌∙◌, inl, inr}
 use Rattle.std.proofs.lemmas.Bool.{false≢true}
 use Rattle.lc_record.specs.Transaction.{is_member}
 use Rattle.lc_tx.proofs.HoldsLemmas.{held_cases, locked_holds, reads_holds}
-use Rattle.lc_tx.proofs.SetLemmas.{any_is}
+use Rattle.lc_tx.proofs.SetLemmas.{any_found as found}
 use Rattle.lc_tx.proofs.tx.Tx.mode_of.Goals as goal
 use Rattle.lc_tx.proofs.tx.Tx.mode_of.Goals.{Then-contains}
-
--- what `contains` found in these
-found : (result told : Bool) (n : ℕ) (xs ys : List ℕ) → result ≡ list_any (λ y. eqb y n) xs → xs ≡ ys → result ≡ told → is_member n ys ≡ told
-found result told n xs ys is same e = sym (is ∙ any_is n xs ∙ ap (is_member n) same) ∙ e
 
 locks : (c : Then-contains) → is_member c.args.segment c.args.self.now.locked.items ≡ true
 locks c = found c.contains.result true c.args.segment c.locked.result.now c.args.self.now.locked.items c.contains.ensures.value c.locked.ensures c.if-contains.true
