@@ -43,8 +43,10 @@ rows='
 300 coprocess tests/coprocess.sh $LCRVM
 300 copies tests/copies.sh $LCRVM
 300 checks tests/checks.sh $LCRVM
+60 runs tests/runs.sh $LCRVM
 60 proved python3 tests/proved.py
 60 statements python3 tests/statements.py
+60 dead_names python3 tests/dead_names.py
 60 edits tests/edits.sh --fits
 '
 
