@@ -7,14 +7,13 @@ ghost use Rattle.lc_rest.specs.declared.adopt_fault.AdoptFault.TheVariants.{Devi
 ghost use Rattle.lc_rest.specs.declared.part.Part.{Part as ThePart};
 ghost use Rattle.lc_rest.specs.declared.part.Part.TheVariants.{Seat};
 
-use lc_rest::AdoptFault;
 use crate::adopted_parts::adopted_parts;
-use lc_rest::Parts;
 use crate::phase::Phase;
 use crate::read_cluster::ReadCluster;
 use crate::room::Room;
 use crate::world::World;
 use lc_disk::Area;
+use lc_rest::{AdoptFault, Parts};
 use std::alloc::Global;
 
 impl<D: Area + Drop> World<D> {

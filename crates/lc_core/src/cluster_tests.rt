@@ -9,13 +9,12 @@ ghost use Rattle.lc_core.specs.declared.node_piece.NodePiece.{NodePiece as TheNo
 ghost use Rattle.lc_rest.specs.declared.part.Part.{Part as ThePart};
 ghost use Rattle.lc_core.specs.declared.segment_piece.SegmentPiece.{SegmentPiece as ThePiece};
 
-use lc_rest::AdoptFault;
 use crate::node_images::NodeImages;
 use crate::node_piece::NodePiece;
-use lc_rest::Part;
 use crate::read_parts::ReadParts;
 use crate::segment_pieces::SegmentPieces;
 use lc_disk::Area;
+use lc_rest::{AdoptFault, Part};
 use std::alloc::Global;
 
 impl ReadParts {

@@ -8,11 +8,11 @@ ghost use Rattle.lc_core.specs.FollowsDesk.{FollowsOpen};
 ghost use Rattle.lc_core.specs.Here.{the_images};
 ghost use Rattle.lc_core.specs.Layers.{StepsRunning, StepsUp};
 
+use crate::Refusal;
 use crate::desk::Desk;
 use crate::here::Here;
 use crate::running::Running;
 use crate::up::Up;
-use crate::Refusal;
 use lc_disk::Area;
 use lc_tx::{Image, Tx};
 

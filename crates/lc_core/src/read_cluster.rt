@@ -9,10 +9,8 @@ ghost use Rattle.lc_core.specs.Readings.{FailsIn, PassesIn};
 ghost use Rattle.lc_rest.specs.declared.adopt_fault.AdoptFault.TheVariants.{DeviceFault as Failed, Mismatch};
 ghost use Rattle.lc_rest.specs.declared.part.Part.{Part as ThePart};
 
-use lc_rest::AdoptFault;
 use crate::node_images::NodeImages;
 use crate::node_piece::NodePiece;
-use lc_rest::Parts;
 use crate::read_nodes::ReadNodes;
 use crate::read_parts::ReadParts;
 use crate::read_segments::ReadSegments;
@@ -21,6 +19,7 @@ use crate::room::Room;
 use crate::standing::standing;
 use crate::up::Up;
 use lc_disk::Area;
+use lc_rest::{AdoptFault, Parts};
 use std::alloc::Global;
 
 /// A cluster at rest as it is read: what its tests look at, with the images of its nodes; and what a store is made of: the pieces

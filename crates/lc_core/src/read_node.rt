@@ -5,11 +5,11 @@ ghost use Rattle.lc_rest.specs.Parts.{KeepsLog};
 ghost use Rattle.lc_core.specs.ReadNodes.{IsReadNode};
 
 use crate::node_images::NodeImages;
-use lc_rest::NodePart;
 use crate::node_piece::NodePiece;
 use crate::node_records::NodeRecords;
 use lc_disk::Area;
 use lc_record::Record;
+use lc_rest::NodePart;
 use std::alloc::{AllocError, Global};
 
 /// What is read of a node of a cluster at rest: the piece of it that a store is made of; its records, in the order of its log,

@@ -6,11 +6,11 @@ ghost use Rattle.lc_core.specs.ReadNodes.{AreReadNodes, HasOneMore};
 ghost use Rattle.lc_rest.specs.declared.node_part.NodePart.{NodePart as ThePart};
 
 use crate::node_images::NodeImages;
-use lc_rest::NodePart;
 use crate::node_piece::NodePiece;
 use crate::read_node::ReadNode;
 use lc_disk::Area;
 use lc_record::Record;
+use lc_rest::NodePart;
 use std::alloc::{AllocError, Global};
 
 /// What is read of the nodes of a cluster at rest, from node 0 on: the pieces of them that a store is made of; their records, each

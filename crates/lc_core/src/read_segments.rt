@@ -2,9 +2,8 @@
 ghost use Rattle.std.specs.Prelude.{◌≡◌, ◌≤◌, IfOk, map, vec_capacity};
 ghost use Rattle.lc_rest.specs.declared.segment_part.SegmentPart.{SegmentPart as ThePart};
 
-use lc_rest::SegmentPart;
 use lc_disk::Area;
-use lc_rest::Holder;
+use lc_rest::{Holder, SegmentPart};
 use lc_token::Token;
 use std::alloc::{AllocError, Global};
 

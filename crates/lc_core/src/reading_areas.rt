@@ -5,10 +5,9 @@ ghost use Rattle.lc_core.specs.ReadAreas.{AreAreas, AreStarts};
 ghost use Rattle.lc_rest.specs.declared.adopt_fault.AdoptFault.TheVariants.{DeviceFault as Failed, Mismatch};
 ghost use Rattle.lc_rest.specs.declared.part.Part.{Part as ThePart};
 
-use lc_rest::AdoptFault;
 use lc_disk::{Area, DeviceFault};
 use lc_record::Geometry;
-use lc_rest::read_bytes;
+use lc_rest::{AdoptFault, read_bytes};
 use std::alloc::{AllocError, Global};
 
 /// What the areas hold, each read by one call. It takes the memory for an area before it calls it.

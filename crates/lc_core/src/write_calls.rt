@@ -4,10 +4,10 @@ ghost use Rattle.lc_model.specs.declared.event.Event.TheVariants.{Write};
 ghost use Rattle.lc_core.specs.Layers.{StepsRunning, StepsUp};
 ghost use Rattle.lc_core.specs.NodeSteps.{StepsNode};
 
+use crate::Reply;
 use crate::node::Node;
 use crate::running::Running;
 use crate::up::Up;
-use crate::Reply;
 use lc_disk::Area;
 
 impl<D: Area + Drop> Node<D> {

@@ -9,9 +9,9 @@ ghost use Rattle.lc_node.specs.Refusals.{StopsLog};
 use crate::flushing::keep;
 use crate::log_state::LogState;
 use crate::{LogSide, NodeFault};
-use lc_rest::{NodePart, Part};
 use lc_disk::Area;
 use lc_record::{Geometry, Group};
+use lc_rest::{NodePart, Part};
 use lc_stage::{CommitSeat, FlushSeat, Stage};
 use std::alloc::{AllocError, Global};
 

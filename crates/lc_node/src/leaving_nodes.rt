@@ -9,9 +9,9 @@ ghost use Rattle.lc_node.specs.declared.node_fault.NodeFault.TheVariants.{NoMemo
 
 use crate::leaving_segments::Images;
 use crate::{Node, NodeFault};
-use lc_rest::{NodePart, SegmentPart};
 use lc_disk::Area;
 use lc_record::Geometry;
+use lc_rest::{NodePart, SegmentPart};
 use lc_stage::CommitSeat;
 use std::alloc::Global;
 use std::sync::Wait;

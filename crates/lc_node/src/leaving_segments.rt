@@ -7,10 +7,9 @@ ghost use Rattle.lc_node.specs.declared.node_fault.NodeFault.TheVariants.{Mismat
 
 use crate::page_area::PageArea;
 use crate::{NodeFault, SegSide, Travelling};
-use lc_rest::{Part, SegmentPart};
 use lc_disk::Area;
 use lc_lock::Lock;
-use lc_rest::Holder;
+use lc_rest::{Holder, Part, SegmentPart};
 use lc_tx::Image;
 use std::alloc::Global;
 use std::sync::Wait;

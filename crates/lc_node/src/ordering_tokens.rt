@@ -8,10 +8,10 @@ ghost use Rattle.lc_node.specs.Refusals.{HasToken, StopsTokens, TakesOut, first_
 ghost use Rattle.lc_node.specs.declared.node_fault.NodeFault.TheVariants.{Mismatch};
 
 use crate::NodeFault;
-use lc_rest::{Part, SegmentPart};
 use lc_disk::Area;
 use lc_page::SLOT_BYTES;
 use lc_record::Geometry;
+use lc_rest::{Part, SegmentPart};
 use std::alloc::Global;
 
 /// These tokens in the order of their segments, from segment 1 on: there is just one of each.

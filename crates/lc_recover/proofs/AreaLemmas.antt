@@ -148,4 +148,3 @@ not_ok (Err e) err = refl
 pub on_ok : {A B : Type 0} (r : Result A B) (P Q : Type 0) → OnOk r P → (P → Q) → OnOk r Q
 on_ok (Ok x) P Q holds leads = leads holds
 on_ok (Err e) P Q holds leads = tt
-

@@ -1,6 +1,6 @@
 //! What is handed over of a segment of a cluster at rest.
-use lc_disk::Area;
 use crate::holder::Holder;
+use lc_disk::Area;
 use lc_token::Token;
 
 /// What is handed over of a segment: its token, the area of its pages, and where the token is. This project's own.

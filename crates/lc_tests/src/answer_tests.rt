@@ -1,11 +1,11 @@
 //! What the program answers, over a folder of files that list their calls.
-use lc_fixture::{Listed, Shelf, Trouble};
 use crate::steps::{
     Ask, COMMIT, COMMITS, COMMITTED, COPYING, EMPTYING, FIRST_OF_1, FLUSHING, FLUSHING_FIVE,
     INSPECTING, LOCKED, LOOKING_AT_ALL, MAKING_LOG, MAKING_SIZE, ONE, OPENING_FILES, READING,
     READING_SIZE, RECOVERING, STEP, SYNCING, Size, Step, check, check_all, check_calls,
 };
 use lc_disk::{Area, FileArea};
+use lc_fixture::{Listed, Shelf, Trouble};
 use std::alloc::Global;
 use std::process::Abort;
 use std::test::*;

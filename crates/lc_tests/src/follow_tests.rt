@@ -1,8 +1,8 @@
 //! Scripts that are followed: at a terminal the next line comes when the reply to the last is there.
 use crate::script_tests::WHOLE;
 use lc_fixture::ONE;
-use lc_text::ToolFault;
 use lc_recover::zero_areas;
+use lc_text::ToolFault;
 use lc_tool::{Manner, run_script};
 use std::cell::Cell;
 use std::io::{self, Error, ErrorKind, Read, Write};

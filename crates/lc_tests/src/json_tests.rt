@@ -1,6 +1,6 @@
 //! What a check prints as JSON, over a folder of files that list their calls.
-use lc_fixture::{Shelf, Trouble};
 use crate::steps::{Ask, COMMIT, COMMITTED, ONE, STEP, Size, Step, check, check_all};
+use lc_fixture::{Shelf, Trouble};
 use std::test::*;
 
 const TWO_OF_EACH: Size = Size {

@@ -1,6 +1,6 @@
 //! Who is said to have a store that is in use, by the system's list of locks.
-use lc_fixture::{Shelf, Trouble};
 use crate::steps::{Ask, LOCKED, ONE, STEP, Step, check};
+use lc_fixture::{Shelf, Trouble};
 use std::alloc::Global;
 use std::process::Abort;
 use std::test::*;

@@ -1,9 +1,9 @@
 //! What a look at a store prints and calls, over a folder of files that list their calls.
-use lc_fixture::{Shelf, Trouble};
 use crate::steps::{
     Ask, COMMIT, COMMITTED, EMPTYING, FIRST_OF_1, FLUSHING, ONE, OPENING_FILES, READING,
     READING_SIZE, RECOVERING, STEP, SYNCING, Size, Step, check, check_all, told,
 };
+use lc_fixture::{Shelf, Trouble};
 use std::test::*;
 
 // The look at it, beside others: the size that its file says, and then its files.

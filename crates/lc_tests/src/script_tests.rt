@@ -1,6 +1,8 @@
 //! Scripts over stores that others have made, devices that fail, readers and writers that fail, and the longest script.
 use lc_disk::{Fuse, MemArea, Stoppable, When};
-use lc_fixture::{CLOSED, Narrow, ONE, SlotText, WRONG_LENGTHS, hello, log_area, segment_area, store_of};
+use lc_fixture::{
+    CLOSED, Narrow, ONE, SlotText, WRONG_LENGTHS, hello, log_area, segment_area, store_of,
+};
 use lc_recover::zero_areas;
 use lc_text::ToolFault;
 use lc_tool::{Manner, Noted, run_script};

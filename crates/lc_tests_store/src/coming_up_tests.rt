@@ -1,6 +1,6 @@
 //! Stores that come up by one call.
-use lc_fixture::{CLOSED, hello, store_of};
 use lc_core::{CallFault, FlushProgress, Refusal, World};
+use lc_fixture::{CLOSED, hello, store_of};
 use lc_record::Geometry;
 use std::process::Abort;
 use std::test::*;

@@ -1,6 +1,6 @@
 //! Pictures of stores, by their text.
-use lc_fixture::{CLOSED, Narrow, ONE, hello, log_area, open, segment_area, store_of};
 use lc_disk::{Fuse, When};
+use lc_fixture::{CLOSED, Narrow, ONE, hello, log_area, open, segment_area, store_of};
 use lc_look::draw_areas;
 use lc_record::Geometry;
 use lc_recover::zero_areas;

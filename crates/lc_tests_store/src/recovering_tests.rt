@@ -1,6 +1,6 @@
 //! Recoveries on their own, by what they print.
-use lc_fixture::{CLOSED, Narrow, ONE, SlotText, WRONG_LENGTHS, hello, log_area, segment_area};
 use lc_disk::{Area, Fuse, MemArea, When};
+use lc_fixture::{CLOSED, Narrow, ONE, SlotText, WRONG_LENGTHS, hello, log_area, segment_area};
 use lc_look::recover_areas;
 use lc_record::Geometry;
 use lc_recover::zero_areas;

@@ -3,8 +3,8 @@ ghost use Rattle.std.specs.Prelude.{◌≡◌, IfOk, IfErr, IfSome};
 ghost use Rattle.lc_record.specs.Geometry.{HasNumbers};
 ghost use Rattle.lc_recover.specs.Recovery.{IsDone, Tells};
 
-use lc_fixture::{CLOSED, SlotText, hello, log_area, open, segment_area, store_of};
 use lc_disk::{Area, Choice, DeviceFault, Fuse, MemArea, Stoppable, When};
+use lc_fixture::{CLOSED, SlotText, hello, log_area, open, segment_area, store_of};
 use lc_page::{PageText, Slot};
 use lc_record::Geometry;
 use lc_recover::{Progress, RecoverFault, Recovered, Recovery};

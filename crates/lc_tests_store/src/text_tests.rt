@@ -1,7 +1,7 @@
 //! What lines are read as, and the texts of replies, pages and records.
 use crate::events::says;
-use lc_fixture::{Narrow, bytes_of, hello};
 use lc_core::{Refusal, Reply};
+use lc_fixture::{Narrow, bytes_of, hello};
 use lc_record::{Items, Lock, RangeData, Record, encode};
 use lc_text::{
     Line, ToolFault, inspect, parse, write_closed, write_no_memory, write_not_understood,

@@ -1,8 +1,8 @@
 //! What a truncation calls of the system.
 use crate::events::{play, up_on};
-use lc_fixture::{Listed, Shelf};
 use lc_core::{Refusal, Reply, Truncation, TruncationStep};
 use lc_disk::{FileArea, OpenFault};
+use lc_fixture::{Listed, Shelf};
 use lc_record::Geometry;
 use std::test::*;
 

@@ -1,9 +1,9 @@
 //! A store of several nodes by its events: how it comes up, what it shows, and devices that fail.
 use crate::events::{STOPS, TWO_NODES, comes_up, event_of, events_of, play, says, up_on};
 use crate::hostile_tests::down_with;
-use lc_fixture::{CLOSED, hello, store_of};
 use lc_core::{Event, Reply, World, run_areas, run_in_memory};
 use lc_disk::{Fuse, MemArea, Stoppable, When};
+use lc_fixture::{CLOSED, hello, store_of};
 use lc_record::Geometry;
 use lc_recover::RecoverFault;
 use std::alloc::Global;
