@@ -2,7 +2,7 @@
 use crate::measurement::{Measurement, Subject};
 use crate::measurements::ALL;
 use crate::rounds::Found;
-use crate::{clusters, files, growth, memory, running, staging};
+use crate::{files, growth, memory, running};
 use lc_disk::HeldFile;
 use std::io;
 use std::rt::{Clock, Files};
@@ -73,9 +73,7 @@ where
         Subject::Image => memory::on_image(rt, measurement),
         Subject::Memory => memory::on_store(rt, measurement),
         Subject::Files | Subject::NodeFiles => files::measure(rt, measurement, folder),
-        Subject::Stage => staging::measure(rt, measurement.threads),
         Subject::Node => running::in_memory(rt, measurement),
-        Subject::Cluster(sent) => clusters::measure(rt, measurement, sent),
         Subject::Events => {
             growth::measure(rt)?;
             return Ok(None);

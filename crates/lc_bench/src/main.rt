@@ -4,7 +4,6 @@
 
 mod by_hand;
 mod choosing;
-mod clusters;
 mod committing;
 mod copies;
 mod counted;
@@ -19,7 +18,6 @@ mod nodes;
 mod rounds;
 mod running;
 mod side_by_side;
-mod staging;
 mod stores;
 mod transactions;
 mod writes;

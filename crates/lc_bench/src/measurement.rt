@@ -23,25 +23,12 @@ pub(crate) enum Subject {
     Memory,
     /// A store in files.
     Files,
-    /// Staged records of threads that run.
-    Stage,
     /// Each kind of event, one at a time.
     Events,
     /// A running node in memory.
     Node,
     /// A running node in files, where each commit waits until it is stable.
     NodeFiles,
-    /// A cluster in memory.
-    Cluster(Sent),
-}
-
-/// What goes from node to node of a cluster.
-#[derive(Clone, Copy)]
-pub(crate) enum Sent {
-    /// The token of a segment, to another node and back, as often as there are transactions.
-    Token,
-    /// The records of one node, to all others.
-    Records,
 }
 
 /// What is timed of a round on a store.

@@ -1,5 +1,5 @@
 //! All measurements.
-use crate::measurement::{End, Measurement, Places, Sent, Subject, Timed};
+use crate::measurement::{End, Measurement, Places, Subject, Timed};
 
 // A transaction of one range at a random place of a segment of 64 pages.
 const ONE: Measurement = Measurement {
@@ -26,7 +26,7 @@ const NODE: Measurement = Measurement {
 };
 
 /// All that there are, in the order in which their names are printed.
-pub(crate) static ALL: [Measurement; 30] = [
+pub(crate) static ALL: [Measurement; 26] = [
     ONE,
     Measurement {
         name: "32-ranges",
@@ -167,19 +167,6 @@ pub(crate) static ALL: [Measurement; 30] = [
         places: Places::InTurn,
         ..ONE
     },
-    Measurement {
-        name: "staging-1-thread",
-        subject: Subject::Stage,
-        count: 512,
-        ..ONE
-    },
-    Measurement {
-        name: "staging-4-threads",
-        subject: Subject::Stage,
-        threads: 4,
-        count: 512,
-        ..ONE
-    },
     NODE,
     Measurement {
         name: "node-lazy-4-threads",
@@ -214,18 +201,5 @@ pub(crate) static ALL: [Measurement; 30] = [
         segments: 16,
         group: 16,
         ..NODE
-    },
-    Measurement {
-        name: "cluster-token",
-        subject: Subject::Cluster(Sent::Token),
-        nodes: 2,
-        ..ONE
-    },
-    Measurement {
-        name: "cluster-records",
-        subject: Subject::Cluster(Sent::Records),
-        nodes: 4,
-        group: 256,
-        ..ONE
     },
 ];

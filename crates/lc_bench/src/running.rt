@@ -240,10 +240,7 @@ fn committers<'a, D: Area + Drop>(
 }
 
 /// Zeros in memory, as many as the areas of the store have.
-pub(crate) fn areas_in_memory(
-    alloc: Global,
-    measurement: &Measurement,
-) -> io::Result<Vec<MemArea>> {
+fn areas_in_memory(alloc: Global, measurement: &Measurement) -> io::Result<Vec<MemArea>> {
     let mut areas = Vec::new(alloc);
     for place in 0..measurement.areas() {
         areas.push(MemArea::new(alloc, measurement.area_len(place)?)?)?;
