@@ -12,8 +12,9 @@ use crate::nodes::Running;
 use crate::rounds::{Round, Rounds};
 use crate::side_by_side::{Span, StartingLine, Task, Together, run_all};
 use crate::writes::Writes;
-use lc_disk::{Area, FileArea, HeldFile, MemArea};
+use lc_disk::{Area, FileArea, HeldFile};
 use lc_node::{Mode, Node};
+use lc_recover::zero_areas;
 use lc_stage::CommitSeat;
 use std::alloc::Global;
 use std::io::{self, Error, ErrorKind};
@@ -53,7 +54,7 @@ fn in_memory_beside<R: AllocGlobal + Clock + Threads + Wait + Sync, P: Work<R>>(
     plain: &mut P,
 ) -> io::Result<Rounds> {
     let syncs = AtomicU64::new(0);
-    let areas = areas_in_memory(rt.alloc(), measurement)?;
+    let areas = zero_areas(rt.alloc(), &measurement.geometry()?)?;
     let (rounds, _synced) = measure_on(rt, measurement, Mode::Lazy, areas, &syncs, plain)?;
     Ok(rounds)
 }
@@ -237,15 +238,6 @@ fn committers<'a, D: Area + Drop>(
         })?;
     }
     Ok(committers)
-}
-
-/// Zeros in memory, as many as the areas of the store have.
-fn areas_in_memory(alloc: Global, measurement: &Measurement) -> io::Result<Vec<MemArea>> {
-    let mut areas = Vec::new(alloc);
-    for place in 0..measurement.areas() {
-        areas.push(MemArea::new(alloc, measurement.area_len(place)?)?)?;
-    }
-    Ok(areas)
 }
 
 // New files for the areas of the store. The syncs of the log are counted so that the caller sees them.
