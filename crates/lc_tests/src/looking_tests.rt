@@ -1,9 +1,9 @@
 //! What a look at a store prints and calls, over a folder of files that list their calls.
-use lc_fixture::{Shelf, Trouble};
 use crate::steps::{
     Ask, COMMIT, COMMITTED, EMPTYING, FIRST_OF_1, FLUSHING, ONE, OPENING_FILES, READING,
     READING_SIZE, RECOVERING, STEP, SYNCING, Size, Step, check, check_all, told,
 };
+use lc_fixture::{Shelf, Trouble};
 use std::test::*;
 
 // The look at it, beside others: the size that its file says, and then its files.
@@ -144,8 +144,8 @@ static DRAWN: Step = Step {
 #[test]
 fn a_store_that_is_drawn_is_not_changed(rt: HostRuntime) -> Result<(), Fail> {
     let shelf = Shelf::new(rt.alloc());
-    check(&rt, rt.alloc(), &shelf, &STEP)?;
-    let text = told(&rt, rt.alloc(), &shelf, &DRAWN)?;
+    check(&rt, &"the making", rt.alloc(), &shelf, &STEP)?;
+    let text = told(&rt, &"the drawing", rt.alloc(), &shelf, &DRAWN)?;
     assert!(rt; text.as_slice().starts_with("<svg ".as_bytes()));
     Ok(())
 }

@@ -9,6 +9,7 @@ ghost use Rattle.lc_tests_low.specs.Rounds.{IsUncleared};
 
 use crate::staging::{TURNS, begun, close_eight, low_byte, settle};
 use lc_disk::{Area, MemArea};
+use lc_expect::holds;
 use lc_log::NodeLog;
 use lc_record::Group;
 use lc_stage::{CommitSeat, FlushSeat, Receipt, Stage, StageFault};
@@ -346,7 +347,11 @@ fn sixteen_threads_over_rounds(rt: HostRuntime) -> Result<(), Fail> {
         };
         for (place, receipt) in receipts.iter().enumerate() {
             let number = id.wrapping_mul(3).wrapping_add(place).wrapping_add(1);
-            assert!(rt; is_true(&taken, number, receipt), "{number}");
+            holds(
+                &rt,
+                &format_args!("record {number}, taken where its receipt says"),
+                is_true(&taken, number, receipt),
+            );
         }
     }
     let last = taken.last().ok_or("there is a record")?;

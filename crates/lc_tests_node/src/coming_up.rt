@@ -12,6 +12,7 @@ use crate::stores::{SEGMENT_BYTES, recovered};
 use lc_adopt::into_world;
 use lc_core::{Event, Part, Reply, World};
 use lc_disk::{Area, Choice, Fuse, MemArea, When};
+use lc_expect::holds;
 use lc_node::{Cluster, Commit, Confirmed, Mode, Node, NodeFault, Put};
 use lc_record::{Geometry, Items};
 use lc_recover::area_len;
@@ -429,7 +430,11 @@ fn run_and_come_up<R: Threads + Wait + Sync>(
 fn honest_runs_come_up_with_all_that_was_closed(rt: HostRuntime) -> Result<(), Fail> {
     for run in 0..200 {
         let nodes = (run % 3) as u16 + 2;
-        assert!(rt; run_and_come_up(&rt, rt.alloc(), nodes, run)?, "run {run}");
+        holds(
+            &rt,
+            &format_args!("run {run} of {nodes} nodes"),
+            run_and_come_up(&rt, rt.alloc(), nodes, run)?,
+        );
     }
     Ok(())
 }
