@@ -250,6 +250,7 @@ static MISFITS: [Misfit; 5] = [
 // A run and a recovery of such a store, which write nothing.
 fn check_misfit(
     rt: &impl Abort,
+    row: usize,
     alloc: Global,
     shelf: &Shelf,
     misfit: &Misfit,
@@ -264,19 +265,20 @@ fn check_misfit(
 lcrvm: store: --as-found takes nodes 2 segments 2 pages 1 words 64\n",
         ..STEP
     };
-    check(rt, alloc, shelf, &run)?;
+    check(rt, &format_args!("run {row}"), alloc, shelf, &run)?;
     let ask = Ask::Recover(misfit.size);
-    check(rt, alloc, shelf, &Step { ask, ..run })
+    let row = format_args!("recovery {row}");
+    check(rt, &row, alloc, shelf, &Step { ask, ..run })
 }
 
 // Behind a mark, too.
 #[test]
 fn a_folder_with_more_files_is_refused(rt: HostRuntime) -> Result<(), Fail> {
     let shelf = Shelf::new(rt.alloc());
-    check(&rt, rt.alloc(), &shelf, &MAKING_TWO_OF_EACH)?;
+    check(&rt, &"the making", rt.alloc(), &shelf, &MAKING_TWO_OF_EACH)?;
     shelf.put("store/fault")?;
-    for misfit in &MISFITS {
-        check_misfit(&rt, rt.alloc(), &shelf, misfit)?;
+    for (row, misfit) in MISFITS.iter().enumerate() {
+        check_misfit(&rt, row, rt.alloc(), &shelf, misfit)?;
     }
     Ok(())
 }
@@ -372,8 +374,7 @@ static COPIED: [Step; 2] = [
 // A store is made, used so that a call fails, and recovered.
 fn check_failing(rt: &impl Abort, alloc: Global, failing: Step) -> Result<(), Fail> {
     let shelf = Shelf::new(alloc);
-    check_all(rt, alloc, &shelf, &[STEP, failing])?;
-    check_all(rt, alloc, &shelf, &COPIED)
+    check_all(rt, alloc, &shelf, &[STEP, failing, COPIED[0], COPIED[1]])
 }
 
 #[test]
@@ -421,15 +422,16 @@ const NOT_LOOKED_AT: Step = Step {
 #[test]
 fn an_init_that_fails_takes_away_what_it_made(rt: HostRuntime) -> Result<(), Fail> {
     let alloc = rt.alloc();
-    for step in &[NOT_MADE, PARENT_NOT_SYNCED] {
-        check(&rt, alloc, &Shelf::new(alloc), step)?;
+    for (row, step) in [NOT_MADE, PARENT_NOT_SYNCED].iter().enumerate() {
+        check(&rt, &row, alloc, &Shelf::new(alloc), step)?;
     }
     Ok(())
 }
 
 #[test]
 fn a_name_that_cannot_be_looked_at_is_a_fault(rt: HostRuntime) -> Result<(), Fail> {
-    check(&rt, rt.alloc(), &Shelf::new(rt.alloc()), &NOT_LOOKED_AT)
+    let shelf = Shelf::new(rt.alloc());
+    check(&rt, &"no look", rt.alloc(), &shelf, &NOT_LOOKED_AT)
 }
 
 const TWO_PAGES: Size = Size {
@@ -529,6 +531,7 @@ fn behind_a_failed_call_no_other_is_made(rt: HostRuntime) -> Result<(), Fail> {
     assert!(rt; area.write_at(0, &[]).is_err() && area.read(0, &mut []).is_err());
     check_calls(
         &rt,
+        &"one sync",
         &shelf.calls()?,
         &["open store/log0\nsync store/log0\n"],
     );

@@ -1,9 +1,12 @@
 //! Stores in folders of the system.
+use crate::expect::equal;
 use crate::script_tests::WHOLE;
 use lc_record::Geometry;
 use lc_tool::{ErrorOutput, init_store, inspect_file, recover_store, run_store};
+use std::fmt::Display;
 use std::fs::{self, OpenFile, OpenOptions};
 use std::os::unix::fs::symlink;
+use std::process::Abort;
 use std::test::*;
 use std::{env, process};
 
@@ -124,13 +127,22 @@ fn asked(rt: &HostRuntime, folder: &str, ask: Ask) -> Result<(Vec<u8>, u8), Fail
     Ok((text, status))
 }
 
-// The failure names what should have been printed.
-fn check_all(rt: &HostRuntime, folder: &str, steps: &[Step]) -> Result<(), Fail> {
-    for (ask, want, status) in steps {
+// What is printed at each of these steps, and its status.
+fn check_all(
+    test: &impl Abort,
+    rt: &HostRuntime,
+    row: &impl Display,
+    folder: &str,
+    steps: &[Step],
+) -> Result<(), Fail> {
+    for (place, (ask, want, status)) in steps.iter().enumerate() {
         let (text, answered) = asked(rt, folder, *ask)?;
-        if text.as_slice() != want.as_bytes() || answered != *status {
-            return Err(Fail::from(*want));
-        }
+        equal(
+            test,
+            &format_args!("{row}, step {place}"),
+            &(str::from_utf8(text.as_slice()).ok(), answered),
+            &(Some(*want), *status),
+        );
     }
     Ok(())
 }
@@ -169,10 +181,10 @@ static USED: [Step; 6] = [
 #[test]
 fn a_store_lives_in_a_folder(rt: HostRuntime) -> Result<(), Fail> {
     let folder = new_folder(&rt)?;
-    check_all(&rt, &folder, &MADE)?;
+    check_all(&rt, &rt, &"made", &folder, &MADE)?;
     assert!(rt; has_len(&rt, &folder, "/log0", 520)? && has_len(&rt, &folder, "/seg1", 544)?);
-    check_all(&rt, &folder, &NOT_MADE)?;
-    check_all(&rt, &folder, &USED)?;
+    check_all(&rt, &rt, &"not made", &folder, &NOT_MADE)?;
+    check_all(&rt, &rt, &"used", &folder, &USED)?;
     fs::remove_dir_all(&rt, &folder)?;
     Ok(())
 }
@@ -212,10 +224,13 @@ static OF_ANOTHER_SIZE: [Step; 9] = [
 
 #[test]
 fn logs_are_inspected_both_ways_and_sizes_compared(rt: HostRuntime) -> Result<(), Fail> {
-    let steps: [&[Step]; 2] = [&INSPECTED, &OF_ANOTHER_SIZE];
-    for steps in steps {
+    let steps: [(&str, &[Step]); 2] = [
+        ("inspected", &INSPECTED),
+        ("of another size", &OF_ANOTHER_SIZE),
+    ];
+    for (row, steps) in steps {
         let folder = new_folder(&rt)?;
-        check_all(&rt, &folder, steps)?;
+        check_all(&rt, &rt, &row, &folder, steps)?;
         fs::remove_dir_all(&rt, &folder)?;
     }
     Ok(())
@@ -244,16 +259,16 @@ fn what_stands_in_the_way_of_a_store(rt: HostRuntime) -> Result<(), Fail> {
     let segment = format!(in alloc; "{folder}/seg1")?;
     let nothing = format!(in alloc; "{folder}/nothing")?;
     fs::write(&rt, &segment, "")?;
-    check_all(&rt, &folder, &NOT_MADE)?;
+    check_all(&rt, &rt, &"a segment", &folder, &NOT_MADE)?;
     assert!(rt; !fs::exists(&rt, &log)?);
     fs::remove_file(&rt, &segment)?;
     fs::create_dir(&rt, &log)?;
-    check_all(&rt, &folder, &IN_THE_WAY)?;
+    check_all(&rt, &rt, &"a folder", &folder, &IN_THE_WAY)?;
     fs::remove_dir(&rt, &log)?;
     symlink(&rt, &nothing, &log)?;
-    check_all(&rt, &folder, &IN_THE_WAY)?;
-    check_all(&rt, &nothing, &NOTHING_THERE)?;
-    check_all(&rt, "", &NOTHING_THERE)?;
+    check_all(&rt, &rt, &"a link", &folder, &IN_THE_WAY)?;
+    check_all(&rt, &rt, &"nothing there", &nothing, &NOTHING_THERE)?;
+    check_all(&rt, &rt, &"no name", "", &NOTHING_THERE)?;
     assert!(rt; !fs::exists(&rt, &nothing)?);
     fs::remove_dir_all(&rt, &folder)?;
     Ok(())
@@ -282,11 +297,11 @@ fn a_file_that_is_no_log_takes_no_memory(rt: HostRuntime) -> Result<(), Fail> {
     let file = options.write(true).create(true).open(&rt, &path)?;
     for len in [0, 8, 512, 521, 32784, 1 << 40] {
         file.set_len(len)?;
-        check_all(&rt, &folder, &NO_LOG)?;
+        check_all(&rt, &rt, &len, &folder, &NO_LOG)?;
     }
     for len in [520, 32776] {
         file.set_len(len)?;
-        check_all(&rt, &folder, &EMPTY_LOG)?;
+        check_all(&rt, &rt, &len, &folder, &EMPTY_LOG)?;
     }
     fs::remove_dir_all(&rt, &folder)?;
     Ok(())

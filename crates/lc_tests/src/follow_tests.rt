@@ -1,4 +1,5 @@
 //! Scripts that are followed: at a terminal the next line comes when the reply to the last is there.
+use crate::expect::equal;
 use crate::script_tests::WHOLE;
 use lc_fixture::ONE;
 use lc_recover::zero_areas;
@@ -196,8 +197,12 @@ fn a_line_that_is_followed_has_a_limit(rt: HostRuntime) -> Result<(), Fail> {
         (LONGEST_LINE + 1, "script too long\n", 2),
     ] {
         let (text, status) = commented(&rt, len, 3)?;
-        assert!(rt; text.as_slice() == wanted.as_bytes(), "{len}");
-        assert!(rt; status == Ok(ending), "{len}");
+        equal(
+            &rt,
+            &format_args!("{len} bytes"),
+            &(str::from_utf8(text.as_slice()).ok(), status),
+            &(Some(wanted), Ok(ending)),
+        );
     }
     Ok(())
 }

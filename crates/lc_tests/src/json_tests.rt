@@ -107,7 +107,7 @@ fn a_refused_check_is_an_object_too(rt: HostRuntime) -> Result<(), Fail> {
 #[test]
 fn a_file_that_does_not_fit_is_named(rt: HostRuntime) -> Result<(), Fail> {
     let shelf = Shelf::new(rt.alloc());
-    check(&rt, rt.alloc(), &shelf, &STEP)?;
+    check(&rt, &"the making", rt.alloc(), &shelf, &STEP)?;
     shelf.take("store/lcrvm.store")?;
     shelf.take("store/log0")?;
     let missing = Step {
@@ -118,5 +118,5 @@ fn a_file_that_does_not_fit_is_named(rt: HostRuntime) -> Result<(), Fail> {
         said: "lcrvm: store: the size is only as found: it has no lcrvm.store\n",
         ..STEP
     };
-    check(&rt, rt.alloc(), &shelf, &missing)
+    check(&rt, &"the check", rt.alloc(), &shelf, &missing)
 }

@@ -4,6 +4,8 @@
 #[cfg(test)]
 mod answer_tests;
 #[cfg(test)]
+mod expect;
+#[cfg(test)]
 mod folder_tests;
 #[cfg(test)]
 mod follow_tests;

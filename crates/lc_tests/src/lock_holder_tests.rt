@@ -88,9 +88,15 @@ static ROWS: [Row; 12] = [
     },
 ];
 
-fn check_row(rt: &impl Abort, alloc: Global, row: &Row) -> Result<(), Fail> {
+fn check_row(rt: &impl Abort, number: usize, alloc: Global, row: &Row) -> Result<(), Fail> {
     let shelf = Shelf::new(alloc);
-    check(rt, alloc, &shelf, &STEP)?;
+    check(
+        rt,
+        &format_args!("{number}, the making"),
+        alloc,
+        &shelf,
+        &STEP,
+    )?;
     shelf.put_text(LOCKS, row.locks)?;
     for path in row.running {
         shelf.put(path)?;
@@ -104,13 +110,13 @@ fn check_row(rt: &impl Abort, alloc: Global, row: &Row) -> Result<(), Fail> {
         said: row.said,
         ..STEP
     };
-    check(rt, alloc, &shelf, &in_use)
+    check(rt, &number, alloc, &shelf, &in_use)
 }
 
 #[test]
 fn the_first_holder_that_is_there_is_named(rt: HostRuntime) -> Result<(), Fail> {
-    for row in &ROWS {
-        check_row(&rt, rt.alloc(), row)?;
+    for (number, row) in ROWS.iter().enumerate() {
+        check_row(&rt, number, rt.alloc(), row)?;
     }
     Ok(())
 }
@@ -145,11 +151,11 @@ static ASKED: [Step; 2] = [
 #[test]
 fn the_list_of_locks_is_read_once(rt: HostRuntime) -> Result<(), Fail> {
     let shelf = Shelf::new(rt.alloc());
-    check(&rt, rt.alloc(), &shelf, &STEP)?;
+    check(&rt, &"the making", rt.alloc(), &shelf, &STEP)?;
     shelf.put_text(LOCKS, "1: FLOCK  ADVISORY  WRITE 1234 00:00:0 0 EOF\n")?;
     shelf.put("/proc/1234")?;
-    for step in &ASKED {
-        check(&rt, rt.alloc(), &shelf, step)?;
+    for (row, step) in ASKED.iter().enumerate() {
+        check(&rt, &row, rt.alloc(), &shelf, step)?;
     }
     Ok(())
 }

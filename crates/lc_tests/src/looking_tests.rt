@@ -144,8 +144,8 @@ static DRAWN: Step = Step {
 #[test]
 fn a_store_that_is_drawn_is_not_changed(rt: HostRuntime) -> Result<(), Fail> {
     let shelf = Shelf::new(rt.alloc());
-    check(&rt, rt.alloc(), &shelf, &STEP)?;
-    let text = told(&rt, rt.alloc(), &shelf, &DRAWN)?;
+    check(&rt, &"the making", rt.alloc(), &shelf, &STEP)?;
+    let text = told(&rt, &"the drawing", rt.alloc(), &shelf, &DRAWN)?;
     assert!(rt; text.as_slice().starts_with("<svg ".as_bytes()));
     Ok(())
 }

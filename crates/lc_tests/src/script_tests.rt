@@ -1,11 +1,14 @@
 //! Scripts over stores that others have made, devices that fail, readers and writers that fail, and the longest script.
+use crate::expect::equal;
 use lc_disk::{Fuse, MemArea, Stoppable, When};
 use lc_fixture::{
     CLOSED, Narrow, ONE, SlotText, WRONG_LENGTHS, hello, log_area, segment_area, store_of,
 };
+use lc_record::Geometry;
 use lc_recover::zero_areas;
 use lc_text::ToolFault;
 use lc_tool::{Manner, Noted, run_script};
+use std::fmt::Display;
 use std::io::{self, Error, ErrorKind, Read, Write};
 use std::process::Abort;
 use std::test::*;
@@ -19,6 +22,7 @@ pub(crate) const WHOLE: Manner = Manner {
 // What a script prints on these areas, and its status.
 fn check<D: Stoppable + Drop>(
     rt: &(impl Abort + AllocGlobal),
+    row: &impl Display,
     geometry: Geometry,
     areas: Vec<D>,
     script: &[u8],
@@ -27,9 +31,11 @@ fn check<D: Stoppable + Drop>(
     let mut reader = script;
     let mut text = Vec::new(rt.alloc());
     let status = run_script(rt.alloc(), geometry, WHOLE, areas, &mut reader, &mut text)?;
-    assert!(rt;
-        text.as_slice() == want.as_bytes() && status == want_status,
-        "{want}"
+    equal(
+        rt,
+        row,
+        &(str::from_utf8(text.as_slice()).ok(), status),
+        &(Some(want), want_status),
     );
     Ok(())
 }
@@ -41,13 +47,21 @@ const LONGEST: usize = 1_048_576;
 fn the_longest_script(rt: HostRuntime) -> Result<(), Fail> {
     let alloc = rt.alloc();
     let mut script = vec![in alloc; b'#'; LONGEST]?;
-    check(&rt, ONE, zero_areas(alloc, &ONE)?, &script, ("", 0))?;
+    let areas = zero_areas(alloc, &ONE)?;
+    check(&rt, &"the longest", ONE, areas, &script, ("", 0))?;
     script.push(b'\n')?;
     let areas = zero_areas(alloc, &ONE)?;
-    check(&rt, ONE, areas, &script, ("script too long\n", 2))?;
+    check(
+        &rt,
+        &"too long",
+        ONE,
+        areas,
+        &script,
+        ("script too long\n", 2),
+    )?;
     // A refused recovery comes before.
     let areas = store_of(alloc, &hello(0, 1, 3, 3), &[CLOSED; 2])?;
-    check(&rt, ONE, areas, &script, ("refused Gap 1 1\n", 1))
+    check(&rt, &"a gap", ONE, areas, &script, ("refused Gap 1 1\n", 1))
 }
 
 const READ: &str = "begin 0 0 1\nread 0 0 1 2 7\nread 0 0 1 254 2\n";
@@ -144,13 +158,13 @@ static FOUND: [(Stands, [SlotText; 2], &str, &str, u8); 12] = [
 
 #[test]
 fn stores_that_others_have_made(rt: HostRuntime) -> Result<(), Fail> {
-    for (records, slots, script, want, status) in &FOUND {
+    for (row, (records, slots, script, want, status)) in FOUND.iter().enumerate() {
         let mut words = Vec::new(rt.alloc());
         for (node, segment, seq, offset) in records.iter() {
             words.extend_from_slice(&hello(*node, *segment, *seq, *offset))?;
         }
         let areas = store_of(rt.alloc(), &words, slots)?;
-        check(&rt, ONE, areas, script.as_bytes(), (want, *status))?;
+        check(&rt, &row, ONE, areas, script.as_bytes(), (want, *status))?;
     }
     Ok(())
 }
@@ -161,7 +175,8 @@ fn what_is_no_record_is_no_refusal(rt: HostRuntime) -> Result<(), Fail> {
     words[0] = 0x0000_0009_0001_01a5;
     let areas = store_of(rt.alloc(), &words, &[CLOSED; 2])?;
     let script = b"log 0\nbegin 0 0 1\nread 0 0 1 2 7\n";
-    check(&rt, ONE, areas, script, ("ok\nbytes 00000000000000\n", 0))
+    let want = ("ok\nbytes 00000000000000\n", 0);
+    check(&rt, &"no record", ONE, areas, script, want)
 }
 
 // The record of node 0 under lock 1:1, with so many words of the byte 7 from 0 on in segment 1. It takes 64 words, or the word
@@ -190,7 +205,7 @@ fn a_record_may_fill_its_log(rt: HostRuntime) -> Result<(), Fail> {
         record.push(len)?;
         let areas = store_of(alloc, &record, &[CLOSED; 4])?;
         let script = b"begin 0 0 1\nread 0 0 1 454 6\nread 0 0 1 463 1\n";
-        check(&rt, two_pages, areas, script, (want, 0))?;
+        check(&rt, &data, two_pages, areas, script, (want, 0))?;
     }
     Ok(())
 }
@@ -214,6 +229,7 @@ fn a_record_of_the_second_version_is_recovered(rt: HostRuntime) -> Result<(), Fa
     let geometry = Geometry::new(1, 1, 1, 65, 64).ok_or("no geometry")?;
     check(
         &rt,
+        &"the second version",
         geometry,
         areas,
         script,
@@ -223,12 +239,12 @@ fn a_record_of_the_second_version_is_recovered(rt: HostRuntime) -> Result<(), Fa
 
 #[test]
 fn areas_of_another_store(rt: HostRuntime) -> Result<(), Fail> {
-    for (lens, want) in WRONG_LENGTHS {
+    for (row, (lens, want)) in WRONG_LENGTHS.iter().enumerate() {
         let mut areas = Vec::new(rt.alloc());
-        for len in lens {
+        for len in lens.iter() {
             areas.push(MemArea::new(rt.alloc(), *len)?)?;
         }
-        check(&rt, ONE, areas, b"jump\n", (want, 1))?;
+        check(&rt, &row, ONE, areas, b"jump\n", (want, 1))?;
     }
     Ok(())
 }
@@ -252,14 +268,15 @@ static FAILING: [(u8, &str, &str, u8); 11] = [
 
 #[test]
 fn a_device_fault_ends_a_script(rt: HostRuntime) -> Result<(), Fail> {
-    for (call, script, want, status) in &FAILING {
+    for (row, (call, script, want, status)) in FAILING.iter().enumerate() {
         let log = log_area(rt.alloc(), &[])?;
         let pages = segment_area(rt.alloc(), &[CLOSED; 2])?;
         let areas = vec![in rt.alloc();
             Fuse::new(log, When::At(u64::from(*call))),
             Fuse::new(pages, When::At(0)),
         ]?;
-        check(&rt, ONE, areas, script.as_bytes(), (want, *status))?;
+        let row = format_args!("row {row}, call {call}");
+        check(&rt, &row, ONE, areas, script.as_bytes(), (want, *status))?;
     }
     Ok(())
 }
@@ -407,8 +424,18 @@ fn an_interrupted_call_is_noted_until_the_next(rt: HostRuntime) -> Result<(), Fa
         } else {
             writer.flush()
         };
-        assert!(rt; done.err().map(|met| met.kind()) == *error, "{call}");
-        assert!(rt; writer.error().map(|met| met.kind()) == *noted, "{call}");
+        equal(
+            &rt,
+            &format_args!("call {call} meets"),
+            &done.err().map(|met| met.kind()),
+            error,
+        );
+        equal(
+            &rt,
+            &format_args!("call {call} is noted"),
+            &writer.error().map(|met| met.kind()),
+            noted,
+        );
     }
     // std's loop tries an interrupted write again, and the fault behind it is what is noted.
     let mut writer = Noted::new(Stumbling {
@@ -445,15 +472,22 @@ fn a_reader_or_a_writer_that_fails(rt: HostRuntime) -> Result<(), Fail> {
         ErrorKind::Other,
     ] {
         for left in [20, 8, 0] {
-            assert!(rt;
-                run_failing(&rt, left, kind, 64)? == Err(ToolFault::Read),
-                "{left}"
+            equal(
+                &rt,
+                &format_args!("{kind:?} with {left} bytes left"),
+                &run_failing(&rt, left, kind, 64)?,
+                &Err(ToolFault::Read),
             );
         }
     }
     for room in [0, 2, 3, 10] {
         let ran = run_failing(&rt, 21, ErrorKind::Other, room)?;
-        assert!(rt; ran == Err(ToolFault::Write), "{room}");
+        equal(
+            &rt,
+            &format_args!("room {room}"),
+            &ran,
+            &Err(ToolFault::Write),
+        );
     }
     assert!(rt; run_failing(&rt, 21, ErrorKind::Other, 11)? == Ok(0));
     Ok(())

@@ -1,9 +1,11 @@
 //! What is asked of the program over a folder of files that list their calls, and what comes of it.
+use crate::expect::{equal, equal_texts, holds};
 use lc_fixture::{FOLDER, Listed, Shelf, Trouble};
 use lc_record::Geometry;
 use lc_tool::{ErrorOutput, answer};
 use lc_words::{Asked, RunStore, Size as StoreSize, Wanted};
 use std::alloc::Global;
+use std::fmt::Display;
 use std::process::Abort;
 use std::test::*;
 
@@ -251,20 +253,25 @@ pub(crate) fn asked_of(alloc: Global, ask: Ask, folder: String) -> Result<Asked,
 }
 
 // These calls are these pieces, one behind another.
-pub(crate) fn check_calls(rt: &impl Abort, calls: &str, pieces: &[&str]) {
+pub(crate) fn check_calls(rt: &impl Abort, row: &impl Display, calls: &str, pieces: &[&str]) {
     let mut rest = calls;
     for piece in pieces {
         match rest.strip_prefix(*piece) {
             Some(behind) => rest = behind,
-            None => assert!(rt; false, "{calls}"),
+            None => holds(
+                rt,
+                &format_args!("{row}: {rest:?} begins with {piece:?}"),
+                false,
+            ),
         }
     }
-    assert!(rt; rest.is_empty(), "{calls}");
+    equal_texts(rt, &format_args!("{row}, the calls behind"), rest, "");
 }
 
 // Asks this, looks at what comes of it but for what is printed, and answers that.
 pub(crate) fn told(
     rt: &impl Abort,
+    row: &impl Display,
     alloc: Global,
     shelf: &Shelf,
     step: &Step,
@@ -281,26 +288,36 @@ pub(crate) fn told(
         &mut reader,
         &mut text,
     )?;
-    assert!(rt; status == step.status, "{status}");
+    equal(
+        rt,
+        &format_args!("{row}, the status"),
+        &status,
+        &step.status,
+    );
     let calls = shelf.calls()?;
     if let Some(pieces) = step.calls {
-        check_calls(rt, &calls, pieces);
+        check_calls(rt, row, &calls, pieces);
     }
     let said = shelf.said()?;
-    assert!(rt; said.as_str() == step.said, "{said}");
+    equal_texts(rt, row, said.as_str(), step.said);
     Ok(text)
 }
 
 // Asks this, and looks at all that comes of it.
 pub(crate) fn check(
     rt: &impl Abort,
+    row: &impl Display,
     alloc: Global,
     shelf: &Shelf,
     step: &Step,
 ) -> Result<(), Fail> {
-    let text = told(rt, alloc, shelf, step)?;
-    let printed = step.printed;
-    assert!(rt; text.as_slice() == printed.as_bytes(), "{printed}");
+    let text = told(rt, row, alloc, shelf, step)?;
+    equal(
+        rt,
+        row,
+        &str::from_utf8(text.as_slice()).ok(),
+        &Some(step.printed),
+    );
     Ok(())
 }
 
@@ -311,8 +328,8 @@ pub(crate) fn check_all(
     shelf: &Shelf,
     steps: &[Step],
 ) -> Result<(), Fail> {
-    for step in steps {
-        check(rt, alloc, shelf, step)?;
+    for (place, step) in steps.iter().enumerate() {
+        check(rt, &format_args!("step {place}"), alloc, shelf, step)?;
     }
     Ok(())
 }

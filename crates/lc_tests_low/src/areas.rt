@@ -1,4 +1,5 @@
 //! Areas in memory: what a stop leaves, and which calls fail.
+use crate::expect::equal;
 use lc_disk::{Area, Choice, Fuse, MemArea, Stoppable, When};
 use std::alloc::{AllocError, Global};
 use std::test::Fail;
@@ -49,7 +50,12 @@ fn a_fuse_fails_the_calls_that_it_was_told(rt: HostRuntime) -> Result<(), Fail> 
         (true, 0, [true; 6]),
         (true, 4, [false, false, false, true, true, true]),
     ] {
-        assert!(rt; failing(rt.alloc(), is_from, number)? == wanted, "{number}");
+        equal(
+            &rt,
+            &format_args!("{number}, and all behind it: {is_from}"),
+            &failing(rt.alloc(), is_from, number)?,
+            &wanted,
+        );
     }
     Ok(())
 }

@@ -1,4 +1,5 @@
 //! Areas over files.
+use crate::expect::equal;
 use crate::fake_file::{FakeFile, FakeFolder, Manner};
 use lc_disk::{Area, FileArea, OpenFault};
 use std::alloc::Global;
@@ -42,16 +43,19 @@ fn each_failing_call_is_counted(rt: HostRuntime) -> Result<(), Fail> {
         (4, [false, false, false, true]),
     ] {
         let mut area = eight_bytes(rt.alloc(), Manner::Fails(failing))?;
-        assert!(rt; area.len() == 8);
+        let len = area.len();
+        assert!(rt; len == 8, "call {failing}: {len}, where 8 is wanted");
         let failed = [
             area.write_at(0, &[7]).is_err(),
             area.sync().is_err(),
             area.read(0, &mut [9; 8]).is_err(),
             area.write_at(0, &[8]).is_err(),
         ];
-        assert!(rt;
-            failed == want && area.faults() == count(failed),
-            "{failing}"
+        equal(
+            &rt,
+            &failing,
+            &(failed, area.faults()),
+            &(want, count(failed)),
         );
     }
     Ok(())
@@ -84,9 +88,11 @@ fn a_sync_of_nothing_makes_no_call(rt: HostRuntime) -> Result<(), Fail> {
         (3, [false, false, false, false, false, true, true]),
         (4, [false, false, false, false, false, false, false]),
     ] {
-        assert!(rt;
-            failed_syncs(rt.alloc(), failing)? == Some(want),
-            "{failing}"
+        equal(
+            &rt,
+            &failing,
+            &failed_syncs(rt.alloc(), failing)?,
+            &Some(want),
         );
     }
     Ok(())
@@ -147,9 +153,9 @@ fn what_is_no_regular_file(rt: HostRuntime) -> Result<(), Fail> {
         (&below, OpenFault::NotOpened),
     ] {
         let made: Result<FileArea<File>, OpenFault> = FileArea::make(alloc, &rt, path, 8);
-        assert!(rt; made.err() == Some(fault), "{path}");
+        equal(&rt, path, &made.err(), &Some(fault));
         let opened: Result<FileArea<File>, OpenFault> = FileArea::open(alloc, &rt, path);
-        assert!(rt; opened.err() == Some(OpenFault::NotOpened), "{path}");
+        equal(&rt, path, &opened.err(), &Some(OpenFault::NotOpened));
     }
     fs::remove_dir_all(&rt, &folder)?;
     Ok(())

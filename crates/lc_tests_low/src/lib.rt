@@ -4,6 +4,8 @@
 #[cfg(test)]
 mod areas;
 #[cfg(test)]
+mod expect;
+#[cfg(test)]
 mod fake_file;
 #[cfg(test)]
 mod files;

@@ -1,4 +1,5 @@
 //! Messages over a line.
+use crate::expect::equal;
 use lc_line::{ROOM, RecvEnd, Refused, SendEnd, close_line, open_line};
 use std::sync::Wait;
 use std::test::Fail;
@@ -43,14 +44,14 @@ fn a_line_has_room_for_64_messages(rt: HostRuntime) -> Result<(), Fail> {
     let (mut to, mut from) = open_line(rt.alloc())?;
     assert!(rt; ROOM == 64);
     for number in 0..64u64 {
-        assert!(rt; to.send(&rt, number) == Ok(()));
+        equal(&rt, &number, &to.send(&rt, number), &Ok(()));
     }
     assert!(rt; to.send(&rt, 64) == Err(Refused::Full(64)));
     assert!(rt; from.take(&rt) == Some(0));
     assert!(rt; to.send(&rt, 65) == Ok(()));
     assert!(rt; to.send(&rt, 66) == Err(Refused::Full(66)));
     for number in 1..64 {
-        assert!(rt; from.take(&rt) == Some(number));
+        equal(&rt, &number, &from.take(&rt), &Some(number));
     }
     assert!(rt; from.take(&rt) == Some(65));
     assert!(rt; from.take(&rt).is_none());

@@ -1,6 +1,7 @@
 //! Logs: what is found in bytes, and what a stop leaves of a flush and of a reset.
 ghost use Rattle.std.specs.Prelude.{◌≡◌, length, IfOk};
 
+use crate::expect::equal;
 use lc_disk::{Area, Choice, Fuse, MemArea, Stoppable, When};
 use lc_log::{Closing, Failed, NodeLog, walk, walk_back, walk_in_place, words_in};
 use lc_record::Group;
@@ -63,9 +64,11 @@ fn a_walk_ends_where_no_record_begins(rt: HostRuntime) -> Result<(), Fail> {
     assert!(rt; found(alloc, &full(alloc)?)? == (7, 65));
     assert!(rt; found(alloc, &[0; 72])? == (0, 0));
     for (len, count) in &[(72, 1), (64, 1), (63, 0), (56, 0), (0, 0)] {
-        assert!(rt;
-            found(alloc, &HELLO[..*len])? == (*count, 8 * *count),
-            "{len}"
+        equal(
+            &rt,
+            len,
+            &found(alloc, &HELLO[..*len])?,
+            &(*count, 8 * *count),
         );
     }
     Ok(())
@@ -77,7 +80,12 @@ fn one_changed_byte_leaves_no_record(rt: HostRuntime) -> Result<(), Fail> {
     for (place, changed) in &[(0, 0x00), (0, 0x7f), (4, 9), (53, 1), (56, 7)] {
         let mut bytes = HELLO;
         bytes[*place] = *changed;
-        assert!(rt; found(rt.alloc(), &bytes)? == (0, 0), "at {place}");
+        equal(
+            &rt,
+            &format_args!("{changed} at {place}"),
+            &found(rt.alloc(), &bytes)?,
+            &(0, 0),
+        );
     }
     Ok(())
 }
@@ -194,9 +202,14 @@ static OF_A_FLUSH: [(u8, Choice, usize); 11] = [
 #[test]
 fn a_flush_is_four_calls(rt: HostRuntime) -> Result<(), Fail> {
     let alloc = rt.alloc();
-    for (call, choice, count) in &OF_A_FLUSH {
+    for (row, (call, choice, count)) in OF_A_FLUSH.iter().enumerate() {
         let failed = flushed(alloc, *call)?.err().ok_or("it fails")?;
-        assert!(rt; left(alloc, failed.area, *choice)? == (1, *count), "{call}");
+        equal(
+            &rt,
+            &format_args!("row {row}, call {call}"),
+            &left(alloc, failed.area, *choice)?,
+            &(1, *count),
+        );
     }
     Ok(())
 }
@@ -238,9 +251,14 @@ static OF_A_RESET: [(u8, u64, Choice, usize); 7] = [
 #[test]
 fn a_reset_is_two_calls(rt: HostRuntime) -> Result<(), Fail> {
     let alloc = rt.alloc();
-    for (call, faults, choice, count) in &OF_A_RESET {
+    for (row, (call, faults, choice, count)) in OF_A_RESET.iter().enumerate() {
         let area = reset(alloc, *call)?.ok_or("the flush succeeds")?;
-        assert!(rt; left(alloc, area, *choice)? == (*faults, *count), "{call}");
+        equal(
+            &rt,
+            &format_args!("row {row}, call {call}"),
+            &left(alloc, area, *choice)?,
+            &(*faults, *count),
+        );
     }
     Ok(())
 }
@@ -271,8 +289,8 @@ static OF_SEVEN: [(Choice, usize); 4] = [
 fn a_reset_begins_on_whatever_was_found(rt: HostRuntime) -> Result<(), Fail> {
     let alloc = rt.alloc();
     let seven = full(alloc)?;
-    for (choice, count) in &OF_SEVEN {
-        assert!(rt; closed(alloc, &seven, *choice)? == *count, "{count}");
+    for (row, (choice, count)) in OF_SEVEN.iter().enumerate() {
+        equal(&rt, &row, &closed(alloc, &seven, *choice)?, count);
     }
     // An open gate over no record.
     let mut none = [0; 72];

@@ -1,6 +1,7 @@
 //! Pages: what a stop leaves of a write.
 ghost use Rattle.std.specs.Prelude.{◌≡◌, ◌+◌, ◌*◌, ◌≤◌, length, IfOk};
 
+use crate::expect::{equal, equal_texts};
 use lc_disk::{Area, Choice, Fuse, MemArea, Stoppable, When};
 use lc_page::{
     Begun, PageFault, PageText, PageVector, PageWrite, Slot, Writing, page_bytes, read_page,
@@ -82,8 +83,14 @@ static LEFT: [(u8, Choice, (u64, Option<Slot>, u8)); 9] = [
 
 #[test]
 fn a_stop_leaves_the_old_page_or_the_new_one(rt: HostRuntime) -> Result<(), Fail> {
-    for (calls, choice, left) in &LEFT {
-        assert!(rt; stopped(rt.alloc(), *calls, *choice)? == *left, "{calls}");
+    for (row, (calls, choice, left)) in LEFT.iter().enumerate() {
+        let (number, slot, first) = stopped(rt.alloc(), *calls, *choice)?;
+        equal(
+            &rt,
+            &format_args!("row {row}, {calls} calls: number, right slot, first byte"),
+            &(number, slot == left.1, first),
+            &(left.0, true, left.2),
+        );
     }
     Ok(())
 }
@@ -111,12 +118,17 @@ static FAILED: [(u8, (bool, u64)); 7] = [
 fn a_write_is_six_calls(rt: HostRuntime) -> Result<(), Fail> {
     let mut bytes = two_pages();
     for (call, wanted) in &FAILED {
-        assert!(rt; failed(rt.alloc(), &bytes, *call)? == *wanted, "{call}");
+        equal(&rt, call, &failed(rt.alloc(), &bytes, *call)?, wanted);
     }
     // Over a gate that stays open over a malformed number.
     bytes[559] = 0xff;
     for (call, wanted) in &FAILED[5..] {
-        assert!(rt; failed(rt.alloc(), &bytes, *call)? == *wanted, "{call}");
+        equal(
+            &rt,
+            &format_args!("{call}, over an open gate"),
+            &failed(rt.alloc(), &bytes, *call)?,
+            wanted,
+        );
     }
     Ok(())
 }
@@ -185,8 +197,8 @@ static TEXTS: [(PageFault, &str); 3] = [
 
 #[test]
 fn faults_have_texts(rt: HostRuntime) -> Result<(), Fail> {
-    for (fault, text) in &TEXTS {
-        assert!(rt; fault.to_string(rt.alloc())?.as_str() == *text, "{text}");
+    for (row, (fault, text)) in TEXTS.iter().enumerate() {
+        equal_texts(&rt, &row, fault.to_string(rt.alloc())?.as_str(), text);
     }
     Ok(())
 }

@@ -1,6 +1,7 @@
 //! Ranges that were set, and the bytes that stood there.
 ghost use Rattle.lc_range.specs.Undo.{LiesBelow};
 
+use crate::expect::{equal, equal_texts};
 use lc_range::{Range, RangeFault, RangeSet, Undo};
 use std::alloc::{AllocError, Global};
 use std::test::Fail;
@@ -47,8 +48,8 @@ static TEXTS: [(RangeFault, &str); 4] = [
 
 #[test]
 fn faults_have_texts(rt: HostRuntime) -> Result<(), Fail> {
-    for (fault, text) in &TEXTS {
-        assert!(rt; fault.to_string(rt.alloc())?.as_str() == *text, "{text}");
+    for (row, (fault, text)) in TEXTS.iter().enumerate() {
+        equal_texts(&rt, &row, fault.to_string(rt.alloc())?.as_str(), text);
     }
     Ok(())
 }
@@ -87,7 +88,7 @@ fn more_than_seventy_copies_are_kept(rt: HostRuntime) -> Result<(), Fail> {
     undo.restore(1, &mut later);
     for i in 0..160 {
         let wanted = if i % 2 == 0 { 7 } else { 9 };
-        assert!(rt; later[i] == wanted, "at {i}");
+        equal(&rt, &format_args!("at {i}"), &later[i], &wanted);
     }
     Ok(())
 }
@@ -99,7 +100,12 @@ fn refused_memory_leaves_the_set(rt: HostRuntime) -> Result<(), Fail> {
     for i in 0..20 {
         let len = set.ranges().len();
         if set.add(1, 256, 4 * i, 2).is_err() {
-            assert!(rt; set.ranges().len() == len && !set.covers(1, 4 * i, 1));
+            equal(
+                &rt,
+                &i,
+                &(set.ranges().len(), set.covers(1, 4 * i, 1)),
+                &(len, false),
+            );
             set.add(1, 256, 4 * i, 2)?;
         }
     }
@@ -127,7 +133,12 @@ fn refused_memory_leaves_the_old_bytes(rt: HostRuntime) -> Result<(), Fail> {
     let mut later = [9; 160];
     undo.restore(1, &mut later);
     for (i, byte) in later.iter().enumerate() {
-        assert!(rt; (*byte == 9) == (i % 16 < 8), "at {i}");
+        equal(
+            &rt,
+            &format_args!("{byte} at {i}, which is 9"),
+            &(*byte == 9),
+            &(i % 16 < 8),
+        );
     }
     Ok(())
 }

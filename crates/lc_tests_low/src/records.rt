@@ -1,4 +1,5 @@
 //! Records: words and what they say.
+use crate::expect::{equal, equal_lists, holds};
 use lc_record::{
     Geometry, Items, Lock, Part, RangeData, Record, RecordFault, View, check, decode, encode, gate,
     length, lock_count, node, range_count, version,
@@ -263,9 +264,9 @@ fn is_read_back(alloc: Global, words: &[u64]) -> Result<bool, RecordFault> {
 
 #[test]
 fn records_are_written_and_read(rt: HostRuntime) -> Result<(), Fail> {
-    for (said, words) in &SPELLED {
-        assert!(rt; words_of(rt.alloc(), said)?.as_slice() == *words);
-        assert!(rt; is_read_back(rt.alloc(), words)?);
+    for (row, (said, words)) in SPELLED.iter().enumerate() {
+        equal_lists(&rt, &row, words_of(rt.alloc(), said)?.as_slice(), words);
+        holds(&rt, &row, is_read_back(rt.alloc(), words)?);
     }
     Ok(())
 }
@@ -279,7 +280,12 @@ fn is_none(rt: &impl Abort, words: &[u64], place: usize, changed: u64) {
     if let Some(word) = broken.get_mut(place) {
         *word = changed;
     }
-    assert!(rt; check(&broken).is_none(), "{changed} at {place}");
+    equal(
+        rt,
+        &format_args!("{changed} at {place}"),
+        &check(&broken),
+        &None,
+    );
 }
 
 #[test]
@@ -313,7 +319,12 @@ fn other_words_are_no_record(rt: HostRuntime) {
     // A range of the first version that ends behind 16384.
     is_none(&rt, &NEAR, 4, 0x3ff9_0000_0001);
     for len in 0..17 {
-        assert!(rt; check(&LETTERS[..len]).is_none(), "{len}");
+        equal(
+            &rt,
+            &format_args!("{len} words"),
+            &check(&LETTERS[..len]),
+            &None,
+        );
     }
 }
 
@@ -354,14 +365,14 @@ static NOT_SPELLED: [(u16, Ranges); 5] = [
 
 #[test]
 fn other_records_have_no_spelling(rt: HostRuntime) {
-    for (node, ranges) in &NOT_SPELLED {
+    for (row, (node, ranges)) in NOT_SPELLED.iter().enumerate() {
         let said = Said {
             node: *node,
             locks: &[(1, 1)],
             ranges: *ranges,
         };
         let fault = words_of(rt.alloc(), &said).err();
-        assert!(rt; fault == Some(RecordFault::NotCanonical));
+        equal(&rt, &row, &fault, &Some(RecordFault::NotCanonical));
     }
 }
 
@@ -425,7 +436,11 @@ fn two_records(alloc: Global) -> Result<Vec<u64>, AllocError> {
 fn a_record_begins_at_its_first_word(rt: HostRuntime) -> Result<(), Fail> {
     let words = two_records(rt.alloc())?;
     for place in [1, 7, 9, 24, 25, 26] {
-        assert!(rt; View::at(&words, place).is_none(), "{place}");
+        holds(
+            &rt,
+            &format_args!("none at {place}"),
+            View::at(&words, place).is_none(),
+        );
     }
     Ok(())
 }
@@ -512,7 +527,12 @@ fn a_record_is_put_on_bytes(rt: HostRuntime) -> Result<(), Fail> {
     for (segment, offset, want) in &PUT_ON {
         let mut bytes = [b'.'; 12];
         letters.put_on(*segment, *offset, &mut bytes);
-        assert!(rt; bytes == **want, "at {offset} of segment {segment}");
+        equal(
+            &rt,
+            &format_args!("at {offset} of segment {segment}"),
+            &str::from_utf8(&bytes).ok(),
+            &str::from_utf8(*want).ok(),
+        );
     }
     Ok(())
 }

@@ -7,6 +7,7 @@ ghost use Rattle.lc_record.specs.declared.record.Record.{Record};
 ghost use Rattle.lc_log.specs.NodeLog.{IsAtRest};
 ghost use Rattle.lc_tests_low.specs.Rounds.{IsUncleared};
 
+use crate::expect::holds;
 use crate::staging::{TURNS, begun, close_eight, low_byte, settle};
 use lc_disk::{Area, MemArea};
 use lc_log::NodeLog;
@@ -346,7 +347,11 @@ fn sixteen_threads_over_rounds(rt: HostRuntime) -> Result<(), Fail> {
         };
         for (place, receipt) in receipts.iter().enumerate() {
             let number = id.wrapping_mul(3).wrapping_add(place).wrapping_add(1);
-            assert!(rt; is_true(&taken, number, receipt), "{number}");
+            holds(
+                &rt,
+                &format_args!("record {number}, taken where its receipt says"),
+                is_true(&taken, number, receipt),
+            );
         }
     }
     let last = taken.last().ok_or("there is a record")?;

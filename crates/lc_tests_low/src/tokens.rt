@@ -1,6 +1,7 @@
 //! Tokens, and the records that are held back.
 ghost use Rattle.std.specs.Prelude.{◌≡◌, [], ◌∷◌, IfOk};
 
+use crate::expect::{equal, equal_texts, holds};
 use lc_page::{PageText, PageVector};
 use lc_record::{Items, Lock, RangeData, Record};
 use lc_token::{HoldBack, Received, Token, TokenFault, TokenPlace};
@@ -44,20 +45,21 @@ fn receive(hold_back: &mut HoldBack, alloc: Global, seq: u64) -> Result<Received
 #[test]
 fn records_out_of_order_are_applied_in_order(rt: HostRuntime) -> Result<(), Fail> {
     let mut hold_back = HoldBack::new(rt.alloc(), 1, 0);
-    for (seq, answer) in [
-        (3, Received::HeldBack),
-        (1, Received::Applied(1)),
-        (1, Received::Ignored),
-        (2, Received::Applied(3)),
+    for (seq, row, answer) in [
+        (3, "3 is held back", Received::HeldBack),
+        (1, "1 is applied", Received::Applied(1)),
+        (1, "1 is ignored", Received::Ignored),
+        (2, "3 are applied", Received::Applied(3)),
     ] {
-        assert!(rt;
+        holds(
+            &rt,
+            &row,
             receive(&mut hold_back, rt.alloc(), seq)? == answer,
-            "{seq}"
         );
     }
     for seq in 1..4 {
         let part = hold_back.next().ok_or("it was applied")?;
-        assert!(rt; part.seq == seq);
+        equal(&rt, &format_args!("part {seq}"), &part.seq, &seq);
     }
     assert!(rt; !hold_back.has_due());
     Ok(())
@@ -68,7 +70,11 @@ fn many_records_in_descending_order(rt: HostRuntime) -> Result<(), Fail> {
     let mut hold_back = HoldBack::new(rt.alloc(), 1, 0);
     for seq in (2..=300).rev() {
         let answer = receive(&mut hold_back, rt.alloc(), seq)?;
-        assert!(rt; answer == Received::HeldBack, "{seq}");
+        holds(
+            &rt,
+            &format_args!("{seq} is held back"),
+            answer == Received::HeldBack,
+        );
     }
     assert!(rt; receive(&mut hold_back, rt.alloc(), 1)? == Received::Applied(300));
     Ok(())
@@ -97,8 +103,8 @@ static TEXTS: [(TokenFault, &str); 6] = [
 
 #[test]
 fn faults_have_texts(rt: HostRuntime) -> Result<(), Fail> {
-    for (fault, text) in &TEXTS {
-        assert!(rt; fault.to_string(rt.alloc())?.as_str() == *text, "{text}");
+    for (row, (fault, text)) in TEXTS.iter().enumerate() {
+        equal_texts(&rt, &row, fault.to_string(rt.alloc())?.as_str(), text);
     }
     Ok(())
 }

@@ -3,6 +3,7 @@ ghost use Rattle.std.specs.Prelude.{IfOk};
 ghost use Rattle.lc_tx.specs.Tx.{RunsOn};
 ghost use Rattle.lc_tx.specs.OneSegment.{the_images};
 
+use crate::expect::equal_texts;
 use lc_record::Items;
 use lc_tx::{Image, OneSegment, Prepared, Tx, TxFault};
 use std::alloc::{AllocError, Global};
@@ -114,8 +115,8 @@ static TEXTS: [(TxFault, &str); 11] = [
 
 #[test]
 fn faults_have_texts(rt: HostRuntime) -> Result<(), Fail> {
-    for (fault, text) in &TEXTS {
-        assert!(rt; fault.to_string(rt.alloc())?.as_str() == *text, "{text}");
+    for (row, (fault, text)) in TEXTS.iter().enumerate() {
+        equal_texts(&rt, &row, fault.to_string(rt.alloc())?.as_str(), text);
     }
     Ok(())
 }

@@ -1,6 +1,7 @@
 //! Truncation: which logs may be reset, and which pages are dirty.
 ghost use Rattle.std.specs.Prelude.{◌≡◌, ◌≤◌, IfOk, length};
 
+use crate::expect::equal;
 use lc_page::{PageText, PageVector};
 use lc_token::{Token, TokenPlace};
 use lc_trunc::{KnownClean, Unclean, dirty_pages, may_reset};
@@ -62,8 +63,13 @@ fn a_log_is_reset_where_all_is_clean(rt: HostRuntime) -> Result<(), Fail> {
         (1, 4, Err(Unclean { segment: 2, seq: 7 })),
         (2, 8, Ok(())),
     ] {
-        assert!(rt; may_reset(&LOG, &known) == answer, "{clean}");
-        assert!(rt; 1 <= segment && segment <= 16);
+        equal(
+            &rt,
+            &format_args!("before {segment} is known up to {clean}"),
+            &may_reset(&LOG, &known),
+            &answer,
+        );
+        assert!(rt; 1 <= segment && segment <= 16, "segment {segment}");
         known.see(&token_of(rt.alloc(), segment, clean)?);
         answer = next;
     }
@@ -81,8 +87,13 @@ fn behind_the_last_record_there_is_no_lock(rt: HostRuntime) {
 
 // The token behind a change of a page under its number.
 fn touched(rt: &impl Abort, token: Token, page: u32) -> Result<Token, Fail> {
-    assert!(rt; token.segment() == 1);
-    assert!(rt; (page as usize) < token.pages().len());
+    let segment = token.segment();
+    assert!(rt;
+        segment == 1,
+        "page {page}: segment {segment}, where 1 is wanted"
+    );
+    let pages = token.pages().len();
+    assert!(rt; (page as usize) < pages, "page {page} of {pages}");
     let mut place = TokenPlace::new(1, Some(token));
     place.touch(page);
     Ok(place.leave(false, false, 4, 4)?)
@@ -90,8 +101,13 @@ fn touched(rt: &impl Abort, token: Token, page: u32) -> Result<Token, Fail> {
 
 // The token behind one record more.
 fn counted(rt: &impl Abort, token: Token) -> Result<Token, Fail> {
-    assert!(rt; token.segment() == 1);
-    assert!(rt; token.seq() < 10);
+    let segment = token.segment();
+    let seq = token.seq();
+    assert!(rt;
+        segment == 1,
+        "behind {seq}: segment {segment}, where 1 is wanted"
+    );
+    assert!(rt; seq < 10, "{seq}, where less than 10 is wanted");
     let mut place = TokenPlace::new(1, Some(token));
     place.count_record();
     Ok(place.leave(false, false, 4, 4)?)

@@ -4,6 +4,7 @@ ghost use Rattle.lc_node.specs.Cluster.{IsSeatAt};
 ghost use Rattle.lc_record.specs.Geometry.{HasNumbers};
 
 use crate::both::Both;
+use crate::expect::equal;
 use crate::seats::{Open, TRIES, get, put};
 use crate::stores::{LOG_BYTES, SEGMENT_BYTES, WORDS, recovered};
 use lc_disk::{Area, MemArea};
@@ -241,7 +242,7 @@ fn records_are_sent_over_a_truncation(rt: HostRuntime) -> Result<(), Fail> {
             applied: number,
             arrived: false,
         };
-        assert!(rt; cluster.pump(&rt, alloc, 1, 0) == Ok(applied), "{number}");
+        equal(&rt, &number, &cluster.pump(&rt, alloc, 1, 0), &Ok(applied));
     }
     let copy = cluster.node(1).snapshot(&rt, alloc, 2);
     let copy = copy.ok().expect(&rt, "there is memory");
@@ -279,10 +280,11 @@ fn a_record_comes_to_each_of_its_segments(rt: HostRuntime) -> Result<(), Fail> {
     for segment in 1..3 {
         let copy = cluster.node(1).snapshot(&rt, alloc, segment);
         let copy = copy.ok().expect(&rt, "there is memory");
-        assert!(rt; copy.number == 1, "{segment}");
-        assert!(rt;
-            copy.bytes.as_slice().get(3..8) == Some(b"hello".as_slice()),
-            "{segment}"
+        equal(
+            &rt,
+            &format_args!("segment {segment}"),
+            &(copy.number, copy.bytes.as_slice().get(3..8)),
+            &(1, Some(b"hello".as_slice())),
         );
     }
     Ok(())

@@ -6,6 +6,7 @@ ghost use Rattle.lc_stage.specs.Seats.{commit_view, IsIdle, IsSeatOf};
 ghost use Rattle.lc_stage.specs.declared.seats.CommitSeat.{CommitSeat as Seat};
 ghost use Rattle.lc_node.specs.Cluster.{IsSeatAt};
 
+use crate::expect::holds;
 use crate::seats::{Open, TRIES, put, put_and_confirm};
 use crate::shared::{SharedArea, area_of, zeros};
 use crate::stores::{SEGMENT_BYTES, recovered};
@@ -429,7 +430,11 @@ fn run_and_come_up<R: Threads + Wait + Sync>(
 fn honest_runs_come_up_with_all_that_was_closed(rt: HostRuntime) -> Result<(), Fail> {
     for run in 0..200 {
         let nodes = (run % 3) as u16 + 2;
-        assert!(rt; run_and_come_up(&rt, rt.alloc(), nodes, run)?, "run {run}");
+        holds(
+            &rt,
+            &format_args!("run {run} of {nodes} nodes"),
+            run_and_come_up(&rt, rt.alloc(), nodes, run)?,
+        );
     }
     Ok(())
 }

@@ -1,6 +1,7 @@
 //! Many threads on one node.
 ghost use Rattle.lc_stage.specs.Seats.{commit_view, IsSeatOf, IsIdle};
 
+use crate::expect::equal;
 use crate::seats::{Open, TRIES, confirm, get};
 use crate::shared::{SharedArea, Shelf};
 use crate::stores::{in_memory, opened, recovered, two_segments};
@@ -8,6 +9,7 @@ use lc_disk::Area;
 use lc_node::{Commit, Confirmed, Mode, Node, Put};
 use lc_stage::{CommitSeat, Receipt};
 use std::alloc::{AllocError, Global};
+use std::process::Abort;
 use std::sync::Wait;
 use std::sync::atomic::{AtomicU32, Ordering};
 use std::test::*;
@@ -229,13 +231,13 @@ fn each_receipt_is_confirmed_and_the_pages_have_all(rt: HostRuntime) -> Result<(
     let second = second.expect(&rt, "it is read");
     let store = recovered(alloc, two_segments()?, shelf.areas(alloc)?)?;
     for page in 0..2 {
-        assert!(rt;
-            has_page(store.page(1, page), first.as_slice(), page as usize),
-            "{page}"
-        );
-        assert!(rt;
-            has_page(store.page(2, page), second.as_slice(), page as usize),
-            "{page}"
+        check_page(&rt, 1, store.page(1, page), first.as_slice(), page as usize);
+        check_page(
+            &rt,
+            2,
+            store.page(2, page),
+            second.as_slice(),
+            page as usize,
         );
     }
     Ok(())
@@ -249,9 +251,14 @@ fn total(counts: &[u32]) -> u32 {
     total
 }
 
-// Whether these are the bytes of the page of a segment.
-fn has_page(page: &[u8], segment: &[u8], number: usize) -> bool {
-    segment.chunks(256).nth(number) == Some(page)
+// These are the bytes of the page of a segment.
+fn check_page(rt: &impl Abort, segment: u32, page: &[u8], bytes: &[u8], number: usize) {
+    equal(
+        rt,
+        &format_args!("page {number} of segment {segment}"),
+        &Some(page),
+        &bytes.chunks(256).nth(number),
+    );
 }
 
 // How often two threads lock both segments.

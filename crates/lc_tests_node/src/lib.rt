@@ -18,6 +18,8 @@ mod commits;
 #[cfg(test)]
 mod crowds;
 #[cfg(test)]
+mod expect;
+#[cfg(test)]
 mod failures;
 #[cfg(test)]
 mod folders;

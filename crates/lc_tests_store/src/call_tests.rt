@@ -1,5 +1,6 @@
 //! The calls of a store by their names.
 use crate::events::comes_up;
+use crate::expect::holds;
 use lc_core::{CallFault, FlushProgress, Placement, Refusal, World};
 use lc_record::Geometry;
 use std::process::Abort;
@@ -27,7 +28,11 @@ fn a_commit_by_calls_is_durable_and_read(rt: HostRuntime) -> Result<(), Fail> {
     assert!(rt; world.begin(0, 1, &[], &[1]) == Err(Refusal::Busy { segment: 1 }));
     assert!(rt; world.end(alloc, 0, 0) == Ok(Placement::Record { place: 0, words: 8 }));
     for calls in 1..4 {
-        assert!(rt; world.flush_step(alloc, 0) == Ok(FlushProgress::Stepped(calls)));
+        holds(
+            &rt,
+            &format_args!("{calls} calls are made"),
+            world.flush_step(alloc, 0) == Ok(FlushProgress::Stepped(calls)),
+        );
     }
     assert!(rt; world.flush_step(alloc, 0) == Ok(FlushProgress::Acked(1)));
     assert!(rt; world.trim(alloc, 0) == Ok(1));

@@ -1,4 +1,5 @@
 //! Stores that come up by one call.
+use crate::expect::holds;
 use lc_core::{CallFault, FlushProgress, Refusal, World};
 use lc_fixture::{CLOSED, hello, store_of};
 use lc_record::Geometry;
@@ -48,9 +49,17 @@ fn a_log_of_another_node_stays_down(rt: HostRuntime) -> Result<(), Fail> {
         return Err(Fail::from("the areas fit the geometry"));
     };
     let refused = CallFault::Refused(Refusal::BadGeometry { area: 0 });
-    for _ in 0..2 {
-        assert!(rt; world.recover(alloc) == Err(refused));
-        assert!(rt; !world.is_up());
+    for time in 0..2 {
+        holds(
+            &rt,
+            &format_args!("time {time} is refused"),
+            world.recover(alloc) == Err(refused),
+        );
+        holds(
+            &rt,
+            &format_args!("down behind time {time}"),
+            !world.is_up(),
+        );
     }
     Ok(())
 }

@@ -1,4 +1,5 @@
 //! The command line: what its words ask for, and the help.
+use crate::expect::holds;
 use lc_record::Geometry;
 use lc_words::{Asked, RunStore, Size, Wanted as Numbers, read_command_line};
 use std::alloc::{AllocError, Global};
@@ -67,7 +68,11 @@ static REFUSED: [&[&str]; 55] = [
 fn words_with_a_fault(rt: HostRuntime) -> Result<(), AllocError> {
     for words in &REFUSED {
         let asked = read_command_line(rt.alloc(), *words)?;
-        assert!(rt; matches!(asked, Asked::Faulty(_)), "{words:?}");
+        holds(
+            &rt,
+            &format_args!("{words:?}"),
+            matches!(asked, Asked::Faulty(_)),
+        );
     }
     Ok(())
 }
@@ -89,7 +94,11 @@ fn a_fault_is_said(rt: HostRuntime) -> Result<(), AllocError> {
         return Ok(());
     };
     for part in ["--pages", "1025", "1..=1024"] {
-        assert!(rt; reason.as_str().contains(part), "{reason}");
+        holds(
+            &rt,
+            &format_args!("{part} in {reason}"),
+            reason.as_str().contains(part),
+        );
     }
     Ok(())
 }
@@ -113,7 +122,11 @@ fn a_store_has_bounds_when_it_is_made_and_recovered(rt: HostRuntime) -> Result<(
     for option in BEYOND {
         for name in ["init", "recover"] {
             let asked = read_command_line(rt.alloc(), &["lcrvm", name, "bank", option])?;
-            assert!(rt; matches!(asked, Asked::Faulty(_)), "{name} {option}");
+            holds(
+                &rt,
+                &format_args!("{name} {option}"),
+                matches!(asked, Asked::Faulty(_)),
+            );
         }
     }
     Ok(())
@@ -428,7 +441,7 @@ static ASKED: [(&[&str], Wanted); 37] = [
 fn words_that_ask_for_something(rt: HostRuntime) -> Result<(), AllocError> {
     for (words, wanted) in &ASKED {
         let asked = read_command_line(rt.alloc(), *words)?;
-        assert!(rt; asks(&asked, *wanted), "{words:?}");
+        holds(&rt, &format_args!("{words:?}"), asks(&asked, *wanted));
     }
     Ok(())
 }
@@ -553,7 +566,7 @@ static HELPS: [(&str, &[&str], &[&str]); 9] = [
 fn help_says_what_there_is(rt: HostRuntime) -> Result<(), AllocError> {
     for word in ["--help", "help", "-h"] {
         let asked = read_command_line(rt.alloc(), &["lcrvm", word])?;
-        assert!(rt; helps(&asked, &COMMANDS), "{word}");
+        holds(&rt, &word, helps(&asked, &COMMANDS));
     }
     Ok(())
 }
@@ -574,17 +587,20 @@ fn help_of_a_command_names_each_option_and_shows_an_example(
     rt: HostRuntime,
 ) -> Result<(), AllocError> {
     for (name, parts, sizes) in &HELPS {
-        assert!(rt;
+        holds(
+            &rt,
+            &format_args!("{name} --help"),
             shows(rt.alloc(), &["lcrvm", *name, "--help"], *parts, *sizes)?,
-            "{name}"
         );
-        assert!(rt;
+        holds(
+            &rt,
+            &format_args!("help {name}"),
             shows(rt.alloc(), &["lcrvm", "help", *name], *parts, *sizes)?,
-            "{name}"
         );
-        assert!(rt;
+        holds(
+            &rt,
+            &format_args!("{name} -h"),
             shows(rt.alloc(), &["lcrvm", *name, "-h"], *parts, *sizes)?,
-            "{name}"
         );
     }
     Ok(())

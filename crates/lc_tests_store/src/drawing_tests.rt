@@ -1,4 +1,5 @@
 //! Pictures of stores, by their text.
+use crate::expect::equal;
 use lc_disk::{Fuse, When};
 use lc_fixture::{CLOSED, Narrow, ONE, hello, log_area, open, segment_area, store_of};
 use lc_look::draw_areas;
@@ -73,9 +74,11 @@ fn a_device_that_fails_at_any_read(rt: HostRuntime) -> Result<(), Fail> {
         ]?;
         let mut text = Vec::new(rt.alloc());
         let status = draw_areas(rt.alloc(), &ONE, &mut areas, &mut text)?;
-        assert!(rt;
-            status == 3 && text.as_slice() == "device fault\n".as_bytes(),
-            "{log} {segment}"
+        equal(
+            &rt,
+            &format_args!("{log} {segment}"),
+            &(str::from_utf8(text.as_slice()).ok(), status),
+            &(Some("device fault\n"), 3),
         );
     }
     Ok(())
@@ -95,7 +98,7 @@ fn a_writer_that_fails(rt: HostRuntime) -> Result<(), Fail> {
     let mut areas = zero_areas(rt.alloc(), &ONE)?;
     for room in [0, 100, 2_000] {
         let drawn = draw_areas(rt.alloc(), &ONE, &mut areas, &mut Narrow { room });
-        assert!(rt; drawn == Err(ToolFault::Write), "{room}");
+        equal(&rt, &room, &drawn, &Err(ToolFault::Write));
     }
     Ok(())
 }

@@ -1,4 +1,5 @@
 //! Events by the lines of scripts, and their replies by the texts.
+use crate::expect::equal;
 use lc_core::{Event, Reply, World};
 use lc_disk::Stoppable;
 use lc_record::Geometry;
@@ -41,12 +42,21 @@ pub(crate) fn events_of(alloc: Global, script: &[(&str, &str)]) -> Result<Vec<Ev
     Ok(events)
 }
 
-/// Whether this is the text of a reply.
-pub(crate) fn says(reply: &Reply, text: &str) -> bool {
-    let mut line = [0; 64];
+/// The text of a reply, where its line has room in these bytes.
+pub(crate) fn text_of<'a>(reply: &Reply, line: &'a mut [u8; 64]) -> Option<&'a str> {
     let mut rest = line.as_mut_slice();
     let is_written = write_reply(&mut rest, reply).is_ok();
-    is_written && matches!(line.strip_prefix(text.as_bytes()), Some([b'\n', 0, ..]))
+    let left = rest.len();
+    if !is_written {
+        return None;
+    }
+    let written = line.get(..line.len().saturating_sub(left))?;
+    str::from_utf8(written).ok()?.strip_suffix("\n")
+}
+
+/// Whether this is the text of a reply.
+pub(crate) fn says(reply: &Reply, text: &str) -> bool {
+    text_of(reply, &mut [0; 64]) == Some(text)
 }
 
 /// A store replies so to these lines.
@@ -56,9 +66,14 @@ pub(crate) fn play<D: Stoppable + Drop>(
     world: &mut World<D>,
     script: &[(&str, &str)],
 ) -> Result<(), Fail> {
-    for (line, wanted) in script {
+    for (place, (line, wanted)) in script.iter().enumerate() {
         let reply = world.step(alloc, &event_of(alloc, line)?)?;
-        assert!(rt; says(&reply, wanted), "{line}");
+        equal(
+            rt,
+            &format_args!("{line}, at {place}"),
+            &text_of(&reply, &mut [0; 64]),
+            &Some(*wanted),
+        );
     }
     Ok(())
 }

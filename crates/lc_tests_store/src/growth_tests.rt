@@ -1,5 +1,6 @@
 //! Two nodes whose store meets want of memory at any event: with memory it goes on as if nothing had been.
 use crate::events::{TWO_NODES, events_of, says};
+use crate::expect::{equal, holds};
 use crate::hostile_tests::{EVENTS, FLUSHED};
 use lc_core::{Event, Reply, RunResult, World};
 use lc_disk::MemArea;
@@ -111,9 +112,18 @@ fn answers(
     let events = made(alloc, script)?;
     let mut left = events.as_slice();
     let mut lines = script;
-    for _ in 0..MOST_RUNS {
+    for run in 0..MOST_RUNS {
         let ran = world.run(alloc, left);
-        assert!(rt; goes_so(&ran, lines));
+        holds(
+            rt,
+            &format_args!(
+                "run {run}: {} replies to {} lines, without memory: {}",
+                ran.replies.len(),
+                lines.len(),
+                ran.out_of_memory,
+            ),
+            goes_so(&ran, lines),
+        );
         left = left.get(ran.replies.len()..).unwrap_or(&[]);
         lines = lines.get(ran.replies.len()..).unwrap_or(&[]);
         if lines.is_empty() {
@@ -136,9 +146,14 @@ fn comes_up(
             Ok(reply) => reply,
         };
         match reply {
-            Reply::Stepped(made) => assert!(rt; made == done && done < steps),
-            Reply::Recovered => assert!(rt; done == steps),
-            _ => assert!(rt; false, "step {done}"),
+            Reply::Stepped(made) => equal(
+                rt,
+                &format_args!("step {done} of {steps}"),
+                &(made, done < steps),
+                &(done, true),
+            ),
+            Reply::Recovered => equal(rt, &"recovered", &done, &steps),
+            _ => holds(rt, &format_args!("step {done} is made"), false),
         }
     }
     Ok(())

@@ -1,10 +1,12 @@
 //! Two nodes whose store stops, or whose disks fail, at any moment.
 ghost use Rattle.lc_disk.specs.When.{IsCountable};
 
-use crate::events::{STOPS, TWO_NODES, comes_up, event_of, events_of, play};
+use crate::events::{STOPS, TWO_NODES, comes_up, event_of, events_of, play, text_of};
+use crate::expect::{equal, equal_lists, holds};
 use lc_core::{Event, Refusal, Reply, World};
 use lc_disk::{Fuse, MemArea, Stoppable, When};
 use std::alloc::{AllocError, Global};
+use std::fmt::Display;
 use std::process::Abort;
 use std::test::*;
 
@@ -132,20 +134,30 @@ impl Seen {
 // The first byte of a segment, which is the same at both nodes, with zeros behind.
 fn first_of<D: Stoppable + Drop>(
     rt: &impl Abort,
+    row: &impl Display,
     world: &World<D>,
     segment: u32,
 ) -> Result<u8, Fail> {
     let page = world.page(0, segment, 0).ok().ok_or("the page is shown")?;
     let other = world.page(1, segment, 0).ok().ok_or("the page is shown")?;
     let (first, rest) = page.split_first().ok_or("a page has bytes")?;
-    assert!(rt; page == other && page.len() == 256);
-    assert!(rt; rest.iter().all(|byte| *byte == 0));
+    equal_lists(rt, &format_args!("{row}, segment {segment}"), page, other);
+    equal_lists(
+        rt,
+        &format_args!("{row}, segment {segment}"),
+        rest,
+        &[0; 255],
+    );
     Ok(*first)
 }
 
 // The first bytes of both segments.
-fn first_bytes<D: Stoppable + Drop>(rt: &impl Abort, world: &World<D>) -> Result<(u8, u8), Fail> {
-    Ok((first_of(rt, world, 1)?, first_of(rt, world, 2)?))
+fn first_bytes<D: Stoppable + Drop>(
+    rt: &impl Abort,
+    row: &impl Display,
+    world: &World<D>,
+) -> Result<(u8, u8), Fail> {
+    Ok((first_of(rt, row, world, 1)?, first_of(rt, row, world, 2)?))
 }
 
 // Makes so many steps of a recovery, and tells whether the store is up behind them.
@@ -177,12 +189,18 @@ fn stopped_twice(
     let mut world = World::in_memory(alloc, TWO_NODES)?;
     comes_up(alloc, &mut world)?;
     let ran = world.run(alloc, events);
-    assert!(rt; !ran.out_of_memory);
+    let count = events.len();
+    holds(
+        rt,
+        &format_args!("{count} events, {steps} steps"),
+        !ran.out_of_memory,
+    );
     world.step(alloc, stop)?;
     let is_up = recovers(alloc, &mut world, steps)?;
     world.step(alloc, stop)?;
     comes_up(alloc, &mut world)?;
-    Ok((first_bytes(rt, &world)?, is_up))
+    let row = format_args!("{count} events, {steps} steps");
+    Ok((first_bytes(rt, &row, &world)?, is_up))
 }
 
 // A store that stops behind these events comes to the same, behind whichever step of its recovery it is stopped again, the
@@ -195,10 +213,20 @@ fn comes_to_the_same(
     seen: &Seen,
 ) -> Result<(), Fail> {
     let (bytes, _is_up) = stopped_twice(rt, alloc, events, stop, 0)?;
-    assert!(rt; seen.allows(bytes));
+    let count = events.len();
+    holds(
+        rt,
+        &format_args!("{count} events: {bytes:?}, at least {:?}", seen.least),
+        seen.allows(bytes),
+    );
     for steps in 1..MOST_STEPS {
         let (again, is_up) = stopped_twice(rt, alloc, events, stop, steps)?;
-        assert!(rt; again == bytes, "step {steps}");
+        equal(
+            rt,
+            &format_args!("{count} events, step {steps}"),
+            &again,
+            &bytes,
+        );
         if is_up {
             return Ok(());
         }
@@ -292,11 +320,12 @@ fn comes_up_again(alloc: Global, world: &mut World<Fuse>, seen: &mut Seen) -> Re
     Err(Fail::from("a recovery ends"))
 }
 
-// This call of this area fails; how many faults are seen in all events, a stop and a recovery.
+// This call of this area fails, and the stop is that of this line; how many faults are seen in all events, a stop and a recovery.
 fn fails_once(
     rt: &impl Abort,
     alloc: Global,
     events: &[Event],
+    line: &str,
     stop: &Event,
     area: u32,
     call: u32,
@@ -310,11 +339,21 @@ fn fails_once(
     }
     world.step(alloc, stop)?;
     comes_up_again(alloc, &mut world, &mut seen)?;
-    assert!(rt;
-        seen.allows(first_bytes(rt, &world)?),
-        "call {call} of {area}"
+    let row = format_args!("{line}, call {call} of {area}");
+    let bytes = first_bytes(rt, &row, &world)?;
+    holds(
+        rt,
+        &format_args!(
+            "{line}, call {call} of {area}: {bytes:?}, at least {:?}",
+            seen.least
+        ),
+        seen.allows(bytes),
     );
-    assert!(rt; seen.faults <= 1);
+    holds(
+        rt,
+        &format_args!("{line}, call {call} of {area}: {} faults", seen.faults),
+        seen.faults <= 1,
+    );
     Ok(seen.faults)
 }
 
@@ -323,11 +362,12 @@ fn fails_anywhere(
     rt: &impl Abort,
     alloc: Global,
     events: &[Event],
+    line: &str,
     stop: &Event,
     area: u32,
 ) -> Result<(), Fail> {
     for call in 1..1000 {
-        if fails_once(rt, alloc, events, stop, area, call)? == 0 {
+        if fails_once(rt, alloc, events, line, stop, area, call)? == 0 {
             return Ok(());
         }
     }
@@ -340,7 +380,7 @@ fn one_call_of_an_area_fails(rt: HostRuntime) -> Result<(), Fail> {
     for line in STOPS {
         let stop = event_of(rt.alloc(), line)?;
         for area in 0..AREAS {
-            fails_anywhere(&rt, rt.alloc(), &events, &stop, area)?;
+            fails_anywhere(&rt, rt.alloc(), &events, line, &stop, area)?;
         }
     }
     Ok(())
@@ -383,9 +423,13 @@ fn recovers_by(
         let fails = *call == area && well == 0;
         let reply = world.step(alloc, &Event::RecoverStep)?;
         let done = calls.len().wrapping_sub(rest.len());
-        assert!(rt;
+        holds(
+            rt,
+            &format_args!(
+                "{well} calls of {area} go well, step {done}: {:?}",
+                text_of(&reply, &mut [0; 64]),
+            ),
             is_right(&reply, done, behind.is_empty(), fails),
-            "step {done}"
         );
         well = well.saturating_sub(u32::from(*call == area));
         rest = if fails { calls } else { behind };
@@ -422,7 +466,12 @@ fn an_area_that_fails_for_good_keeps_the_store_down(rt: HostRuntime) -> Result<(
     for (area, before, all) in CALLS {
         for well in 0..=all {
             let is_up = fails_from(&rt, rt.alloc(), area, well, before)?;
-            assert!(rt; is_up == (well == all), "{well} calls of {area}");
+            equal(
+                &rt,
+                &format_args!("{well} calls of {area}"),
+                &is_up,
+                &(well == all),
+            );
         }
     }
     Ok(())

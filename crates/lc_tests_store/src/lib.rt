@@ -12,6 +12,8 @@ mod drawing_tests;
 #[cfg(test)]
 mod events;
 #[cfg(test)]
+mod expect;
+#[cfg(test)]
 mod growth_tests;
 #[cfg(test)]
 mod hostile_tests;

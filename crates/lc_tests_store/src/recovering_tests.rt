@@ -1,33 +1,30 @@
 //! Recoveries on their own, by what they print.
+use crate::expect::equal;
 use lc_disk::{Area, Fuse, MemArea, When};
 use lc_fixture::{CLOSED, Narrow, ONE, SlotText, WRONG_LENGTHS, hello, log_area, segment_area};
 use lc_look::recover_areas;
 use lc_record::Geometry;
 use lc_recover::zero_areas;
 use lc_text::ToolFault;
+use std::fmt::Display;
 use std::process::Abort;
 use std::test::*;
-
-const ONE: Geometry = Geometry {
-    nodes: 1,
-    threads: 1,
-    segments: 1,
-    pages: 1,
-    words: 64,
-};
 
 // What the recovery of these areas prints, and its status.
 fn check<D: Area + Drop>(
     rt: &(impl Abort + AllocGlobal),
+    row: &impl Display,
     geometry: Geometry,
     areas: Vec<D>,
     (want, want_status): (&str, u8),
 ) -> Result<(), Fail> {
     let mut text = Vec::new(rt.alloc());
     let status = recover_areas(rt.alloc(), geometry, areas, &mut text)?;
-    assert!(rt;
-        text.as_slice() == want.as_bytes() && status == want_status,
-        "{want}"
+    equal(
+        rt,
+        row,
+        &(str::from_utf8(text.as_slice()).ok(), status),
+        &(Some(want), want_status),
     );
     Ok(())
 }
@@ -63,7 +60,7 @@ static STORES: [(&[u64], u32, [SlotText; 6], &str, u8); 6] = [
 
 #[test]
 fn numbers_and_refusals_are_printed(rt: HostRuntime) -> Result<(), Fail> {
-    for (numbers, segments, slots, want, status) in &STORES {
+    for (row, (numbers, segments, slots, want, status)) in STORES.iter().enumerate() {
         let mut words = Vec::new(rt.alloc());
         for seq in numbers.iter() {
             words.extend_from_slice(&hello(0, 1, *seq, 3))?;
@@ -73,19 +70,19 @@ fn numbers_and_refusals_are_printed(rt: HostRuntime) -> Result<(), Fail> {
             areas.push(segment_area(rt.alloc(), slots)?)?;
         }
         let geometry = Geometry::new(1, 1, *segments, 3, 64).ok_or("no geometry")?;
-        check(&rt, geometry, areas, (want, *status))?;
+        check(&rt, &row, geometry, areas, (want, *status))?;
     }
     Ok(())
 }
 
 #[test]
 fn areas_of_another_length(rt: HostRuntime) -> Result<(), Fail> {
-    for (lens, want) in WRONG_LENGTHS {
+    for (row, (lens, want)) in WRONG_LENGTHS.iter().enumerate() {
         let mut areas = Vec::new(rt.alloc());
-        for len in lens {
+        for len in lens.iter() {
             areas.push(MemArea::new(rt.alloc(), *len)?)?;
         }
-        check(&rt, ONE, areas, (want, 1))?;
+        check(&rt, &row, ONE, areas, (want, 1))?;
     }
     Ok(())
 }
@@ -110,7 +107,13 @@ fn a_device_fault(rt: HostRuntime) -> Result<(), Fail> {
             Fuse::new(records, When::At(u64::from(*log))),
             Fuse::new(pages, When::At(u64::from(*segment))),
         ]?;
-        check(&rt, ONE, areas, (want, *status))?;
+        check(
+            &rt,
+            &format_args!("{log} {segment}"),
+            ONE,
+            areas,
+            (want, *status),
+        )?;
     }
     Ok(())
 }

@@ -3,12 +3,14 @@ ghost use Rattle.std.specs.Prelude.{◌≡◌, IfOk, IfErr, IfSome};
 ghost use Rattle.lc_record.specs.Geometry.{HasNumbers};
 ghost use Rattle.lc_recover.specs.Recovery.{IsDone, Tells};
 
+use crate::expect::{equal, holds};
 use lc_disk::{Area, Choice, DeviceFault, Fuse, MemArea, Stoppable, When};
 use lc_fixture::{CLOSED, SlotText, hello, log_area, open, segment_area, store_of};
 use lc_page::{PageText, Slot};
 use lc_record::Geometry;
 use lc_recover::{Progress, RecoverFault, Recovered, Recovery};
 use std::alloc::{AllocError, Global};
+use std::fmt::Display;
 use std::process::Abort;
 use std::test::*;
 
@@ -84,6 +86,7 @@ fn finished<D: Area + Drop>(
 // What has become of a store.
 fn recovered<D: Area + Drop>(
     rt: &impl Abort,
+    row: &impl Display,
     alloc: Global,
     geometry: Geometry,
     areas: Vec<D>,
@@ -93,7 +96,7 @@ fn recovered<D: Area + Drop>(
 {
     match finished(alloc, begun(geometry, areas)?) {
         Ok((recovered, steps, is_last)) => {
-            assert!(rt; steps == wanted_steps && is_last, "{steps} steps");
+            equal(rt, row, &(steps, is_last), &(wanted_steps, true));
             Ok(recovered)
         }
         Err(_) => Err(Fail::from("the store is recovered")),
@@ -136,22 +139,41 @@ fn again<D: Area + Drop>(alloc: Global, areas: Vec<D>) -> Result<Recovered<D>, F
 }
 
 // The page has "hello" for its front and zeros behind, under number 1, and the log has no record.
-fn comes_to_hello<D: Area + Drop>(rt: &impl Abort, recovered: Recovered<D>) -> Result<(), Fail>
+fn comes_to_hello<D: Area + Drop>(
+    rt: &impl Abort,
+    row: &impl Display,
+    recovered: Recovered<D>,
+) -> Result<(), Fail>
     requires segments { recovered.geometry.segments ≡ 1 }
     requires pages { recovered.geometry.pages ≡ 1 }
 {
     let page = recovered.page(1, 0);
-    assert!(rt; page.starts_with(b"hello") && page.iter().skip(5).all(|byte| *byte == 0));
+    equal(rt, row, &page.get(..5), &Some(b"hello".as_slice()));
+    holds(
+        rt,
+        &format_args!("{row}, zeros behind"),
+        page.iter().skip(5).all(|byte| *byte == 0),
+    );
     let text = PageText {
         seq: 1,
         slot: Some(Slot::First),
         gates: [true, false],
     };
-    assert!(rt; recovered.text(1, 0) == text && recovered.sequence(1) == 1);
+    let found = recovered.text(1, 0);
+    equal(
+        rt,
+        row,
+        &(found.seq, found.gates, found == text, recovered.sequence(1)),
+        &(1, [true, false], true, 1),
+    );
     let slot = b"\xa5\0\0\0\0\0\0\0\x01\0\0\0\0\0\0\0hello";
     let gate = b"\0";
     for (area, wanted) in recovered.areas().iter_mut().zip([gate.as_slice(), slot]) {
-        assert!(rt; begins(area, wanted)?);
+        holds(
+            rt,
+            &format_args!("{row}, the area begins with {wanted:?}"),
+            begins(area, wanted)?,
+        );
     }
     Ok(())
 }
@@ -160,6 +182,7 @@ fn comes_to_hello<D: Area + Drop>(rt: &impl Abort, recovered: Recovered<D>) -> R
 // and the recovery begins again.
 fn walk<D: Area>(
     rt: &impl Abort,
+    row: &impl Display,
     alloc: Global,
     recovery: &mut Recovery<D>,
     steps: u64,
@@ -173,7 +196,12 @@ fn walk<D: Area>(
             Ok(Progress::Stepped(_)) => {}
             Ok(Progress::Recovered) => return Ok(made + 1),
             Err(fault) => {
-                assert!(rt; fault == RecoverFault::DeviceFault && recovery.steps() == 0);
+                equal(
+                    rt,
+                    row,
+                    &(fault, recovery.steps()),
+                    &(RecoverFault::DeviceFault, 0),
+                );
                 return Err(made);
             }
         }
@@ -186,11 +214,16 @@ fn a_recovery_of_one_page_is_twelve_calls(rt: HostRuntime) -> Result<(), Fail> {
     let alloc = rt.alloc();
     let geometry = geometry_of(1, 1, 1)?;
     let areas = hello_areas(alloc, 5, 9)?;
-    let recovered = recovered(&rt, alloc, geometry, areas, HELLO_STEPS)?;
+    let recovered = recovered(&rt, &"one page", alloc, geometry, areas, HELLO_STEPS)?;
     assert!(rt; recovered.geometry() == geometry);
-    for area in recovered.areas().iter_mut() {
+    for (place, area) in recovered.areas().iter_mut().enumerate() {
         // The next call is the fifth of the log, and the ninth of the segment.
-        assert!(rt; area.faults() == 0 && area.read(0, &mut []) == Err(DeviceFault));
+        equal(
+            &rt,
+            &format_args!("area {place}"),
+            &(area.faults(), area.read(0, &mut [])),
+            &(0, Err(DeviceFault)),
+        );
     }
     Ok(())
 }
@@ -216,16 +249,21 @@ fn each_step_makes_the_next_call(rt: HostRuntime) -> Result<(), Fail> {
     let alloc = rt.alloc();
     for (step, log, segment) in &CALLS {
         let mut recovery = begun(geometry_of(1, 1, 1)?, hello_areas(alloc, *log, *segment)?)?;
-        let Err(made) = walk(&rt, alloc, &mut recovery, HELLO_STEPS) else {
+        let Err(made) = walk(&rt, step, alloc, &mut recovery, HELLO_STEPS) else {
             let _areas = recovery.areas();
             return Err(Fail::from("the call fails"));
         };
-        assert!(rt; made == step.wrapping_sub(1), "step {step}");
+        equal(
+            &rt,
+            &format_args!("step {step}"),
+            &made,
+            &step.wrapping_sub(1),
+        );
         // It begins again with the first sync.
         let Ok((recovered, _steps, _is_last)) = finished(alloc, recovery) else {
             return Err(Fail::from("no other call fails"));
         };
-        comes_to_hello(&rt, recovered)?;
+        comes_to_hello(&rt, &format_args!("step {step}"), recovered)?;
     }
     Ok(())
 }
@@ -239,24 +277,25 @@ fn an_empty_log_is_emptied_by_two_calls(rt: HostRuntime) -> Result<(), Fail> {
         areas.push(Fuse::new(log_area(alloc, &[])?, When::At(u64::from(call))))?;
         areas.push(Fuse::new(segment_area(alloc, &[CLOSED; 2])?, When::At(0)))?;
         let mut recovery = begun(geometry_of(1, 1, 1)?, areas)?;
-        let made = walk(&rt, alloc, &mut recovery, HELLO_STEPS);
+        let made = walk(&rt, &call, alloc, &mut recovery, HELLO_STEPS);
         let _areas = recovery.areas();
-        assert!(rt; made == Err(steps), "call {call}");
+        equal(&rt, &format_args!("call {call}"), &made, &Err(steps));
     }
     Ok(())
 }
 
 // Each choice at a stop behind so many steps, or behind the call of the log or of the segment that fails.
 fn stops(rt: &impl Abort, alloc: Global, log: u32, segment: u32, steps: u64) -> Result<(), Fail> {
-    for choice in CHOICES {
+    for (place, choice) in CHOICES.iter().enumerate() {
+        let row = format_args!("choice {place}, call {log} {segment}, {steps} steps");
         let mut recovery = begun(geometry_of(1, 1, 1)?, hello_areas(alloc, log, segment)?)?;
-        let _made = walk(rt, alloc, &mut recovery, steps);
+        let _made = walk(rt, &row, alloc, &mut recovery, steps);
         let mut areas = recovery.areas();
         for area in areas.iter_mut() {
-            area.stop(&[choice]);
+            area.stop(&[*choice]);
         }
         let recovered = again(alloc, areas)?;
-        comes_to_hello(rt, recovered)?;
+        comes_to_hello(rt, &row, recovered)?;
     }
     Ok(())
 }
@@ -280,7 +319,7 @@ fn a_step_without_memory_is_made_again(rt: HostRuntime) -> Result<(), Fail> {
         Ok(areas) => areas,
         Err(_) => hello_areas(alloc, 0, 0)?,
     };
-    comes_to_hello(&rt, again(alloc, areas)?)
+    comes_to_hello(&rt, &"no stop", again(alloc, areas)?)
 }
 
 // The fault that a recovery comes to, if it does.
@@ -306,7 +345,7 @@ fn a_gap_is_found_again(rt: HostRuntime) -> Result<(), Fail> {
     words.extend_from_slice(&hello(0, 1, 3, 9))?;
     let geometry = geometry_of(1, 1, 1)?;
     let mut areas = store_of(alloc, &words, &[CLOSED; 2])?;
-    for _ in 0..3 {
+    for time in 0..3 {
         let mut recovery = begun(geometry, areas)?;
         let fault = first_fault(alloc, &mut recovery);
         let steps = recovery.steps();
@@ -314,7 +353,12 @@ fn a_gap_is_found_again(rt: HostRuntime) -> Result<(), Fail> {
         // Nothing was written.
         let gate = areas.first().and_then(|log| log.bytes().first().copied());
         let gap = RecoverFault::Gap { segment: 1, seq: 2 };
-        assert!(rt; fault == Some(gap) && steps == 0 && gate == Some(0xa5));
+        equal(
+            &rt,
+            &format_args!("time {time}"),
+            &(fault, steps, gate),
+            &(Some(gap), 0, Some(0xa5)),
+        );
     }
     Ok(())
 }
@@ -337,17 +381,22 @@ fn each_page_takes_six_steps_and_each_log_two(rt: HostRuntime) -> Result<(), Fai
     let alloc = rt.alloc();
     let geometry = geometry_of(2, 2, 2)?;
     // Four syncs, four reads, the merge, three pages, two logs.
-    let done = recovered(&rt, alloc, geometry, two_of_each(alloc)?, 31)?;
+    let done = recovered(&rt, &"first", alloc, geometry, two_of_each(alloc)?, 31)?;
     assert!(rt; done.page(1, 0).ends_with(b"\0hello"));
     assert!(rt; done.page(1, 1).starts_with(b"lo\0"));
     assert!(rt; done.page(2, 0) == [5; 256].as_slice());
     assert!(rt; done.page(2, 1).get(43..50) == Some(b"\x06hello\x06".as_slice()));
     assert!(rt; (done.sequence(1), done.sequence(2)) == (2, 8));
     for (segment, page, seq) in [(1, 0, 2), (1, 1, 2), (2, 0, 7), (2, 1, 8)] {
-        assert!(rt; done.text(segment, page).seq == seq, "{segment} {page}");
+        equal(
+            &rt,
+            &format_args!("page {page} of {segment}"),
+            &done.text(segment, page).seq,
+            &seq,
+        );
     }
     // Nothing is left for another recovery.
-    let done = recovered(&rt, alloc, geometry, done.areas(), 13)?;
+    let done = recovered(&rt, &"second", alloc, geometry, done.areas(), 13)?;
     assert!(rt; (done.sequence(1), done.sequence(2)) == (2, 8));
     let _areas = done.areas();
     Ok(())
@@ -428,9 +477,9 @@ static REFUSED: [(&[Stands], [SlotText; 2], RecoverFault); 9] = [
 
 #[test]
 fn stores_that_are_refused(rt: HostRuntime) -> Result<(), Fail> {
-    for (records, slots, wanted) in &REFUSED {
+    for (row, (records, slots, wanted)) in REFUSED.iter().enumerate() {
         let fault = refusal_of(rt.alloc(), records, slots)?;
-        assert!(rt; fault == Some(*wanted), "{wanted}");
+        equal(&rt, &row, &fault, &Some(*wanted));
     }
     Ok(())
 }
@@ -495,9 +544,11 @@ fn a_page_takes_what_is_newer(rt: HostRuntime) -> Result<(), Fail> {
     for (slots, seq, offset, first, last, number, is_written) in &BECOMES {
         let page = page_of(rt.alloc(), &hello(0, 1, *seq, *offset), slots)?;
         let steps = if *is_written { 13 } else { 7 };
-        assert!(rt;
-            page == (Some(*first), Some(*last), *number, steps),
-            "{seq}"
+        equal(
+            &rt,
+            &format_args!("record {seq}"),
+            &page,
+            &(Some(*first), Some(*last), *number, steps),
         );
     }
     Ok(())
@@ -515,12 +566,9 @@ const READ: [([SlotText; 2], u8, u64); 6] = [
 
 #[test]
 fn a_page_is_read_from_the_slot_that_counts(rt: HostRuntime) -> Result<(), Fail> {
-    for (slots, byte, number) in &READ {
+    for (row, (slots, byte, number)) in READ.iter().enumerate() {
         let page = page_of(rt.alloc(), &[], slots)?;
-        assert!(rt;
-            page == (Some(*byte), Some(*byte), *number, 7),
-            "{byte} {number}"
-        );
+        equal(&rt, &row, &page, &(Some(*byte), Some(*byte), *number, 7));
     }
     Ok(())
 }
@@ -532,7 +580,12 @@ fn where_no_record_begins_a_log_is_empty(rt: HostRuntime) -> Result<(), Fail> {
         let mut words = hello(0, 1, 1, 0);
         words[0] = first;
         let page = page_of(rt.alloc(), &words, &[CLOSED; 2])?;
-        assert!(rt; page == (Some(0), Some(0), 0, 7));
+        equal(
+            &rt,
+            &format_args!("first word {first}"),
+            &page,
+            &(Some(0), Some(0), 0, 7),
+        );
     }
     Ok(())
 }
@@ -550,8 +603,14 @@ fn the_record_with_the_greatest_number_stands(rt: HostRuntime) -> Result<(), Fai
             areas.reverse();
         }
         areas.push(segment_area(alloc, &[open(0, 0xee), CLOSED])?)?;
-        let recovered = recovered(&rt, alloc, geometry_of(2, 1, 1)?, areas, 17)?;
-        assert!(rt; recovered.page(1, 0).starts_with(b"\xee\xee\xeehehello\xee"));
+        let row = format_args!("number 1 at node {first}");
+        let recovered = recovered(&rt, &row, alloc, geometry_of(2, 1, 1)?, areas, 17)?;
+        equal(
+            &rt,
+            &row,
+            &recovered.page(1, 0).get(..11),
+            &Some(b"\xee\xee\xeehehello\xee".as_slice()),
+        );
         let _areas = recovered.areas();
     }
     Ok(())
@@ -582,12 +641,12 @@ static WRONG: [(&[usize], u32); 8] = [
 fn the_least_area_that_does_not_fit_is_named(rt: HostRuntime) -> Result<(), Fail> {
     let alloc = rt.alloc();
     let geometry = geometry_of(2, 2, 1)?;
-    for (lens, area) in &WRONG {
+    for (row, (lens, area)) in WRONG.iter().enumerate() {
         let Err((areas, fault)) = Recovery::new(geometry, areas_of(alloc, lens)?) else {
             return Err(Fail::from("the areas are refused"));
         };
-        let is_named = fault == RecoverFault::BadGeometry { area: *area };
-        assert!(rt; is_named && areas.len() == lens.len(), "{area}");
+        let named = RecoverFault::BadGeometry { area: *area };
+        equal(&rt, &row, &(fault, areas.len()), &(named, lens.len()));
     }
     Ok(())
 }

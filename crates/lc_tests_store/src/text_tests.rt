@@ -1,5 +1,6 @@
 //! What lines are read as, and the texts of replies, pages and records.
-use crate::events::says;
+use crate::events::{says, text_of};
+use crate::expect::{equal, holds};
 use lc_core::{Refusal, Reply};
 use lc_fixture::{Narrow, bytes_of, hello};
 use lc_record::{Items, Lock, RangeData, Record, encode};
@@ -7,6 +8,7 @@ use lc_text::{
     Line, ToolFault, inspect, parse, write_closed, write_no_memory, write_not_understood,
     write_page, write_reply, write_too_long, write_words,
 };
+use std::fmt::Display;
 use std::process::Abort;
 use std::test::*;
 
@@ -37,7 +39,7 @@ fn replies(rt: HostRuntime) {
         (Reply::Down, "down"),
         (Reply::Recovered, "recovered"),
     ] {
-        assert!(rt; says(&reply, want), "{want}");
+        equal(&rt, &want, &text_of(&reply, &mut [0; 64]), &Some(want));
     }
 }
 
@@ -100,7 +102,8 @@ static REFUSALS: [(Refusal, &str); 29] = [
 #[test]
 fn refusals(rt: HostRuntime) {
     for (refusal, want) in &REFUSALS {
-        assert!(rt; says(&Reply::Refused(*refusal), want), "{want}");
+        let reply = Reply::Refused(*refusal);
+        equal(&rt, want, &text_of(&reply, &mut [0; 64]), &Some(*want));
     }
 }
 
@@ -133,13 +136,14 @@ fn pages(rt: HostRuntime) -> Result<(), Fail> {
 // What an inspection of these bytes writes.
 fn check_inspection(
     rt: &(impl Abort + AllocGlobal),
+    row: &impl Display,
     bytes: &[u8],
     reverse: bool,
     want: &str,
 ) -> Result<(), Fail> {
     let mut text = Vec::new(rt.alloc());
     inspect(rt.alloc(), bytes, reverse, &mut text)?;
-    assert!(rt; text.as_slice() == want.as_bytes(), "{want}");
+    equal(rt, row, &str::from_utf8(text.as_slice()).ok(), &Some(want));
     Ok(())
 }
 
@@ -166,7 +170,7 @@ fn a_record_of_two_segments(rt: HostRuntime) -> Result<(), Fail> {
     words.extend_from_slice(&encode(alloc, &record)?)?;
     let want =
         "0 8 node 0 locks 1:1 ranges 1:3+5\n8 14 node 7 locks 2:30,16:4 ranges 2:0+8,16:100+9\n";
-    check_inspection(&rt, &bytes_of(alloc, &words)?, false, want)
+    check_inspection(&rt, &"two segments", &bytes_of(alloc, &words)?, false, want)
 }
 
 #[test]
@@ -178,15 +182,15 @@ fn the_last_record_comes_first(rt: HostRuntime) -> Result<(), Fail> {
     let mut bytes = bytes_of(rt.alloc(), &words)?;
     let forwards =
         "0 8 node 0 locks 1:1 ranges 1:3+5\n8 8 node 1 locks 1:2 ranges 1:3+5\n16 8 node 2 locks 1:3 ranges 1:3+5\n";
-    check_inspection(&rt, &bytes, false, forwards)?;
+    check_inspection(&rt, &"forwards", &bytes, false, forwards)?;
     let backwards =
         "16 8 node 2 locks 1:3 ranges 1:3+5\n8 8 node 1 locks 1:2 ranges 1:3+5\n0 8 node 0 locks 1:1 ranges 1:3+5\n";
-    check_inspection(&rt, &bytes, true, backwards)?;
+    check_inspection(&rt, &"backwards", &bytes, true, backwards)?;
     // What stands behind the records is not shown: the third ends otherwise than it says.
     bytes.truncate(184);
     bytes.resize(520, 0x5a)?;
     let backwards = "8 8 node 1 locks 1:2 ranges 1:3+5\n0 8 node 0 locks 1:1 ranges 1:3+5\n";
-    check_inspection(&rt, &bytes, true, backwards)
+    check_inspection(&rt, &"a broken third", &bytes, true, backwards)
 }
 
 #[test]
@@ -195,15 +199,15 @@ fn bytes_without_a_record(rt: HostRuntime) -> Result<(), Fail> {
     let (Some(front), Some(behind)) = (record.get(..63), record.get(8..)) else {
         return Err(Fail::from("the record has 64 bytes"));
     };
-    for bytes in [
-        [].as_slice(),
-        &[0xa5; 7],
-        &[0; 64],
-        &[0xff; 64],
-        front,
-        behind,
+    for (row, bytes) in [
+        ("none", [].as_slice()),
+        ("seven gates", &[0xa5; 7]),
+        ("zeros", &[0; 64]),
+        ("ones", &[0xff; 64]),
+        ("without its end", front),
+        ("without its front", behind),
     ] {
-        check_inspection(&rt, bytes, true, "")?;
+        check_inspection(&rt, &row, bytes, true, "")?;
     }
     Ok(())
 }
@@ -213,7 +217,7 @@ fn a_writer_that_fails(rt: HostRuntime) -> Result<(), Fail> {
     let log = bytes_of(rt.alloc(), &hello(0, 1, 1, 3))?;
     for room in [0, 20, 33] {
         let shown = inspect(rt.alloc(), &log, false, &mut Narrow { room });
-        assert!(rt; shown == Err(ToolFault::Write), "{room}");
+        equal(&rt, &room, &shown, &Err(ToolFault::Write));
     }
     inspect(rt.alloc(), &log, false, &mut Narrow { room: 34 })?;
     assert!(rt; write_reply(&mut Narrow { room: 2 }, &Reply::Ok).is_err());
@@ -282,9 +286,13 @@ static NOT_UNDERSTOOD: [&[u8]; 56] = [
 
 #[test]
 fn not_understood(rt: HostRuntime) -> Result<(), Fail> {
-    for line in &NOT_UNDERSTOOD {
+    for (row, line) in NOT_UNDERSTOOD.iter().enumerate() {
         let read = parse(rt.alloc(), line)?;
-        assert!(rt; matches!(read, Line::NotUnderstood), "{line:?}");
+        holds(
+            &rt,
+            &format_args!("{row}: {:?}", str::from_utf8(line)),
+            matches!(read, Line::NotUnderstood),
+        );
     }
     Ok(())
 }

@@ -1,5 +1,6 @@
 //! What a truncation calls of the system.
 use crate::events::{play, up_on};
+use crate::expect::{equal, equal_texts, holds};
 use lc_core::{Refusal, Reply, Truncation, TruncationStep};
 use lc_disk::{FileArea, OpenFault};
 use lc_fixture::{Listed, Shelf};
@@ -71,19 +72,25 @@ fn steps_of_a_truncation_make_its_calls_one_by_one(rt: HostRuntime) -> Result<()
     // Four of the flush, six of each page, four of the reset.
     for step in 0..20 {
         let at_the_pages = 5 <= step && step <= 16;
-        assert!(rt;
-            truncation.segment().is_some() == at_the_pages,
-            "step {step}"
+        equal(
+            &rt,
+            &format_args!("step {step} is at the pages"),
+            &truncation.segment().is_some(),
+            &at_the_pages,
         );
         match world.truncate_step(alloc, truncation) {
             TruncationStep::Continues(next) => truncation = next,
             TruncationStep::Ends(reply) => last = Some((step, reply)),
         }
         let made = shelf.calls()?;
-        assert!(rt; made.lines().count() <= 1, "step {step}: {made}");
+        holds(
+            &rt,
+            &format_args!("step {step} makes one call: {made}"),
+            made.lines().count() <= 1,
+        );
         calls.push_str(&made)?;
     }
     assert!(rt; matches!(last, Some((19, Reply::Reset))));
-    assert!(rt; calls.as_str() == CALLS, "{calls}");
+    equal_texts(&rt, &"all steps", &calls, CALLS);
     Ok(())
 }

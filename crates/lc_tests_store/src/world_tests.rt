@@ -1,5 +1,6 @@
 //! A store of several nodes by its events: how it comes up, what it shows, and devices that fail.
-use crate::events::{STOPS, TWO_NODES, comes_up, event_of, events_of, play, says, up_on};
+use crate::events::{STOPS, TWO_NODES, comes_up, event_of, events_of, play, text_of, up_on};
+use crate::expect::{equal, equal_lists, holds};
 use crate::hostile_tests::down_with;
 use lc_core::{Event, Reply, World, run_areas, run_in_memory};
 use lc_disk::{Fuse, MemArea, Stoppable, When};
@@ -60,8 +61,8 @@ fn a_store_in_memory_answers_all_its_events(rt: HostRuntime) -> Result<(), Fail>
     let events = events_of(rt.alloc(), &RECOVERY)?;
     let (_, run) = run_in_memory(rt.alloc(), ONE_NODE, &events)?;
     assert!(rt; !run.out_of_memory && run.replies.len() == 8);
-    for (reply, (_, wanted)) in run.replies.iter().zip(&RECOVERY) {
-        assert!(rt; says(reply, wanted), "{wanted}");
+    for (place, (reply, (_, wanted))) in run.replies.iter().zip(&RECOVERY).enumerate() {
+        equal(&rt, &place, &text_of(reply, &mut [0; 64]), &Some(*wanted));
     }
     Ok(())
 }
@@ -235,12 +236,17 @@ fn stopped_behind(
     play(rt, alloc, &mut world, &FLUSH)?;
     play(rt, alloc, &mut world, &[("stop stable", "down")])?;
     for step in 1..=steps {
-        let is_right = match world.step(alloc, &Event::RecoverStep)? {
-            Reply::Stepped(made) => made == step && step < RECOVERY_STEPS,
+        let reply = world.step(alloc, &Event::RecoverStep)?;
+        let is_right = match &reply {
+            Reply::Stepped(made) => *made == step && step < RECOVERY_STEPS,
             Reply::Recovered => step == RECOVERY_STEPS,
             _ => false,
         };
-        assert!(rt; is_right, "step {step}");
+        holds(
+            rt,
+            &format_args!("step {step}: {:?}", text_of(&reply, &mut [0; 64])),
+            is_right,
+        );
     }
     world.step(alloc, stop)?;
     comes_up(alloc, &mut world)?;
@@ -255,10 +261,16 @@ fn a_recovery_that_is_stopped_comes_to_the_same(rt: HostRuntime) -> Result<(), F
         let stop = event_of(alloc, line)?;
         for steps in 0..=RECOVERY_STEPS {
             let mut world = stopped_behind(&rt, alloc, &stop, steps)?;
-            assert!(rt; shows(&world, b"\0\0\0hello"), "step {steps}");
+            let row = format_args!("{line}, step {steps}");
+            holds(&rt, &row, shows(&world, b"\0\0\0hello"));
             play(&rt, alloc, &mut world, &COMMIT)?;
             play(&rt, alloc, &mut world, &FLUSH)?;
-            assert!(rt; world.log_words(alloc, 0)?.as_slice() == hello(0, 1, 2, 3).as_slice());
+            equal_lists(
+                &rt,
+                &row,
+                world.log_words(alloc, 0)?.as_slice(),
+                hello(0, 1, 2, 3).as_slice(),
+            );
         }
     }
     Ok(())
