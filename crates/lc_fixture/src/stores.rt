@@ -1,4 +1,6 @@
 //! The areas of stores that others have made.
+ghost use Rattle.std.specs.Prelude.{◌≡◌, IfOk, length};
+
 use lc_disk::MemArea;
 use lc_record::Geometry;
 use std::alloc::{AllocError, Global};
@@ -30,7 +32,9 @@ pub type SlotText = (u8, u64, u8);
 pub const CLOSED: SlotText = (0, 0, 0);
 
 /// An open slot.
-pub const fn open(seq: u64, byte: u8) -> SlotText {
+pub const fn open(seq: u64, byte: u8) -> SlotText
+    ensures { result ≡ (165, seq, byte) }
+{
     (0xa5, seq, byte)
 }
 
@@ -80,6 +84,8 @@ pub fn store_of(
     alloc: Global,
     words: &[u64],
     slots: &[SlotText],
-) -> Result<Vec<MemArea>, AllocError> {
+) -> Result<Vec<MemArea>, AllocError>
+    ensures { IfOk result (λ areas. length areas.items ≡ 2) }
+{
     Ok(vec![in alloc; log_area(alloc, words)?, segment_area(alloc, slots)?]?)
 }
