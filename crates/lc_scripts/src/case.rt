@@ -2,30 +2,51 @@
 use lc_record::Geometry;
 use std::str::{FromStr, SplitAsciiWhitespace};
 
-/// A script by the name of its files, the store that it runs on, and the status that is wanted.
+/// The call of an area that fails, from 1.
+#[derive(Clone, Copy)]
+pub(crate) struct Failure {
+    pub(crate) area: usize,
+    pub(crate) call: u32,
+}
+
+/// A script by the name of its files, the store that it runs on, the status that is wanted, and which call of an area fails.
 #[derive(Clone, Copy, Drop)]
 pub(crate) struct Case<'a> {
     pub(crate) name: &'a str,
     pub(crate) status: u8,
     pub(crate) geometry: Geometry,
+    pub(crate) failure: Option<Failure>,
 }
 
 impl<'a> Case<'a> {
-    /// The case of a line: name, status, nodes, threads, segments, pages and words.
+    /// The case of a line: name, status, nodes, threads, segments, pages and words; behind them may stand `fails AREA CALL`.
     pub(crate) fn of_line(line: &'a str) -> Option<Case<'a>> {
         let mut words = line.split_ascii_whitespace();
         let name = words.next()?;
         let status = number(&mut words)?;
         let geometry = geometry(&mut words)?;
+        let failure = match words.next() {
+            None => None,
+            Some("fails") => Some(failure(&mut words)?),
+            Some(_) => return None,
+        };
         Some(Case {
             name,
             status,
             geometry,
+            failure,
         })
     }
 }
 
-// The store of the words that are left.
+// The failure of the words that are left.
+fn failure(words: &mut SplitAsciiWhitespace<'_>) -> Option<Failure> {
+    let area = number(words)?;
+    let call = number(words)?;
+    Some(Failure { area, call })
+}
+
+// The store of the next words.
 fn geometry(words: &mut SplitAsciiWhitespace<'_>) -> Option<Geometry> {
     let nodes = number(words)?;
     let threads = number(words)?;

@@ -1,8 +1,11 @@
 //! What a script prints, beside what is wanted.
-use lc_record::Geometry;
+ghost use Rattle.lc_disk.specs.When.{IsCountable};
+
+use crate::case::{Case, Failure};
+use lc_disk::{Fuse, When};
 use lc_recover::zero_areas;
 use lc_tool::{Manner, ToolFault, run_script};
-use std::alloc::Global;
+use std::alloc::{AllocError, Global};
 
 // As a whole, without numbers.
 const WHOLE: Manner = Manner {
@@ -10,19 +13,39 @@ const WHOLE: Manner = Manner {
     number: false,
 };
 
-/// What a script prints on a new store, and its status.
+/// What a script prints on a new store, of which a call may fail, and its status.
 pub(crate) fn printed(
     alloc: Global,
-    geometry: Geometry,
+    case: Case<'_>,
     script: &[u8],
 ) -> Result<(Vec<u8>, u8), ToolFault> {
-    let Ok(areas) = zero_areas(alloc, &geometry) else {
+    let Ok(areas) = areas_of(alloc, case) else {
         return Err(ToolFault::NoMemory);
     };
     let mut reader = script;
     let mut text = Vec::new(alloc);
-    let status = run_script(alloc, geometry, WHOLE, areas, &mut reader, &mut text)?;
+    let status = run_script(alloc, case.geometry, WHOLE, areas, &mut reader, &mut text)?;
     Ok((text, status))
+}
+
+// The areas of a new store, one of which may fail.
+fn areas_of(alloc: Global, case: Case<'_>) -> Result<Vec<Fuse>, AllocError> {
+    let mut areas = Vec::new(alloc);
+    let mut zeros = zero_areas(alloc, &case.geometry)?;
+    for place in 0..zeros.len() {
+        areas.push(Fuse::new(zeros.remove(0), when(case.failure, place)))?;
+    }
+    Ok(areas)
+}
+
+// When the area at this place fails: at no call, unless it is the one that is named.
+fn when(failure: Option<Failure>, place: usize) -> When
+    ensures { IsCountable result }
+{
+    match failure {
+        Some(Failure { area, call }) if area == place => When::At(u64::from(call)),
+        _ => When::At(0),
+    }
 }
 
 /// The number of the first line in which two texts differ, from 1.

@@ -21,7 +21,7 @@ fn goes<R: AllocGlobal + Files + Print>(
     let name = case.name;
     let script = fs::read(rt, format!(in alloc; "{folder}/{name}.script")?)?;
     let wanted = fs::read(rt, format!(in alloc; "{folder}/{name}.wanted")?)?;
-    let (text, status) = printed(alloc, case.geometry, &script)?;
+    let (text, status) = printed(alloc, case, &script)?;
     let line = first_difference(&text, &wanted);
     if let Some(line) = line {
         println!(rt; "{name}: line {line} is not as wanted")?;

@@ -1,9 +1,7 @@
 //! Scripts over stores that others have made, devices that fail, readers and writers that fail, and the longest script.
 use crate::expect::equal;
-use lc_disk::{Fuse, MemArea, Stoppable, When};
-use lc_fixture::{
-    CLOSED, Narrow, ONE, SlotText, WRONG_LENGTHS, hello, log_area, segment_area, store_of,
-};
+use lc_disk::{MemArea, Stoppable};
+use lc_fixture::{CLOSED, Narrow, ONE, SlotText, WRONG_LENGTHS, hello, store_of};
 use lc_record::Geometry;
 use lc_recover::zero_areas;
 use lc_text::ToolFault;
@@ -245,38 +243,6 @@ fn areas_of_another_store(rt: HostRuntime) -> Result<(), Fail> {
             areas.push(MemArea::new(rt.alloc(), *len)?)?;
         }
         check(&rt, &row, ONE, areas, b"jump\n", (want, 1))?;
-    }
-    Ok(())
-}
-
-const FLUSHED: &str = "begin 0 0 1\nrange 0 0 1 0 1\nend 0 0\nflush 0\nlog 0\nshow 0 1 9\njump\n";
-
-// The call of the log that fails, a script, what it prints and its status. A recovery makes four calls, and a flush four more.
-static FAILING: [(u8, &str, &str, u8); 11] = [
-    (1, FLUSHED, "device fault\n", 3),
-    (2, FLUSHED, "device fault\n", 3),
-    (3, FLUSHED, "device fault\n", 3),
-    (4, FLUSHED, "device fault\n", 3),
-    (5, FLUSHED, "ok\nok\nclosed 0 8\ndevice fault\n", 3),
-    (6, FLUSHED, "ok\nok\nclosed 0 8\ndevice fault\n", 3),
-    (7, FLUSHED, "ok\nok\nclosed 0 8\ndevice fault\n", 3),
-    (8, FLUSHED, "ok\nok\nclosed 0 8\ndevice fault\n", 3),
-    (9, FLUSHED, "ok\nok\nclosed 0 8\nacked 1\ndevice fault\n", 3),
-    (9, "inspect 0\nlog 1\n", "refused Unknown\n", 1),
-    (5, "inspect 0\n", "device fault\n", 3),
-];
-
-#[test]
-fn a_device_fault_ends_a_script(rt: HostRuntime) -> Result<(), Fail> {
-    for (row, (call, script, want, status)) in FAILING.iter().enumerate() {
-        let log = log_area(rt.alloc(), &[])?;
-        let pages = segment_area(rt.alloc(), &[CLOSED; 2])?;
-        let areas = vec![in rt.alloc();
-            Fuse::new(log, When::At(u64::from(*call))),
-            Fuse::new(pages, When::At(0)),
-        ]?;
-        let row = format_args!("row {row}, call {call}");
-        check(&rt, &row, ONE, areas, script.as_bytes(), (want, *status))?;
     }
     Ok(())
 }
