@@ -1,6 +1,7 @@
 #!/usr/bin/env python3
-"""Lists what is promised: each clause of each public function, and each definition that the clauses of `run_areas` reach. The list
-is kept in tests/statements.txt, so that a clause which is dropped, or a definition which is changed, shows in a change as such.
+"""Lists what is promised: each clause of each public function, each ghost member of a public trait, its laws among them, and each
+definition that the clauses of `run_areas` reach. The list is kept in tests/statements.txt, so that a clause which is dropped, or a definition which is changed, shows in
+a change as such.
 
 usage: tests/statements.py            compares with the list (seconds; proves nothing); the last line is 'N passed, M failed'
        tests/statements.py --write    writes the list anew
@@ -16,6 +17,8 @@ HEADLINE = ("lc_core", "run_areas")
 
 OWNER = re.compile(r"^(?:pub(?:\(crate\))? )?(impl|trait)\b(.*)", re.M)
 FUNCTION = re.compile(r"^( *)(pub )?(?:final )?(?:unsafe )?fn (\w+)", re.M)
+TRAIT = re.compile(r"^pub trait (\w+)[^{]*\{", re.M)
+MEMBER = re.compile(r"^    ghost (\w+): \{", re.M)
 CLAUSE = re.compile(r"\s*(ghost|requires\*?|ensures\*?)\s+(?:(\w+)\s*:?\s*)?\{")
 DEFINITION = re.compile(r"^(\s*)(?:abbrev pub|unfoldable pub|pub abbrev|pub record|pub data|pub|abbrev|unfoldable|record|data) (?:record |data )?([^\s:]+)")
 IMPORT = re.compile(r"^\s*(?:pub )?use Rattle\.(\w+)\.specs\.([\w.]+)\.\{(.*)\}", re.M)
@@ -68,6 +71,17 @@ def functions():
             owner = re.sub(r"\s+where\b.*", "", re.sub(r"^<[^{]*?> (?=\w)", "", owner.strip()))
             public = bool(head.group(2)) or kind == "trait"
             yield source.parts[-3] if source.parts[-2] == "src" else "", source.name, owner, head.group(3), public, clauses_of(text, head.end())
+
+
+def members():
+    """Of each public trait: the crate, the file, the trait, and the name and type of each ghost member."""
+    for source in sorted((TOP / "crates").glob("*/src/*.rt")):
+        text = without_comments(source.read_text(encoding="utf-8"))
+        for trait in TRAIT.finditer(text):
+            body = text[trait.end() : closing(text, trait.end() - 1)]
+            for member in MEMBER.finditer(body):
+                end = closing(body, member.end() - 1)
+                yield source.parts[-3], source.name, trait.group(1), member.group(1), one_line(body[member.end() : end - 1])
 
 
 def definitions():
@@ -129,6 +143,7 @@ def statements():
         if crate and public:
             place = f"{crate} {file} {owner + ' ' if owner else ''}{name}"
             lines += [f"{place} | {kind} {label + ' ' if label else ''}{{ {text} }}" for kind, label, text in clauses]
+    lines += [f"{crate} {file} {trait} {name} | ghost {{ {text} }}" for crate, file, trait, name, text in members()]
     found, imports = definitions()
     for crate, module, name in sorted(reached(found, imports)):
         lines.append(f"{crate} specs/{module} {name} | {one_line(' '.join(found[crate, module, name]))}")
