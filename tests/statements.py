@@ -1,7 +1,7 @@
 #!/usr/bin/env python3
 """Lists what is promised: each clause of each public function, each ghost member of a public trait, its laws among them, and each
-definition that the clauses of `run_areas` reach. The list is kept in tests/statements.txt, so that a clause which is dropped, or a definition which is changed, shows in
-a change as such.
+definition that the clauses of `run_areas` reach. The list is kept in tests/statements.txt, so that a clause which is dropped, or a
+definition which is changed, shows in a change as such.
 
 usage: tests/statements.py            compares with the list (seconds; proves nothing); the last line is 'N passed, M failed'
        tests/statements.py --write    writes the list anew
