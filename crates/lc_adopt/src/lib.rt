@@ -2,6 +2,6 @@
 //! and has the record of each receipt.
 #![tactic(auto)]
 
-mod into_world;
+mod adoption;
 
-pub use into_world::into_world;
+pub use adoption::into_world;

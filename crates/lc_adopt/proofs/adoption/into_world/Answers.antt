@@ -4,7 +4,7 @@ use Rattle.std.proofs.lemmas.Result.{err_from_is_err_and}
 use Rattle.lc_node.proofs.Refused.{handed_on}
 use Rattle.lc_adopt.specs.Refusals.{StopsAdoption, StopsCluster}
 use Rattle.lc_adopt.proofs.Refused.{of_adopted}
-use Rattle.lc_adopt.proofs.into_world.into_world.Goals as goal
+use Rattle.lc_adopt.proofs.adoption.into_world.Goals as goal
 
 pub returns-in_err-parts-clause-which : goal.returns-in_err-parts-clause-which
 returns-in_err-parts-clause-which g c =
