@@ -153,7 +153,7 @@ module _ {D : Type 0} (a : Ghosts D) where
       let stands : is_up s.phase ≡ true = ap is_up fits.running.up in
       let at : (k + 1) - 1 ≡ k = omega arith in (
         λ blocked.
-            both_true m s x up fits node k page awake inside within (is_up s.phase) _ stands (same.0 (
+            both_true (is_up s.phase) _ stands (same.0 (
               ap (λ (i : ℕ). newer_at (k + 1) page (under_way_in page (slice_get up.segments.items i)) (slice_get up.running.nodes.items node)) (sym at) ∙ blocked.0,
               blocked.1,
             )),

@@ -32,7 +32,7 @@ module _ {D : Type 0} (a : Ghosts D) where
     pub state : State
     pub numbers : Numbers
     pub geometry : setting.geometry ≡ parts.geometry
-    pub fits : AreHonest parts → FitsWorld a setting world state numbers
+    pub fits : AreHonest a parts → FitsWorld a setting world state numbers
     pub quiet : IsQuiet state
     -- the stable records are those of the logs, in their rounds, and all that were published are acknowledged
     pub stable : (n : ℕ) (part : NodePart D a) → slice_get parts.nodes.items n ≡ Some part → AreSpelled part.stable.items (stable_records setting state numbers n)
