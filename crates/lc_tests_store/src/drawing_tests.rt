@@ -4,7 +4,7 @@ use lc_disk::{Fuse, When};
 use lc_look::draw_areas;
 use lc_record::Geometry;
 use lc_recover::zero_areas;
-use lc_text::ToolFault;
+use lc_text::WriteFault;
 use std::test::*;
 
 // What stands above the legend.
@@ -95,7 +95,7 @@ fn a_writer_that_fails(rt: HostRuntime) -> Result<(), Fail> {
     let mut areas = zero_areas(rt.alloc(), &ONE)?;
     for room in [0, 100, 2_000] {
         let drawn = draw_areas(rt.alloc(), &ONE, &mut areas, &mut Narrow { room });
-        assert!(rt; drawn == Err(ToolFault::Write), "{room}");
+        assert!(rt; drawn == Err(WriteFault), "{room}");
     }
     Ok(())
 }
