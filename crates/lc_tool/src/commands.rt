@@ -45,7 +45,7 @@ pub(crate) fn perform<D: Stoppable + Drop, W: Write>(
     match command {
         Command::Step(event) => Ok(show(writer, &world.step(alloc, event)?)?),
         Command::End { node, thread } => Ok(show_end(writer, &end(world, alloc, *node, *thread)?)?),
-        Command::Flush { node } => Ok(show(writer, &flush(world, alloc, *node)?)?),
+        Command::Flush { node } => Ok(show(writer, &flush(world, alloc, *node))?),
         Command::Truncate { node } => Ok(show_truncation(world, alloc, *node, writer)?),
         Command::Recover => Ok(show(writer, &recover(world, alloc, &Silent)?)?),
         Command::Log { node } => show_log(world, alloc, *node, writer),

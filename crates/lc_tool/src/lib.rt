@@ -2,6 +2,7 @@
 #![tactic(auto)]
 
 mod answering;
+mod call_replies;
 mod checking_json;
 mod commands;
 mod copying;

@@ -40,8 +40,8 @@ returns-in_ok-show-in-Flush-clause-tells g c =
     let verdict = c.in_ok-show-in-Flush.field-0 in
     let shown = c.in_ok-show-in-Flush.ensures.shown in
     tells_as g.D.Area c.args.world.now c.flush.new.world (g.W.Write.contents c.args.writer.now) (g.W.Write.contents c.show-in-Flush.new.writer) verdict c.args.command.now (Flush c.in-Flush.node) c.in-Flush.is
-    (flush_tells g.D.Area c.args.world.now c.flush.new.world (g.W.Write.contents c.args.writer.now) (g.W.Write.contents c.show-in-Flush.new.writer) verdict c.in-Flush.node c.in_ok-flush-in-Flush.field-0
-    c.in_ok-flush-in-Flush.ensures.anyhow c.in_ok-flush-in-Flush.ensures.down shown.0 shown.1)
+    (flush_tells g.D.Area c.args.world.now c.flush.new.world (g.W.Write.contents c.args.writer.now) (g.W.Write.contents c.show-in-Flush.new.writer) verdict c.in-Flush.node c.flush.result
+    c.flush.ensures.anyhow c.flush.ensures.down shown.0 shown.1)
 
 pub returns-in_ok-show-in-Recover-clause-tells : goal.returns-in_ok-show-in-Recover-clause-tells
 returns-in_ok-show-in-Recover-clause-tells g c =
