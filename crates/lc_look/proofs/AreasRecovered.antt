@@ -1,10 +1,11 @@
 -- A recovery on its own, step by step, and what is printed behind it.
 use Rattle.std.proofs.Common.{◌≡◌, ◌∙◌, ℕ, zero, suc, ◌+◌, ◌-◌, ◌≤◌, ◌<◌, List, [], ◌∷◌, ◌++◌, map, length, drop, Option, Some, refl, sym, ap, ap₂, subst, arith, inl, inr}
-use Rattle.std.specs.Prelude.{Result, Ok, Err, IfOk, OnOk, MatchResult, flat_map}
+use Rattle.std.specs.Prelude.{Result, Ok, Err, IfOk, IsErr, OnOk, MatchResult, flat_map}
 use Rattle.std.specs.Io.KnownBytes.{Appends}
 use Rattle.std.proofs.KnownBytes.{Appends-trans}
 use Rattle.std.proofs.lemmas.Bool.{cases_lt}
 use Rattle.std.proofs.lemmas.List.{flat_map_more, length-drop, length-map}
+use Rattle.std.proofs.lemmas.Result.{IfOk-from_err}
 use Rattle.lc_disk.specs.declared.area.Area.{Ghosts}
 use Rattle.lc_record.specs.Content.{Content}
 use Rattle.lc_record.specs.Marks.{counting}
@@ -28,8 +29,6 @@ use Rattle.lc_recover.proofs.Images.{count-areas, own-image}
 use Rattle.lc_look.specs.Recovers.{AreNumbered, Explains, IsOutward, Recovers, RecoversAreas, stop_status, stop_text}
 use Rattle.lc_look.specs.Refused.{AreRefused, RefusesMerge, RefusesStore}
 use Rattle.lc_text.specs.Text.{recovered_text, refusal_text, reply_text, segment_text}
-use Rattle.lc_text.specs.declared.tool_fault.ToolFault.{ToolFault}
-use Rattle.lc_text.specs.declared.tool_fault.ToolFault.TheVariants.{Write as NotWritten}
 use Rattle.lc_look.proofs.Refusals.{same_refusal}
 use Rattle.lc_text.proofs.Writes.{same_bytes}
 
@@ -203,13 +202,13 @@ merge_stop store merge (OutOfSegment area) refused is = inl (ap refusal_text (sa
 merge_stop store merge DeviceFault refused is = absurd is
 merge_stop store merge NoMemory refused is = inr (inr (refl, refl))
 
-module _ {A E : Type 0} (written : Result A E) (result : Result ℕ ToolFault) (status : ℕ) (how : MatchResult written (λ _. result ≡ Ok status) (λ _. result ≡ Err NotWritten)) where
+module _ {A E F : Type 0} (written : Result A E) (result : Result ℕ F) (status : ℕ) (how : MatchResult written (λ _. result ≡ Ok status) (λ _. IsErr result)) where
   pub ended_with : (Shown : Type 0) (P : ℕ → Type 0) → OnOk written Shown → (Shown → P status) → IfOk result P
   ended_with Shown P shown so = go written how shown
     where
-      go : (w : Result A E) → MatchResult w (λ _. result ≡ Ok status) (λ _. result ≡ Err NotWritten) → OnOk w Shown → IfOk result P
-      go (Ok x) is shown = subst (λ (r : Result ℕ ToolFault). IfOk r P) (sym is) (so shown)
-      go (Err e) is shown = subst (λ (r : Result ℕ ToolFault). IfOk r P) (sym is) tt
+      go : (w : Result A E) → MatchResult w (λ _. result ≡ Ok status) (λ _. IsErr result) → OnOk w Shown → IfOk result P
+      go (Ok x) is shown = subst (λ (r : Result ℕ F). IfOk r P) (sym is) (so shown)
+      go (Err e) is shown = IfOk-from_err result P is
 
 module _ {D : Type 0} (a : Ghosts D) (g : Geometry) (areas : List D) (held holds : Option (List ℕ)) where
   module _ (store : RecoveredStore D) (made : Recovers a g areas store) where

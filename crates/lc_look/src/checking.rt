@@ -1,5 +1,5 @@
 //! What a recovery of a store would say.
-ghost use Rattle.std.specs.Prelude.{◌≡◌, ◌≢◌, ◌++◌, ℕ, List, IfErr, IfOk, OnOk};
+ghost use Rattle.std.specs.Prelude.{◌≡◌, ◌++◌, ℕ, List, IfOk, OnOk};
 ghost use Rattle.std.specs.Io.KnownBytes.{Appends};
 ghost use Rattle.lc_recover.specs.Forecast.{sequence_of};
 ghost use Rattle.lc_recover.specs.Reads.{AreLeftAs};
@@ -14,7 +14,7 @@ use lc_disk::Area;
 use lc_model::Reply;
 use lc_record::Geometry;
 use lc_recover::{Forecast, LogExtent, Survey};
-use lc_text::{ToolFault, write_reply};
+use lc_text::{WriteFault, write_reply};
 use std::alloc::Global;
 use std::io::{self, Write};
 
@@ -27,7 +27,7 @@ pub fn check_areas<D: Area, W: Write>(
     geometry: &Geometry,
     areas: &mut [D],
     writer: &mut W,
-) -> Result<u8, ToolFault>
+) -> Result<u8, WriteFault>
     // The merge of what they read as, and the lines of its recovery.
     ensures checks { IfOk result (λ status. ChecksAreas D.Area geometry.now areas.old (W.contents writer.old) (W.contents writer.new) status) }
     ensures wrong { IfOk result (λ status. RefusesLengths D.Area geometry.now areas.old (W.contents writer.old) (W.contents writer.new) status) }
@@ -35,8 +35,6 @@ pub fn check_areas<D: Area, W: Write>(
     // Any areas.
     ensures tells { IfOk result (λ status. Adds (EndsWithRecovery geometry.now) (W.contents writer.old) (W.contents writer.new) status) }
     ensures left { AreLeftAs D.Area areas.old areas.new }
-    ensures memory { result ≢ Err ToolFault.NoMemory }
-    ensures reads { result ≢ Err ToolFault.Read }
 {
     match Survey::read(alloc, geometry, areas) {
         Ok(survey) => show(alloc, geometry, survey, writer),
@@ -50,14 +48,11 @@ fn show<W: Write>(
     geometry: &Geometry,
     survey: Survey,
     writer: &mut W,
-) -> Result<u8, ToolFault>
+) -> Result<u8, WriteFault>
     requires { survey.geometry ≡ geometry.now }
     ensures shows { IfOk result (λ status. Adds (Shows geometry.now survey.store) (W.contents writer.old) (W.contents writer.new) status) }
-    ensures writes { IfErr result (λ fault. fault ≡ ToolFault.Write) }
 {
-    let Ok(()) = write_logs(writer, geometry, &survey) else {
-        return Err(ToolFault::Write);
-    };
+    write_logs(writer, geometry, &survey)?;
     match survey.forecast(alloc) {
         Ok(forecast) => ended(write_forecast(writer, &forecast), DONE),
         Err(fault) => ended(write_stop(writer, fault), status_of(fault)),

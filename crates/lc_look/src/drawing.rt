@@ -1,5 +1,5 @@
 //! The picture of a store.
-ghost use Rattle.std.specs.Prelude.{◌≡◌, ◌≢◌, ◌⊎◌, ◌+◌, ◌*◌, ◌<◌, ◌≤◌, [], IfErr, IfOk, length, map, slice_index_or, true};
+ghost use Rattle.std.specs.Prelude.{◌≡◌, ◌⊎◌, ◌+◌, ◌*◌, ◌<◌, ◌≤◌, [], IfErr, IfOk, length, map, slice_index_or, true};
 ghost use Rattle.lc_record.specs.Lists.{items_of};
 ghost use Rattle.lc_recover.specs.Forecast.{sequence_of};
 ghost use Rattle.lc_recover.specs.Reads.{AreHonest, AreLeftAs, IsLeftAs};
@@ -17,7 +17,7 @@ use lc_page::read_page;
 use lc_picture::{LogBar, PageCell, SegmentField, StorePicture, write_picture};
 use lc_record::Geometry;
 use lc_recover::{Forecast, RecoverFault, survey_areas};
-use lc_text::ToolFault;
+use lc_text::WriteFault;
 use std::alloc::{AllocError, Global};
 use std::io::Write;
 
@@ -31,7 +31,7 @@ pub fn draw_areas<D: Area, W: Write>(
     geometry: &Geometry,
     areas: &mut [D],
     writer: &mut W,
-) -> Result<u8, ToolFault>
+) -> Result<u8, WriteFault>
     // The picture of what they read as, or the line of the refusal of its merge.
     ensures draws { IfOk result (λ status. DrawsAreas D.Area geometry.now areas.old (W.contents writer.old) (W.contents writer.new) status) }
     ensures wrong { IfOk result (λ status. RefusesLengths D.Area geometry.now areas.old (W.contents writer.old) (W.contents writer.new) status) }
@@ -39,8 +39,6 @@ pub fn draw_areas<D: Area, W: Write>(
     // Any areas.
     ensures tells { IfOk result (λ status. Adds (TellsDraw geometry.now) (W.contents writer.old) (W.contents writer.new) status) }
     ensures left { AreLeftAs D.Area areas.old areas.new }
-    ensures memory { result ≢ Err ToolFault.NoMemory }
-    ensures reads { result ≢ Err ToolFault.Read }
 {
     match picture_of(alloc, geometry, areas) {
         Ok(picture) => ended(write_picture(writer, &picture), DONE),

@@ -1,5 +1,5 @@
 //! A page of a store as it would be behind a recovery.
-ghost use Rattle.std.specs.Prelude.{◌≡◌, ◌≢◌, ◌↔◌, ◌+◌, ◌-◌, ◌*◌, ◌<◌, ◌≤◌, ◌^◌, ◌++◌, [], IfErr, IfOk, OnOk, IsTrue, is_ok, true, length, take, drop, flat_map, map, slice_get, slice_index_or, Some};
+ghost use Rattle.std.specs.Prelude.{◌≡◌, ◌↔◌, ◌+◌, ◌-◌, ◌*◌, ◌<◌, ◌≤◌, ◌^◌, ◌++◌, [], IfErr, IfOk, OnOk, IsTrue, is_ok, true, length, take, drop, flat_map, map, slice_get, slice_index_or, Some};
 ghost use Rattle.std.specs.Io.KnownBytes.{Appends};
 ghost use Rattle.lc_recover.specs.Reads.{AreHonest, AreLeftAs};
 ghost use Rattle.lc_look.specs.Dumps.{DumpsAreas, FindsPage, HasThePage, LacksPage, StopsAt, TellsDump, both_slots, dump_line, dump_text, no_page_text, shown, slot_text, slots_text, spaced};
@@ -12,7 +12,7 @@ use lc_disk::{Area, DeviceFault};
 use lc_page::{PAGE_BYTES, SLOT_BYTES};
 use lc_record::Geometry;
 use lc_recover::{RecoverFault, survey_areas};
-use lc_text::{ToolFault, write_hex};
+use lc_text::{WriteFault, write_hex};
 use std::alloc::Global;
 use std::io::{self, Write};
 
@@ -33,14 +33,12 @@ pub fn dump_areas<D: Area, W: Write>(
     segment: u32,
     page: u32,
     writer: &mut W,
-) -> Result<u8, ToolFault>
+) -> Result<u8, WriteFault>
     ensures dumps { IfOk result (λ status. DumpsAreas D.Area geometry.now areas.old segment page (W.contents writer.old) (W.contents writer.new) status) }
     ensures wrong { IfOk result (λ status. HasThePage geometry.now segment page → RefusesLengths D.Area geometry.now areas.old (W.contents writer.old) (W.contents writer.new) status) }
     ensures lacks { IfOk result (λ status. (HasThePage geometry.now segment page → ⊥) → Adds (LacksPage segment page) (W.contents writer.old) (W.contents writer.new) status) }
     ensures tells { IfOk result (λ status. Adds (TellsDump segment page) (W.contents writer.old) (W.contents writer.new) status) }
     ensures left { AreLeftAs D.Area areas.old areas.new }
-    ensures memory { result ≢ Err ToolFault.NoMemory }
-    ensures reads { result ≢ Err ToolFault.Read }
 {
     if has_page(geometry, segment, page) {
         return dump_found(alloc, geometry, areas, segment, page, writer);
@@ -56,13 +54,12 @@ fn dump_found<D: Area, W: Write>(
     segment: u32,
     page: u32,
     writer: &mut W,
-) -> Result<u8, ToolFault>
+) -> Result<u8, WriteFault>
     requires { HasThePage geometry.now segment page }
     ensures dumps { IfOk result (λ status. DumpsAreas D.Area geometry.now areas.old segment page (W.contents writer.old) (W.contents writer.new) status) }
     ensures wrong { IfOk result (λ status. RefusesLengths D.Area geometry.now areas.old (W.contents writer.old) (W.contents writer.new) status) }
     ensures tells { IfOk result (λ status. Adds (TellsDump segment page) (W.contents writer.old) (W.contents writer.new) status) }
     ensures left { AreLeftAs D.Area areas.old areas.new }
-    ensures writes { IfErr result (λ fault. fault ≡ ToolFault.Write) }
 {
     match page_of(alloc, geometry, areas, segment, page) {
         Ok(found) => ended(write_dump(writer, page, &found), DONE),

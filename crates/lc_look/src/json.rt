@@ -1,5 +1,5 @@
 //! What a recovery of a store would say, as JSON.
-ghost use Rattle.std.specs.Prelude.{◌≡◌, ◌≢◌, ◌≤◌, ◌++◌, ℕ, List, IfErr, IfOk, OnOk};
+ghost use Rattle.std.specs.Prelude.{◌≡◌, ◌≤◌, ◌++◌, ℕ, List, IfOk, OnOk};
 ghost use Rattle.std.specs.Io.KnownBytes.{Appends};
 ghost use Rattle.lc_recover.specs.Forecast.{sequence_of};
 ghost use Rattle.lc_recover.specs.Reads.{AreLeftAs};
@@ -12,7 +12,7 @@ use crate::status::DONE;
 use lc_disk::Area;
 use lc_record::Geometry;
 use lc_recover::{Forecast, LogExtent, RecoverFault, Survey};
-use lc_text::ToolFault;
+use lc_text::WriteFault;
 use std::alloc::Global;
 use std::io::{self, Write};
 
@@ -25,7 +25,7 @@ pub fn check_areas_json<D: Area, W: Write>(
     geometry: &Geometry,
     areas: &mut [D],
     writer: &mut W,
-) -> Result<u8, ToolFault>
+) -> Result<u8, WriteFault>
     // The merge of what they read as.
     ensures checks { IfOk result (λ status. ChecksJson D.Area geometry.now areas.old (W.contents writer.old) (W.contents writer.new) status) }
     ensures wrong { IfOk result (λ status. RefusesJson D.Area geometry.now areas.old (W.contents writer.old) (W.contents writer.new) status) }
@@ -33,8 +33,6 @@ pub fn check_areas_json<D: Area, W: Write>(
     // Any areas.
     ensures tells { IfOk result (λ status. Adds (EndsJson geometry.now) (W.contents writer.old) (W.contents writer.new) status) }
     ensures left { AreLeftAs D.Area areas.old areas.new }
-    ensures memory { result ≢ Err ToolFault.NoMemory }
-    ensures reads { result ≢ Err ToolFault.Read }
 {
     match Survey::read(alloc, geometry, areas) {
         Ok(survey) => show(alloc, geometry, survey, writer),
@@ -44,9 +42,8 @@ pub fn check_areas_json<D: Area, W: Write>(
 
 /// Writes the same rest of an object where the areas were not read for this reason, and answers the status of a check that ends so. An
 /// `Err` is a fault of the writer.
-pub fn refuse_json<W: Write>(writer: &mut W, fault: RecoverFault) -> Result<u8, ToolFault>
+pub fn refuse_json<W: Write>(writer: &mut W, fault: RecoverFault) -> Result<u8, WriteFault>
     ensures tells { IfOk result (λ status. Adds (TellsUnread fault) (W.contents writer.old) (W.contents writer.new) status) }
-    ensures writes { IfErr result (λ fault. fault ≡ ToolFault.Write) }
 {
     ended(write_unread(writer, fault), status_of(fault))
 }
@@ -64,14 +61,11 @@ fn show<W: Write>(
     geometry: &Geometry,
     survey: Survey,
     writer: &mut W,
-) -> Result<u8, ToolFault>
+) -> Result<u8, WriteFault>
     requires { survey.geometry ≡ geometry.now }
     ensures shows { IfOk result (λ status. Adds (ShowsJson geometry.now survey.store) (W.contents writer.old) (W.contents writer.new) status) }
-    ensures writes { IfErr result (λ fault. fault ≡ ToolFault.Write) }
 {
-    let Ok(()) = write_all_logs(writer, geometry, &survey) else {
-        return Err(ToolFault::Write);
-    };
+    write_all_logs(writer, geometry, &survey)?;
     match survey.forecast(alloc) {
         Ok(forecast) => ended(write_recovered(writer, &forecast), DONE),
         Err(fault) => ended(write_stop(writer, fault), status_of(fault)),

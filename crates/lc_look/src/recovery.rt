@@ -1,5 +1,5 @@
 //! The recovery of a store on its own.
-ghost use Rattle.std.specs.Prelude.{◌≡◌, ◌≢◌, IfErr, IfOk, MatchResult, OnOk};
+ghost use Rattle.std.specs.Prelude.{◌≡◌, IfErr, IfOk, IsErr, MatchResult, OnOk};
 ghost use Rattle.std.specs.Io.KnownBytes.{Appends};
 ghost use Rattle.lc_recover.specs.Recovered.{sequence_of};
 ghost use Rattle.lc_look.specs.Recovers.{Explains, Recovers, RecoversAreas, TellsRecovery, stop_status, stop_text};
@@ -13,7 +13,7 @@ use lc_disk::Area;
 use lc_model::Reply;
 use lc_record::Geometry;
 use lc_recover::{Progress, RecoverFault, Recovered, Recovery};
-use lc_text::{ToolFault, write_no_memory, write_reply};
+use lc_text::{WriteFault, write_no_memory, write_reply};
 use std::alloc::Global;
 use std::io::{self, Write};
 
@@ -26,7 +26,7 @@ pub fn recover_areas<D: Area + Drop, W: Write>(
     geometry: Geometry,
     areas: Vec<D>,
     writer: &mut W,
-) -> Result<u8, ToolFault>
+) -> Result<u8, WriteFault>
     // Areas that merge to one result, whatever a stop leaves of them.
     ensures recovers { IfOk result (λ status. RecoversAreas D.Area geometry areas.items (W.contents writer.old) (W.contents writer.new) status) }
 
@@ -36,8 +36,6 @@ pub fn recover_areas<D: Area + Drop, W: Write>(
 
     // Any areas.
     ensures tells { IfOk result (λ status. Adds (TellsRecovery geometry) (W.contents writer.old) (W.contents writer.new) status) }
-    ensures memory { result ≢ Err ToolFault.NoMemory }
-    ensures reads { result ≢ Err ToolFault.Read }
 {
     recover_told(alloc, geometry, areas, &Silent, writer)
 }
@@ -49,13 +47,11 @@ pub fn recover_told<D: Area + Drop, T: Teller, W: Write>(
     areas: Vec<D>,
     teller: &T,
     writer: &mut W,
-) -> Result<u8, ToolFault>
+) -> Result<u8, WriteFault>
     ensures recovers { IfOk result (λ status. RecoversAreas D.Area geometry areas.items (W.contents writer.old) (W.contents writer.new) status) }
     ensures refused { IfOk result (λ status. RefusesMerge D.Area geometry areas.items (W.contents writer.old) (W.contents writer.new) status) }
     ensures wrong { IfOk result (λ status. RefusesLengths D.Area geometry areas.items (W.contents writer.old) (W.contents writer.new) status) }
     ensures tells { IfOk result (λ status. Adds (TellsRecovery geometry) (W.contents writer.old) (W.contents writer.new) status) }
-    ensures memory { result ≢ Err ToolFault.NoMemory }
-    ensures reads { result ≢ Err ToolFault.Read }
 {
     let recovered = recovered(alloc, geometry, areas, teller);
     teller.finished();
@@ -86,13 +82,11 @@ fn recovered<D: Area + Drop, T: Teller>(
 }
 
 /// The status, where the lines were written.
-pub fn ended(written: io::Result<()>, status: u8) -> Result<u8, ToolFault>
-    ensures { MatchResult written (λ _. result ≡ Ok status) (λ _. result ≡ Err ToolFault.Write) }
+pub fn ended(written: io::Result<()>, status: u8) -> Result<u8, WriteFault>
+    ensures { MatchResult written (λ _. result ≡ Ok status) (λ _. IsErr result) }
 {
-    match written {
-        Ok(()) => Ok(status),
-        Err(_) => Err(ToolFault::Write),
-    }
+    written?;
+    Ok(status)
 }
 
 // Writes the number of each segment, and that the store is recovered.

@@ -5,7 +5,7 @@ use lc_fixture::{CLOSED, Narrow, ONE, hello, log_area, open, segment_area, store
 use lc_look::draw_areas;
 use lc_record::Geometry;
 use lc_recover::zero_areas;
-use lc_text::ToolFault;
+use lc_text::WriteFault;
 use std::test::*;
 
 // What stands above the legend.
@@ -98,7 +98,7 @@ fn a_writer_that_fails(rt: HostRuntime) -> Result<(), Fail> {
     let mut areas = zero_areas(rt.alloc(), &ONE)?;
     for room in [0, 100, 2_000] {
         let drawn = draw_areas(rt.alloc(), &ONE, &mut areas, &mut Narrow { room });
-        equal(&rt, &room, &drawn, &Err(ToolFault::Write));
+        equal(&rt, &room, &drawn, &Err(WriteFault));
     }
     Ok(())
 }

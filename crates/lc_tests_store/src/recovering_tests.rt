@@ -5,7 +5,7 @@ use lc_fixture::{CLOSED, Narrow, ONE, SlotText, WRONG_LENGTHS, hello, log_area, 
 use lc_look::recover_areas;
 use lc_record::Geometry;
 use lc_recover::zero_areas;
-use lc_text::ToolFault;
+use lc_text::WriteFault;
 use std::fmt::Display;
 use std::process::Abort;
 use std::test::*;
@@ -122,6 +122,6 @@ fn a_device_fault(rt: HostRuntime) -> Result<(), Fail> {
 fn a_writer_that_fails(rt: HostRuntime) -> Result<(), Fail> {
     let areas = zero_areas(rt.alloc(), &ONE)?;
     let done = recover_areas(rt.alloc(), ONE, areas, &mut Narrow { room: 0 });
-    assert!(rt; done == Err(ToolFault::Write));
+    assert!(rt; done == Err(WriteFault));
     Ok(())
 }

@@ -1,4 +1,10 @@
 //! Why a script or an inspection did not come to its end.
+ghost use Rattle.std.specs.Prelude.{◌≡◌};
+ghost use Rattle.lc_text.specs.Fault.{number_of, of_script};
+ghost use Rattle.lc_text.specs.declared.tool_fault.ToolFault.TheVariants.{Write};
+
+use crate::script_fault::ScriptFault;
+use crate::write_fault::WriteFault;
 use thiserror::Error;
 
 /// A fault of the reader or of the writer, or, of an inspection alone, want of memory.
@@ -16,9 +22,6 @@ pub enum ToolFault {
 }
 
 impl ToolFault {
-    ghost use Rattle.std.specs.Prelude.{◌≡◌};
-    ghost use Rattle.lc_text.specs.Fault.{number_of};
-
     /// The fault's number.
     pub fn code(&self) -> u8
         ensures { result ≡ number_of self.now }
@@ -27,6 +30,25 @@ impl ToolFault {
             ToolFault::Read => 1,
             ToolFault::Write => 2,
             ToolFault::NoMemory => 3,
+        }
+    }
+}
+
+impl From<WriteFault> for ToolFault {
+    ghost from_gives = { λ _ fault. fault ≡ Write };
+
+    fn from(_fault: WriteFault) -> ToolFault {
+        ToolFault::Write
+    }
+}
+
+impl From<ScriptFault> for ToolFault {
+    ghost from_gives = { λ fault own. own ≡ of_script fault };
+
+    fn from(fault: ScriptFault) -> ToolFault {
+        match fault {
+            ScriptFault::Read => ToolFault::Read,
+            ScriptFault::Write => ToolFault::Write,
         }
     }
 }

@@ -4,6 +4,7 @@ mod Performing
 mod Beside
 mod Emptied
 mod Truncations
+mod Flushes
 mod Known
 mod Fitting
 mod Memory

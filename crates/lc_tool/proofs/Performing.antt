@@ -1,5 +1,5 @@
 -- What a store does for a command is what the machine and the numbers do.
-use Rattle.std.proofs.Common.{◌≡◌, ℕ, ◌+◌, ◌≤◌, List, [], ◌∷◌, ◌++◌, Option, refl, arith}
+use Rattle.std.proofs.Common.{◌≡◌, ℕ, List, [], ◌∷◌, ◌++◌, Option, refl}
 use Rattle.std.specs.Io.KnownBytes.{Appends}
 use Rattle.lc_disk.specs.declared.area.Area.{Ghosts}
 use Rattle.lc_model.specs.State.{Setting, State}
@@ -16,7 +16,7 @@ use Rattle.lc_text.specs.Text.{reply_text}
 use Rattle.lc_tool.specs.Verdict.{verdict_of}
 use Rattle.lc_text.specs.declared.command.Command.TheVariants.{Step as Asks, End, Flush, Recover}
 use Rattle.lc_tool.specs.declared.verdict.Verdict.{Verdict}
-use Rattle.lc_tool.proofs.Again.{close_accepted, flush_ends, flush_moves, one_more}
+use Rattle.lc_tool.proofs.Again.{close_accepted, one_more}
 
 -- a reply that is no reservation
 abbrev pub IsOther : Reply → Type 0
@@ -124,54 +124,3 @@ module _ {D : Type 0} (a : Ghosts D) (Fits : Setting → World D a → State →
           },
           led.fits,
         )
-
-  -- so many steps of a flush are done, at least
-  pub record HasFlushed (old now : World D a) (node done : ℕ) (m : Setting) (s : State) (x : Numbers) : Type 0 where
-    pub come : ComesTo old now (FlushStep node) m s x
-    pub done_so : done ≤ (come.after.flush node).steps
-
-  abbrev pub Flushed : World D a → World D a → ℕ → ℕ → Type 0
-  Flushed old now node done = (m : Setting) (s : State) (x : Numbers) → Fits m old s x → HasFlushed old now node done m s x
-
-  pub first_flushed : (w : World D a) (node : ℕ) → Flushed w w node 0
-  first_flushed w node m s x fits = record { come = record { steps = []; after = s; next = x; goes = (refl, refl); fits = fits }; done_so = omega arith }
-
-  pub more_flushed : (old mid new : World D a) (node done steps : ℕ) → Flushed old mid node done → Follows a Fits mid (FlushStep node) (Stepped steps) new → Flushed old new node (done + 1)
-  more_flushed old mid new node done steps so_far follows m s x fits =
-      let was = so_far m s x fits in
-      let led = follows m was.come.after was.come.next was.come.fits in
-      let moved = flush_moves m was.come.after node steps led.after led.step in
-      record {
-        come = record {
-          steps = was.come.steps ++ steps ∷ [];
-          after = led.after;
-          next = led.next;
-          goes = one_more m s x (FlushStep node) was.come.steps was.come.after was.come.next steps led.after led.next was.come.goes (record { step = led.step; settled = led.settled; turns = led.turns });
-          fits = led.fits;
-        };
-        done_so = omega (arith, was.done_so, moved.1);
-      }
-
-  -- a reply that is no step ends the flush, and behind three steps each is such
-  pub flush_over : (old mid new : World D a) (node done : ℕ) (reply : Reply) → Flushed old mid node done → Follows a Fits mid (FlushStep node) reply new → (IsStepped reply → ⊥)
-      → FollowsAll a Fits old (FlushStep node) reply new
-  flush_over old mid new node done reply so_far follows over m s x fits =
-      comes_to_end (FlushStep node) m s x old mid new reply (so_far m s x fits).come follows over
-
-  pub flush_behind : (old mid new : World D a) (node done : ℕ) (reply : Reply) → 3 ≤ done → Flushed old mid node done → Follows a Fits mid (FlushStep node) reply new
-      → FollowsAll a Fits old (FlushStep node) reply new
-  flush_behind old mid new node done reply all so_far follows m s x fits =
-      let was = so_far m s x fits in
-      let led = follows m was.come.after was.come.next was.come.fits in (
-        led.after,
-        led.next,
-        record {
-          steps = was.come.steps;
-          mid = was.come.after;
-          between = was.come.next;
-          before = was.come.goes;
-          last = record { step = led.step; settled = led.settled; turns = led.turns };
-          over = flush_ends m was.come.after node reply led.after (omega (arith, all, was.done_so)) led.step;
-        },
-        led.fits,
-      )

@@ -224,7 +224,7 @@ module _ {D : Type 0} (a : Ghosts D) where
   -- One that is down
 
   -- the first call is refused
-  flush_refused : (old new : World D a) (node : ℕ) (reply : Reply) → core.Repeats a 3 (FlushStep node) old reply new → RefusesDown a old reply new
+  pub flush_refused : (old new : World D a) (node : ℕ) (reply : Reply) → core.Repeats a 3 (FlushStep node) old reply new → RefusesDown a old reply new
   flush_refused old new node reply to g fits =
       let its = refuses_down a old to.1 (FlushStep node) to.0 refl to.2.at_once g fits in
       let ends = subst (λ (r : Reply). MatchOption (ending r) (core.Repeats a 2 (FlushStep node) to.1 reply new) (λ last. (reply ≡ last) × (new ≡ to.1))) its.0 to.3 in

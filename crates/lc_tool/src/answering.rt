@@ -1,21 +1,21 @@
 //! What the program answers.
-ghost use Rattle.std.specs.Prelude.{◌≡◌, ◌≢◌, IfErr, IfOk, IfSome};
+ghost use Rattle.std.specs.Prelude.{◌≡◌, IfOk, IfSome};
 ghost use Rattle.lc_tool.specs.Asked.{AnswersAsked, PrintsHelp, RunsNew};
 ghost use Rattle.lc_tool.specs.Script.{given_as};
 
-use crate::ToolFault;
 use crate::checking_json::check_asked;
 use crate::copying::copy_store;
 use crate::line_list::LINE_LIST;
 use crate::log_file::inspect_file;
 use crate::looking::{draw_store, dump_page};
 use crate::manner::Manner;
-use crate::scripts::{no_memory, run_script};
+use crate::scripts::{no_memory, run_told};
 use crate::sizing::{recover_sized, run_sized};
 use crate::stores::init_store;
 use crate::telling::ErrorOutput;
+use crate::{ScriptFault, WriteFault};
 use lc_files::SharedFile;
-use lc_look::{DONE, NOT_UNDERSTOOD};
+use lc_look::{DONE, NOT_UNDERSTOOD, Silent};
 use lc_record::Geometry;
 use lc_recover::zero_areas;
 use lc_words::{Asked, RunStore};
@@ -39,11 +39,10 @@ pub fn answer<R: Files + Eprint, I: Read, W: Write>(
     asked: &Asked,
     reader: &mut I,
     writer: &mut W,
-) -> Result<u8, ToolFault>
+) -> Result<u8, ScriptFault>
 where
     R::File: SharedFile,
     ensures answers { IfOk result (λ status. AnswersAsked asked.now (I.remaining reader.old) (W.contents writer.old) (W.contents writer.new) status) }
-    ensures memory { result ≢ Err ToolFault.NoMemory }
 {
     match asked {
         Asked::Run {
@@ -62,21 +61,25 @@ where
                 }
             }
         }
-        Asked::Init { folder, geometry } => init_store(alloc, rt, folder, *geometry, writer),
-        Asked::Recover { folder, size } => recover_sized(alloc, rt, errors, folder, size, writer),
+        Asked::Init { folder, geometry } => Ok(init_store(alloc, rt, folder, *geometry, writer)?),
+        Asked::Recover { folder, size } => Ok(recover_sized(
+            alloc, rt, errors, folder, size, writer,
+        )?),
         Asked::Check { folder, size, json } => {
-            check_asked(alloc, rt, folder, size, *json, writer)
+            Ok(check_asked(alloc, rt, folder, size, *json, writer)?)
         }
         Asked::Dump {
             folder,
             segment,
             page,
-        } => dump_page(alloc, rt, folder, *segment, *page, writer),
-        Asked::Draw { folder } => draw_store(alloc, rt, folder, writer),
-        Asked::Copy { folder, to, wanted } => copy_store(alloc, rt, folder, to, wanted, writer),
-        Asked::Inspect { file, reverse } => inspect_file(alloc, rt, file, *reverse, writer),
-        Asked::Lines => help(LINE_LIST, writer),
-        Asked::Help(text) | Asked::Version(text) => help(text, writer),
+        } => Ok(dump_page(alloc, rt, folder, *segment, *page, writer)?),
+        Asked::Draw { folder } => Ok(draw_store(alloc, rt, folder, writer)?),
+        Asked::Copy { folder, to, wanted } => Ok(copy_store(
+            alloc, rt, folder, to, wanted, writer,
+        )?),
+        Asked::Inspect { file, reverse } => Ok(inspect_file(alloc, rt, file, *reverse, writer)?),
+        Asked::Lines => Ok(help(LINE_LIST, writer)?),
+        Asked::Help(text) | Asked::Version(text) => Ok(help(text, writer)?),
         Asked::Faulty(reason) => Ok(not_understood(rt, reason)),
         Asked::NotUnderstood => Ok(not_understood(rt, NO_FILES)),
     }
@@ -98,23 +101,19 @@ fn run_new<I: Read, W: Write>(
     manner: Manner,
     reader: &mut I,
     writer: &mut W,
-) -> Result<u8, ToolFault>
+) -> Result<u8, ScriptFault>
     ensures runs { IfOk result (λ status. IfSome (I.remaining reader.old) (λ script. RunsNew geometry (given_as manner script) (W.contents writer.old) (W.contents writer.new) status)) }
-    ensures memory { result ≢ Err ToolFault.NoMemory }
 {
     match zero_areas(alloc, &geometry) {
-        Ok(areas) => run_script(alloc, geometry, manner, areas, reader, writer),
-        Err(AllocError) => no_memory(writer),
+        Ok(areas) => run_told(alloc, geometry, manner, areas, &Silent, reader, writer),
+        Err(AllocError) => Ok(no_memory(writer)?),
     }
 }
 
 // Prints a help text.
-fn help<W: Write>(text: &str, writer: &mut W) -> Result<u8, ToolFault>
+fn help<W: Write>(text: &str, writer: &mut W) -> Result<u8, WriteFault>
     ensures prints { IfOk result (λ status. PrintsHelp text.now (W.contents writer.old) (W.contents writer.new) status) }
-    ensures writes { IfErr result (λ fault. fault ≡ ToolFault.Write) }
 {
-    match writer.write_all(text.as_bytes()) {
-        Ok(()) => Ok(DONE),
-        Err(_) => Err(ToolFault::Write),
-    }
+    writer.write_all(text.as_bytes())?;
+    Ok(DONE)
 }

@@ -1,11 +1,11 @@
 //! The check of a store in a folder, as JSON.
-ghost use Rattle.std.specs.Prelude.{◌≡◌, ◌≢◌, IfErr, IfOk, OnOk};
+ghost use Rattle.std.specs.Prelude.{◌≡◌, IfOk, OnOk};
 ghost use Rattle.std.specs.Io.KnownBytes.{Appends};
 ghost use Rattle.lc_look.specs.Json.{EndsJson};
 ghost use Rattle.lc_look.specs.Printed.{Adds};
 ghost use Rattle.lc_tool.specs.CheckedJson.{TellsCheck, TellsJson, TellsUnlooked, folder_fault, found_json, misfit_json, opening_fault, size_json, unlooked_json, unsized_json};
 
-use crate::ToolFault;
+use crate::WriteFault;
 use crate::looking::{check_store, taken_of};
 use crate::view::View;
 use lc_files::{FolderFault, Look, Misfit, SharedFile, StoreFolder, Unopened};
@@ -26,12 +26,10 @@ pub fn check_store_json<R: Files + Eprint, W: Write>(
     folder: &str,
     size: &Size,
     writer: &mut W,
-) -> Result<u8, ToolFault>
+) -> Result<u8, WriteFault>
 where
     R::File: SharedFile,
     ensures tells { IfOk result (λ status. Adds (TellsJson size.now) (W.contents writer.old) (W.contents writer.new) status) }
-    ensures memory { result ≢ Err ToolFault.NoMemory }
-    ensures reads { result ≢ Err ToolFault.Read }
 {
     let folder = StoreFolder::new(alloc, rt, folder);
     let ended = look(alloc, &folder, size, writer);
@@ -47,12 +45,10 @@ pub(crate) fn check_asked<R: Files + Eprint, W: Write>(
     size: &Size,
     json: bool,
     writer: &mut W,
-) -> Result<u8, ToolFault>
+) -> Result<u8, WriteFault>
 where
     R::File: SharedFile,
     ensures tells { IfOk result (λ status. Adds (TellsCheck json size.now) (W.contents writer.old) (W.contents writer.new) status) }
-    ensures memory { result ≢ Err ToolFault.NoMemory }
-    ensures reads { result ≢ Err ToolFault.Read }
 {
     if json {
         check_store_json(alloc, rt, folder, size, writer)
@@ -67,12 +63,10 @@ fn look<R: Files, W: Write>(
     folder: &StoreFolder<'_, R>,
     size: &Size,
     writer: &mut W,
-) -> Result<u8, ToolFault>
+) -> Result<u8, WriteFault>
 where
     R::File: SharedFile,
     ensures tells { IfOk result (λ status. Adds (TellsJson size.now) (W.contents writer.old) (W.contents writer.new) status) }
-    ensures memory { result ≢ Err ToolFault.NoMemory }
-    ensures reads { result ≢ Err ToolFault.Read }
 {
     match folder.look() {
         Ok(look) => {
@@ -87,14 +81,10 @@ where
 }
 
 // The object of a folder that could not be looked at.
-fn tell_unlooked<W: Write>(writer: &mut W, fault: FolderFault) -> Result<u8, ToolFault>
+fn tell_unlooked<W: Write>(writer: &mut W, fault: FolderFault) -> Result<u8, WriteFault>
     ensures tells { IfOk result (λ status. Adds TellsUnlooked (W.contents writer.old) (W.contents writer.new) status) }
-    ensures memory { result ≢ Err ToolFault.NoMemory }
-    ensures reads { result ≢ Err ToolFault.Read }
 {
-    let Ok(()) = write_unlooked(writer) else {
-        return Err(ToolFault::Write);
-    };
+    write_unlooked(writer)?;
     refuse_json(writer, folder_fault(fault))
 }
 
@@ -105,16 +95,12 @@ fn show<R: Files, W: Write>(
     size: &Size,
     found: &Result<Geometry, Misfit>,
     writer: &mut W,
-) -> Result<u8, ToolFault>
+) -> Result<u8, WriteFault>
 where
     R::File: SharedFile,
     ensures tells { IfOk result (λ status. Adds (TellsJson size.now) (W.contents writer.old) (W.contents writer.new) status) }
-    ensures memory { result ≢ Err ToolFault.NoMemory }
-    ensures reads { result ≢ Err ToolFault.Read }
 {
-    let Ok(()) = write_found(writer, found) else {
-        return Err(ToolFault::Write);
-    };
+    write_found(writer, found)?;
     match taken_of(View::Check(*size), found) {
         Ok(geometry) => show_files(alloc, folder, &geometry, writer),
         Err(status) => ended(write_unsized(writer), status),
@@ -127,12 +113,10 @@ fn show_files<R: Files, W: Write>(
     folder: &StoreFolder<'_, R>,
     geometry: &Geometry,
     writer: &mut W,
-) -> Result<u8, ToolFault>
+) -> Result<u8, WriteFault>
 where
     R::File: SharedFile,
     ensures tells { IfOk result (λ status. Adds (EndsJson geometry.now) (W.contents writer.old) (W.contents writer.new) status) }
-    ensures memory { result ≢ Err ToolFault.NoMemory }
-    ensures reads { result ≢ Err ToolFault.Read }
 {
     match folder.areas_to_read(geometry) {
         Ok(mut areas) => check_areas_json(alloc, geometry, areas.as_mut_slice(), writer),

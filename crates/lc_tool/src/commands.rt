@@ -1,5 +1,5 @@
 //! What each command does to the store, and what it prints.
-ghost use Rattle.std.specs.Prelude.{◌≡◌, ◌≢◌, IfOk, Option, Some};
+ghost use Rattle.std.specs.Prelude.{◌≡◌, IfOk, Option, Some};
 ghost use Rattle.std.specs.Io.KnownBytes.{Appends, Keeps};
 ghost use Rattle.lc_record.specs.Words.{bytes_of};
 ghost use Rattle.lc_record.specs.declared.geometry.Geometry.{Geometry};
@@ -15,11 +15,11 @@ ghost use Rattle.lc_text.specs.Text.{refusal_text, reply_text};
 ghost use Rattle.lc_tool.specs.Verdict.{verdict_of, verdict_on};
 ghost use Rattle.lc_text.specs.declared.command.Command.TheVariants.{Inspect, Log, Show};
 
-use crate::ToolFault;
 use crate::repeating::{end, flush, recover};
 use crate::stop::Stop;
 use crate::truncating::show_truncation;
 use crate::verdict::Verdict;
+use crate::{ToolFault, WriteFault};
 use lc_core::{Refusal, Reply, ShowFault, World};
 use lc_disk::Stoppable;
 use lc_look::Silent;
@@ -43,34 +43,32 @@ pub(crate) fn perform<D: Stoppable + Drop, W: Write>(
     ensures still { result ≡ Err Stop.NoMemory → StillLives D.Area world.old.phase world.new.phase }
 {
     match command {
-        Command::Step(event) => show(writer, &world.step(alloc, event)?),
-        Command::End { node, thread } => show_end(writer, &end(world, alloc, *node, *thread)?),
-        Command::Flush { node } => show(writer, &flush(world, alloc, *node)?),
-        Command::Truncate { node } => show_truncation(world, alloc, *node, writer),
-        Command::Recover => show(writer, &recover(world, alloc, &Silent)?),
+        Command::Step(event) => Ok(show(writer, &world.step(alloc, event)?)?),
+        Command::End { node, thread } => Ok(show_end(writer, &end(world, alloc, *node, *thread)?)?),
+        Command::Flush { node } => Ok(show(writer, &flush(world, alloc, *node))?),
+        Command::Truncate { node } => Ok(show_truncation(world, alloc, *node, writer)?),
+        Command::Recover => Ok(show(writer, &recover(world, alloc, &Silent)?)?),
         Command::Log { node } => show_log(world, alloc, *node, writer),
         Command::Inspect { node } => show_records(world, alloc, *node, writer),
         Command::Show {
             node,
             segment,
             page,
-        } => show_page(world, *node, *segment, *page, writer),
+        } => Ok(show_page(world, *node, *segment, *page, writer)?),
     }
 }
 
 /// Writes the line of a reply, and tells what became of its command.
-pub(crate) fn show<W: Write>(writer: &mut W, reply: &Reply) -> Result<Verdict, Stop>
+pub(crate) fn show<W: Write>(writer: &mut W, reply: &Reply) -> Result<Verdict, WriteFault>
     ensures shown { IfOk result (λ verdict. (verdict ≡ verdict_of reply.now) × Appends (W.contents writer.old) (W.contents writer.new) (reply_text reply.now)) }
-    ensures memory { result ≢ Err Stop.NoMemory }
 {
     write_reply(writer, reply)?;
     Ok(Verdict::of(reply))
 }
 
 // Writes the line of a reservation that was closed, or of the reply in its place.
-fn show_end<W: Write>(writer: &mut W, reply: &Reply) -> Result<Verdict, Stop>
+fn show_end<W: Write>(writer: &mut W, reply: &Reply) -> Result<Verdict, WriteFault>
     ensures shown { IfOk result (λ verdict. (verdict ≡ verdict_of reply.now) × Appends (W.contents writer.old) (W.contents writer.new) (end_text reply.now)) }
-    ensures memory { result ≢ Err Stop.NoMemory }
 {
     match reply {
         Reply::Reserved { place, words } => {
@@ -139,8 +137,8 @@ fn show_fault<W: Write>(writer: &mut W, fault: ShowFault) -> Result<Verdict, Sto
     ensures memory { result ≡ Err Stop.NoMemory → (fault ≡ ShowFault.NoMemory) × Keeps (W.contents writer.old) (W.contents writer.new) }
 {
     match fault {
-        ShowFault::Unknown => show(writer, &Reply::Refused(Refusal::Unknown)),
-        ShowFault::DeviceFault => show(writer, &Reply::Refused(Refusal::DeviceFault)),
+        ShowFault::Unknown => Ok(show(writer, &Reply::Refused(Refusal::Unknown))?),
+        ShowFault::DeviceFault => Ok(show(writer, &Reply::Refused(Refusal::DeviceFault))?),
         ShowFault::NoMemory => Err(Stop::NoMemory),
     }
 }
@@ -152,12 +150,11 @@ fn show_page<D: Stoppable + Drop, W: Write>(
     segment: u32,
     page: u32,
     writer: &mut W,
-) -> Result<Verdict, Stop>
+) -> Result<Verdict, WriteFault>
     ensures done { IfOk result (λ verdict. Performs D.Area (FitsWorld D.Area) world.old (Show node segment page) (W.contents writer.old) (W.contents writer.new) verdict world.new) }
     ensures tells { IfOk result (λ verdict. (g : Geometry) (at : Option Life) → FitsLife D.Area g at world.old.phase
         → (after : Option Life) × FitsLife D.Area g after world.new.phase
         × Adds (λ text end. TellsCommand g at (Show node segment page) text end after) (W.contents writer.old) (W.contents writer.new) verdict) }
-    ensures memory { result ≢ Err Stop.NoMemory }
 {
     match world.page(node, segment, page) {
         Ok(bytes) => {

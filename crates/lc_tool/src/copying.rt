@@ -1,9 +1,9 @@
 //! Copies of a store.
-ghost use Rattle.std.specs.Prelude.{◌≢◌, IfErr, IfOk};
+ghost use Rattle.std.specs.Prelude.{IfErr, IfOk};
 ghost use Rattle.lc_look.specs.Printed.{Adds};
 ghost use Rattle.lc_tool.specs.Copied.{IsCopySize, IsNoCopySize, TellsCopied};
 
-use crate::ToolFault;
+use crate::WriteFault;
 use crate::making::{not_opened, stopped, told_of_making};
 use crate::scripts::bad_geometry;
 use crate::stores::tell_unmade;
@@ -44,12 +44,10 @@ pub fn copy_store<R: Files + Eprint, W: Write>(
     to: &str,
     wanted: &Wanted,
     writer: &mut W,
-) -> Result<u8, ToolFault>
+) -> Result<u8, WriteFault>
 where
     R::File: SharedFile,
     ensures tells { IfOk result (λ status. Adds TellsCopied (W.contents writer.old) (W.contents writer.new) status) }
-    ensures memory { result ≢ Err ToolFault.NoMemory }
-    ensures reads { result ≢ Err ToolFault.Read }
 {
     let store = StoreFolder::new(alloc, rt, folder);
     let copy = StoreFolder::new(alloc, rt, to);
@@ -65,12 +63,10 @@ fn copy_in<R: Files + Eprint, W: Write>(
     copy: &StoreFolder<'_, R>,
     wanted: &Wanted,
     writer: &mut W,
-) -> Result<u8, ToolFault>
+) -> Result<u8, WriteFault>
 where
     R::File: SharedFile,
     ensures tells { IfOk result (λ status. Adds TellsCopied (W.contents writer.old) (W.contents writer.new) status) }
-    ensures memory { result ≢ Err ToolFault.NoMemory }
-    ensures reads { result ≢ Err ToolFault.Read }
 {
     match store.look() {
         Ok(look) => {
@@ -94,12 +90,10 @@ fn copy_found<R: Files + Eprint, W: Write>(
     found: &Geometry,
     wanted: &Wanted,
     writer: &mut W,
-) -> Result<u8, ToolFault>
+) -> Result<u8, WriteFault>
 where
     R::File: SharedFile,
     ensures tells { IfOk result (λ status. Adds TellsCopied (W.contents writer.old) (W.contents writer.new) status) }
-    ensures memory { result ≢ Err ToolFault.NoMemory }
-    ensures reads { result ≢ Err ToolFault.Read }
 {
     match copy_size(found, wanted) {
         Ok(geometry) => copy_files(store, copy, found, &geometry, writer),
@@ -129,12 +123,10 @@ fn copy_files<R: Files + Eprint, W: Write>(
     found: &Geometry,
     geometry: &Geometry,
     writer: &mut W,
-) -> Result<u8, ToolFault>
+) -> Result<u8, WriteFault>
 where
     R::File: SharedFile,
     ensures tells { IfOk result (λ status. Adds TellsCopied (W.contents writer.old) (W.contents writer.new) status) }
-    ensures memory { result ≢ Err ToolFault.NoMemory }
-    ensures reads { result ≢ Err ToolFault.Read }
 {
     if let Err(fault) = store.look_unmarked() {
         return stopped(writer, fault);

@@ -2,6 +2,7 @@
 #![tactic(auto)]
 
 mod answering;
+mod call_replies;
 mod checking_json;
 mod commands;
 mod copying;
@@ -32,7 +33,7 @@ mod view;
 pub use answering::answer;
 pub use checking_json::check_store_json;
 pub use copying::copy_store;
-pub use lc_text::ToolFault;
+pub use lc_text::{ScriptFault, ToolFault, WriteFault};
 pub use log_file::inspect_file;
 pub use looking::{check_store, draw_store, dump_page};
 pub use manner::Manner;

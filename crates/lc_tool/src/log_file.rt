@@ -1,5 +1,5 @@
 //! The inspection of a log's file.
-ghost use Rattle.std.specs.Prelude.{◌≡◌, ◌≢◌, ◌↔◌, ◌⊎◌, IfOk, IsTrue};
+ghost use Rattle.std.specs.Prelude.{◌≡◌, ◌↔◌, ◌⊎◌, IfOk, IsTrue};
 ghost use Rattle.std.specs.Io.KnownBytes.{Appends};
 ghost use Rattle.lc_record.specs.Words.{words_of};
 ghost use Rattle.lc_files.specs.Files.{IsLogLen};
@@ -7,9 +7,9 @@ ghost use Rattle.lc_tool.specs.Files.{TellsInspection};
 ghost use Rattle.lc_text.specs.Inspector.{Inspects};
 ghost use Rattle.lc_text.specs.Text.{no_memory_text};
 
-use crate::ToolFault;
 use crate::making::stopped;
 use crate::scripts::{bad_geometry, no_memory};
+use crate::{ToolFault, WriteFault};
 use lc_disk::{HeldFile, open_regular};
 use lc_files::FolderFault;
 use lc_look::DONE;
@@ -40,12 +40,10 @@ pub fn inspect_file<R: Files + Eprint, W: Write>(
     path: &str,
     reverse: bool,
     writer: &mut W,
-) -> Result<u8, ToolFault>
+) -> Result<u8, WriteFault>
 where
     R::File: HeldFile,
     ensures tells { IfOk result (λ status. TellsInspection reverse (W.contents writer.old) (W.contents writer.new) status) }
-    ensures memory { result ≢ Err ToolFault.NoMemory }
-    ensures reads { result ≢ Err ToolFault.Read }
 {
     match read_log(alloc, rt, path) {
         Ok(LogFile::Bytes(bytes)) => show(alloc, &bytes, reverse, writer),
@@ -94,16 +92,14 @@ fn show<W: Write>(
     bytes: &[u8],
     reverse: bool,
     writer: &mut W,
-) -> Result<u8, ToolFault>
+) -> Result<u8, WriteFault>
     ensures shown { IfOk result (λ status.
         ((status ≡ 0) × Inspects reverse (words_of bytes.now) (W.contents writer.old) (W.contents writer.new))
         ⊎ ((status ≡ 1) × Appends (W.contents writer.old) (W.contents writer.new) no_memory_text)) }
-    ensures memory { result ≢ Err ToolFault.NoMemory }
-    ensures reads { result ≢ Err ToolFault.Read }
 {
     match inspect(alloc, bytes, reverse, writer) {
         Ok(()) => Ok(DONE),
         Err(ToolFault::NoMemory) => no_memory(writer),
-        Err(_) => Err(ToolFault::Write),
+        Err(_) => Err(WriteFault),
     }
 }

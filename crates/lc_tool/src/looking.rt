@@ -1,11 +1,11 @@
 //! What is shown of a store in a folder, with nothing changed.
-ghost use Rattle.std.specs.Prelude.{◌≡◌, ◌≢◌, IfErr, IfOk, OnOk};
+ghost use Rattle.std.specs.Prelude.{◌≡◌, IfErr, IfOk, OnOk};
 ghost use Rattle.std.specs.Io.KnownBytes.{Appends};
 ghost use Rattle.lc_look.specs.Printed.{Adds};
 ghost use Rattle.lc_tool.specs.Found.{TellsChecked, TellsDrawn, TellsDumped, size_text};
 ghost use Rattle.lc_tool.specs.View.{HasNoSize, ShowsView, TakesSize, TellsView, front_text};
 
-use crate::ToolFault;
+use crate::WriteFault;
 use crate::making::{not_opened, stopped};
 use crate::view::View;
 use lc_disk::Area;
@@ -27,12 +27,10 @@ pub fn check_store<R: Files + Eprint, W: Write>(
     folder: &str,
     size: &Size,
     writer: &mut W,
-) -> Result<u8, ToolFault>
+) -> Result<u8, WriteFault>
 where
     R::File: SharedFile,
     ensures tells { IfOk result (λ status. Adds (TellsChecked size.now) (W.contents writer.old) (W.contents writer.new) status) }
-    ensures memory { result ≢ Err ToolFault.NoMemory }
-    ensures reads { result ≢ Err ToolFault.Read }
 {
     look_at(alloc, rt, folder, View::Check(*size), writer)
 }
@@ -48,12 +46,10 @@ pub fn dump_page<R: Files + Eprint, W: Write>(
     segment: u32,
     page: u32,
     writer: &mut W,
-) -> Result<u8, ToolFault>
+) -> Result<u8, WriteFault>
 where
     R::File: SharedFile,
     ensures tells { IfOk result (λ status. Adds (TellsDumped segment page) (W.contents writer.old) (W.contents writer.new) status) }
-    ensures memory { result ≢ Err ToolFault.NoMemory }
-    ensures reads { result ≢ Err ToolFault.Read }
 {
     look_at(alloc, rt, folder, View::Dump { segment, page }, writer)
 }
@@ -66,12 +62,10 @@ pub fn draw_store<R: Files + Eprint, W: Write>(
     rt: &R,
     folder: &str,
     writer: &mut W,
-) -> Result<u8, ToolFault>
+) -> Result<u8, WriteFault>
 where
     R::File: SharedFile,
     ensures tells { IfOk result (λ status. Adds TellsDrawn (W.contents writer.old) (W.contents writer.new) status) }
-    ensures memory { result ≢ Err ToolFault.NoMemory }
-    ensures reads { result ≢ Err ToolFault.Read }
 {
     look_at(alloc, rt, folder, View::Draw, writer)
 }
@@ -83,12 +77,10 @@ fn look_at<R: Files + Eprint, W: Write>(
     folder: &str,
     view: View,
     writer: &mut W,
-) -> Result<u8, ToolFault>
+) -> Result<u8, WriteFault>
 where
     R::File: SharedFile,
     ensures tells { IfOk result (λ status. Adds (TellsView view) (W.contents writer.old) (W.contents writer.new) status) }
-    ensures memory { result ≢ Err ToolFault.NoMemory }
-    ensures reads { result ≢ Err ToolFault.Read }
 {
     let folder = StoreFolder::new(alloc, rt, folder);
     let ended = look_in(alloc, &folder, view, writer);
@@ -102,12 +94,10 @@ fn look_in<R: Files, W: Write>(
     folder: &StoreFolder<'_, R>,
     view: View,
     writer: &mut W,
-) -> Result<u8, ToolFault>
+) -> Result<u8, WriteFault>
 where
     R::File: SharedFile,
     ensures tells { IfOk result (λ status. Adds (TellsView view) (W.contents writer.old) (W.contents writer.new) status) }
-    ensures memory { result ≢ Err ToolFault.NoMemory }
-    ensures reads { result ≢ Err ToolFault.Read }
 {
     match folder.look() {
         Ok(look) => {
@@ -128,16 +118,12 @@ fn show_store<R: Files, W: Write>(
     view: View,
     found: Result<Geometry, Misfit>,
     writer: &mut W,
-) -> Result<u8, ToolFault>
+) -> Result<u8, WriteFault>
 where
     R::File: SharedFile,
     ensures tells { IfOk result (λ status. Adds (TellsView view) (W.contents writer.old) (W.contents writer.new) status) }
-    ensures memory { result ≢ Err ToolFault.NoMemory }
-    ensures reads { result ≢ Err ToolFault.Read }
 {
-    let Ok(()) = write_front(writer, view, &found) else {
-        return Err(ToolFault::Write);
-    };
+    write_front(writer, view, &found)?;
     match taken_of(view, &found) {
         Ok(geometry) => show_files(alloc, folder, view, &geometry, writer),
         Err(status) => Ok(status),
@@ -203,12 +189,10 @@ fn show_files<R: Files, W: Write>(
     view: View,
     geometry: &Geometry,
     writer: &mut W,
-) -> Result<u8, ToolFault>
+) -> Result<u8, WriteFault>
 where
     R::File: SharedFile,
     ensures tells { IfOk result (λ status. Adds (ShowsView view geometry.now) (W.contents writer.old) (W.contents writer.new) status) }
-    ensures memory { result ≢ Err ToolFault.NoMemory }
-    ensures reads { result ≢ Err ToolFault.Read }
 {
     match folder.areas_to_read(geometry) {
         Ok(mut areas) => show_areas(alloc, view, geometry, areas.as_mut_slice(), writer),
@@ -223,10 +207,8 @@ fn show_areas<D: Area, W: Write>(
     geometry: &Geometry,
     areas: &mut [D],
     writer: &mut W,
-) -> Result<u8, ToolFault>
+) -> Result<u8, WriteFault>
     ensures tells { IfOk result (λ status. Adds (ShowsView view geometry.now) (W.contents writer.old) (W.contents writer.new) status) }
-    ensures memory { result ≢ Err ToolFault.NoMemory }
-    ensures reads { result ≢ Err ToolFault.Read }
 {
     match view {
         View::Check(_) => check_areas(alloc, geometry, areas, writer),

@@ -1,15 +1,15 @@
 //! The making of a store, and what is told of it.
-ghost use Rattle.std.specs.Prelude.{◌≡◌, ◌≢◌, IfErr, IfOk};
+ghost use Rattle.std.specs.Prelude.{◌≡◌, IfOk};
 ghost use Rattle.std.specs.Io.KnownBytes.{Appends};
 ghost use Rattle.lc_look.specs.Printed.{Adds, Stops};
 ghost use Rattle.lc_text.specs.Text.{exists_text};
 ghost use Rattle.lc_tool.specs.Files.{NotOpened, TellsMaking, TellsStopped, TellsUnopened};
 
-use crate::ToolFault;
+use crate::WriteFault;
 use crate::scripts::bad_geometry;
 use lc_core::{Refusal, Reply};
 use lc_files::{Cause, FolderFault, Unmade, Unopened};
-use lc_look::{DONE, FAULTED, REFUSED};
+use lc_look::{DONE, FAULTED, REFUSED, ended};
 use lc_text::{write_exists, write_no_memory, write_reply};
 use std::io::Write;
 
@@ -18,9 +18,8 @@ use std::io::Write;
 pub(crate) fn told_of_making<W: Write>(
     writer: &mut W,
     made: Result<(), Unmade>,
-) -> Result<u8, ToolFault>
+) -> Result<u8, WriteFault>
     ensures tells { IfOk result (λ status. Adds (TellsMaking made) (W.contents writer.old) (W.contents writer.new) status) }
-    ensures writes { IfErr result (λ fault. fault ≡ ToolFault.Write) }
 {
     match made {
         Ok(()) => Ok(DONE),
@@ -32,22 +31,17 @@ pub(crate) fn told_of_making<W: Write>(
 }
 
 // The line that tells that a file is there already, and its status.
-fn exists<W: Write>(writer: &mut W) -> Result<u8, ToolFault>
+fn exists<W: Write>(writer: &mut W) -> Result<u8, WriteFault>
     ensures shown { IfOk result (λ status. (status ≡ 1) × Appends (W.contents writer.old) (W.contents writer.new) exists_text) }
-    ensures writes { IfErr result (λ fault. fault ≡ ToolFault.Write) }
 {
-    match write_exists(writer) {
-        Ok(()) => Ok(REFUSED),
-        Err(_) => Err(ToolFault::Write),
-    }
+    write_exists(writer)?;
+    Ok(REFUSED)
 }
 
 /// The line that tells why a store is not opened, and its status.
-pub(crate) fn not_opened<W: Write>(writer: &mut W, fault: Unopened) -> Result<u8, ToolFault>
+pub(crate) fn not_opened<W: Write>(writer: &mut W, fault: Unopened) -> Result<u8, WriteFault>
     ensures shown { IfOk result (λ status. Adds NotOpened (W.contents writer.old) (W.contents writer.new) status) }
     ensures exactly { IfOk result (λ status. Adds (TellsUnopened fault) (W.contents writer.old) (W.contents writer.new) status) }
-    ensures memory { result ≢ Err ToolFault.NoMemory }
-    ensures reads { result ≢ Err ToolFault.Read }
 {
     match fault {
         Unopened::Folder(fault) => stopped(writer, fault),
@@ -56,10 +50,9 @@ pub(crate) fn not_opened<W: Write>(writer: &mut W, fault: Unopened) -> Result<u8
 }
 
 /// The line that tells why there is no store, and its status.
-pub(crate) fn stopped<W: Write>(writer: &mut W, fault: FolderFault) -> Result<u8, ToolFault>
+pub(crate) fn stopped<W: Write>(writer: &mut W, fault: FolderFault) -> Result<u8, WriteFault>
     ensures shown { IfOk result (λ status. Adds Stops (W.contents writer.old) (W.contents writer.new) status) }
     ensures exactly { IfOk result (λ status. Adds (TellsStopped fault) (W.contents writer.old) (W.contents writer.new) status) }
-    ensures writes { IfErr result (λ fault. fault ≡ ToolFault.Write) }
 {
     let (written, status) = match fault {
         FolderFault::Failed => {
@@ -68,8 +61,5 @@ pub(crate) fn stopped<W: Write>(writer: &mut W, fault: FolderFault) -> Result<u8
         }
         FolderFault::NoMemory => (write_no_memory(writer), REFUSED),
     };
-    match written {
-        Ok(()) => Ok(status),
-        Err(_) => Err(ToolFault::Write),
-    }
+    ended(written, status)
 }

@@ -9,13 +9,11 @@ ghost use Rattle.lc_tool.specs.Fits.{AsksFor, FollowsAll, FollowsEnd, IsUpBeside
 ghost use Rattle.lc_tool.specs.Tells.{KeepsTo};
 ghost use Rattle.lc_text.specs.declared.command.Command.TheVariants.{End, Recover};
 
+use crate::call_replies::flush_reply;
 use lc_core::{Event, Reply, World};
 use lc_disk::Stoppable;
 use lc_look::Teller;
 use std::alloc::{AllocError, Global};
-
-// The steps of a flush that say that more are to come.
-const FLUSH_STEPS: u32 = 3;
 
 // More than any recovery has.
 const RECOVERY_STEPS: u32 = 1 << 20;
@@ -45,24 +43,13 @@ pub(crate) fn end<D: Stoppable + Drop>(
 }
 
 /// The steps of a flush of a node, up to the one that is answered otherwise than that more are to come.
-pub(crate) fn flush<D: Stoppable + Drop>(
-    world: &mut World<D>,
-    alloc: Global,
-    node: u16,
-) -> Result<Reply, AllocError>
-    ensures follows { IfOk result (λ reply. FollowsAll D.Area (FitsWorld D.Area) world.old (FlushStep node) reply world.new) }
+pub(crate) fn flush<D: Stoppable + Drop>(world: &mut World<D>, alloc: Global, node: u16) -> Reply
+    ensures follows { FollowsAll D.Area (FitsWorld D.Area) world.old (FlushStep node) result world.new }
     // Whatever the areas are: of a store that is up, and of one that is down.
-    ensures anyhow { IfOk result (λ reply. FollowsAll D.Area (IsUpBeside D.Area) world.old (FlushStep node) reply world.new) }
-    ensures down { IfOk result (λ reply. RefusesDown D.Area world.old reply world.new) }
-    ensures memory { OnErr result ⊥ }
+    ensures anyhow { FollowsAll D.Area (IsUpBeside D.Area) world.old (FlushStep node) result world.new }
+    ensures down { RefusesDown D.Area world.old result world.new }
 {
-    for _ in 0..FLUSH_STEPS {
-        match world.step(alloc, &Event::FlushStep { node })? {
-            Reply::Stepped(_) => {}
-            reply => return Ok(reply),
-        }
-    }
-    world.step(alloc, &Event::FlushStep { node })
+    flush_reply(world.flush(alloc, node))
 }
 
 /// The steps of a recovery, up to the one that is answered otherwise than that more are to come. How many are done is told.

@@ -15,7 +15,6 @@ ghost use Rattle.lc_text.specs.declared.command.Line.TheVariants.{Command as Com
 ghost use Rattle.lc_tool.specs.Tells.{TellsAll, TellsFronted, TellsLine, TellsLines, TellsOpening, TellsRecovered, TellsScript};
 ghost use Rattle.lc_text.specs.Text.{no_memory_text, refusal_text, reply_text, too_long_text};
 
-use crate::ToolFault;
 use crate::commands::perform;
 use crate::following::follow_script;
 use crate::line_telling::LineTeller;
@@ -25,6 +24,7 @@ use crate::repeating::recover;
 use crate::source::Source;
 use crate::stop::Stop;
 use crate::verdict::Verdict;
+use crate::{ScriptFault, ToolFault, WriteFault};
 use lc_core::{Refusal, Reply, World};
 use lc_disk::Stoppable;
 use lc_look::{DONE, FAULTED, NOT_UNDERSTOOD, REFUSED, Silent, Teller};
@@ -64,7 +64,7 @@ pub fn run_script<D: Stoppable + Drop, R: Read, W: Write>(
     ensures tells { IfOk result (λ status. IfSome (R.remaining reader.old) (λ script. Adds (TellsScript geometry (given_as manner script)) (W.contents writer.old) (W.contents writer.new) status)) }
     ensures memory { result ≢ Err ToolFault.NoMemory }
 {
-    run_told(alloc, geometry, manner, areas, &Silent, reader, writer)
+    Ok(run_told(alloc, geometry, manner, areas, &Silent, reader, writer)?)
 }
 
 /// The same, and how far its recovery is is told.
@@ -76,17 +76,16 @@ pub(crate) fn run_told<D: Stoppable + Drop, T: Teller + LineTeller, R: Read, W: 
     teller: &T,
     reader: &mut R,
     writer: &mut W,
-) -> Result<u8, ToolFault>
+) -> Result<u8, ScriptFault>
     ensures runs { IfOk result (λ status. IfSome (R.remaining reader.old) (λ script.
         RunsStore D.Area geometry areas.items (given_as manner script) (W.contents writer.old) (W.contents writer.new) status)) }
     ensures refused { IfOk result (λ status. RefusesMerge D.Area geometry areas.items (W.contents writer.old) (W.contents writer.new) status) }
     ensures wrong { IfOk result (λ status. RefusesLengths D.Area geometry areas.items (W.contents writer.old) (W.contents writer.new) status) }
     ensures tells { IfOk result (λ status. IfSome (R.remaining reader.old) (λ script. Adds (TellsScript geometry (given_as manner script)) (W.contents writer.old) (W.contents writer.new) status)) }
-    ensures memory { result ≢ Err ToolFault.NoMemory }
 {
     let mut world = match World::new(geometry, areas) {
         Ok(world) => world,
-        Err((_, RecoverFault::BadGeometry { area })) => return bad_geometry(writer, area),
+        Err((_, RecoverFault::BadGeometry { area })) => return Ok(bad_geometry(writer, area)?),
         Err(_) => unreachable!(),
     };
     if let Some(status) = open(alloc, &mut world, teller, writer)? {
@@ -103,12 +102,11 @@ fn run_recovered<D: Stoppable + Drop, T: Teller + LineTeller, R: Read, W: Write>
     world: &mut World<D>,
     reader: &mut R,
     writer: &mut W,
-) -> Result<u8, ToolFault>
+) -> Result<u8, ScriptFault>
     ensures runs { IfOk result (λ status. IfSome (R.remaining reader.old) (λ script.
         RunsRecovered D.Area world.old (given_as manner script) (W.contents writer.old) (W.contents writer.new) status)) }
     ensures tells { IfOk result (λ status. IfSome (R.remaining reader.old) (λ script. (g : Sizes) (at : Option Life) → FitsLife D.Area g at world.old.phase
         → Adds (TellsRecovered g at (given_as manner script)) (W.contents writer.old) (W.contents writer.new) status)) }
-    ensures memory { result ≢ Err ToolFault.NoMemory }
 {
     let ended = run_read(alloc, manner, teller, world, reader, writer);
     if ended != Ok(FAULTED) {
@@ -126,12 +124,11 @@ fn run_read<D: Stoppable + Drop, L: LineTeller, R: Read, W: Write>(
     world: &mut World<D>,
     reader: &mut R,
     writer: &mut W,
-) -> Result<u8, ToolFault>
+) -> Result<u8, ScriptFault>
     ensures runs { IfOk result (λ status. IfSome (R.remaining reader.old) (λ script.
         RunsRecovered D.Area world.old (given_as manner script) (W.contents writer.old) (W.contents writer.new) status)) }
     ensures tells { IfOk result (λ status. IfSome (R.remaining reader.old) (λ script. (g : Sizes) (at : Option Life) → FitsLife D.Area g at world.old.phase
         → Adds (TellsRecovered g at (given_as manner script)) (W.contents writer.old) (W.contents writer.new) status)) }
-    ensures memory { result ≢ Err ToolFault.NoMemory }
 {
     if manner.follow {
         follow_script(alloc, manner.number, teller, world, reader, writer)
@@ -148,22 +145,21 @@ fn run_whole<D: Stoppable + Drop, L: LineTeller, R: Read, W: Write>(
     world: &mut World<D>,
     reader: &mut R,
     writer: &mut W,
-) -> Result<u8, ToolFault>
+) -> Result<u8, ScriptFault>
     ensures runs { IfOk result (λ status. IfSome (R.remaining reader.old) (λ script.
         RunsAll D.Area (front_of numbered) world.old script (W.contents writer.old) (W.contents writer.new) status)) }
     ensures tells { IfOk result (λ status. IfSome (R.remaining reader.old) (λ script. (g : Sizes) (at : Option Life) → FitsLife D.Area g at world.old.phase
         → Adds (TellsAll (front_of numbered) g at script) (W.contents writer.old) (W.contents writer.new) status)) }
-    ensures memory { result ≢ Err ToolFault.NoMemory }
 {
     let script = match read_script(alloc, reader) {
         Ok(script) => script,
-        Err(ToolFault::NoMemory) => return no_memory(writer),
-        Err(_) => return Err(ToolFault::Read),
+        Err(ToolFault::NoMemory) => return Ok(no_memory(writer)?),
+        Err(_) => return Err(ScriptFault::Read),
     };
     if script.len() > LONGEST {
-        return too_long(writer);
+        return Ok(too_long(writer)?);
     }
-    run_lines(alloc, numbered, teller, world, &script, writer)
+    Ok(run_lines(alloc, numbered, teller, world, &script, writer)?)
 }
 
 // Recovers the store, and says nothing where that is done: otherwise the status is answered.
@@ -172,13 +168,11 @@ fn open<D: Stoppable + Drop, T: Teller, W: Write>(
     world: &mut World<D>,
     teller: &T,
     writer: &mut W,
-) -> Result<Option<u8>, ToolFault>
+) -> Result<Option<u8>, WriteFault>
     ensures opens { IfOk result (λ status. OpensStore D.Area world.old (W.contents writer.old) (W.contents writer.new) status world.new) }
     ensures refused { IfOk result (λ status. RefusesFirst D.Area world.old (W.contents writer.old) (W.contents writer.new) status) }
     ensures tells { IfOk result (λ status. (g : Sizes) → FitsLife D.Area g None world.old.phase
         → (after : Option Life) × FitsLife D.Area g after world.new.phase × TellsOpening g (W.contents writer.old) (W.contents writer.new) status after) }
-    ensures memory { result ≢ Err ToolFault.NoMemory }
-    ensures reads { result ≢ Err ToolFault.Read }
 {
     let recovered = recover(world, alloc, teller);
     teller.finished();
@@ -193,10 +187,8 @@ fn open<D: Stoppable + Drop, T: Teller, W: Write>(
 }
 
 // Writes that an area is not one of the geometry, and gives the status.
-pub(crate) fn bad_geometry<W: Write>(writer: &mut W, area: u32) -> Result<u8, ToolFault>
+pub(crate) fn bad_geometry<W: Write>(writer: &mut W, area: u32) -> Result<u8, WriteFault>
     ensures shown { IfOk result (λ status. (status ≡ 1) × Appends (W.contents writer.old) (W.contents writer.new) (refusal_text (BadGeometry area))) }
-    ensures memory { result ≢ Err ToolFault.NoMemory }
-    ensures reads { result ≢ Err ToolFault.Read }
 {
     printed(
         writer,
@@ -206,15 +198,11 @@ pub(crate) fn bad_geometry<W: Write>(writer: &mut W, area: u32) -> Result<u8, To
 }
 
 // Writes the line of a reply, behind which nothing more is done, and gives the status.
-fn printed<W: Write>(writer: &mut W, reply: &Reply, status: u8) -> Result<u8, ToolFault>
+fn printed<W: Write>(writer: &mut W, reply: &Reply, status: u8) -> Result<u8, WriteFault>
     ensures shown { IfOk result (λ given. (given ≡ status) × Appends (W.contents writer.old) (W.contents writer.new) (reply_text reply.now)) }
-    ensures memory { result ≢ Err ToolFault.NoMemory }
-    ensures reads { result ≢ Err ToolFault.Read }
 {
-    match write_reply(writer, reply) {
-        Ok(()) => Ok(status),
-        Err(_) => Err(ToolFault::Write),
-    }
+    write_reply(writer, reply)?;
+    Ok(status)
 }
 
 // The bytes of the script, and one more where there are too many.
@@ -239,12 +227,10 @@ fn run_lines<D: Stoppable + Drop, L: LineTeller, W: Write>(
     world: &mut World<D>,
     script: &[u8],
     writer: &mut W,
-) -> Result<u8, ToolFault>
+) -> Result<u8, WriteFault>
     ensures runs { IfOk result (λ status. RunsLines D.Area (front_of numbered) world.old script.now (W.contents writer.old) (W.contents writer.new) status) }
     ensures tells { IfOk result (λ status. (g : Sizes) (at : Option Life) → FitsLife D.Area g at world.old.phase
         → Adds (TellsLines (front_of numbered) g at 1 false (script_lines script.now)) (W.contents writer.old) (W.contents writer.new) status) }
-    ensures memory { result ≢ Err ToolFault.NoMemory }
-    ensures reads { result ≢ Err ToolFault.Read }
 {
     let mut rest = script;
     let mut number = 1;
@@ -278,19 +264,15 @@ pub(crate) fn run_line<D: Stoppable + Drop, L: LineTeller, W: Write>(
     line: &[u8],
     number: u64,
     writer: &mut W,
-) -> Result<Outcome, ToolFault>
+) -> Result<Outcome, WriteFault>
     ensures leaves { IfOk result (λ outcome. LeavesFronted D.Area (front_of numbered) world.old line.now number (W.contents writer.old) (W.contents writer.new) outcome world.new) }
     ensures tells { IfOk result (λ outcome. (g : Sizes) (at : Option Life) → FitsLife D.Area g at world.old.phase
         → (after : Option Life) × FitsLife D.Area g after world.new.phase
         × Adds (λ text end. TellsFronted (front_of numbered) g at line.now number text end after) (W.contents writer.old) (W.contents writer.new) outcome) }
-    ensures memory { result ≢ Err ToolFault.NoMemory }
-    ensures reads { result ≢ Err ToolFault.Read }
 {
     let outcome = number_line(alloc, numbered, teller, world, line, number, writer)?;
-    match writer.flush() {
-        Ok(()) => Ok(outcome),
-        Err(_) => Err(ToolFault::Write),
-    }
+    writer.flush()?;
+    Ok(outcome)
 }
 
 // One line, in front of which its number stands where numbers are asked for, and which prints something.
@@ -302,13 +284,11 @@ fn number_line<D: Stoppable + Drop, L: LineTeller, W: Write>(
     line: &[u8],
     number: u64,
     writer: &mut W,
-) -> Result<Outcome, ToolFault>
+) -> Result<Outcome, WriteFault>
     ensures leaves { IfOk result (λ outcome. LeavesFronted D.Area (front_of numbered) world.old line.now number (W.contents writer.old) (W.contents writer.new) outcome world.new) }
     ensures tells { IfOk result (λ outcome. (g : Sizes) (at : Option Life) → FitsLife D.Area g at world.old.phase
         → (after : Option Life) × FitsLife D.Area g after world.new.phase
         × Adds (λ text end. TellsFronted (front_of numbered) g at line.now number text end after) (W.contents writer.old) (W.contents writer.new) outcome) }
-    ensures memory { result ≢ Err ToolFault.NoMemory }
-    ensures reads { result ≢ Err ToolFault.Read }
 {
     if is_skipped(line) {
         return Ok(Outcome::Goes { refused: false });
@@ -318,18 +298,13 @@ fn number_line<D: Stoppable + Drop, L: LineTeller, W: Write>(
 }
 
 // The number of a line, where numbers are asked for.
-fn show_number<W: Write>(numbered: bool, number: u64, writer: &mut W) -> Result<(), ToolFault>
+fn show_number<W: Write>(numbered: bool, number: u64, writer: &mut W) -> Result<(), WriteFault>
     ensures shown { OnOk result (Appends (W.contents writer.old) (W.contents writer.new) (front_of numbered number)) }
-    ensures memory { result ≢ Err ToolFault.NoMemory }
-    ensures reads { result ≢ Err ToolFault.Read }
 {
-    if !numbered {
-        return Ok(());
+    if numbered {
+        write_line_number(writer, number)?;
     }
-    match write_line_number(writer, number) {
-        Ok(()) => Ok(()),
-        Err(_) => Err(ToolFault::Write),
-    }
+    Ok(())
 }
 
 // One line.
@@ -340,13 +315,11 @@ fn do_line<D: Stoppable + Drop, L: LineTeller, W: Write>(
     line: &[u8],
     number: u64,
     writer: &mut W,
-) -> Result<Outcome, ToolFault>
+) -> Result<Outcome, WriteFault>
     ensures leaves { IfOk result (λ outcome. LeavesLine D.Area world.old line.now number (W.contents writer.old) (W.contents writer.new) outcome world.new) }
     ensures tells { IfOk result (λ outcome. (g : Sizes) (at : Option Life) → FitsLife D.Area g at world.old.phase
         → (after : Option Life) × FitsLife D.Area g after world.new.phase
         × Adds (λ text end. TellsLine g at line.now number text end after) (W.contents writer.old) (W.contents writer.new) outcome) }
-    ensures memory { result ≢ Err ToolFault.NoMemory }
-    ensures reads { result ≢ Err ToolFault.Read }
 {
     let Ok(read) = parse(alloc, line) else {
         return Ok(Outcome::Ends(no_memory(writer)?));
@@ -355,10 +328,8 @@ fn do_line<D: Stoppable + Drop, L: LineTeller, W: Write>(
         Line::Skipped => Ok(Outcome::Goes { refused: false }),
         Line::NotUnderstood => {
             teller.not_understood(number, line);
-            match write_not_understood(writer, number) {
-                Ok(()) => Ok(Outcome::Ends(NOT_UNDERSTOOD)),
-                Err(_) => Err(ToolFault::Write),
-            }
+            write_not_understood(writer, number)?;
+            Ok(Outcome::Ends(NOT_UNDERSTOOD))
         }
         Line::Command(command) => do_command(alloc, world, &command, writer),
     }
@@ -370,44 +341,34 @@ fn do_command<D: Stoppable + Drop, W: Write>(
     world: &mut World<D>,
     command: &Command,
     writer: &mut W,
-) -> Result<Outcome, ToolFault>
+) -> Result<Outcome, WriteFault>
     ensures leaves { (line : List ℕ) (number : ℕ) → line_of line ≡ Commanded command.now → IfOk result (λ outcome. LeavesLine D.Area world.old line number (W.contents writer.old) (W.contents writer.new) outcome world.new) }
     ensures tells { (line : List ℕ) (number : ℕ) → line_of line ≡ Commanded command.now
         → IfOk result (λ outcome. (g : Sizes) (at : Option Life) → FitsLife D.Area g at world.old.phase
         → (after : Option Life) × FitsLife D.Area g after world.new.phase
         × Adds (λ text end. TellsLine g at line number text end after) (W.contents writer.old) (W.contents writer.new) outcome) }
-    ensures memory { result ≢ Err ToolFault.NoMemory }
-    ensures reads { result ≢ Err ToolFault.Read }
 {
     match perform(world, alloc, command, writer) {
         Ok(Verdict::Done) => Ok(Outcome::Goes { refused: false }),
         Ok(Verdict::Refused) => Ok(Outcome::Goes { refused: true }),
         Ok(Verdict::Faulted) => Ok(Outcome::Ends(FAULTED)),
         Err(Stop::NoMemory) => Ok(Outcome::Ends(no_memory(writer)?)),
-        Err(Stop::Write) => Err(ToolFault::Write),
+        Err(Stop::Write) => Err(WriteFault),
     }
 }
 
 // The line that tells of want of memory, and its status.
-pub(crate) fn no_memory<W: Write>(writer: &mut W) -> Result<u8, ToolFault>
+pub(crate) fn no_memory<W: Write>(writer: &mut W) -> Result<u8, WriteFault>
     ensures shown { IfOk result (λ status. (status ≡ 1) × Appends (W.contents writer.old) (W.contents writer.new) no_memory_text) }
-    ensures memory { result ≢ Err ToolFault.NoMemory }
-    ensures reads { result ≢ Err ToolFault.Read }
 {
-    match write_no_memory(writer) {
-        Ok(()) => Ok(REFUSED),
-        Err(_) => Err(ToolFault::Write),
-    }
+    write_no_memory(writer)?;
+    Ok(REFUSED)
 }
 
 // The line that tells of a script that is too long, and its status.
-pub(crate) fn too_long<W: Write>(writer: &mut W) -> Result<u8, ToolFault>
+pub(crate) fn too_long<W: Write>(writer: &mut W) -> Result<u8, WriteFault>
     ensures shown { IfOk result (λ status. (status ≡ 2) × Appends (W.contents writer.old) (W.contents writer.new) too_long_text) }
-    ensures memory { result ≢ Err ToolFault.NoMemory }
-    ensures reads { result ≢ Err ToolFault.Read }
 {
-    match write_too_long(writer) {
-        Ok(()) => Ok(NOT_UNDERSTOOD),
-        Err(_) => Err(ToolFault::Write),
-    }
+    write_too_long(writer)?;
+    Ok(NOT_UNDERSTOOD)
 }

@@ -1,16 +1,16 @@
 //! The size that a store in a folder is taken to have.
-ghost use Rattle.std.specs.Prelude.{◌≡◌, ◌≢◌, IfErr, IfOk, IfSome};
+ghost use Rattle.std.specs.Prelude.{IfErr, IfOk, IfSome};
 ghost use Rattle.lc_tool.specs.Found.{AnswersSized, IsAsFound, IsTaken, TellsUnsized};
 ghost use Rattle.lc_look.specs.Recovers.{TellsRecovery};
 ghost use Rattle.lc_tool.specs.Script.{given_as};
 ghost use Rattle.lc_look.specs.Printed.{Adds};
 ghost use Rattle.lc_tool.specs.Tells.{TellsScript};
 
-use crate::ToolFault;
 use crate::making::stopped;
 use crate::manner::Manner;
 use crate::stores::{recover_store, run_store};
 use crate::telling::ErrorOutput;
+use crate::{ScriptFault, WriteFault};
 use lc_files::{SharedFile, SizeFault, StoreFolder, size_found, write_misfit};
 use lc_look::{NOT_UNDERSTOOD, REFUSED, ended};
 use lc_record::Geometry;
@@ -35,12 +35,10 @@ pub fn recover_sized<R: Files + Eprint, W: Write>(
     folder: &str,
     size: &Size,
     writer: &mut W,
-) -> Result<u8, ToolFault>
+) -> Result<u8, WriteFault>
 where
     R::File: SharedFile,
     ensures tells { IfOk result (λ status. AnswersSized size.now (λ g. Adds (TellsRecovery g) (W.contents writer.old) (W.contents writer.new) status) (W.contents writer.old) (W.contents writer.new) status) }
-    ensures memory { result ≢ Err ToolFault.NoMemory }
-    ensures reads { result ≢ Err ToolFault.Read }
 {
     match size_in(alloc, rt, folder, size) {
         Ok(geometry) => recover_store(alloc, rt, errors, folder, geometry, writer),
@@ -58,16 +56,15 @@ pub fn run_sized<R: Files + Eprint, I: Read, W: Write>(
     manner: Manner,
     reader: &mut I,
     writer: &mut W,
-) -> Result<u8, ToolFault>
+) -> Result<u8, ScriptFault>
 where
     R::File: SharedFile,
     ensures tells { IfOk result (λ status. IfSome (I.remaining reader.old) (λ script.
         AnswersSized size.now (λ g. Adds (TellsScript g (given_as manner script)) (W.contents writer.old) (W.contents writer.new) status) (W.contents writer.old) (W.contents writer.new) status)) }
-    ensures memory { result ≢ Err ToolFault.NoMemory }
 {
     match size_in(alloc, rt, folder, size) {
         Ok(geometry) => run_store(alloc, rt, errors, folder, geometry, manner, reader, writer),
-        Err(fault) => no_size(writer, fault),
+        Err(fault) => Ok(no_size(writer, fault)?),
     }
 }
 
@@ -107,9 +104,8 @@ where
 }
 
 // Says why a store is of no size, and answers the status.
-fn no_size<W: Write>(writer: &mut W, fault: Sizeless) -> Result<u8, ToolFault>
+fn no_size<W: Write>(writer: &mut W, fault: Sizeless) -> Result<u8, WriteFault>
     ensures tells { IfOk result (TellsUnsized (W.contents writer.old) (W.contents writer.new)) }
-    ensures writes { IfErr result (λ fault. fault ≡ ToolFault.Write) }
 {
     match fault {
         Sizeless::Untold(SizeFault::Misfit(misfit)) => {

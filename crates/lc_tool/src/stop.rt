@@ -1,5 +1,6 @@
 //! Why a script stops before its end.
 
+use crate::WriteFault;
 use std::alloc::AllocError;
 use std::io;
 
@@ -30,6 +31,17 @@ impl From<io::Error> for Stop {
     ghost from_gives = { λ _ stop. stop ≡ Write };
 
     fn from(_error: io::Error) -> Stop {
+        Stop::Write
+    }
+}
+
+impl From<WriteFault> for Stop {
+    ghost use Rattle.std.specs.Prelude.{◌≡◌};
+    ghost use Rattle.lc_tool.specs.declared.stop.Stop.TheVariants.{Write};
+
+    ghost from_gives = { λ _ stop. stop ≡ Write };
+
+    fn from(_fault: WriteFault) -> Stop {
         Stop::Write
     }
 }

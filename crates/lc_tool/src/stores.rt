@@ -1,17 +1,17 @@
 //! Stores in folders.
-ghost use Rattle.std.specs.Prelude.{◌≡◌, ◌≢◌, IfOk, IfSome};
+ghost use Rattle.std.specs.Prelude.{IfOk, IfSome};
 ghost use Rattle.lc_tool.specs.Files.{TellsInit};
 ghost use Rattle.lc_look.specs.Recovers.{TellsRecovery};
 ghost use Rattle.lc_tool.specs.Script.{given_as};
 ghost use Rattle.lc_look.specs.Printed.{Adds};
 ghost use Rattle.lc_tool.specs.Tells.{TellsScript};
 
-use crate::ToolFault;
 use crate::making::{not_opened, told_of_making};
 use crate::manner::Manner;
 use crate::scripts::run_told;
 use crate::size_hint::{are_of_size, tell_size_found};
 use crate::telling::{ErrorOutput, PageTeller};
+use crate::{ScriptFault, WriteFault};
 use lc_files::{
     Cause, Directory, OpenStore, SharedFile, StoreFolder, Unmade, Unopened, make_store,
 };
@@ -33,12 +33,10 @@ pub fn init_store<R: Files + Eprint, W: Write>(
     folder: &str,
     geometry: Geometry,
     writer: &mut W,
-) -> Result<u8, ToolFault>
+) -> Result<u8, WriteFault>
 where
     R::File: SharedFile,
     ensures tells { IfOk result (λ status. Adds TellsInit (W.contents writer.old) (W.contents writer.new) status) }
-    ensures memory { result ≢ Err ToolFault.NoMemory }
-    ensures reads { result ≢ Err ToolFault.Read }
 {
     let folder = StoreFolder::new(alloc, rt, folder);
     let mut directory = Directory::new(&folder);
@@ -78,12 +76,10 @@ pub fn recover_store<R: Files + Eprint, W: Write>(
     folder: &str,
     geometry: Geometry,
     writer: &mut W,
-) -> Result<u8, ToolFault>
+) -> Result<u8, WriteFault>
 where
     R::File: SharedFile,
     ensures tells { IfOk result (λ status. Adds (TellsRecovery geometry) (W.contents writer.old) (W.contents writer.new) status) }
-    ensures memory { result ≢ Err ToolFault.NoMemory }
-    ensures reads { result ≢ Err ToolFault.Read }
 {
     let path = folder;
     let folder = StoreFolder::new(alloc, rt, path);
@@ -105,12 +101,10 @@ fn recover_in<R: Files + Eprint, W: Write>(
     geometry: Geometry,
     misfits: &Cell<bool>,
     writer: &mut W,
-) -> Result<u8, ToolFault>
+) -> Result<u8, WriteFault>
 where
     R::File: SharedFile,
     ensures tells { IfOk result (λ status. Adds (TellsRecovery geometry) (W.contents writer.old) (W.contents writer.new) status) }
-    ensures memory { result ≢ Err ToolFault.NoMemory }
-    ensures reads { result ≢ Err ToolFault.Read }
 {
     match folder.open(&geometry) {
         Ok(store) => {
@@ -141,11 +135,10 @@ pub fn run_store<R: Files + Eprint, I: Read, W: Write>(
     manner: Manner,
     reader: &mut I,
     writer: &mut W,
-) -> Result<u8, ToolFault>
+) -> Result<u8, ScriptFault>
 where
     R::File: SharedFile,
     ensures tells { IfOk result (λ status. IfSome (I.remaining reader.old) (λ script. Adds (TellsScript geometry (given_as manner script)) (W.contents writer.old) (W.contents writer.new) status)) }
-    ensures memory { result ≢ Err ToolFault.NoMemory }
 {
     let path = folder;
     let folder = StoreFolder::new(alloc, rt, path);
@@ -171,11 +164,10 @@ fn run_in<R: Files + Eprint, I: Read, W: Write>(
     misfits: &Cell<bool>,
     reader: &mut I,
     writer: &mut W,
-) -> Result<u8, ToolFault>
+) -> Result<u8, ScriptFault>
 where
     R::File: SharedFile,
     ensures tells { IfOk result (λ status. IfSome (I.remaining reader.old) (λ script. Adds (TellsScript geometry (given_as manner script)) (W.contents writer.old) (W.contents writer.new) status)) }
-    ensures memory { result ≢ Err ToolFault.NoMemory }
 {
     match folder.open(&geometry) {
         Ok(store) => {
@@ -189,7 +181,7 @@ where
         }
         Err(fault) => {
             misfits.set(matches!(fault, Unopened::OtherSize { .. }));
-            not_opened(writer, fault)
+            Ok(not_opened(writer, fault)?)
         }
     }
 }

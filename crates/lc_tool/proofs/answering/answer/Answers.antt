@@ -1,16 +1,26 @@
 use Rattle.lc_tool.proofs.answering.answer.Goals as goal
 
-pub returns-in-New-clause-answers : goal.returns-in-New-clause-answers
-returns-in-New-clause-answers g c = rw (c.in-Run.is, c.in-New.is) c.run_new.ensures.runs
+pub returns-in-New : goal.returns-in-New
+returns-in-New g c = record {
+  answers = rw (c.in-Run.is, c.in-New.is) c.run_new.ensures.runs;
+}
 
-pub returns-in-InFolder-clause-answers : goal.returns-in-InFolder-clause-answers
-returns-in-InFolder-clause-answers g c = rw (c.in-Run.is, c.in-InFolder.is) c.run_sized.ensures.tells
+pub returns-in-InFolder : goal.returns-in-InFolder
+returns-in-InFolder g c = record {
+  answers = rw (c.in-Run.is, c.in-InFolder.is) c.run_sized.ensures.tells;
+}
 
-pub returns-in-Recover-clause-answers : goal.returns-in-Recover-clause-answers
-returns-in-Recover-clause-answers g c = rw c.in-Recover.is c.recover_sized.ensures.tells
+pub returns-in_ok-recover_sized-in-Recover : goal.returns-in_ok-recover_sized-in-Recover
+returns-in_ok-recover_sized-in-Recover g c = record {
+  answers = rw c.in-Recover.is c.in_ok-recover_sized-in-Recover.ensures.tells;
+}
 
-pub returns-in-Check-clause-answers : goal.returns-in-Check-clause-answers
-returns-in-Check-clause-answers g c = rw c.in-Check.is c.check_asked.ensures.tells
+pub returns-in_ok-check_asked-in-Check : goal.returns-in_ok-check_asked-in-Check
+returns-in_ok-check_asked-in-Check g c = record {
+  answers = rw c.in-Check.is c.in_ok-check_asked-in-Check.ensures.tells;
+}
 
-pub returns-in-Dump-clause-answers : goal.returns-in-Dump-clause-answers
-returns-in-Dump-clause-answers g c = rw c.in-Dump.is c.dump_page.ensures.tells
+pub returns-in_ok-dump_page-in-Dump : goal.returns-in_ok-dump_page-in-Dump
+returns-in_ok-dump_page-in-Dump g c = record {
+  answers = rw c.in-Dump.is c.in_ok-dump_page-in-Dump.ensures.tells;
+}

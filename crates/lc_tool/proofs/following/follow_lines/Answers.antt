@@ -1,5 +1,4 @@
 use Rattle.std.proofs.Common.{◌≡◌, ℕ, zero, suc, ◌+◌, ◌-◌, ◌<◌, ◌≤◌, ◌||◌, ◌==◌, ◌++◌, true, false, List, [], ◌∷◌, Option, Some, None, length, sym, ap, subst, ◌∙◌, arith, eqb-true}
-use Rattle.std.proofs.lemmas.Result.{IfOk-weaker}
 use Rattle.std.proofs.lemmas.List.{nil_from_length as nil_of}
 use Rattle.std.specs.Io.BufRead.{drop_through, take_through}
 use Rattle.lc_text.specs.Lines.{script_lines}
@@ -27,23 +26,25 @@ loop-raw-init g c = record {
 
 pub returns-in-Err-NoMemory-clause-runs : goal.returns-in-Err-NoMemory-clause-runs
 returns-in-Err-NoMemory-clause-runs g c =
-    IfOk-weaker c.no_memory.result _ _ (λ status shown.
+    let status = c.in_ok-no_memory-in-Err-NoMemory.field-0 in
+    let shown = c.in_ok-no_memory-in-Err-NoMemory.ensures.shown in
     some_by (lines_left g.R.Read.remaining c.args.lines.now) _ (λ script is m first start fits.
     let read = c.loop-raw.invariant.read script is in
     let before = read.3 m first start fits in
     to_end (Follows (front_of c.args.numbered) m first start 1 false (lines_followed script)) (g.W.Write.contents c.args.writer.now)
     (Follows (front_of c.args.numbered) m before.0 before.1 c.loop-raw.number c.loop-raw.refused (lines_within (18446744073709551615 - c.loop-raw.number) read.0)) (g.W.Write.contents c.loop-raw.writer) (g.W.Write.contents c.no_memory.new.writer)
-    before.3 no_memory_text shown.1 status (wants (front_of c.args.numbered) c.loop-raw.number c.loop-raw.refused m before.0 before.1 (lines_within (18446744073709551615 - c.loop-raw.number) read.0) status shown.0))) c.no_memory.ensures.shown
+    before.3 no_memory_text shown.1 status (wants (front_of c.args.numbered) c.loop-raw.number c.loop-raw.refused m before.0 before.1 (lines_within (18446744073709551615 - c.loop-raw.number) read.0) status shown.0))
 
 pub returns-in-Err-NoMemory-clause-tells : goal.returns-in-Err-NoMemory-clause-tells
 returns-in-Err-NoMemory-clause-tells g c =
-    IfOk-weaker c.no_memory.result _ _ (λ status shown.
+    let status = c.in_ok-no_memory-in-Err-NoMemory.field-0 in
+    let shown = c.in_ok-no_memory-in-Err-NoMemory.ensures.shown in
     some_by (lines_left g.R.Read.remaining c.args.lines.now) _ (λ script is h first fits.
     let read = c.loop-raw.invariant.read script is in
     let before = read.2 h first fits in
     to_end (TellsFollowed (front_of c.args.numbered) h first 1 false (lines_followed script)) (g.W.Write.contents c.args.writer.now)
     (TellsFollowed (front_of c.args.numbered) h before.0 c.loop-raw.number c.loop-raw.refused (lines_within (18446744073709551615 - c.loop-raw.number) read.0)) (g.W.Write.contents c.loop-raw.writer) (g.W.Write.contents c.no_memory.new.writer)
-    before.2 no_memory_text shown.1 status (tells_want (front_of c.args.numbered) c.loop-raw.number c.loop-raw.refused h before.0 (lines_within (18446744073709551615 - c.loop-raw.number) read.0) status shown.0))) c.no_memory.ensures.shown
+    before.2 no_memory_text shown.1 status (tells_want (front_of c.args.numbered) c.loop-raw.number c.loop-raw.refused h before.0 (lines_within (18446744073709551615 - c.loop-raw.number) read.0) status shown.0))
 
 some_of : (n : ℕ) → false ≡ (n == 0) → 1 ≤ n
 some_of zero e = absurd cc
@@ -81,7 +82,8 @@ returns-then-is_empty-clause-tells g c =
 
 pub returns-then-len-gt-LONGEST-clause-runs : goal.returns-then-len-gt-LONGEST-clause-runs
 returns-then-len-gt-LONGEST-clause-runs g c =
-    IfOk-weaker c.too_long.result _ _ (λ status shown.
+    let status = c.in_ok-too_long.field-0 in
+    let shown = c.in_ok-too_long.ensures.shown in
     some_by (lines_left g.R.Read.remaining c.args.lines.now) _ (λ script is m first start fits.
     let read = c.loop-raw.invariant.read script is in
     let cut = line_passes (18446744073709551615 - c.loop-raw.number) 1048576 [] read.0
@@ -91,11 +93,12 @@ returns-then-len-gt-LONGEST-clause-runs g c =
     (Follows (front_of c.args.numbered) m before.0 before.1 c.loop-raw.number c.loop-raw.refused (lines_within (18446744073709551615 - c.loop-raw.number) read.0)) (g.W.Write.contents c.loop-raw.writer) (g.W.Write.contents c.too_long.new.writer)
     before.3 too_long_text shown.1 status
     (subst (λ (lines : List (Option (List ℕ))). Follows (front_of c.args.numbered) m before.0 before.1 c.loop-raw.number c.loop-raw.refused lines too_long_text status) (sym cut)
-    (passes_limit (front_of c.args.numbered) c.loop-raw.number c.loop-raw.refused m before.0 before.1 status shown.0)))) c.too_long.ensures.shown
+    (passes_limit (front_of c.args.numbered) c.loop-raw.number c.loop-raw.refused m before.0 before.1 status shown.0)))
 
 pub returns-then-len-gt-LONGEST-clause-tells : goal.returns-then-len-gt-LONGEST-clause-tells
 returns-then-len-gt-LONGEST-clause-tells g c =
-    IfOk-weaker c.too_long.result _ _ (λ status shown.
+    let status = c.in_ok-too_long.field-0 in
+    let shown = c.in_ok-too_long.ensures.shown in
     some_by (lines_left g.R.Read.remaining c.args.lines.now) _ (λ script is h first fits.
     let read = c.loop-raw.invariant.read script is in
     let before = read.2 h first fits in
@@ -105,7 +108,7 @@ returns-then-len-gt-LONGEST-clause-tells g c =
     (TellsFollowed (front_of c.args.numbered) h before.0 c.loop-raw.number c.loop-raw.refused (lines_within (18446744073709551615 - c.loop-raw.number) read.0)) (g.W.Write.contents c.loop-raw.writer) (g.W.Write.contents c.too_long.new.writer)
     before.2 too_long_text shown.1 status
     (subst (λ (lines : List (Option (List ℕ))). TellsFollowed (front_of c.args.numbered) h before.0 c.loop-raw.number c.loop-raw.refused lines too_long_text status) (sym cut)
-    (tells_limit (front_of c.args.numbered) c.loop-raw.number c.loop-raw.refused h before.0 status shown.0)))) c.too_long.ensures.shown
+    (tells_limit (front_of c.args.numbered) c.loop-raw.number c.loop-raw.refused h before.0 status shown.0)))
 
 -- behind the last number no line comes
 none_numbered : (bytes rest : List ℕ) (number count : ℕ) → number ≡ 18446744073709551615 → bytes ≡ take_through 10 rest → count ≡ length bytes → 1 ≤ count → lines_within (18446744073709551615 - number) rest ≡ None ∷ []
@@ -116,7 +119,8 @@ none_numbered bytes rest number count last through long some =
 
 pub returns-then-number-clause-runs : goal.returns-then-number-clause-runs
 returns-then-number-clause-runs g c =
-    IfOk-weaker c.too_long-then-number.result _ _ (λ status shown.
+    let status = c.in_ok-too_long-2.field-0 in
+    let shown = c.in_ok-too_long-2.ensures.shown in
     some_by (lines_left g.R.Read.remaining c.args.lines.now) _ (λ script is m first start fits.
     let read = c.loop-raw.invariant.read script is in
     let through = (some_at (lines_left g.R.Read.remaining c.loop-raw.lines) read.0 (λ xs. (c.in-Ok.raw.items ≡ take_through 10 xs) × (lines_left g.R.Read.remaining c.next.new.self ≡ Some (drop_through 10 xs))) read.1 (c.in-Ok.ensures.line (omega (arith, c.in-Ok.raw.ok.0, c.if-len-gt-LONGEST.false, c.len.ensures)))).0 in
@@ -126,11 +130,12 @@ returns-then-number-clause-runs g c =
     (Follows (front_of c.args.numbered) m before.0 before.1 c.loop-raw.number c.loop-raw.refused (lines_within (18446744073709551615 - c.loop-raw.number) read.0)) (g.W.Write.contents c.loop-raw.writer) (g.W.Write.contents c.too_long-then-number.new.writer)
     before.3 too_long_text shown.1 status
     (subst (λ (lines : List (Option (List ℕ))). Follows (front_of c.args.numbered) m before.0 before.1 c.loop-raw.number c.loop-raw.refused lines too_long_text status) (sym cut)
-    (passes_limit (front_of c.args.numbered) c.loop-raw.number c.loop-raw.refused m before.0 before.1 status shown.0)))) c.too_long-then-number.ensures.shown
+    (passes_limit (front_of c.args.numbered) c.loop-raw.number c.loop-raw.refused m before.0 before.1 status shown.0)))
 
 pub returns-then-number-clause-tells : goal.returns-then-number-clause-tells
 returns-then-number-clause-tells g c =
-    IfOk-weaker c.too_long-then-number.result _ _ (λ status shown.
+    let status = c.in_ok-too_long-2.field-0 in
+    let shown = c.in_ok-too_long-2.ensures.shown in
     some_by (lines_left g.R.Read.remaining c.args.lines.now) _ (λ script is h first fits.
     let read = c.loop-raw.invariant.read script is in
     let before = read.2 h first fits in
@@ -140,7 +145,7 @@ returns-then-number-clause-tells g c =
     (TellsFollowed (front_of c.args.numbered) h before.0 c.loop-raw.number c.loop-raw.refused (lines_within (18446744073709551615 - c.loop-raw.number) read.0)) (g.W.Write.contents c.loop-raw.writer) (g.W.Write.contents c.too_long-then-number.new.writer)
     before.2 too_long_text shown.1 status
     (subst (λ (lines : List (Option (List ℕ))). TellsFollowed (front_of c.args.numbered) h before.0 c.loop-raw.number c.loop-raw.refused lines too_long_text status) (sym cut)
-    (tells_limit (front_of c.args.numbered) c.loop-raw.number c.loop-raw.refused h before.0 status shown.0)))) c.too_long-then-number.ensures.shown
+    (tells_limit (front_of c.args.numbered) c.loop-raw.number c.loop-raw.refused h before.0 status shown.0)))
 
 comes : (bytes rest line behind : List ℕ) (number count : ℕ) → (number ≡ 18446744073709551615 → ⊥) → number ≤ 18446744073709551615 → bytes ≡ take_through 10 rest → count ≡ length bytes → count ≤ 1048576
     → script_lines bytes ≡ line ∷ script_lines behind → lines_within (18446744073709551615 - number) rest ≡ Some line ∷ lines_within (18446744073709551615 - (number + 1)) (drop_through 10 rest)

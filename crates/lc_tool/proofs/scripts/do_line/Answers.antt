@@ -25,7 +25,7 @@ returns-in-Skipped-clause-tells g c = λ h at fits.
     let read : line_of c.args.line.now ≡ Skipped = sym c.in-Ok.ensures.value ∙ c.in-Skipped.is in
     (at, fits, ([], inl (read, refl, refl, refl), adds_nothing (g.W.Write.contents c.args.writer.now)))
 
-pub returns-in-Ok-write_not_understood-clause-tells : goal.returns-in-Ok-write_not_understood-clause-tells
-returns-in-Ok-write_not_understood-clause-tells g c = λ h at fits.
+pub returns-in_ok-write_not_understood-in-NotUnderstood-clause-tells : goal.returns-in_ok-write_not_understood-in-NotUnderstood-clause-tells
+returns-in_ok-write_not_understood-in-NotUnderstood-clause-tells g c = λ h at fits.
     let read : line_of c.args.line.now ≡ NotUnderstood = sym c.in-Ok.ensures.value ∙ c.in-NotUnderstood.is in
-    (at, fits, (not_understood_text c.args.number, inr (inl (read, refl, refl, refl)), c.in-Ok-write_not_understood.ensures))
+    (at, fits, (not_understood_text c.args.number, inr (inl (read, refl, refl, refl)), c.in_ok-write_not_understood-in-NotUnderstood.ensures))

@@ -29,9 +29,10 @@ returns-in-Some-clause-tells g c =
 
 pub returns-in-Err-default-BadGeometry-clause-tells : goal.returns-in-Err-default-BadGeometry-clause-tells
 returns-in-Err-default-BadGeometry-clause-tells g c =
-    IfOk-weaker c.bad_geometry.result _ _ (λ status shown.
+    let status = c.in_ok-bad_geometry-in-Err-default-BadGeometry.field-0 in
+    let shown = c.in_ok-bad_geometry-in-Err-default-BadGeometry.ensures.shown in
     some_all (g.R.Read.remaining c.args.reader.now) _ (λ script.
-    wrong_tells c.args.geometry (g.W.Write.contents c.args.writer.now) (g.W.Write.contents c.bad_geometry.new.writer) status (given_as c.args.manner script) _ shown.0 shown.1)) c.bad_geometry.ensures.shown
+    wrong_tells c.args.geometry (g.W.Write.contents c.args.writer.now) (g.W.Write.contents c.bad_geometry.new.writer) status (given_as c.args.manner script) _ shown.0 shown.1)
 
 pub returns-clause-runs : goal.returns-clause-runs
 returns-clause-runs g c =
