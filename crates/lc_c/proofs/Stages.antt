@@ -14,7 +14,7 @@ use Rattle.lc_core.specs.Calls.{CallsArea, KeepsAreas}
 use Rattle.lc_core.specs.MayReply.{may_reply}
 use Rattle.lc_core.specs.Faults.{CountsPhase, phase_failures}
 use Rattle.lc_core.specs.Geometries.{RefusesOutside, phase_geometry}
-use Rattle.lc_core.specs.Lives.{Anyhow}
+use Rattle.lc_core.specs.Lives.{Anyhow, StillLives}
 use Rattle.lc_core.specs.Recovers.{RefusesAtOnce}
 use Rattle.lc_core.specs.Truncating.{StepsTo}
 use Rattle.lc_core.specs.World.{AsksIn, AsksWorld, FollowsWorld, StillFitsWorld}
@@ -34,6 +34,7 @@ steps_open stage store after event said is comes = subst (λ s. StepsStage s eve
 module _ (store : Store) (event : Event) (after : Store) where
   pub comes : (said : Result Reply AllocError) → is_step event ≡ true
       → IfOk said (λ reply. FollowsWorld ghosts store event reply after) → OnErr said (AsksWorld ghosts store event) → OnErr said (StillFitsWorld ghosts store after)
+      → OnErr said (StillLives ghosts store.phase after.phase)
       → OnErr said (AsksIn ghosts store.phase event) → IfOk said (λ reply. RefusesAtOnce ghosts store.phase event reply after.phase)
       → IfOk said (λ reply. CountsPhase ghosts store.phase reply after.phase) → OnErr said (phase_failures ghosts after.phase ≡ phase_failures ghosts store.phase)
       → phase_geometry ghosts after.phase ≡ phase_geometry ghosts store.phase → IfOk said (RefusesOutside ghosts store.phase event)
@@ -41,10 +42,10 @@ module _ (store : Store) (event : Event) (after : Store) where
       → IfOk said (λ reply. ((choices : List (List Choice)) → event ≡ Stop choices → ⊥) → Anyhow ghosts store.phase event reply after.phase)
       → IfOk said (λ reply. may_reply event reply ≡ true)
       → ComesTo ghosts store event (replied said) after
-  comes (Ok reply) step follows asks still at_all at_once faults failures geometry unknown calls kept anyhow names =
+  comes (Ok reply) step follows asks still lives at_all at_once faults failures geometry unknown calls kept anyhow names =
       steps_of ghosts store event reply after (no_stop event step) follows at_once faults geometry unknown calls anyhow names
-  comes (Err error) step follows asks still at_all at_once faults failures geometry unknown calls kept anyhow names =
-      record { asks = asks; at_all = at_all; still = still; failures = failures; geometry = geometry; kept = kept }
+  comes (Err error) step follows asks still lives at_all at_once faults failures geometry unknown calls kept anyhow names =
+      record { asks = asks; at_all = at_all; still = still; lives = lives; failures = failures; geometry = geometry; kept = kept }
 
 -- the same of a read, which leaves the store
 pub reads_open : {X : Type 0} (stage : Stage) (store : Store) (event : Event) (reply : Reply) (result : Result X Refusal) → stage ≡ Open store

@@ -78,6 +78,7 @@ module _ {D : Type 0} (a : Ghosts D) where
       asks = asks_world a old RecoverStep asks;
       at_all = asks;
       still = still;
+      lives = λ g at fits. subst (λ (p : Phase D a). FitsLife a g at p) (sym same) fits;
       failures = failures;
       geometry = geometry;
       kept = kept;

@@ -9,6 +9,7 @@ use Rattle.lc_model.specs.declared.reply.Reply.TheVariants.{Ok as Accepted, Rese
 use Rattle.lc_core.specs.Calls.{KeepsAreas}
 use Rattle.lc_core.specs.Faults.{phase_failures}
 use Rattle.lc_core.specs.Geometries.{phase_geometry}
+use Rattle.lc_core.specs.Lives.{StillLives}
 use Rattle.lc_core.specs.MayReply.{may_reply}
 use Rattle.lc_core.specs.Stepping.{works_up}
 use Rattle.lc_core.specs.Truncating.{StepsTo}
@@ -114,6 +115,7 @@ module _ {D : Type 0} (a : Ghosts D) where
     pub asks : AsksWorld a old event
     pub at_all : AsksIn a old.phase event
     pub still : StillFitsWorld a old new
+    pub lives : StillLives a old.phase new.phase
     pub failures : phase_failures a new.phase ≡ phase_failures a old.phase
     pub geometry : phase_geometry a new.phase ≡ phase_geometry a old.phase
     pub kept : KeepsAreas a old.phase new.phase

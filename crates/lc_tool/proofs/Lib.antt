@@ -5,9 +5,9 @@ mod Beside
 mod Emptied
 mod Truncations
 mod Flushes
+mod EndCalls
 mod Known
 mod Fitting
-mod Memory
 mod Logs
 mod LogShown
 mod Shows

@@ -9,7 +9,7 @@ ghost use Rattle.lc_tool.specs.Fits.{AsksFor, FollowsAll, FollowsEnd, IsUpBeside
 ghost use Rattle.lc_tool.specs.Tells.{KeepsTo};
 ghost use Rattle.lc_text.specs.declared.command.Command.TheVariants.{End, Recover};
 
-use crate::call_replies::flush_reply;
+use crate::call_replies::{end_reply, flush_reply};
 use lc_core::{Event, Reply, World};
 use lc_disk::Stoppable;
 use lc_look::Teller;
@@ -32,14 +32,7 @@ pub(crate) fn end<D: Stoppable + Drop>(
     ensures memory { OnErr result (AsksFor D.Area world.old (End node thread)) }
     ensures still { OnErr result (StillLives D.Area world.old.phase world.new.phase) }
 {
-    let reserved = world.step(alloc, &Event::Reserve { node, thread })?;
-    let Reply::Reserved { .. } = reserved else {
-        return Ok(reserved);
-    };
-    match world.step(alloc, &Event::Close { node, thread })? {
-        Reply::Ok => Ok(reserved),
-        other => Ok(other),
-    }
+    end_reply(world.end(alloc, node, thread))
 }
 
 /// The steps of a flush of a node, up to the one that is answered otherwise than that more are to come.
