@@ -49,7 +49,8 @@ impl FileExt for FakeFile {
         let bytes = self.bytes.get();
         let at = bytes.len().min(offset as usize);
         let moved = allowed.min(bytes.len() - at).min(buf.len());
-        buf[..moved].copy_from_slice(&bytes[at..at + moved]);
+        let (here, _) = buf.split_at_mut(moved);
+        here.copy_from_slice(&bytes[at..at + moved]);
         Ok(moved)
     }
 

@@ -1,10 +1,14 @@
 //! Areas over files.
-use crate::expect::equal;
+ghost use Rattle.std.specs.Prelude.{◌≤◌, length};
+
+use crate::expect::{equal, equal_lists, holds};
 use crate::fake_file::{FakeFile, FakeFolder, Manner};
-use lc_disk::{Area, FileArea, OpenFault};
+use lc_disk::{Area, DeviceFault, FileArea, OpenFault};
 use std::alloc::Global;
 use std::fs::{self, File};
 use std::os::unix::fs::symlink;
+use std::process::Abort;
+use std::rt::Files;
 use std::test::Fail;
 use std::{env, process};
 
@@ -13,14 +17,25 @@ fn eight_bytes(alloc: Global, manner: Manner) -> Result<FileArea<FakeFile>, Open
     FileArea::open(alloc, &FakeFolder { manner }, "area")
 }
 
+static FOUR_OF_EIGHT: [u8; 8] = [0, 0, 0, 1, 2, 3, 4, 0];
+
+// Writes four bytes, and reads all eight.
+fn four_are_read<D: Area>(rt: &impl Abort, area: &mut D) -> Result<(), DeviceFault>
+    requires { 8 ≤ length (D.now area.old) }
+{
+    area.write_at(3, &[1, 2, 3, 4])?;
+    let mut bytes = [9; 8];
+    area.read(0, &mut bytes)?;
+    equal(rt, &"the eight bytes", &bytes, &FOUR_OF_EIGHT);
+    Ok(())
+}
+
 #[test]
 fn short_and_interrupted_calls_go_on(rt: HostRuntime) -> Result<(), Fail> {
     let mut area = eight_bytes(rt.alloc(), Manner::Slow)?;
     assert!(rt; area.len() == 8);
-    area.write_at(3, &[1, 2, 3, 4])?;
-    let mut bytes = [9; 8];
-    area.read(0, &mut bytes)?;
-    assert!(rt; bytes == [0, 0, 0, 1, 2, 3, 4, 0] && area.faults() == 0);
+    four_are_read(&rt, &mut area)?;
+    assert!(rt; area.faults() == 0);
     Ok(())
 }
 
@@ -102,9 +117,9 @@ fn a_sync_of_nothing_makes_no_call(rt: HostRuntime) -> Result<(), Fail> {
 fn a_file_that_ends_early_has_failed(rt: HostRuntime) -> Result<(), Fail> {
     let mut area = eight_bytes(rt.alloc(), Manner::Ends)?;
     assert!(rt; area.len() == 8);
-    assert!(rt; area.read(0, &mut [9; 8]).is_err());
-    assert!(rt; area.write_at(0, &[1]).is_err());
-    assert!(rt; area.faults() == 2);
+    holds(&rt, &"the read fails", area.read(0, &mut [9; 8]).is_err());
+    holds(&rt, &"the write fails", area.write_at(0, &[1]).is_err());
+    equal(&rt, &"the faults", &area.faults(), &2);
     Ok(())
 }
 
@@ -118,25 +133,67 @@ fn new_folder(rt: &HostRuntime) -> Result<String, Fail> {
     Ok(folder)
 }
 
-#[test]
-fn files_are_made_once_and_opened_again(rt: HostRuntime) -> Result<(), Fail> {
-    let alloc = rt.alloc();
-    let folder = new_folder(&rt)?;
-    let path = format!(in alloc; "{folder}/area")?;
-    let mut made: FileArea<File> = FileArea::make(alloc, &rt, &path, 5000)?;
-    made.write_at(4990, &[1, 2, 3])?;
-    made.sync()?;
-    let again: Result<FileArea<File>, OpenFault> = FileArea::make(alloc, &rt, &path, 8);
-    assert!(rt; again.err() == Some(OpenFault::Exists));
-    let mut opened: FileArea<File> = FileArea::open(alloc, &rt, &path)?;
+// Writes three bytes near the end of 5,000.
+fn write_three<D: Area>(area: &mut D) -> Result<(), DeviceFault>
+    requires { 5000 ≤ length (D.now area.old) }
+{
+    area.write_at(4990, &[1, 2, 3])?;
+    area.sync()
+}
+
+// The 5,000 bytes behind that.
+fn with_three() -> [u8; 5000] {
+    let mut bytes = [0; 5000];
+    bytes[4990..4993].copy_from_slice(&[1, 2, 3]);
+    bytes
+}
+
+// The fault of making a file of eight bytes at this path.
+fn fault_of_making<R: Files<File = File>>(rt: &R, alloc: Global, path: &str) -> Option<OpenFault> {
+    FileArea::make(alloc, rt, path, 8).err()
+}
+
+// Opens the file, and reads the 5,000 bytes.
+fn open_again<R: Abort + Files<File = File>>(
+    rt: &R,
+    alloc: Global,
+    path: &str,
+) -> Result<(), Fail> {
+    let mut opened: FileArea<File> = FileArea::open(alloc, rt, path)?;
     assert!(rt; opened.len() == 5000);
     let mut bytes = [9; 5000];
     opened.read(0, &mut bytes)?;
-    let mut wanted = [0; 5000];
-    wanted[4990..4993].copy_from_slice(&[1, 2, 3]);
-    assert!(rt; bytes == wanted);
+    equal_lists(rt, &"what is read", &bytes, &with_three());
+    Ok(())
+}
+
+// Makes a file at this path, and opens it again.
+fn make_and_open<R: Abort + Files<File = File>>(
+    rt: &R,
+    alloc: Global,
+    path: &str,
+) -> Result<(), Fail> {
+    let mut made: FileArea<File> = FileArea::make(alloc, rt, path, 5000)?;
+    write_three(&mut made)?;
+    let fault = fault_of_making(rt, alloc, path);
+    equal(rt, &"the fault", &fault, &Some(OpenFault::Exists));
+    open_again(rt, alloc, path)
+}
+
+#[test]
+fn files_are_made_once_and_opened_again(rt: HostRuntime) -> Result<(), Fail> {
+    let folder = new_folder(&rt)?;
+    let path = format!(in rt.alloc(); "{folder}/area")?;
+    make_and_open(&rt, rt.alloc(), &path)?;
     fs::remove_dir_all(&rt, &folder)?;
     Ok(())
+}
+
+// At this path no file is made, with this fault, and none opened.
+fn is_no_file<R: Abort + Files<File = File>>(rt: &R, alloc: Global, path: &str, fault: OpenFault) {
+    equal(rt, &path, &fault_of_making(rt, alloc, path), &Some(fault));
+    let opened: Result<FileArea<File>, OpenFault> = FileArea::open(alloc, rt, path);
+    equal(rt, &path, &opened.err(), &Some(OpenFault::NotOpened));
 }
 
 #[test]
@@ -147,16 +204,9 @@ fn what_is_no_regular_file(rt: HostRuntime) -> Result<(), Fail> {
     let nothing = format!(in alloc; "{folder}/nothing")?;
     let below = format!(in alloc; "{folder}/no/area")?;
     symlink(&rt, &nothing, &link)?;
-    for (path, fault) in [
-        (&folder, OpenFault::Exists),
-        (&link, OpenFault::Exists),
-        (&below, OpenFault::NotOpened),
-    ] {
-        let made: Result<FileArea<File>, OpenFault> = FileArea::make(alloc, &rt, path, 8);
-        equal(&rt, path, &made.err(), &Some(fault));
-        let opened: Result<FileArea<File>, OpenFault> = FileArea::open(alloc, &rt, path);
-        equal(&rt, path, &opened.err(), &Some(OpenFault::NotOpened));
-    }
+    is_no_file(&rt, alloc, &folder, OpenFault::Exists);
+    is_no_file(&rt, alloc, &link, OpenFault::Exists);
+    is_no_file(&rt, alloc, &below, OpenFault::NotOpened);
     fs::remove_dir_all(&rt, &folder)?;
     Ok(())
 }

@@ -1,6 +1,10 @@
 //! Messages over a line.
+ghost use Rattle.std.specs.Prelude.{◌≡◌};
+ghost use Rattle.lc_line.specs.Ends.{line_to, line_from};
+
 use crate::expect::equal;
 use lc_line::{ROOM, RecvEnd, Refused, SendEnd, close_line, open_line};
+use std::process::Abort;
 use std::sync::Wait;
 use std::test::Fail;
 use std::thread::{join, yield_now};
@@ -39,22 +43,41 @@ fn take_all<R: Wait>(rt: &R, mut from: RecvEnd<u64>) -> u64 {
     unreachable!()
 }
 
+// Sends this number, with this answer.
+fn sends<R: Abort + Wait>(
+    rt: &R,
+    to: &mut SendEnd<u64>,
+    number: u64,
+    answer: Result<(), Refused<u64>>,
+)
+    ensures { line_to to.new ≡ line_to to.old }
+{
+    equal(rt, &number, &to.send(rt, number), &answer);
+}
+
+// Takes this number, or none.
+fn takes<R: Abort + Wait>(rt: &R, from: &mut RecvEnd<u64>, wanted: Option<u64>)
+    ensures { line_from from.new ≡ line_from from.old }
+{
+    equal(rt, &"what is taken", &from.take(rt), &wanted);
+}
+
 #[test]
 fn a_line_has_room_for_64_messages(rt: HostRuntime) -> Result<(), Fail> {
     let (mut to, mut from) = open_line(rt.alloc())?;
     assert!(rt; ROOM == 64);
-    for number in 0..64u64 {
-        equal(&rt, &number, &to.send(&rt, number), &Ok(()));
+    for number in 0..64 {
+        sends(&rt, &mut to, number, Ok(()));
     }
-    assert!(rt; to.send(&rt, 64) == Err(Refused::Full(64)));
-    assert!(rt; from.take(&rt) == Some(0));
-    assert!(rt; to.send(&rt, 65) == Ok(()));
-    assert!(rt; to.send(&rt, 66) == Err(Refused::Full(66)));
+    sends(&rt, &mut to, 64, Err(Refused::Full(64)));
+    takes(&rt, &mut from, Some(0));
+    sends(&rt, &mut to, 65, Ok(()));
+    sends(&rt, &mut to, 66, Err(Refused::Full(66)));
     for number in 1..64 {
-        equal(&rt, &number, &from.take(&rt), &Some(number));
+        takes(&rt, &mut from, Some(number));
     }
-    assert!(rt; from.take(&rt) == Some(65));
-    assert!(rt; from.take(&rt).is_none());
+    takes(&rt, &mut from, Some(65));
+    takes(&rt, &mut from, None);
     Ok(())
 }
 
@@ -74,32 +97,33 @@ fn messages_cross_threads_in_order(rt: HostRuntime) -> Result<(), Fail> {
 #[test]
 fn a_closed_line_hands_out_the_rest(rt: HostRuntime) -> Result<(), Fail> {
     let (mut to, mut from) = open_line(rt.alloc())?;
-    let sent = (to.send(&rt, 7), to.send(&rt, 8), to.send(&rt, 9));
-    assert!(rt; sent == (Ok(()), Ok(()), Ok(())));
-    assert!(rt; from.take(&rt) == Some(7));
+    sends(&rt, &mut to, 7, Ok(()));
+    sends(&rt, &mut to, 8, Ok(()));
+    sends(&rt, &mut to, 9, Ok(()));
+    takes(&rt, &mut from, Some(7));
     let mut rest = close_line(to, from);
-    assert!(rt; rest.take(&rt) == Some(8));
-    assert!(rt; rest.take(&rt) == Some(9));
-    assert!(rt; rest.take(&rt).is_none());
+    equal(&rt, &"the first of the rest", &rest.take(&rt), &Some(8));
+    equal(&rt, &"the second of the rest", &rest.take(&rt), &Some(9));
+    equal(&rt, &"the end", &rest.take(&rt), &None);
     Ok(())
 }
 
 #[test]
 fn what_was_sent_can_be_taken_when_the_sending_end_is_gone(rt: HostRuntime) -> Result<(), Fail> {
     let (mut to, mut from) = open_line(rt.alloc())?;
-    assert!(rt; to.send(&rt, 7u64) == Ok(()));
+    sends(&rt, &mut to, 7, Ok(()));
     drop(to);
-    assert!(rt; from.take(&rt) == Some(7));
-    assert!(rt; from.take(&rt).is_none());
+    takes(&rt, &mut from, Some(7));
+    takes(&rt, &mut from, None);
     Ok(())
 }
 
 #[test]
 fn nothing_is_sent_when_the_receiving_end_is_gone(rt: HostRuntime) -> Result<(), Fail> {
     let (mut to, from) = open_line(rt.alloc())?;
-    assert!(rt; to.send(&rt, 7u64) == Ok(()));
+    sends(&rt, &mut to, 7, Ok(()));
     drop(from);
-    assert!(rt; to.send(&rt, 8) == Err(Refused::Gone(8)));
+    sends(&rt, &mut to, 8, Err(Refused::Gone(8)));
     Ok(())
 }
 
