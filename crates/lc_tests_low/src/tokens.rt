@@ -6,6 +6,7 @@ use lc_page::{PageText, PageVector};
 use lc_record::{Items, Lock, RangeData, Record};
 use lc_token::{HoldBack, Received, Token, TokenFault, TokenPlace};
 use std::alloc::{AllocError, Global};
+use std::process::Abort;
 use std::test::Fail;
 
 // A record with this number in segment 1, and one byte there.
@@ -42,27 +43,32 @@ fn receive(hold_back: &mut HoldBack, alloc: Global, seq: u64) -> Result<Received
     }
 }
 
-#[test]
-fn records_out_of_order_are_applied_in_order(rt: HostRuntime) -> Result<(), Fail> {
-    let mut hold_back = HoldBack::new(rt.alloc(), 1, 0);
-    for (seq, row, answer) in [
-        (3, "3 is held back", Received::HeldBack),
-        (1, "1 is applied", Received::Applied(1)),
-        (1, "1 is ignored", Received::Ignored),
-        (2, "3 are applied", Received::Applied(3)),
-    ] {
-        holds(
-            &rt,
-            &row,
-            receive(&mut hold_back, rt.alloc(), seq)? == answer,
-        );
+static OUT_OF_ORDER: [(u64, &str, Received); 4] = [
+    (3, "3 is held back", Received::HeldBack),
+    (1, "1 is applied", Received::Applied(1)),
+    (1, "1 is ignored", Received::Ignored),
+    (2, "3 are applied", Received::Applied(3)),
+];
+
+// Receives these, and takes the parts.
+fn out_of_order(rt: &impl Abort, alloc: Global, hold_back: &mut HoldBack) -> Result<(), Fail>
+    requires { hold_back.old.segment ≡ 1 }
+{
+    for (seq, row, answer) in &OUT_OF_ORDER {
+        holds(rt, row, receive(hold_back, alloc, *seq)? == *answer);
     }
     for seq in 1..4 {
         let part = hold_back.next().ok_or("it was applied")?;
-        equal(&rt, &format_args!("part {seq}"), &part.seq, &seq);
+        equal(rt, &format_args!("part {seq}"), &part.seq, &seq);
     }
     assert!(rt; !hold_back.has_due());
     Ok(())
+}
+
+#[test]
+fn records_out_of_order_are_applied_in_order(rt: HostRuntime) -> Result<(), Fail> {
+    let mut hold_back = HoldBack::new(rt.alloc(), 1, 0);
+    out_of_order(&rt, rt.alloc(), &mut hold_back)
 }
 
 #[test]
@@ -109,32 +115,49 @@ fn faults_have_texts(rt: HostRuntime) -> Result<(), Fail> {
     Ok(())
 }
 
-#[test]
-fn a_token_is_written_leaves_and_arrives(rt: HostRuntime) -> Result<(), Fail> {
+// The token of segment 1 behind a record, which changed its one page.
+fn recorded(rt: &impl Abort, alloc: Global) -> Result<Token, Fail>
+    ensures { IfOk result (λ token. token.segment ≡ 1) }
+{
     let text = PageText {
         seq: 2,
         slot: None,
         gates: [false, false],
     };
-    let pages = PageVector::new(rt.alloc(), &[text])?;
+    let pages = PageVector::new(alloc, &[text])?;
     assert!(rt; pages.len() == 1);
     let mut place = TokenPlace::new(1, Some(Token::recovered(1, 4, pages)));
     place.count_record();
     place.touch(0);
     assert!(rt; place.segment() == 1);
-    let token = place.leave(false, false, 8, 8)?;
+    Ok(place.leave(false, false, 8, 8)?)
+}
+
+// The token behind a write of its one page under number 5.
+fn written(rt: &impl Abort, token: Token) -> Result<Token, TokenFault>
+    requires { token.segment ≡ 1 }
+    ensures { IfOk result (λ token. token.segment ≡ 1) }
+{
     assert!(rt; token.pages().len() == 1);
     let mut place = TokenPlace::new(1, Some(token));
     place.written(0, 5);
     assert!(rt; place.segment() == 1);
-    let token = place.leave(false, false, 8, 8)?;
+    place.leave(false, false, 8, 8)
+}
+
+// Whether the token arrives where the records up to 5 are applied.
+fn arrives(alloc: Global, token: Token) -> bool
+    requires { token.segment ≡ 1 }
+{
+    let mut other = TokenPlace::new(1, None);
+    other.arrive(token, &HoldBack::new(alloc, 1, 5)).is_ok()
+}
+
+#[test]
+fn a_token_is_written_leaves_and_arrives(rt: HostRuntime) -> Result<(), Fail> {
+    let token = written(&rt, recorded(&rt, rt.alloc())?)?;
     assert!(rt; token.seq() == 5);
     assert!(rt; token.clean() == 5);
-    let mut other = TokenPlace::new(1, None);
-    assert!(rt;
-        other
-            .arrive(token, &HoldBack::new(rt.alloc(), 1, 5))
-            .is_ok()
-    );
+    assert!(rt; arrives(rt.alloc(), token));
     Ok(())
 }
