@@ -43,32 +43,27 @@ fn receive(hold_back: &mut HoldBack, alloc: Global, seq: u64) -> Result<Received
     }
 }
 
-static OUT_OF_ORDER: [(u64, &str, Received); 4] = [
-    (3, "3 is held back", Received::HeldBack),
-    (1, "1 is applied", Received::Applied(1)),
-    (1, "1 is ignored", Received::Ignored),
-    (2, "3 are applied", Received::Applied(3)),
-];
-
-// Receives these, and takes the parts.
-fn out_of_order(rt: &impl Abort, alloc: Global, hold_back: &mut HoldBack) -> Result<(), Fail>
-    requires { hold_back.old.segment ≡ 1 }
-{
-    for (seq, row, answer) in &OUT_OF_ORDER {
-        holds(rt, row, receive(hold_back, alloc, *seq)? == *answer);
-    }
-    for seq in 1..4 {
-        let part = hold_back.next().ok_or("it was applied")?;
-        equal(rt, &format_args!("part {seq}"), &part.seq, &seq);
-    }
-    assert!(rt; !hold_back.has_due());
-    Ok(())
-}
-
 #[test]
 fn records_out_of_order_are_applied_in_order(rt: HostRuntime) -> Result<(), Fail> {
     let mut hold_back = HoldBack::new(rt.alloc(), 1, 0);
-    out_of_order(&rt, rt.alloc(), &mut hold_back)
+    for (seq, row, answer) in [
+        (3, "3 is held back", Received::HeldBack),
+        (1, "1 is applied", Received::Applied(1)),
+        (1, "1 is ignored", Received::Ignored),
+        (2, "3 are applied", Received::Applied(3)),
+    ] {
+        holds(
+            &rt,
+            &row,
+            receive(&mut hold_back, rt.alloc(), seq)? == answer,
+        );
+    }
+    for seq in 1..4 {
+        let part = hold_back.next().ok_or("it was applied")?;
+        equal(&rt, &format_args!("part {seq}"), &part.seq, &seq);
+    }
+    assert!(rt; !hold_back.has_due());
+    Ok(())
 }
 
 #[test]

@@ -86,6 +86,7 @@ fn a_log_is_reset_where_all_is_clean(rt: HostRuntime) -> Result<(), Fail> {
         );
         see(&rt, rt.alloc(), &mut known, *segment, *clean)?;
     }
+    equal(&rt, &"at the end", &may_reset(&LOG, &known), &Ok(()));
     Ok(())
 }
 
