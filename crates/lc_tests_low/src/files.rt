@@ -48,42 +48,48 @@ fn count(failed: [bool; 4]) -> u64 {
     count
 }
 
+// What fails of a write, a sync, a read and a write.
+fn four_calls<D: Area>(area: &mut D) -> [bool; 4]
+    requires { 8 ≤ length (D.now area.old) }
+{
+    [
+        area.write_at(0, &[7]).is_err(),
+        area.sync().is_err(),
+        area.read(0, &mut [9; 8]).is_err(),
+        area.write_at(0, &[8]).is_err(),
+    ]
+}
+
+// Behind a write or a sync that failed no call is made, and each is a fault; behind a read that failed they go on.
+const OF_FOUR: [(u32, [bool; 4]); 4] = [
+    (1, [true, true, true, true]),
+    (2, [false, true, true, true]),
+    (3, [false, false, true, false]),
+    (4, [false, false, false, true]),
+];
+
 #[test]
 fn each_failing_call_is_counted(rt: HostRuntime) -> Result<(), Fail> {
-    // Behind a write or a sync that failed no call is made, and each is a fault; behind a read that failed they go on.
-    for (failing, want) in [
-        (1, [true, true, true, true]),
-        (2, [false, true, true, true]),
-        (3, [false, false, true, false]),
-        (4, [false, false, false, true]),
-    ] {
-        let mut area = eight_bytes(rt.alloc(), Manner::Fails(failing))?;
+    for (failing, want) in &OF_FOUR {
+        let mut area = eight_bytes(rt.alloc(), Manner::Fails(*failing))?;
         let len = area.len();
         assert!(rt; len == 8, "call {failing}: {len}, where 8 is wanted");
-        let failed = [
-            area.write_at(0, &[7]).is_err(),
-            area.sync().is_err(),
-            area.read(0, &mut [9; 8]).is_err(),
-            area.write_at(0, &[8]).is_err(),
-        ];
+        let failed = four_calls(&mut area);
         equal(
             &rt,
-            &failing,
+            failing,
             &(failed, area.faults()),
-            &(want, count(failed)),
+            &(*want, count(failed)),
         );
     }
     Ok(())
 }
 
-// What fails of these in turn where the call of this number does: two syncs, a write of nothing, a sync, a write, two syncs.
-// None where the file has not its eight bytes.
-fn failed_syncs(alloc: Global, failing: u32) -> Result<Option<[bool; 7]>, OpenFault> {
-    let mut area = eight_bytes(alloc, Manner::Fails(failing))?;
-    if area.len() != 8 {
-        return Ok(None);
-    }
-    Ok(Some([
+// What fails of these in turn: two syncs, a write of nothing, a sync, a write, two syncs.
+fn seven_calls<D: Area>(area: &mut D) -> [bool; 7]
+    requires { 1 ≤ length (D.now area.old) }
+{
+    [
         area.sync().is_err(),
         area.sync().is_err(),
         area.write_at(0, &[]).is_err(),
@@ -91,23 +97,35 @@ fn failed_syncs(alloc: Global, failing: u32) -> Result<Option<[bool; 7]>, OpenFa
         area.write_at(0, &[7]).is_err(),
         area.sync().is_err(),
         area.sync().is_err(),
-    ]))
+    ]
 }
+
+// What fails of the seven calls where the call of this number does.
+// None where the file has not its eight bytes.
+fn failed_syncs(alloc: Global, failing: u32) -> Result<Option<[bool; 7]>, OpenFault> {
+    let mut area = eight_bytes(alloc, Manner::Fails(failing))?;
+    if area.len() != 8 {
+        return Ok(None);
+    }
+    Ok(Some(seven_calls(&mut area)))
+}
+
+// Of the seven three are calls: the first sync, for what stood in the file, the write, and the sync behind it.
+const OF_SEVEN: [(u32, [bool; 7]); 4] = [
+    (1, [true, true, true, true, true, true, true]),
+    (2, [false, false, false, false, true, true, true]),
+    (3, [false, false, false, false, false, true, true]),
+    (4, [false, false, false, false, false, false, false]),
+];
 
 #[test]
 fn a_sync_of_nothing_makes_no_call(rt: HostRuntime) -> Result<(), Fail> {
-    // Of the seven three are calls: the first sync, for what stood in the file, the write, and the sync behind it.
-    for (failing, want) in [
-        (1, [true, true, true, true, true, true, true]),
-        (2, [false, false, false, false, true, true, true]),
-        (3, [false, false, false, false, false, true, true]),
-        (4, [false, false, false, false, false, false, false]),
-    ] {
+    for (failing, want) in &OF_SEVEN {
         equal(
             &rt,
-            &failing,
-            &failed_syncs(rt.alloc(), failing)?,
-            &Some(want),
+            failing,
+            &failed_syncs(rt.alloc(), *failing)?,
+            &Some(*want),
         );
     }
     Ok(())

@@ -199,15 +199,22 @@ static OF_A_FLUSH: [(u8, Choice, usize); 11] = [
     (4, Choice::Byte(0), 0),
 ];
 
+// What is left of a flush of which this call fails.
+fn left_by_flush(alloc: Global, call: u8, choice: Choice) -> Result<(u64, usize), Fail> {
+    match flushed(alloc, call)? {
+        Ok(_) => Err(Fail::from("it fails")),
+        Err(failed) => Ok(left(alloc, failed.area, choice)?),
+    }
+}
+
 #[test]
 fn a_flush_is_four_calls(rt: HostRuntime) -> Result<(), Fail> {
     let alloc = rt.alloc();
     for (row, (call, choice, count)) in OF_A_FLUSH.iter().enumerate() {
-        let failed = flushed(alloc, *call)?.err().ok_or("it fails")?;
         equal(
             &rt,
             &format_args!("row {row}, call {call}"),
-            &left(alloc, failed.area, *choice)?,
+            &left_by_flush(alloc, *call, *choice)?,
             &(1, *count),
         );
     }

@@ -1,5 +1,6 @@
 //! Pages: what a stop leaves of a write.
 ghost use Rattle.std.specs.Prelude.{◌≡◌, ◌+◌, ◌*◌, ◌≤◌, length, IfOk};
+ghost use Rattle.lc_disk.specs.MemArea.{memory_now};
 
 use crate::expect::{equal, equal_texts};
 use lc_disk::{Area, Choice, Fuse, MemArea, Stoppable, When};
@@ -53,12 +54,20 @@ fn tenth(alloc: Global, bytes: &[u8; AREA_BYTES]) -> Result<PageWrite<Begun>, Fa
     Ok(PageWrite::begin(&pages, 1, &[0xaa; 256], 10)?)
 }
 
+// What a stop leaves behind so many calls of a write of number 10 over these pages.
+fn left(alloc: Global, bytes: &[u8; AREA_BYTES], calls: u8, choice: Choice) -> Result<MemArea, Fail>
+    ensures { IfOk result (λ area. length (memory_now area) ≡ 1088) }
+{
+    let write = tenth(alloc, bytes)?;
+    let mut area = MemArea::from_bytes(alloc, bytes)?;
+    begin_writing(&mut area, write, calls)?;
+    area.stop(&[choice]);
+    Ok(area)
+}
+
 // The number, the slot and the first byte of the second page after a stop behind so many calls of a write of number 10.
 fn stopped(alloc: Global, calls: u8, choice: Choice) -> Result<(u64, Option<Slot>, u8), Fail> {
-    let bytes = two_pages();
-    let mut area = MemArea::from_bytes(alloc, &bytes)?;
-    begin_writing(&mut area, tenth(alloc, &bytes)?, calls)?;
-    area.stop(&[choice]);
+    let area = left(alloc, &two_pages(), calls, choice)?;
     let bytes = area.bytes();
     let text = read_page(bytes, 1);
     Ok((text.seq, text.slot, page_bytes(bytes, 1)[0]))
@@ -133,14 +142,25 @@ fn a_write_is_six_calls(rt: HostRuntime) -> Result<(), Fail> {
     Ok(())
 }
 
+static NO_PAGES: [u8; AREA_BYTES] = [0; AREA_BYTES];
+
+// The first of these bytes that is 238, and how many are.
+fn chosen(bytes: &[u8]) -> (Option<usize>, usize) {
+    let mut first = None;
+    let mut count = 0usize;
+    for (i, byte) in bytes.iter().enumerate() {
+        if *byte == 0xee {
+            first = first.or(Some(i));
+            count = count.wrapping_add(1);
+        }
+    }
+    (first, count)
+}
+
 // The first position that is dirty behind so many calls, and how many are, in an area of zeros.
 fn dirty(alloc: Global, calls: u8) -> Result<(Option<usize>, usize), Fail> {
-    let mut area = MemArea::new(alloc, AREA_BYTES)?;
-    begin_writing(&mut area, tenth(alloc, &[0; AREA_BYTES])?, calls)?;
-    area.stop(&[Choice::Byte(0xee)]);
-    let bytes = area.bytes();
-    let first = bytes.iter().position(|byte| *byte == 0xee);
-    Ok((first, bytes.iter().filter(|byte| **byte == 0xee).count()))
+    let area = left(alloc, &NO_PAGES, calls, Choice::Byte(0xee))?;
+    Ok(chosen(area.bytes()))
 }
 
 #[test]
@@ -151,32 +171,68 @@ fn the_third_call_makes_the_slot_behind_its_gate_dirty(rt: HostRuntime) -> Resul
     Ok(())
 }
 
+fn second_page(bytes: &[u8; AREA_BYTES]) -> PageText {
+    read_page(bytes, 1)
+}
+
+// Two pages, of which the number in the second slot of the second has another last byte.
+fn broken_second() -> [u8; AREA_BYTES] {
+    let mut bytes = two_pages();
+    bytes[823] = 1;
+    bytes
+}
+
+// These pages, and the number in the first slot of the second is beyond all numbers but one.
+fn broken_first(first: u8) -> [u8; AREA_BYTES] {
+    let mut bytes = broken_second();
+    bytes[559] = 0x10;
+    bytes[552] = first;
+    bytes
+}
+
 #[test]
 fn a_slot_is_open_only_whole(rt: HostRuntime) {
-    let mut bytes = two_pages();
-    assert!(rt; read_page(&bytes, 1).slot == Some(Slot::Second));
-    bytes[823] = 1;
-    assert!(rt; read_page(&bytes, 1).slot == Some(Slot::First));
-    assert!(rt; read_page(&bytes, 1).gates == [true, true]);
-    bytes[559] = 0x10;
-    assert!(rt; read_page(&bytes, 1).slot.is_none());
-    bytes[552] = 0;
-    assert!(rt; read_page(&bytes, 1).seq == 1 << 60);
+    assert!(rt; second_page(&two_pages()).slot == Some(Slot::Second));
+    let page = second_page(&broken_second());
+    assert!(rt; page.slot == Some(Slot::First));
+    equal(&rt, &"the gates", &page.gates, &[true, true]);
+    assert!(rt; second_page(&broken_first(7)).slot.is_none());
+    let number = second_page(&broken_first(0)).seq;
+    equal(&rt, &"the largest number", &number, &(1 << 60));
+}
+
+// The number under which the second page was touched, whether it is dirty, and whether the first is.
+fn dirt_of(pages: &PageVector) -> (u64, bool, bool)
+    requires { 2 ≤ length pages.now }
+{
+    (pages.touched(1), pages.dirty(1), pages.dirty(0))
+}
+
+// The fault of a write of number 1 over the second page.
+fn fault_of_a_write(pages: &PageVector) -> Option<PageFault>
+    requires { 2 ≤ length pages.now }
+{
+    PageWrite::begin(pages, 1, &[1; 256], 1).err()
 }
 
 #[test]
 fn a_page_is_counted_touched_and_settled(rt: HostRuntime) -> Result<(), Fail> {
-    let text = read_page(&[0; AREA_BYTES], 0);
+    let text = read_page(&NO_PAGES, 0);
     let mut pages = PageVector::new(rt.alloc(), &[text, text])?;
     assert!(rt; pages.len() == 2);
     pages.hold(1);
-    let held = PageWrite::begin(&pages, 1, &[1; 256], 1).err();
-    assert!(rt; held == Some(PageFault::Uncommitted) && pages.uncommitted(1) == 1);
+    assert!(rt; fault_of_a_write(&pages) == Some(PageFault::Uncommitted));
+    equal(&rt, &"uncommitted", &pages.uncommitted(1), &1);
     pages.release(1);
     pages.touch(1, 9);
-    assert!(rt; pages.touched(1) == 9 && pages.dirty(1) && !pages.dirty(0));
+    equal(&rt, &"touched", &dirt_of(&pages), &(9, true, false));
     pages.settle(1, 9);
-    assert!(rt; !pages.dirty(1) && pages.stable(1) == 9);
+    equal(
+        &rt,
+        &"settled",
+        &(pages.dirty(1), pages.stable(1)),
+        &(false, 9),
+    );
     let settled = PageText {
         seq: 9,
         slot: Some(Slot::First),

@@ -1,5 +1,5 @@
 //! Records: words and what they say.
-use crate::expect::{equal, equal_lists, holds};
+use crate::expect::{equal, equal_lists, equal_texts, holds};
 use lc_record::{
     Geometry, Items, Lock, Part, RangeData, Record, RecordFault, View, check, decode, encode, gate,
     length, lock_count, node, range_count, version,
@@ -288,33 +288,39 @@ fn is_none(rt: &impl Abort, words: &[u64], place: usize, changed: u64) {
     );
 }
 
+// A place in the record of hello, and what makes it no record there.
+static NOT_HELLO: [(usize, u64); 6] = [
+    // The gate, the version, the length, what fills the data up, and the last word.
+    (0, 0x8_0001_0100),
+    (0, 0x8_0001_017f),
+    (0, 0x8_0001_02a5),
+    (0, 0x9_0001_01a5),
+    (6, 0x16f_6c6c_6568),
+    (7, 7),
+];
+
+// The same of the record of letters.
+static NOT_LETTERS: [(usize, u64); 7] = [
+    // No node 8, and the locks not ascending.
+    (1, 0x2_0008),
+    (4, 1),
+    // A range that touches the one before it, and one before it.
+    (9, 0x8_0000_0001),
+    (6, 0x20_0000_0001),
+    // A range of a segment with no lock, and a lock of a segment with no range.
+    (12, 0x64_0000_0002),
+    (12, 0x64_0000_0001),
+    // A range that leaves its segment.
+    (12, 0x3ff8_0000_0003),
+];
+
 #[test]
 fn other_words_are_no_record(rt: HostRuntime) {
-    for (place, changed) in [
-        // The gate, the version, the length, what fills the data up, and the last word.
-        (0, 0x8_0001_0100),
-        (0, 0x8_0001_017f),
-        (0, 0x8_0001_02a5),
-        (0, 0x9_0001_01a5),
-        (6, 0x16f_6c6c_6568),
-        (7, 7),
-    ] {
-        is_none(&rt, &HELLO, place, changed);
+    for (place, changed) in &NOT_HELLO {
+        is_none(&rt, &HELLO, *place, *changed);
     }
-    for (place, changed) in [
-        // No node 8, and the locks not ascending.
-        (1, 0x2_0008),
-        (4, 1),
-        // A range that touches the one before it, and one before it.
-        (9, 0x8_0000_0001),
-        (6, 0x20_0000_0001),
-        // A range of a segment with no lock, and a lock of a segment with no range.
-        (12, 0x64_0000_0002),
-        (12, 0x64_0000_0001),
-        // A range that leaves its segment.
-        (12, 0x3ff8_0000_0003),
-    ] {
-        is_none(&rt, &LETTERS, place, changed);
+    for (place, changed) in &NOT_LETTERS {
+        is_none(&rt, &LETTERS, *place, *changed);
     }
     // A range of the first version that ends behind 16384.
     is_none(&rt, &NEAR, 4, 0x3ff9_0000_0001);
@@ -391,14 +397,16 @@ fn long_words(alloc: Global, len: usize) -> Result<usize, RecordFault> {
     Ok(encode(alloc, &record)?.len())
 }
 
+const TOO_LONG_TEXT: &str = "the record has 4097 words, which is too long";
+
 const TOO_LONG: RecordFault = RecordFault::TooLong { words: 4097 };
 
 #[test]
 fn the_longest_record_has_4096_words(rt: HostRuntime) -> Result<(), Fail> {
-    assert!(rt; long_words(rt.alloc(), 16296) == Ok(4096));
-    assert!(rt; long_words(rt.alloc(), 16297) == Err(TOO_LONG));
+    equal(&rt, &16296, &long_words(rt.alloc(), 16296), &Ok(4096));
+    equal(&rt, &16297, &long_words(rt.alloc(), 16297), &Err(TOO_LONG));
     let text = TOO_LONG.to_string(rt.alloc())?;
-    assert!(rt; text.as_str() == "the record has 4097 words, which is too long");
+    equal_texts(&rt, &"its text", &text, TOO_LONG_TEXT);
     Ok(())
 }
 
@@ -537,6 +545,12 @@ fn a_record_is_put_on_bytes(rt: HostRuntime) -> Result<(), Fail> {
     Ok(())
 }
 
+// The part of the record of letters that is of this segment.
+fn part_of(alloc: Global, segment: u32) -> Result<Option<Part>, Fail> {
+    let letters = View::at(&LETTERS, 0).ok_or("a record begins here")?;
+    Ok(letters.part(alloc, segment)?)
+}
+
 // Whether this is the part of the record of letters that is of segment 1.
 fn is_first_part(part: &Part) -> bool {
     let [first, second] = part.ranges.as_slice() else {
@@ -550,14 +564,20 @@ fn is_first_part(part: &Part) -> bool {
         && second.bytes.as_slice() == b"i".as_slice()
 }
 
+fn has_first_part(alloc: Global) -> Result<bool, Fail> {
+    let part = part_of(alloc, 1)?.ok_or("it has this lock")?;
+    Ok(is_first_part(&part))
+}
+
+fn has_last_part(alloc: Global) -> Result<bool, Fail> {
+    let part = part_of(alloc, 3)?.ok_or("it has this lock")?;
+    Ok(part.seq == 1 && part.ranges.as_slice().len() == 1)
+}
+
 #[test]
 fn a_part_is_read_in_place(rt: HostRuntime) -> Result<(), Fail> {
-    let alloc = rt.alloc();
-    let letters = View::at(&LETTERS, 0).ok_or("a record begins here")?;
-    let first = letters.part(alloc, 1)?.ok_or("it has this lock")?;
-    assert!(rt; is_first_part(&first));
-    let last = letters.part(alloc, 3)?.ok_or("it has this lock")?;
-    assert!(rt; last.seq == 1 && last.ranges.as_slice().len() == 1);
-    assert!(rt; letters.part(alloc, 2)?.is_none());
+    assert!(rt; has_first_part(rt.alloc())?);
+    assert!(rt; has_last_part(rt.alloc())?);
+    assert!(rt; part_of(rt.alloc(), 2)?.is_none());
     Ok(())
 }

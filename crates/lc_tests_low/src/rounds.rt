@@ -14,6 +14,7 @@ use lc_log::NodeLog;
 use lc_record::Group;
 use lc_stage::{CommitSeat, FlushSeat, Receipt, Stage, StageFault};
 use std::alloc::{AllocError, Global};
+use std::process::Abort;
 use std::test::Fail;
 use std::thread::{join, map_vec, yield_now};
 
@@ -193,6 +194,32 @@ fn next_round(stage: &Stage, flusher: &mut FlushSeat, clears_first: bool) -> Res
     Ok(())
 }
 
+// Flushes one round, and opens the next.
+fn flush_round<D: Area + Drop>(
+    stage: &Stage,
+    flusher: &mut FlushSeat,
+    seat: &mut CommitSeat,
+    group: &mut Group,
+    log: NodeLog<D>,
+    round: u32,
+    taken: &mut Vec<Taken>,
+) -> Option<NodeLog<D>>
+    requires own { IsFlusherOf stage.now flusher.old × IsSeatOf stage.now seat.old × (stage.now.room ≤ group.old.room) }
+    requires log { HoldsTaken D.Area log.area log.end (flush_view flusher.old).taken × (8 * stage.now.room + 8 ≤ length (D.now log.area)) }
+    requires uncleared { IsUncleared (flush_view flusher.old) }
+    ensures own { IsFlusherOf stage.now flusher.new × IsSeatOf stage.now seat.new × (group.new.room ≡ group.old.room) }
+    ensures log { IfSome result (λ l. HoldsTaken D.Area l.area l.end (flush_view flusher.new).taken × (8 * stage.now.room + 8 ≤ length (D.now l.area))) }
+    ensures uncleared { OnSome result (IsUncleared (flush_view flusher.new)) }
+{
+    let (sealed, end) = gather_and_seal(stage, flusher, seat, group, log, round, taken)?;
+    let whole = gather_rest(stage, flusher, group, sealed, round, taken, end)?;
+    let log = emptied(whole)?;
+    match next_round(stage, flusher, round % 2 == 0) {
+        Ok(()) => Some(log),
+        Err(_) => None,
+    }
+}
+
 // Flushes round after round until 48 records were taken.
 fn flush_rounds<D: Area + Drop>(
     alloc: Global,
@@ -212,7 +239,7 @@ fn flush_rounds<D: Area + Drop>(
         if taken.len() >= RECORDS {
             return Some(taken);
         }
-        let (sealed, end) = gather_and_seal(
+        log = flush_round(
             stage,
             &mut flusher,
             &mut seat,
@@ -221,17 +248,6 @@ fn flush_rounds<D: Area + Drop>(
             round,
             &mut taken,
         )?;
-        let whole = gather_rest(
-            stage,
-            &mut flusher,
-            &mut group,
-            sealed,
-            round,
-            &mut taken,
-            end,
-        )?;
-        log = emptied(whole)?;
-        next_round(stage, &mut flusher, round % 2 == 0).ok()?;
     }
     None
 }
@@ -315,6 +331,38 @@ fn is_true(taken: &[Taken], number: usize, receipt: &Receipt) -> bool {
     times == 1
 }
 
+// Each of the records is stable, and was taken where its receipt says.
+fn are_told(rt: &impl Abort, taken: &[Taken], told: &[Option<[Receipt; 3]>]) -> Result<(), Fail> {
+    for (id, receipts) in told.iter().enumerate() {
+        let Some(receipts) = receipts else {
+            return Err(Fail::from("all records are stable"));
+        };
+        for (place, receipt) in receipts.iter().enumerate() {
+            let number = id.wrapping_mul(3).wrapping_add(place).wrapping_add(1);
+            holds(
+                rt,
+                &format_args!("record {number}, taken where its receipt says"),
+                is_true(taken, number, receipt),
+            );
+        }
+    }
+    Ok(())
+}
+
+// All records were taken, over some rounds, and each as its receipt says.
+fn are_all_taken(
+    rt: &impl Abort,
+    taken: Option<Vec<Taken>>,
+    told: Result<Vec<Option<[Receipt; 3]>>, AllocError>,
+) -> Result<(), Fail> {
+    let taken = taken.ok_or("all records are taken")?;
+    assert!(rt; taken.len() == RECORDS);
+    are_told(rt, &taken, &told?)?;
+    let last = taken.last().ok_or("there is a record")?;
+    assert!(rt; last.round >= 4);
+    Ok(())
+}
+
 #[test]
 fn sixteen_threads_over_rounds(rt: HostRuntime) -> Result<(), Fail> {
     let (stage, flusher, mut first) = Stage::new(rt.alloc(), 64)?;
@@ -339,22 +387,5 @@ fn sixteen_threads_over_rounds(rt: HostRuntime) -> Result<(), Fail> {
             )
         },
     );
-    let taken = taken.ok_or("all records are taken")?;
-    assert!(rt; taken.len() == RECORDS);
-    for (id, receipts) in told?.iter().enumerate() {
-        let Some(receipts) = receipts else {
-            return Err(Fail::from("all records are stable"));
-        };
-        for (place, receipt) in receipts.iter().enumerate() {
-            let number = id.wrapping_mul(3).wrapping_add(place).wrapping_add(1);
-            holds(
-                &rt,
-                &format_args!("record {number}, taken where its receipt says"),
-                is_true(&taken, number, receipt),
-            );
-        }
-    }
-    let last = taken.last().ok_or("there is a record")?;
-    assert!(rt; last.round >= 4);
-    Ok(())
+    are_all_taken(&rt, taken, told)
 }

@@ -252,26 +252,31 @@ fn a_round_is_cleared_and_the_next_opened(rt: HostRuntime) -> Result<(), Fail> {
     Ok(())
 }
 
+// Reserves the first 8 words of the second round.
+fn next_eight(stage: &Stage, seat: &mut CommitSeat) -> bool
+    requires own { IsSeatOf stage.now seat.old }
+    requires idle { IsIdle (commit_view seat.old) }
+    ensures own { IsSeatOf stage.now seat.new }
+    ensures fresh { result ≡ true → IsFresh 8 (commit_view seat.new) }
+{
+    let at = stage.tail(seat);
+    match stage.reserve(seat, at, 8) {
+        Ok(place) => at == 65536 && place == 0,
+        Err(_) => false,
+    }
+}
+
 #[test]
 fn a_round_is_opened_before_the_ended_one_is_clear(rt: HostRuntime) -> Result<(), Fail> {
-    let (stage, mut flusher, mut first) = Stage::new(rt.alloc(), 64)?;
     let mut group = Group::new(rt.alloc(), 64)?;
     let log = begun(MemArea::new(rt.alloc(), 520)?);
+    let (stage, mut flusher, mut first) = Stage::new(rt.alloc(), 64)?;
     let mut second = stage.split(&mut first);
     let mut third = stage.split(&mut first);
     assert!(rt; nineteen(&stage, &mut first, &mut second));
     assert!(rt; end_nineteen(&stage, &mut flusher, &mut third, &mut group, log));
-    let Ok(()) = stage.reopen(&mut flusher) else {
-        assert!(rt; false);
-        return Ok(());
-    };
-    let at = stage.tail(&mut third);
-    assert!(rt; at == 65536);
-    let Ok(place) = stage.reserve(&mut third, at, 8) else {
-        assert!(rt; false);
-        return Ok(());
-    };
-    assert!(rt; place == 0);
+    assert!(rt; stage.reopen(&mut flusher).is_ok());
+    assert!(rt; next_eight(&stage, &mut third));
     close_eight(&stage, &mut third, 3);
     stage.clear(&mut flusher);
     assert!(rt; stage.take(&mut flusher, &mut group) == 8);

@@ -6,6 +6,7 @@ use lc_page::{PageText, PageVector};
 use lc_record::{Items, Lock, RangeData, Record};
 use lc_token::{HoldBack, Received, Token, TokenFault, TokenPlace};
 use std::alloc::{AllocError, Global};
+use std::process::Abort;
 use std::test::Fail;
 
 // A record with this number in segment 1, and one byte there.
@@ -109,32 +110,49 @@ fn faults_have_texts(rt: HostRuntime) -> Result<(), Fail> {
     Ok(())
 }
 
-#[test]
-fn a_token_is_written_leaves_and_arrives(rt: HostRuntime) -> Result<(), Fail> {
+// The token of segment 1 behind a record, which changed its one page.
+fn recorded(rt: &impl Abort, alloc: Global) -> Result<Token, Fail>
+    ensures { IfOk result (λ token. token.segment ≡ 1) }
+{
     let text = PageText {
         seq: 2,
         slot: None,
         gates: [false, false],
     };
-    let pages = PageVector::new(rt.alloc(), &[text])?;
+    let pages = PageVector::new(alloc, &[text])?;
     assert!(rt; pages.len() == 1);
     let mut place = TokenPlace::new(1, Some(Token::recovered(1, 4, pages)));
     place.count_record();
     place.touch(0);
     assert!(rt; place.segment() == 1);
-    let token = place.leave(false, false, 8, 8)?;
+    Ok(place.leave(false, false, 8, 8)?)
+}
+
+// The token behind a write of its one page under number 5.
+fn written(rt: &impl Abort, token: Token) -> Result<Token, TokenFault>
+    requires { token.segment ≡ 1 }
+    ensures { IfOk result (λ token. token.segment ≡ 1) }
+{
     assert!(rt; token.pages().len() == 1);
     let mut place = TokenPlace::new(1, Some(token));
     place.written(0, 5);
     assert!(rt; place.segment() == 1);
-    let token = place.leave(false, false, 8, 8)?;
+    place.leave(false, false, 8, 8)
+}
+
+// Whether the token arrives where the records up to 5 are applied.
+fn arrives(alloc: Global, token: Token) -> bool
+    requires { token.segment ≡ 1 }
+{
+    let mut other = TokenPlace::new(1, None);
+    other.arrive(token, &HoldBack::new(alloc, 1, 5)).is_ok()
+}
+
+#[test]
+fn a_token_is_written_leaves_and_arrives(rt: HostRuntime) -> Result<(), Fail> {
+    let token = written(&rt, recorded(&rt, rt.alloc())?)?;
     assert!(rt; token.seq() == 5);
     assert!(rt; token.clean() == 5);
-    let mut other = TokenPlace::new(1, None);
-    assert!(rt;
-        other
-            .arrive(token, &HoldBack::new(rt.alloc(), 1, 5))
-            .is_ok()
-    );
+    assert!(rt; arrives(rt.alloc(), token));
     Ok(())
 }

@@ -3,7 +3,7 @@ ghost use Rattle.std.specs.Prelude.{IfOk};
 ghost use Rattle.lc_tx.specs.Tx.{RunsOn};
 ghost use Rattle.lc_tx.specs.OneSegment.{the_images};
 
-use crate::expect::equal_texts;
+use crate::expect::{equal, equal_lists, equal_texts};
 use lc_record::Items;
 use lc_tx::{Image, OneSegment, Prepared, Tx, TxFault};
 use std::alloc::{AllocError, Global};
@@ -49,17 +49,51 @@ fn record_of(
 
 const LONGEST: u32 = 262_144;
 
+// The longest segment, of sevens.
+fn longest(alloc: Global) -> Result<OneSegment, AllocError> {
+    segment_of(alloc, &vec![in alloc; 7; LONGEST as usize]?)
+}
+
+// Whether the longest record says what was set.
+fn records_longest(alloc: Global, segment: &mut OneSegment, tx: &mut Tx) -> Result<bool, TxFault>
+    requires { RunsOn the_images segment.old tx.old }
+    ensures { RunsOn the_images segment.new tx.new }
+{
+    let words = record_of(alloc, segment, tx, &[(0, 32_704)])?;
+    Ok(is_longest(words.as_slice()))
+}
+
+// Whether all bytes are read, which are sevens.
+fn reads_longest(alloc: Global, segment: &mut OneSegment, tx: &Tx) -> Result<bool, TxFault>
+    requires { RunsOn the_images segment.old tx.now }
+    ensures { RunsOn the_images segment.new tx.now }
+{
+    let read = tx.read(alloc, segment, 1, 0, LONGEST)?;
+    Ok(are_sevens(read.as_slice()))
+}
+
+// Both of these.
+fn both_longest(
+    alloc: Global,
+    segment: &mut OneSegment,
+    tx: &mut Tx,
+) -> Result<(bool, bool), TxFault>
+    requires { RunsOn the_images segment.old tx.old }
+    ensures { RunsOn the_images segment.new tx.new }
+{
+    let record = records_longest(alloc, segment, tx)?;
+    Ok((record, reads_longest(alloc, segment, tx)?))
+}
+
 // The longest segment, of which one record of 4,096 words says what was set.
 #[test]
 fn the_longest_record_and_the_longest_read(rt: HostRuntime) -> Result<(), Fail> {
     let alloc = rt.alloc();
-    let mut segment = segment_of(alloc, &vec![in alloc; 7; LONGEST as usize]?)?;
+    let mut segment = longest(alloc)?;
     let mut tx = Tx::begin(alloc, &mut segment, 0, &[1], &[])?;
-    let words = record_of(alloc, &mut segment, &mut tx, &[(0, 32_704)])?;
-    assert!(rt; is_longest(words.as_slice()));
-    let read = tx.read(alloc, &mut segment, 1, 0, LONGEST)?;
-    assert!(rt; are_sevens(read.as_slice()));
+    let both = both_longest(alloc, &mut segment, &mut tx);
     tx.release(&mut segment);
+    equal(&rt, &"record and read", &both?, &(true, true));
     Ok(())
 }
 
@@ -172,14 +206,21 @@ fn words_of_nine(alloc: Global, segment: &mut OneSegment) -> Result<usize, TxFau
     Ok(words?.as_slice().len())
 }
 
+static ZEROS: [u8; 64] = [0; 64];
+
+// A segment of 64 zeros, once more where there is no memory.
+fn zeros_again(alloc: Global) -> Result<OneSegment, AllocError> {
+    match segment_of(alloc, &ZEROS) {
+        Err(_) => segment_of(alloc, &ZEROS),
+        made => made,
+    }
+}
+
 // Where memory is refused nothing has changed, and the next attempt succeeds.
 #[test]
 fn refused_memory_changes_nothing(rt: HostRuntime) -> Result<(), Fail> {
-    let mut segment = match segment_of(rt.alloc(), &[0; 64]) {
-        Ok(segment) => segment,
-        Err(_) => segment_of(rt.alloc(), &[0; 64])?,
-    };
+    let mut segment = zeros_again(rt.alloc())?;
     assert!(rt; words_of_nine(rt.alloc(), &mut segment)? == 4 + 9 * 3 + 1);
-    assert!(rt; segment.image.bytes() == [0; 64].as_slice());
+    equal_lists(&rt, &"the bytes", segment.image.bytes(), &ZEROS);
     Ok(())
 }

@@ -1,9 +1,9 @@
 //! Truncation: which logs may be reset, and which pages are dirty.
-ghost use Rattle.std.specs.Prelude.{◌≡◌, ◌≤◌, IfOk, length};
+ghost use Rattle.std.specs.Prelude.{◌≡◌, IfOk, length};
 
-use crate::expect::equal;
+use crate::expect::{equal, equal_lists};
 use lc_page::{PageText, PageVector};
-use lc_token::{Token, TokenPlace};
+use lc_token::{Token, TokenFault, TokenPlace};
 use lc_trunc::{KnownClean, Unclean, dirty_pages, may_reset};
 use std::alloc::{AllocError, Global};
 use std::process::Abort;
@@ -51,28 +51,42 @@ fn token_of(alloc: Global, segment: u32, clean: u64) -> Result<Token, AllocError
     Ok(Token::recovered(segment, clean, pages))
 }
 
+// Up to what a segment is known next, and whether the log may be reset before.
+static BEFORE: [(u32, u64, Result<(), Unclean>); 5] = [
+    (1, 3, Err(Unclean { segment: 1, seq: 3 })),
+    (2, 6, Err(Unclean { segment: 1, seq: 5 })),
+    (1, 5, Err(Unclean { segment: 1, seq: 5 })),
+    // A token seen later may have been clean earlier.
+    (1, 4, Err(Unclean { segment: 2, seq: 7 })),
+    (2, 8, Err(Unclean { segment: 2, seq: 7 })),
+];
+
+// Makes the segment known up to this number.
+fn see(
+    rt: &impl Abort,
+    alloc: Global,
+    known: &mut KnownClean,
+    segment: u32,
+    clean: u64,
+) -> Result<(), AllocError> {
+    assert!(rt; 1 <= segment && segment <= 16, "segment {segment}");
+    known.see(&token_of(alloc, segment, clean)?);
+    Ok(())
+}
+
 #[test]
 fn a_log_is_reset_where_all_is_clean(rt: HostRuntime) -> Result<(), Fail> {
     let mut known = KnownClean::new();
-    let mut answer = Err(Unclean { segment: 1, seq: 3 });
-    for (segment, clean, next) in [
-        (1, 3, Err(Unclean { segment: 1, seq: 5 })),
-        (2, 6, Err(Unclean { segment: 1, seq: 5 })),
-        (1, 5, Err(Unclean { segment: 2, seq: 7 })),
-        // A token seen later may have been clean earlier.
-        (1, 4, Err(Unclean { segment: 2, seq: 7 })),
-        (2, 8, Ok(())),
-    ] {
+    for (segment, clean, answer) in &BEFORE {
         equal(
             &rt,
             &format_args!("before {segment} is known up to {clean}"),
             &may_reset(&LOG, &known),
-            &answer,
+            answer,
         );
-        assert!(rt; 1 <= segment && segment <= 16, "segment {segment}");
-        known.see(&token_of(rt.alloc(), segment, clean)?);
-        answer = next;
+        see(&rt, rt.alloc(), &mut known, *segment, *clean)?;
     }
+    equal(&rt, &"at the end", &may_reset(&LOG, &known), &Ok(()));
     Ok(())
 }
 
@@ -86,7 +100,7 @@ fn behind_the_last_record_there_is_no_lock(rt: HostRuntime) {
 }
 
 // The token behind a change of a page under its number.
-fn touched(rt: &impl Abort, token: Token, page: u32) -> Result<Token, Fail> {
+fn touched(rt: &impl Abort, token: Token, page: u32) -> Result<Token, TokenFault> {
     let segment = token.segment();
     assert!(rt;
         segment == 1,
@@ -96,11 +110,11 @@ fn touched(rt: &impl Abort, token: Token, page: u32) -> Result<Token, Fail> {
     assert!(rt; (page as usize) < pages, "page {page} of {pages}");
     let mut place = TokenPlace::new(1, Some(token));
     place.touch(page);
-    Ok(place.leave(false, false, 4, 4)?)
+    place.leave(false, false, 4, 4)
 }
 
 // The token behind one record more.
-fn counted(rt: &impl Abort, token: Token) -> Result<Token, Fail> {
+fn counted(rt: &impl Abort, token: Token) -> Result<Token, TokenFault> {
     let segment = token.segment();
     let seq = token.seq();
     assert!(rt;
@@ -110,21 +124,31 @@ fn counted(rt: &impl Abort, token: Token) -> Result<Token, Fail> {
     assert!(rt; seq < 10, "{seq}, where less than 10 is wanted");
     let mut place = TokenPlace::new(1, Some(token));
     place.count_record();
-    Ok(place.leave(false, false, 4, 4)?)
+    place.leave(false, false, 4, 4)
 }
+
+// The token of segment 1, of which one page was changed under each of its numbers 2, 3 and 4.
+fn changed(rt: &impl Abort, alloc: Global) -> Result<Token, Fail> {
+    // A page that was changed under the number that is on the disk is clean.
+    let token = touched(rt, token_of(alloc, 1, 2)?, 1)?;
+    let token = touched(rt, counted(rt, token)?, 0)?;
+    Ok(touched(rt, counted(rt, token)?, 2)?)
+}
+
+// Its dirty pages, once more where there was no memory.
+fn dirty_again(alloc: Global, token: &Token) -> Result<Vec<u32>, AllocError> {
+    match dirty_pages(alloc, token) {
+        Err(_) => dirty_pages(alloc, token),
+        pages => pages,
+    }
+}
+
+static DIRTY: [u32; 2] = [0, 2];
 
 #[test]
 fn pages_that_were_changed_are_dirty(rt: HostRuntime) -> Result<(), Fail> {
-    let alloc = rt.alloc();
-    // A page that was changed under the number that is on the disk is clean.
-    let token = touched(&rt, token_of(alloc, 1, 2)?, 1)?;
-    let token = touched(&rt, counted(&rt, token)?, 0)?;
-    let token = touched(&rt, counted(&rt, token)?, 2)?;
-    let dirty = match dirty_pages(alloc, &token) {
-        Ok(pages) => pages,
-        // Once more where there was no memory.
-        Err(_) => dirty_pages(alloc, &token)?,
-    };
-    assert!(rt; dirty.as_slice() == [0, 2].as_slice());
+    let token = changed(&rt, rt.alloc())?;
+    let dirty = dirty_again(rt.alloc(), &token)?;
+    equal_lists(&rt, &"the dirty pages", &dirty, &DIRTY);
     Ok(())
 }
