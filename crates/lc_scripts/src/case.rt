@@ -27,7 +27,7 @@ impl<'a> Case<'a> {
         let geometry = geometry(&mut words)?;
         let failure = match words.next() {
             None => None,
-            Some("fails") => Some(failure(&mut words)?),
+            Some("fails") => Some(failing(&mut words)?),
             Some(_) => return None,
         };
         Some(Case {
@@ -40,7 +40,7 @@ impl<'a> Case<'a> {
 }
 
 // The failure of the words that are left.
-fn failure(words: &mut SplitAsciiWhitespace<'_>) -> Option<Failure> {
+fn failing(words: &mut SplitAsciiWhitespace<'_>) -> Option<Failure> {
     let area = number(words)?;
     let call = number(words)?;
     Some(Failure { area, call })

@@ -265,10 +265,11 @@ fn check_misfit(
 lcrvm: store: --as-found takes nodes 2 segments 2 pages 1 words 64\n",
         ..STEP
     };
-    check(rt, &format_args!("run {row}"), alloc, shelf, &run)?;
+    let running = format!(in alloc; "run {row}")?;
+    check(rt, &running, alloc, shelf, &run)?;
+    let recovering = format!(in alloc; "recovery {row}")?;
     let ask = Ask::Recover(misfit.size);
-    let row = format_args!("recovery {row}");
-    check(rt, &row, alloc, shelf, &Step { ask, ..run })
+    check(rt, &recovering, alloc, shelf, &Step { ask, ..run })
 }
 
 // Behind a mark, too.

@@ -90,13 +90,7 @@ static ROWS: [Row; 12] = [
 
 fn check_row(rt: &impl Abort, number: usize, alloc: Global, row: &Row) -> Result<(), Fail> {
     let shelf = Shelf::new(alloc);
-    check(
-        rt,
-        &format_args!("{number}, the making"),
-        alloc,
-        &shelf,
-        &STEP,
-    )?;
+    check(rt, &number, alloc, &shelf, &STEP)?;
     shelf.put_text(LOCKS, row.locks)?;
     for path in row.running {
         shelf.put(path)?;

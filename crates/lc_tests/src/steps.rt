@@ -329,7 +329,7 @@ pub(crate) fn check_all(
     steps: &[Step],
 ) -> Result<(), Fail> {
     for (place, step) in steps.iter().enumerate() {
-        check(rt, &format_args!("step {place}"), alloc, shelf, step)?;
+        check(rt, &place, alloc, shelf, step)?;
     }
     Ok(())
 }
