@@ -31,9 +31,9 @@ pub(crate) fn printed(
 // The areas of a new store, one of which may fail.
 fn areas_of(alloc: Global, case: Case<'_>) -> Result<Vec<Fuse>, AllocError> {
     let mut areas = Vec::new(alloc);
-    let mut zeros = zero_areas(alloc, &case.geometry)?;
-    for place in 0..zeros.len() {
-        areas.push(Fuse::new(zeros.remove(0), when(case.failure, place)))?;
+    for area in zero_areas(alloc, &case.geometry)? {
+        let when = when(case.failure, areas.len());
+        areas.push(Fuse::new(area, when))?;
     }
     Ok(areas)
 }
