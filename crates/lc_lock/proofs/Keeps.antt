@@ -207,7 +207,7 @@ module _ {T K : Type 0} (fits : K → T → Type 0) (key : K) where
                   (λ (z : (i ≢ id) × (get_elem? s.views i ≡ some u)). let now : (n ≡ f) × (n < d) = subst (Stands d f) held (r.knows i u z.1).1 in others i u z.0 z.1 (holds_with u.turn f (held ∙ ap (λ (m : ℕ). Holds m) now.0)))
                   (at_set s.views id i w u e),
             )),
-        (refl, refl),
+        (refl, refl, ap (λ (z : ℕ). z % 4294967296) (found s r) ∙ (served_half d f ∙ ap (λ (z : ℕ). z % 4294967296) (sym (ap ticket_of holds ∙ same)))),
       )
 
   pub opens : (words : List ℕ) → words ≡ word_of 1 0 ∷ [] → IsQueue fits key (opening words (replicate 1 None) (first_place key))

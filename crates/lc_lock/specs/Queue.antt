@@ -93,9 +93,9 @@ module _ {T K : Type 0} where
   abbrev pub took : (K → T → Type 0) → Step (Option T) → Seated T K → ℕ → Seated T K → Type 0
   took fits st m n m' = (n % 2 ^ 32 ≡ ticket_of m.0.turn % 2 ^ 32 → Takes fits m m') × (n % 2 ^ 32 ≢ ticket_of m.0.turn % 2 ^ 32 → m' ≡ m)
 
-  -- it has given the slot back, and its ticket
+  -- it has given the slot back, and its ticket, which was the one that is served
   abbrev pub gave : Step (Option T) → Seated T K → ℕ → Seated T K → Type 0
-  gave st m n m' = (m'.0.turn ≡ Idle) × (m'.1 ≡ rest m.1)
+  gave st m n m' = (m'.0.turn ≡ Idle) × (m'.1 ≡ rest m.1) × (n % 2 ^ 32 ≡ ticket_of m.0.turn % 2 ^ 32)
 
   -- a seat under this key waits with a ticket of these low 32 bits
   abbrev pub IsWaiting : K → ℕ → Seated T K → Type 0

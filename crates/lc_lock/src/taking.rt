@@ -5,7 +5,7 @@ ghost use Rattle.lc_lock.specs.Queue.{IsWaiting, IsServed, holding, ticket_of};
 ghost use Rattle.lc_lock.specs.Loans.{key_of, IsLoanOf};
 
 use crate::plays::{Come, Draw, Serve, Take};
-use crate::tickets::{DRAWN, is_full, next_in, served_in, to_next};
+use crate::tickets::{DRAWN, has_waiters, is_full, next_in, out_in, served_in, to_next};
 use crate::turn::{QueueSeat, SLOT, WORD};
 use crate::{Keyed, Loan, Lock};
 use std::sync::Wait;
@@ -38,7 +38,7 @@ impl<T: Keyed<K>, K> Lock<T, K> {
     {
         let Loan { mut seat, ticket } = loan;
         let found = self.give_back(&mut seat, ticket, value);
-        if next_in(found) != ticket.wrapping_add(1) {
+        if has_waiters(found, ticket) {
             self.table.shared.wake_all(WORD);
         }
     }
@@ -46,8 +46,7 @@ impl<T: Keyed<K>, K> Lock<T, K> {
     /// How many tickets are out at the moment of one load: that of the holder, and those of all who wait. It is a number to
     /// look at: nothing is said of it, since others draw and serve meanwhile.
     pub fn tickets_out(&self) -> u32 {
-        let word = self.table.shared.peek(WORD);
-        next_in(word).wrapping_sub(served_in(word))
+        out_in(self.table.shared.peek(WORD))
     }
 
     // A new seat with the next ticket. A plain addition could not be refused where all tickets are out, so it exchanges.
@@ -101,13 +100,15 @@ impl<T: Keyed<K>, K> Lock<T, K> {
         unreachable!()
     }
 
-    // Puts the value into the slot, which is empty, and serves the next ticket. It answers the word as it was before.
+    // Puts the value into the slot, which is empty, and serves the next ticket. It answers the word as it was before, in which
+    // this ticket is the one that is served.
     fn give_back(&self, seat: &mut QueueSeat<T, K>, ticket: u32, value: T) -> u64
         requires own { seat.old.table_id ≡ self.now.table.shared.table_id }
         requires holds { seat.old ≡ holding seat.old }
         requires ticket { ticket ≡ ticket_of seat.old.me.0.turn % 2 ^ 32 }
         requires fits { T.fits (key_of self.now) value }
-        ensures { (seat.new.me.0.turn ≡ Idle) × (seat.new.me.1 ≡ []) }
+        ensures idle { (seat.new.me.0.turn ≡ Idle) × (seat.new.me.1 ≡ []) }
+        ensures found { result % 2 ^ 32 ≡ ticket }
     {
         let shared = &self.table.shared;
         let before = shared.exchange(seat, SLOT, Some(value));

@@ -1,6 +1,6 @@
 //! The word of a lock: in its high half the next ticket to be drawn, in its low half the one that is served.
 //! Each half wraps by itself.
-ghost use Rattle.std.specs.Prelude.{◌≡◌, ℕ, ◌+◌, ◌*◌, ◌/◌, ◌%◌, ◌^◌, ◌<◌, ◌↔◌, IsTrue};
+ghost use Rattle.std.specs.Prelude.{◌≡◌, ◌≢◌, ℕ, ◌+◌, ◌-◌, ◌*◌, ◌/◌, ◌%◌, ◌^◌, ◌<◌, ◌↔◌, IsTrue};
 
 // One drawn ticket more.
 pub(crate) const DRAWN: u64 = 1 << 32;
@@ -27,6 +27,21 @@ pub(crate) fn is_full(word: u64) -> bool
     ensures { IsTrue result ↔ ((word / 2 ^ 32 + 1) % 2 ^ 32 ≡ word % 2 ^ 32) }
 {
     next_in(word).wrapping_add(1) == served_in(word)
+}
+
+// How many tickets are out.
+pub(crate) fn out_in(word: u64) -> u32
+    ensures { result ≡ (word / 2 ^ 32 + 2 ^ 32 - word % 2 ^ 32) % 2 ^ 32 }
+{
+    next_in(word).wrapping_sub(served_in(word))
+}
+
+// Whether somebody waits behind the holder of a ticket, by the word as the holder found it: the next ticket to be drawn is
+// then not the one behind the holder's.
+pub(crate) fn has_waiters(found: u64, ticket: u32) -> bool
+    ensures { IsTrue result ↔ (found / 2 ^ 32 ≢ (ticket + 1) % 2 ^ 32) }
+{
+    next_in(found) != ticket.wrapping_add(1)
 }
 
 // What serves the next ticket where it is added to the word, which wraps at 2^64.

@@ -102,24 +102,19 @@ pub(crate) fn settle<D: Area + Drop>(
     }
 }
 
-// Reserves 8 and 11 words, and closes the 11 first.
+// Reserves 8 words and 11 behind them, as `moved_on` does, and closes both, the 11 first.
 fn nineteen(stage: &Stage, first: &mut CommitSeat, second: &mut CommitSeat) -> bool
     requires own { IsSeatOf stage.now first.old × IsSeatOf stage.now second.old }
     requires idle { IsIdle (commit_view first.old) × IsIdle (commit_view second.old) }
     ensures own { IsSeatOf stage.now first.new × IsSeatOf stage.now second.new }
     ensures idle { result ≡ true → IsIdle (commit_view first.new) × IsIdle (commit_view second.new) }
 {
-    let at = stage.tail(first);
-    let Ok(low) = stage.reserve(first, at, 8) else {
+    if !moved_on(stage, first, second) {
         return false;
-    };
-    let at = stage.tail(second);
-    let Ok(high) = stage.reserve(second, at, 11) else {
-        return false;
-    };
+    }
     close_eleven(stage, second, 2);
     close_eight(stage, first, 1);
-    low == 0 && high == 8
+    stage.tail(first) == 19
 }
 
 // Seals the tail at this offset.
@@ -209,6 +204,64 @@ fn is_for(receipt: &Receipt, place: u32) -> bool {
     receipt.round() == 0 && receipt.place() == place && receipt.words() == 8
 }
 
+// Reserves 8 words, and 8 behind them.
+fn eight_each(stage: &Stage, first: &mut CommitSeat, second: &mut CommitSeat) -> bool
+    requires own { IsSeatOf stage.now first.old × IsSeatOf stage.now second.old }
+    requires idle { IsIdle (commit_view first.old) × IsIdle (commit_view second.old) }
+    ensures own { IsSeatOf stage.now first.new × IsSeatOf stage.now second.new }
+    ensures fresh { result ≡ true → IsFresh 8 (commit_view first.new) × IsFresh 8 (commit_view second.new) }
+{
+    let at = stage.tail(first);
+    let Ok(place) = stage.reserve(first, at, 8) else {
+        return false;
+    };
+    let at = stage.tail(second);
+    let Ok(behind) = stage.reserve(second, at, 8) else {
+        return false;
+    };
+    place == 0 && behind == 8
+}
+
+// Whether the group has two records of 8 words, under the numbers 1 and 2.
+fn has_eights(group: &Group) -> bool {
+    let has_first = low_byte(group, 0) == 0xa5 && low_byte(group, 3) == 1;
+    let has_second = low_byte(group, 8) == 0xa5 && low_byte(group, 11) == 2;
+    group.len() == 16 && has_first && has_second
+}
+
+// Whether each seat has the receipt of its 8 words, those of the second behind those of the first.
+fn are_durable(stage: &Stage, first: &mut CommitSeat, second: &mut CommitSeat) -> bool
+    requires { IsSeatOf stage.now first.old × IsSeatOf stage.now second.old }
+{
+    let Some(early) = stage.durable(first) else {
+        return false;
+    };
+    let Some(late) = stage.durable(second) else {
+        return false;
+    };
+    is_for(&early, 0) && is_for(&late, 8)
+}
+
+#[test]
+fn what_is_closed_behind_an_open_record_waits_for_it(rt: HostRuntime) -> Result<(), Fail> {
+    let (stage, mut flusher, mut first) = Stage::new(rt.alloc(), 64)?;
+    let mut group = Group::new(rt.alloc(), 64)?;
+    let log = begun(MemArea::new(rt.alloc(), 520)?);
+    let mut second = stage.split(&mut first);
+    assert!(rt; eight_each(&stage, &mut first, &mut second));
+    close_eight(&stage, &mut second, 2);
+    assert!(rt; stage.take(&mut flusher, &mut group) == 0 && group.is_empty());
+    assert!(rt; stage.durable(&mut second).is_none());
+    close_eight(&stage, &mut first, 1);
+    let Some(log) = settle(&stage, &mut flusher, &mut group, log) else {
+        assert!(rt; false);
+        return Ok(());
+    };
+    assert!(rt; log.end == 16 && has_eights(&group));
+    assert!(rt; are_durable(&stage, &mut first, &mut second));
+    Ok(())
+}
+
 // Ends a round of 19 words, which are stable then.
 fn end_nineteen<D: Area + Drop>(
     stage: &Stage,
@@ -243,11 +296,32 @@ fn a_round_is_cleared_and_the_next_opened(rt: HostRuntime) -> Result<(), Fail> {
     let mut third = stage.split(&mut first);
     assert!(rt; nineteen(&stage, &mut first, &mut second));
     assert!(rt; end_nineteen(&stage, &mut flusher, &mut third, &mut group, log));
+    assert!(rt; has_both(&group));
     let sealed = stage.tail(&mut third);
     assert!(rt; sealed == 32787);
     assert!(rt; stage.reserve(&mut third, sealed, 8) == Err(StageFault::Sealed));
     stage.clear(&mut flusher);
     assert!(rt; stage.reopen(&mut flusher).is_ok());
+    assert!(rt; stage.tail(&mut third) == 65536);
+    Ok(())
+}
+
+#[test]
+fn the_tail_stays_where_the_ended_round_is_cleared(rt: HostRuntime) -> Result<(), Fail> {
+    let (stage, mut flusher, mut first) = Stage::new(rt.alloc(), 64)?;
+    let mut group = Group::new(rt.alloc(), 64)?;
+    let log = begun(MemArea::new(rt.alloc(), 520)?);
+    let mut second = stage.split(&mut first);
+    let mut third = stage.split(&mut first);
+    assert!(rt; nineteen(&stage, &mut first, &mut second));
+    assert!(rt; end_nineteen(&stage, &mut flusher, &mut third, &mut group, log));
+    assert!(rt; has_both(&group));
+    let sealed = stage.tail(&mut third);
+    assert!(rt; sealed == 32787);
+    assert!(rt; stage.reserve(&mut third, sealed, 8) == Err(StageFault::Sealed));
+    assert!(rt; stage.reopen(&mut flusher).is_ok());
+    assert!(rt; stage.tail(&mut third) == 65536);
+    stage.clear(&mut flusher);
     assert!(rt; stage.tail(&mut third) == 65536);
     Ok(())
 }

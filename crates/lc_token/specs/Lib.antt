@@ -1,5 +1,8 @@
 pub mod Fault
 pub mod Backlog
+pub mod Queue
+pub mod Queueing
+pub mod Keeping
 pub mod HoldBack
 pub mod Token
 pub mod Standing

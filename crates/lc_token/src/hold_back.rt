@@ -1,14 +1,15 @@
 //! What a peer has of a segment's records that are not handed out yet.
-ghost use Rattle.std.specs.Prelude.{◌≡◌, ◌+◌, ◌<◌, ◌≤◌, ◌^◌, ◌↔◌, [], ◌∷◌, ◌++◌, false, true, length, IfOk, IfErr, IsSome, IsTrue, OnOk, OnErr};
+ghost use Rattle.std.specs.Prelude.{◌≡◌, ◌+◌, ◌⊎◌, ◌<◌, ◌≤◌, ◌^◌, ◌↔◌, [], ◌∷◌, ◌++◌, false, true, length, IfOk, IfErr, IsSome, IsTrue, OnOk, OnErr};
 ghost use Rattle.std.specs.Option.{ForSome};
 ghost use Rattle.lc_record.specs.Part.{part_of};
+ghost use Rattle.lc_record.specs.Record.{Writes};
 ghost use Rattle.lc_token.specs.Backlog.{Ascends, HandsOut, HandsOutKept, IsNext, PassesOn, Receives, advanced, counted, due_behind, forgetting, fresh, is_known, keeping};
 
+use crate::due::Due;
 use crate::kept::Kept;
 use crate::{Received, TokenFault};
 use lc_record::{Part, Record};
 use std::alloc::{AllocError, Global};
-use std::collections::VecDeque;
 use std::marker::Model;
 
 /// What a peer has of a segment's records: it may get them in any order, again, or late, and applies their parts in the
@@ -18,7 +19,7 @@ use std::marker::Model;
 pub struct HoldBack {
     segment: u32,
     applied: u64,
-    due: VecDeque<Part>,
+    due: Due,
     kept: Kept,
 }
 
@@ -42,7 +43,7 @@ impl HoldBack {
         HoldBack {
             segment,
             applied,
-            due: VecDeque::new(alloc),
+            due: Due::new(alloc),
             kept: Kept::new(alloc),
         }
     }
@@ -109,6 +110,10 @@ impl HoldBack {
         ensures segment { self.new.segment ≡ self.old.segment }
         ensures no_memory { IfErr result (λ fault. fault ≡ TokenFault.NoMemory) }
         ensures err { OnErr result (self.new ≡ self.old) }
+
+        // Memory is asked for only for a part that is not known: for a copy of its ranges, or for its place beside another part.
+        ensures unknown { OnErr result (ForSome (part_of self.old.segment «record».now) (λ part. is_known self.old part.seq ≡ false)) }
+        ensures memory { OnErr result (Writes self.old.segment «record».now.ranges ⊎ (0 < length self.old.due + length self.old.kept)) }
     {
         let seq = Part::number_in(record, self.segment).unwrap();
         if self.knows(seq) {
@@ -128,7 +133,7 @@ impl HoldBack {
         ensures handed { HandsOut self.old result self.new }
         ensures segment { self.new.segment ≡ self.old.segment }
     {
-        self.due.pop_front()
+        self.due.pop()
     }
 
     /// How many parts are kept.
@@ -139,12 +144,13 @@ impl HoldBack {
         self.kept.len()
     }
 
-    /// Keeps a part that is not known, until the numbers before it have come. Fails for want of memory alone, and then
-    /// changes nothing.
+    /// Keeps a part that is not known, until the numbers before it have come. Fails for want of memory alone, which it takes
+    /// only where a part is kept already, and then changes nothing.
     pub fn keep(&mut self, part: Part) -> Result<(), AllocError>
         requires { is_known self.old part.seq ≡ false }
         ensures kept { OnOk result (self.new ≡ keeping self.old part) }
         ensures err { OnErr result (self.new ≡ self.old) }
+        ensures memory { OnErr result (0 < length self.old.kept) }
     {
         self.kept.put(part)
     }
@@ -191,17 +197,19 @@ impl HoldBack {
         Received::Applied(seq)
     }
 
-    // Applies a part with the next number, and the kept ones that follow on. All room is made first.
+    // Applies a part with the next number, and the kept ones that follow on. All room is made first. It takes memory only where
+    // another part is due or kept.
     fn apply(&mut self, part: Part) -> Result<u64, AllocError>
         requires next { part.seq ≡ self.old.applied + 1 }
         requires unknown { is_known self.old part.seq ≡ false }
         ensures advanced { OnOk result (self.new ≡ advanced self.old (due_behind self.old.applied (part ∷ self.old.kept))) }
         ensures number { IfOk result (λ number. number ≡ self.new.applied) }
         ensures err { OnErr result (self.new ≡ self.old) }
+        ensures memory { OnErr result (0 < length self.old.due + length self.old.kept) }
     {
         self.due.reserve(1 + self.kept.len())?;
         let seq = part.seq;
-        self.due.push_back_reserved(part);
+        self.due.push_reserved(part);
         self.applied = self.kept.move_next(seq, &mut self.due);
         Ok(self.applied)
     }

@@ -1,6 +1,7 @@
 //! Tokens of segments: each part of a record is applied in the order of its numbers, once.
 #![tactic(auto)]
 
+mod due;
 mod fault;
 mod hold_back;
 mod kept;

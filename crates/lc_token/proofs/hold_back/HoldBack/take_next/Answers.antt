@@ -7,7 +7,7 @@ use Rattle.lc_token.proofs.hold_back.HoldBack.take_next.Goals as goal
 
 pub returns-in_err-part-clause-handed : goal.returns-in_err-part-clause-handed
 returns-in_err-part-clause-handed c =
-    let old : Backlog = record { segment = c.self.inside.segment; applied = c.self.inside.applied; due = c.self.inside.due.items; kept = c.self.inside.kept } in
+    let old : Backlog = record { segment = c.self.inside.segment; applied = c.self.inside.applied; due = c.self.inside.due.parts; kept = c.self.inside.kept } in
     let same : old ≡ c.args.self.now = c.self.view_is in
     let taken : c.take_next.result ≡ None = search rules in
     let none : c.from_residual.result ≡ None = search rules in
