@@ -27,7 +27,7 @@ pub fn into_world<D: Area + Drop, R: Wait>(
     seats: Vec<Vec<CommitSeat>>,
 ) -> Result<World<D>, NodeFault>
     requires own { AreOwnSeats cluster seats.items }
-    ensures adopted { IfOk result (λ world. IsLeftBy D.Area seats.items world) }
+    ensures adopted { IfOk result (λ world. IsLeftBy D.Area cluster.geometry seats.items world) }
     ensures which { IfErr result (StopsCluster D.Area cluster.geometry) }
 {
     let parts = cluster.into_parts(rt, alloc, seats)?;

@@ -99,7 +99,7 @@ module _ {D : Type 0} (a : Ghosts D) (parts : Parts D a) (h : Read) (segments : 
 
   -- The bytes of a segment
 
-  base_is : (k : ℕ) → k < h.geometry.segments → segment_of (k + 1) (stood_for h).base ≡ h.bytes (k + 1)
+  pub base_is : (k : ℕ) → k < h.geometry.segments → segment_of (k + 1) (stood_for h).base ≡ h.bytes (k + 1)
   base_is k known =
       let next : k + 1 ≡ suc k = omega arith in
       let place : 1 + k ≡ k + 1 = omega arith in

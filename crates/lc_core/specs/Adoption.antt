@@ -1,12 +1,12 @@
 -- What the store is that a cluster at rest becomes.
-use Rattle.std.specs.Prelude.{◌≡◌, ℕ, ◌+◌, ◌<◌, ◌≤◌, true, List, [], ◌++◌, length, All, Some, slice_get, if◌then◌else◌}
+use Rattle.std.specs.Prelude.{◌≡◌, ℕ, ◌+◌, ◌<◌, ◌≤◌, true, false, List, [], ◌++◌, drop, length, take, All, Some, slice_get, if◌then◌else◌}
 use Rattle.lc_disk.specs.declared.area.Area.{Ghosts}
 use Rattle.lc_record.specs.Content.{segment_of}
 use Rattle.lc_record.specs.declared.record.Record.{Record}
 use Rattle.lc_model.specs.History.{Entry, value}
 use Rattle.lc_model.specs.Refusals.{is_at}
 use Rattle.lc_model.specs.State.{Up, Setting, State}
-use Rattle.lc_model.specs.Stored.{stable_number}
+use Rattle.lc_model.specs.Stored.{records_of, stable_number}
 use Rattle.lc_tx.specs.declared.image.Image.{Image as Picture}
 use Rattle.lc_trunc.specs.KnownClean.{known as known_of}
 use Rattle.lc_rest.specs.Holder.{IsPlaced, node_of}
@@ -17,13 +17,15 @@ use Rattle.lc_rest.specs.declared.parts.Parts.{Parts}
 use Rattle.lc_rest.specs.declared.segment_part.SegmentPart.{SegmentPart}
 use Rattle.lc_core.specs.declared.world.World.{World}
 use Rattle.lc_rest.specs.Parts.{AreHonest, AreSpelled}
+use Rattle.lc_rest.specs.Replay.{AreBytes}
 
--- nothing is open, unclosed or under way
+-- nothing is open, unclosed or under way, and no node is halted
 pub record IsQuiet (s : State) : Type 0 where
   pub up : s.phase ≡ Up
   pub none_open : s.running ≡ []
   pub all_closed : All (λ (e : Entry). e.closed ≡ true) s.history
   pub no_flush : (node : ℕ) → (s.flush node).steps ≡ 0
+  pub none_halted : (node : ℕ) → s.halted node ≡ false
 
 module _ {D : Type 0} (a : Ghosts D) where
   -- the store fits a state with nothing open, which has what was handed over
@@ -34,8 +36,19 @@ module _ {D : Type 0} (a : Ghosts D) where
     pub geometry : setting.geometry ≡ parts.geometry
     pub fits : AreHonest a parts → FitsWorld a setting world state numbers
     pub quiet : IsQuiet state
-    -- the stable records are those of the logs, in their rounds, and all that were published are acknowledged
+    -- while the areas keep to the model of a disk the content at the start is what the pages of each read as
+    pub begins : AreHonest a parts → (k : ℕ) (part : SegmentPart D) → slice_get parts.segments.items k ≡ Some part → AreBytes (a.now part.area) parts.geometry.pages (segment_of (k + 1) setting.start)
+    -- no earlier recovery kept any, and the history is of these nodes: of each all its records, those of the rounds that have ended,
+    -- then those of its log, then those that are staged
+    pub none_earlier : state.earlier ≡ []
+    pub nodes : All (λ (e : Entry). e.transaction.node < parts.geometry.nodes) state.history
+    pub records : (n : ℕ) (part : NodePart D a) → slice_get parts.nodes.items n ≡ Some part → AreSpelled ((part.ended.items ++ part.stable.items) ++ part.staged.items) (records_of setting state numbers.disks n)
+    -- of these the first were dropped, the stable ones are those of the log, in its round, and the rest are not stable; all that were
+    -- published are acknowledged
+    pub dropped_acked : (n : ℕ) (part : NodePart D a) → slice_get parts.nodes.items n ≡ Some part → numbers.disks.dropped n ≤ state.ack n
+    pub ended : (n : ℕ) (part : NodePart D a) → slice_get parts.nodes.items n ≡ Some part → AreSpelled part.ended.items (take (numbers.disks.dropped n) (records_of setting state numbers.disks n))
     pub stable : (n : ℕ) (part : NodePart D a) → slice_get parts.nodes.items n ≡ Some part → AreSpelled part.stable.items (stable_records setting state numbers n)
+    pub staged : (n : ℕ) (part : NodePart D a) → slice_get parts.nodes.items n ≡ Some part → AreSpelled part.staged.items (drop (state.ack n) (records_of setting state numbers.disks n))
     pub acked : (n : ℕ) (part : NodePart D a) (published : List Record) → slice_get parts.nodes.items n ≡ Some part → AreSpelled (part.ended.items ++ part.stable.items) published → state.ack n ≡ length published
     -- what a node has applied is all where the token is, and elsewhere what is stable
     pub applied : (n k : ℕ) (part : SegmentPart D) → n < parts.geometry.nodes → slice_get parts.segments.items k ≡ Some part

@@ -1,3 +1,4 @@
+pub mod AdoptFault
 pub mod Holder
 pub mod Adopted
 pub mod Found

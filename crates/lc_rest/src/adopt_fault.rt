@@ -21,6 +21,21 @@ pub enum AdoptFault {
     DeviceFault,
 }
 
+impl AdoptFault {
+    ghost use Rattle.lc_rest.specs.AdoptFault.{number_of};
+
+    /// The fault's number.
+    pub fn code(&self) -> u8
+        ensures { result ≡ number_of self.now }
+    {
+        match self {
+            AdoptFault::Mismatch(_) => 1,
+            AdoptFault::NoMemory => 2,
+            AdoptFault::DeviceFault => 3,
+        }
+    }
+}
+
 impl From<AllocError> for AdoptFault {
     ghost from_gives = { λ _ fault. fault ≡ NoMemory };
 

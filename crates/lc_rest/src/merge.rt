@@ -50,6 +50,7 @@ fn count(numbers: &mut [u64], whole: &Record)
 fn find_turn(logs: &[Vec<Record>], done: &[usize], numbers: &[u64]) -> Option<usize>
     requires { length done.now ≡ length logs.now }
     ensures some { IfSome result (MayTurn (logs_of logs.now) done.now numbers.now) }
+    ensures least { IfSome result (λ node. (other : ℕ) → other < node → MayTurn (logs_of logs.now) done.now numbers.now other → ⊥) }
     ensures none { IfNone result ((node : ℕ) → MayTurn (logs_of logs.now) done.now numbers.now node → ⊥) }
 {
     for node in 0..logs.len() {

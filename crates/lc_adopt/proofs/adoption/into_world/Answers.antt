@@ -1,4 +1,4 @@
-use Rattle.std.proofs.Common.{inl, inr, sym, subst}
+use Rattle.std.proofs.Common.{inl, inr, sym, subst, arith}
 use Rattle.std.specs.Prelude.{IfErr}
 use Rattle.std.proofs.lemmas.Result.{err_from_is_err_and}
 use Rattle.lc_node.proofs.Refused.{handed_on}
@@ -20,3 +20,15 @@ returns-in_err-adopt-clause-which g c =
       kept = c.in_ok-parts.ensures.kept;
       stops = subst (StopsAdoption g.D.Area c.in_ok-parts.parts) (sym p.2) (of_adopted g.D.Area c.in_ok-parts.parts c.in_err-adopt.field-0.0 its.within its.mismatch its.device);
     }))
+
+pub returns-clause-adopted : goal.returns-clause-adopted
+returns-clause-adopted g c =
+    let cluster = c.args.cluster in
+    record {
+      parts = c.in_ok-parts.parts;
+      geometry = c.in_ok-parts.ensures.geometry;
+      kept = c.in_ok-parts.ensures.kept;
+      each = omega (arith, c.requires.own.count, cluster.members.ok.0, cluster.all_nodes);
+      adoption = c.in_ok-adopt.ensures.adopted;
+      received = c.in_ok-parts.ensures.received;
+    }
