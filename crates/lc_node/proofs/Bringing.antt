@@ -18,22 +18,22 @@ use Rattle.lc_tx.specs.Prepared.{final_record}
 use Rattle.lc_tx.specs.Tx.{Begins, RunsOn}
 use Rattle.lc_tx.proofs.RecordLemmas.{inside_from}
 use Rattle.lc_node.specs.Attempts.{Leaves}
-use Rattle.lc_node.specs.Ran.{AgreeOn, Brings, Ran, Tells, ranges_in}
+use Rattle.lc_node.specs.Ran.{AgreeOn, Brings, Ran, Runs, Tells, ranges_in}
 use Rattle.lc_node.proofs.Applied.{laid_is_left}
 use Rattle.lc_node.proofs.PartsOf.{lie_inside, none_set, part_is}
 
 module _ {I : Type 0} (m : Ghosts I) where
   -- a run of a work in a transaction that has begun
-  pub ran_begun : {tells : Tells} (segments : List ℕ) (answer : Result (Unit {0}) TxFault) (old mid new last : I) (t : Tx) → Begins m 0 segments [] old mid t
-      → tells t.locked.items (bytes_of m mid) answer (bytes_of m new) → AgreeOn segments (bytes_of m new) (bytes_of m last) → Ran tells segments (bytes_of m old) answer (bytes_of m last)
-  ran_begun {tells} segments answer old mid new last t b told left = record {
+  pub ran_begun : {tells : Tells} (segments : List ℕ) (answer : Result (Unit {0}) TxFault) (old mid new last : I) (t : Tx) (set : Runs) → Begins m 0 segments [] old mid t
+      → tells t.locked.items (bytes_of m mid) t.set answer (bytes_of m new) set → AgreeOn segments (bytes_of m new) (bytes_of m last) → Ran tells segments (bytes_of m old) answer (bytes_of m last) set
+  ran_begun {tells} segments answer old mid new last t set b told left = record {
     locked = t.locked.items;
     are_locked = b.locked_are;
     before = bytes_of m mid;
     after = bytes_of m new;
     was = λ s is. b.held.same_bytes s (in_front s t.locked.items t.reading.items (b.locked_are.same s ∙ is));
     left = left;
-    told = told;
+    told = subst (λ (runs : Runs). tells t.locked.items (bytes_of m mid) runs answer (bytes_of m new) set) b.nothing_set told;
   }
 
   -- the segments that are locked have the same bytes where all is the same, and where the locks are given back

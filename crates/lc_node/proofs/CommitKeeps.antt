@@ -1,5 +1,5 @@
 -- What a commit makes of held segments.
-use Rattle.std.proofs.Common.{◌≡◌, ℕ, ◌+◌, ◌≤◌, ◌^◌, ◌==◌, true, List, [], Some, None, length, map, refl, sym, ap, subst, ◌∙◌, arith, All, filter}
+use Rattle.std.proofs.Common.{◌≡◌, ℕ, ◌+◌, ◌≤◌, ◌^◌, ◌==◌, true, List, Some, None, length, map, refl, sym, ap, subst, ◌∙◌, arith, All, filter}
 use Rattle.std.specs.Prelude.{slice_get, slice_index, Option, IsSome, unwrap_or}
 use Rattle.std.proofs.lemmas.List.{ext_get_or, length-map}
 use Rattle.std.proofs.lemmas.Option.{slice_get_within, same_Some as some_same}
@@ -22,6 +22,7 @@ use Rattle.lc_node.specs.Commits.{StagesWork, IsAsBefore, HasPart, TakesPart, sh
 use Rattle.lc_node.specs.Each.{Each, EachThree}
 use Rattle.lc_node.specs.Held.{lent_side}
 use Rattle.lc_node.specs.Lent.{the_images}
+use Rattle.lc_node.specs.Ran.{Tells}
 use Rattle.lc_node.specs.SegView.{laid_parts}
 use Rattle.lc_node.specs.Sides.{IsOut, IsReady, IsBack, CanCount, IsCounted, HasRoomFor, IsNext, number_in as number_here}
 use Rattle.lc_node.specs.declared.held.HeldSide.{HeldSide}
@@ -137,7 +138,7 @@ module _ {D : Type 0} where
 
     -- The record was staged
 
-    module _ {node : ℕ} (parts : List (Option Part)) (new : Lent) (before after : View) (w : StagesWork node (segments sides) lent parts new before after) where
+    module _ {tells : Tells} {node : ℕ} (parts : List (Option Part)) (new : Lent) (before after : View) (w : StagesWork tells node (segments sides) lent parts new before after) where
       part_at : (k : ℕ) (h : HeldSide D) (p : Option Part) → slice_get sides k ≡ Some h → slice_get parts k ≡ Some p → p ≡ part_of h.side.segment w.whole
       part_at k h p h_at p_at =
           some_same p (part_of h.side.segment w.whole) (sym p_at ∙ (ap (λ (l : List (Option Part)). slice_get l k) w.parts_are ∙ got_map (λ (s : ℕ). part_of s w.whole) (segments sides) k h.side.segment (got_map (λ (x : HeldSide D). x.side.segment) sides k h h_at)))

@@ -1,7 +1,7 @@
 -- The ways of a commit: its images go out of sides with more room, and come back.
-use Rattle.std.proofs.Common.{◌≡◌, ◌∙◌, ℕ, ◌<◌, List, map, All, inr, sym, ap, subst}
-use Rattle.std.specs.Prelude.{Option, Result}
-use Rattle.lc_record.specs.Record.{Chain, IsRecord}
+use Rattle.std.proofs.Common.{◌≡◌, ◌∙◌, ℕ, ◌<◌, List, [], ◌∷◌, length, map, All, inr, sym, ap, subst, arith}
+use Rattle.std.specs.Prelude.{Option, Result, Ok}
+use Rattle.lc_record.specs.Record.{Chain}
 use Rattle.lc_record.specs.declared.part.Part.{Part}
 use Rattle.lc_record.specs.declared.record.Record.{Record}
 use Rattle.lc_stage.specs.declared.view.View.{View}
@@ -9,12 +9,11 @@ use Rattle.lc_tx.specs.declared.tx_fault.TxFault.{TxFault}
 use Rattle.lc_tx.specs.Images.{bytes_of}
 use Rattle.lc_tx.specs.Prepared.{AreSmall}
 use Rattle.lc_node.specs.Attempts.{IsUnbegun, IsUndone}
-use Rattle.lc_node.specs.Commits.{IsAsBefore, IsKept, IsKeptTidy, IsUnbegunOn, IsUncommitted, IsUnstaged, StagesWork, TakesOf, bytes_at}
+use Rattle.lc_node.specs.Commits.{CommitsWork, IsAsBefore, IsKept, IsKeptTidy, IsUnbegunOn, IsUncommitted, IsUnstaged, StagesWork, TakesOf, bytes_at}
 use Rattle.lc_node.specs.Each.{Each, EachThree}
 use Rattle.lc_node.specs.Held.{lent_side}
 use Rattle.lc_node.specs.Lent.{the_images}
-use Rattle.lc_node.specs.Ran.{AgreeOn, Ran, Tells}
-use Rattle.lc_node.specs.Stages.{Closes}
+use Rattle.lc_node.specs.Ran.{AgreeOn, Ran, Runs, Tells}
 use Rattle.lc_node.specs.Sides.{IsOut, IsReady, IsBack, CanCount, IsCounted, IsRoomier, HasFewParts, HasRoomFor}
 use Rattle.lc_node.specs.declared.held.HeldSide.{HeldSide}
 use Rattle.lc_node.specs.declared.lent.Lent.{Lent}
@@ -24,7 +23,12 @@ use Rattle.lc_node.proofs.CommitKeeps.{are_small, ready_undone, back_undone, can
 use Rattle.lc_node.proofs.Runs.{ran_as, unstaged_as}
 use Rattle.lc_node.proofs.SideBytes.{back_bytes, out_bytes, out_unbegun}
 use Rattle.lc_node.proofs.Slots.{AscendFrom, ascend_from, each_map, segments_in}
-use Rattle.lc_node.proofs.Standing.{kept_of_roomier, tidy_of_roomier, takes_of_roomier, segments_roomier}
+use Rattle.lc_node.proofs.Standing.{kept_of_roomier, tidy_of_roomier, takes_of_roomier, segments_roomier, segments_takes}
+
+-- held sides have segments
+pub some_segment : {D : Type 0} (sides : List (HeldSide D)) → 0 < length sides → map (λ (h : HeldSide D). h.side.segment) sides ≡ [] → ⊥
+some_segment [] some none = absurd (omega arith)
+some_segment (h ∷ hs) some none = absurd cc
 
 module _ {D : Type 0} (xs ys zs : List (HeldSide D)) (lent : Lent) (segments : List ℕ)
     (same : segments ≡ map (λ (h : HeldSide D). h.side.segment) xs) (up : Chain (λ a b. a < b) (map (λ (h : HeldSide D). h.side.segment) xs))
@@ -46,21 +50,21 @@ module _ {D : Type 0} (xs ys zs : List (HeldSide D)) (lent : Lent) (segments : L
   slots_are : map (λ (h : HeldSide D). h.side.segment) xs ≡ segments_in lent.slots.items
   slots_are = sym (segments_roomier xs ys more) ∙ sym (each_map IsOut (λ (h : HeldSide D). h.side.segment) (λ (s : LentSlot). s.segment) ys lent.slots.items out (λ h s is. is.segment))
 
-  pub ran_of : {tells : Tells} (answer : Result (Unit {0}) TxFault) (new : Lent) → the_images.IsSameBeside lent new → (cs last : List (HeldSide D)) → EachThree IsBack cs new.slots.items last
-      → map (λ (h : HeldSide D). h.side.segment) last ≡ map (λ (h : HeldSide D). h.side.segment) xs → Ran tells segments (bytes_of the_images lent) answer (bytes_of the_images new)
-      → Ran tells (map (λ (h : HeldSide D). h.side.segment) xs) (bytes_at xs) answer (bytes_at last)
-  ran_of {tells} answer new beside cs last back of ran =
+  pub ran_of : {tells : Tells} {set : Runs} (answer : Result (Unit {0}) TxFault) (new : Lent) → the_images.IsSameBeside lent new → (cs last : List (HeldSide D)) → EachThree IsBack cs new.slots.items last
+      → map (λ (h : HeldSide D). h.side.segment) last ≡ map (λ (h : HeldSide D). h.side.segment) xs → Ran tells segments (bytes_of the_images lent) answer (bytes_of the_images new) set
+      → Ran tells (map (λ (h : HeldSide D). h.side.segment) xs) (bytes_at xs) answer (bytes_at last) set
+  ran_of {tells} {set} answer new beside cs last back of ran =
       let up_last : AscendFrom 0 (map (λ (h : HeldSide D). h.side.segment) last) = subst (AscendFrom 0) (sym of) (ascend_from (map (λ (h : HeldSide D). h.side.segment) xs) up) in
       let new_agree : AgreeOn segments (bytes_of the_images new) (bytes_at last) = subst (λ (l : List ℕ). AgreeOn l (bytes_of the_images new) (bytes_at last)) (of ∙ sym same) (back_bytes cs last lent new beside back (of ∙ slots_are) up_last) in
-      subst (λ (l : List ℕ). Ran tells l (bytes_at xs) answer (bytes_at last)) same (ran_as tells segments answer (bytes_of the_images lent) (bytes_of the_images new) (bytes_at xs) (bytes_at last) old_agree new_agree ran)
+      subst (λ (l : List ℕ). Ran tells l (bytes_at xs) answer (bytes_at last) set) same (ran_as tells segments answer (bytes_of the_images lent) (bytes_of the_images new) (bytes_at xs) (bytes_at last) old_agree new_agree ran)
 
-  pub why_of : {tells : Tells} (room seen : ℕ) (fault : NodeFault) → IsUnstaged tells (IsUnbegun the_images lent segments) segments (bytes_of the_images lent) room seen fault
-      → IsUncommitted tells (IsUnbegunOn (map (λ (h : HeldSide D). h.side.segment) xs) xs) (map (λ (h : HeldSide D). h.side.segment) xs) (bytes_at xs) room seen fault
-  why_of {tells} room seen fault why =
+  pub why_of : {tells : Tells} (room tries seen : ℕ) (fault : NodeFault) → IsUnstaged tells (IsUnbegun the_images lent segments) segments (bytes_of the_images lent) room tries seen fault
+      → IsUncommitted tells (IsUnbegunOn (map (λ (h : HeldSide D). h.side.segment) xs) xs) (map (λ (h : HeldSide D). h.side.segment) xs) (bytes_at xs) room tries seen fault
+  why_of {tells} room tries seen fault why =
       let unbegun : (f : TxFault) → IsUnbegun the_images lent segments f → IsUnbegunOn segments xs f =
       λ f u. subst (λ (l : List ℕ). IsUnbegunOn l xs f) (sym again) (out_unbegun xs ys lent more out ascend f (subst (λ (l : List ℕ). IsUnbegun the_images lent l f) again u)) in
-      inr (subst (λ (l : List ℕ). IsUnstaged tells (IsUnbegunOn l xs) l (bytes_at xs) room seen fault) same
-      (unstaged_as tells (IsUnbegun the_images lent segments) (IsUnbegunOn segments xs) segments (bytes_of the_images lent) (bytes_at xs) room seen fault unbegun old_agree why))
+      inr (subst (λ (l : List ℕ). IsUnstaged tells (IsUnbegunOn l xs) l (bytes_at xs) room tries seen fault) same
+      (unstaged_as tells (IsUnbegun the_images lent segments) (IsUnbegunOn segments xs) segments (bytes_of the_images lent) (bytes_at xs) room tries seen fault unbegun old_agree why))
 
   -- The work was undone, or set nothing
 
@@ -82,9 +86,9 @@ module _ {D : Type 0} (xs ys zs : List (HeldSide D)) (lent : Lent) (segments : L
 
   -- The record was staged
 
-  module _ {node : ℕ} (parts : List (Option Part)) (new : Lent) (before after : View) (w : StagesWork node segments lent parts new before after) where
-    pub staged : StagesWork node (map (λ (h : HeldSide D). h.side.segment) ys) lent parts new before after
-    staged = subst (λ (l : List ℕ). StagesWork node l lent parts new before after) again w
+  module _ {tells : Tells} {node : ℕ} (parts : List (Option Part)) (new : Lent) (before after : View) (w : StagesWork tells node segments lent parts new before after) where
+    pub staged : StagesWork tells node (map (λ (h : HeldSide D). h.side.segment) ys) lent parts new before after
+    staged = subst (λ (l : List ℕ). StagesWork tells node l lent parts new before after) again w
 
     pub may_count : All HasRoomFor ys → Each CanCount zs parts
     may_count room = subst (λ (l : List (HeldSide D)). Each CanCount l parts) (sym gone) (can_count ys lent out ascend parts new before after staged room)
@@ -99,7 +103,18 @@ module _ {D : Type 0} (xs ys zs : List (HeldSide D)) (lent : Lent) (segments : L
       pub taken : All HasFewParts ys → (last : List (HeldSide D)) → EachThree IsBack counted new.slots.items last → Each (TakesOf staged.whole) xs last
       taken few last back = takes_of_roomier staged.whole xs ys last more few (takes_parts ys lent out ascend parts new before after staged counted these last back)
 
-      -- the record, its words, and what each side took of it
-      pub all_of_it : All HasFewParts ys → (last : List (HeldSide D)) → EachThree IsBack counted new.slots.items last
-          → (r : Record) × (words : List ℕ) × IsRecord r words × (r.node ≡ node) × Closes words before after × Each (TakesOf r) xs last
-      all_of_it few last back = (staged.whole, staged.words, staged.is_record, ap (λ (r : Record). r.node) staged.whole_is, staged.closes, taken few last back)
+      -- the record of the runs that were set, and what each side took of it
+      pub all_of_it : All HasFewParts ys → (last : List (HeldSide D)) → EachThree IsBack counted new.slots.items last → CommitsWork node tells xs last before after
+      all_of_it few last back =
+          let takes = taken few last back in record {
+            set = staged.tx.set;
+            ran = ran_of (Ok tt) new w.same.beside counted last back (segments_takes staged.whole xs last takes)
+                (subst (λ (l : List ℕ). Ran tells l (bytes_of the_images lent) (Ok tt) (bytes_of the_images new) staged.tx.set) (sym again) staged.ran);
+            whole = staged.whole;
+            words = staged.words;
+            is_record = staged.is_record;
+            named = ap (λ (r : Record). r.node) staged.whole_is;
+            of_runs = staged.of_runs;
+            closes = staged.closes;
+            takes = takes;
+          }

@@ -12,13 +12,14 @@ use Rattle.lc_node.specs.Receipts.{HasReceipt, Receives}
 use Rattle.lc_node.specs.Among.{AreInFront, IsAmong}
 use Rattle.lc_node.specs.LogSide.{HasStable}
 use Rattle.lc_node.specs.declared.log_state.LogState.{LogState}
-use Rattle.lc_node.specs.declared.log_state.LogState.TheVariants.{Idle, Halted, Taken}
+use Rattle.lc_node.specs.declared.log_state.LogState.TheVariants.{Idle, Stopped, Halted, Taken}
 use Rattle.lc_node.proofs.Fronts.{among}
 
 -- the stable words are the front of what was taken
 pub is_front : {D : Type 0} (a : Ghosts D) (log : LogState D a) (room : ℕ) (taken stable : List ℕ) → HasStable a log room taken stable → (rest : List ℕ) × (taken ≡ stable ++ rest)
 is_front a (Idle log) room taken stable h = ([], sym h.0 ∙ sym (append-nil stable))
-is_front a (Halted failed) room taken stable h = h
+is_front a (Stopped log) room taken stable h = ([], sym h.0 ∙ sym (append-nil stable))
+is_front a (Halted failed) room taken stable h = h.0
 is_front a Taken room taken stable h = absurd h
 
 -- where the record of a receipt of the log's round stands in the stable words

@@ -1,5 +1,5 @@
 -- Copies of published records: those behind a place, one more, and what is sent of them.
-use Rattle.std.proofs.Common.{◌≡◌, ℕ, ◌+◌, ◌-◌, ◌^◌, ◌<◌, List, [], ◌∷◌, ◌++◌, Some, None, length, refl, sym, ap, subst, ◌∙◌, suc, arith, length-append, append_assoc}
+use Rattle.std.proofs.Common.{◌≡◌, ℕ, ◌+◌, ◌-◌, ◌^◌, ◌<◌, List, [], ◌∷◌, ◌++◌, Some, None, length, refl, sym, ap, subst, ◌∙◌, suc, inl, arith, length-append, append_assoc}
 use Rattle.std.specs.Prelude.{slice_get}
 use Rattle.std.specs.Global.{Vec, Global}
 use Rattle.std.specs.declared.collections.VecDeque.{VecDeque}
@@ -10,7 +10,7 @@ use Rattle.std.proofs.lemmas.List.Folds.{concat-append}
 use Rattle.lc_node.specs.Messages.{records_in, tokens_among, record_message, words_of, numbered}
 use Rattle.lc_node.specs.Published.{IsStart}
 use Rattle.lc_node.specs.Spread.{sent_to, line_of, count_of, IsPrefix}
-use Rattle.lc_node.specs.Copies.{texts, FitBehind, AreBehind, AreNext, SendsThese, SendsFirst}
+use Rattle.lc_node.specs.Copies.{texts, FitBehind, AreBehind, AreNext, SendsAll, SendsThese, SendsFirst}
 use Rattle.lc_node.specs.declared.message.Message.{Message}
 use Rattle.lc_node.specs.declared.message.Message.TheVariants.{Record, Token}
 use Rattle.lc_node.specs.declared.peer_end.PeerEnd.{PeerEnd}
@@ -119,6 +119,12 @@ module _ {P : Type 0} where
       length-map [] = refl
       length-map (x ∷ xs) = ap suc (length-map xs)
 
+  -- none is left: all were sent
+  pub sends_all : (all left : List (Vec ℕ)) (count : ℕ) (old now : PeerEnd P) → left ≡ [] → IsSending all left count old now → SendsAll old all now
+  sends_all all left count old now none s =
+      let whole : all ≡ s.front = s.split ∙ (ap (λ (l : List (Vec ℕ)). s.front ++ l) none ∙ append-nil s.front) in
+      inl (count_now s.front old now s.sends ∙ ap (λ (l : List (Vec ℕ)). count_of old + length l) (sym whole))
+
   pub count_after : (copies : List (Vec ℕ)) (count : ℕ) (old new : PeerEnd P) → SendsFirst copies count old new → count_of new ≡ count_of old + count
   count_after copies count old new s = count_now s.0 old new s.4 ∙ ap (λ (n : ℕ). count_of old + n) s.3
 
@@ -135,6 +141,6 @@ module _ {P : Type 0} where
         s.4.records ∙ ((λ k. p.3 k ++ numbered (name k) (texts s.0)) ∙ sym (numbered_append 1 p.0 (texts s.0))),
       )
 
-  -- a peer is sent the first of the copies for it
+  -- a peer is sent the first of the copies for it, all if it is not cut off
   abbrev pub IsSentFirst : PeerEnd P → VecDeque (Vec ℕ) Global → PeerEnd P → Type 0
-  IsSentFirst old lacks new = (count : ℕ) × SendsFirst lacks.items count old new
+  IsSentFirst old lacks new = (count : ℕ) × SendsFirst lacks.items count old new × SendsAll old lacks.items new

@@ -1,5 +1,5 @@
 -- What a record that a peer published keeps of held segments, and what they are like once it was made ready for.
-use Rattle.std.proofs.Common.{◌≡◌, List, [], All, Some, None, length, get_or, refl, sym, ap, subst, ◌∙◌, inl, inr, arith}
+use Rattle.std.proofs.Common.{◌≡◌, List, All, Some, None, length, get_or, refl, sym, ap, subst, ◌∙◌, inl, inr, arith}
 use Rattle.std.specs.Prelude.{◌↔◌, slice_get, Option, IsSome}
 use Rattle.std.proofs.lemmas.Option.{slice_get_read, slice_get_within}
 use Rattle.std.proofs.lemmas.List.{get_or_default}

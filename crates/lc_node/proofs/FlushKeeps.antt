@@ -1,5 +1,5 @@
 -- A flush keeps what a log's type says.
-use Rattle.std.proofs.Common.{◌≡◌, ℕ, ◌+◌, ◌*◌, ◌≤◌, List, ◌++◌, length, sym, ap, subst, ◌∙◌}
+use Rattle.std.proofs.Common.{◌≡◌, ℕ, ◌+◌, ◌*◌, ◌<◌, ◌≤◌, List, [], ◌++◌, length, sym, ap, subst, ◌∙◌, inl, inr}
 use Rattle.lc_disk.specs.declared.area.Area.{Ghosts}
 use Rattle.lc_stage.specs.declared.view.View.{View}
 use Rattle.lc_stage.specs.Publishing.{HoldsTaken}
@@ -7,7 +7,10 @@ use Rattle.lc_stage.specs.Seats.{OnlyTakes, publishing}
 use Rattle.std.proofs.lemmas.List.Elements.{All-append}
 use Rattle.std.proofs.lemmas.List.Folds.{concat-append}
 use Rattle.lc_stage.specs.Staging.{AreRecords, IsOneRecord}
-use Rattle.lc_node.specs.LogSide.{HasStable}
+use Rattle.lc_log.specs.NodeLog.{IsGroup, IsIdle, IsWithOrWithout, LeavesOnly}
+use Rattle.lc_record.specs.declared.record.Record.{Record}
+use Rattle.lc_stage.proofs.Flushed.{taken_group}
+use Rattle.lc_node.specs.LogSide.{HasStable, LeavesRecords}
 use Rattle.lc_node.specs.declared.log_state.LogState.{LogState}
 use Rattle.lc_node.specs.declared.log_state.LogState.TheVariants.{Idle}
 use Rattle.lc_log.specs.declared.idle.Idle.{Idle as AtRest}
@@ -36,3 +39,27 @@ takes_and_publishes v w z takes is = let past : z.past ≡ v.past = ap (λ (y : 
 
 pub records_append : (us ws : List ℕ) → AreRecords us → AreRecords ws → AreRecords (us ++ ws)
 records_append us ws h k = (h.0 ++ k.0, All-append IsOneRecord h.0 k.0 h.1 k.1, (λ j. h.2 j ++ k.2 j) ∙ sym (concat-append h.0 k.0))
+
+-- What a failed call leaves
+
+module _ {D : Type 0} (a : Ghosts D) (before after : D) (end : ℕ) (taken stable : List ℕ) (held : HoldsTaken a before end taken) (same : stable ≡ taken) (still : a.honest after ≡ a.honest before) where
+  -- one of a flush
+  pub flush_fails : (words : List ℕ) → AreRecords words → 0 < length words
+      → ((records group : List Record) → IsIdle a before end records → IsGroup words group → LeavesOnly a after (IsWithOrWithout records group)) → LeavesRecords a after stable
+  flush_fails words whole some fails = λ honest.
+      let h = held.1 (sym still ∙ honest) in
+      let g = taken_group words whole some in
+      (h.0, g.0, h.2 ∙ sym same, λ image is. inr (fails h.0 g.0 (λ _. h.1) g.1 honest image is))
+
+  -- one of a reset
+  pub reset_fails : ((records : List Record) → IsIdle a before end records → LeavesOnly a after (IsWithOrWithout [] records)) → LeavesRecords a after stable
+  reset_fails fails = λ honest.
+      let h = held.1 (sym still ∙ honest) in (
+        h.0,
+        [],
+        h.2 ∙ sym same,
+        λ image is. elim (fails h.0 (λ _. h.1) honest image is) [
+          | inl none ↦ inl none
+          | inr all ↦ inr (inl all)
+        ],
+      )

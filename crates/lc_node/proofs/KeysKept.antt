@@ -85,3 +85,7 @@ module _ {P : Type 0} (posts : List (Post P)) where
         let found = is_some_of (λ (post : Post P). key_of post.to) (slice_get posts k) wired (sym (slice_get-map (λ (post : Post P). key_of post.to) posts k) ∙ has) in
         subst (λ (w : Ends P). AreOnLines w ends) found.2 (each k ends got found.0 found.1);
   }
+
+-- ends on the same lines are as many
+pub as_many : {A B : Type 0} (line : A → B) (wired ends : List A) → map line ends ≡ map line wired → length ends ≡ length wired
+as_many {B = B} line wired ends same = sym (length-map ends line) ∙ (ap (λ (l : List B). length l) same ∙ length-map wired line)

@@ -1,9 +1,11 @@
+pub mod FirstGone
 pub mod Applied
 pub mod Arrived
 pub mod Asking
 pub mod Attempted
 pub mod Backwards
 pub mod Bringing
+pub mod Called
 pub mod CatchingUp
 pub mod CommitKeeps
 pub mod CommitPaths
@@ -30,9 +32,11 @@ pub mod LeftParts
 pub mod LeftSegments
 pub mod LeftTokens
 pub mod LinesClosed
+pub mod MessagesAnswered
 pub mod MessagesGone
 pub mod NextSent
 pub mod Noted
+pub mod OfRuns
 pub mod OrderedTokens
 pub mod Outside
 pub mod PagesWritten
@@ -48,6 +52,7 @@ pub mod Rounds
 pub mod Runs
 pub mod SegmentLocks
 pub mod SentToAll
+pub mod Settled
 pub mod SideBytes
 pub mod SideKeeps
 pub mod Slots

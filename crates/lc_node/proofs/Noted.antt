@@ -221,5 +221,5 @@ written_fits a since area later old new bytes h over is =
           (let known = inside page within in
           subst (λ (n : ℕ). (entry_at new.pages page).touched ≤ n) (sym is.same_seq)
           (subst (λ (n : ℕ). n ≤ old.seq) (sym (ap (λ (e : Entry). e.touched) (is.each page known) ∙ after_touched old page)) (h.touched page known)));
-      each = λ page within. (let known = inside page within in subst (λ (e : Entry). FitsPage a since later bytes page e) (sym (is.each page known)) (over.each page known));
+      each = λ page within. (let known = inside page within in subst (λ (e : Entry). FitsPage a since later bytes page e) (sym (is.each page known)) (over.each page known).fits);
     }

@@ -20,13 +20,14 @@ use Rattle.lc_node.specs.SegSide.{FitsArea}
 use Rattle.lc_node.specs.Each.{Each}
 use Rattle.lc_node.specs.Ended.{HasRoom}
 use Rattle.lc_node.specs.Flushes.{Flushes, IsUnflushed}
+use Rattle.lc_node.specs.Halting.{IsUntruncatable}
 use Rattle.lc_node.specs.Held.{IsHeldOf}
 use Rattle.lc_node.specs.LogView.{LogView}
 use Rattle.lc_node.specs.Resets.{IsUnemptied, IsUnfit}
 use Rattle.lc_node.specs.SegView.{SegView}
 use Rattle.lc_node.specs.declared.node.Node.{Node}
 use Rattle.lc_node.specs.declared.node_fault.NodeFault.{NodeFault}
-use Rattle.lc_node.specs.Truncates.{HasPagesIn, IsFolded, IsOfTruncation, IsUntruncated, IsUntruncatedInRoom, IsSameHeld, FailsPages, FailsSides, SeesSides, SeesToken, WritesSide}
+use Rattle.lc_node.specs.Truncates.{HasPagesIn, IsFolded, IsOfTruncation, IsUntruncated, IsUntruncatedHeld, IsUntruncatedInRoom, IsSameHeld, FailsPages, FailsSides, SeesSides, SeesToken, WritesSide}
 use Rattle.lc_node.specs.declared.held.HeldSide.{HeldSide}
 use Rattle.lc_node.specs.declared.page_area.PageArea.{PageArea}
 use Rattle.lc_node.specs.declared.page_area.PageArea.TheVariants.{Serves}
@@ -109,24 +110,24 @@ module _ {D : Type 0} where
   more_places hs m n more all k d l = let was = all k d l in omega arith
 
   -- those of a walk so far are the same
-  only_same : (xs now : List (HeldSide D)) (n : ℕ) → Forwards (λ h k. WritesSide h k × IsSameHeld h k) xs now n → Forwards IsSameHeld xs now n
-  only_same xs now n f = record { long = f.long; behind = f.behind; done = λ k x z low x_at z_at. (f.done k x z low x_at z_at).1 }
+  only_same : (a : Ghosts D) (xs now : List (HeldSide D)) (n : ℕ) → Forwards (λ h k. WritesSide a h k × IsSameHeld h k) xs now n → Forwards IsSameHeld xs now n
+  only_same a xs now n f = record { long = f.long; behind = f.behind; done = λ k x z low x_at z_at. (f.done k x z low x_at z_at).1 }
 
-  pub all_same : (xs now : List (HeldSide D)) (n : ℕ) → Forwards (λ h k. WritesSide h k × IsSameHeld h k) xs now n → Each IsSameHeld xs now
-  all_same xs now n f = all_of IsSameHeld xs now n (only_same xs now n f) (λ x. (refl, refl, refl))
+  pub all_same : (a : Ghosts D) (xs now : List (HeldSide D)) (n : ℕ) → Forwards (λ h k. WritesSide a h k × IsSameHeld h k) xs now n → Each IsSameHeld xs now
+  all_same a xs now n f = all_of IsSameHeld xs now n (only_same a xs now n f) (λ x. (refl, refl, refl))
 
-  pub one_more_same : (xs now : List (HeldSide D)) (n : ℕ) (h g : HeldSide D) → Forwards (λ h k. WritesSide h k × IsSameHeld h k) xs now n → n < length now → h ≡ get_or now n h → IsSameHeld h g
+  pub one_more_same : (a : Ghosts D) (xs now : List (HeldSide D)) (n : ℕ) (h g : HeldSide D) → Forwards (λ h k. WritesSide a h k × IsSameHeld h k) xs now n → n < length now → h ≡ get_or now n h → IsSameHeld h g
       → Each IsSameHeld xs (set now n g)
-  one_more_same xs now n h g f within at same = all_of IsSameHeld xs (set now n g) (n + 1) (next IsSameHeld xs now n h g (only_same xs now n f) within at same) (λ x. (refl, refl, refl))
+  one_more_same a xs now n h g f within at same = all_of IsSameHeld xs (set now n g) (n + 1) (next IsSameHeld xs now n h g (only_same a xs now n f) within at same) (λ x. (refl, refl, refl))
 
   -- and behind its end all are written
-  pub all_written : (xs now : List (HeldSide D)) (n : ℕ) → Forwards (λ h k. WritesSide h k × IsSameHeld h k) xs now n → length now ≤ n → Each WritesSide xs now
-  all_written xs now n f whole = record {
+  pub all_written : (a : Ghosts D) (xs now : List (HeldSide D)) (n : ℕ) → Forwards (λ h k. WritesSide a h k × IsSameHeld h k) xs now n → length now ≤ n → Each (WritesSide a) xs now
+  all_written a xs now n f whole = record {
     long = f.long;
     each = λ k x z x_at z_at. let low = slice_get_within now k z z_at in (f.done k x z (omega arith) x_at z_at).0;
   }
 
-  pub one_fails : (a : Ghosts D) (fault : NodeFault) (xs now : List (HeldSide D)) (n : ℕ) (h g : HeldSide D) → Forwards (λ h k. WritesSide h k × IsSameHeld h k) xs now n → n < length now → h ≡ get_or now n h
+  pub one_fails : (a : Ghosts D) (fault : NodeFault) (xs now : List (HeldSide D)) (n : ℕ) (h g : HeldSide D) → Forwards (λ h k. WritesSide a h k × IsSameHeld h k) xs now n → n < length now → h ≡ get_or now n h
       → g ≡ record h { side = g.side } → FailsPages a h.side fault g.side → FailsSides a xs fault (set now n g)
   one_fails a fault xs now n h g f within at same fails = let now_h : slice_get now n ≡ Some h = got_at now n h at within in record {
     place = n;
@@ -176,15 +177,23 @@ of_reset old new fault (inl unfit) = of_unfit old fault unfit.0
 of_reset old new fault (inr (inl lost)) = inr (inr (inr (inr (lost.1.0, lost.1.1))))
 of_reset old new fault (inr (inr failed)) = inr (inl (inl failed.1.0))
 
+pub of_untruncatable : {D : Type 0} (log : LogView D) (fault : NodeFault) → IsUntruncatable log fault → IsOfTruncation fault
+of_untruncatable log fault (inl halted) = inr (inl (inr halted.0))
+of_untruncatable log fault (inr spent) = inr (inr (inl spent.0))
+
 of_untruncated : {D : Type 0} (a : Ghosts D) (room : ℕ) (old new : LogView D) (olds news : List (HeldSide D)) (fault : NodeFault) → IsUntruncated a room old olds fault new news → IsOfTruncation fault
-of_untruncated a room old new olds news fault (inl spent) = inr (inr (inl spent.0))
-of_untruncated a room old new olds news fault (inr (inl unflushed)) = of_flush a old new fault unflushed.0
-of_untruncated a room old new olds news fault (inr (inr (count, flushed, flushes, inl failed))) = of_pages a failed.0.old.side failed.0.new.side fault failed.0.fails
-of_untruncated a room old new olds news fault (inr (inr (count, flushed, flushes, inr unemptied))) = of_reset (record flushed { known = unemptied.0 }) new fault unemptied.3
+of_untruncated a room old new olds news fault (inl unflushed) = of_flush a old new fault unflushed.0
+of_untruncated a room old new olds news fault (inr (count, flushed, flushes, inl failed)) = of_pages a failed.0.old.side failed.0.new.side fault failed.0.fails
+of_untruncated a room old new olds news fault (inr (count, flushed, flushes, inr unemptied)) = of_reset (record flushed { known = unemptied.0 }) new fault unemptied.3
 
 pub of_truncation : {D : Type 0} (a : Ghosts D) (room : ℕ) (old new : LogView D) (olds news : List (HeldSide D)) (fault : NodeFault) → IsUntruncatedInRoom a room old olds fault new news → IsOfTruncation fault
-of_truncation a room old new olds news fault (inl memory) = inl memory.0
-of_truncation a room old new olds news fault (inr (roomy, makes, refused)) = of_untruncated a room roomy new olds news fault refused
+of_truncation a room old new olds news fault (inl may_not) = of_untruncatable old fault may_not.0
+of_truncation a room old new olds news fault (inr (inl memory)) = inl memory.0
+of_truncation a room old new olds news fault (inr (inr (roomy, makes, refused))) = of_untruncated a room roomy new olds news fault refused
+
+pub of_truncation_held : {D : Type 0} (a : Ghosts D) (node : Node D) (olds news : List (HeldSide D)) (fault : NodeFault) → IsUntruncatedHeld a node olds fault news → IsOfTruncation fault
+of_truncation_held a node olds news fault (inl memory) = inl memory.0
+of_truncation_held a node olds news fault (inr (old, new, own, refused)) = of_truncation a node.stage.room old new olds news fault refused
 
 -- a flush leaves room for the words of its round
 pub room_behind : {D : Type 0} (room count : ℕ) (old new : LogView D) → Flushes room old count new → HasRoom old → HasRoom new

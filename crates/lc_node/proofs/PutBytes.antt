@@ -112,9 +112,10 @@ module _ {I : Type 0} (m : Ghosts I) (old : I) (tx : Tx) (on : RunsOn m old tx) 
     mid_here = image_same m old mid tx on same
 
     pub puts : (r : Result (Unit {0}) TxFault) → IsOk r ↔ (Locked next p.segment × (p.offset + length p.bytes.now ≤ length (bytes_of m mid p.segment)) × AreSet next p.segment p.offset (length p.bytes.now))
-        → OnOk r (IsWritten m mid p.segment p.offset p.bytes.now new) → RunsOn m mid next → Puts p tx.locked.items (bytes_of m old) r (bytes_of m new)
+        → OnOk r (IsWritten m mid p.segment p.offset p.bytes.now new) → RunsOn m mid next → Puts p tx.locked.items (bytes_of m old) tx.set r (bytes_of m new) next.set
     puts (Ok v) ok wrote runs = (
       fits,
+      sets.adds,
       wrote.bytes_are ∙ ap (put p.offset p.bytes.now) is_same,
       λ s lock apart. ap (λ (x : Picture). x.bytes.items)
           (wrote.same.others s (runs.here s (ap (λ l. is_member s l.items) sets.same_locks ∙ lock)) (false_from_ne_true (is_member s (p.segment ∷ [])) (λ is. apart (sym (is_one s p.segment is)))) ∙ mid_here s lock),

@@ -9,13 +9,13 @@ use Rattle.lc_tx.specs.Image.{laid_over}
 use Rattle.lc_tx.specs.Tx.{IsSetOf}
 use Rattle.lc_tx.specs.declared.tx_fault.TxFault.{TxFault}
 use Rattle.lc_node.specs.Commits.{IsUncommitted, IsUnstaged}
-use Rattle.lc_node.specs.Ran.{AgreeOn, Bytes, Brings, IsRefusedFor, Ran, Tells, ranges_in}
+use Rattle.lc_node.specs.Ran.{AgreeOn, Bytes, Brings, IsRefusedFor, Ran, Runs, Tells, ranges_in}
 use Rattle.lc_node.specs.declared.node_fault.NodeFault.{NodeFault}
 
 -- Over the same bytes
 
-pub ran_as : (tells : Tells) (segments : List ℕ) (answer : Result (Unit {0}) TxFault) (old new as_old as_new : Bytes) → AgreeOn segments old as_old → AgreeOn segments new as_new → Ran tells segments old answer new → Ran tells segments as_old answer as_new
-ran_as tells segments answer old new as_old as_new was left r = record {
+pub ran_as : (tells : Tells) (segments : List ℕ) (answer : Result (Unit {0}) TxFault) (old new as_old as_new : Bytes) → AgreeOn segments old as_old → AgreeOn segments new as_new → {set : Runs} → Ran tells segments old answer new set → Ran tells segments as_old answer as_new set
+ran_as tells segments answer old new as_old as_new was left {set} r = record {
   locked = r.locked;
   are_locked = r.are_locked;
   before = r.before;
@@ -32,13 +32,13 @@ same_bytes : (segments : List ℕ) (bytes : Bytes) → AgreeOn segments bytes by
 same_bytes segments bytes = λ s is. refl
 
 refused_as : (tells : Tells) (segments : List ℕ) (fault : TxFault) (old as_old : Bytes) → AgreeOn segments old as_old → IsRefusedFor tells segments old fault → IsRefusedFor tells segments as_old fault
-refused_as tells segments fault old as_old was (inl r) = inl (r.0, ran_as tells segments (Err fault) old r.0 as_old r.0 was (same_bytes segments r.0) r.1)
-refused_as tells segments fault old as_old was (inr r) = inr (r.0, ran_as tells segments (Ok tt) old r.0 as_old r.0 was (same_bytes segments r.0) r.1, r.2)
+refused_as tells segments fault old as_old was (inl r) = inl (r.0, r.1, ran_as tells segments (Err fault) old r.0 as_old r.0 was (same_bytes segments r.0) r.2)
+refused_as tells segments fault old as_old was (inr r) = inr (r.0, r.1, ran_as tells segments (Ok tt) old r.0 as_old r.0 was (same_bytes segments r.0) r.2, r.3)
 
 -- why nothing was staged, where what kept the transaction from its beginning is said in other words
-pub unstaged_as : (tells : Tells) (unbegun as_unbegun : TxFault → Type 0) (segments : List ℕ) (old as_old : Bytes) (room seen : ℕ) (fault : NodeFault)
-    → ((f : TxFault) → unbegun f → as_unbegun f) → AgreeOn segments old as_old → IsUnstaged tells unbegun segments old room seen fault → IsUnstaged tells as_unbegun segments as_old room seen fault
-unstaged_as tells unbegun as_unbegun segments old as_old room seen fault more was (inl a) = inl (
+pub unstaged_as : (tells : Tells) (unbegun as_unbegun : TxFault → Type 0) (segments : List ℕ) (old as_old : Bytes) (room tries seen : ℕ) (fault : NodeFault)
+    → ((f : TxFault) → unbegun f → as_unbegun f) → AgreeOn segments old as_old → IsUnstaged tells unbegun segments old room tries seen fault → IsUnstaged tells as_unbegun segments as_old room tries seen fault
+unstaged_as tells unbegun as_unbegun segments old as_old room tries seen fault more was (inl a) = inl (
   a.0,
   a.1,
   elim a.2 [
@@ -46,39 +46,49 @@ unstaged_as tells unbegun as_unbegun segments old as_old room seen fault more wa
     | inr refused ↦ inr (refused_as tells segments a.0 old as_old was refused)
   ],
 )
-unstaged_as tells unbegun as_unbegun segments old as_old room seen fault more was (inr b) =
-    inr (b.0, ran_as tells segments (Ok tt) old b.0 as_old b.0 was (same_bytes segments b.0) b.1, (b.2.0, b.2.1, b.2.2, brings_as b.2.0 segments old b.0 as_old b.0 was (same_bytes segments b.0) b.2.3, b.2.4))
+unstaged_as tells unbegun as_unbegun segments old as_old room tries seen fault more was (inr b) =
+    inr (record {
+      new = b.new;
+      set = b.set;
+      ran = ran_as tells segments (Ok tt) old b.new as_old b.new was (same_bytes segments b.new) b.ran;
+      whole = b.whole;
+      words = b.words;
+      is_record = b.is_record;
+      of_runs = b.of_runs;
+      brings = brings_as b.whole segments old b.new as_old b.new was (same_bytes segments b.new) b.brings;
+      why = b.why;
+    })
 
 -- Over the segments that were asked for
 
-module _ (asked segments : List ℕ) (set : IsSetOf asked segments) where
-  pub ran_among : (tells : Tells) (answer : Result (Unit {0}) TxFault) (old new : Bytes) → Ran tells segments old answer new → Ran tells asked old answer new
-  ran_among tells answer old new r = record {
+module _ (asked segments : List ℕ) (of : IsSetOf asked segments) where
+  pub ran_among : (tells : Tells) (answer : Result (Unit {0}) TxFault) (old new : Bytes) {set : Runs} → Ran tells segments old answer new set → Ran tells asked old answer new set
+  ran_among tells answer old new {set} r = record {
     locked = r.locked;
-    are_locked = record { ascends = r.are_locked.ascends; same = λ n. r.are_locked.same n ∙ set.same n };
+    are_locked = record { ascends = r.are_locked.ascends; same = λ n. r.are_locked.same n ∙ of.same n };
     before = r.before;
     after = r.after;
-    was = λ s is. r.was s (set.same s ∙ is);
-    left = λ s is. r.left s (set.same s ∙ is);
+    was = λ s is. r.was s (of.same s ∙ is);
+    left = λ s is. r.left s (of.same s ∙ is);
     told = r.told;
   }
 
   pub brings_among : (r : Record) (old new : Bytes) → Brings r segments old new → Brings r asked old new
-  brings_among r old new brings = λ s is. brings s (set.same s ∙ is)
+  brings_among r old new brings = λ s is. brings s (of.same s ∙ is)
 
   refused_among : (tells : Tells) (fault : TxFault) (old : Bytes) → IsRefusedFor tells segments old fault → IsRefusedFor tells asked old fault
-  refused_among tells fault old (inl r) = inl (r.0, ran_among tells (Err fault) old r.0 r.1)
-  refused_among tells fault old (inr r) = inr (r.0, ran_among tells (Ok tt) old r.0 r.1, r.2)
+  refused_among tells fault old (inl r) = inl (r.0, r.1, ran_among tells (Err fault) old r.0 r.2)
+  refused_among tells fault old (inr r) = inr (r.0, r.1, ran_among tells (Ok tt) old r.0 r.2, r.3)
 
   -- none is a set of none
   none_asked : (these : List ℕ) → ((n : ℕ) → is_member n these ≡ is_member n asked) → asked ≡ [] → these ≡ []
   none_asked [] same none = refl
   none_asked (x ∷ xs) same none = absurd (false≢true (sym (same x ∙ ap (is_member x) none) ∙ or_left (eqb x x) (is_member x xs) (eq-eqb x x refl)))
 
-  pub uncommitted_among : (tells : Tells) (unbegun as_unbegun : TxFault → Type 0) (old : Bytes) (room seen : ℕ) (fault : NodeFault)
-      → ((f : TxFault) → unbegun f → as_unbegun f) → IsUncommitted tells unbegun segments old room seen fault → IsUncommitted tells as_unbegun asked old room seen fault
-  uncommitted_among tells unbegun as_unbegun old room seen fault more (inl none) = inl (none.0, λ e. none.1 (none_asked segments set.same e))
-  uncommitted_among tells unbegun as_unbegun old room seen fault more (inr (inl a)) = inr (inl (
+  pub uncommitted_among : (tells : Tells) (unbegun as_unbegun : TxFault → Type 0) (old : Bytes) (room tries seen : ℕ) (fault : NodeFault)
+      → ((f : TxFault) → unbegun f → as_unbegun f) → IsUncommitted tells unbegun segments old room tries seen fault → IsUncommitted tells as_unbegun asked old room tries seen fault
+  uncommitted_among tells unbegun as_unbegun old room tries seen fault more (inl none) = inl (none.0, λ e. none.1 (none_asked segments of.same e))
+  uncommitted_among tells unbegun as_unbegun old room tries seen fault more (inr (inl a)) = inr (inl (
     a.0,
     a.1,
     elim a.2 [
@@ -86,4 +96,14 @@ module _ (asked segments : List ℕ) (set : IsSetOf asked segments) where
       | inr refused ↦ inr (refused_among tells a.0 old refused)
     ],
   ))
-  uncommitted_among tells unbegun as_unbegun old room seen fault more (inr (inr b)) = inr (inr (b.0, ran_among tells (Ok tt) old b.0 b.1, (b.2.0, b.2.1, b.2.2, brings_among b.2.0 old b.0 b.2.3, b.2.4)))
+  uncommitted_among tells unbegun as_unbegun old room tries seen fault more (inr (inr b)) = inr (inr (record {
+    new = b.new;
+    set = b.set;
+    ran = ran_among tells (Ok tt) old b.new b.ran;
+    whole = b.whole;
+    words = b.words;
+    is_record = b.is_record;
+    of_runs = b.of_runs;
+    brings = brings_among b.whole old b.new b.brings;
+    why = b.why;
+  }))

@@ -1,7 +1,7 @@
 -- The writes of a segment's dirty pages: each call keeps what is known of them all.
 use Rattle.std.proofs.Common.{◌≡◌, ◌≢◌, ℕ, ◌+◌, ◌-◌, ◌*◌, ◌<◌, ◌≤◌, Bool, true, false, List, [], ◌∷◌, ◌++◌, length, refl, sym, ap, subst, ◌∙◌, inl, inr, arith}
 use Rattle.std.specs.Prelude.{if◌then◌else◌}
-use Rattle.std.proofs.lemmas.Bool.{cases_eq}
+use Rattle.std.proofs.lemmas.Bool.{cases_eq, true≢false}
 use Rattle.lc_disk.specs.declared.area.Area.{Ghosts}
 use Rattle.lc_page.specs.Page.{Page, page_in}
 use Rattle.lc_page.specs.PageVector.{entry_at, entry_text, is_dirty, settled, settled_text}
@@ -16,7 +16,7 @@ use Rattle.lc_page.proofs.StateLemmas.{kept_page, kept_settled}
 use Rattle.lc_page.proofs.WritingLemmas.{kept_under_way}
 use Rattle.lc_token.specs.declared.token.Token.{Token}
 use Rattle.lc_node.specs.Pages.{FitsPage, entry_after, page_bytes}
-use Rattle.lc_node.specs.Writes.{AreApart, AreOver, AreUnderWay, AreWritesOf, HaveRoom, IsOfNone, IsWriteOf}
+use Rattle.lc_node.specs.Writes.{AreApart, AreOver, AreUnderWay, AreWritesOf, HaveRoom, IsOfNone, IsOverAt, IsWriteOf}
 
 -- Lists of writes
 
@@ -126,6 +126,13 @@ module _ {D : Type 0} (a : Ghosts D) where
         ap (λ (p : Page). p.content) (kept_page page (a.now old) (a.now new) (a.dirty old) (a.dirty new) (keeps.inside was)).0 ∙ fits.same clean late was);
   }
 
+  over_kept : (since : ℕ) (old new : D) (token : Token) (bytes : List ℕ) (page : ℕ) → KeepsPage a page old new → IsOverAt a since old token bytes page → IsOverAt a since new token bytes page
+  over_kept since old new token bytes page keeps over = record {
+    fits = fits_kept since old new bytes page (entry_after token page) keeps over.fits;
+    wrote = λ dirty honest. (let was : a.honest old ≡ true = sym keeps.honest ∙ honest in
+        ap (λ (p : Page). p.content) (kept_page page (a.now old) (a.now new) (a.dirty old) (a.dirty new) (keeps.inside was)).0 ∙ over.wrote dirty was);
+  }
+
   -- a write of a dirty page that has made its first call
   pub has_begun : (old new : D) (token : Token) (bytes : List ℕ) (page : ℕ) (draft : Draft) (gate : Bool) (write : Writing) → page < length token.pages → is_dirty (entry_at token.pages page) ≡ true → draft.page ≡ page
       → draft.seq ≡ token.seq → draft.bytes ≡ page_bytes bytes page → IsBegun draft gate (entry_text (entry_at token.pages page)) → SettledIn a old page (entry_text (entry_at token.pages page)) → draft_of write ≡ draft
@@ -146,12 +153,15 @@ module _ {D : Type 0} (a : Ghosts D) where
 
   -- a page that was dirty stands as it is to once its write is over
   over_fits : (since : ℕ) (area : D) (token : Token) (bytes : List ℕ) (front : ℕ) (write : Writing) (draft : Draft) → IsOver a area draft (entry_text (entry_at token.pages draft.page)) → is_dirty (entry_at token.pages draft.page) ≡ true
-      → draft.seq ≡ token.seq → draft.bytes ≡ page_bytes bytes draft.page → FitsPage a since area bytes draft.page (entry_after token draft.page)
-  over_fits since area token bytes front write draft over dirty seq content =
-      subst (λ (e : Entry). FitsPage a since area bytes draft.page e) (sym (after_dirty token draft.page dirty)) (record {
-        settled_in = subst (λ (n : ℕ). SettledIn a area draft.page (settled_text (entry_text (entry_at token.pages draft.page)) n)) seq over.settled;
-        same = λ clean late honest. ap (λ (p : Page). p.content) (over.page honest).reads ∙ content;
-      })
+      → draft.seq ≡ token.seq → draft.bytes ≡ page_bytes bytes draft.page → IsOverAt a since area token bytes draft.page
+  over_fits since area token bytes front write draft over dirty seq content = record {
+    fits =
+        subst (λ (e : Entry). FitsPage a since area bytes draft.page e) (sym (after_dirty token draft.page dirty)) (record {
+          settled_in = subst (λ (n : ℕ). SettledIn a area draft.page (settled_text (entry_text (entry_at token.pages draft.page)) n)) seq over.settled;
+          same = λ clean late honest. ap (λ (p : Page). p.content) (over.page honest).reads ∙ content;
+        });
+    wrote = λ dirty honest. ap (λ (p : Page). p.content) (over.page honest).reads ∙ content;
+  }
 
   module _ (old new : D) (own : ℕ) (token : Token) (bytes : List ℕ) (keeps : (page : ℕ) → page ≢ own → KeepsPage a page old new) (same : length (a.now new) ≡ length (a.now old)) where
     writes_kept : (front : ℕ) (writes : List Writing) → IsOfNone own writes → AreWritesOf a old token bytes front writes → AreWritesOf a new token bytes front writes
@@ -183,7 +193,7 @@ module _ {D : Type 0} (a : Ghosts D) where
           others = λ page before within of_none.
               let apart = none_pushed page writes write of_none in
               let differ : page ≢ own = λ equal. apart.1 (is ∙ sym equal) in
-              fits_kept since old new bytes page (entry_after token page) (keeps page differ) (h.others page (omega (arith, before, differ)) within apart.0);
+              over_kept since old new token bytes page (keeps page differ) (h.others page (omega (arith, before, differ)) within apart.0);
           behind = λ page after within. fits_kept since old new bytes page (entry_at token.pages page) (keeps page (λ equal. absurd (omega (arith, after, equal)))) (h.behind page (omega (arith, after)) within);
         }
 
@@ -195,8 +205,10 @@ module _ {D : Type 0} (a : Ghosts D) where
     each = writes_before area token bytes front writes h.each;
     others = λ page before within none. elim (cases_eq page front) [
       | inl equal ↦
-          subst (λ (n : ℕ). FitsPage a since area bytes n (entry_after token n)) (sym equal)
-          (subst (λ (e : Entry). FitsPage a since area bytes front e) (sym (after_clean token front clean)) (h.behind front (omega arith) (omega (arith, within, equal))))
+          subst (λ (n : ℕ). IsOverAt a since area token bytes n) (sym equal) (record {
+            fits = subst (λ (e : Entry). FitsPage a since area bytes front e) (sym (after_clean token front clean)) (h.behind front (omega arith) (omega (arith, within, equal)));
+            wrote = λ dirty. absurd (true≢false (sym dirty ∙ clean));
+          })
       | inr differ ↦ h.others page (omega (arith, before, differ)) within none
     ];
     behind = λ page after within. h.behind page (omega (arith, after)) within;
@@ -212,8 +224,8 @@ module _ {D : Type 0} (a : Ghosts D) where
     abbrev own : ℕ
     own = (draft_of write).page
 
-    others_now : (page : ℕ) → page ≢ own → page < front → page < length token.pages → IsOfNone page writes → FitsPage a since new bytes page (entry_after token page)
-    others_now page differ before within none = fits_kept since old new bytes page (entry_after token page) (keeps page differ) (h.others page before within (λ equal. differ (sym equal), none))
+    others_now : (page : ℕ) → page ≢ own → page < front → page < length token.pages → IsOfNone page writes → IsOverAt a since new token bytes page
+    others_now page differ before within none = over_kept since old new token bytes page (keeps page differ) (h.others page before within (λ equal. differ (sym equal), none))
 
     behind_now : (page : ℕ) → front ≤ page → page < length token.pages → FitsPage a since new bytes page (entry_at token.pages page)
     behind_now page after within =
@@ -253,7 +265,7 @@ module _ {D : Type 0} (a : Ghosts D) where
       others = λ page before within none. elim (cases_eq page own) [
         | inl equal ↦
             (let its = h.each.0 in
-            subst (λ (n : ℕ). FitsPage a since new bytes n (entry_after token n)) (sym equal)
+            subst (λ (n : ℕ). IsOverAt a since new token bytes n) (sym equal)
             (over_fits since new token bytes front write (draft_of write) (over (entry_text (entry_at token.pages own)) its.old its.under_way) its.dirty its.seq its.content))
         | inr differ ↦ others_now page differ before within none
       ];

@@ -10,7 +10,7 @@ use Rattle.lc_record.proofs.ListLemmas.{slice_get-append_left as get_front, All-
 use Rattle.lc_node.specs.Peers.{place_of}
 use Rattle.lc_node.specs.Receiving.{origin_of}
 use Rattle.lc_node.specs.Spread.{line_of}
-use Rattle.lc_node.specs.Wiring.{HasSends, HasTakes, HasPeers, IsUnsent, IsUntaken, IsUnused, end_to, inbox_from, IsLine, AreLines, AreWired}
+use Rattle.lc_node.specs.Wiring.{AreNumbered, HasSends, HasTakes, HasPeers, IsUnsent, IsUntaken, IsUnused, end_to, inbox_from, IsLine, AreLines, AreWired}
 use Rattle.lc_node.specs.declared.peer_end.PeerEnd.{PeerEnd}
 use Rattle.lc_node.specs.declared.peer_inbox.PeerInbox.{PeerInbox}
 use Rattle.lc_node.specs.declared.wiring.Ends.{Ends}
@@ -108,7 +108,8 @@ module _ {P : Type 0} where
       (differ : from ≢ to)
       (sender_at : slice_get all from ≡ Some sender) (receiver_at : slice_get all to ≡ Some receiver)
       (sender_to : sender_new.to.ends.items ≡ sender.to.ends.items ++ peer ∷ []) (sender_from : sender_new.from.ends.items ≡ sender.from.ends.items)
-      (receiver_from : receiver_new.from.ends.items ≡ receiver.from.ends.items ++ inbox ∷ []) (receiver_to : receiver_new.to.ends.items ≡ receiver.to.ends.items) where
+      (receiver_from : receiver_new.from.ends.items ≡ receiver.from.ends.items ++ inbox ∷ []) (receiver_to : receiver_new.to.ends.items ≡ receiver.to.ends.items)
+      (sender_number : sender_new.from.node ≡ sender.from.node) (receiver_number : receiver_new.from.node ≡ receiver.from.node) where
     abbrev with_sender : List (Ends P)
     with_sender = set all from sender_new
 
@@ -169,6 +170,7 @@ module _ {P : Type 0} where
       pub one_line_more : AreWired nodes from (to + 1) with_both
       one_line_more = record {
         count = length_set with_sender to receiver_new ∙ (length_set all from sender_new ∙ wired.count);
+        numbers = by_node (λ node mine. mine.from.node ≡ node) (sender_number ∙ wired.numbers from sender sender_at) (receiver_number ∙ wired.numbers to receiver receiver_at) (λ node mine not_from not_to at. wired.numbers node mine at);
         sends = by_node (λ node mine. HasSends nodes from (to + 1) node (length mine.to.ends.items))
             (subst (HasSends nodes from (to + 1) from) (sym (pushed_long sender_new.to.ends.items sender.to.ends.items peer sender_to)) (sends_one_more nodes from to (length sender.to.ends.items) differ (wired.sends from sender sender_at)))
             (subst (HasSends nodes from (to + 1) to) (ap (λ (l : List (PeerEnd P)). length l) (sym receiver_to)) (sends_same nodes from to to (length receiver.to.ends.items) (λ e. differ (sym e)) (wired.sends to receiver receiver_at)))
@@ -191,6 +193,7 @@ module _ {P : Type 0} where
   pub none_to_itself : (nodes from to : ℕ) (all : List (Ends P)) → to ≡ from → AreWired nodes from to all → AreWired nodes from (to + 1) all
   none_to_itself nodes from to all self wired = record {
     count = wired.count;
+    numbers = wired.numbers;
     sends = λ node mine at. sends_over nodes from to node (length mine.to.ends.items) self (wired.sends node mine at);
     takes = λ node mine at. takes_over nodes from to node (length mine.from.ends.items) self (wired.takes node mine at);
     unused = wired.unused;
@@ -202,6 +205,7 @@ module _ {P : Type 0} where
   pub node_wired : (nodes from : ℕ) (all : List (Ends P)) → from < nodes → AreWired nodes from nodes all → AreWired nodes (from + 1) 0 all
   node_wired nodes from all within wired = record {
     count = wired.count;
+    numbers = wired.numbers;
     sends = λ node mine at. let h = wired.sends node mine at in record {
       below = λ less. dite (dec_eq node from) (λ is. h.past is within) (λ other. h.below (omega arith));
       here = λ same low. h.above (omega arith);
@@ -225,9 +229,22 @@ module _ {P : Type 0} where
   abbrev pub HasNone : Ends P → Type 0
   HasNone mine = (mine.to.ends.items ≡ []) × (mine.from.ends.items ≡ [])
 
-  pub none_wired : (nodes : ℕ) (all : List (Ends P)) → length all ≡ nodes → All HasNone all → AreWired nodes 0 0 all
-  none_wired nodes all long none = record {
+  -- and one more, with the next number
+  pub numbered_more : (news olds : List (Ends P)) (x : Ends P) → news ≡ olds ++ x ∷ [] → x.from.node ≡ length olds → AreNumbered olds → AreNumbered news
+  numbered_more news olds x is number before node mine at =
+      let long : length news ≡ length olds + 1 = ap (λ (l : List (Ends P)). length l) is ∙ length-append olds (x ∷ []) in
+      let within = slice_get_within news node mine at in
+      let got : slice_get (olds ++ x ∷ []) node ≡ Some mine = sym (ap (λ (l : List (Ends P)). slice_get l node) is) ∙ at in
+      dite (dec_le (length olds) node)
+      (λ high. let last : node ≡ length olds = omega arith in
+      let same : x ≡ mine = some_same x mine (sym (get_last olds x) ∙ (sym (ap (λ (n : ℕ). slice_get (olds ++ x ∷ []) n) last) ∙ got)) in
+      ap (λ (m : Ends P). m.from.node) (sym same) ∙ (number ∙ sym last))
+      (λ low. before node mine (sym (get_front olds (x ∷ []) node (omega arith)) ∙ got))
+
+  pub none_wired : (nodes : ℕ) (all : List (Ends P)) → length all ≡ nodes → AreNumbered all → All HasNone all → AreWired nodes 0 0 all
+  none_wired nodes all long numbers none = record {
     count = long;
+    numbers = numbers;
     sends = λ node mine at. let empty : length mine.to.ends.items ≡ 0 = ap (λ (l : List (PeerEnd P)). length l) (all_got HasNone all node mine none at).0 in record {
       below = λ less. absurd (omega arith);
       here = λ same low. empty;

@@ -1,9 +1,10 @@
 -- Copies of published records, to be sent to peers.
-use Rattle.std.specs.Prelude.{◌≡◌, ℕ, ◌+◌, ◌^◌, ◌<◌, ◌≤◌, List, ◌++◌, length, map, All}
+use Rattle.std.specs.Prelude.{◌≡◌, ◌⊎◌, ℕ, ◌+◌, ◌-◌, ◌^◌, ◌<◌, ◌≤◌, List, ◌++◌, length, map, min, All}
 use Rattle.std.specs.List.{concat}
 use Rattle.std.specs.Global.{Vec}
 use Rattle.lc_node.specs.Messages.{records_in, tokens_among, numbered}
-use Rattle.lc_node.specs.Spread.{sent_to, line_of, count_of}
+use Rattle.lc_node.specs.Published.{IsStart}
+use Rattle.lc_node.specs.Spread.{sent_to, line_of, count_of, IsCutOff}
 use Rattle.lc_node.specs.declared.peer_end.PeerEnd.{PeerEnd}
 
 -- their words
@@ -20,6 +21,10 @@ abbrev pub AreBehind : List (List ℕ) → ℕ → List (Vec ℕ) → Type 0
 AreBehind published place copies =
     (front behind : List (List ℕ)) → published ≡ front ++ behind → length (concat front) ≡ place → (rest : List (List ℕ)) × (behind ≡ texts copies ++ rest)
 
+-- they are as many as are published behind the place, 64 at most
+abbrev pub AreMost : List (List ℕ) → ℕ → List (Vec ℕ) → Type 0
+AreMost published place copies = (count : ℕ) → IsStart published count place → length copies ≡ min 64 (length published - count)
+
 module _ {P : Type 0} where
   -- copies that can be sent to a peer, 64 at most
   abbrev pub CanBeSent : PeerEnd P → List (Vec ℕ) → Type 0
@@ -28,6 +33,14 @@ module _ {P : Type 0} where
   -- and those that are the records that it is to be sent next
   abbrev pub AreNext : List (List ℕ) → PeerEnd P → List (Vec ℕ) → Type 0
   AreNext published peer copies = AreBehind published peer.place copies
+
+  -- and those that are as many of them as a call sends
+  abbrev pub AreAllNext : List (List ℕ) → PeerEnd P → List (Vec ℕ) → Type 0
+  AreAllNext published peer copies = AreMost published peer.place copies
+
+  -- so many records were sent as there are copies, if the peer was not cut off
+  abbrev pub SendsAll : PeerEnd P → List (Vec ℕ) → PeerEnd P → Type 0
+  SendsAll old copies new = (count_of new ≡ count_of old + length copies) ⊎ IsCutOff new
 
   -- just these records were sent, with the next numbers
   pub record SendsThese (copies : List (Vec ℕ)) (old new : PeerEnd P) : Type 0 where

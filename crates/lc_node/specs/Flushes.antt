@@ -5,6 +5,9 @@ use Rattle.lc_stage.specs.declared.view.View.{View}
 use Rattle.lc_stage.specs.Seats.{flush_view, OnlyTakes, EndsAt, publishing}
 use Rattle.lc_node.specs.Among.{AreInFront}
 use Rattle.lc_node.specs.LogView.{LogView}
+use Rattle.lc_node.specs.Logs.{IsLogOf}
+use Rattle.lc_node.specs.Published.{Publishes}
+use Rattle.lc_node.specs.declared.node.Node.{Node}
 use Rattle.lc_node.specs.declared.node_fault.NodeFault.{NodeFault}
 use Rattle.lc_node.specs.declared.node_fault.NodeFault.TheVariants.{DeviceFault, Halted}
 
@@ -43,3 +46,21 @@ module _ {D : Type 0} where
   -- the device failed before, and nothing has changed; or it failed now
   abbrev pub IsUnflushed : Ghosts D → LogView D → NodeFault → LogView D → Type 0
   IsUnflushed a old fault new = ((fault ≡ Halted) × (old.is_halted ≡ true) × (new ≡ old)) ⊎ ((fault ≡ DeviceFault) × FailsDevice a old new)
+
+-- Who has no lock of the log knows that there was one, as it was and became
+
+module _ {D : Type 0} where
+  -- so many records became stable in the node's log
+  pub record HasFlushed (node : Node D) (count : ℕ) : Type 0 where
+    pub old : LogView D
+    pub new : LogView D
+    pub own : IsLogOf node old
+    pub flushes : Flushes node.stage.room old count new
+    pub publishes : Publishes old count new
+
+  -- none did, for this fault
+  pub record HasNotFlushed (a : Ghosts D) (node : Node D) (fault : NodeFault) : Type 0 where
+    pub old : LogView D
+    pub new : LogView D
+    pub own : IsLogOf node old
+    pub refused : IsUnflushed a old fault new

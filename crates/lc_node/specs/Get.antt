@@ -3,7 +3,7 @@ use Rattle.std.specs.Prelude.{◌≡◌, ◌⊎◌, ℕ, ◌+◌, ◌<◌, ◌�
 use Rattle.lc_record.specs.Transaction.{is_member}
 use Rattle.lc_tx.specs.declared.tx_fault.TxFault.{TxFault}
 use Rattle.lc_tx.specs.declared.tx_fault.TxFault.TheVariants.{NotLocked, OutOfSegment, NoMemory}
-use Rattle.lc_node.specs.Ran.{AgreeOn, Bytes}
+use Rattle.lc_node.specs.Ran.{AgreeOn, Bytes, Runs}
 use Rattle.lc_node.specs.declared.get.Get.{Get}
 
 -- why they are not got
@@ -14,9 +14,10 @@ IsUngot g locked before fault =
     ⊎ ((fault ≡ NoMemory) × (0 < g.len) × (g.offset + g.len ≤ length (before g.segment))))
 
 -- it finds them, and changes nothing
-abbrev pub Gets : Get → Get → List ℕ → Bytes → Result (Unit {0}) TxFault → Bytes → Type 0
-Gets old new locked before answer after =
+abbrev pub Gets : Get → Get → List ℕ → Bytes → Runs → Result (Unit {0}) TxFault → Bytes → Runs → Type 0
+Gets old new locked before set answer after sets =
     AgreeOn locked after before
+    × (sets ≡ set)
     × MatchResult answer
     (λ _. (new ≡ record old { found = new.found }) × (old.offset + old.len ≤ length (before old.segment)) × (new.found.items ≡ take old.len (drop old.offset (before old.segment))))
     (λ fault. (new ≡ old) × IsUngot old locked before fault)

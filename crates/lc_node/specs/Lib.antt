@@ -2,6 +2,7 @@ pub mod Among
 pub mod Applying
 pub mod Arriving
 pub mod Attempts
+pub mod Calls
 pub mod Cluster
 pub mod Commits
 pub mod Copies
@@ -14,6 +15,7 @@ pub mod Fresh
 pub mod Get
 pub mod Giving
 pub mod Growing
+pub mod Halting
 pub mod Held
 pub mod Joining
 pub mod Journey
@@ -24,6 +26,7 @@ pub mod Refusals
 pub mod Lent
 pub mod LogSide
 pub mod LogView
+pub mod Logs
 pub mod Messages
 pub mod Opened
 pub mod Pages
@@ -32,6 +35,7 @@ pub mod Published
 pub mod Pumping
 pub mod Put
 pub mod Ran
+pub mod Reached
 pub mod Receipts
 pub mod Receiving
 pub mod Receptions
@@ -39,8 +43,10 @@ pub mod Resets
 pub mod Rooms
 pub mod SegSide
 pub mod SegView
+pub mod Settling
 pub mod Shares
 pub mod Sides
+pub mod Snapshots
 pub mod Spread
 pub mod Stages
 pub mod Tokens

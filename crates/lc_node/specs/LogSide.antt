@@ -1,7 +1,10 @@
 -- What a node's log holds.
-use Rattle.std.specs.Prelude.{◌≡◌, ℕ, ◌+◌, ◌*◌, ◌≤◌, ◌<◌, ◌^◌, Bool, true, false, List, [], ◌∷◌, ◌++◌, length, vec_capacity, All}
+use Rattle.std.specs.Prelude.{◌≡◌, ◌⊎◌, ℕ, ◌+◌, ◌*◌, ◌≤◌, ◌<◌, ◌^◌, Bool, true, false, List, [], ◌∷◌, ◌++◌, length, vec_capacity, All}
 use Rattle.std.specs.List.{concat}
 use Rattle.lc_disk.specs.declared.area.Area.{Ghosts}
+use Rattle.lc_log.specs.LogText.{IsLogText, joined}
+use Rattle.lc_log.specs.NodeLog.{EachImage, IsWithOrWithout}
+use Rattle.lc_record.specs.declared.record.Record.{Record}
 use Rattle.lc_stage.specs.Publishing.{HoldsTaken}
 use Rattle.lc_stage.specs.Staging.{AreRecords}
 use Rattle.lc_stage.specs.Seats.{flush_view, commit_view, IsIdle}
@@ -9,27 +12,36 @@ use Rattle.lc_trunc.specs.KnownClean.{known}
 use Rattle.lc_trunc.specs.Reset.{AreKnown}
 use Rattle.lc_node.specs.LogView.{LogView}
 use Rattle.lc_node.specs.declared.log_state.LogState.{LogState}
-use Rattle.lc_node.specs.declared.log_state.LogState.TheVariants.{Idle, Halted, Taken}
+use Rattle.lc_node.specs.declared.log_state.LogState.TheVariants.{Idle, Stopped, Halted, Taken}
 use Rattle.lc_node.specs.declared.log_side.LogSide.TheInside.{Inside}
 
 module _ {D : Type 0} (a : Ghosts D) where
   abbrev pub area_of : LogState D a → List D
   area_of (Idle log) = log.area ∷ []
+  area_of (Stopped log) = log.area ∷ []
   area_of (Halted failed) = failed.area ∷ []
   area_of Taken = []
 
   abbrev pub is_halted : LogState D a → Bool
   is_halted (Idle log) = false
+  is_halted (Stopped log) = true
   is_halted (Halted failed) = true
   is_halted Taken = true
 
   abbrev pub log_view : Inside D a → LogView D
   log_view s = record { flusher = s.flusher; probe = s.probe; area = area_of s.log; is_halted = is_halted s.log; stable = s.stable.items; ended = s.ended.items; ended_room = vec_capacity s.ended; round = s.round; known = s.known }
 
-  -- the stable words are all that was taken in this round, and the log holds them; once halted they are the front of it
+  -- a stop leaves none of the records whose words these are, or all of them, or all and a whole group behind them
+  abbrev pub LeavesRecords : D → List ℕ → Type 0
+  LeavesRecords area stable = a.honest area ≡ true → (records : List Record) × (group : List Record) × (joined records ≡ stable)
+      × EachImage (a.now area) (a.dirty area) (λ words. IsLogText words [] ⊎ IsWithOrWithout records group words)
+
+  -- the stable words are all that was taken in this round, and the log holds them; once a call of it failed they are the front of
+  -- that, and a stop leaves no other records
   abbrev pub HasStable : LogState D a → ℕ → List ℕ → List ℕ → Type 0
   HasStable (Idle log) room taken stable = (stable ≡ taken) × HoldsTaken a log.area log.end taken × (8 * room + 8 ≤ length (a.now log.area))
-  HasStable (Halted failed) room taken stable = (rest : List ℕ) × (taken ≡ stable ++ rest)
+  HasStable (Stopped log) room taken stable = (stable ≡ taken) × HoldsTaken a log.area log.end taken × (8 * room + 8 ≤ length (a.now log.area))
+  HasStable (Halted failed) room taken stable = ((rest : List ℕ) × (taken ≡ stable ++ rest)) × LeavesRecords failed.area stable
   HasStable Taken room taken stable = ⊥
 
   pub record IsLogSide (s : Inside D a) : Type 0 where

@@ -19,6 +19,14 @@ module _ {D : Type 0} (a : Ghosts D) where
     pub settled_in : SettledIn a area page (entry_text entry)
     pub same : is_dirty entry ≡ false → since ≤ entry.stable → a.honest area ≡ true → (page_in (a.now area) page).content ≡ page_bytes bytes page
 
+  -- the page has the segment's bytes
+  abbrev pub HasBytes : D → List ℕ → ℕ → Type 0
+  HasBytes area bytes page = a.honest area ≡ true → (page_in (a.now area) page).content ≡ page_bytes bytes page
+
+  -- each page that this token calls dirty has them
+  abbrev pub HaveBytes : D → Token → List ℕ → Type 0
+  HaveBytes area token bytes = (page : ℕ) → page < length token.pages → is_dirty (entry_at token.pages page) ≡ true → HasBytes area bytes page
+
   -- so it does of each page of a segment with these bytes, whose token this is; nobody refers to a page, and no entry is ahead
   -- of the token
   pub record FitsToken (since : ℕ) (area : D) (token : Token) (bytes : List ℕ) : Type 0 where

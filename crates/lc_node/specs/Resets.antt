@@ -13,6 +13,10 @@ module _ {D : Type 0} where
   abbrev pub IsReady : LogView D → Type 0
   IsReady old = (old.is_halted ≡ false) × (old.stable ≢ [])
 
+  -- there may be more room for the words of the ended rounds
+  abbrev pub IsSameInRoom : LogView D → LogView D → Type 0
+  IsSameInRoom old new = new ≡ record old { ended_room = new.ended_room }
+
   -- no round comes after that of the log
   abbrev pub IsSpent : LogView D → Type 0
   IsSpent old = old.round + 1 ≡ 2 ^ 48

@@ -1,12 +1,14 @@
 -- What of a node's published records was sent to its peers.
-use Rattle.std.specs.Prelude.{◌≡◌, ◌≤◌, ℕ, ◌+◌, ◌-◌, List, ◌++◌, length, Some, slice_get, map, sum_by}
+use Rattle.std.specs.Prelude.{◌≡◌, ◌⊎◌, ◌≤◌, ℕ, ◌+◌, ◌-◌, ◌^◌, true, List, ◌++◌, length, min, Some, slice_get, map, sum_by}
 use Rattle.atomic_table.specs.Seated.{TableId}
 use Rattle.atomic_table.specs.declared.badge.Badge.{Badge}
 use Rattle.crossbeam_channel.specs.declared.flavors.array.Key.{Key}
-use Rattle.lc_line.specs.Ends.{sent_on, line_to}
+use Rattle.lc_line.specs.Ends.{sent_on, line_to, WasFull}
 use Rattle.lc_node.specs.Messages.{records_in, tokens_among, numbered}
 use Rattle.lc_node.specs.declared.message.Message.{Message}
 use Rattle.lc_node.specs.declared.peer_end.PeerEnd.{PeerEnd}
+use Rattle.lc_node.specs.declared.spreading.Spread.{Spread}
+use Rattle.lc_node.specs.Each.{Each}
 
 module _ {P : Type 0} where
   -- what was sent to a peer, oldest first
@@ -31,6 +33,14 @@ module _ {P : Type 0} where
   SendsFew old new =
       (records : List (List ℕ)) × (length records ≤ 64) × (records_in (sent_to new) ≡ records_in (sent_to old) ++ numbered (count_of old + 1) records)
 
+  -- a peer is sent nothing more for now: its line held 64 messages at one moment, or its receiving end is gone
+  abbrev pub IsCutOff : PeerEnd P → Type 0
+  IsCutOff peer = WasFull peer.end ⊎ (peer.gone ≡ true)
+
+  -- a peer was sent 64 records more, or all that are published where these are fewer, if it was not cut off
+  abbrev pub SendsMost : List (List ℕ) → PeerEnd P → PeerEnd P → Type 0
+  SendsMost published old new = (count_of new ≡ min (count_of old + 64) (length published)) ⊎ IsCutOff new
+
   -- what holds of each peer
   abbrev pub ArePrefixes : List (List ℕ) → List (PeerEnd P) → Type 0
   ArePrefixes published peers = (k : ℕ) (peer : PeerEnd P) → slice_get peers k ≡ Some peer → IsPrefix published peer
@@ -49,3 +59,13 @@ module _ {P : Type 0} where
   -- the same peers, each on its line
   abbrev pub SameLines : List (PeerEnd P) → List (PeerEnd P) → Type 0
   SameLines old new = map line_of new ≡ map line_of old
+
+  -- so much of what is published was sent to these peers, and so much is left
+  pub record Spreads (published : List (List ℕ)) (old : List (PeerEnd P)) (spread : Spread) (new : List (PeerEnd P)) : Type 0 where
+    pub prefix : ArePrefixes published old → ArePrefixes published new
+    pub few : Each SendsFew old new
+    pub most : ArePrefixes published old → Each (SendsMost published) old new
+    pub sent : sent_in new ≡ sent_in old + spread.sent
+    pub left : ArePrefixes published old → spread.left ≡ min (2 ^ 64 - 1) (missing_in published new)
+    pub tokens : tokens_in new ≡ tokens_in old
+    pub lines : SameLines old new

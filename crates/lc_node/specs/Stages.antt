@@ -1,5 +1,6 @@
 -- What a committer's seat gains as it stages a record.
 use Rattle.std.specs.Prelude.{◌≡◌, ℕ, ◌+◌, ◌/◌, ◌<◌, true, List, ◌∷◌, length, slice_index}
+use Rattle.lc_record.specs.Record.{Chain}
 use Rattle.lc_stage.specs.declared.view.View.{View}
 use Rattle.lc_stage.specs.declared.view.Reservation.{Reservation}
 use Rattle.lc_stage.specs.Staging.{saw, reserved, latest, with_newest, offset_of, seal_of, LieBelow}
@@ -14,12 +15,18 @@ Sees v w = w ≡ saw w.seen v
 abbrev pub Wins : ℕ → View → View → Type 0
 Wins n v w = (w ≡ reserved w.seen n (saw w.seen v)) × LieBelow w.seen v.mine
 
+-- each of so many tries found a tail above the one that was seen before it; the last found this one
+pub record Loses (tries seen : ℕ) : Type 0 where
+  pub earlier : List ℕ
+  pub count : length earlier ≡ tries
+  pub ascend : Chain (λ tail before. before < tail) (seen ∷ earlier)
+
 -- why nothing was reserved: the words do not fit behind the tail that was seen, that is sealed, or all tries found another one
-abbrev pub IsUnwon : ℕ → ℕ → ℕ → NodeFault → Type 0
-IsUnwon room n seen (Full tail need) = (tail ≡ offset_of seen) × (need ≡ n) × (seal_of seen ≡ 0) × (room < tail + n)
-IsUnwon room n seen Sealed = seal_of seen ≡ 1
-IsUnwon room n seen (Lost tail) = tail ≡ seen
-IsUnwon room n seen _ = ⊥
+abbrev pub IsUnwon : ℕ → ℕ → ℕ → ℕ → NodeFault → Type 0
+IsUnwon room n tries seen (Full tail need) = (tail ≡ offset_of seen) × (need ≡ n) × (seal_of seen ≡ 0) × (room < tail + n)
+IsUnwon room n tries seen Sealed = seal_of seen ≡ 1
+IsUnwon room n tries seen (Lost tail) = (tail ≡ seen) × Loses tries seen
+IsUnwon room n tries seen _ = ⊥
 
 -- the view with these words in its newest reservation
 abbrev pub with_words : List ℕ → View → View

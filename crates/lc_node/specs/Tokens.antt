@@ -2,7 +2,7 @@
 use Rattle.std.specs.Prelude.{◌≡◌, ℕ, List, [], map, Option, Some, None, slice_get}
 use Rattle.lc_line.specs.Ends.{WasFull}
 use Rattle.lc_node.specs.Messages.{records_in}
-use Rattle.lc_node.specs.Spread.{sent_to}
+use Rattle.lc_node.specs.Spread.{sent_to, IsCutOff}
 use Rattle.lc_node.specs.declared.message.Message.{Message}
 use Rattle.lc_node.specs.declared.peer_end.PeerEnd.{PeerEnd}
 
@@ -22,6 +22,14 @@ module _ {P : Type 0} where
   -- the line to the peer at this place had no room at one moment
   abbrev pub WasFullAt : List (PeerEnd P) → ℕ → Type 0
   WasFullAt ends place = WasFullBy (slice_get ends place)
+
+  abbrev pub IsCutOffBy : Option (PeerEnd P) → Type 0
+  IsCutOffBy (Some peer) = IsCutOff peer
+  IsCutOffBy None = ⊥
+
+  -- the line to the peer at this place had no room at one moment, or its receiving end is gone
+  abbrev pub IsCutOffAt : List (PeerEnd P) → ℕ → Type 0
+  IsCutOffAt ends place = IsCutOffBy (slice_get ends place)
 
   -- the same peers, and the same records were sent to each
   abbrev pub SameRecords : List (PeerEnd P) → List (PeerEnd P) → Type 0

@@ -1,17 +1,23 @@
 -- What a truncation does to the segments that it holds, and to the log.
-use Rattle.std.specs.Prelude.{◌≡◌, ◌⊎◌, ℕ, ◌+◌, ◌*◌, ◌<◌, ◌≤◌, List, [], ◌∷◌, length, Option, Some, None, slice_get}
+use Rattle.std.specs.Prelude.{◌≡◌, ◌⊎◌, ℕ, ◌+◌, ◌*◌, ◌<◌, ◌≤◌, true, false, List, [], ◌∷◌, All, length, map, take, Option, Some, None, slice_get}
 use Rattle.lc_disk.specs.declared.area.Area.{Ghosts}
+use Rattle.lc_record.specs.Marks.{counting}
 use Rattle.lc_token.specs.declared.token.Token.{Token}
 use Rattle.lc_trunc.specs.KnownClean.{Sees}
+use Rattle.lc_tx.specs.Tx.{IsSetOf}
 use Rattle.lc_node.specs.Each.{Each}
 use Rattle.lc_node.specs.Ended.{LacksRoom, MakesRoom}
 use Rattle.lc_node.specs.Flushes.{Flushes, IsUnflushed}
+use Rattle.lc_node.specs.Halting.{IsUntruncatable}
+use Rattle.lc_node.specs.Held.{IsHeldOf}
 use Rattle.lc_node.specs.LogView.{LogView}
-use Rattle.lc_node.specs.Pages.{AreWritten}
+use Rattle.lc_node.specs.Logs.{IsLogOf}
+use Rattle.lc_node.specs.Pages.{AreWritten, HaveBytes}
 use Rattle.lc_node.specs.Receipts.{IsOfDevice}
 use Rattle.lc_node.specs.Resets.{Empties, IsSpent, IsUnemptied}
 use Rattle.lc_node.specs.SegView.{SegView, laid_parts}
 use Rattle.lc_node.specs.declared.held.HeldSide.{HeldSide}
+use Rattle.lc_node.specs.declared.node.Node.{Node}
 use Rattle.lc_node.specs.declared.node_fault.NodeFault.{NodeFault}
 use Rattle.lc_node.specs.declared.node_fault.NodeFault.TheVariants.{NoMemory, Lost, DeviceFault, Halted, RoundsSpent, Unclean}
 use Rattle.lc_node.specs.declared.page_area.PageArea.TheVariants.{Elsewhere, Serves, Failed}
@@ -26,20 +32,9 @@ module _ {D : Type 0} where
   abbrev pub IsFolded : SegView D → SegView D → Type 0
   IsFolded old new = new ≡ record old { base = laid_parts old.applied old.base; applied = []; room = new.room; standing = new.standing; pages = new.pages }
 
-  -- no area is here, or each dirty page was written to it, which the token notes
-  abbrev pub WritesPages : SegView D → SegView D → Type 0
-  WritesPages old new =
-      IsFolded old new
-      × (((old.pages ≡ Elsewhere) × (new.pages ≡ Elsewhere) × (new.standing ≡ old.standing))
-      ⊎ ((before : D) × (after : D) × (t : Token) × (u : Token) × (old.pages ≡ Serves before) × (new.pages ≡ Serves after)
-      × (old.standing.token ≡ Some t) × (new.standing ≡ record old.standing { token = Some u }) × AreWritten t u))
-
   -- the same of a held side, whose lock and image stay
   abbrev pub IsSameHeld : HeldSide D → HeldSide D → Type 0
   IsSameHeld h g = (g ≡ record h { side = g.side }) × (g.side.segment ≡ h.side.segment) × (g.side.image ≡ h.side.image)
-
-  abbrev pub WritesSide : HeldSide D → HeldSide D → Type 0
-  WritesSide h g = (g ≡ record h { side = g.side }) × WritesPages h.side g.side
 
   -- the pages of the segment fit into so many places
   abbrev pub HasPagesIn : ℕ → HeldSide D → Type 0
@@ -50,7 +45,26 @@ module _ {D : Type 0} where
   SeesSides old [] new = new ≡ old
   SeesSides old (h ∷ hs) new = (next : List ℕ) × SeesToken old h.side.standing.token next × SeesSides next hs new
 
+  -- the node's log served, and was not in its last round
+  abbrev pub MayTruncate : Node D → Type 0
+  MayTruncate node = (log : LogView D) × IsLogOf node log × (log.is_halted ≡ false) × ¬ IsSpent log
+
+  -- these are all segments of the node, held
+  abbrev pub AreAllOf : Node D → List (HeldSide D) → Type 0
+  AreAllOf node sides = All (IsHeldOf node) sides × IsSetOf (take (length node.segments.items) (counting 1 16)) (map (λ h. h.side.segment) sides)
+
 module _ {D : Type 0} (a : Ghosts D) where
+  -- no area is here, or each dirty page was written to it with the segment's bytes, which the token notes
+  abbrev pub WritesPages : SegView D → SegView D → Type 0
+  WritesPages old new =
+      IsFolded old new
+      × (((old.pages ≡ Elsewhere) × (new.pages ≡ Elsewhere) × (new.standing ≡ old.standing))
+      ⊎ ((before : D) × (after : D) × (t : Token) × (u : Token) × (old.pages ≡ Serves before) × (new.pages ≡ Serves after)
+      × (old.standing.token ≡ Some t) × (new.standing ≡ record old.standing { token = Some u }) × AreWritten t u × HaveBytes a after t new.base))
+
+  abbrev pub WritesSide : HeldSide D → HeldSide D → Type 0
+  WritesSide h g = (g ≡ record h { side = g.side }) × WritesPages h.side g.side
+
   -- a call of the area failed before, and nothing has changed but what is folded; or one fails now
   abbrev pub FailsPages : SegView D → NodeFault → SegView D → Type 0
   FailsPages old fault new =
@@ -81,24 +95,51 @@ module _ {D : Type 0} (a : Ghosts D) where
     pub sees : SeesSides flushed.known news known
     pub empties : Empties (record flushed { known = known }) round new
 
-  -- it is in its last round, its flush failed, the pages of a segment did, or it could not be emptied
+  -- its flush failed, the pages of a segment did, so that it serves no more, or it could not be emptied
   abbrev pub IsUntruncated : ℕ → LogView D → List (HeldSide D) → NodeFault → LogView D → List (HeldSide D) → Type 0
   IsUntruncated room old olds fault new news =
-      ((fault ≡ RoundsSpent) × IsSpent old × (new ≡ old) × (news ≡ olds))
-      ⊎ ((IsUnflushed a old fault new × (news ≡ olds))
+      (IsUnflushed a old fault new × (news ≡ olds))
       ⊎ ((count : ℕ) × (flushed : LogView D) × Flushes room old count flushed
-      × ((FailsSides olds fault news × (new ≡ flushed))
-      ⊎ ((known : List ℕ) × Each WritesSide olds news × SeesSides flushed.known news known × IsUnemptied (record flushed { known = known }) fault new))))
+      × ((FailsSides olds fault news × (new ≡ record flushed { is_halted = true }))
+      ⊎ ((known : List ℕ) × Each WritesSide olds news × SeesSides flushed.known news known × IsUnemptied (record flushed { known = known }) fault new)))
 
   -- the same, behind room for the words of its round
   abbrev pub TruncatesInRoom : ℕ → LogView D → List (HeldSide D) → ℕ → LogView D → List (HeldSide D) → Type 0
   TruncatesInRoom room old olds round new news = (roomy : LogView D) × MakesRoom old roomy × Truncates room roomy olds round new news
 
-  -- that room could not be made, and nothing has changed; or it was, and then the truncation was refused
+  -- it may not be truncated at all, or that room could not be made, and nothing has changed; or it was, and then the truncation was
+  -- refused
   abbrev pub IsUntruncatedInRoom : ℕ → LogView D → List (HeldSide D) → NodeFault → LogView D → List (HeldSide D) → Type 0
   IsUntruncatedInRoom room old olds fault new news =
-      ((fault ≡ NoMemory) × LacksRoom old new × (news ≡ olds))
-      ⊎ ((roomy : LogView D) × MakesRoom old roomy × IsUntruncated room roomy olds fault new news)
+      (IsUntruncatable old fault × (new ≡ old) × (news ≡ olds))
+      ⊎ (((fault ≡ NoMemory) × LacksRoom old new × (news ≡ olds))
+      ⊎ ((roomy : LogView D) × MakesRoom old roomy × IsUntruncated room roomy olds fault new news))
+
+  -- Who has no lock knows that there was a log, as it was and became, and that there were these sides
+
+  -- the node's log was truncated with these sides held
+  abbrev pub TruncatesHeld : Node D → List (HeldSide D) → ℕ → List (HeldSide D) → Type 0
+  TruncatesHeld node olds round news = (old : LogView D) × (new : LogView D) × IsLogOf node old × TruncatesInRoom node.stage.room old olds round new news
+
+  -- it was not, for want of memory for the writes, or for a reason that its log had
+  abbrev pub IsUntruncatedHeld : Node D → List (HeldSide D) → NodeFault → List (HeldSide D) → Type 0
+  IsUntruncatedHeld node olds fault news =
+      ((fault ≡ NoMemory) × (news ≡ olds))
+      ⊎ ((old : LogView D) × (new : LogView D) × IsLogOf node old × IsUntruncatedInRoom node.stage.room old olds fault new news)
+
+  -- all segments of the node were held, and its log was truncated
+  pub record HasTruncated (node : Node D) (round : ℕ) : Type 0 where
+    pub olds : List (HeldSide D)
+    pub news : List (HeldSide D)
+    pub all : AreAllOf node olds
+    pub truncates : TruncatesHeld node olds round news
+
+  -- its log could not be truncated at all; or it could, and then there was no memory, or it was refused with all segments held
+  abbrev pub HasNotTruncated : Node D → NodeFault → Type 0
+  HasNotTruncated node fault =
+      ((log : LogView D) × IsLogOf node log × IsUntruncatable log fault)
+      ⊎ (MayTruncate node × ((fault ≡ NoMemory)
+      ⊎ ((olds : List (HeldSide D)) × (news : List (HeldSide D)) × AreAllOf node olds × IsUntruncatedHeld node olds fault news)))
 
 -- why a truncation is refused
 abbrev pub IsOfTruncation : NodeFault → Type 0

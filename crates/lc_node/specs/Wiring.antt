@@ -54,9 +54,14 @@ module _ {P : Type 0} where
   abbrev pub AreLines : ℕ → List (Ends P) → Type 0
   AreLines nodes all = (from to : ℕ) → from < nodes → to < nodes → from ≢ to → IsLine all from to
 
+  -- the receiving ends of each know its number
+  abbrev pub AreNumbered : List (Ends P) → Type 0
+  AreNumbered all = (node : ℕ) (mine : Ends P) → slice_get all node ≡ Some mine → mine.from.node ≡ node
+
   -- there is a line from each node below `from` to each other, and from that one to each other below `to`, and no other line
   pub record AreWired (nodes from to : ℕ) (all : List (Ends P)) : Type 0 where
     pub count : length all ≡ nodes
+    pub numbers : AreNumbered all
     pub sends : (node : ℕ) (mine : Ends P) → slice_get all node ≡ Some mine → HasSends nodes from to node (length mine.to.ends.items)
     pub takes : (node : ℕ) (mine : Ends P) → slice_get all node ≡ Some mine → HasTakes from to node (length mine.from.ends.items)
     pub unused : All IsUnused all

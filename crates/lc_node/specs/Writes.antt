@@ -6,7 +6,7 @@ use Rattle.lc_page.specs.PageVector.{entry_at, entry_text, is_dirty}
 use Rattle.lc_page.specs.Writing.{IsUnderWay, draft_of}
 use Rattle.lc_page.specs.declared.writing.Writing.{Writing}
 use Rattle.lc_token.specs.declared.token.Token.{Token}
-use Rattle.lc_node.specs.Pages.{FitsPage, entry_after, page_bytes}
+use Rattle.lc_node.specs.Pages.{FitsPage, HasBytes, entry_after, page_bytes}
 
 -- none of these writes is of this page
 abbrev pub IsOfNone : ℕ → List Writing → Type 0
@@ -39,16 +39,21 @@ module _ {D : Type 0} (a : Ghosts D) where
   AreWritesOf area token bytes front [] = Unit {0}
   AreWritesOf area token bytes front (write ∷ writes) = IsWriteOf area token bytes front write × AreWritesOf area token bytes front writes
 
+  -- the page stands as it is to behind the writes: where it was dirty it has the segment's bytes
+  pub record IsOverAt (since : ℕ) (area : D) (token : Token) (bytes : List ℕ) (page : ℕ) : Type 0 where
+    pub fits : FitsPage a since area bytes page (entry_after token page)
+    pub wrote : is_dirty (entry_at token.pages page) ≡ true → HasBytes a area bytes page
+
   -- of the pages in front of this one the dirty ones are being written, or are written; the others stand as they did
   pub record AreUnderWay (since : ℕ) (area : D) (token : Token) (bytes : List ℕ) (front : ℕ) (writes : List Writing) : Type 0 where
     pub room : length token.pages * 544 ≤ length (a.now area)
     pub apart : AreApart writes
     pub each : AreWritesOf area token bytes front writes
-    pub others : (page : ℕ) → page < front → page < length token.pages → IsOfNone page writes → FitsPage a since area bytes page (entry_after token page)
+    pub others : (page : ℕ) → page < front → page < length token.pages → IsOfNone page writes → IsOverAt since area token bytes page
     pub behind : (page : ℕ) → front ≤ page → page < length token.pages → FitsPage a since area bytes page (entry_at token.pages page)
 
   -- each page has the segment's bytes, under the token's number where it was dirty, and else where it was written under
   -- this number or a later one
   pub record AreOver (since : ℕ) (area : D) (token : Token) (bytes : List ℕ) : Type 0 where
     pub room : length token.pages * 544 ≤ length (a.now area)
-    pub each : (page : ℕ) → page < length token.pages → FitsPage a since area bytes page (entry_after token page)
+    pub each : (page : ℕ) → page < length token.pages → IsOverAt since area token bytes page

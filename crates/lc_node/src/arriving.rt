@@ -16,7 +16,7 @@ impl<D: Area + Drop> SegSide<D> {
     /// Places a token that came here, with the area of the pages. It may where no token is here, where it is of the segment
     /// and has as many pages, and where the node has applied just the records that it has seen; else it is handed back, and
     /// nothing has changed. It takes no memory. Log-based coherency: Feeley et al., OSDI 1994.
-    pub fn arrive(&mut self, journey: Travelling<D>) -> Result<(), Travelling<D>>
+    pub(crate) fn arrive(&mut self, journey: Travelling<D>) -> Result<(), Travelling<D>>
         ensures done { IsOk result ↔ MayArrive self.old journey }
         ensures arrived { OnOk result (self.new ≡ with_token journey self.old) }
         ensures back { IfErr result (λ given. given ≡ journey) }
@@ -32,7 +32,7 @@ impl<D: Area + Drop> SegSide<D> {
 
     /// Places a token that left and was not sent, with the area of the pages: all is as it was before it left. It takes no
     /// memory.
-    pub fn stay(&mut self, journey: Travelling<D>)
+    pub(crate) fn stay(&mut self, journey: Travelling<D>)
         requires none { self.old.standing.token ≡ None }
         requires segment { journey.token.segment ≡ self.old.segment }
         requires number { journey.token.seq ≡ self.old.backlog.applied }

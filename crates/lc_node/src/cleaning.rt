@@ -39,10 +39,10 @@ impl<D: Area + Drop> SegSide<D> {
     ///
     /// `Halted` exactly where a call of the area failed before; `DeviceFault` where one fails now, and then only a recovery reads the
     /// area again. The token is as it was.
-    pub fn write_pages(&mut self, writes: &mut VecDeque<Writing>) -> Result<(), NodeFault>
+    pub(crate) fn write_pages(&mut self, writes: &mut VecDeque<Writing>) -> Result<(), NodeFault>
         requires none { writes.old.items ≡ [] }
         requires room { length self.old.base ≤ deque_capacity writes.old * 256 }
-        ensures written { OnOk result (WritesPages self.old self.new) }
+        ensures written { OnOk result (WritesPages D.Area self.old self.new) }
         ensures failed { IfErr result (λ fault. FailsPages D.Area self.old fault self.new) }
         ensures none { writes.new.items ≡ [] }
         ensures room { deque_capacity writes.old ≤ deque_capacity writes.new }
@@ -89,7 +89,7 @@ pub(crate) fn write_all<D: Area + Drop>(
 ) -> Result<(), NodeFault>
     requires none { writes.old.items ≡ [] }
     requires room { All (HasPagesIn (deque_capacity writes.old)) sides.old.items }
-    ensures written { OnOk result (Each WritesSide sides.old.items sides.new.items) }
+    ensures written { OnOk result (Each (WritesSide D.Area) sides.old.items sides.new.items) }
     ensures failed { IfErr result (λ fault. FailsSides D.Area sides.old.items fault sides.new.items) }
     ensures same { Each IsSameHeld sides.old.items sides.new.items }
 {

@@ -1,6 +1,7 @@
 //! The calls of a cluster.
-ghost use Rattle.std.specs.Prelude.{◌≡◌, Some, length, slice_get, IfErr};
+ghost use Rattle.std.specs.Prelude.{◌≡◌, ◌<◌, Some, length, slice_get, IfOk, IfErr, OnErr};
 ghost use Rattle.lc_lock.specs.Loans.{key_of};
+ghost use Rattle.lc_node.specs.Calls.{SpreadsAt};
 ghost use Rattle.lc_node.specs.Cluster.{HasNode, node_at};
 ghost use Rattle.lc_node.specs.Keys.{HasOwnKey};
 ghost use Rattle.lc_node.specs.Wiring.{HasPeers};
@@ -35,10 +36,12 @@ impl<D: Area + Drop> Cluster<D> {
     ///
     /// # Errors
     ///
-    /// `NoMemory`, and nothing was sent.
+    /// `NoMemory`, where there is a peer, and nothing was sent.
     pub fn spread<R: Wait>(&self, rt: &R, alloc: Global, node: u16) -> Result<Spread, NodeFault>
         requires { HasNode self.now node }
-        ensures { IfErr result (λ fault. fault ≡ NoMemory) }
+        ensures spread { IfOk result (λ spread. SpreadsAt self.now node spread) }
+        ensures refused { IfErr result (λ fault. fault ≡ NoMemory) }
+        ensures memory { OnErr result (1 < length self.now.members.items) }
     {
         let member = self.member(node);
         let (log, log_loan) = member.node.log.lock(rt);

@@ -26,7 +26,7 @@ pub enum Confirmed {
 impl<D: Area + Drop> LogSide<D> {
     /// Where the record of a receipt is, which this seat got from `durable`. It takes no memory. The stage is that of the
     /// log and of the seat.
-    pub fn confirm(
+    pub(crate) fn confirm(
         &mut self,
         stage: &Stage,
         seat: CommitSeat,

@@ -1,6 +1,6 @@
 //! Copies of the records that peers lack.
 ghost use Rattle.std.specs.Prelude.{◌≡◌, ◌-◌, ◌<◌, ◌≤◌, ℕ, length, IfOk, OnErr};
-ghost use Rattle.lc_node.specs.Copies.{FitBehind, AreBehind, CanBeSent, AreNext};
+ghost use Rattle.lc_node.specs.Copies.{FitBehind, AreBehind, AreMost, CanBeSent, AreNext, AreAllNext};
 ghost use Rattle.lc_node.specs.Each.{Each};
 ghost use Rattle.lc_node.specs.Published.{published, IsStart};
 
@@ -18,6 +18,7 @@ pub(crate) fn copies_for<P: Drop, D: Area + Drop>(
 ) -> Result<Vec<VecDeque<Vec<u64>>>, AllocError>
     ensures fit { IfOk result (λ copies. Each (λ peer lacks. CanBeSent peer lacks.items) peers.now copies.items) }
     ensures next { IfOk result (λ copies. Each (λ peer lacks. AreNext (published log.now) peer lacks.items) peers.now copies.items) }
+    ensures most { IfOk result (λ copies. Each (λ peer lacks. AreAllNext (published log.now) peer lacks.items) peers.now copies.items) }
     ensures memory { OnErr result (0 < length peers.now) }
 {
     let mut copies = Vec::with_capacity(alloc, peers.len())?;
@@ -37,12 +38,13 @@ fn copies_from<D: Area + Drop>(
     ensures few { IfOk result (λ copies. length copies.items ≤ 64) }
     ensures fit { IfOk result (λ copies. FitBehind place copies.items) }
     ensures behind { IfOk result (λ copies. AreBehind (published log.now) place copies.items) }
+    ensures most { IfOk result (λ copies. AreMost (published log.now) place copies.items) }
 {
     let mut copies = VecDeque::with_capacity(alloc, ROOM)?;
     let mut at = place;
     for _ in 0..ROOM {
         let Some(words) = log.record_at(at) else {
-            break;
+            return Ok(copies);
         };
         let copy = Vec::from_slice(alloc, words)?;
         at += copy.len();

@@ -17,7 +17,7 @@ impl<D: Area + Drop> LogSide<D> {
     /// # Errors
     ///
     /// `AllocError` where memory is wanted. Nothing has changed.
-    pub fn make_room(&mut self, stage: &Stage) -> Result<(), AllocError>
+    pub(crate) fn make_room(&mut self, stage: &Stage) -> Result<(), AllocError>
         requires own { IsFlusherOf stage.now self.old.flusher }
         ensures made { OnOk result (MakesRoom self.old self.new) }
         ensures refused { OnErr result (LacksRoom self.old self.new) }

@@ -1,5 +1,6 @@
 //! Tokens and records go from node to node.
-ghost use Rattle.std.specs.Prelude.{◌≢◌, IfErr};
+ghost use Rattle.std.specs.Prelude.{◌≡◌, ◌≢◌, IfErr};
+ghost use Rattle.lc_node.specs.Calls.{HandsOverAt, HasSegmentAt, PumpsAt};
 ghost use Rattle.lc_node.specs.Cluster.{HasNode};
 ghost use Rattle.lc_node.specs.Giving.{IsUngiven};
 ghost use Rattle.lc_node.specs.Held.{IsUnheld};
@@ -19,11 +20,14 @@ impl<D: Area + Drop> Cluster<D> {
     ///
     /// `Halted` where a call of the device of the log or of the segment's pages has failed; then, as `Token`, `NotHere` where
     /// the token is elsewhere or there is no such segment, and `Unflushed` where not all that the node reserved is stable;
-    /// `ChannelFull` where the line to the other node has no room. The token stands where it was then.
+    /// `ChannelFull` where the line to the other node held 64 messages at one moment, or its receiving end is gone. The token
+    /// stands where it was then.
     pub fn give<R: Wait>(&self, rt: &R, from: u16, to: u16, segment: u32) -> Result<(), NodeFault>
         requires apart { from ≢ to }
         requires within { HasNode self.now from × HasNode self.now to }
-        ensures { IfErr result (IsUngiven segment to) }
+        ensures gives { HasSegmentAt self.now from segment → HandsOverAt D.Area self.now from to segment result }
+        ensures no_segment { (HasSegmentAt self.now from segment → ⊥) → result ≡ Err (NodeFault.Token (TokenFault.NotHere segment)) }
+        ensures refused { IfErr result (IsUngiven segment to) }
     {
         let member = self.member(from);
         let node = &member.node;
@@ -60,7 +64,8 @@ impl<D: Area + Drop> Cluster<D> {
     ) -> Result<Pumped, NodeFault>
         requires apart { to ≢ from }
         requires within { HasNode self.now to × HasNode self.now from }
-        ensures { IfErr result IsUnheld }
+        ensures pumps { PumpsAt self.now to from result }
+        ensures refused { IfErr result IsUnheld }
     {
         let member = self.member(to);
         let (mut ends, loan) = member.from.lock(rt);

@@ -32,7 +32,7 @@ impl<D: Area + Drop> LogSide<D> {
     ///
     /// `Halted` exactly where the device failed before, and nothing has changed; `DeviceFault` where it fails now:
     /// nothing more is stable or published, and the log is halted.
-    pub fn flush(&mut self, stage: &Stage) -> Result<u64, NodeFault>
+    pub(crate) fn flush(&mut self, stage: &Stage) -> Result<u64, NodeFault>
         requires own { IsFlusherOf stage.now self.old.flusher }
         ensures own { IsFlusherOf stage.now self.new.flusher × (self.new.probe ≡ self.old.probe) × (self.new.round ≡ self.old.round) × (self.new.known ≡ self.old.known) }
         ensures flushed { IfOk result (λ count. Flushes stage.now.room self.old count self.new) }

@@ -6,7 +6,7 @@ ghost use Rattle.lc_node.specs.Giving.{GivesToken, IsStableTo, IsUngiven};
 ghost use Rattle.lc_node.specs.Leaving.{HasFailed, IsServing};
 ghost use Rattle.lc_node.specs.Peers.{place_of};
 ghost use Rattle.lc_node.specs.Spread.{SameLines};
-ghost use Rattle.lc_node.specs.Tokens.{SameRecords, sent_at};
+ghost use Rattle.lc_node.specs.Tokens.{IsCutOffAt, SameRecords, sent_at};
 
 use crate::peers::place_of;
 use crate::{LogSide, NodeFault, SegSide, SendEnds, Travelling};
@@ -22,7 +22,8 @@ impl<D: Area + Drop> SegSide<D> {
     ///
     /// # Errors
     ///
-    /// Those of `leave`, and `ChannelFull` where the line to the peer has no room. The token stands where it was then.
+    /// Those of `leave`, and `ChannelFull` where the line to the peer held 64 messages at one moment, or its receiving end is
+    /// gone. The token stands where it was then.
     pub(crate) fn give<R: Wait>(
         &mut self,
         rt: &R,
@@ -37,6 +38,7 @@ impl<D: Area + Drop> SegSide<D> {
         ensures halted { (result ≡ Err NodeFault.Halted) ↔ HasFailed self.old.pages }
         ensures unflushed { (result ≡ Err (NodeFault.Token TokenFault.Unflushed)) ↔ (IsServing self.old.pages × (flushed ≡ false)) }
         ensures refused { IfErr result (λ fault. IsServing self.old.pages → flushed ≡ true → fault ≡ NodeFault.ChannelFull to) }
+        ensures full { result ≡ Err (NodeFault.ChannelFull to) → IsCutOffAt ends.new.ends.items (place_of from to) }
         ensures which { IfErr result (IsUngiven self.old.segment to) }
         ensures given { result ≡ Ok tt → (flushed ≡ true) × GivesToken D.Area from self.old self.new (sent_at ends.old.ends.items (place_of from to)) (sent_at ends.new.ends.items (place_of from to)) }
         ensures err { OnErr result ((self.new ≡ self.old) × (sent_at ends.new.ends.items (place_of from to) ≡ sent_at ends.old.ends.items (place_of from to))) }
@@ -79,6 +81,7 @@ impl<D: Area + Drop> SegSide<D> {
         ensures halted { (result ≡ Err NodeFault.Halted) ↔ ((log.old.is_halted ≡ true) ⊎ HasFailed self.old.pages) }
         ensures not_here { (result ≡ Err (NodeFault.Token (TokenFault.NotHere self.old.segment))) ↔ ((log.old.is_halted ≡ false) × (self.old.standing.token ≡ None)) }
         ensures unflushed { (result ≡ Err (NodeFault.Token TokenFault.Unflushed)) ↔ ((log.old.is_halted ≡ false) × IsServing self.old.pages × (IsStableTo log.old log.new → ⊥)) }
+        ensures full { result ≡ Err (NodeFault.ChannelFull to) → IsCutOffAt ends.new.ends.items (place_of from to) }
         ensures which { IfErr result (IsUngiven self.old.segment to) }
         ensures given { result ≡ Ok tt → IsStableTo log.old log.new × GivesToken D.Area from self.old self.new (sent_at ends.old.ends.items (place_of from to)) (sent_at ends.new.ends.items (place_of from to)) }
         ensures err { OnErr result ((self.new ≡ self.old) × (sent_at ends.new.ends.items (place_of from to) ≡ sent_at ends.old.ends.items (place_of from to))) }

@@ -18,7 +18,7 @@ impl<D: Area + Drop> SegSide<D> {
     ///
     /// The token's fault `NotHere` where it is elsewhere; `Halted` where a call of the area failed, so that the token stays
     /// until a recovery; else the token's fault `Unflushed` where not all is stable. Nothing has changed then.
-    pub fn leave(&mut self, flushed: bool, node: u16) -> Result<Travelling<D>, NodeFault>
+    pub(crate) fn leave(&mut self, flushed: bool, node: u16) -> Result<Travelling<D>, NodeFault>
         ensures not_here { (result ≡ Err (NodeFault.Token (TokenFault.NotHere self.old.segment))) ↔ (self.old.standing.token ≡ None) }
         ensures halted { (result ≡ Err NodeFault.Halted) ↔ HasFailed self.old.pages }
         ensures unflushed { (result ≡ Err (NodeFault.Token TokenFault.Unflushed)) ↔ (IsServing self.old.pages × (flushed ≡ false)) }
@@ -61,14 +61,14 @@ impl<D: Area + Drop> SegSide<D> {
 
 impl<D: Area + Drop> Travelling<D> {
     /// The segment whose token this is, from 1.
-    pub fn segment(&self) -> u32
+    pub(crate) fn segment(&self) -> u32
         ensures { result ≡ self.now.token.segment }
     {
         self.token.segment()
     }
 
     /// The token's number.
-    pub fn number(&self) -> u64
+    pub(crate) fn number(&self) -> u64
         ensures number { result ≡ self.now.token.seq }
         ensures small { result ≤ 2 ^ 60 }
     {
@@ -76,7 +76,7 @@ impl<D: Area + Drop> Travelling<D> {
     }
 
     /// The number of the node that the token left.
-    pub fn left(&self) -> u16
+    pub(crate) fn left(&self) -> u16
         ensures { result ≡ self.now.left }
     {
         self.left

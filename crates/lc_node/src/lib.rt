@@ -2,6 +2,7 @@
 //! not refused, as their types keep it.
 #![tactic(auto)]
 
+mod absent;
 mod applying;
 mod areas;
 mod arriving;
@@ -25,6 +26,7 @@ mod gate;
 mod get;
 mod giving;
 mod growing;
+mod halting;
 mod held;
 mod holding;
 mod joining;
@@ -106,6 +108,5 @@ pub use seg_side::SegSide;
 pub use send_ends::SendEnds;
 pub use snapshot::Snapshot;
 pub use spreading::Spread;
-pub use staging::stage_record;
 pub use travelling::Travelling;
 pub use work::Work;

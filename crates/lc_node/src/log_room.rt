@@ -16,6 +16,7 @@ use lc_record::Group;
 use lc_stage::{CommitSeat, FlushSeat, Stage};
 use lc_trunc::KnownClean;
 use std::alloc::{AllocError, Global};
+use std::sync::atomic::AtomicIn;
 
 /// A node's stage with the first committer's seat, and its log before the area is there. It is never dropped: it ends in
 /// `open` or in `end`.
@@ -108,6 +109,7 @@ impl<D: Area + Drop> LogRoom<D> {
             stage,
             log,
             segments,
+            halted: AtomicIn::new(0),
         };
         (node, seat)
     }

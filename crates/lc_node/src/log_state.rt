@@ -7,6 +7,8 @@ use lc_log::{Failed, NodeLog};
 pub(crate) enum LogState<D: Area> {
     /// It serves.
     Idle(NodeLog<D>),
+    /// A call on the pages of a segment failed: only a recovery opens it again.
+    Stopped(NodeLog<D>),
     /// A call of it failed: only a recovery opens it again.
     Halted(Failed<D>),
     /// It is taken out, while a call is made.

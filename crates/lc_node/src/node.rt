@@ -4,19 +4,23 @@ ghost use Rattle.lc_lock.specs.declared.lock.Lock.{Lock as Keeps};
 ghost use Rattle.lc_lock.specs.Loans.{key_of};
 ghost use Rattle.lc_node.specs.SegView.{SegView};
 
+use crate::halting::Halting;
 use crate::{LogSide, SegSide};
 use lc_disk::Area;
 use lc_lock::Lock;
 use lc_stage::Stage;
+use std::sync::atomic::AtomicIn;
 
-/// A running node: its number, from 0, which its records name, its stage, a lock round its log, and one round each of its segments, at most 16, from segment 1 on. This
-/// project's own.
+/// A running node: its number, from 0, which its records name, its stage, a lock round its log, one round each of its segments, at
+/// most 16, from segment 1 on, and whether it is halted. This project's own.
 #[derive(Drop)]
 pub struct Node<D: Area + Drop> {
     pub(crate) number: u16,
     pub(crate) stage: Stage,
     pub(crate) log: Lock<LogSide<D>, Stage>,
     pub(crate) segments: Vec<Lock<SegSide<D>, u32>>,
+    /// Not 0 once a call of a device has failed.
+    pub(crate) halted: AtomicIn<Halting<D>>,
     ghost numbered: { number ≤ 7 },
     ghost one_stage: { (key_of log).table.shared.table_id ≡ stage.table.shared.table_id },
     ghost in_order: { (place : ℕ) (lock : Keeps (SegView D) ℕ) → slice_get segments.items place ≡ Some lock → key_of lock ≡ place + 1 },

@@ -2,7 +2,7 @@
 ghost use Rattle.std.specs.Prelude.{◌≡◌, ◌≢◌, ◌+◌, ◌*◌, ◌≤◌, ◌<◌, ◌^◌, ℕ, List, true, [], IfOk, IfErr, OnErr, OnOk, IsSomeAnd, length, is_ok};
 ghost use Rattle.std.specs.Option.{ForSome};
 ghost use Rattle.std.specs.VecDeque.{deque_capacity};
-ghost use Rattle.lc_node.specs.Pages.{AreWritten, FitsToken};
+ghost use Rattle.lc_node.specs.Pages.{AreWritten, FitsToken, HaveBytes};
 ghost use Rattle.lc_node.specs.Writes.{AreOver, AreUnderWay, HaveRoom, IsWriteOf};
 ghost use Rattle.lc_page.specs.PageVector.{entry_at, entry_text, is_dirty};
 ghost use Rattle.lc_page.specs.PageWrite.{Continues, KeepsPage, SettledIn};
@@ -31,6 +31,7 @@ pub(crate) fn write_dirty<D: Area>(
     ensures written { OnOk result (ForSome place.old.token (λ t. IsSomeAnd place.new.token (AreWritten t))) }
     ensures fits { OnOk result ((since : ℕ) → IsSomeAnd place.old.token (λ t. FitsToken D.Area since area.old t bytes.now)
         → IsSomeAnd place.new.token (λ t. FitsToken D.Area since area.new t bytes.now)) }
+    ensures wrote { OnOk result (ForSome place.old.token (λ t. HaveBytes D.Area area.new t bytes.now)) }
     ensures segment { place.new.segment ≡ place.old.segment }
     ensures none { writes.new.items ≡ [] }
     ensures room { deque_capacity writes.old ≤ deque_capacity writes.new }

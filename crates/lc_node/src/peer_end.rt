@@ -7,12 +7,14 @@ use crate::Message;
 use lc_line::SendEnd;
 
 /// The sending end to a peer, how many published records were sent on it, and how many words they have: the next begins
-/// behind so many words of what is published. This project's own.
+/// behind so many words of what is published. It knows whether a message was refused because the receiving end is gone.
+/// This project's own.
 #[derive(Drop)]
 pub struct PeerEnd<P: Drop> {
     pub(crate) end: SendEnd<Message<P>>,
     pub(crate) count: u64,
     pub(crate) place: usize,
+    pub(crate) gone: bool,
     ghost counted: { count ≡ length (records_in (sent_on end)) },
     ghost placed: { place ≡ words_of (records_in (sent_on end)) },
     ghost filled: { count ≤ place },

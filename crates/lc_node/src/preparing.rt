@@ -1,5 +1,5 @@
 //! What a commit makes ready before its record is reserved.
-ghost use Rattle.std.specs.Prelude.{◌≡◌, ◌≤◌, ◌<◌, ℕ, map, length, None, Some, Ok, IfOk, IfErr, IfSome, OnErr, OnOk};
+ghost use Rattle.std.specs.Prelude.{◌≡◌, ◌≤◌, ◌<◌, ℕ, [], map, length, None, Some, Ok, IfOk, IfErr, IfSome, OnErr, OnOk};
 ghost use Rattle.lc_record.specs.declared.record.Record.{Record as Spelled};
 ghost use Rattle.lc_record.specs.Record.{IsRecord};
 ghost use Rattle.lc_record.specs.Part.{part_of};
@@ -16,7 +16,8 @@ ghost use Rattle.lc_node.specs.Stages.{Sees};
 use crate::attempting::attempt;
 use crate::held::HeldSide;
 use crate::lent::Lent;
-use crate::{Gate, NodeFault, Work, stage_record};
+use crate::staging::stage_record;
+use crate::{Gate, NodeFault, Work};
 use lc_disk::Area;
 use lc_record::{Part, View};
 use lc_stage::{CommitSeat, Stage};
@@ -75,11 +76,11 @@ pub(crate) fn stage_work<W: Work, G: Gate>(
     requires small { AreSmall the_images lent.old segments.now }
     ensures own { IsSeatOf stage.now seat.new }
     ensures idle { IsIdle (commit_view seat.new) }
-    ensures staged { IfOk result (λ done. IfSome done (λ parts. StagesWork node segments.now lent.old parts.items lent.new (commit_view seat.old) (commit_view seat.new))) }
-    ensures ran { OnOk result (Ran (W.ran work.old work.new) segments.now (bytes_of the_images lent.old) (Ok tt) (bytes_of the_images lent.new)) }
-    ensures nothing { result ≡ Ok None → (commit_view seat.new ≡ commit_view seat.old) × IsUndone the_images segments.now lent.old lent.new }
+    ensures staged { IfOk result (λ done. IfSome done (λ parts. StagesWork (W.ran work.old work.new) node segments.now lent.old parts.items lent.new (commit_view seat.old) (commit_view seat.new))) }
+    ensures nothing { result ≡ Ok None → (commit_view seat.new ≡ commit_view seat.old) × IsUndone the_images segments.now lent.old lent.new
+        × Ran (W.ran work.old work.new) segments.now (bytes_of the_images lent.old) (Ok tt) (bytes_of the_images lent.new) [] }
     ensures why { IfErr result (λ fault. IsUnstaged (W.ran work.old work.new) (IsUnbegun the_images lent.old segments.now) segments.now
-        (bytes_of the_images lent.old) stage.now.room (commit_view seat.new).seen fault) }
+        (bytes_of the_images lent.old) stage.now.room tries (commit_view seat.new).seen fault) }
     ensures refused { IfErr result (λ _. Sees (commit_view seat.old) (commit_view seat.new) × IsUndone the_images segments.now lent.old lent.new) }
 {
     let (tx, prepared) = match attempt(alloc, lent, segments, work, node) {

@@ -5,6 +5,7 @@ ghost use Rattle.lc_node.specs.Held.{IsUnheld};
 ghost use Rattle.lc_node.specs.Receiving.{SameOrigins};
 ghost use Rattle.lc_node.specs.Journey.{Journey};
 ghost use Rattle.lc_node.specs.Pumping.{GoesOn, IsGoneOn, IsOfMessage, IsOfRecord, IsOfToken, pumped_of};
+ghost use Rattle.lc_node.specs.Reached.{AnswersJourney, AnswersMessage, AnswersWords, Pumps, locked_in};
 ghost use Rattle.lc_node.specs.declared.message.Message.{Message as Sent};
 ghost use Rattle.lc_node.specs.declared.pumped.Pumped.TheVariants.{Waiting};
 
@@ -19,7 +20,7 @@ use std::sync::Wait;
 
 // The segments on which a record has locks, in their order. More than 16 alone take memory.
 fn segments_locked(alloc: Global, record: &View) -> Result<SmallVec<u32, 16>, AllocError>
-    ensures { IfOk result (λ segments. segments.items ≡ map (λ lock. lock.segment) «record».now.locks) }
+    ensures { IfOk result (λ segments. segments.items ≡ locked_in «record».now) }
 {
     let mut segments = SmallVec::new(alloc);
     for index in 0..record.lock_count() {
@@ -44,6 +45,7 @@ impl<D: Area + Drop> Node<D> {
         alloc: Global,
         words: &[u64],
     ) -> Result<Pumped, NodeFault>
+        ensures answer { AnswersWords self.now words.now result }
         ensures record { IfOk result IsOfRecord }
         ensures refused { IfErr result IsUnheld }
     {
@@ -65,6 +67,7 @@ impl<D: Area + Drop> Node<D> {
         rt: &R,
         journey: Travelling<D>,
     ) -> Result<Pumped, Travelling<D>>
+        ensures answer { AnswersJourney self.now journey result }
         ensures token { IfOk result IsOfToken }
         ensures back { IfErr result (λ given. given ≡ journey) }
     {
@@ -76,11 +79,11 @@ impl<D: Area + Drop> Node<D> {
         let (mut side, loan) = lock.lock(rt);
         let admitted = side.admit(journey);
         lock.unlock(side, loan);
-        Ok(if admitted? {
-            Pumped::Arrived
-        } else {
-            Pumped::Waiting
-        })
+        match admitted {
+            Ok(true) => Ok(Pumped::Arrived),
+            Ok(false) => Ok(Pumped::Waiting),
+            Err(journey) => Err(journey),
+        }
     }
 }
 
@@ -108,7 +111,8 @@ impl<D: Area + Drop> Node<D> {
         alloc: Global,
         message: Message<Travelling<D>>,
     ) -> (Result<Pumped, NodeFault>, Option<Message<Travelling<D>>>)
-        ensures answer { IfOk result.0 (IsOfMessage message) }
+        ensures answer { AnswersMessage self.now message result.0 result.1 }
+        ensures of_message { IfOk result.0 (IsOfMessage message) }
         ensures back { ForSome result.1 (λ given. given ≡ message) }
         ensures refused { IfErr result.0 (λ fault. IsUnheld fault × IsSome result.1) }
         ensures waits { IsSome result.1 → IfOk result.0 (λ pumped. pumped ≡ Waiting) }
@@ -138,6 +142,7 @@ impl<D: Area + Drop> RecvEnds<Travelling<D>> {
         peer: usize,
     ) -> Result<Pumped, NodeFault>
         requires peer { peer < length self.old.ends.items }
+        ensures pumps { Pumps node.now self.old.ends.items peer result self.new.ends.items }
         ensures gone_on { (gone : List (Sent (Journey D))) → IsGoneOn self.old.ends.items peer gone → IfOk result (λ pumped. GoesOn pumped gone self.new.ends.items peer) }
         ensures kept { (gone : List (Sent (Journey D))) → IsGoneOn self.old.ends.items peer gone → OnErr result (IsGoneOn self.new.ends.items peer gone) }
         ensures refused { IfErr result IsUnheld }
@@ -145,12 +150,12 @@ impl<D: Area + Drop> RecvEnds<Travelling<D>> {
         ensures count { length self.new.ends.items ≡ length self.old.ends.items }
         ensures lines { SameOrigins self.old.ends.items self.new.ends.items }
     {
-        let Some(message) = self.next(rt, peer) else {
+        let Some(message) = self.next_at(rt, peer) else {
             return Ok(Pumped::Empty);
         };
         let (pumped, back) = node.receive(rt, alloc, message);
         if let Some(message) = back {
-            self.keep(peer, message);
+            self.keep_at(peer, message);
         }
         pumped
     }

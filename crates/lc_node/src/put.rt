@@ -15,7 +15,7 @@ pub struct Put<'a> {
 }
 
 impl Work for Put<'_> {
-    ghost ran = { λ old new locked before answer after. (new ≡ old) × Puts old locked before answer after };
+    ghost ran = { λ old new locked before set answer after sets. (new ≡ old) × Puts old locked before set answer after sets };
 
     /// # Errors
     ///

@@ -6,9 +6,10 @@ use crate::PeerInbox;
 use crate::wiring::Ends;
 use lc_lock::Keyed;
 
-/// The receiving end from each peer of a node. It stands behind a lock of its own. This project's own.
+/// The receiving end from each peer of a node, whose number it knows. It stands behind a lock of its own. This project's own.
 #[derive(Drop)]
 pub struct RecvEnds<P: Drop> {
+    pub(crate) node: u16,
     pub(crate) ends: Vec<PeerInbox<P>>,
 }
 
@@ -18,10 +19,11 @@ impl<P: Drop> Keyed<Ends<P>> for RecvEnds<P> {
 }
 
 impl<P: Drop> RecvEnds<P> {
-    /// These ends.
-    pub fn new(ends: Vec<PeerInbox<P>>) -> RecvEnds<P>
-        ensures { result.ends ≡ ends }
+    /// These ends of the node with this number, one from each other node, in the order of their numbers.
+    pub fn new(node: u16, ends: Vec<PeerInbox<P>>) -> RecvEnds<P>
+        ensures node { result.node ≡ node }
+        ensures ends { result.ends ≡ ends }
     {
-        RecvEnds { ends }
+        RecvEnds { node, ends }
     }
 }

@@ -33,7 +33,7 @@ impl<D: Area + Drop> LogSide<D> {
     /// `Unclean` of the least segment and number, where a lock of a stable record is above what is known clean; `Lost`
     /// where something is reserved behind the stable records. The log stands as it was then. `DeviceFault` where the
     /// device fails: the log is halted, with its stable records and its round, and stays sealed.
-    pub fn reset(&mut self, stage: &Stage) -> Result<u64, NodeFault>
+    pub(crate) fn reset(&mut self, stage: &Stage) -> Result<u64, NodeFault>
         requires own { IsFlusherOf stage.now self.old.flusher × IsSeatOf stage.now self.old.probe }
         requires room { HasRoom self.old }
         ensures own { IsFlusherOf stage.now self.new.flusher × IsSeatOf stage.now self.new.probe × (self.new.known ≡ self.old.known) }
@@ -51,8 +51,8 @@ impl<D: Area + Drop> LogSide<D> {
         self.begin_round(stage)
     }
 
-    // Whether the log has a stable record. It is refused where a reset may not take them away.
-    fn is_due(&self) -> Result<bool, NodeFault>
+    /// Whether the log has a stable record. It is refused where a reset may not take them away.
+    pub(crate) fn is_due(&self) -> Result<bool, NodeFault>
         ensures due { IfOk result (λ is_due. MatchBool is_due (CanReset self.now) ((self.now.is_halted ≡ false) × (self.now.stable ≡ []))) }
         ensures refused { IfErr result (λ fault. IsUnfit self.now fault) }
     {

@@ -1,15 +1,15 @@
 //! The calls of a running node.
-ghost use Rattle.std.specs.Prelude.{◌≡◌, ◌≢◌, ◌⊎◌, ◌<◌, ℕ, IfErr};
+ghost use Rattle.std.specs.Prelude.{◌≡◌, ◌≢◌, ◌<◌, ℕ, IfErr, IfOk};
 ghost use Rattle.lc_stage.specs.declared.view.Reservation.{Reservation as Run};
 ghost use Rattle.lc_stage.specs.Staging.{newcomer, joining, Owns};
 ghost use Rattle.lc_stage.specs.Receipts.{IsReceiptOf};
 ghost use Rattle.lc_stage.specs.Seats.{commit_view, IsSeatOf, IsFlusherOf, IsIdle};
 ghost use Rattle.lc_lock.specs.Loans.{key_of};
 ghost use Rattle.lc_node.specs.Among.{IsAmong};
+ghost use Rattle.lc_node.specs.Flushes.{HasFlushed, HasNotFlushed};
 ghost use Rattle.lc_node.specs.LogView.{IsSameLog};
 ghost use Rattle.lc_node.specs.Receipts.{HasReceipt};
 ghost use Rattle.lc_node.specs.declared.confirming.Confirmed.TheVariants.{Here, Earlier};
-ghost use Rattle.lc_node.specs.declared.node_fault.NodeFault.TheVariants.{DeviceFault, Halted};
 
 use crate::{Confirmed, LogSide, Node, NodeFault};
 use lc_disk::Area;
@@ -34,12 +34,13 @@ impl<D: Area + Drop> Node<D> {
     ///
     /// # Errors
     ///
-    /// `DeviceFault` where the device fails, and `Halted` where it did before.
+    /// `Halted` where a device failed before, and `DeviceFault` where it fails now.
     pub fn flush<R: Wait>(&self, rt: &R) -> Result<u64, NodeFault>
-        ensures { IfErr result (λ fault. (fault ≡ DeviceFault) ⊎ (fault ≡ Halted)) }
+        ensures flushed { IfOk result (λ count. HasFlushed self.now count) }
+        ensures refused { IfErr result (HasNotFlushed D.Area self.now) }
     {
         let (mut log, loan) = self.log.lock(rt);
-        let flushed = log.flush(&self.stage);
+        let flushed = self.flush_log(&mut log);
         self.log.unlock(log, loan);
         flushed
     }

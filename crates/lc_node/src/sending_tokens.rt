@@ -2,8 +2,8 @@
 ghost use Rattle.std.specs.Prelude.{◌≡◌, ◌≢◌, ◌<◌, ◌++◌, ◌∷◌, [], ℕ, length, slice_get, OnOk, OnErr, IfErr};
 ghost use Rattle.lc_line.specs.Ends.{message_of, IsFull, WasFull};
 ghost use Rattle.lc_node.specs.Messages.{records_in};
-ghost use Rattle.lc_node.specs.Spread.{sent_to, line_of, SameLines};
-ghost use Rattle.lc_node.specs.Tokens.{sent_at, WasFullAt, SameRecords};
+ghost use Rattle.lc_node.specs.Spread.{sent_to, line_of, IsCutOff, SameLines};
+ghost use Rattle.lc_node.specs.Tokens.{sent_at, IsCutOffAt, WasFullAt, SameRecords};
 ghost use Rattle.lc_node.specs.declared.message.Message.TheVariants.{Token};
 
 use crate::{Message, PeerEnd, SendEnds};
@@ -20,6 +20,7 @@ impl<P: Drop> SendEnds<P> {
         ensures none { OnErr result (sent_at self.new.ends.items peer ≡ sent_at self.old.ends.items peer) }
         ensures back { IfErr result (λ refused. message_of refused ≡ token) }
         ensures full { IfErr result (λ refused. IsFull refused → WasFullAt self.old.ends.items peer) }
+        ensures cut_off { OnErr result (IsCutOffAt self.new.ends.items peer) }
         ensures others { (other : ℕ) → other ≢ peer → slice_get self.new.ends.items other ≡ slice_get self.old.ends.items other }
         ensures records { SameRecords self.old.ends.items self.new.ends.items }
         ensures lines { SameLines self.old.ends.items self.new.ends.items }
@@ -38,13 +39,17 @@ impl<P: Drop> PeerEnd<P> {
         ensures none { OnErr result (sent_to self.new ≡ sent_to self.old) }
         ensures back { IfErr result (λ refused. message_of refused ≡ token) }
         ensures full { IfErr result (λ refused. IsFull refused → WasFull self.old.end) }
+        ensures cut_off { OnErr result (IsCutOff self.new) }
         ensures records { records_in (sent_to self.new) ≡ records_in (sent_to self.old) }
         ensures line { line_of self.new ≡ line_of self.old }
     {
         match self.end.send(rt, Message::Token(token)) {
             Ok(()) => Ok(()),
             Err(Refused::Full(Message::Token(token))) => Err(Refused::Full(token)),
-            Err(Refused::Gone(Message::Token(token))) => Err(Refused::Gone(token)),
+            Err(Refused::Gone(Message::Token(token))) => {
+                self.gone = true;
+                Err(Refused::Gone(token))
+            }
             Err(_) => unreachable!(),
         }
     }

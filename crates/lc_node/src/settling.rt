@@ -1,10 +1,11 @@
 //! A committer waits until its last record is stable.
-ghost use Rattle.std.specs.Prelude.{◌≡◌, ◌⊎◌, IfOk, IfErr, IfSome, IfNone, MatchOption};
+ghost use Rattle.std.specs.Prelude.{◌≡◌, ◌⊎◌, Some, IfOk, IfErr, IfSome, IfNone, MatchOption};
 ghost use Rattle.lc_stage.specs.Receipts.{IsReceiptOf};
 ghost use Rattle.lc_stage.specs.Staging.{latest, learns_durable, with_receipt, HasReached};
 ghost use Rattle.lc_stage.specs.Seats.{commit_view, flush_view, IsSeatOf, IsFlusherOf, IsIdle};
 ghost use Rattle.lc_node.specs.LogView.{IsSameLog};
 ghost use Rattle.lc_node.specs.Receipts.{IsOfDevice, Learns, Receives};
+ghost use Rattle.lc_node.specs.Settling.{FailsIn, LooksIn, Settles, SettlesIn};
 
 use crate::{LogSide, Node, NodeFault};
 use lc_disk::Area;
@@ -15,7 +16,11 @@ use std::thread;
 impl<D: Area + Drop> LogSide<D> {
     /// A receipt of the seat's last closed record, by round and place, exactly where the end that was published last has
     /// reached its end. It takes no memory. The stage is that of the log and of the seat.
-    pub fn durable(&mut self, stage: &Stage, seat: CommitSeat) -> (CommitSeat, Option<Receipt>)
+    pub(crate) fn durable(
+        &mut self,
+        stage: &Stage,
+        seat: CommitSeat,
+    ) -> (CommitSeat, Option<Receipt>)
         requires own { IsSeatOf stage.now seat × IsFlusherOf stage.now self.old.flusher }
         requires idle { IsIdle (commit_view seat) }
         ensures same { IsSeatOf stage.now result.0 }
@@ -28,7 +33,7 @@ impl<D: Area + Drop> LogSide<D> {
     }
 
     /// The same, and where the record is not stable yet, once more behind a flush.
-    pub fn settle(
+    pub(crate) fn settle(
         &mut self,
         stage: &Stage,
         seat: CommitSeat,
@@ -38,6 +43,7 @@ impl<D: Area + Drop> LogSide<D> {
         ensures same { IsSeatOf stage.now result.0 }
         ensures idle { IsIdle (commit_view result.0) }
         ensures log { IsFlusherOf stage.now self.new.flusher × (self.new.probe ≡ self.old.probe) }
+        ensures settles { Settles D.Area stage.now.room self.old (commit_view seat) result.1 (commit_view result.0) self.new }
         ensures settled { IfOk result.1 (λ found. MatchOption found (Learns (commit_view seat) (commit_view result.0)) (λ receipt. Receives (commit_view seat) receipt (commit_view result.0))) }
         ensures refused { IfErr result.1 (λ fault. IsOfDevice fault × Learns (commit_view seat) (commit_view result.0)) }
     {
@@ -56,12 +62,14 @@ impl<D: Area + Drop> LogSide<D> {
 }
 
 impl<D: Area + Drop> Node<D> {
-    /// The receipt of the seat's last closed record, if it is stable. It waits for the lock of the log, and takes no memory.
+    /// The receipt of the seat's last closed record, exactly where the published end has reached it. It waits for the lock
+    /// of the log, and takes no memory.
     pub fn durable<R: Wait>(&self, rt: &R, seat: CommitSeat) -> (CommitSeat, Option<Receipt>)
         requires own { IsSeatOf self.now.stage seat }
         requires idle { IsIdle (commit_view seat) }
         ensures own { IsSeatOf self.now.stage result.0 }
         ensures idle { IsIdle (commit_view result.0) }
+        ensures looks { LooksIn self.now (commit_view seat) result.1 (commit_view result.0) }
         ensures found { MatchOption result.1 (Learns (commit_view seat) (commit_view result.0)) (λ receipt. Receives (commit_view seat) receipt (commit_view result.0)) }
     {
         let (mut log, loan) = self.log.lock(rt);
@@ -81,6 +89,8 @@ impl<D: Area + Drop> Node<D> {
         requires idle { IsIdle (commit_view seat) }
         ensures own { IsSeatOf self.now.stage result.0 }
         ensures idle { IsIdle (commit_view result.0) }
+        ensures looks { IfOk result.1 (λ receipt. LooksIn self.now (commit_view seat) (Some receipt) (commit_view result.0)) }
+        ensures fails { IfErr result.1 (λ fault. FailsIn D.Area self.now fault) }
         ensures settled { IfOk result.1 (λ receipt. Receives (commit_view seat) receipt (commit_view result.0)) }
         ensures refused { IfErr result.1 (λ fault. IsOfDevice fault × Learns (commit_view seat) (commit_view result.0)) }
     {
@@ -106,11 +116,13 @@ impl<D: Area + Drop> Node<D> {
         requires idle { IsIdle (commit_view seat) }
         ensures own { IsSeatOf self.now.stage result.0 }
         ensures idle { IsIdle (commit_view result.0) }
+        ensures settles { SettlesIn D.Area self.now (commit_view seat) result.1 (commit_view result.0) }
         ensures settled { IfOk result.1 (λ found. MatchOption found (Learns (commit_view seat) (commit_view result.0)) (λ receipt. Receives (commit_view seat) receipt (commit_view result.0))) }
         ensures refused { IfErr result.1 (λ fault. IsOfDevice fault × Learns (commit_view seat) (commit_view result.0)) }
     {
         let (mut log, loan) = self.log.lock(rt);
         let (seat, settled) = log.settle(&self.stage, seat);
+        self.tell_halted(&log);
         self.log.unlock(log, loan);
         (seat, settled)
     }

@@ -1,7 +1,8 @@
 //! What a node has of a segment, copied.
 ghost use Rattle.std.specs.Prelude.{◌≡◌, ◌⊎◌, ◌↔◌, IfOk, IfErr, IsSome};
 ghost use Rattle.lc_node.specs.Held.{HasSegment};
-ghost use Rattle.lc_node.specs.SegView.{laid_parts};
+ghost use Rattle.lc_node.specs.SegView.{SegView, laid_parts};
+ghost use Rattle.lc_node.specs.Snapshots.{IsCopyOf};
 ghost use Rattle.lc_node.specs.declared.node_fault.NodeFault.TheVariants.{NotHere, NoMemory};
 
 use crate::{Node, NodeFault, SegSide};
@@ -47,6 +48,7 @@ impl<D: Area + Drop> Node<D> {
         alloc: Global,
         segment: u32,
     ) -> Result<Snapshot, NodeFault>
+        ensures copied { IfOk result (λ copy. (side : SegView D) × (side.segment ≡ segment) × IsCopyOf side copy) }
         ensures not_here { (result ≡ Err (NotHere segment)) ↔ (HasSegment self.now segment → ⊥) }
         ensures refused { IfErr result (λ fault. (fault ≡ NotHere segment) ⊎ (fault ≡ NoMemory)) }
     {

@@ -1,9 +1,9 @@
 //! How published records are sent to all peers.
-ghost use Rattle.std.specs.Prelude.{◌≡◌, ◌+◌, ◌<◌, ◌≤◌, ℕ, List, length, IfOk, IfErr, OnOk, OnErr};
-ghost use Rattle.lc_node.specs.Copies.{CanBeSent, AreNext, SendsFirst};
-ghost use Rattle.lc_node.specs.Each.{Each};
+ghost use Rattle.std.specs.Prelude.{◌≡◌, ◌+◌, ◌-◌, ◌^◌, ◌<◌, ◌≤◌, ℕ, List, length, min, IfOk, IfErr, OnOk, OnErr};
+ghost use Rattle.lc_node.specs.Copies.{CanBeSent, AreNext, SendsAll, SendsFirst};
+ghost use Rattle.lc_node.specs.Each.{Each, EachThree};
 ghost use Rattle.lc_node.specs.Published.{published};
-ghost use Rattle.lc_node.specs.Spread.{ArePrefixes, SameLines, SendsFew, sent_in, missing_in, tokens_in};
+ghost use Rattle.lc_node.specs.Spread.{ArePrefixes, SameLines, SendsFew, SendsMost, sent_in, missing_in, tokens_in};
 ghost use Rattle.lc_node.specs.declared.node_fault.NodeFault.TheVariants.{NoMemory};
 
 use crate::copying::{copies_for, count_behind};
@@ -13,17 +13,20 @@ use std::alloc::Global;
 use std::collections::VecDeque;
 use std::sync::Wait;
 
-/// How many records were sent, and how many are still missing, those of each peer counted. A `u128` holds either for any
-/// number of peers.
+/// How many records were sent, and how many are still missing, those of each peer counted.
 #[derive(Clone, Copy, Debug, PartialEq, Eq)]
 pub struct Spread {
-    pub sent: u128,
-    pub left: u128,
+    /// At most 64 to each peer.
+    pub sent: u64,
+    /// `u64::MAX` where more are missing.
+    pub left: u64,
 }
 
 impl<P: Drop> SendEnds<P> {
-    /// Sends each peer the published records that it lacks, in the order of their numbers, at most 64 in a call and until its
-    /// line has no room. All that may be sent is copied before the first is sent: NoMemory, the one fault, changes nothing.
+    /// Sends each peer the published records that it lacks, in the order of their numbers: 64 in a call, or all where these
+    /// are fewer. A peer is cut off before where its line held 64 messages at one moment, or its receiving end is gone. All
+    /// that may be sent is copied before the first is sent: NoMemory, the one fault, changes nothing. There are less than
+    /// 2^16 peers, so the sum of what is sent fits; what is left is added up saturating.
     /// Log-based coherency: Feeley et al., OSDI 1994.
     pub fn spread<D: Area + Drop, R: Wait>(
         &mut self,
@@ -31,10 +34,12 @@ impl<P: Drop> SendEnds<P> {
         alloc: Global,
         log: &LogSide<D>,
     ) -> Result<Spread, NodeFault>
+        requires few { length self.old.ends.items < 2 ^ 16 }
         ensures prefix { ArePrefixes (published log.now) self.old.ends.items → ArePrefixes (published log.now) self.new.ends.items }
         ensures each { OnOk result (Each SendsFew self.old.ends.items self.new.ends.items) }
+        ensures most { OnOk result (ArePrefixes (published log.now) self.old.ends.items → Each (SendsMost (published log.now)) self.old.ends.items self.new.ends.items) }
         ensures sent { IfOk result (λ s. sent_in self.new.ends.items ≡ sent_in self.old.ends.items + s.sent) }
-        ensures left { IfOk result (λ s. ArePrefixes (published log.now) self.old.ends.items → s.left ≡ missing_in (published log.now) self.new.ends.items) }
+        ensures left { IfOk result (λ s. ArePrefixes (published log.now) self.old.ends.items → s.left ≡ min (2 ^ 64 - 1) (missing_in (published log.now) self.new.ends.items)) }
         ensures tokens { tokens_in self.new.ends.items ≡ tokens_in self.old.ends.items }
         ensures lines { SameLines self.old.ends.items self.new.ends.items }
         ensures err { OnErr result (self.new ≡ self.old) }
@@ -55,10 +60,12 @@ fn send_copies<P: Drop, R: Wait>(
     rt: &R,
     peers: &mut Vec<PeerEnd<P>>,
     copies: Vec<VecDeque<Vec<u64>>>,
-) -> u128
+) -> u64
+    requires few { length peers.old.items < 2 ^ 16 }
     requires fit { Each (λ peer lacks. CanBeSent peer lacks.items) peers.old.items copies.items }
     ensures prefix { (published : List (List ℕ)) → Each (λ peer lacks. AreNext published peer lacks.items) peers.old.items copies.items → ArePrefixes published peers.old.items → ArePrefixes published peers.new.items }
     ensures each { Each SendsFew peers.old.items peers.new.items }
+    ensures all { EachThree (λ old lacks new. SendsAll old lacks.items new) peers.old.items copies.items peers.new.items }
     ensures sent { sent_in peers.new.items ≡ sent_in peers.old.items + result }
     ensures tokens { tokens_in peers.new.items ≡ tokens_in peers.old.items }
     ensures lines { SameLines peers.old.items peers.new.items }
@@ -67,23 +74,25 @@ fn send_copies<P: Drop, R: Wait>(
     let mut sent = 0;
     while let Some(lacks) = copies.pop() {
         let peer = &mut peers[copies.len()];
-        sent += u128::from(peer.send_all(rt, lacks));
+        sent += peer.send_all(rt, lacks);
     }
     sent
 }
 
 impl<P: Drop> PeerEnd<P> {
-    // Sends records as the next, until one is refused; that and those behind it are dropped. It answers how many were sent.
+    // Sends records as the next, until one is refused; that and those behind it are dropped, and the peer is cut off. It answers
+    // how many were sent.
     fn send_all<R: Wait>(&mut self, rt: &R, records: VecDeque<Vec<u64>>) -> u64
         requires fit { CanBeSent self.old records.items }
         ensures sent { SendsFirst records.items result self.old self.new }
+        ensures all { SendsAll self.old records.items self.new }
         ensures few { result ≤ 64 }
     {
         let mut records = records;
         let mut sent = 0;
         while let Some(words) = records.pop_front() {
             if !self.send_record(rt, words) {
-                break;
+                return sent;
             }
             sent += 1;
         }
@@ -91,13 +100,13 @@ impl<P: Drop> PeerEnd<P> {
     }
 }
 
-// How many of the published records were not sent, those of each peer counted.
-fn missing<P: Drop, D: Area + Drop>(log: &LogSide<D>, peers: &[PeerEnd<P>]) -> u128
-    ensures { ArePrefixes (published log.now) peers.now → result ≡ missing_in (published log.now) peers.now }
+// How many of the published records were not sent, those of each peer counted; `u64::MAX` where they are more.
+fn missing<P: Drop, D: Area + Drop>(log: &LogSide<D>, peers: &[PeerEnd<P>]) -> u64
+    ensures { ArePrefixes (published log.now) peers.now → result ≡ min (2 ^ 64 - 1) (missing_in (published log.now) peers.now) }
 {
-    let mut left = 0;
+    let mut left: u64 = 0;
     for peer in peers {
-        left += u128::from(count_behind(log, peer.place));
+        left = left.saturating_add(count_behind(log, peer.place));
     }
     left
 }

@@ -1,13 +1,16 @@
 //! A whole transaction on a running node.
-ghost use Rattle.std.specs.Prelude.{◌≡◌, ◌⊎◌, ◌<◌, ℕ, length, Ok, IfErr};
+ghost use Rattle.std.specs.Prelude.{◌≡◌, ◌⊎◌, ◌<◌, ℕ, [], All, length, Ok, IfErr, OnOk};
 ghost use Rattle.lc_stage.specs.declared.receipt.Receipt.{Receipt as Given};
 ghost use Rattle.lc_stage.specs.declared.view.View.{View};
 ghost use Rattle.lc_stage.specs.Seats.{commit_view, IsSeatOf, IsIdle};
 ghost use Rattle.lc_node.specs.Receipts.{HasReceipt, IsOfDevice, Learns, Receives};
 ghost use Rattle.lc_node.specs.Stages.{Sees};
-ghost use Rattle.lc_node.specs.Commits.{ClosesWork, IsUnbegunAmong, IsUncommitted};
+ghost use Rattle.lc_tx.specs.Tx.{IsSetOf};
+ghost use Rattle.lc_node.specs.Commits.{AreHere, ClosesWork, IsUnbegunAmong, IsUncommitted};
 ghost use Rattle.lc_node.specs.Ran.{Bytes, Ran};
-ghost use Rattle.lc_node.specs.Held.{IsFirstOutside};
+ghost use Rattle.lc_node.specs.Halting.{IsHalted};
+ghost use Rattle.lc_node.specs.Held.{IsFirstOutside, IsHeldOf, segments_of};
+ghost use Rattle.lc_node.specs.declared.held.Held.{Held as Several};
 ghost use Rattle.lc_node.specs.declared.node_fault.NodeFault.TheVariants.{NotHere, NoMemory};
 ghost use Rattle.lc_node.specs.declared.commit_kind.Commit.TheVariants.{Empty, Lazy, Flushed};
 
@@ -25,8 +28,8 @@ impl<D: Area + Drop> Node<D> {
     ///
     /// # Errors
     ///
-    /// Those of `hold`, of the work, and of the record's end: then the work is undone, and the seat has at most seen a tail. `DeviceFault` and `Halted` where the flush fails: the record stays closed, and what becomes of it a
-    /// recovery decides.
+    /// Those of `hold` and of `Held::commit`: then the work is undone, and the seat has at most seen a tail. `DeviceFault` and
+    /// `Halted` where the flush fails: the record stays closed, and what becomes of it a recovery decides.
     pub fn transact<R: Wait, W: Work, G: Gate>(
         &self,
         rt: &R,
@@ -43,8 +46,9 @@ impl<D: Area + Drop> Node<D> {
         requires tries { 0 < tries }
         ensures own { IsSeatOf self.now.stage result.0 }
         ensures idle { IsIdle (commit_view result.0) }
+        ensures here { OnOk result.1 ((held : Several D) × All (IsHeldOf self.now) held.sides.items × IsSetOf segments.now (segments_of held) × AreHere held.sides.items) }
         ensures empty { result.1 ≡ Ok Empty → (commit_view result.0 ≡ commit_view seat)
-            × ((same : Bytes) × Ran (W.ran work.old work.new) segments.now same (Ok tt) same) }
+            × ((same : Bytes) × Ran (W.ran work.old work.new) segments.now same (Ok tt) same []) }
         ensures lazy { result.1 ≡ Ok Lazy → ClosesWork self.now.number (W.ran work.old work.new) segments.now (commit_view seat) (commit_view result.0) }
         ensures flushed { (receipt : Given) → result.1 ≡ Ok (Flushed receipt)
             → (w : View) × ClosesWork self.now.number (W.ran work.old work.new) segments.now (commit_view seat) w × Receives w receipt (commit_view result.0) }
@@ -54,7 +58,7 @@ impl<D: Area + Drop> Node<D> {
         ensures refused { IfErr result.1 (λ fault. (Sees (commit_view seat) (commit_view result.0)
             × (((s : ℕ) × (fault ≡ NotHere s) × IsFirstOutside self.now segments.now s)
             ⊎ (((fault ≡ NoMemory) × (0 < length self.now.segments.items))
-            ⊎ ((old : Bytes) × IsUncommitted (W.ran work.old work.new) (IsUnbegunAmong segments.now) segments.now old self.now.stage.room (commit_view result.0).seen fault))))
+            ⊎ (IsHalted D fault ⊎ ((old : Bytes) × IsUncommitted (W.ran work.old work.new) (IsUnbegunAmong segments.now) segments.now old self.now.stage.room tries (commit_view result.0).seen fault)))))
             ⊎ (IsOfDevice fault × ((w : View) × ClosesWork self.now.number (W.ran work.old work.new) segments.now (commit_view seat) w × Learns w (commit_view result.0)))) }
     {
         let mut seat = seat;

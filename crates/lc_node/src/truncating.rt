@@ -1,15 +1,17 @@
 //! The truncation of a node's log.
-ghost use Rattle.std.specs.Prelude.{◌≡◌, ◌≤◌, [], All, IfErr, IfOk};
+ghost use Rattle.std.specs.Prelude.{◌≡◌, ◌≤◌, [], All, IfErr, IfOk, OnOk};
 ghost use Rattle.std.specs.VecDeque.{deque_capacity};
 ghost use Rattle.lc_stage.specs.Seats.{IsFlusherOf, IsSeatOf};
 ghost use Rattle.lc_node.specs.Each.{Each};
 ghost use Rattle.lc_node.specs.Ended.{HasRoom};
 ghost use Rattle.lc_node.specs.Held.{IsHeldOf};
-ghost use Rattle.lc_node.specs.Truncates.{HasPagesIn, IsOfTruncation, IsSameHeld, IsUntruncated, IsUntruncatedInRoom, Truncates, TruncatesInRoom};
+ghost use Rattle.lc_node.specs.Halting.{IsUntruncatable};
+ghost use Rattle.lc_node.specs.LogView.{LogView};
+ghost use Rattle.lc_node.specs.Logs.{IsLogOf};
+ghost use Rattle.lc_node.specs.Truncates.{HasNotTruncated, HasPagesIn, HasTruncated, IsOfTruncation, IsSameHeld, IsUntruncated, IsUntruncatedHeld, IsUntruncatedInRoom, MayTruncate, Truncates, TruncatesHeld, TruncatesInRoom};
 
 use crate::cleaning::{most_pages, write_all};
 use crate::held::{Held, HeldSide};
-use crate::resetting::LAST_ROUND;
 use crate::{LogSide, Node, NodeFault};
 use lc_disk::Area;
 use lc_page::Writing;
@@ -25,7 +27,8 @@ const SEGMENTS: [u32; MAX_SEGMENT as usize] = [
 ];
 
 impl<D: Area + Drop> LogSide<D> {
-    // Makes room for the words of the log's round, flushes it, writes the dirty pages of these segments, and empties the log.
+    // Where the log may be truncated, makes room for the words of its round, flushes it, writes the dirty pages of these segments,
+    // and empties it.
     fn truncate(
         &mut self,
         stage: &Stage,
@@ -40,13 +43,14 @@ impl<D: Area + Drop> LogSide<D> {
         ensures truncated { IfOk result (λ round. TruncatesInRoom D.Area stage.now.room self.old sides.old.items round self.new sides.new.items) }
         ensures refused { IfErr result (λ fault. IsUntruncatedInRoom D.Area stage.now.room self.old sides.old.items fault self.new sides.new.items) }
     {
+        self.may_truncate()?;
         let Ok(()) = self.make_room(stage) else {
             return Err(NodeFault::NoMemory);
         };
         self.empty(stage, sides, writes)
     }
 
-    // The same where there is that room.
+    // The same where it may be, and there is that room. Where a page could not be written, the log serves no more.
     fn empty(
         &mut self,
         stage: &Stage,
@@ -62,11 +66,11 @@ impl<D: Area + Drop> LogSide<D> {
         ensures truncated { IfOk result (λ round. Truncates D.Area stage.now.room self.old sides.old.items round self.new sides.new.items) }
         ensures refused { IfErr result (λ fault. IsUntruncated D.Area stage.now.room self.old sides.old.items fault self.new sides.new.items) }
     {
-        if self.round == LAST_ROUND {
-            return Err(NodeFault::RoundsSpent);
-        }
         self.flush(stage)?;
-        write_all(sides, writes)?;
+        if let Err(fault) = write_all(sides, writes) {
+            self.halt();
+            return Err(fault);
+        }
         self.see_all(sides.as_slice());
         self.reset(stage)
     }
@@ -80,20 +84,34 @@ impl<D: Area + Drop> Node<D> {
     ///
     /// # Errors
     ///
-    /// `NoMemory`; `RoundsSpent` where the log is in its last round, and then nothing was flushed; `Halted` where a device
-    /// failed before, and `DeviceFault` where one fails now; `Unclean` of the least segment and number of a record that is
+    /// `Halted` where a device failed before, and else `RoundsSpent` where the log is in its last round: then nothing was
+    /// flushed; `NoMemory`; `DeviceFault` where a device fails now, and the node is halted; `Unclean` of the least segment and number of a record that is
     /// not known to be on its pages, as where the segment's token is elsewhere; `Lost` where another tail was found. Behind
     /// the last two the log stands as flushed, and the pages that were written stay.
     pub fn truncate<R: Wait>(&self, rt: &R, alloc: Global) -> Result<u64, NodeFault>
-        ensures { IfErr result IsOfTruncation }
+        ensures truncated { IfOk result (HasTruncated D.Area self.now) }
+        ensures refused { IfErr result (HasNotTruncated D.Area self.now) }
+        ensures which { IfErr result IsOfTruncation }
     {
+        self.may_truncate(rt)?;
         let mut held = self.hold(rt, alloc, &SEGMENTS[..self.segments.len()])?;
         let truncated = self.truncate_held(rt, alloc, &mut held);
         self.release(held);
         truncated
     }
 
-    // The same of the segments that are held.
+    // Whether the log may be truncated, at one moment.
+    fn may_truncate<R: Wait>(&self, rt: &R) -> Result<(), NodeFault>
+        ensures may { OnOk result (MayTruncate self.now) }
+        ensures refused { IfErr result (λ fault. (log : LogView D) × IsLogOf self.now log × IsUntruncatable log fault) }
+    {
+        let (log, loan) = self.log.lock(rt);
+        let may = log.may_truncate();
+        self.log.unlock(log, loan);
+        may
+    }
+
+    // Truncates where the segments are held.
     fn truncate_held<R: Wait>(
         &self,
         rt: &R,
@@ -102,7 +120,8 @@ impl<D: Area + Drop> Node<D> {
     ) -> Result<u64, NodeFault>
         requires held { All (IsHeldOf self.now) held.old.sides.items }
         ensures held { All (IsHeldOf self.now) held.new.sides.items }
-        ensures refused { IfErr result IsOfTruncation }
+        ensures truncated { IfOk result (λ round. TruncatesHeld D.Area self.now held.old.sides.items round held.new.sides.items) }
+        ensures refused { IfErr result (λ fault. IsUntruncatedHeld D.Area self.now held.old.sides.items fault held.new.sides.items) }
     {
         let most = most_pages(held.sides.as_slice());
         let Ok(mut writes) = VecDeque::with_capacity(alloc, most) else {
@@ -110,6 +129,7 @@ impl<D: Area + Drop> Node<D> {
         };
         let (mut log, loan) = self.log.lock(rt);
         let truncated = log.truncate(&self.stage, &mut held.sides, &mut writes);
+        self.tell_halted(&log);
         self.log.unlock(log, loan);
         truncated
     }

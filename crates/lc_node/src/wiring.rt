@@ -1,6 +1,6 @@
 //! The lines of a cluster.
 ghost use Rattle.std.specs.Prelude.{◌≡◌, ◌≢◌, ◌≤◌, ◌<◌, ◌+◌, ℕ, length, All, IfOk, OnOk};
-ghost use Rattle.lc_node.specs.Wiring.{AreWired, AreLines, HasPeers, IsUnused};
+ghost use Rattle.lc_node.specs.Wiring.{AreNumbered, AreWired, AreLines, HasPeers, IsUnused};
 
 use crate::{PeerEnd, PeerInbox, RecvEnds, SendEnds};
 use lc_line::open_line;
@@ -17,28 +17,28 @@ pub(crate) struct Ends<P: Drop> {
 pub(crate) fn wire<P: Drop>(alloc: Global, nodes: u16) -> Result<Vec<Ends<P>>, AllocError>
     requires { 1 ≤ nodes }
     ensures count { IfOk result (λ ends. length ends.items ≡ nodes) }
+    ensures numbered { IfOk result (λ ends. AreNumbered ends.items) }
     ensures each { IfOk result (λ ends. All (HasPeers nodes) ends.items) }
     ensures new { IfOk result (λ ends. All IsUnused ends.items) }
     ensures lines { IfOk result (λ ends. AreLines nodes ends.items) }
 {
-    let nodes = usize::from(nodes);
     let mut all = unwired(alloc, nodes)?;
-    for from in 0..nodes {
+    for from in 0..usize::from(nodes) {
         wire_from(alloc, &mut all, from)?;
     }
     Ok(all)
 }
 
 // The nodes of a cluster of so many, without a line, each with room for its ends.
-fn unwired<P: Drop>(alloc: Global, nodes: usize) -> Result<Vec<Ends<P>>, AllocError>
+fn unwired<P: Drop>(alloc: Global, nodes: u16) -> Result<Vec<Ends<P>>, AllocError>
     requires { 1 ≤ nodes }
     ensures { IfOk result (λ all. AreWired nodes 0 0 all.items) }
 {
-    let peers = nodes - 1;
-    let mut all = Vec::with_capacity(alloc, nodes)?;
-    for _ in 0..nodes {
+    let peers = usize::from(nodes) - 1;
+    let mut all = Vec::with_capacity(alloc, usize::from(nodes))?;
+    for node in 0..nodes {
         let to = SendEnds::new(Vec::with_capacity(alloc, peers)?);
-        let from = RecvEnds::new(Vec::with_capacity(alloc, peers)?);
+        let from = RecvEnds::new(node, Vec::with_capacity(alloc, peers)?);
         all.push_reserved(Ends { to, from });
     }
     Ok(all)

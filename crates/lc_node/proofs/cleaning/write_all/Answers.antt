@@ -16,13 +16,13 @@ returns-in_err-write_pages-clause-failed g c = let h = c.index_mut-held.result.n
 
 pub returns-in_err-write_pages-clause-same : goal.returns-in_err-write_pages-clause-same
 returns-in_err-write_pages-clause-same g c = let h = c.index_mut-held.result.now in let k : HeldSide _ = record { side = c.write_pages.new.self; loan = h.loan } in
-    one_more_same c.args.sides.now.items c.loop-place.sides.items c.loop-place.place h k c.loop-place.invariant.written
+    one_more_same g.D.Area c.args.sides.now.items c.loop-place.sides.items c.loop-place.place h k c.loop-place.invariant.written
     (let more = c.loop-place-test.true in let len = c.len-place-end.ensures in let ok = c.args.sides.now.ok.0 in let long = c.loop-place.invariant.written.long in omega arith) c.index_mut-held.ensures.value
     (same_written h k refl c.in_err-write_pages.ensures.failed.0)
 
 pub loop-place-preserved : goal.loop-place-preserved
 loop-place-preserved g c = let h = c.index_mut-held.result.now in let written = c.in_ok-write_pages.ensures.written in let k : HeldSide _ = record { side = c.write_pages.new.self; loan = h.loan } in record {
-  written = next (λ h k. WritesSide h k × IsSameHeld h k) c.args.sides.now.items c.loop-place.sides.items c.loop-place.place h k c.loop-place.invariant.written
+  written = next (λ h k. WritesSide g.D.Area h k × IsSameHeld h k) c.args.sides.now.items c.loop-place.sides.items c.loop-place.place h k c.loop-place.invariant.written
       (let more = c.loop-place-test.true in let len = c.len-place-end.ensures in let ok = c.args.sides.now.ok.0 in let long = c.loop-place.invariant.written.long in omega arith) c.index_mut-held.ensures.value
       ((refl, written), same_written h k refl written.0);
   none = c.write_pages.ensures.none;
@@ -30,8 +30,8 @@ loop-place-preserved g c = let h = c.index_mut-held.result.now in let written = 
 }
 
 pub returns-clause-written : goal.returns-clause-written
-returns-clause-written g c = all_written c.args.sides.now.items c.loop-place.sides.items c.loop-place.place c.loop-place.invariant.written
+returns-clause-written g c = all_written g.D.Area c.args.sides.now.items c.loop-place.sides.items c.loop-place.place c.loop-place.invariant.written
     (let more = c.loop-place-test.false in let len = c.len-place-end.ensures in let ok = c.args.sides.now.ok.0 in let long = c.loop-place.invariant.written.long in omega arith)
 
 pub returns-clause-same : goal.returns-clause-same
-returns-clause-same g c = all_same c.args.sides.now.items c.loop-place.sides.items c.loop-place.place c.loop-place.invariant.written
+returns-clause-same g c = all_same g.D.Area c.args.sides.now.items c.loop-place.sides.items c.loop-place.place c.loop-place.invariant.written

@@ -1,5 +1,5 @@
 use Rattle.std.proofs.Common.{◌≤◌, length, take, vec_capacity}
-use Rattle.lc_node.specs.Copies.{CanBeSent, AreNext}
+use Rattle.lc_node.specs.Copies.{CanBeSent, AreNext, AreAllNext}
 use Rattle.lc_node.specs.Each.{Each}
 use Rattle.lc_node.specs.Published.{published}
 use Rattle.lc_node.proofs.copying.copies_for.Given as goal
@@ -8,5 +8,6 @@ abbrev pub invariant-loop-peer : goal.invariant-loop-peer
 invariant-loop-peer g l = record {
   room : length l.peers ≤ vec_capacity l.copies;
   fit : Each (λ peer lacks. CanBeSent peer lacks.items) (take l.peer-index l.peers) l.copies.items;
+  most : Each (λ peer lacks. AreAllNext (published l.log) peer lacks.items) (take l.peer-index l.peers) l.copies.items;
   next : Each (λ peer lacks. AreNext (published l.log) peer lacks.items) (take l.peer-index l.peers) l.copies.items;
 }

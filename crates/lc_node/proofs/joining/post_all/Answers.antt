@@ -3,7 +3,6 @@ use Rattle.std.proofs.lemmas.List.{append-nil, nil_from_length as is_nil}
 use Rattle.lc_lock.specs.Loans.{key_of}
 use Rattle.lc_node.specs.Keys.{HasOneKey, wired_in}
 use Rattle.lc_node.specs.declared.joining.Post.{Post}
-use Rattle.lc_node.specs.declared.wiring.Ends.{Ends}
 use Rattle.lc_node.proofs.Joined.{all_more}
 use Rattle.lc_node.proofs.KeysKept.{one_more_key}
 use Rattle.lc_node.proofs.LinesClosed.{split_first}

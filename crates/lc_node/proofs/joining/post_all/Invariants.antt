@@ -1,4 +1,4 @@
-use Rattle.std.proofs.Common.{◌≡◌, ◌≤◌, ◌+◌, ◌++◌, All, length, vec_capacity, vec_len}
+use Rattle.std.proofs.Common.{◌≡◌, ◌≤◌, ◌+◌, ◌++◌, All, length, vec_capacity}
 use Rattle.lc_node.specs.Keys.{HasOneKey, wired_in}
 use Rattle.lc_node.proofs.joining.post_all.Given as goal
 

@@ -1,9 +1,20 @@
-use Rattle.std.proofs.Common.{◌≡◌, Option, Some, subst, sym}
+use Rattle.std.proofs.Common.{◌≡◌, ℕ, Option, Some, subst, sym, ◌∙◌}
 use Rattle.std.specs.Prelude.{IsSomeAnd}
 use Rattle.lc_token.specs.declared.token.Token.{Token}
-use Rattle.lc_node.specs.Pages.{AreWritten, FitsToken}
+use Rattle.std.proofs.lemmas.Option.{same_Some as some_same}
+use Rattle.lc_node.specs.Pages.{AreWritten, FitsToken, HaveBytes}
 use Rattle.lc_node.proofs.Noted.{with_token, written_fits}
 use Rattle.lc_node.proofs.page_writes.write_dirty.Goals as goal
+
+pub returns-clause-wrote : goal.returns-clause-wrote
+returns-clause-wrote g c =
+    let a = g.D.Area in
+    let token = c.in-Some.token.now in
+    let bytes = c.args.bytes.now in
+    let area = c.write_pages-written.new.area in
+    let at : c.args.place.now.token ≡ Some token = sym c.in-Some.ensures.token in
+    let fits : (since : ℕ) × FitsToken a since c.args.area.now token bytes = subst (λ (o : Option Token). IsSomeAnd o (λ t. (since : ℕ) × FitsToken a since c.args.area.now t bytes)) at c.requires.fits in
+    λ t is. subst (λ (x : Token). HaveBytes a area x bytes) (some_same token t (sym at ∙ is)) (λ page within. ((c.in_ok-written.ensures.over fits.0 fits.1).each page within).wrote)
 
 pub returns-clause-fits : goal.returns-clause-fits
 returns-clause-fits g c =

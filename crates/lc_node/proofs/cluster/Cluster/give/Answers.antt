@@ -1,5 +1,8 @@
-use Rattle.std.proofs.Common.{◌≡◌, ◌+◌, length, arith}
+use Rattle.std.proofs.Common.{rules, ◌≡◌, ◌+◌, false, length, ◌∙◌, arith}
+use Rattle.std.specs.Prelude.{IsTrue}
 use Rattle.lc_lock.specs.Loans.{key_of}
+use Rattle.lc_node.specs.Held.{HasSegment}
+use Rattle.lc_node.proofs.Called.{has_here, here_has}
 use Rattle.lc_node.proofs.KeysKept.{peer_place}
 use Rattle.lc_node.specs.Spread.{line_of}
 use Rattle.lc_node.proofs.cluster.Cluster.give.Goals as goal
@@ -9,3 +12,42 @@ hand_over-given-requires-clause-peer g c =
     let wired = (key_of c.member-member.result.now.to).to.ends in
     let count : length wired.items + 1 ≡ length c.args.self.now.members.items = (let peers = c.member-member.ensures.peers.0 in let ok = wired.ok.0 in omega arith) in
     peer_place line_of wired.items c.lock-ends.result.0.ends.items c.lock-ends.ensures.fits (length c.args.self.now.members.items) count c.args.from c.args.to c.requires.apart c.requires.within.0 c.requires.within.1
+
+pub returns-then-not-has-clause-gives : goal.returns-then-not-has-clause-gives
+returns-then-not-has-clause-gives g c = λ has.
+    let here : IsTrue c.has.result = c.has.ensures.1 (has_here c.args.self.now c.args.from c.args.segment c.member-member.result.now c.member-member.ensures.member has) in
+    let not : c.has.result ≡ false = c.if-not-has.true in absurd cc
+
+pub returns-clause-gives : goal.returns-clause-gives
+returns-clause-gives g c = λ has. record {
+  member = c.member-member.result.now;
+  at = c.member-member.ensures.member;
+  side = c.lock-side.result.0;
+  of_segment = c.lock-side.ensures.fits.0 ∙ c.lock_of-lock.ensures;
+  log = c.lock-log.result.0;
+  own = (let stage = c.member-member.result.now.node.one_stage in (c.lock-log.ensures.fits.0 ∙ stage, c.lock-log.ensures.fits.1 ∙ stage));
+  ends = c.lock-ends.result.0.ends.items;
+  wired = c.lock-ends.ensures.fits;
+  new_side = c.hand_over-given.new.self;
+  new_log = c.hand_over-given.new.log;
+  new_ends = c.hand_over-given.new.ends.ends.items;
+  hands_over = record {
+    same_log = c.hand_over-given.ensures.log;
+    halted = c.hand_over-given.ensures.halted;
+    not_here = c.hand_over-given.ensures.not_here;
+    unflushed = c.hand_over-given.ensures.unflushed;
+    full = c.hand_over-given.ensures.full;
+    given = c.hand_over-given.ensures.given;
+    refused = c.hand_over-given.ensures.err;
+    others = c.hand_over-given.ensures.others;
+    count = c.hand_over-given.ensures.count;
+    records = c.hand_over-given.ensures.records;
+    lines = c.hand_over-given.ensures.lines;
+    same = c.hand_over-given.ensures.same;
+  };
+}
+
+pub returns-clause-no_segment : goal.returns-clause-no_segment
+returns-clause-no_segment g c = λ none.
+    let here : HasSegment c.member-member.result.now.node c.args.segment = search rules in
+    absurd (none (here_has c.args.self.now c.args.from c.args.segment c.member-member.result.now c.member-member.ensures.member here))

@@ -1,5 +1,6 @@
-use Rattle.std.proofs.Common.{◌≡◌, ◌+◌, length, map, ap, ◌∙◌, arith}
+use Rattle.std.proofs.Common.{◌≡◌, ◌≢◌, ℕ, ◌+◌, length, map, sym, ap, subst, ◌∙◌, arith}
 use Rattle.lc_lock.specs.Loans.{key_of}
+use Rattle.lc_node.specs.Reached.{Pumps}
 use Rattle.lc_node.specs.Receiving.{origin_of}
 use Rattle.lc_node.proofs.KeysKept.{peer_place}
 use Rattle.lc_node.proofs.cluster.Cluster.pump.Goals as goal
@@ -13,3 +14,15 @@ pump-pumped-requires g c =
     let place = peer_place origin_of key.from.ends.items c.lock-ends.result.0.ends.items fits (length c.args.self.now.members.items) count c.args.to c.args.from c.requires.apart c.requires.within.0 c.requires.within.1 in
     let is = c.place_of.ensures in
     record { peer = omega arith }
+
+pub returns-clause-pumps : goal.returns-clause-pumps
+returns-clause-pumps g c = record {
+  member = c.member-member.result.now;
+  at = c.member-member.ensures.member;
+  old = c.lock-ends.result.0.ends.items;
+  wired = c.lock-ends.ensures.fits;
+  new = c.pump-pumped.new.self.ends.items;
+  lines = c.pump-pumped.ensures.lines;
+  pumps = subst (λ (place : ℕ). Pumps c.member-member.result.now.node c.lock-ends.result.0.ends.items place c.pump-pumped.result c.pump-pumped.new.self.ends.items) c.place_of.ensures.place c.pump-pumped.ensures.pumps;
+  others = λ other apart. c.pump-pumped.ensures.others other (subst (λ (place : ℕ). other ≢ place) (sym c.place_of.ensures.place) apart);
+}

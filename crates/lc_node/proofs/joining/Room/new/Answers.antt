@@ -1,6 +1,6 @@
-use Rattle.std.proofs.Common.{◌≡◌, ◌≤◌, ℕ, List, length, ap, sym, subst, ◌∙◌, arith, rules}
+use Rattle.std.proofs.Common.{◌≡◌, List, length, ap, sym, subst, arith, rules}
 use Rattle.std.proofs.lemmas.List.{length-map}
-use Rattle.std.specs.Prelude.{All, IfOk, vec_len}
+use Rattle.std.specs.Prelude.{All, IfOk}
 use Rattle.lc_node.specs.Wiring.{AreLines, HasPeers}
 use Rattle.lc_lock.specs.Loans.{key_of}
 use Rattle.lc_node.specs.Journey.{Journey}

@@ -6,7 +6,7 @@ use Rattle.std.proofs.lemmas.List.Elements.{All-append}
 use Rattle.lc_trunc.specs.KnownClean.{known}
 use Rattle.lc_trunc.specs.Reset.{AreKnown}
 use Rattle.lc_node.proofs.Knowing.{all_alone}
-use Rattle.lc_node.proofs.FlushKeeps.{at_rest, records_append}
+use Rattle.lc_node.proofs.FlushKeeps.{at_rest, records_append, reset_fails}
 use Rattle.lc_node.proofs.Published.{ends, moved}
 use Rattle.lc_node.specs.Ended.{HasRoom}
 use Rattle.lc_node.specs.Published.{published}
@@ -68,7 +68,10 @@ invariant_of-self g c = let inv = c.self.invariant in let v : View = flush_view 
       same_known = refl;
       steps = steps_publishes v z c.publish.ensures.published;
       published = published_to c.self.inside.stable.items v z c.self.inside.round c.publish.ensures.published held.0 inv.at_round;
-      holds = ([], ap (λ (y : View). y.taken) c.publish.ensures.published ∙ (sym held.0 ∙ sym (append-nil c.self.inside.stable.items)));
+      holds = (
+        ([], ap (λ (y : View). y.taken) c.publish.ensures.published ∙ (sym held.0 ∙ sym (append-nil c.self.inside.stable.items))),
+        reset_fails g.D.Area c.in-Idle.log.area c.in-Err.failed.area c.in-Idle.log.end v.taken c.self.inside.stable.items held.1 held.0 c.in-Err.ensures.failed_device.honest c.in-Err.ensures.failed,
+      );
     })
 
 pub invariant_of-self-in-Err-reset_sync : goal.invariant_of-self-in-Err-reset_sync
@@ -84,7 +87,12 @@ invariant_of-self-in-Err-reset_sync g c = let inv = c.self.invariant in let v : 
       same_known = refl;
       steps = steps_publishes v z c.publish.ensures.published;
       published = published_to c.self.inside.stable.items v z c.self.inside.round c.publish.ensures.published held.0 inv.at_round;
-      holds = ([], ap (λ (y : View). y.taken) c.publish.ensures.published ∙ (sym held.0 ∙ sym (append-nil c.self.inside.stable.items)));
+      holds = (
+        ([], ap (λ (y : View). y.taken) c.publish.ensures.published ∙ (sym held.0 ∙ sym (append-nil c.self.inside.stable.items))),
+        reset_fails g.D.Area c.in-Idle.log.area c.in-Err-reset_sync.failed.area c.in-Idle.log.end v.taken c.self.inside.stable.items held.1 held.0
+            (c.in-Err-reset_sync.ensures.failed_device.honest ∙ c.in-Ok.ensures.device.honest)
+            (λ records idle. c.in-Err-reset_sync.ensures.failed records (c.in-Ok.ensures.closing records idle)),
+      );
     })
 
 pub extend-requires : goal.extend-requires

@@ -1,5 +1,4 @@
-use Rattle.std.proofs.Common.{rules, ◌≡◌, List, refl, sym, subst, inl, inr}
-use Rattle.std.specs.Prelude.{Err, IfErr}
+use Rattle.std.proofs.Common.{List, sym, subst, inl, inr}
 use Rattle.std.proofs.lemmas.Result.{IfErr-weaker as if_err, IfOk-weaker as if_ok}
 use Rattle.lc_node.specs.LogView.{LogView}
 use Rattle.lc_node.specs.Resets.{Empties, IsUnemptied}
@@ -9,11 +8,8 @@ use Rattle.lc_node.specs.Ended.{HasRoom}
 use Rattle.lc_node.proofs.PagesWritten.{room_behind}
 use Rattle.lc_node.proofs.log_side.LogSide.empty.Goals as goal
 
-pub returns-in_err-write_all-clause-refused : goal.returns-in_err-write_all-clause-refused
-returns-in_err-write_all-clause-refused g c =
-    let is : c.from_residual-in_err-write_all.result ≡ Err c.in_err-write_all.field-0.0 = search rules in
-    subst (λ r. IfErr r (λ fault. IsUntruncated g.D.Area c.args.stage.now.room c.args.self.now c.args.sides.now.items fault c.flush.new.self c.write_all.new.sides.items)) (sym is)
-    (inr (inr (c.in_ok-flush.field-0, c.flush.new.self, c.in_ok-flush.ensures.flushed, inl (c.in_err-write_all.ensures.failed, refl))))
+pub returns-in-Err-clause-refused : goal.returns-in-Err-clause-refused
+returns-in-Err-clause-refused g c = inr (c.in_ok-flush.field-0, c.flush.new.self, c.in_ok-flush.ensures.flushed, inl (c.in-Err.ensures.failed, c.halt.ensures))
 
 pub returns-clause-truncated : goal.returns-clause-truncated
 returns-clause-truncated g c =
@@ -24,7 +20,7 @@ returns-clause-truncated g c =
       count = c.in_ok-flush.field-0;
       flushed = c.flush.new.self;
       flushes = c.in_ok-flush.ensures.flushed;
-      written = c.in_ok-write_all.ensures.written;
+      written = c.in_default.ensures.written;
       known = c.see_all.new.self.known;
       sees = sees;
       empties = subst (λ (v : LogView _). Empties v round c.reset.new.self) c.see_all.ensures.same empties;
@@ -35,17 +31,17 @@ returns-clause-refused g c =
     let sees : SeesSides c.flush.new.self.known c.write_all.new.sides.items c.see_all.new.self.known = subst (λ (l : List (HeldSide _)). SeesSides c.flush.new.self.known l c.see_all.new.self.known) c.as_slice.ensures.value c.see_all.ensures.sees in
     if_err c.reset.result (λ fault. IsUnemptied c.see_all.new.self fault c.reset.new.self)
     (λ fault. IsUntruncated g.D.Area c.args.stage.now.room c.args.self.now c.args.sides.now.items fault c.reset.new.self c.write_all.new.sides.items)
-    (λ fault why. inr (inr (
+    (λ fault why. inr (
       c.in_ok-flush.field-0,
       c.flush.new.self,
       c.in_ok-flush.ensures.flushed,
       inr (
         c.see_all.new.self.known,
-        c.in_ok-write_all.ensures.written,
+        c.in_default.ensures.written,
         sees,
         subst (λ (v : LogView _). IsUnemptied v fault c.reset.new.self) c.see_all.ensures.same why,
       ),
-    ))) c.reset.ensures.refused
+    )) c.reset.ensures.refused
 
 pub reset-requires-clause-room : goal.reset-requires-clause-room
 reset-requires-clause-room g c = subst (λ (v : LogView _). HasRoom v) (sym c.see_all.ensures.same) (room_behind c.args.stage.now.room c.in_ok-flush.field-0 c.args.self.now c.flush.new.self c.in_ok-flush.ensures.flushed c.requires.ended)

@@ -15,7 +15,7 @@ use Rattle.lc_node.specs.LogView.{LogView}
 use Rattle.lc_node.specs.declared.log_state.LogState.TheVariants.{Idle}
 use Rattle.lc_node.proofs.Published.{flush_publishes, no_record_in_front, tail_is}
 use Rattle.lc_node.proofs.SideKeeps.{goes, steps_publishes, steps_takes, steps_twice}
-use Rattle.lc_node.proofs.FlushKeeps.{at_rest, takes_and_publishes, records_append}
+use Rattle.lc_node.proofs.FlushKeeps.{at_rest, flush_fails, takes_and_publishes, records_append}
 use Rattle.lc_node.proofs.log_side.LogSide.flush.Goals as goal
 
 pub publish-requires-in-Ok-clause-stable : goal.publish-requires-in-Ok-clause-stable
@@ -84,7 +84,11 @@ invariant_of-self-in-Err g c = let v : View = flush_view c.self.inside.flusher i
       same_known = refl;
       steps = steps_takes v w c.take-words.ensures.takes;
       published = (let old = inv.published in let same : w.published ≡ v.published = ap (λ (y : View). y.published) c.take-words.ensures.takes.1 in omega arith);
-      holds = (c.take-words.new.group.words, c.take-words.ensures.words ∙ ap (λ (l : List ℕ). l ++ c.take-words.new.group.words) (sym held.0));
+      holds = (
+        (c.take-words.new.group.words, c.take-words.ensures.words ∙ ap (λ (l : List ℕ). l ++ c.take-words.new.group.words) (sym held.0)),
+        flush_fails g.D.Area c.in-Idle.log.area c.in-Err.failed.area c.in-Idle.log.end v.taken c.self.inside.stable.items held.1 held.0 c.in-Err.ensures.failed_device.honest
+            c.take-words.new.group.words c.take-words.ensures.records (omega (arith, c.take-words.ensures.len, c.if-words-eq0.false)) c.in-Err.ensures.failed,
+      );
     })
 
 pub returns-in-Err-clause-refused : goal.returns-in-Err-clause-refused

@@ -13,7 +13,7 @@ pub returns-clause-refused : goal.returns-clause-refused
 returns-clause-refused g c =
     if_err c.empty.result (λ fault. IsUntruncated g.D.Area c.args.stage.now.room c.make_room.new.self c.args.sides.now.items fault c.empty.new.self c.empty.new.sides.items)
     (λ fault. IsUntruncatedInRoom g.D.Area c.args.stage.now.room c.args.self.now c.args.sides.now.items fault c.empty.new.self c.empty.new.sides.items)
-    (λ fault why. inr (c.make_room.new.self, c.in-Ok.ensures.made, why)) c.empty.ensures.refused
+    (λ fault why. inr (inr (c.make_room.new.self, c.in-Ok.ensures.made, why))) c.empty.ensures.refused
 
 pub empty-requires-clause-ended : goal.empty-requires-clause-ended
 empty-requires-clause-ended g c = c.in-Ok.ensures.made.0

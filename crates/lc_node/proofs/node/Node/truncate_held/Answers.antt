@@ -1,8 +1,9 @@
-use Rattle.std.proofs.Common.{All, subst, arith}
+use Rattle.std.proofs.Common.{rules, All, inr, subst, arith}
 use Rattle.std.specs.VecDeque.{deque_capacity}
-use Rattle.std.proofs.lemmas.Result.{IfErr-weaker as if_err}
-use Rattle.lc_node.specs.Truncates.{HasPagesIn, IsOfTruncation, IsUntruncatedInRoom}
-use Rattle.lc_node.proofs.PagesWritten.{of_truncation, still_held, more_places}
+use Rattle.std.proofs.lemmas.Result.{IfErr-weaker as if_err, IfOk-weaker as if_ok}
+use Rattle.lc_node.specs.Logs.{IsLogOf}
+use Rattle.lc_node.specs.Truncates.{HasPagesIn, IsUntruncatedHeld, IsUntruncatedInRoom, TruncatesHeld, TruncatesInRoom}
+use Rattle.lc_node.proofs.PagesWritten.{still_held, more_places}
 use Rattle.lc_node.proofs.node.Node.truncate_held.Goals as goal
 
 pub truncate-truncated-requires-clause-room : goal.truncate-truncated-requires-clause-room
@@ -13,5 +14,13 @@ pub returns-clause-held : goal.returns-clause-held
 returns-clause-held g c = still_held c.args.self.now c.args.held.now.sides.items c.truncate-truncated.new.sides.items c.truncate-truncated.ensures.same c.requires.held
 
 pub returns-clause-refused : goal.returns-clause-refused
-returns-clause-refused g c = if_err c.truncate-truncated.result (λ fault. IsUntruncatedInRoom g.D.Area c.args.self.now.stage.room c.lock-log.result.0 c.args.held.now.sides.items fault c.truncate-truncated.new.self c.truncate-truncated.new.sides.items) IsOfTruncation
-    (λ fault why. of_truncation g.D.Area c.args.self.now.stage.room c.lock-log.result.0 c.truncate-truncated.new.self c.args.held.now.sides.items c.truncate-truncated.new.sides.items fault why) c.truncate-truncated.ensures.refused
+returns-clause-refused g c = let own : IsLogOf c.args.self.now c.lock-log.result.0 = search rules in
+    if_err c.truncate-truncated.result (λ fault. IsUntruncatedInRoom g.D.Area c.args.self.now.stage.room c.lock-log.result.0 c.args.held.now.sides.items fault c.truncate-truncated.new.self c.truncate-truncated.new.sides.items)
+    (λ fault. IsUntruncatedHeld g.D.Area c.args.self.now c.args.held.now.sides.items fault c.truncate-truncated.new.sides.items)
+    (λ fault why. inr (c.lock-log.result.0, c.truncate-truncated.new.self, own, why)) c.truncate-truncated.ensures.refused
+
+pub returns-clause-truncated : goal.returns-clause-truncated
+returns-clause-truncated g c = let own : IsLogOf c.args.self.now c.lock-log.result.0 = search rules in
+    if_ok c.truncate-truncated.result (λ round. TruncatesInRoom g.D.Area c.args.self.now.stage.room c.lock-log.result.0 c.args.held.now.sides.items round c.truncate-truncated.new.self c.truncate-truncated.new.sides.items)
+    (λ round. TruncatesHeld g.D.Area c.args.self.now c.args.held.now.sides.items round c.truncate-truncated.new.sides.items)
+    (λ round truncates. (c.lock-log.result.0, c.truncate-truncated.new.self, own, truncates)) c.truncate-truncated.ensures.truncated

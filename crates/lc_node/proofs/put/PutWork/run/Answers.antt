@@ -1,6 +1,8 @@
-use Rattle.std.proofs.Common.{rules, ◌≡◌, ℕ, Ok, Err, length, refl, sym, subst}
+use Rattle.std.proofs.Common.{rules, ◌≡◌, ℕ, Ok, Err, length, refl, sym, ap, subst}
+use Rattle.std.specs.Prelude.{OnErr}
 use Rattle.lc_tx.specs.Images.{bytes_of}
 use Rattle.lc_tx.specs.Tx.{SetsRange}
+use Rattle.lc_tx.specs.declared.tx.Tx.{Tx}
 use Rattle.lc_node.specs.Put.{Puts}
 use Rattle.lc_node.proofs.PutBytes.{agree, fits_once, puts, unput}
 use Rattle.lc_node.proofs.WorkSteps.{works_range, works_then, works_tried}
@@ -18,9 +20,10 @@ returns-in_err-set_range-clause-ran g c = let m = g.I.Images in let old = c.args
     let is : c.from_residual.result ≡ Err c.in_err-set_range.field-0.0 = search rules in
     let was : c.set_range.result ≡ Err c.in_err-set_range.field-0.0 = search rules in (
       refl,
-      subst (λ r. Puts put tx.locked.items (bytes_of m old) r (bytes_of m c.set_range.new.images)) (sym is) (
+      subst (λ r. Puts put tx.locked.items (bytes_of m old) tx.set r (bytes_of m c.set_range.new.images) c.set_range.new.self.set) (sym is) (
         unput m old tx c.requires.runs put c.in-Ok.len long c.set_range.result e.not_locked e.read_only e.empty e.outside e.too_many e.no_memory e.faults c.in_err-set_range.field-0.0 was,
         agree m old tx c.requires.runs c.set_range.new.images e.images,
+        ap (λ (t : Tx). t.set) (subst (λ r. OnErr r (c.set_range.new.self ≡ tx)) was e.err),
       ),
     )
 

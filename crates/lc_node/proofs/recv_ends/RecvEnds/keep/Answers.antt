@@ -1,8 +1,16 @@
-use Rattle.std.proofs.Common.{ap}
-use Rattle.lc_line.specs.Ends.{line_from}
-use Rattle.lc_node.specs.Receiving.{origin_of}
-use Rattle.lc_node.proofs.SentToAll.{same_map}
+use Rattle.std.proofs.Common.{◌≡◌, ◌≢◌, ◌<◌, ℕ, None, Some, length, subst, sym}
+use Rattle.std.specs.Prelude.{slice_get}
+use Rattle.lc_node.specs.Receiving.{kept_at, taken_at}
 use Rattle.lc_node.proofs.recv_ends.RecvEnds.keep.Goals as goal
 
-pub returns-clause-lines : goal.returns-clause-lines
-returns-clause-lines g c = same_map origin_of c.args.self.now.ends.items c.args.peer c.index_mut-inbox.result.now c.keep.new.self c.index_mut-inbox.ensures.value c.requires.peer (ap (λ e. line_from e) c.keep.ensures.end)
+pub keep_at-requires : goal.keep_at-requires
+keep_at-requires g c = record { peer = subst (λ (p : ℕ). p < length c.args.self.now.ends.items) (sym c.place_of.ensures.place) c.requires.peer.1; none = subst (λ (p : ℕ). kept_at c.args.self.now.ends.items p ≡ None) (sym c.place_of.ensures.place) c.requires.none }
+
+pub returns-clause-kept : goal.returns-clause-kept
+returns-clause-kept g c = subst (λ (p : ℕ). kept_at c.keep_at.new.self.ends.items p ≡ Some c.args.message) c.place_of.ensures.place c.keep_at.ensures.kept
+
+pub returns-clause-taken : goal.returns-clause-taken
+returns-clause-taken g c = subst (λ (p : ℕ). taken_at c.keep_at.new.self.ends.items p ≡ taken_at c.args.self.now.ends.items p) c.place_of.ensures.place c.keep_at.ensures.taken
+
+pub returns-clause-others : goal.returns-clause-others
+returns-clause-others g c = subst (λ (p : ℕ). (other : ℕ) → other ≢ p → slice_get c.keep_at.new.self.ends.items other ≡ slice_get c.args.self.now.ends.items other) c.place_of.ensures.place c.keep_at.ensures.others

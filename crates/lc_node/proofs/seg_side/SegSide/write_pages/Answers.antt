@@ -2,7 +2,7 @@ use Rattle.std.proofs.Common.{rules, ◌≡◌, ℕ, List, [], Some, length, ref
 use Rattle.std.specs.Prelude.{IsSomeAnd, Option}
 use Rattle.lc_record.specs.declared.part.Part.{Part}
 use Rattle.lc_token.specs.declared.token.Token.{Token}
-use Rattle.lc_node.specs.Pages.{FitsToken}
+use Rattle.lc_node.specs.Pages.{FitsToken, HaveBytes}
 use Rattle.lc_node.specs.SegView.{laid_parts}
 use Rattle.lc_node.specs.declared.page_area.PageArea.TheVariants.{Serves}
 use Rattle.lc_node.proofs.Laying.{length-laid_parts}
@@ -51,4 +51,6 @@ returns-in-Ok-clause-written g c = let inside = c.self.inside in let inv = c.sel
     let old_token : c.args.self.now.standing.token ≡ Some here.0 = search rules in
     let segment : c.write_dirty.new.place.segment ≡ c.args.self.now.standing.segment = search rules in
     let standing = standing_is c.write_dirty.new.place c.args.self.now.standing.segment behind.0 segment behind.1 in
-    (search rules, inr (c.in-Serves.area, c.write_dirty.new.area, here.0, behind.0, old_pages, refl, old_token, standing, behind.2))
+    let base : c.bytes.result.now ≡ inside.base.bytes.items = c.bytes.ensures in
+    let wrote : HaveBytes g.D.Area c.write_dirty.new.area here.0 c.bytes.result.now = c.in-Ok.ensures.wrote here.0 here.1 in
+    (search rules, inr (c.in-Serves.area, c.write_dirty.new.area, here.0, behind.0, old_pages, refl, old_token, standing, behind.2, subst (HaveBytes g.D.Area c.write_dirty.new.area here.0) base wrote))

@@ -1,0 +1,19 @@
+//! The held segment whose token is elsewhere.
+ghost use Rattle.std.specs.Prelude.{◌≡◌, ◌↔◌, ℕ, IfNone, Some};
+ghost use Rattle.lc_node.specs.Commits.{AreHere, IsFirstGone};
+
+use crate::held::HeldSide;
+use lc_disk::Area;
+
+/// The first of these segments whose token is not here.
+pub(crate) fn first_absent<D: Area + Drop>(sides: &[HeldSide<D>]) -> Option<u32>
+    ensures first { (s : ℕ) → (result ≡ Some s) ↔ IsFirstGone sides.now s }
+    ensures none { IfNone result (AreHere sides.now) }
+{
+    for held in sides {
+        let Some(_) = held.side.token() else {
+            return Some(held.side.segment());
+        };
+    }
+    None
+}

@@ -1,0 +1,129 @@
+//! Whether a call of one of a node's devices has failed.
+ghost use Rattle.std.specs.Prelude.{◌≡◌, ◌⊎◌, ◌↔◌, false, true, Err, IfErr, IfOk, IsTrue, OnOk};
+ghost use Rattle.lc_stage.specs.Seats.{IsFlusherOf, IsSeatOf};
+ghost use Rattle.lc_node.specs.Ended.{LacksRoom};
+ghost use Rattle.lc_node.specs.Flushes.{Flushes, IsUnflushed};
+ghost use Rattle.lc_node.specs.Halting.{HasHalted, IsHalting, IsUntruncatable};
+ghost use Rattle.lc_node.specs.LogView.{LogView};
+ghost use Rattle.lc_node.specs.Published.{published, Publishes};
+ghost use Rattle.lc_node.specs.Resets.{CanReset, Empties, IsSameInRoom, IsSpent, IsUnemptied};
+ghost use Rattle.lc_node.specs.declared.node_fault.NodeFault.TheVariants.{Halted, NoMemory, RoundsSpent};
+
+use crate::log_state::LogState;
+use crate::resetting::LAST_ROUND;
+use crate::{LogSide, Node, NodeFault};
+use lc_disk::Area;
+use std::marker::PhantomData;
+use std::mem;
+use std::sync::atomic::Ordering::SeqCst;
+use std::sync::atomic::Rule;
+
+/// The rule of a node's word that is 0 until a call of a device fails: any other value tells that a log is halted.
+pub(crate) struct Halting<D> {
+    device: PhantomData<D>,
+}
+
+impl<D> Rule for Halting<D> {
+    ghost invariant = { IsHalting D };
+}
+
+// What the word is where a call has failed.
+const FAILED: u64 = 1;
+
+impl<D: Area + Drop> LogSide<D> {
+    /// The log serves no more, since a call on the pages of a segment failed.
+    pub(crate) fn halt(&mut self)
+        ensures { self.new ≡ record self.old { is_halted = true } }
+    {
+        self.log = match mem::replace(&mut self.log, LogState::Taken) {
+            LogState::Idle(log) => LogState::Stopped(log),
+            state => state,
+        };
+    }
+
+    /// Whether the log may be truncated at all.
+    ///
+    /// # Errors
+    ///
+    /// `Halted` exactly where it serves no more, and else `RoundsSpent` exactly where it is in its last round.
+    pub(crate) fn may_truncate(&self) -> Result<(), NodeFault>
+        ensures halted { (result ≡ Err Halted) ↔ (self.now.is_halted ≡ true) }
+        ensures spent { (result ≡ Err RoundsSpent) ↔ ((self.now.is_halted ≡ false) × IsSpent self.now) }
+        ensures may { OnOk result ((self.now.is_halted ≡ false) × ¬ IsSpent self.now) }
+        ensures refused { IfErr result (IsUntruncatable self.now) }
+    {
+        if self.is_halted() {
+            return Err(NodeFault::Halted);
+        }
+        if self.round == LAST_ROUND {
+            return Err(NodeFault::RoundsSpent);
+        }
+        Ok(())
+    }
+}
+
+impl<D: Area + Drop> Node<D> {
+    /// Whether a call of a device has failed, of the log's or of those of the segments' pages: each commit and each flush is
+    /// refused then, as `Halted`, until a recovery. One load.
+    pub fn is_halted(&self) -> bool
+        ensures { IsTrue result → HasHalted D }
+    {
+        self.halted.load(SeqCst) != 0
+    }
+
+    /// Lets all who commit know where the log is halted.
+    pub(crate) fn tell_halted(&self, log: &LogSide<D>) {
+        if log.is_halted() {
+            self.halted.store(FAILED, SeqCst);
+        }
+    }
+
+    /// Makes the closed records stable of a log whose lock the caller has, and answers how many became so: see `flush`. It takes
+    /// no memory.
+    ///
+    /// # Errors
+    ///
+    /// `Halted` exactly where a device failed before, and nothing has changed; `DeviceFault` where it fails now: nothing more is
+    /// stable or published, and the node is halted.
+    pub fn flush_log(&self, log: &mut LogSide<D>) -> Result<u64, NodeFault>
+        requires own { IsFlusherOf self.now.stage log.old.flusher }
+        ensures own { IsFlusherOf self.now.stage log.new.flusher × (log.new.probe ≡ log.old.probe) × (log.new.round ≡ log.old.round) × (log.new.known ≡ log.old.known) }
+        ensures flushed { IfOk result (λ count. Flushes self.now.stage.room log.old count log.new) }
+        ensures published { IfOk result (λ count. Publishes log.old count log.new) }
+        ensures halted { (result ≡ Err Halted) ↔ (log.old.is_halted ≡ true) }
+        ensures refused { IfErr result (λ fault. IsUnflushed D.Area log.old fault log.new) }
+    {
+        let flushed = log.flush(&self.stage);
+        self.tell_halted(log);
+        flushed
+    }
+
+    /// Empties a log whose lock the caller has, and begins its next round, where its records are known to be on their segments'
+    /// pages; answers the round that it is in then: where it has no stable record, the present one. Nothing is flushed, and no
+    /// page is written: `truncate` does all three.
+    ///
+    /// # Errors
+    ///
+    /// In this order: `Halted` where a device failed before; `RoundsSpent` where the log is in its last round; `Unclean` of the
+    /// least segment and number of a record that is not known to be on its pages; `NoMemory`, where there is none for the words of
+    /// the round, which stay published; `Lost` where something is reserved behind the stable records. The log stands as it was
+    /// then. `DeviceFault` where the device fails: the node is halted.
+    pub fn reset_log(&self, log: &mut LogSide<D>) -> Result<u64, NodeFault>
+        requires own { IsFlusherOf self.now.stage log.old.flusher × IsSeatOf self.now.stage log.old.probe }
+        ensures own { IsFlusherOf self.now.stage log.new.flusher × IsSeatOf self.now.stage log.new.probe × (log.new.known ≡ log.old.known) }
+        ensures published { published log.new ≡ published log.old }
+        ensures emptied { IfOk result (λ round. (roomy : LogView D) × IsSameInRoom log.old roomy × Empties roomy round log.new) }
+        ensures refused { IfErr result (λ fault. ((fault ≡ NoMemory) × CanReset log.old × LacksRoom log.old log.new)
+            ⊎ ((roomy : LogView D) × IsSameInRoom log.old roomy × IsUnemptied roomy fault log.new)) }
+    {
+        if !log.is_due()? {
+            return Ok(log.round);
+        }
+        let Ok(()) = log.make_room(&self.stage) else {
+            return Err(NodeFault::NoMemory);
+        };
+        let reset = log.reset(&self.stage);
+        self.tell_halted(log);
+        reset
+    }
+}
