@@ -1,6 +1,6 @@
 -- What a table was and what a command makes of it, as a work tells it.
 use Rattle.std.proofs.Common.{◌≡◌, ◌≢◌, ℕ, zero, suc, ◌+◌, ◌-◌, ◌*◌, ◌^◌, ◌<◌, ◌≤◌, false, List, [], ◌∷◌, ◌++◌, Some, length, take, drop, refl, sym, ap, subst, ◌∙◌, inl, inr, arith, true≢false}
-use Rattle.std.specs.Prelude.{◌⊎◌, ◌↔◌, ◌||◌, IfOk, IsErrAnd, IsTrue, MatchResult, Result, Ok, Err, min}
+use Rattle.std.specs.Prelude.{◌⊎◌, ◌↔◌, ◌||◌, IfOk, IsErrAnd, IsSome, OnErr, IsTrue, MatchResult, Result, Ok, Err, min}
 use Rattle.std.specs.Global.{Vec}
 use Rattle.std.specs.declared.alloc.AllocError.{AllocError}
 use Rattle.std.proofs.lemmas.Bool.{cases_Bool, cases_lt}
@@ -8,7 +8,7 @@ use Rattle.std.proofs.lemmas.List.{length-take-le, take-append-drop}
 use Rattle.lc_record.specs.Content.{put}
 use Rattle.lc_record.specs.Transaction.{is_member}
 use Rattle.lc_tx.specs.declared.tx_fault.TxFault.{TxFault}
-use Rattle.lc_tx.specs.declared.tx_fault.TxFault.TheVariants.{NotLocked, OutOfSegment, ReadOnly}
+use Rattle.lc_tx.specs.declared.tx_fault.TxFault.TheVariants.{NoMemory, NotLocked, OutOfSegment, ReadOnly}
 use Rattle.lc_tx.specs.declared.images.Images.{Ghosts}
 use Rattle.lc_tx.specs.declared.tx.Tx.{Tx}
 use Rattle.lc_tx.specs.Images.{bytes_of}
@@ -16,11 +16,13 @@ use Rattle.lc_tx.specs.Tx.{Holds, RunsOn}
 use Rattle.lc_node.specs.Put.{IsUnput}
 use Rattle.lc_node.specs.Ran.{AgreeOn, Bytes}
 use Rattle.lc_node.specs.declared.put.Put.{Put}
-use Rattle.lc_names.specs.Answers.{Answers, Change, IsOfEntry, left_by}
-use Rattle.lc_names.specs.Table.{entries_in}
+use Rattle.lc_names.specs.Answers.{Alters, Answers, Change, IsOfEntry, WantsMemory, left_by}
+use Rattle.lc_names.specs.Table.{attributes_in, entries_in}
 use Rattle.lc_names.specs.Ask.{IsAsked, IsUnasked}
 use Rattle.lc_names.specs.declared.answer.Answer.{Answer}
 use Rattle.lc_names.specs.declared.ask.Ask.{Ask}
+use Rattle.lc_names.specs.declared.command.Command.{Command}
+use Rattle.lc_names.specs.declared.command.Command.TheVariants.{Create, Find, List as ListAll, Remove, Rename}
 use Rattle.lc_names.specs.declared.name_fault.NameFault.{NameFault}
 use Rattle.lc_names.proofs.Cuts.{long_entries}
 
@@ -33,6 +35,19 @@ put-append zero (i ∷ is) (x ∷ xs) ys l = ap (λ (s : List ℕ). i ∷ s) (pu
 put-append (suc place) items [] ys l = absurd (omega arith)
 put-append (suc place) items (x ∷ xs) ys l = ap (λ (s : List ℕ). x ∷ s) (put-append place items xs ys (omega arith))
 
+-- where a name has attributes there are entries
+some_among : (name : List ℕ) (entries : List (List ℕ)) → IsSome (attributes_in entries name) → 0 < length entries
+some_among name [] some = absurd cc
+some_among name (entry ∷ entries) some = omega arith
+
+-- an answer that wants memory is of a table with bytes
+wants_bytes : (command : Command) (table : List ℕ) → WantsMemory command table → 0 < length table
+wants_bytes (Create name attributes) table wants = absurd wants
+wants_bytes (Rename from to) table wants = absurd wants
+wants_bytes (Remove name) table wants = absurd wants
+wants_bytes (Find name) table wants = omega (arith, long_entries table 0 (some_among name.now (entries_in table) wants.1))
+wants_bytes ListAll table wants = omega (arith, long_entries table wants.1.0 wants.1.1)
+
 module _ (ask : Ask) (locked : List ℕ) (before mid : Bytes) (found : List ℕ) (within : 0 + ask.len ≤ length (before 1)) (is : found ≡ take ask.len (before 1)) (agree : AgreeOn locked mid before) where
   fit : ask.len ≤ length (before 1)
   fit = omega (arith, within)
@@ -43,6 +58,10 @@ module _ (ask : Ask) (locked : List ℕ) (before mid : Bytes) (found : List ℕ)
   -- an entry of the table ends within it
   pub ends_within : (change : Change) → IsOfEntry (entries_in found) change → 64 * change.0 + 64 ≤ ask.len
   ends_within change at = omega (arith, long, long_entries found change.0 at.0)
+
+  -- want of memory for the answer is told as it stands
+  pub unasked_memory : (fault : TxFault) → fault ≡ NoMemory → WantsMemory ask.command found → IsUnasked ask locked before fault
+  unasked_memory fault none wants = inr (inr (inr (inr (none, omega (arith, long, wants_bytes ask.command found wants), fit))))
 
   pub asked_same : (given : Result Answer NameFault) → Answers ask.command found given found → IsAsked ask locked before given mid
   asked_same given answers = record {
@@ -83,9 +102,9 @@ module _ (ask : Ask) (locked : List ℕ) (before mid : Bytes) (found : List ℕ)
         ]
 
     -- a whole entry of the table is refused for ranges and memory alone, or for the lock
-    pub unasked_put : (p : Put) (fault : TxFault) → p.segment ≡ 1 → p.offset ≡ 64 * change.0 → p.bytes.now ≡ change.1 → p.offset + 64 < 2 ^ 32
+    pub unasked_put : Alters ask.command found → (p : Put) (fault : TxFault) → p.segment ≡ 1 → p.offset ≡ 64 * change.0 → p.bytes.now ≡ change.1 → p.offset + 64 < 2 ^ 32
         → IsUnput p locked mid fault → IsUnasked ask locked before fault
-    unasked_put p fault segment offset bytes small unput = elim unput [
+    unasked_put alters p fault segment offset bytes small unput = elim unput [
       | inl why ↦ inl (why.0, subst (λ (s : ℕ). is_member s locked ≡ false) segment why.1)
       | inr more ↦ elim more [
         | inl why ↦ inr (inl (subst (λ (s : ℕ). (fault ≡ ReadOnly s) × (is_member s locked ≡ false)) segment why))
@@ -94,8 +113,8 @@ module _ (ask : Ask) (locked : List ℕ) (before mid : Bytes) (found : List ℕ)
           | inr more ↦ elim more [
             | inl why ↦ absurd (past p segment offset bytes small why.1 why.2)
             | inr why ↦ elim why.0 [
-              | inl many ↦ inr (inr (inr (inl (many, subst (λ (s : ℕ). IsTrue (is_member s locked)) segment why.1.0, fit))))
-              | inr none ↦ inr (inr (inr (inr (none, fit))))
+              | inl many ↦ inr (inr (inr (inl (many, subst (λ (s : ℕ). IsTrue (is_member s locked)) segment why.1.0, fit, subst (Alters ask.command) is alters))))
+              | inr none ↦ inr (inr (inr (inr (none, omega (arith, ends_within change at), fit))))
             ]
           ]
         ]
@@ -123,3 +142,9 @@ module _ {I : Type 0} (m : Ghosts I) (old : I) (tx : Tx) (on : RunsOn m old tx) 
 pub told_through : {D : Type 0} (P : D → Type 0) (r : Result D AllocError) (s : Result D TxFault) (Otherwise : AllocError → TxFault → Type 0) → MatchResult r (λ x. s ≡ Ok x) (λ e. IsErrAnd s (Otherwise e)) → IfOk r P → (d : D) → s ≡ Ok d → P d
 told_through P (Ok x) s Otherwise cases told d is = let same : x ≡ d = cc in subst P same told
 told_through {D} P (Err e) s Otherwise cases told d is = absurd (subst (λ (x : Result D TxFault). IsErrAnd x (Otherwise e)) is cases)
+
+-- why nothing was decided, once that is told otherwise
+pub lost_through : {D : Type 0} (P : Type 0) (r : Result D AllocError) (s : Result D TxFault) (Otherwise : AllocError → TxFault → Type 0) → MatchResult r (λ x. s ≡ Ok x) (λ e. IsErrAnd s (Otherwise e)) → OnErr r P → (fault : TxFault) → s ≡ Err fault
+    → ((e : AllocError) → Otherwise e fault → fault ≡ NoMemory) → (fault ≡ NoMemory) × P
+lost_through P (Ok x) s Otherwise cases told fault is gives = absurd cc
+lost_through {D} P (Err e) s Otherwise cases told fault is gives = (gives e (subst (λ (x : Result D TxFault). IsErrAnd x (Otherwise e)) is cases), told)

@@ -1,18 +1,19 @@
 -- What a change of one entry makes of a table.
-use Rattle.std.proofs.Common.{◌≡◌, ◌≢◌, ℕ, ◌<◌, true, false, List, [], length, get_or, set, arith, Option, Some, None, refl, sym, ap, subst, ◌∙◌, true≢false}
+use Rattle.std.proofs.Common.{◌≡◌, ◌≢◌, ℕ, ◌<◌, true, false, List, [], length, get_or, set, arith, Option, Some, None, refl, sym, ap, subst, ◌∙◌, true≢false, inl, inr, get_or-set_other, get_or-set_same}
 use Rattle.std.specs.Prelude.{IsSome, MatchOption, Ok, Err, is_some}
 use Rattle.std.specs.Option.{ok_or}
 use Rattle.std.specs.List.{AllWithin, HoldsAt}
 use Rattle.std.specs.Str.{bytes_eq}
-use Rattle.std.proofs.lemmas.Bool.{false_from_ne_true}
+use Rattle.std.proofs.lemmas.Bool.{cases_eq, false_from_ne_true}
+use Rattle.std.proofs.lemmas.List.{length-set}
 use Rattle.lc_names.specs.Answers.{Change, Changes, Creates, IsMissed, IsUnrenamed, Removes, Renames, left_by}
 use Rattle.lc_names.specs.declared.name_fault.NameFault.{NameFault}
 use Rattle.lc_names.specs.declared.name_fault.NameFault.TheVariants.{BadAttributes, BadName, Exists, Full, NoName, NoTable}
-use Rattle.lc_names.specs.Entry.{AreAttributes, IsName, attributes_of, entry_of, free_entry, is_named, name_of}
+use Rattle.lc_names.specs.Entry.{AreAttributes, IsClean, IsName, attributes_of, entry_of, free_entry, is_named, name_of}
 use Rattle.lc_names.specs.declared.entry.TheConstants.{NAME}
-use Rattle.lc_names.specs.Table.{IsAbsent, IsFreePlace, IsFull, IsNowhere, IsPlaceOf, IsTable, IsUnplaced, attributes_in, entries_in, entry_at}
+use Rattle.lc_names.specs.Table.{IsAbsent, IsFreePlace, IsFull, IsNowhere, IsPlaceOf, IsTable, IsUnplaced, LeavesClean, attributes_in, entries_in, entry_at}
 use Rattle.lc_names.proofs.Cuts.{entries_put}
-use Rattle.lc_names.proofs.Entries.{attributes_fit, attributes_of-entry_of, fits_entry, free_unused, length-entry_of, length-free_entry, named_by_text, named_entry, named_entry_is, named_is, named_used, other_by_text, unused_unnamed, used_some, zero_unused}
+use Rattle.lc_names.proofs.Entries.{attributes_fit, attributes_of-entry_of, fits_entry, free_unused, length-entry_of, length-free_entry, name_of-entry_of, named_by_text, named_entry, named_entry_is, named_is, named_used, other_by_text, unused_unnamed, used_some, zero_unused}
 use Rattle.lc_names.proofs.Lookups.{IsElsewhereNot, elsewhere_not, holds_left, none_among, nowhere_not, set_gone, set_here, set_other, some_among}
 
 -- a change of the entries is one of the bytes
@@ -80,6 +81,23 @@ not_there name entries other place at apart = false_from_ne_true (is_named other
 apart_from : (name other : List ℕ) (entries : List (List ℕ)) (place : ℕ) → IsPlaceOf name entries place → IsNowhere other entries → name ≢ other
 apart_from name other entries place at nowhere same = true≢false (sym at.named ∙ (ap (λ (n : List ℕ). is_named n (entry_at entries place)) same ∙ nowhere place at.within))
 
+-- the entry of a name is clean
+clean_entry : (name attributes : List ℕ) → IsName name → IsClean (entry_of name attributes)
+clean_entry name attributes is = inr (sym (
+    ap (λ (n : List ℕ). entry_of n (attributes_of (entry_of name attributes))) (name_of-entry_of name attributes)
+    ∙ ap (λ (a : List ℕ). entry_of name a) (attributes_of-entry_of name attributes is)
+    ))
+
+-- all others stay where one becomes clean
+leaves_clean : (entries : List (List ℕ)) (place : ℕ) (entry : List ℕ) → place < length entries → IsClean entry → LeavesClean entries (set entries place entry)
+leaves_clean entries place entry l clean = record {
+  len = length-set entries place entry;
+  each = λ k m. elim (cases_eq k place) [
+    | inl same ↦ inr (subst IsClean (sym (ap (λ (i : ℕ). get_or (set entries place entry) i []) same ∙ get_or-set_same entries place entry [] l)) clean)
+    | inr apart ↦ inl (get_or-set_other entries place k entry [] apart)
+  ];
+}
+
 module _ (entries : List (List ℕ)) (holds : IsTable entries) where
   pub nowhere_none : (name : List ℕ) → IsNowhere name entries → attributes_in entries name ≡ None
   nowhere_none name nowhere = none_among name entries nowhere
@@ -120,6 +138,7 @@ module _ (entries : List (List ℕ)) (holds : IsTable entries) where
         there = there name attributes place is_name are nowhere free.0;
         others = λ other apart. others name attributes place is_name are nowhere free.0 other apart (unused_unnamed other (entry_at entries place) free.1);
       },
+      leaves_clean entries place (entry_of name attributes) free.0 (clean_entry name attributes is_name),
     ),
   )
 
@@ -144,6 +163,7 @@ module _ (entries : List (List ℕ)) (holds : IsTable entries) where
             gone = set_gone from entries place (entry_of to attributes) at.within (not_named to attributes from (apart_from from to entries place at nowhere)) (elsewhere_not entries from place holds at.within at.named);
             others = λ other not_from not_to. others to attributes place is_to are nowhere at.within other not_to (not_there from entries other place at not_from);
           },
+          leaves_clean entries place (entry_of to attributes) at.within (clean_entry to attributes is_to),
         ),
       )
 
@@ -162,6 +182,7 @@ module _ (entries : List (List ℕ)) (holds : IsTable entries) where
             gone = set_gone name entries place free at.within (unnamed name) (elsewhere_not entries name place holds at.within at.named);
             others = λ other apart. set_other other entries place free (unnamed other) (not_there name entries other place at apart);
           },
+          leaves_clean entries place free at.within (inl refl),
         ),
       )
 

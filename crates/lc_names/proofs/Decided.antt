@@ -39,7 +39,7 @@ IsDoneBy command table r = MatchResult r (λ change. IsOfEntry (entries_in table
 pub decides : (command : Command) (table : List ℕ) (r : Result Change NameFault) (change : Option Change) (answer : Result Answer NameFault) → IsDoneBy command table r
     → change ≡ result_ok r → MatchResult r (λ _. answer ≡ Ok Done) (λ fault. answer ≡ Err fault) → Decides command table (change, answer)
 decides command table (Ok made) change answer told is given =
-    subst (λ (o : Option Change). Decides command table (o, answer)) (sym is) (subst (λ (a : Result Answer NameFault). Decides command table (Some made, a)) (sym given) told)
+    subst (λ (o : Option Change). Decides command table (o, answer)) (sym is) (subst (λ (a : Result Answer NameFault). Decides command table (Some made, a)) (sym given) ((told.0, refl), told.1))
 decides command table (Err fault) change answer told is given =
     subst (λ (o : Option Change). Decides command table (o, answer)) (sym is) (subst (λ (a : Result Answer NameFault). Decides command table (None, a)) (sym given) (tt, (refl, told)))
 

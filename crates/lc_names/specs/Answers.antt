@@ -1,10 +1,10 @@
 -- What a command makes of a table, and what is answered.
-use Rattle.std.specs.Prelude.{◌≡◌, ℕ, ◌*◌, ◌<◌, List, length, map, set, Option, Some, None, IsSome, IfSome, Result, MatchResult}
+use Rattle.std.specs.Prelude.{◌≡◌, ℕ, ◌*◌, ◌<◌, List, length, map, set, Option, Some, None, IsSome, IfSome, Result, Ok, MatchResult}
 use Rattle.std.specs.Global.{Vec}
 use Rattle.lc_record.specs.Content.{put}
 use Rattle.lc_names.specs.Entry.{AreAttributes, IsName}
 use Rattle.lc_names.specs.Names.{IsCreated, IsRemoved, IsRenamed}
-use Rattle.lc_names.specs.Table.{HoldsTable, IsFull, IsTable, attributes_in, entries_in, names_in}
+use Rattle.lc_names.specs.Table.{HasNames, HoldsTable, IsFull, IsTable, LeavesClean, attributes_in, entries_in, names_in}
 use Rattle.lc_names.specs.declared.answer.Answer.{Answer}
 use Rattle.lc_names.specs.declared.answer.Answer.TheVariants.{Attributes, Done, Names}
 use Rattle.lc_names.specs.declared.command.Command.{Command}
@@ -34,7 +34,7 @@ Changes entries Leaves change = IsOfEntry entries change × Leaves (set entries 
 
 abbrev pub Creates : List (List ℕ) → List ℕ → List ℕ → List (List ℕ) → Type 0
 Creates entries name attributes left =
-    IsTable entries × IsTable left × IsName name × AreAttributes attributes × IsCreated name attributes (attributes_in entries) (attributes_in left)
+    IsTable entries × IsTable left × IsName name × AreAttributes attributes × IsCreated name attributes (attributes_in entries) (attributes_in left) × LeavesClean entries left
 
 abbrev pub IsUncreated : List (List ℕ) → List ℕ → List ℕ → NameFault → Type 0
 IsUncreated entries name attributes NoTable = IsTable entries → ⊥
@@ -45,7 +45,7 @@ IsUncreated entries name attributes Full = IsTable entries × IsName name × Are
 IsUncreated entries name attributes NoName = ⊥
 
 abbrev pub Renames : List (List ℕ) → List ℕ → List ℕ → List (List ℕ) → Type 0
-Renames entries from to left = IsTable entries × IsTable left × IsName from × IsName to × IsRenamed from to (attributes_in entries) (attributes_in left)
+Renames entries from to left = IsTable entries × IsTable left × IsName from × IsName to × IsRenamed from to (attributes_in entries) (attributes_in left) × LeavesClean entries left
 
 -- a name is not renamed to itself: it exists
 abbrev pub IsUnrenamed : List (List ℕ) → List ℕ → List ℕ → NameFault → Type 0
@@ -57,7 +57,7 @@ IsUnrenamed entries from to BadAttributes = ⊥
 IsUnrenamed entries from to Full = ⊥
 
 abbrev pub Removes : List (List ℕ) → List ℕ → List (List ℕ) → Type 0
-Removes entries name left = IsTable entries × IsTable left × IsName name × IsRemoved name (attributes_in entries) (attributes_in left)
+Removes entries name left = IsTable entries × IsTable left × IsName name × IsRemoved name (attributes_in entries) (attributes_in left) × LeavesClean entries left
 
 -- of a name that is to be removed or found
 abbrev pub IsMissed : List (List ℕ) → List ℕ → NameFault → Type 0
@@ -93,6 +93,17 @@ Refuses ListAll table fault = (fault ≡ NoTable) × (HoldsTable table → ⊥)
 abbrev pub Answers : Command → List ℕ → Result Answer NameFault → List ℕ → Type 0
 Answers command table answer left = MatchResult answer (λ given. Does command table given left) (λ fault. (left ≡ table) × Refuses command table fault)
 
--- what is decided: a change of an entry, if there is one, and an answer that says what it leaves
+-- the command changes the table: it is done there, with whatever it leaves
+abbrev pub Alters : Command → List ℕ → Type 0
+Alters command table = (left : List ℕ) × Does command table Done left
+
+-- what is decided: a change of an entry, if there is one, which is done then, and an answer that says what it leaves
 abbrev pub Decides : Command → List ℕ → Option Change × Result Answer NameFault → Type 0
-Decides command table decided = IfSome decided.0 (IsOfEntry (entries_in table)) × Answers command table decided.1 (left_by decided.0 table)
+Decides command table decided =
+    IfSome decided.0 (λ change. IsOfEntry (entries_in table) change × (decided.1 ≡ Ok Done)) × Answers command table decided.1 (left_by decided.0 table)
+
+-- memory is asked for an answer that is given: the attributes of a name that is there, or names
+abbrev pub WantsMemory : Command → List ℕ → Type 0
+WantsMemory (Find name) table = HoldsTable table × IsSome (attributes_in (entries_in table) name.now)
+WantsMemory ListAll table = HoldsTable table × HasNames (entries_in table)
+WantsMemory command table = ⊥

@@ -1,5 +1,5 @@
 -- An entry of the table: the length of a name, the name, the length of its attributes, and these, each filled up with zeros.
-use Rattle.std.specs.Prelude.{ℕ, ◌+◌, ◌-◌, ◌<◌, ◌≤◌, ◌&&◌, nat_lt, Bool, List, ◌∷◌, ◌++◌, length, take, drop, replicate, slice_index}
+use Rattle.std.specs.Prelude.{◌≡◌, ◌⊎◌, ℕ, ◌+◌, ◌-◌, ◌<◌, ◌≤◌, ◌&&◌, nat_lt, Bool, List, ◌∷◌, ◌++◌, length, take, drop, replicate, slice_index}
 use Rattle.std.specs.Str.{bytes_eq}
 use Rattle.lc_names.specs.declared.entry.TheConstants.{ATTRIBUTES, ENTRY, LONGEST, NAME}
 
@@ -42,3 +42,7 @@ filled bytes = bytes ++ replicate (LONGEST - length bytes) 0
 -- the entry of a name with these attributes
 unfoldable pub entry_of : List ℕ → List ℕ → List ℕ
 entry_of name attributes = (length name ∷ filled name) ++ (length attributes ∷ filled attributes)
+
+-- it is free and has zeros alone, or it is that of its name and its attributes, with zeros behind each
+abbrev pub IsClean : List ℕ → Type 0
+IsClean entry = (entry ≡ free_entry) ⊎ (entry ≡ entry_of (name_of entry) (attributes_of entry))

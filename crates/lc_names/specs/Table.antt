@@ -1,7 +1,7 @@
 -- A table of names: whole entries, one behind another.
-use Rattle.std.specs.Prelude.{◌≡◌, ℕ, ◌/◌, ◌<◌, false, cond, List, [], ◌∷◌, length, map, filter, slice_index_or, Option, Some, None, IsTrue}
+use Rattle.std.specs.Prelude.{◌≡◌, ◌⊎◌, ℕ, ◌/◌, ◌<◌, false, cond, List, [], ◌∷◌, length, map, filter, slice_index_or, Option, Some, None, IsTrue}
 use Rattle.std.specs.Simd.{first_chunks}
-use Rattle.lc_names.specs.Entry.{Fits, IsName, attributes_of, is_named, is_used, name_of}
+use Rattle.lc_names.specs.Entry.{Fits, IsClean, IsName, attributes_of, is_named, is_used, name_of}
 use Rattle.lc_names.specs.declared.entry.TheConstants.{ENTRY}
 use Rattle.lc_names.specs.declared.name_fault.NameFault.{NameFault}
 use Rattle.lc_names.specs.declared.name_fault.NameFault.TheVariants.{BadAttributes, BadName, Exists, Full, NoName, NoTable}
@@ -34,6 +34,15 @@ attributes_in entries name = attributes_among name entries
 -- the names in use, in the order of the entries
 abbrev pub names_in : List (List ℕ) → List (List ℕ)
 names_in entries = map name_of (filter is_used entries)
+
+-- each entry is as it was, or is clean: so nothing stands behind what is new, and nothing in place of what is gone
+pub record LeavesClean (entries left : List (List ℕ)) : Type 0 where
+  pub len : length left ≡ length entries
+  pub each : (place : ℕ) → place < length entries → (entry_at left place ≡ entry_at entries place) ⊎ IsClean (entry_at left place)
+
+-- some entry is in use
+abbrev pub HasNames : List (List ℕ) → Type 0
+HasNames entries = (place : ℕ) × (place < length entries) × IsTrue (is_used (entry_at entries place))
 
 -- no entry is free
 abbrev pub IsFull : List (List ℕ) → Type 0

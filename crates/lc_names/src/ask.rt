@@ -26,7 +26,7 @@ impl Work for Ask<'_> {
     /// # Errors
     ///
     /// Those of `Tx::read`, and of a change those of `Tx::set_range` and `Tx::write`; `NoMemory` too where there is none for
-    /// the answer. What was answered is then as before.
+    /// the answer, which only `Find` and `List` want. What was answered is then as before.
     fn run<I: Images>(
         &mut self,
         alloc: Global,

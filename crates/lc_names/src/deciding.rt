@@ -1,7 +1,7 @@
 //! What a command makes of a table of names.
-ghost use Rattle.std.specs.Prelude.{IfOk, MatchResult};
+ghost use Rattle.std.specs.Prelude.{IfOk, MatchResult, OnErr};
 ghost use Rattle.lc_names.specs.Table.{IsTable};
-ghost use Rattle.lc_names.specs.Answers.{Changes, Creates, Decides, IsUncreated, IsUnrenamed, Renames};
+ghost use Rattle.lc_names.specs.Answers.{Changes, Creates, Decides, IsUncreated, IsUnrenamed, Renames, WantsMemory};
 
 use crate::entry::{ATTRIBUTES, ENTRY, Entry, LONGEST, NAME, entry_of, text_at};
 use crate::table::{found, is_table, names_in, place_of};
@@ -18,9 +18,10 @@ pub(crate) type Decision = (Option<Change>, Result<Answer, NameFault>);
 ///
 /// # Errors
 ///
-/// Where there is no memory for the answer.
+/// Where there is no memory for the answer: for the attributes of a name that is there, or for names.
 pub(crate) fn decide(alloc: Global, table: &[u8], command: &Command) -> Result<Decision, AllocError>
-    ensures { IfOk result (Decides command.now table.now) }
+    ensures decides { IfOk result (Decides command.now table.now) }
+    ensures memory { OnErr result (WantsMemory command.now table.now) }
 {
     let entries = table.as_chunks().0;
     if !is_table(entries) {

@@ -1,7 +1,7 @@
 //! The table of names: whole entries, one behind another.
-ghost use Rattle.std.specs.Prelude.{◌≡◌, ◌<◌, ◌↔◌, ℕ, length, map, IfOk, IsTrue, MatchOption, MatchResult};
+ghost use Rattle.std.specs.Prelude.{◌≡◌, ◌<◌, ◌↔◌, ℕ, length, map, IfOk, IsTrue, MatchOption, MatchResult, OnErr};
 ghost use Rattle.std.specs.Global.{Vec as Items};
-ghost use Rattle.lc_names.specs.Table.{IsAbsent, IsNoName, IsPlaceOf, IsSoundAt, IsTable, IsUnplaced, names_in};
+ghost use Rattle.lc_names.specs.Table.{HasNames, IsAbsent, IsNoName, IsPlaceOf, IsSoundAt, IsTable, IsUnplaced, names_in};
 
 use crate::NameFault;
 use crate::entry::{ATTRIBUTES, Entry, LONGEST, NAME, text_at};
@@ -43,10 +43,11 @@ pub(crate) fn found(entries: &[Entry], name: &[u8]) -> Result<usize, NameFault>
     place_of(entries, name)?.ok_or(NameFault::NoName)
 }
 
-/// The names in use, in the order of the table.
+/// The names in use, in the order of the table. It takes memory only where there is one.
 #[tactic(auto, unfolding(crate::specs::Entry::is_used))]
 pub(crate) fn names_in(alloc: Global, entries: &[Entry]) -> Result<Vec<Vec<u8>>, AllocError>
-    ensures { IfOk result (λ names. map (λ (name : Items ℕ). name.items) names.items ≡ names_in entries.now) }
+    ensures names { IfOk result (λ names. map (λ (name : Items ℕ). name.items) names.items ≡ names_in entries.now) }
+    ensures memory { OnErr result (HasNames entries.now) }
 {
     let mut names = Vec::new(alloc);
     for entry in entries {

@@ -1,27 +1,27 @@
 use Rattle.std.proofs.Common.{rules, ◌≡◌, ◌∙◌, List, ℕ, Some, Ok, Err, Result, ap, refl, subst, sym}
-use Rattle.std.specs.Prelude.{MatchResult}
-use Rattle.lc_names.specs.Answers.{Change, Creates, Does, Finds, Lists, IsUncreated, IsUnrenamed, Removes, IsMissed, Renames}
+use Rattle.std.specs.Prelude.{IsSome, MatchResult, OnErr}
+use Rattle.lc_names.specs.Answers.{Change, Creates, Does, Finds, Lists, IsUncreated, IsUnrenamed, Removes, IsMissed, Renames, WantsMemory}
 use Rattle.lc_names.specs.Entry.{attributes_of, free_entry}
-use Rattle.lc_names.specs.Table.{IsPlaceOf, IsTable, IsUnplaced, entries_in, entry_at}
+use Rattle.lc_names.specs.Table.{HasNames, IsPlaceOf, IsTable, IsUnplaced, attributes_in, entries_in, entry_at}
 use Rattle.lc_names.specs.declared.answer.Answer.TheVariants.{Attributes, Done, Names}
 use Rattle.lc_names.specs.declared.command.Command.{Command}
 use Rattle.lc_names.specs.declared.command.Command.TheVariants.{Find}
 use Rattle.lc_names.specs.declared.name_fault.NameFault.{NameFault}
-use Rattle.lc_names.proofs.Changes.{missed, place_some}
+use Rattle.lc_names.proofs.Changes.{missed, place_is_some, place_some}
 use Rattle.lc_names.proofs.Cuts.{entries_are}
 use Rattle.lc_names.proofs.Decided.{IsDoneBy, decides, done_by, no_table, removes}
 use Rattle.lc_names.proofs.deciding.decide.Goals as goal
 use Rattle.lc_names.proofs.deciding.decide.Goals.{in-Create, in-Rename, in-Remove, in-Find+in-Err}
 
-pub returns-then-not-is_table : goal.returns-then-not-is_table
-returns-then-not-is_table c =
+pub returns-then-not-is_table-clause-decides : goal.returns-then-not-is_table-clause-decides
+returns-then-not-is_table-clause-decides c =
     let table = c.args.table.now in
     let is : c.as_chunks.result.0.now ≡ entries_in table = c.as_chunks.ensures.front ∙ entries_are table in
     let not : IsTable c.as_chunks.result.0.now → ⊥ = search rules in
     (tt, (refl, no_table c.args.command.now table (subst (λ (es : List (List ℕ)). IsTable es → ⊥) is not)))
 
-pub returns-in-Ok : goal.returns-in-Ok
-returns-in-Ok c =
+pub returns-in-Ok-clause-decides : goal.returns-in-Ok-clause-decides
+returns-in-Ok-clause-decides c =
     let table = c.args.table.now in
     let name = c.in-Find.name.now in
     let is : c.as_chunks.result.0.now ≡ entries_in table = c.as_chunks.ensures.front ∙ entries_are table in
@@ -32,18 +32,18 @@ returns-in-Ok c =
     let finds = subst (λ (es : List (List ℕ)). Finds es name found.items) is (holds, at.is_name, place_some name c.as_chunks.result.0.now c.in-Ok.place at ∙ ap (λ (a : List ℕ). Some a) text) in
     (tt, subst (λ (command : Command). Does command table (Attributes found) table) (sym c.in-Find.is) (refl, finds))
 
-pub returns-in-List : goal.returns-in-List
-returns-in-List c =
+pub returns-in-List-clause-decides : goal.returns-in-List-clause-decides
+returns-in-List-clause-decides c =
     let table = c.args.table.now in
     let is : c.as_chunks.result.0.now ≡ entries_in table = c.as_chunks.ensures.front ∙ entries_are table in
     let holds : IsTable c.as_chunks.result.0.now = search rules in
     let names = c.in_ok-names_in-in-List.field-0 in
-    let lists = subst (λ (es : List (List ℕ)). Lists es names.items) is (holds, c.in_ok-names_in-in-List.ensures) in
+    let lists = subst (λ (es : List (List ℕ)). Lists es names.items) is (holds, c.in_ok-names_in-in-List.ensures.names) in
     (tt, subst (λ (command : Command). Does command table (Names names) table) (sym c.in-List.is) (refl, lists))
 
-pub returns : goal.returns
+pub returns-clause-decides : goal.returns-clause-decides
 unfolding free_entry
-returns c =
+returns-clause-decides c =
     let table = c.args.table.now in
     let es : List (List ℕ) = c.as_chunks.result.0.now in
     let is : es ≡ entries_in table = c.as_chunks.ensures.front ∙ entries_are table in
@@ -74,3 +74,27 @@ returns c =
           subst (λ (command : Command). IsDoneBy command table change) (sym w.in-Find.is)
           (subst (λ (r : Result Change NameFault). IsDoneBy (Find w.in-Find.name) table r) (sym w.change-is) told)
     ]) c.ok.ensures.value given
+
+-- what holds anyway holds of an error
+on_error : {A E : Type 0} (P : Type 0) (r : Result A E) → P → OnErr r P
+on_error P (Ok x) told = tt
+on_error P (Err e) told = told
+
+pub returns-in_err-found-in-Ok-clause-memory : goal.returns-in_err-found-in-Ok-clause-memory
+returns-in_err-found-in-Ok-clause-memory c =
+    let table = c.args.table.now in
+    let name = c.in-Find.name.now in
+    let es : List (List ℕ) = c.as_chunks.result.0.now in
+    let is : es ≡ entries_in table = c.as_chunks.ensures.front ∙ entries_are table in
+    let holds : IsTable es = search rules in
+    let wants = subst (λ (es : List (List ℕ)). IsTable es × IsSome (attributes_in es name)) is (holds, place_is_some name es c.in-Ok.place c.in-Ok.ensures) in
+    on_error (WantsMemory c.args.command.now table) c.from_residual.result (subst (λ (command : Command). WantsMemory command table) (sym c.in-Find.is) wants)
+
+pub returns-in_err-names_in-in-List-clause-memory : goal.returns-in_err-names_in-in-List-clause-memory
+returns-in_err-names_in-in-List-clause-memory c =
+    let table = c.args.table.now in
+    let es : List (List ℕ) = c.as_chunks.result.0.now in
+    let is : es ≡ entries_in table = c.as_chunks.ensures.front ∙ entries_are table in
+    let holds : IsTable es = search rules in
+    let wants = subst (λ (es : List (List ℕ)). IsTable es × HasNames es) is (holds, c.in_err-names_in-in-List.ensures.memory) in
+    on_error (WantsMemory c.args.command.now table) c.from_residual-in_err-names_in-in-List.result (subst (λ (command : Command). WantsMemory command table) (sym c.in-List.is) wants)
