@@ -1,1 +1,2 @@
 mod ChangedParts
+mod OwnSeats

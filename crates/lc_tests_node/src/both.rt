@@ -13,7 +13,7 @@ pub(crate) struct Both<'a> {
 }
 
 impl Work for Both<'_> {
-    ghost ran = { λ old new locked before answer after. ⊤ };
+    ghost ran = { λ old new locked before set answer after sets. ⊤ };
 
     fn run<I: Images>(
         &mut self,

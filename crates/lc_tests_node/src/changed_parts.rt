@@ -130,6 +130,14 @@ fn refused_with_segment<R: Wait>(
 }
 
 #[test]
+fn each_refusal_has_its_number(rt: HostRuntime) -> Result<(), Fail> {
+    assert!(rt; AdoptFault::Mismatch(Part::Log(1)).code() == 1);
+    assert!(rt; AdoptFault::NoMemory.code() == 2);
+    assert!(rt; AdoptFault::DeviceFault.code() == 3);
+    Ok(())
+}
+
+#[test]
 fn parts_of_others_that_fit_are_not_refused(rt: HostRuntime) -> Result<(), Fail> {
     let alloc = rt.alloc();
     assert!(rt; refused_with_node(&rt, alloc, BOTH, 0, BOTH, 0)?.is_none());

@@ -8,7 +8,7 @@ use crate::expect::equal;
 use crate::seats::{Open, TRIES, get, put};
 use crate::stores::{LOG_BYTES, SEGMENT_BYTES, WORDS, recovered};
 use lc_disk::{Area, MemArea};
-use lc_node::{Cluster, Commit, Mode, NodeFault, Pumped, Put, Spread};
+use lc_node::{Cluster, Commit, Get, Mode, NodeFault, Pumped, Put, Spread};
 use lc_record::Geometry;
 use lc_stage::CommitSeat;
 use lc_token::TokenFault;
@@ -107,6 +107,33 @@ fn begun<R: Wait>(rt: &R, alloc: Global) -> Result<(Cluster<MemArea>, CommitSeat
         Ok(_) => Ok((cluster, first, second)),
         Err(_) => Err(Fail::from("there is room for a record")),
     }
+}
+
+#[test]
+fn what_is_asked_at_the_wrong_node_is_not_here(rt: HostRuntime) -> Result<(), Fail> {
+    let alloc = rt.alloc();
+    let (cluster, _first, second) = begun(&rt, alloc)?;
+    let (second, written) = put_at(&rt, alloc, &cluster, 1, second, BYE, Mode::Lazy);
+    assert!(rt; matches!(written, Err(NodeFault::NotHere { segment: 2 })));
+    let mut get = Get {
+        segment: 2,
+        offset: 3,
+        len: 5,
+        found: Vec::new(alloc),
+    };
+    let (_second, read) = cluster.node(1).transact(
+        &rt,
+        alloc,
+        second,
+        &[1, 2],
+        &mut get,
+        Mode::Lazy,
+        TRIES,
+        &Open,
+    );
+    assert!(rt; matches!(read, Err(NodeFault::NotHere { segment: 2 })));
+    assert!(rt; get.found.is_empty(), "nothing was read");
+    Ok(())
 }
 
 // Commits so many times and waits each time until it is stable; whether each did.

@@ -1,11 +1,14 @@
 //! Clusters whose threads have ended become stores.
-ghost use Rattle.std.specs.Prelude.{◌≡◌, ◌≢◌, ◌<◌, ◌≤◌, [], ℕ, IfOk, Some, length, slice_get};
+ghost use Rattle.std.specs.Prelude.{◌≡◌, ◌≢◌, ◌<◌, ◌≤◌, ◌∷◌, [], ℕ, All, IfOk, Some, length, slice_get};
 ghost use Rattle.std.specs.Global.{Vec as Several};
 ghost use Rattle.lc_disk.specs.When.{IsCountable};
+ghost use Rattle.lc_record.specs.Geometry.{HasNumbers};
 ghost use Rattle.lc_stage.specs.Seats.{commit_view, IsIdle, IsSeatOf};
 ghost use Rattle.lc_stage.specs.declared.seats.CommitSeat.{CommitSeat as Seat};
 ghost use Rattle.lc_node.specs.Cluster.{IsSeatAt};
+ghost use Rattle.lc_node.specs.LeftBy.{AreOwnSeats, IsIdleSeatOf};
 
+use crate::clusters;
 use crate::expect::holds;
 use crate::seats::{Open, TRIES, put, put_and_confirm};
 use crate::shared::{SharedArea, area_of, zeros};
@@ -21,7 +24,7 @@ use std::alloc::{AllocError, Global};
 use std::sync::Wait;
 use std::sync::atomic::{AtomicU8, Ordering};
 use std::test::*;
-use std::thread::{Threads, map_vec};
+use std::thread::{Threads, join, map_vec};
 
 const SEGMENTS: u32 = 3;
 
@@ -490,6 +493,121 @@ fn what_four_threads_committed_comes_up(rt: HostRuntime) -> Result<(), Fail> {
         have_marks(alloc, &mut world, 2, marks.as_slice())?,
         "each was stable"
     );
+    Ok(())
+}
+
+// Two nodes, two segments of two pages: segment 2 begins at the first node, segment 1 at the second.
+fn two_segments() -> Result<Geometry, Fail>
+    ensures { IfOk result (λ g. HasNumbers g 2 1 2 2 512) }
+{
+    Ok(Geometry::new(2, 1, 2, 2, WORDS).ok_or("these numbers are a geometry")?)
+}
+
+// Commits a byte at the offset of its value, and confirms its receipt; the seat that has it, and whether its record is there.
+fn commit_and_confirm<R: Wait>(
+    rt: &R,
+    alloc: Global,
+    node: &Node<MemArea>,
+    seat: CommitSeat,
+    segment: u32,
+    mark: u8,
+) -> (CommitSeat, bool)
+    requires { IsIdleSeatOf node.now.stage seat }
+    ensures { IsIdleSeatOf node.now.stage result.0 }
+{
+    let put = Put {
+        segment,
+        offset: u32::from(mark),
+        bytes: &[mark],
+    };
+    let (seat, receipt) = put_and_confirm(rt, alloc, node, seat, &[segment], put);
+    (seat, matches!(receipt, Some((_, Confirmed::Here(_)))))
+}
+
+// Both in a list.
+fn list_of_two<T: Drop>(alloc: Global, one: T, two: T) -> Result<Vec<T>, AllocError>
+    ensures { IfOk result (λ list. list.items ≡ one ∷ two ∷ []) }
+{
+    let mut list = Vec::new(alloc);
+    list.push(one)?;
+    list.push(two)?;
+    Ok(list)
+}
+
+// Two threads of a node do so side by side; their seats, and whether both records are there.
+fn commit_as_two<R: Threads + Wait + Sync>(
+    rt: &R,
+    alloc: Global,
+    node: &Node<MemArea>,
+    seat: CommitSeat,
+    segment: u32,
+    marks: (u8, u8),
+) -> Result<(Vec<CommitSeat>, bool), AllocError>
+    requires { IsIdleSeatOf node.now.stage seat }
+    ensures { IfOk result (λ left. All (IsIdleSeatOf node.now.stage) left.0.items) }
+{
+    let mut seat = seat;
+    let other = node.split(&mut seat);
+    let ((seat, first), (other, second)) = join(
+        rt,
+        || -> (CommitSeat, bool)
+            requires { IsIdleSeatOf node.now.stage seat }
+            ensures { IsIdleSeatOf node.entry.now.stage result.0 }
+        { commit_and_confirm(rt, alloc, node, seat, segment, marks.0) },
+        || -> (CommitSeat, bool)
+            requires { IsIdleSeatOf node.now.stage other }
+            ensures { IsIdleSeatOf node.entry.now.stage result.0 }
+        { commit_and_confirm(rt, alloc, node, other, segment, marks.1) },
+    );
+    let seats = list_of_two(alloc, seat, other)?;
+    Ok((seats, first && second))
+}
+
+// Two threads of each of two nodes do, side by side; the seats of each node, and whether all records are there.
+fn commit_as_four<R: Threads + Wait + Sync>(
+    rt: &R,
+    alloc: Global,
+    cluster: &Cluster<MemArea>,
+    seats: (CommitSeat, CommitSeat),
+) -> Result<(Vec<Vec<CommitSeat>>, bool), AllocError>
+    requires two { length cluster.now.members.items ≡ 2 }
+    requires own { IsSeatAt cluster.now 0 seats.0 × IsSeatAt cluster.now 1 seats.1 }
+    ensures { IfOk result (λ left. AreOwnSeats cluster.now left.0.items) }
+{
+    let (here, there) = (cluster.node(0), cluster.node(1));
+    let (first, second) = seats;
+    let (first, second) = join(
+        rt,
+        || -> Result<(Vec<CommitSeat>, bool), AllocError>
+            requires { IsIdleSeatOf here.now.stage first }
+            ensures { IfOk result (λ left. All (IsIdleSeatOf here.entry.now.stage) left.0.items) }
+        { commit_as_two(rt, alloc, here, first, 2, (1, 2)) },
+        || -> Result<(Vec<CommitSeat>, bool), AllocError>
+            requires { IsIdleSeatOf there.now.stage second }
+            ensures { IfOk result (λ left. All (IsIdleSeatOf there.entry.now.stage) left.0.items) }
+        { commit_as_two(rt, alloc, there, second, 1, (3, 4)) },
+    );
+    let (first, here) = first?;
+    let (second, there) = second?;
+    let seats = list_of_two(alloc, first, second)?;
+    Ok((seats, here && there))
+}
+
+#[test]
+fn what_four_seats_have_receipts_of_comes_up(rt: HostRuntime) -> Result<(), Fail> {
+    let alloc = rt.alloc();
+    let geometry = two_segments()?;
+    let areas = in_memory(alloc, &geometry)?;
+    let (cluster, first, second) = clusters::opened(alloc, geometry, areas)?;
+    let (seats, are_there) = commit_as_four(&rt, alloc, &cluster, (first, second))?;
+    assert!(rt; are_there);
+    let world = into_world(cluster, &rt, alloc, seats);
+    let mut world = world.ok().expect(&rt, "the parts agree");
+    stop_and_recover(alloc, &mut world)?;
+    let (_, areas) = world.into_areas();
+    let store = recovered(alloc, geometry, areas)?;
+    assert!(rt; store.page(2, 0).get(..5) == Some([0, 1, 2, 0, 0].as_slice()));
+    assert!(rt; store.page(1, 0).get(..5) == Some([0, 0, 0, 3, 4].as_slice()));
     Ok(())
 }
 

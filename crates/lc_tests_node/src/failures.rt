@@ -6,10 +6,11 @@ ghost use Rattle.lc_stage.specs.Seats.{commit_view, IsSeatOf, IsIdle};
 use crate::seats::put;
 use crate::shared::Shelf;
 use crate::stores::{LOG_BYTES, SEGMENT_BYTES, in_memory, opened, recovered, two_segments};
-use lc_disk::{Fuse, MemArea, When};
+use lc_disk::{Area, Fuse, MemArea, When};
 use lc_node::{Commit, Mode, Node, NodeFault, Put};
 use lc_stage::CommitSeat;
 use std::alloc::Global;
+use std::sync::Wait;
 use std::test::*;
 
 const NEVER: When = When::At(0);
@@ -19,6 +20,9 @@ const IN_A_FLUSH: When = When::At(6);
 
 // The first call of the flush behind.
 const IN_THE_SECOND_FLUSH: When = When::At(9);
+
+// The first call of a reset behind one flush.
+const IN_A_RESET: When = When::At(9);
 
 // The fourth call of a page's write: a recovery makes two calls of a segment that has nothing to be written.
 const IN_A_PAGE: When = When::At(6);
@@ -46,23 +50,51 @@ fn fused(alloc: Global, log: When, segment: When) -> Result<Vec<Fuse>, Fail>
     Ok(areas)
 }
 
+// Each call of a halted node answers so, whatever else it would be refused for.
+fn is_halted<D: Area + Drop, R: Wait>(
+    rt: &R,
+    alloc: Global,
+    node: &Node<D>,
+    seat: CommitSeat,
+) -> (CommitSeat, bool)
+    requires own { IsSeatOf node.now.stage seat }
+    requires idle { IsIdle (commit_view seat) }
+    ensures own { IsSeatOf node.now.stage result.0 }
+    ensures idle { IsIdle (commit_view result.0) }
+{
+    let (seat, lazy) = put(rt, alloc, node, seat, &[1], ONE, Mode::Lazy);
+    let (seat, flushed) = put(rt, alloc, node, seat, &[1], ONE, Mode::Flush);
+    let halted = node.is_halted()
+        && matches!(lazy, Err(NodeFault::Halted))
+        && matches!(flushed, Err(NodeFault::Halted))
+        && node.flush(rt) == Err(NodeFault::Halted)
+        && node.truncate(rt, alloc) == Err(NodeFault::Halted);
+    (seat, halted)
+}
+
 #[test]
-fn a_log_that_fails_halts_its_flushes(rt: HostRuntime) -> Result<(), Fail> {
+fn a_log_that_fails_halts_the_node(rt: HostRuntime) -> Result<(), Fail> {
     let alloc = rt.alloc();
     let (node, seat) = opened(alloc, two_segments()?, fused(alloc, IN_A_FLUSH, NEVER)?)?;
     let (seat, failed) = put(&rt, alloc, &node, seat, &[1], ONE, Mode::Flush);
     assert!(rt; matches!(failed, Err(NodeFault::DeviceFault)));
-    let (seat, halted) = put(&rt, alloc, &node, seat, &[1], ONE, Mode::Flush);
-    assert!(rt; matches!(halted, Err(NodeFault::Halted)));
-    assert!(rt; node.flush(&rt) == Err(NodeFault::Halted));
-    assert!(rt; node.truncate(&rt, alloc) == Err(NodeFault::Halted));
-    let (seat, none) = node.durable(&rt, seat);
+    let (seat, halted) = is_halted(&rt, alloc, &node, seat);
+    assert!(rt; halted, "each later call answers so");
+    let (_seat, none) = node.durable(&rt, seat);
     assert!(rt; none.is_none(), "nothing is stable");
-    let (_seat, closed) = put(&rt, alloc, &node, seat, &[1], ONE, Mode::Lazy);
-    assert!(rt;
-        matches!(closed, Ok(Commit::Lazy)),
-        "nobody waits for the device"
-    );
+    Ok(())
+}
+
+#[test]
+fn a_reset_that_fails_halts_the_node(rt: HostRuntime) -> Result<(), Fail> {
+    let alloc = rt.alloc();
+    let (node, seat) = opened(alloc, two_segments()?, fused(alloc, IN_A_RESET, NEVER)?)?;
+    let (seat, stable) = put(&rt, alloc, &node, seat, &[1], ONE, Mode::Flush);
+    assert!(rt; matches!(stable, Ok(Commit::Flushed(_))));
+    assert!(rt; !node.is_halted());
+    assert!(rt; node.truncate(&rt, alloc) == Err(NodeFault::DeviceFault));
+    let (_seat, halted) = is_halted(&rt, alloc, &node, seat);
+    assert!(rt; halted, "each later call answers so");
     Ok(())
 }
 
@@ -87,18 +119,14 @@ fn a_log_that_fails_keeps_what_was_acknowledged(rt: HostRuntime) -> Result<(), F
 }
 
 #[test]
-fn a_page_that_fails_halts_its_truncations(rt: HostRuntime) -> Result<(), Fail> {
+fn a_page_that_fails_halts_the_node(rt: HostRuntime) -> Result<(), Fail> {
     let alloc = rt.alloc();
     let (node, seat) = opened(alloc, two_segments()?, fused(alloc, NEVER, IN_A_PAGE)?)?;
     let (seat, stable) = put(&rt, alloc, &node, seat, &[1], ONE, Mode::Flush);
     assert!(rt; matches!(stable, Ok(Commit::Flushed(_))));
     assert!(rt; node.truncate(&rt, alloc) == Err(NodeFault::DeviceFault));
-    assert!(rt; node.truncate(&rt, alloc) == Err(NodeFault::Halted));
-    let (_seat, stable) = put(&rt, alloc, &node, seat, &[1], ONE, Mode::Flush);
-    assert!(rt;
-        matches!(stable, Ok(Commit::Flushed(_))),
-        "the log serves on"
-    );
+    let (_seat, halted) = is_halted(&rt, alloc, &node, seat);
+    assert!(rt; halted, "each later call answers so");
     Ok(())
 }
 

@@ -26,7 +26,11 @@ mod folders;
 #[cfg(test)]
 mod gates;
 #[cfg(test)]
+mod held;
+#[cfg(test)]
 mod openings;
+#[cfg(test)]
+mod outside;
 #[cfg(test)]
 mod pair;
 #[cfg(test)]
@@ -39,3 +43,5 @@ mod seats;
 mod shared;
 #[cfg(test)]
 mod stores;
+#[cfg(test)]
+mod turns;

@@ -2,10 +2,11 @@
 use crate::expect::equal;
 use lc_disk::{Area, Fuse, MemArea, When};
 use lc_fixture::{CLOSED, Narrow, ONE, SlotText, WRONG_LENGTHS, hello, log_area, segment_area};
-use lc_look::recover_areas;
+use lc_look::{Teller, recover_areas, recover_told};
 use lc_record::Geometry;
 use lc_recover::zero_areas;
 use lc_text::WriteFault;
+use std::cell::Cell;
 use std::fmt::Display;
 use std::process::Abort;
 use std::test::*;
@@ -123,5 +124,76 @@ fn a_writer_that_fails(rt: HostRuntime) -> Result<(), Fail> {
     let areas = zero_areas(rt.alloc(), &ONE)?;
     let done = recover_areas(rt.alloc(), ONE, areas, &mut Narrow { room: 0 });
     assert!(rt; done == Err(WriteFault));
+    Ok(())
+}
+
+// Notes what it is told: the last number of steps, how often that was not the one behind the last, and how often it was over.
+#[derive(Drop)]
+struct Noted {
+    steps: Cell<u64>,
+    leaps: Cell<u64>,
+    ends: Cell<u64>,
+}
+
+impl Noted {
+    fn new() -> Noted {
+        Noted {
+            steps: Cell::new(0),
+            leaps: Cell::new(0),
+            ends: Cell::new(0),
+        }
+    }
+
+    // The last number, how many did not follow, and how many ends.
+    fn told(&self) -> (u64, u64, u64) {
+        (self.steps.get(), self.leaps.get(), self.ends.get())
+    }
+}
+
+fn count_one(counted: &Cell<u64>) {
+    counted.set(counted.get().wrapping_add(1));
+}
+
+impl Teller for Noted {
+    fn stepped(&self, steps: u64) {
+        if self.steps.get().wrapping_add(1) != steps || self.ends.get() > 0 {
+            count_one(&self.leaps);
+        }
+        self.steps.set(steps);
+    }
+
+    fn finished(&self) {
+        count_one(&self.ends);
+    }
+
+    fn left(&self, _commits: u64, _transactions: u64) {
+        count_one(&self.leaps);
+    }
+}
+
+// The call of the segment that fails, if it is not 0; the steps that are told, and the status. The log and the segment are
+// synced and then read, in four steps, and merged in one. The page takes six, and the log is reset in two, of which the last
+// is not told as a step.
+static TOLD: [(u8, u64, u8); 4] = [(0, 12, 0), (1, 1, 3), (5, 7, 3), (8, 10, 3)];
+
+#[test]
+fn each_step_of_a_recovery_is_told(rt: HostRuntime) -> Result<(), Fail> {
+    for (fails, steps, status) in &TOLD {
+        let records = log_area(rt.alloc(), &hello(0, 1, 1, 3))?;
+        let pages = segment_area(rt.alloc(), &[CLOSED; 2])?;
+        let areas = vec![in rt.alloc();
+            Fuse::new(records, When::At(0)),
+            Fuse::new(pages, When::At(u64::from(*fails))),
+        ]?;
+        let noted = Noted::new();
+        let mut text = Vec::new(rt.alloc());
+        let ended = recover_told(rt.alloc(), ONE, areas, &noted, &mut text)?;
+        equal(
+            &rt,
+            fails,
+            &(ended, noted.told()),
+            &(*status, (*steps, 0, 1)),
+        );
+    }
     Ok(())
 }

@@ -1,0 +1,81 @@
+//! What can be done by who is not the node: with what a lock lends, and with lines of one's own.
+use crate::expect::{equal, holds};
+use crate::seats::{confirm, put, put_and_confirm};
+use crate::stores::{in_memory, opened, two_segments};
+use lc_line::open_line;
+use lc_node::{Confirmed, Message, Mode, PeerEnd, PeerInbox, Put, RecvEnds, SendEnds, Spread};
+use std::test::*;
+
+const HELLO: Put<'static> = Put {
+    segment: 1,
+    offset: 3,
+    bytes: b"hello",
+};
+
+// Places at which no record of two with 8 words each begins.
+const BETWEEN: [usize; 5] = [1, 7, 9, 15, 1 << 40];
+
+// Whatever is asked and called in between, a receipt's record stays where it was.
+#[test]
+fn who_has_the_lock_of_a_log_loses_no_record(rt: HostRuntime) -> Result<(), Fail> {
+    let alloc = rt.alloc();
+    let (node, seat) = opened(alloc, two_segments()?, in_memory(alloc)?)?;
+    let (seat, told) = put_and_confirm(&rt, alloc, &node, seat, &[1], HELLO);
+    let (_, here) = told.expect(&rt, "it is stable");
+    equal(&rt, &"the first record", &here, &Confirmed::Here(0));
+    let (seat, lazy) = put(&rt, alloc, &node, seat, &[1], HELLO, Mode::Lazy);
+    holds(&rt, &"the second is closed", lazy.is_ok());
+
+    let lock = node.log_lock();
+    let (mut log, loan) = lock.lock(&rt);
+    for place in BETWEEN {
+        let _words = log.record_at(place);
+    }
+    let unclean = node.reset_log(&mut log);
+    let flushed = node.flush_log(&mut log);
+    let again = node.flush_log(&mut log);
+    lock.unlock(log, loan);
+    holds(&rt, &"no page has the record", unclean.is_err());
+    equal(&rt, &"the second", &flushed, &Ok(1));
+    equal(&rt, &"nothing more", &again, &Ok(0));
+    let (seat, receipt) = node.durable(&rt, seat);
+    let receipt = receipt.expect(&rt, "it is stable");
+    let (_seat, second) = confirm(&rt, &node, seat, receipt);
+    equal(&rt, &"where the second is", &second, &Confirmed::Here(1));
+    Ok(())
+}
+
+// Who opens a line sends and takes what a log has published, as its own peers do; they lack it no less.
+#[test]
+fn lines_of_a_caller_take_copies(rt: HostRuntime) -> Result<(), Fail> {
+    let alloc = rt.alloc();
+    let (node, seat) = opened(alloc, two_segments()?, in_memory(alloc)?)?;
+    let (_seat, stable) = put(&rt, alloc, &node, seat, &[1], HELLO, Mode::Flush);
+    holds(&rt, &"a record is stable", stable.is_ok());
+    let (to, from) = open_line::<Message<u8>>(alloc)?;
+    let mut outgoing = Vec::with_capacity(alloc, 1)?;
+    outgoing.push(PeerEnd::new(to))?;
+    let mut incoming = Vec::with_capacity(alloc, 1)?;
+    incoming.push(PeerInbox::new(from))?;
+    let mut sending = SendEnds::new(outgoing);
+    let mut receiving = RecvEnds::new(1, incoming);
+
+    let lock = node.log_lock();
+    let (log, loan) = lock.lock(&rt);
+    let one = sending.spread(&rt, alloc, &log);
+    let none = sending.spread(&rt, alloc, &log);
+    lock.unlock(log, loan);
+    equal(
+        &rt,
+        &"the first spread",
+        &one,
+        &Ok(Spread { sent: 1, left: 0 }),
+    );
+    equal(&rt, &"the next", &none, &Ok(Spread { sent: 0, left: 0 }));
+    let taken = match receiving.take(&rt, 0) {
+        Some(Message::Record { number, words }) => Some((number, words.len())),
+        _ => None,
+    };
+    equal(&rt, &"what came", &taken, &Some((1, 8)));
+    Ok(())
+}
