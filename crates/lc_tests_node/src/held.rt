@@ -94,8 +94,8 @@ fn a_caller_commits_twice_under_its_locks(rt: HostRuntime) -> Result<(), Fail> {
     let (mut first, mut second) = (FIRST, SECOND);
     let one = held.commit(alloc, &node, &mut seat, &mut first, TRIES, &Open);
     let read = held.commit(alloc, &node, &mut seat, &mut get, TRIES, &Open);
-    held.fold();
     let two = held.commit(alloc, &node, &mut seat, &mut second, TRIES, &Open);
+    held.fold();
     node.release(held);
     equal(&rt, &"the first commit", &one, &Ok(true));
     equal(&rt, &"one that reads alone", &read, &Ok(false));

@@ -43,5 +43,3 @@ mod seats;
 mod shared;
 #[cfg(test)]
 mod stores;
-#[cfg(test)]
-mod turns;

@@ -1,6 +1,6 @@
 //! What can be done by who is not the node: with what a lock lends, and with lines of one's own.
 use crate::expect::{equal, holds};
-use crate::seats::{confirm, put, put_and_confirm};
+use crate::seats::{put, put_and_confirm};
 use crate::stores::{in_memory, opened, two_segments};
 use lc_line::open_line;
 use lc_node::{Confirmed, Message, Mode, PeerEnd, PeerInbox, Put, RecvEnds, SendEnds, Spread};
@@ -38,10 +38,9 @@ fn who_has_the_lock_of_a_log_loses_no_record(rt: HostRuntime) -> Result<(), Fail
     holds(&rt, &"no page has the record", unclean.is_err());
     equal(&rt, &"the second", &flushed, &Ok(1));
     equal(&rt, &"nothing more", &again, &Ok(0));
-    let (seat, receipt) = node.durable(&rt, seat);
-    let receipt = receipt.expect(&rt, "it is stable");
-    let (_seat, second) = confirm(&rt, &node, seat, receipt);
-    equal(&rt, &"where the second is", &second, &Confirmed::Here(1));
+    let (_seat, receipt) = node.durable(&rt, seat);
+    let place = receipt.expect(&rt, "it is stable").place();
+    equal(&rt, &"where the second is", &place, &8);
     Ok(())
 }
 
