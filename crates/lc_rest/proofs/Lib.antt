@@ -21,3 +21,4 @@ pub mod Orders
 pub mod Stuck
 pub mod Stables
 pub mod SpelledWords
+pub mod Dropping

@@ -14,3 +14,4 @@ pub mod Passed
 pub mod Stable
 pub mod Parts
 pub mod AtRest
+pub mod Dropping

@@ -12,11 +12,12 @@ ghost use Rattle.lc_model.specs.Merging.{counted_all, is_from, put_on};
 ghost use Rattle.lc_model.specs.Sound.{Sound};
 ghost use Rattle.lc_model.specs.Stored.{Fits};
 ghost use Rattle.lc_rest.specs.Adopted.{Follow, IsNext, IsReplayed, IsTaken, transaction_of};
-ghost use Rattle.lc_rest.specs.Found.{Found, IsConsistent, machine_disks, machine_setting, machine_state};
+ghost use Rattle.lc_rest.specs.Dropping.{AreDroppable, without};
+ghost use Rattle.lc_rest.specs.Found.{Found, IsConsistent, last_number, machine_disks, machine_setting, machine_state};
 ghost use Rattle.lc_rest.specs.Merge.{AreKnown, AreTurns, IsStuck, merged_after, number_at, times};
 ghost use Rattle.lc_rest.specs.Pages.{as_read};
 ghost use Rattle.lc_rest.specs.Passed.{Passes, Read, found_of};
-ghost use Rattle.lc_rest.specs.Replay.{IsPlayed, bytes_after, number_after};
+ghost use Rattle.lc_rest.specs.Replay.{IsPlayed, bytes_above, bytes_after, number_after};
 ghost use Rattle.lc_rest.specs.Tested.{IsTested};
 
 /// The transaction that a record stands for has this record, and those of records that follow one another have these.
@@ -64,4 +65,15 @@ pub fn stands_for()
     ensures sound { (f : Found) → IsTested f → Sound f.geometry (machine_state f) }
     ensures fits { (f : Found) → IsTested f → Fits (machine_setting f) (machine_state f) (machine_disks f) }
     ensures value { (f : Found) → value f.base [] (machine_state f).history ≡ put_on f.records f.base }
+{}
+
+/// Where what is found of a cluster is tested, so is what is left of it without the first records of the order in which all merge, if
+/// these are of rounds that have ended. The value and the numbers are the same, and so are the bytes of a node that has applied what
+/// was dropped, with the records above that put on.
+pub fn dropped_front()
+    ensures tested { (f : Found) (front rest : List Record) → IsTested f → AreDroppable f front rest → IsTested (without f front rest) }
+    ensures value { (f : Found) (front rest : List Record) → AreDroppable f front rest → put_on (without f front rest).records (without f front rest).base ≡ put_on f.records f.base }
+    ensures number { (f : Found) (front rest : List Record) (segment : ℕ) → AreDroppable f front rest → last_number (without f front rest) segment ≡ last_number f segment }
+    ensures image { (f : Found) (front rest : List Record) (segment applied : ℕ) (bytes : List ℕ) → IsTested f → AreDroppable f front rest → (without f front rest).numbers segment ≤ applied →
+        bytes_above segment applied rest bytes ≡ bytes_above segment applied f.records bytes }
 {}

@@ -23,7 +23,9 @@ mod token_test;
 pub use adopt_fault::AdoptFault;
 pub use holder::Holder;
 pub use image_test::comes_up;
-pub use laws::{merged_in_order, no_order, own_records, passed, played_pages, stands_for};
+pub use laws::{
+    dropped_front, merged_in_order, no_order, own_records, passed, played_pages, stands_for,
+};
 pub use log_test::{keeps_known, keeps_own};
 pub use merge::merge_records;
 pub use node_part::NodePart;
