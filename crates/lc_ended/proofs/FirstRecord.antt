@@ -1,17 +1,18 @@
 -- The first of the records that some words are, and those that are dropped one after another.
-use Rattle.std.proofs.Common.{◌≡◌, ℕ, zero, suc, ◌+◌, ◌/◌, ◌^◌, ◌<◌, ◌≤◌, Bool, true, false, ◌&&◌, List, [], ◌∷◌, ◌++◌, length, take, drop, get_or, Option, Some, None, All, refl, sym, ◌∙◌, ap, subst, arith, append_assoc, length-append}
+use Rattle.std.proofs.Common.{◌≡◌, ℕ, zero, suc, ◌+◌, ◌/◌, ◌^◌, ◌<◌, ◌≤◌, Bool, true, false, ◌&&◌, List, [], ◌∷◌, ◌++◌, length, take, drop, get_or, Some, All, refl, sym, ◌∙◌, ap, subst, arith, append_assoc, length-append}
 use Rattle.std.specs.Prelude.{slice_get}
 use Rattle.std.specs.List.{list_all}
 use Rattle.std.proofs.Math.Seq.{take-append_seam, drop-append_seam}
-use Rattle.std.proofs.lemmas.List.Elements.{All-head, All-tail}
+use Rattle.std.proofs.lemmas.List.Elements.{All-head}
 use Rattle.std.proofs.lemmas.Option.{same_Some as same_some}
 use Rattle.lc_log.specs.LogText.{IsWhole, joined}
 use Rattle.lc_log.proofs.LogLemmas.{whole_record}
 use Rattle.lc_record.specs.Record.{IsRecord, spelling}
 use Rattle.lc_record.specs.declared.record.Record.{Record}
+use Rattle.lc_record.proofs.ListLemmas.{All-append_right as all_behind}
 use Rattle.lc_record.proofs.RecordLemmas.{header_tells, record_some}
 use Rattle.lc_rest.specs.Merge.{counted_by}
-use Rattle.lc_ended.specs.Trims.{AreDropped, Trims, is_due}
+use Rattle.lc_ended.specs.Trims.{AreDropped, Drops, Trims, is_due}
 
 pub first-tells : (r : Record) (rest words : List ℕ) (n : ℕ) → IsWhole r → words ≡ spelling r ++ rest → n ≡ get_or words 0 0 / 2 ^ 32 → (0 < n) × (n ≤ length words) × (take n words ≡ spelling r) × (drop n words ≡ rest)
 first-tells r rest words n whole text is =
@@ -50,20 +51,16 @@ dropped-more : (applied before : List ℕ) (front : List Record) (after later : 
 dropped-more applied before [] after later r are due is = (subst (λ (l : List ℕ). is_due applied l r ≡ true) are due, is ∙ ap (counted_by r.locks) are)
 dropped-more applied before (q ∷ front) after later r are due is = (are.0, dropped-more applied (counted_by q.locks before) front after later r are.1 due is)
 
-all-back : {X : Type 0} (P : X → Type 0) (xs ys : List X) → All P (xs ++ ys) → All P ys
-all-back P [] ys all = all
-all-back P (x ∷ xs) ys all = all-back P xs ys (All-tail P x (xs ++ ys) all)
-
-pub trims-more : (applied before : List ℕ) (rs : List Record) (count : ℕ) (left after left_now after_now : List ℕ) → All IsWhole rs → Trims applied before rs count left after
+pub drops-more : (applied before : List ℕ) (rs : List Record) (count : ℕ) (left after left_now after_now : List ℕ) → All IsWhole rs → Drops applied before rs count left after
     → ((r : Record) (rest : List ℕ) → IsWhole r → left ≡ spelling r ++ rest → (is_due applied after r ≡ true) × (left_now ≡ rest) × (after_now ≡ counted_by r.locks after))
-    → length left_now < length left → Trims applied before rs (count + 1) left_now after_now
-trims-more applied before rs count left after left_now after_now whole t step less = go t.rest refl
+    → length left_now < length left → Drops applied before rs (count + 1) left_now after_now
+drops-more applied before rs count left after left_now after_now whole t step less = go t.rest refl
   where
-    go : (rest : List Record) → t.rest ≡ rest → Trims applied before rs (count + 1) left_now after_now
+    go : (rest : List Record) → t.rest ≡ rest → Drops applied before rs (count + 1) left_now after_now
     go [] is = absurd (let none : length left ≡ 0 = ap length (t.left_is ∙ ap joined is) in omega (arith, less, none))
     go (r ∷ rest) is =
         let parts : rs ≡ t.front ++ r ∷ rest = t.parts ∙ ap (λ (l : List Record). t.front ++ l) is in
-        let own : IsWhole r = All-head IsWhole r rest (all-back IsWhole t.front (r ∷ rest) (subst (λ (l : List Record). All IsWhole l) parts whole)) in
+        let own : IsWhole r = All-head IsWhole r rest (all_behind IsWhole t.front (r ∷ rest) (subst (λ (l : List Record). All IsWhole l) parts whole)) in
         let text : left ≡ spelling r ++ joined rest = t.left_is ∙ ap joined is in
         let does : (is_due applied after r ≡ true) × (left_now ≡ joined rest) × (after_now ≡ counted_by r.locks after) = step r (joined rest) own text in
         record {
@@ -75,5 +72,15 @@ trims-more applied before rs count left after left_now after_now whole t step le
           left_is = does.1;
         }
 
-pub trims-none : (applied before : List ℕ) (rs : List Record) (left : List ℕ) → left ≡ joined rs → Trims applied before rs 0 left before
-trims-none applied before rs left text = record { front = []; rest = rs; parts = refl; dropped_are = refl; count_is = refl; left_is = text }
+pub drops-none : (applied before : List ℕ) (rs : List Record) (left : List ℕ) → left ≡ joined rs → Drops applied before rs 0 left before
+drops-none applied before rs left text = record { front = []; rest = rs; parts = refl; dropped_are = refl; count_is = refl; left_is = text }
+
+-- none more may be, where the first record of what is left is not due
+pub trims-all : (applied before : List ℕ) (rs : List Record) (count : ℕ) (left after : List ℕ) → All IsWhole rs → Drops applied before rs count left after
+    → ((r : Record) (rest : List ℕ) → IsWhole r → left ≡ spelling r ++ rest → is_due applied after r ≡ false) → Trims applied before rs count left after
+trims-all applied before rs count left after whole d not = record {
+  drops = d;
+  stays = λ r later is.
+      not r (joined later) (All-head IsWhole r later (all_behind IsWhole d.front (r ∷ later) (subst (λ (l : List Record). All IsWhole (d.front ++ l)) is (subst (λ (l : List Record). All IsWhole l) d.parts whole))))
+      (d.left_is ∙ ap joined is);
+}

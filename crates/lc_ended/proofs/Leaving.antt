@@ -1,6 +1,6 @@
 -- What is left of the rounds that have ended, and what was dropped of them.
-use Rattle.std.proofs.Common.{◌≡◌, ℕ, ◌+◌, ◌<◌, ◌≤◌, Bool, true, ◌&&◌, ◌==◌, List, [], ◌∷◌, ◌++◌, map, length, All, refl, sym, ◌∙◌, ap, subst, arith, append_assoc, length-append, eqb-true}
-use Rattle.std.specs.Prelude.{nat_le, slice_index_or, if◌then◌else◌}
+use Rattle.std.proofs.Common.{◌≡◌, ℕ, ◌+◌, ◌≤◌, true, ◌==◌, List, [], ◌∷◌, ◌++◌, map, length, All, refl, sym, ◌∙◌, ap, subst, arith, append_assoc, length-append, eqb-true}
+use Rattle.std.specs.Prelude.{nat_le, slice_index_or}
 use Rattle.std.specs.List.{concat, list_all}
 use Rattle.std.proofs.lemmas.Bool.{and_parts}
 use Rattle.std.proofs.lemmas.List.{append-nil}
@@ -9,19 +9,18 @@ use Rattle.std.proofs.lemmas.List.Folds.{concat-append}
 use Rattle.lc_log.specs.LogText.{IsWhole, joined}
 use Rattle.lc_log.proofs.LogLemmas.{joined-append}
 use Rattle.lc_record.proofs.ListLemmas.{All-append_left as all_in_front, All-append_right as all_behind}
-use Rattle.lc_record.specs.Record.{spelling}
 use Rattle.lc_record.specs.Recorded.{counted}
 use Rattle.lc_record.specs.declared.geometry.Geometry.{Geometry}
 use Rattle.lc_record.specs.declared.record.Lock.{Lock}
 use Rattle.lc_record.specs.declared.record.Record.{Record}
 use Rattle.lc_model.specs.Merging.{counted_all}
-use Rattle.lc_rest.specs.Adopted.{Follow, IsNext, IsTaken, transaction_of}
+use Rattle.lc_rest.specs.Adopted.{Follow, IsTaken, transaction_of}
 use Rattle.lc_rest.specs.Merge.{counted_by, number_at}
 use Rattle.lc_rest.specs.Parts.{IsKnownClean}
 use Rattle.lc_trunc.specs.KnownClean.{known as known_of}
 use Rattle.lc_rest.proofs.Following.{counts, length-counted}
 use Rattle.lc_ended.specs.Left.{IsLeft}
-use Rattle.lc_ended.specs.Trims.{AreDropped, Trims, is_due_lock}
+use Rattle.lc_ended.specs.Trims.{AreDropped, Drops, Trims, is_due_lock}
 
 pub left-none : (known : List ℕ) → IsLeft [] known 0 []
 left-none known = record {
@@ -63,7 +62,7 @@ left-sees past known later gone words is grows = record {
 pub left-trims : (past : List (List ℕ)) (known : List ℕ) (gone less : ℕ) (words rest applied dropped after : List ℕ) (count : ℕ) → IsLeft past known gone words
     → ((rs : List Record) → All IsWhole rs → words ≡ joined rs → Trims applied dropped rs count rest after) → less + length rest ≡ gone + length words → IsLeft past known less rest
 left-trims past known gone less words rest applied dropped after count is trims same =
-    let t : Trims applied dropped is.kept count rest after = trims is.kept is.whole is.text in
+    let t : Drops applied dropped is.kept count rest after = (trims is.kept is.whole is.text).drops in
     let whole : All IsWhole (t.front ++ t.rest) = subst (λ (l : List Record). All IsWhole l) t.parts is.whole in
     let clean : All (IsKnownClean known) (t.front ++ t.rest) = subst (λ (l : List Record). All (IsKnownClean known) l) t.parts is.clean in
     let cut : words ≡ joined t.front ++ rest = is.text ∙ ap joined t.parts ∙ joined-append t.front t.rest ∙ ap (λ (l : List ℕ). joined t.front ++ l) (sym t.left_is) in
