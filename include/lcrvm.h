@@ -246,7 +246,7 @@ enum lcrvm_status lcrvm_flush(struct lcrvm_store *store, uint32_t node, uint64_t
 enum lcrvm_status lcrvm_truncate(struct lcrvm_store *store, uint32_t node, uint64_t *rounds);
 
 /* Drops the node's stable records that all nodes have applied; `count`, which may be NULL, is how many these were.
-   Until then a record stays in memory. A store of one node does it by itself after each truncation. UNKNOWN. */
+   Until then a record stays in memory. Each truncation does it for its node by itself. UNKNOWN. */
 enum lcrvm_status lcrvm_trim(struct lcrvm_store *store, uint32_t node, uint64_t *count);
 
 /* ---- Several nodes. Each segment has a token, which is at one node, and there alone it can be locked. */

@@ -1407,7 +1407,7 @@ static void test_syncs_of_a_truncation(const char *folder)
     close_well(store);
 }
 
-/* A store of one node trims by itself, so that the heap does not grow. */
+/* A truncation trims, so that the heap does not grow. */
 static void test_trimmed(const char *folder)
 {
     static const struct lcrvm_geometry size = {1, 1, 1, 1, 4096};
@@ -1426,6 +1426,32 @@ static void test_trimmed(const char *folder)
     ANSWERS(lcrvm_truncate(store, 0, NULL), LCRVM_OK);
     ANSWERS(lcrvm_trim(store, 0, &count), LCRVM_OK);
     CHECK(count == 0);
+    close_well(store);
+}
+
+/* So does that of one node of two, of what both have applied. */
+static void test_trimmed_of_two(const char *folder)
+{
+    static const struct lcrvm_geometry size = {2, 1, 1, 1, 512};
+    struct lcrvm_store *store = made_as(folder, &size);
+    uint64_t count = 7;
+
+    /* The token of segment 1 is at node 1. The other has not applied the first record when the log is emptied. */
+    ANSWERS(commit(store, 1, 1, 3, "x"), LCRVM_OK);
+    ANSWERS(lcrvm_truncate(store, 1, NULL), LCRVM_OK);
+    ANSWERS(lcrvm_deliver(store, 1, 1, 1, 0, NULL), LCRVM_OK);
+    ANSWERS(commit(store, 1, 1, 4, "y"), LCRVM_OK);
+    ANSWERS(lcrvm_flush(store, 1, NULL), LCRVM_OK);
+    ANSWERS(lcrvm_deliver(store, 1, 2, 1, 0, NULL), LCRVM_OK);
+    ANSWERS(lcrvm_truncate(store, 1, NULL), LCRVM_OK);
+    ANSWERS(lcrvm_trim(store, 1, &count), LCRVM_OK);
+    CHECK(count == 0);
+    /* What only one has applied stays. */
+    ANSWERS(commit(store, 1, 1, 5, "z"), LCRVM_OK);
+    ANSWERS(lcrvm_truncate(store, 1, NULL), LCRVM_OK);
+    ANSWERS(lcrvm_deliver(store, 1, 3, 1, 0, NULL), LCRVM_OK);
+    ANSWERS(lcrvm_trim(store, 1, &count), LCRVM_OK);
+    CHECK(count == 1);
     close_well(store);
 }
 
@@ -1958,6 +1984,7 @@ static const struct {
     {"tokens", test_pages_go_with_tokens},
     {"syncs", test_syncs_of_a_truncation},
     {"trimmed", test_trimmed},
+    {"trimmed_of_two", test_trimmed_of_two},
     {"greatest", test_greatest},
     {"misuse", test_misuse},
     {"threads_of_transactions", test_threads_of_transactions},

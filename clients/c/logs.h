@@ -92,7 +92,7 @@ static enum lcrvm_status truncate_now(struct lcrvm_store *store, uint32_t node)
         return status;
     store->acked[node] = store->records[node];
     store->rounds[node] += answer.reply == RESET;
-    return store->geometry.nodes == 1 ? trim_now(store, node, NULL) : LCRVM_OK;
+    return trim_now(store, node, NULL);
 }
 
 #endif

@@ -1203,7 +1203,7 @@ static PyMethodDef store_calls[] = {
          "Records have numbers from 1 on. It is for one segment, and returns Delivered."),
     CALL("trim", store_trim, NAMED,
          "trim($self, /, node=0)\n--\n\nDrops the durable records that all nodes have applied; returns how many.\n\n"
-         "A store of one node does so by itself."),
+         "Each truncation does so for its node."),
     CALL("__enter__", store_enter, METH_NOARGS, NULL),
     CALL("__exit__", store_exit, METH_VARARGS, NULL),
     {NULL, NULL, 0, NULL}};
