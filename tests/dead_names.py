@@ -21,9 +21,7 @@ OF_THE_PROVER = {"Answers.antt", "Invariants.antt", "Proof.antt"}
 
 # What stays though nothing names it, as 'crates/NAME/specs/FILE.antt: NAME', and why: a law that stands for outsiders, or
 # a definition that a reader of the documents needs.
-EXCEPTIONS = {
-    "crates/lc_node/proofs/FirstGone.antt: none_gone": "left over; it goes with the next change of its crate",
-}
+EXCEPTIONS = {}
 
 LISTED = re.compile(r"\buse Rattle\.(\w+)\.(specs|proofs)\.([\w.]+)\.\{([^}]*)\}")
 WHOLE = re.compile(r"\buse Rattle\.(\w+)\.(specs|proofs)\.([\w.]+)(?: as \w+)?\s*;?$", re.M)

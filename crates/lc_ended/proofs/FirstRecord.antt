@@ -72,9 +72,6 @@ drops-more applied before rs count left after left_now after_now whole t step le
           left_is = does.1;
         }
 
-pub drops-none : (applied before : List ℕ) (rs : List Record) (left : List ℕ) → left ≡ joined rs → Drops applied before rs 0 left before
-drops-none applied before rs left text = record { front = []; rest = rs; parts = refl; dropped_are = refl; count_is = refl; left_is = text }
-
 -- none more may be, where the first record of what is left is not due
 pub trims-all : (applied before : List ℕ) (rs : List Record) (count : ℕ) (left after : List ℕ) → All IsWhole rs → Drops applied before rs count left after
     → ((r : Record) (rest : List ℕ) → IsWhole r → left ≡ spelling r ++ rest → is_due applied after r ≡ false) → Trims applied before rs count left after

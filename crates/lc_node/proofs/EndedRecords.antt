@@ -1,4 +1,4 @@
--- The records of the rounds that have ended are known clean.
+-- The records of words, and whether they are known clean.
 use Rattle.std.proofs.Common.{◌≡◌, ℕ, ◌<◌, ◌≤◌, All, List, [], ◌∷◌, ◌++◌, Contains, drop, length, get_or, refl, sym, ap, subst, ◌∙◌, inl, inr}
 use Rattle.std.specs.List.{concat}
 use Rattle.std.proofs.Math.Seq.{drop-append_seam}
@@ -77,23 +77,8 @@ lock_known known locks place d within none =
       | inr low ↦ low
     ]
 
-records_known : (known : List ℕ) (words : List ℕ) (its : AreOf words) → AreKnown words (known_of known) → All (IsKnownClean known) its.records
+pub records_known : (known : List ℕ) (words : List ℕ) (its : AreOf words) → AreKnown words (known_of known) → All (IsKnownClean known) its.records
 records_known known words its all = λ k d within m e inside.
     let r = get_or its.records k d in
     lock_known (known_of known) r.locks m e inside
     (λ segment seq above. all segment seq (its.records, r, subst (BeginWith its.records) (sym its.are.text) (begin_with_all its.records its.are.whole), Contains-get_or its.records k d within, above))
-
--- the records of the rounds that have ended are known clean
-pub record AreClean (known : List ℕ) (words : List ℕ) : Type 0 where
-  pub of : AreOf words
-  pub clean : All (IsKnownClean known) of.records
-
-pub ended_clean : (known : List ℕ) (past : List (List ℕ)) → All AreRecords past → All (λ (words : List ℕ). AreKnown words (known_of known)) past → AreClean known (concat past)
-unfolding none_spelled both_spelled spelled
-ended_clean known [] records all = record { of = none_spelled; clean = All-nil (IsKnownClean known) }
-ended_clean known (words ∷ past) records all =
-    let first = spelled words (All-head AreRecords words past records) in
-    let rest = ended_clean known past (All-tail AreRecords words past records) (All-tail (λ (ws : List ℕ). AreKnown ws (known_of known)) words past all) in record {
-      of = both_spelled words (concat past) first rest.of;
-      clean = All-append (IsKnownClean known) first.records rest.of.records (records_known known words first (All-head (λ (ws : List ℕ). AreKnown ws (known_of known)) words past all)) rest.clean;
-    }

@@ -1,5 +1,5 @@
 -- The first held segment whose token is elsewhere.
-use Rattle.std.proofs.Common.{◌≡◌, ℕ, zero, suc, ◌+◌, ◌<◌, ◌≤◌, ◌==◌, cond, Bool, true, false, List, [], ◌∷◌, Some, None, length, map, take, drop, get_or, refl, sym, ap, subst, ◌∙◌, inl, inr, arith, eqb-true, eq-eqb, ne_eqb}
+use Rattle.std.proofs.Common.{◌≡◌, ℕ, suc, ◌+◌, ◌<◌, ◌≤◌, ◌==◌, cond, Bool, true, false, List, [], ◌∷◌, Some, None, length, map, take, drop, get_or, refl, sym, ap, subst, ◌∙◌, inl, inr, arith, eqb-true, eq-eqb, ne_eqb}
 use Rattle.std.specs.Prelude.{◌↔◌, IsSome, IsTrue, Option}
 use Rattle.std.proofs.lemmas.Bool.{false≢true, or_cases, or_left, or_right}
 use Rattle.std.proofs.lemmas.List.{drop_more, take_all}
@@ -45,15 +45,6 @@ module _ {D : Type 0} (sides : List (HeldSide D)) where
       )),
       All-take_more (λ (x : HeldSide D). IsSome x.side.standing.token) sides i h (got_item sides i h within is) look.1 some,
     )
-
-  none_left : (l : List (HeldSide D)) (i s : ℕ) → length l ≤ i → IsFirstGone (drop i l) s → ⊥
-  none_left [] zero s all first = first
-  none_left [] (suc i) s all first = first
-  none_left (x ∷ xs) zero s all first = absurd (omega arith)
-  none_left (x ∷ xs) (suc i) s all first = none_left xs i s (omega arith) first
-
-  pub none_gone : (i : ℕ) → length sides ≤ i → IsLooking i → (s : ℕ) → IsFirstGone sides s → ⊥
-  none_gone i all look s first = none_left sides i s all ((look.0 s).0 first)
 
   pub all_here : (i : ℕ) → length sides ≤ i → IsLooking i → AreHere sides
   all_here i all look = subst AreHere (take_all i sides all) look.1

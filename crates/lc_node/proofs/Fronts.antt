@@ -29,7 +29,7 @@ none_passed words place rs = record { passed = []; coming = rs.0; passed_whole =
 abbrev pub Next : List ℕ → ℕ → ℕ → ℕ → Type 0
 Next words place at count = IsPassing words place (at + get_or words at 0 / 2 ^ 32) (count + 1) × (0 < get_or words at 0 / 2 ^ 32) × (count < place)
 
-one_alone : (x : List ℕ) → IsOneRecord x → All IsOneRecord (x ∷ [])
+pub one_alone : (x : List ℕ) → IsOneRecord x → All IsOneRecord (x ∷ [])
 one_alone x h zero d l = h
 one_alone x h (suc k) d l = absurd (omega arith)
 

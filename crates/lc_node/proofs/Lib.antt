@@ -25,9 +25,11 @@ pub mod FreshPages
 pub mod Fronts
 pub mod Joined
 pub mod KeptLog
+pub mod LeftWords
 pub mod KeysKept
 pub mod Knowing
 pub mod Laying
+pub mod LeastApplied
 pub mod LeftParts
 pub mod LeftSegments
 pub mod LeftTokens

@@ -1,5 +1,5 @@
 -- The records whose words a list of words is.
-use Rattle.std.proofs.Common.{◌≡◌, ℕ, zero, suc, ◌+◌, ◌-◌, ◌/◌, ◌^◌, ◌≤◌, ◌<◌, List, [], ◌∷◌, ◌++◌, length, All, Some, None, refl, sym, ap, subst, ◌∙◌, inl, inr, arith, append_assoc, length-append}
+use Rattle.std.proofs.Common.{◌≡◌, ℕ, zero, suc, ◌+◌, ◌*◌, ◌-◌, ◌/◌, ◌^◌, ◌≤◌, ◌<◌, List, [], ◌∷◌, ◌++◌, length, All, Some, None, refl, sym, ap, subst, ◌∙◌, inl, inr, arith, append_assoc, length-append}
 use Rattle.std.specs.Prelude.{◌⊎◌, Option, IfSome, option_map, slice_get}
 use Rattle.std.specs.List.{concat}
 use Rattle.std.proofs.Math.ListN.{take, drop}
@@ -14,6 +14,12 @@ use Rattle.lc_record.proofs.ListLemmas.{All-append_right as all_behind}
 use Rattle.lc_node.specs.Among.{AreInFront}
 use Rattle.lc_node.specs.LogView.{LogView}
 use Rattle.lc_node.specs.Published.{records_behind, records_of, published, IsStart, IsWhole}
+use Rattle.lc_log.specs.LogText.{joined, IsWhole as IsRecordWhole}
+use Rattle.lc_record.specs.Record.{spelling}
+use Rattle.lc_record.specs.declared.record.Record.{Record}
+use Rattle.lc_ended.specs.Left.{IsLeft}
+use Rattle.lc_log.proofs.LogLemmas.{whole_record}
+use Rattle.lc_node.proofs.Fronts.{one_alone}
 use Rattle.lc_node.proofs.FlushKeeps.{records_append}
 
 -- The records of records' words are these records
@@ -66,25 +72,48 @@ publishes ended stable words count before now front =
       ap records_of (sym (append_assoc ended stable words)) ∙ (both ∙ ap (λ (l : List (List ℕ)). records_of (ended ++ stable) ++ l) is),
     )
 
-pub flush_publishes : {D : Type 0} (inside old : LogView D) (stable words : List ℕ) (count : ℕ) → inside ≡ old → AreRecords inside.ended → AreRecords inside.stable → AreInFront words (length words) count → stable ≡ inside.stable ++ words
-    → (more : List (List ℕ)) × All IsOneRecord more × (length more ≡ count) × (records_of (inside.ended ++ stable) ≡ published old ++ more)
-flush_publishes inside old stable words count is before now front all = let p = publishes inside.ended inside.stable words count before now front in
-    (p.0, p.1, p.2, ap (λ (l : List ℕ). records_of (inside.ended ++ l)) all ∙ (p.3 ∙ ap (λ (x : LogView _). published x ++ p.0) is))
+all_records : (past : List (List ℕ)) → All AreRecords past → AreRecords (concat past)
+all_records [] all = ([], (λ k d l. absurd (omega arith)), refl)
+all_records (words ∷ past) all = records_append words (concat past) (All-head AreRecords words past all) (all_records past (All-tail AreRecords words past all))
+
+pub flush_publishes : {D : Type 0} (inside old : LogView D) (past : List (List ℕ)) (stable words : List ℕ) (count : ℕ) → inside ≡ old → All AreRecords (flush_view inside.flusher).past → AreRecords inside.stable → AreInFront words (length words) count → stable ≡ inside.stable ++ words
+    → past ≡ (flush_view inside.flusher).past → (more : List (List ℕ)) × All IsOneRecord more × (length more ≡ count) × (records_of (concat past ++ stable) ≡ published old ++ more)
+flush_publishes inside old past stable words count is before now front all same =
+    let p = publishes (concat (flush_view inside.flusher).past) inside.stable words count (all_records (flush_view inside.flusher).past before) now front in
+    (p.0, p.1, p.2, ap (λ (l : List (List ℕ)). records_of (concat l ++ stable)) same ∙ (ap (λ (l : List ℕ). records_of (concat (flush_view inside.flusher).past ++ l)) all ∙ (p.3 ∙ ap (λ (x : LogView _). published x ++ p.0) is)))
+
+-- so many more are counted
+pub counts_more : {D : Type 0} (s : LogView D) (past : List (List ℕ)) (stable words : List ℕ) (n count : ℕ) → n ≡ length (published s) → All AreRecords (flush_view s.flusher).past → AreRecords s.stable → AreInFront words (length words) count
+    → stable ≡ s.stable ++ words → past ≡ (flush_view s.flusher).past → n + count ≡ length (records_of (concat past ++ stable))
+counts_more s past stable words n count was before now front all same =
+    let more = flush_publishes s s past stable words count refl before now front all same in
+    let long = ap (λ (l : List (List ℕ)). length l) more.3 ∙ length-append (published s) more.0 in
+    let many = more.2 in
+    omega (arith, long, many, was)
+
+pub none_counted : 0 ≡ length (records_of [])
+unfolding records_of
+none_counted = refl
+
+few_behind : (words : List ℕ) (rest : ℕ) → length (records_behind words rest) ≤ length words
+few_behind [] rest = omega arith
+few_behind (word ∷ words) zero = (let few = few_behind words (word / 2 ^ 32 - 1) in omega (arith, few))
+few_behind (word ∷ words) (suc rest) = (let few = few_behind words rest in omega (arith, few))
+
+-- no more records than words
+few_records : (words : List ℕ) → length (records_of words) ≤ length words
+unfolding records_of
+few_records words = few_behind words 0
+
+-- so their number is a `u64`
+pub count_fits : (past : List (List ℕ)) (stable : List ℕ) (n round : ℕ) → n ≡ length (records_of (concat past ++ stable)) → length (concat past) ≤ round * 65536 → round < 2 ^ 48 → length stable < 65536 → n < 2 ^ 64
+count_fits past stable n round is most few short = (let all = few_records (concat past ++ stable) in let long = length-append (concat past) stable in omega (arith, is, all, long, most, few, short))
 
 pub tail_is : (all stable words : List ℕ) (start : ℕ) → all ≡ stable ++ words → start ≡ length stable → take (length all - start) (drop start all) ≡ words
 tail_is all stable words start is at = take_rest all start ∙ (ap (drop start) is ∙ drop_at stable words start (sym at))
 
 pub no_record_in_front : AreInFront [] 0 0
 no_record_in_front = ([], (λ k d l. absurd (omega arith)), refl, refl)
-
--- the same are published where words are moved from behind those of the ended rounds to their end
-pub moved : (ended stable new none : List ℕ) → new ≡ ended ++ stable → none ≡ [] → records_of (new ++ none) ≡ records_of (ended ++ stable)
-moved ended stable new none is gone = ap records_of ((λ k. is k ++ gone k) ∙ append-nil (ended ++ stable))
-
--- the words of a round go behind those of the rounds before
-pub ends : (ended stable taken new : List ℕ) (past next : List (List ℕ)) → new ≡ ended ++ stable → ended ≡ concat past → stable ≡ taken → next ≡ past ++ taken ∷ [] → new ≡ concat next
-ends ended stable taken new past next is was all more =
-    is ∙ ((λ k. was k ++ all k) ∙ (ap (λ (l : List ℕ). concat past ++ l) (sym (append-nil taken)) ∙ (sym (concat-append past (taken ∷ [])) ∙ ap concat (sym more))))
 
 -- Where records begin
 
@@ -175,27 +204,72 @@ module _ (ended stable : List ℕ) (before : AreRecords ended) (now : AreRecords
       let here = at in let all = long in
       first_of stable (place - length ended) count (records_of (ended ++ stable)) start.0 start.1 start.1 (all_behind IsOneRecord w.0 start.1 (subst (All IsOneRecord) w.2 now.1)) (concat w.0) text (omega arith) start.2 start.3 refl
 
+-- behind words that are not kept
+
+left_start : (front rest : List ℕ) (before : AreRecords front) (now : AreRecords rest) (count place : ℕ) → IsStart (records_of (front ++ rest)) count place → length front ≤ place
+    → (n : ℕ) × IsStart (records_of rest) n (place - length front) × (slice_get (records_of rest) n ≡ slice_get (records_of (front ++ rest)) count)
+left_start front rest before now count place start outside =
+    let w = behind_ended front rest before now count place start outside in
+    let are : records_of rest ≡ w.0 ++ start.1 = of_records rest now ∙ w.2 in
+    let all : length front ≡ length (concat before.0) = ap (λ (l : List ℕ). length l) before.2 in
+    let sum : length (concat start.0) ≡ length (concat (before.0 ++ w.0)) = ap (λ (l : List (List ℕ)). length (concat l)) w.1 in
+    let parts : length (concat (before.0 ++ w.0)) ≡ length (concat before.0) + length (concat w.0) = ap (λ (l : List ℕ). length l) (concat-append before.0 w.0) ∙ length-append (concat before.0) (concat w.0) in
+    let here : length (concat start.0) ≡ place = start.4 in
+    let some : place ≡ place - length front + length front = omega (arith, outside) in (
+      length w.0,
+      (w.0, start.1, are, refl, omega (arith, all, sum, parts, here, some)),
+      ap (λ (l : List (List ℕ)). slice_get l (length w.0)) are ∙ got_behind w.0 start.1 (length w.0) refl
+          ∙ sym (ap (λ (l : List (List ℕ)). slice_get l count) start.2 ∙ got_behind start.0 start.1 count (sym start.3)),
+    )
+
+typed : (rs : List Record) → All IsRecordWhole rs → AreRecords (joined rs)
+typed [] whole = ([], (λ k d l. absurd (omega arith)), refl)
+typed (r ∷ rs) whole = records_append (spelling r) (joined rs) (spelling r ∷ [], one_alone (spelling r) (r, whole_record r (All-head IsRecordWhole r rs whole)), sym (append-nil (spelling r))) (typed rs (All-tail IsRecordWhole r rs whole))
+
 -- The same of a log, whose words are seen as slices
 
-module _ {D : Type 0} (inside old : LogView D) (is : inside ≡ old) (before : AreRecords inside.ended) (now : AreRecords inside.stable) where
-  pub found_ended : (words : List ℕ) (place count : ℕ) → words ≡ inside.ended → place < length words → IsStart (published old) count place → IsFirst words place (published old) count
-  found_ended words place count same within start =
-      let long : length words ≡ length inside.ended = ap (λ (l : List ℕ). length l) same in
-      subst (λ (l : List ℕ). IsFirst l place (published old) count) (sym same)
-      (subst (λ (x : LogView D). IsFirst inside.ended place (published x) count) is
-      (in_ended inside.ended inside.stable before now count place (subst (λ (x : LogView D). IsStart (published x) count place) (sym is) start) (omega arith)))
+module _ {D : Type 0} (inside old : LogView D) (is : inside ≡ old) (known : List ℕ) (left : IsLeft (flush_view inside.flusher).past known inside.gone inside.ended) (past : All AreRecords (flush_view inside.flusher).past) (now : AreRecords inside.stable) where
+  gone : List ℕ
+  gone = joined left.front
 
-  pub behind_stable : (words behind : List ℕ) (place count : ℕ) → words ≡ inside.ended → behind ≡ inside.stable → length words ≤ place → IsStart (published old) count place
-      → IsFirst behind (place - length words) (published old) count
-  behind_stable words behind place count same too outside start =
-      subst (λ (l : List ℕ). IsFirst l (place - length words) (published old) count) (sym too)
-      (subst (λ (l : List ℕ). IsFirst inside.stable (place - length l) (published old) count) (sym same)
-      (subst (λ (x : LogView D). IsFirst inside.stable (place - length inside.ended) (published x) count) is
-      (in_stable inside.ended inside.stable before now count place (subst (λ (x : LogView D). IsStart (published x) count place) (sym is) start)
-      (let long : length words ≡ length inside.ended = ap (λ (l : List ℕ). length l) same in let most = outside in omega arith))))
+  before : AreRecords inside.ended
+  before = subst AreRecords (sym left.text) (typed left.kept left.whole)
 
-  pub is_whole : inside.ended ≡ concat (flush_view inside.flusher).past → IsWhole old
-  is_whole all = let w = all_whole (inside.ended ++ inside.stable) (records_append inside.ended inside.stable before now) in subst (λ (x : LogView D). IsWhole x) is (w.0, w.1, all)
+  parts : concat (flush_view inside.flusher).past ++ inside.stable ≡ joined left.front ++ (inside.ended ++ inside.stable)
+  parts = ap (λ (l : List ℕ). l ++ inside.stable) left.parts ∙ append_assoc (joined left.front) inside.ended inside.stable
+
+  kept_start : (count place : ℕ) → IsStart (published old) count place → inside.gone ≤ place
+      → (n : ℕ) × IsStart (records_of (inside.ended ++ inside.stable)) n (place - inside.gone) × (slice_get (records_of (inside.ended ++ inside.stable)) n ≡ slice_get (published old) count)
+  kept_start count place start outside =
+      let own : IsStart (records_of (joined left.front ++ (inside.ended ++ inside.stable))) count place = subst (λ (l : List ℕ). IsStart (records_of l) count place) parts (subst (λ (x : LogView D). IsStart (published x) count place) (sym is) start) in
+      let far : length (joined left.front) ≤ place = (let same = left.gone_is in omega (arith, same, outside)) in
+      let found = left_start (joined left.front) (inside.ended ++ inside.stable) (typed left.front left.front_whole) (records_append inside.ended inside.stable before now) count place own far in (
+        found.0,
+        subst (λ (m : ℕ). IsStart (records_of (inside.ended ++ inside.stable)) found.0 (place - m)) (sym left.gone_is) found.1,
+        found.2 ∙ ap (λ (l : List ℕ). slice_get (records_of l) count) (sym parts) ∙ ap (λ (x : LogView D). slice_get (published x) count) is,
+      )
+
+  with_first : (words : List ℕ) (place count n : ℕ) → IsFirst words place (records_of (inside.ended ++ inside.stable)) n → slice_get (records_of (inside.ended ++ inside.stable)) n ≡ slice_get (published old) count → IsFirst words place (published old) count
+  with_first words place count n first same = record { within = first.within; are = first.are; first = first.first ∙ same }
+
+  pub found_ended : (words : List ℕ) (place count at : ℕ) → words ≡ inside.ended → at ≡ place - inside.gone → inside.gone ≤ place → at < length words → IsStart (published old) count place → IsFirst words at (published old) count
+  found_ended words place count at same at_is outside within start =
+      let k = kept_start count place start outside in
+      let own : IsFirst inside.ended at (records_of (inside.ended ++ inside.stable)) k.0 =
+      in_ended inside.ended inside.stable before now k.0 at (subst (IsStart (records_of (inside.ended ++ inside.stable)) k.0) (sym at_is) k.1) (let long : length words ≡ length inside.ended = ap (λ (l : List ℕ). length l) same in omega arith) in
+      subst (λ (l : List ℕ). IsFirst l at (published old) count) (sym same) (with_first inside.ended at count k.0 own k.2)
+
+  pub behind_stable : (words behind : List ℕ) (place count at : ℕ) → words ≡ inside.ended → behind ≡ inside.stable → at ≡ place - inside.gone → inside.gone ≤ place → length words ≤ at → IsStart (published old) count place
+      → IsFirst behind (at - length words) (published old) count
+  behind_stable words behind place count at same too at_is outside past_all start =
+      let k = kept_start count place start outside in
+      let own : IsFirst inside.stable (at - length inside.ended) (records_of (inside.ended ++ inside.stable)) k.0 =
+      in_stable inside.ended inside.stable before now k.0 at (subst (IsStart (records_of (inside.ended ++ inside.stable)) k.0) (sym at_is) k.1) (let long : length words ≡ length inside.ended = ap (λ (l : List ℕ). length l) same in omega arith) in
+      subst (λ (l : List ℕ). IsFirst l (at - length words) (published old) count) (sym too)
+      (subst (λ (l : List ℕ). IsFirst inside.stable (at - length l) (published old) count) (sym same) (with_first inside.stable (at - length inside.ended) count k.0 own k.2))
+
+  pub is_whole : IsWhole old
+  is_whole = let w = all_whole (concat (flush_view inside.flusher).past ++ inside.stable) (records_append (concat (flush_view inside.flusher).past) inside.stable (all_records (flush_view inside.flusher).past past) now) in subst (λ (x : LogView D). IsWhole x) is (w.0, w.1)
 
 -- behind a record the next begins
 next_start : (records : List (List ℕ)) (count place : ℕ) (front behind : List (List ℕ)) → records ≡ front ++ behind → length front ≡ count → length (concat front) ≡ place

@@ -1,12 +1,12 @@
 -- What is sent to all peers, one after another.
-use Rattle.std.proofs.Common.{◌≡◌, ℕ, zero, suc, ◌+◌, ◌-◌, ◌<◌, List, [], ◌∷◌, ◌++◌, length, map, get_or, min, set, refl, ap, ◌∙◌, inl, inr, arith, length-append}
+use Rattle.std.proofs.Common.{◌≡◌, ℕ, zero, suc, ◌+◌, ◌-◌, ◌<◌, All, List, [], ◌∷◌, ◌++◌, length, map, get_or, min, set, refl, ap, ◌∙◌, inl, inr, arith, length-append}
 use Rattle.std.specs.Global.{Vec, Global}
 use Rattle.std.specs.declared.collections.VecDeque.{VecDeque}
 use Rattle.std.proofs.lemmas.Option.{slice_get_within}
-use Rattle.lc_record.proofs.ListLemmas.{slice_get_some as got_some}
+use Rattle.lc_record.proofs.ListLemmas.{All-slice_get as at_each, slice_get_some as got_some}
 use Rattle.lc_node.specs.Copies.{texts, CanBeSent, AreNext, AreAllNext, SendsAll}
 use Rattle.lc_node.specs.Each.{Each, EachThree}
-use Rattle.lc_node.specs.Spread.{ArePrefixes, IsPrefix, SendsFew, SendsMost, count_of, sent_to}
+use Rattle.lc_node.specs.Spread.{ArePrefixes, IsPrefix, LacksNoneOf, SendsFew, SendsMost, count_of, sent_to}
 use Rattle.lc_node.specs.declared.peer_end.PeerEnd.{PeerEnd}
 use Rattle.lc_node.proofs.Copied.{IsSentFirst, prefix_after}
 use Rattle.lc_node.proofs.NextSent.{length_numbered, next_begins}
@@ -46,21 +46,21 @@ pub all_sent : {P : Type 0} (xs now : List (PeerEnd P)) (ys : List (VecDeque (Ve
 all_sent xs now ys sent = record { long = sent.long; long_too = sent.long_too; each = λ k x y z x_at y_at z_at. (sent.each k x y z x_at y_at z_at).2 }
 
 -- where all the copies of what a peer lacks were sent, it was sent as many as a call sends
-most_of : {P : Type 0} (published : List (List ℕ)) (old new : PeerEnd P) (copies : List (Vec ℕ)) → SendsAll old copies new → AreAllNext published old copies → IsPrefix published old → SendsMost published old new
-most_of published old new copies (inr cut) most p = inr cut
-most_of published old new copies (inl all) most p =
+most_of : {P : Type 0} (gone : ℕ) (published : List (List ℕ)) (old new : PeerEnd P) (copies : List (Vec ℕ)) → SendsAll old copies new → AreAllNext gone published old copies → LacksNoneOf gone old → IsPrefix published old → SendsMost published old new
+most_of gone published old new copies (inr cut) most kept p = inr cut
+most_of gone published old new copies (inl all) most kept p =
     let start = next_begins published (sent_to old) old.count old.place old.counted old.placed p in
-    let many : length copies ≡ min 64 (length published - old.count) = most old.count start in
+    let many : length copies ≡ min 64 (length published - old.count) = most kept old.count start in
     let whole : length published ≡ length p.0 + length p.1 = ap (λ l. length l) p.2 ∙ length-append p.0 p.1 in
     let begun : count_of old ≡ length p.0 = ap (λ l. length l) p.3 ∙ length_numbered 1 p.0 in
     let counted = old.counted in inl (omega arith)
 
-pub most_sent : {P : Type 0} (published : List (List ℕ)) (xs now : List (PeerEnd P)) (ys : List (VecDeque (Vec ℕ) Global)) → EachThree (λ old lacks new. SendsAll old lacks.items new) xs ys now
-    → Each (λ peer lacks. AreAllNext published peer lacks.items) xs ys → ArePrefixes published xs → Each (SendsMost published) xs now
-most_sent published xs now ys sent most before = record {
+pub most_sent : {P : Type 0} (gone : ℕ) (published : List (List ℕ)) (xs now : List (PeerEnd P)) (ys : List (VecDeque (Vec ℕ) Global)) → EachThree (λ old lacks new. SendsAll old lacks.items new) xs ys now
+    → Each (λ peer lacks. AreAllNext gone published peer lacks.items) xs ys → ArePrefixes published xs → All (LacksNoneOf gone) xs → Each (SendsMost published) xs now
+most_sent gone published xs now ys sent most before kept = record {
   long = sent.long_too;
   each = λ k x z x_at z_at.
       let within = slice_get_within xs k x x_at in
       let y = got_some ys k (let a = sent.long in omega arith) in
-      most_of published x z y.0.items (sent.each k x y.0 z x_at y.1 z_at) (most.each k x y.0 x_at y.1) (before k x x_at);
+      most_of gone published x z y.0.items (sent.each k x y.0 z x_at y.1 z_at) (most.each k x y.0 x_at y.1) (at_each (LacksNoneOf gone) xs k x kept x_at) (before k x x_at);
 }

@@ -1,5 +1,5 @@
 -- A step of the flusher keeps what a log's type says.
-use Rattle.std.proofs.Common.{◌≡◌, ℕ, ◌+◌, ◌*◌, ◌≤◌, List, All, length, refl, sym, ap, subst, ◌∙◌, arith, vec_capacity}
+use Rattle.std.proofs.Common.{◌≡◌, ℕ, ◌+◌, ◌*◌, ◌≤◌, List, All, length, refl, sym, ap, subst, ◌∙◌, arith, vec_capacity, ◌++◌}
 use Rattle.std.specs.List.{concat}
 use Rattle.lc_disk.specs.declared.area.Area.{Ghosts}
 use Rattle.lc_stage.specs.declared.seats.CommitSeat.{CommitSeat}
@@ -11,7 +11,10 @@ use Rattle.lc_stage.specs.declared.fault.StageFault.{StageFault}
 use Rattle.lc_stage.specs.declared.fault.StageFault.TheVariants.{Moved, Full, Sealed, RoundsSpent}
 use Rattle.lc_trunc.specs.KnownClean.{known}
 use Rattle.lc_trunc.specs.Reset.{AreKnown}
+use Rattle.lc_ended.specs.Ended.{Kept}
 use Rattle.lc_node.specs.LogSide.{HasStable, IsLogSide}
+use Rattle.lc_node.specs.Published.{records_of}
+use Rattle.lc_node.proofs.LeftWords.{left-same}
 use Rattle.lc_node.specs.declared.log_side.LogSide.TheInside.{Inside}
 
 -- the rounds that have ended and their rows are as they were, and so is how far this one is clear
@@ -78,6 +81,7 @@ module _ {D : Type 0} (a : Ghosts D) where
     pub same_ended : t.ended ≡ s.ended
     pub same_round : t.round ≡ s.round
     pub same_known : t.known ≡ s.known
+    pub same_count : t.count ≡ s.count
     pub steps : Steps (flush_view s.flusher) (flush_view t.flusher)
     pub published : (flush_view t.flusher).published ≤ t.round * 65536 + length t.stable.items
     pub holds : HasStable a t.log (flush_view t.flusher).room (flush_view t.flusher).taken t.stable.items
@@ -95,8 +99,9 @@ module _ {D : Type 0} (a : Ghosts D) where
     records = subst (λ l. AreRecords l.items) (sym g.same_stable) inv.records;
     published = g.published;
     holds = g.holds;
-    ended = ap (λ l. l.items) g.same_ended ∙ (inv.ended ∙ ap concat (sym g.steps.same_past));
-    ended_records = subst (λ l. AreRecords l.items) (sym g.same_ended) inv.ended_records;
+    left = left-same (flush_view s.flusher).past (flush_view t.flusher).past s.known t.known s.ended t.ended inv.left g.steps.same_past g.same_known g.same_ended;
+    small = (let old = inv.small in let round = g.same_round in let gone : t.ended.gone ≡ s.ended.gone = ap (λ (e : Kept). e.gone) g.same_ended in let long : length t.ended.words ≡ length s.ended.words = ap (λ (e : Kept). length e.words) g.same_ended in omega (arith, old, round, gone, long));
+    counted = g.same_count ∙ (inv.counted ∙ (ap (λ (l : List (List ℕ)). length (records_of (concat l ++ s.stable.items))) (sym g.steps.same_past) ∙ ap (λ l. length (records_of (concat (flush_view t.flusher).past ++ l.items))) (sym g.same_stable)));
     past_records = subst (All AreRecords) (sym g.steps.same_past) inv.past_records;
     clean = subst (λ (numbers : List ℕ). All (λ (words : List ℕ). AreKnown words (known numbers)) (flush_view t.flusher).past) (sym g.same_known)
         (subst (λ (past : List (List ℕ)). All (λ (words : List ℕ). AreKnown words (known s.known)) past) (sym g.steps.same_past) inv.clean);
@@ -111,6 +116,7 @@ module _ {D : Type 0} (a : Ghosts D) where
     same_ended = refl;
     same_round = refl;
     same_known = refl;
+    same_count = refl;
     steps = st.steps;
     published = (let old = inv.published in let same = st.same_published in omega arith);
     holds = subst (λ (r : ℕ). HasStable a s.log r (flush_view f).taken s.stable.items) (sym st.steps.same_room)

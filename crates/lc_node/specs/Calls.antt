@@ -41,7 +41,7 @@ module _ {D : Type 0} where
     pub old : List (PeerEnd (Journey D))
     pub wired : AreEndsOf member old
     pub new : List (PeerEnd (Journey D))
-    pub spreads : Spreads (published log) old spread new
+    pub spreads : Spreads log.gone (published log) old spread new
 
   -- the node of this number went on with what another had sent it, and this is the answer: with the message that it kept of that one,
   -- and else with the next; those of others stay

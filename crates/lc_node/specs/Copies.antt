@@ -34,9 +34,9 @@ module _ {P : Type 0} where
   abbrev pub AreNext : List (List ℕ) → PeerEnd P → List (Vec ℕ) → Type 0
   AreNext published peer copies = AreBehind published peer.place copies
 
-  -- and those that are as many of them as a call sends
-  abbrev pub AreAllNext : List (List ℕ) → PeerEnd P → List (Vec ℕ) → Type 0
-  AreAllNext published peer copies = AreMost published peer.place copies
+  -- and those that are as many of them as a call sends, where so many words in front were dropped and the peer lacks none of these
+  abbrev pub AreAllNext : ℕ → List (List ℕ) → PeerEnd P → List (Vec ℕ) → Type 0
+  AreAllNext gone published peer copies = gone ≤ peer.place → AreMost published peer.place copies
 
   -- so many records were sent as there are copies, if the peer was not cut off
   abbrev pub SendsAll : PeerEnd P → List (Vec ℕ) → PeerEnd P → Type 0

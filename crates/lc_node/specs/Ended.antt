@@ -1,12 +1,12 @@
 -- The memory for the words of the rounds that have ended.
-use Rattle.std.specs.Prelude.{◌≡◌, ◌+◌, ◌≤◌, length}
+use Rattle.std.specs.Prelude.{◌≡◌, ◌≤◌}
 use Rattle.lc_stage.specs.Seats.{flush_view}
 use Rattle.lc_node.specs.LogView.{LogView}
 
 module _ {D : Type 0} where
   -- there is room for the words of one round more
   abbrev pub HasRoom : LogView D → Type 0
-  HasRoom log = length log.ended + (flush_view log.flusher).room ≤ log.ended_room
+  HasRoom log = (flush_view log.flusher).room ≤ log.ended_room
 
   -- there is now, and nothing else has changed; where there was before, nothing has
   abbrev pub MakesRoom : LogView D → LogView D → Type 0

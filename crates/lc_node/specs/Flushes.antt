@@ -22,6 +22,7 @@ module _ {D : Type 0} where
     pub publishes : flush_view new.flusher ≡ publishing taking
     pub stable : new.stable ≡ old.stable ++ words
     pub ended : new.ended ≡ old.ended
+    pub gone : new.gone ≡ old.gone
     pub ended_room : new.ended_room ≡ old.ended_room
     pub round : new.round ≡ old.round
     pub known : new.known ≡ old.known
@@ -35,6 +36,7 @@ module _ {D : Type 0} where
     pub halted : new.is_halted ≡ true
     pub stable : new.stable ≡ old.stable
     pub ended : new.ended ≡ old.ended
+    pub gone : new.gone ≡ old.gone
     pub ended_room : new.ended_room ≡ old.ended_room
     pub takes : OnlyTakes (flush_view old.flusher) (flush_view new.flusher)
     pub before : D

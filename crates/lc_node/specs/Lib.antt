@@ -58,3 +58,5 @@ pub mod Works
 pub mod Writes
 pub mod Keys
 pub mod Closing
+pub mod Trimming
+pub mod Forgetting

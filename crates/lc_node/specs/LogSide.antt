@@ -10,7 +10,9 @@ use Rattle.lc_stage.specs.Staging.{AreRecords}
 use Rattle.lc_stage.specs.Seats.{flush_view, commit_view, IsIdle}
 use Rattle.lc_trunc.specs.KnownClean.{known}
 use Rattle.lc_trunc.specs.Reset.{AreKnown}
+use Rattle.lc_ended.specs.Left.{IsLeft}
 use Rattle.lc_node.specs.LogView.{LogView}
+use Rattle.lc_node.specs.Published.{records_of}
 use Rattle.lc_node.specs.declared.log_state.LogState.{LogState}
 use Rattle.lc_node.specs.declared.log_state.LogState.TheVariants.{Idle, Stopped, Halted, Taken}
 use Rattle.lc_node.specs.declared.log_side.LogSide.TheInside.{Inside}
@@ -29,7 +31,7 @@ module _ {D : Type 0} (a : Ghosts D) where
   is_halted Taken = true
 
   abbrev pub log_view : Inside D a → LogView D
-  log_view s = record { flusher = s.flusher; probe = s.probe; area = area_of s.log; is_halted = is_halted s.log; stable = s.stable.items; ended = s.ended.items; ended_room = vec_capacity s.ended; round = s.round; known = s.known }
+  log_view s = record { flusher = s.flusher; probe = s.probe; area = area_of s.log; is_halted = is_halted s.log; stable = s.stable.items; ended = s.ended.words; gone = s.ended.gone; ended_room = s.ended.room; round = s.round; known = s.known }
 
   -- a stop leaves none of the records whose words these are, or all of them, or all and a whole group behind them
   abbrev pub LeavesRecords : D → List ℕ → Type 0
@@ -57,9 +59,11 @@ module _ {D : Type 0} (a : Ghosts D) where
     pub records : AreRecords s.stable.items
     pub published : (flush_view s.flusher).published ≤ s.round * 65536 + length s.stable.items
     pub holds : HasStable s.log (flush_view s.flusher).room (flush_view s.flusher).taken s.stable.items
-    -- the words of the rounds that have ended are all that was taken in them, and they are whole records, as are those of each round
-    pub ended : s.ended.items ≡ concat (flush_view s.flusher).past
-    pub ended_records : AreRecords s.ended.items
+    -- what is left of the words that were taken in the rounds that have ended; each round's are whole records
+    pub left : IsLeft (flush_view s.flusher).past s.known s.ended.gone s.ended.words
+    pub small : s.ended.gone + length s.ended.words ≤ s.round * 65536
     pub past_records : All AreRecords (flush_view s.flusher).past
+    -- how many are published
+    pub counted : s.count ≡ length (records_of (concat (flush_view s.flusher).past ++ s.stable.items))
     -- each lock of a record that was taken in a round that has ended is known clean
     pub clean : All (λ words. AreKnown words (known s.known)) (flush_view s.flusher).past

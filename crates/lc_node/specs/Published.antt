@@ -24,11 +24,11 @@ IsStart records count place =
 module _ {D : Type 0} where
   -- those of the rounds that have ended, and those that are stable now, in their order
   abbrev pub published : LogView D → List (List ℕ)
-  published log = records_of (log.ended ++ log.stable)
+  published log = records_of (concat (flush_view log.flusher).past ++ log.stable)
 
   -- each is one record, whole, and no word stands beside them; those of the ended rounds are all that was taken in them
   abbrev pub IsWhole : LogView D → Type 0
-  IsWhole log = All IsOneRecord (published log) × (concat (published log) ≡ log.ended ++ log.stable) × (log.ended ≡ concat (flush_view log.flusher).past)
+  IsWhole log = All IsOneRecord (published log) × (concat (published log) ≡ concat (flush_view log.flusher).past ++ log.stable)
 
   -- so many more are published, behind those that were
   abbrev pub Publishes : LogView D → ℕ → LogView D → Type 0

@@ -1,5 +1,5 @@
 -- What the reset of a log does.
-use Rattle.std.specs.Prelude.{◌≡◌, ◌≢◌, ◌⊎◌, ℕ, ◌+◌, ◌*◌, ◌^◌, true, false, [], ◌∷◌, ◌++◌, length}
+use Rattle.std.specs.Prelude.{◌≡◌, ◌≢◌, ◌⊎◌, ℕ, ◌+◌, ◌-◌, ◌*◌, ◌^◌, true, false, [], ◌∷◌, ◌++◌, length}
 use Rattle.lc_model.specs.Merge.{IsLeastPair}
 use Rattle.lc_stage.specs.Seats.{commit_view, flush_view}
 use Rattle.lc_trunc.specs.KnownClean.{known}
@@ -35,7 +35,7 @@ module _ {D : Type 0} where
   -- the stable records, the round, what was taken, and the words of the ended rounds and their room are as they were
   abbrev pub IsKept : LogView D → LogView D → Type 0
   IsKept old new = (new.stable ≡ old.stable) × (new.round ≡ old.round) × (new.known ≡ old.known) × ((flush_view new.flusher).past ≡ (flush_view old.flusher).past) × ((flush_view new.flusher).taken ≡ (flush_view old.flusher).taken)
-      × (new.ended ≡ old.ended) × (new.ended_room ≡ old.ended_room) × ((flush_view new.flusher).room ≡ (flush_view old.flusher).room)
+      × (new.ended ≡ old.ended) × (new.ended_room ≡ old.ended_room) × ((flush_view new.flusher).room ≡ (flush_view old.flusher).room) × (new.gone ≡ old.gone)
 
   -- nothing more is reserved in its round, which ends where its stable records do
   abbrev pub IsSealed : LogView D → Type 0
@@ -59,7 +59,8 @@ module _ {D : Type 0} where
     pub serves : new.is_halted ≡ false
     pub past : (flush_view new.flusher).past ≡ (flush_view old.flusher).past ++ (flush_view old.flusher).taken ∷ []
     pub ended : new.ended ≡ old.ended ++ old.stable
-    pub ended_room : new.ended_room ≡ old.ended_room
+    pub gone : new.gone ≡ old.gone
+    pub ended_room : new.ended_room ≡ old.ended_room - length old.stable
 
   -- the device failed
   abbrev pub FailsToBegin : LogView D → NodeFault → LogView D → Type 0

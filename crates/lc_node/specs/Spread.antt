@@ -1,5 +1,5 @@
 -- What of a node's published records was sent to its peers.
-use Rattle.std.specs.Prelude.{◌≡◌, ◌⊎◌, ◌≤◌, ℕ, ◌+◌, ◌-◌, ◌^◌, true, List, ◌++◌, length, min, Some, slice_get, map, sum_by}
+use Rattle.std.specs.Prelude.{◌≡◌, ◌⊎◌, ◌≤◌, All, ℕ, ◌+◌, ◌-◌, ◌^◌, true, List, ◌++◌, length, min, Some, slice_get, map, sum_by}
 use Rattle.atomic_table.specs.Seated.{TableId}
 use Rattle.atomic_table.specs.declared.badge.Badge.{Badge}
 use Rattle.crossbeam_channel.specs.declared.flavors.array.Key.{Key}
@@ -41,6 +41,10 @@ module _ {P : Type 0} where
   abbrev pub SendsMost : List (List ℕ) → PeerEnd P → PeerEnd P → Type 0
   SendsMost published old new = (count_of new ≡ min (count_of old + 64) (length published)) ⊎ IsCutOff new
 
+  -- so many words in front were dropped, which the peer was sent
+  abbrev pub LacksNoneOf : ℕ → PeerEnd P → Type 0
+  LacksNoneOf gone peer = gone ≤ peer.place
+
   -- what holds of each peer
   abbrev pub ArePrefixes : List (List ℕ) → List (PeerEnd P) → Type 0
   ArePrefixes published peers = (k : ℕ) (peer : PeerEnd P) → slice_get peers k ≡ Some peer → IsPrefix published peer
@@ -61,11 +65,11 @@ module _ {P : Type 0} where
   SameLines old new = map line_of new ≡ map line_of old
 
   -- so much of what is published was sent to these peers, and so much is left
-  pub record Spreads (published : List (List ℕ)) (old : List (PeerEnd P)) (spread : Spread) (new : List (PeerEnd P)) : Type 0 where
+  pub record Spreads (gone : ℕ) (published : List (List ℕ)) (old : List (PeerEnd P)) (spread : Spread) (new : List (PeerEnd P)) : Type 0 where
     pub prefix : ArePrefixes published old → ArePrefixes published new
     pub few : Each SendsFew old new
-    pub most : ArePrefixes published old → Each (SendsMost published) old new
+    pub most : ArePrefixes published old → All (LacksNoneOf gone) old → Each (SendsMost published) old new
     pub sent : sent_in new ≡ sent_in old + spread.sent
-    pub left : ArePrefixes published old → spread.left ≡ min (2 ^ 64 - 1) (missing_in published new)
+    pub left : spread.left ≡ min (2 ^ 64 - 1) (missing_in published new)
     pub tokens : tokens_in new ≡ tokens_in old
     pub lines : SameLines old new

@@ -1,5 +1,5 @@
 -- What a truncation does to the segments that it holds, and to the log.
-use Rattle.std.specs.Prelude.{◌≡◌, ◌⊎◌, ℕ, ◌+◌, ◌*◌, ◌<◌, ◌≤◌, true, false, List, [], ◌∷◌, All, length, map, take, Option, Some, None, slice_get}
+use Rattle.std.specs.Prelude.{◌≡◌, ◌⊎◌, ℕ, ◌+◌, ◌*◌, ◌<◌, ◌≤◌, Bool, true, false, List, [], ◌∷◌, All, length, map, take, Option, Some, None, slice_get}
 use Rattle.lc_disk.specs.declared.area.Area.{Ghosts}
 use Rattle.lc_record.specs.Marks.{counting}
 use Rattle.lc_token.specs.declared.token.Token.{Token}
@@ -16,6 +16,7 @@ use Rattle.lc_node.specs.Pages.{AreWritten, HaveBytes}
 use Rattle.lc_node.specs.Receipts.{IsOfDevice}
 use Rattle.lc_node.specs.Resets.{Empties, IsSpent, IsUnemptied}
 use Rattle.lc_node.specs.SegView.{SegView, laid_parts}
+use Rattle.lc_node.specs.Trimming.{ForgetsAlone}
 use Rattle.lc_node.specs.declared.held.HeldSide.{HeldSide}
 use Rattle.lc_node.specs.declared.node.Node.{Node}
 use Rattle.lc_node.specs.declared.node_fault.NodeFault.{NodeFault}
@@ -115,11 +116,15 @@ module _ {D : Type 0} (a : Ghosts D) where
       ⊎ (((fault ≡ NoMemory) × LacksRoom old new × (news ≡ olds))
       ⊎ ((roomy : LogView D) × MakesRoom old roomy × IsUntruncated room roomy olds fault new news))
 
+  -- and where the node is alone, its log forgets the records of the rounds that have ended
+  abbrev pub TruncatesAlone : Bool → ℕ → LogView D → List (HeldSide D) → ℕ → LogView D → List (HeldSide D) → Type 0
+  TruncatesAlone alone room old olds round new news = (emptied : LogView D) × TruncatesInRoom room old olds round emptied news × ForgetsAlone alone emptied new
+
   -- Who has no lock knows that there was a log, as it was and became, and that there were these sides
 
   -- the node's log was truncated with these sides held
   abbrev pub TruncatesHeld : Node D → List (HeldSide D) → ℕ → List (HeldSide D) → Type 0
-  TruncatesHeld node olds round news = (old : LogView D) × (new : LogView D) × IsLogOf node old × TruncatesInRoom node.stage.room old olds round new news
+  TruncatesHeld node olds round news = (old : LogView D) × (new : LogView D) × IsLogOf node old × TruncatesAlone node.is_alone node.stage.room old olds round new news
 
   -- it was not, for want of memory for the writes, or for a reason that its log had
   abbrev pub IsUntruncatedHeld : Node D → List (HeldSide D) → NodeFault → List (HeldSide D) → Type 0

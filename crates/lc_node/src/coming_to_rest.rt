@@ -45,7 +45,11 @@ impl<D: Area + Drop> Cluster<D> {
         ensures geometry { IfOk result (λ parts. parts.geometry ≡ self.geometry) }
         ensures refused { IfErr result (StopsParts self.geometry) }
     {
-        let Cluster { geometry, members } = self;
+        let Cluster {
+            geometry,
+            members,
+            ..
+        } = self;
         let (nodes, posts) = take_apart(alloc, members)?;
         let mut tokens = Vec::new(alloc);
         let nodes = take_nodes(rt, alloc, &geometry, nodes, seats, &mut tokens)?;

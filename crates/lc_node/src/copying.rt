@@ -1,8 +1,8 @@
 //! Copies of the records that peers lack.
-ghost use Rattle.std.specs.Prelude.{◌≡◌, ◌-◌, ◌<◌, ◌≤◌, ℕ, length, IfOk, OnErr};
+ghost use Rattle.std.specs.Prelude.{◌<◌, ◌≤◌, length, IfOk, OnErr};
 ghost use Rattle.lc_node.specs.Copies.{FitBehind, AreBehind, AreMost, CanBeSent, AreNext, AreAllNext};
 ghost use Rattle.lc_node.specs.Each.{Each};
-ghost use Rattle.lc_node.specs.Published.{published, IsStart};
+ghost use Rattle.lc_node.specs.Published.{published};
 
 use crate::{LogSide, PeerEnd};
 use lc_disk::Area;
@@ -18,7 +18,7 @@ pub(crate) fn copies_for<P: Drop, D: Area + Drop>(
 ) -> Result<Vec<VecDeque<Vec<u64>>>, AllocError>
     ensures fit { IfOk result (λ copies. Each (λ peer lacks. CanBeSent peer lacks.items) peers.now copies.items) }
     ensures next { IfOk result (λ copies. Each (λ peer lacks. AreNext (published log.now) peer lacks.items) peers.now copies.items) }
-    ensures most { IfOk result (λ copies. Each (λ peer lacks. AreAllNext (published log.now) peer lacks.items) peers.now copies.items) }
+    ensures most { IfOk result (λ copies. Each (λ peer lacks. AreAllNext log.now.gone (published log.now) peer lacks.items) peers.now copies.items) }
     ensures memory { OnErr result (0 < length peers.now) }
 {
     let mut copies = Vec::with_capacity(alloc, peers.len())?;
@@ -38,7 +38,7 @@ fn copies_from<D: Area + Drop>(
     ensures few { IfOk result (λ copies. length copies.items ≤ 64) }
     ensures fit { IfOk result (λ copies. FitBehind place copies.items) }
     ensures behind { IfOk result (λ copies. AreBehind (published log.now) place copies.items) }
-    ensures most { IfOk result (λ copies. AreMost (published log.now) place copies.items) }
+    ensures most { IfOk result (λ copies. log.now.gone ≤ place → AreMost (published log.now) place copies.items) }
 {
     let mut copies = VecDeque::with_capacity(alloc, ROOM)?;
     let mut at = place;
@@ -51,17 +51,4 @@ fn copies_from<D: Area + Drop>(
         copies.push_back_reserved(copy);
     }
     Ok(copies)
-}
-
-// How many records are published from a place on.
-pub(crate) fn count_behind<D: Area + Drop>(log: &LogSide<D>, place: usize) -> u64
-    ensures { (count : ℕ) → IsStart (published log.now) count place → result ≡ length (published log.now) - count }
-{
-    let mut at = place;
-    let mut count = 0;
-    while let Some(words) = log.record_at(at) {
-        at += words.len();
-        count += 1;
-    }
-    count
 }

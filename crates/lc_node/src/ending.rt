@@ -23,20 +23,6 @@ impl<D: Area + Drop> LogSide<D> {
         ensures refused { OnErr result (LacksRoom self.old self.new) }
     {
         let words = stage.words() as usize;
-        if words <= self.ended.capacity() - self.ended.len() {
-            return Ok(());
-        }
-        self.ended.reserve(words)
-    }
-}
-
-// Adds words at the end, for which there is room.
-pub(crate) fn extend(ended: &mut Vec<u64>, words: &[u64])
-    requires { vec_len ended.old + length words.now ≤ vec_capacity ended.old }
-    ensures words { ended.new.items ≡ ended.old.items ++ words.now }
-    ensures room { vec_capacity ended.new ≡ vec_capacity ended.old }
-{
-    for index in 0..words.len() {
-        ended.push_reserved(words[index]);
+        self.ended.make_room(words)
     }
 }

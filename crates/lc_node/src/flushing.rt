@@ -59,8 +59,9 @@ impl<D: Area + Drop> LogSide<D> {
                 self.log = LogState::Idle(log);
                 let start = self.stable.len();
                 keep(&mut self.stable, &self.group);
-                let count = count_in_front(&self.stable[start..], words as usize);
-                Ok(count as u64)
+                let count = count_in_front(&self.stable[start..], words as usize) as u64;
+                self.count += count;
+                Ok(count)
             }
             Err(failed) => {
                 self.log = LogState::Halted(failed);

@@ -1,5 +1,5 @@
 //! The cluster of a recovered store.
-ghost use Rattle.std.specs.Prelude.{◌≡◌, ◌≤◌, ℕ, All, Some, length, slice_get, vec_len, IfErr, IfOk, IfSome};
+ghost use Rattle.std.specs.Prelude.{◌≡◌, ◌≤◌, ℕ, false, All, Some, length, slice_get, vec_len, IfErr, IfOk, IfSome};
 ghost use Rattle.lc_recover.specs.Reads.{HaveLengths};
 ghost use Rattle.lc_recover.specs.Recovered.{AreFinished};
 ghost use Rattle.lc_stage.specs.Staging.{newcomer};
@@ -14,6 +14,7 @@ ghost use Rattle.lc_node.specs.declared.member.Member.{Member as TheMember};
 ghost use Rattle.lc_node.specs.declared.node_fault.NodeFault.TheVariants.{NoMemory};
 
 use crate::cluster::Cluster;
+use crate::dropped::Dropped;
 use crate::member::Member;
 use crate::opening::{Opened, open_nodes};
 use crate::vacant::Vacant;
@@ -105,6 +106,7 @@ struct Room<D: Area + Drop> {
     posts: Vec<Post<Travelling<D>>>,
     members: Vec<Member<D>>,
     seats: Vec<CommitSeat>,
+    dropped: Lock<Dropped, ()>,
 }
 
 impl<D: Area + Drop> Room<D> {
@@ -120,10 +122,12 @@ impl<D: Area + Drop> Room<D> {
             return None;
         };
         let posts = post_all(alloc, ends)?;
+        let dropped = Lock::new(alloc, Dropped::none(), &()).ok()?;
         Some(Room {
             posts,
             members,
             seats,
+            dropped,
         })
     }
 
@@ -132,6 +136,7 @@ impl<D: Area + Drop> Room<D> {
         requires room { IsRoomFor (vec_len nodes) self }
         requires numbered { StandByNumber nodes.items }
         requires all_nodes { vec_len nodes ≡ geometry.nodes }
+        requires peers { All (λ opened. opened.node.is_alone ≡ false) nodes.items }
         requires all_segments { All (λ opened. vec_len opened.node.segments ≡ geometry.segments) nodes.items }
         ensures geometry { result.0.geometry ≡ geometry }
         ensures members { length result.0.members.items ≡ vec_len nodes }
@@ -143,6 +148,7 @@ impl<D: Area + Drop> Room<D> {
             mut posts,
             mut members,
             mut seats,
+            dropped,
         } = self;
         let mut nodes = nodes;
         for _ in 0..nodes.len() {
@@ -151,6 +157,11 @@ impl<D: Area + Drop> Room<D> {
             members.push_reserved(Member { node, to, from });
             seats.push_reserved(seat);
         }
-        (Cluster { geometry, members }, seats)
+        let cluster = Cluster {
+            geometry,
+            members,
+            dropped,
+        };
+        (cluster, seats)
     }
 }

@@ -48,6 +48,7 @@ impl<D: Area + Drop> LogSide<D> {
             mut group,
             stable,
             ended,
+            count: _count,
             round,
             known,
         } = self;
@@ -67,7 +68,7 @@ impl<D: Area + Drop> LogSide<D> {
         Ok(NodePart {
             log,
             round,
-            ended,
+            ended: ended.into_words(),
             stable,
             staged,
             known,

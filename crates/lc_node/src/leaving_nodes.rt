@@ -74,7 +74,7 @@ impl<D: Area + Drop> Node<D> {
             stage,
             log,
             segments,
-            halted: _halted,
+            ..
         } = self;
         let (side, loan) = log.lock(rt);
         log.end(loan);

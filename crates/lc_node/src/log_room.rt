@@ -10,6 +10,7 @@ use crate::log_state::LogState;
 use crate::vacant::Vacant;
 use crate::{LogSide, Node, SegSide};
 use lc_disk::Area;
+use lc_ended::Ended;
 use lc_lock::Lock;
 use lc_log::NodeLog;
 use lc_record::Group;
@@ -27,7 +28,7 @@ pub(crate) struct LogRoom<D: Area + Drop> {
     probe: CommitSeat,
     group: Group,
     stable: Vec<u64>,
-    ended: Vec<u64>,
+    ended: Ended,
     lock: Vacant<LogSide<D>, Stage>,
     ghost own_seat: { IsSeatOf stage seat },
     ghost own_probe: { IsSeatOf stage probe },
@@ -36,7 +37,7 @@ pub(crate) struct LogRoom<D: Area + Drop> {
     ghost new_flusher: { flush_view flusher ≡ first_flusher stage.room },
     ghost empty_group: { group ≡ record { words = []; room = stage.room } },
     ghost empty: { stable.items ≡ [] },
-    ghost none_ended: { ended.items ≡ [] },
+    ghost none_ended: { ended ≡ record { gone = 0; words = []; room = 0 } },
     ghost place: { stage.room ≤ vec_capacity stable },
     ghost key: { key_of lock.lock ≡ stage },
 }
@@ -52,7 +53,7 @@ impl<D: Area + Drop> LogRoom<D> {
         let probe = stage.split(&mut seat);
         let group = Group::new(alloc, words)?;
         let stable = Vec::with_capacity(alloc, words as usize)?;
-        let ended = Vec::new(alloc);
+        let ended = Ended::new(alloc);
         let lock = Vacant::new(alloc, &stage)?;
         Ok(LogRoom {
             stage,
@@ -66,7 +67,8 @@ impl<D: Area + Drop> LogRoom<D> {
         })
     }
 
-    /// The node of this number with these segments, whose log is on this area, which begins with no open gate. It takes no memory.
+    /// The node of this number with these segments, which may have peers, and whose log is on this area, which begins with no open
+    /// gate. It takes no memory.
     pub(crate) fn open(
         self,
         number: u16,
@@ -83,6 +85,7 @@ impl<D: Area + Drop> LogRoom<D> {
         ensures number { result.0.number ≡ number }
         ensures room { result.0.stage.room ≡ self.stage.room }
         ensures segments { result.0.segments ≡ segments }
+        ensures peers { result.0.is_alone ≡ false }
     {
         let LogRoom {
             stage,
@@ -101,6 +104,7 @@ impl<D: Area + Drop> LogRoom<D> {
             group,
             stable,
             ended,
+            count: 0,
             round: 0,
             known: KnownClean::new(),
         });
@@ -110,6 +114,7 @@ impl<D: Area + Drop> LogRoom<D> {
             log,
             segments,
             halted: AtomicIn::new(0),
+            is_alone: false,
         };
         (node, seat)
     }

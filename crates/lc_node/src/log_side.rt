@@ -1,6 +1,7 @@
 //! A node's log, with what is staged for it.
 use crate::log_state::LogState;
 use lc_disk::Area;
+use lc_ended::Ended;
 use lc_record::Group;
 use lc_stage::{CommitSeat, FlushSeat};
 use lc_trunc::KnownClean;
@@ -8,7 +9,8 @@ use std::marker::Model;
 
 /// A node's log: its flusher, its device, the words of its stable records, which are what the flusher took in this round
 /// or, once it is halted, the front of that, those of the records of the rounds that have ended since it was opened, for its
-/// peers, and what is known clean of the segments. This project's own.
+/// peers, from the first that somebody may still want, how many it has published, and what is known clean of the segments. This
+/// project's own.
 #[derive(Drop)]
 pub struct LogSide<D: Area> {
     pub(crate) flusher: FlushSeat,
@@ -17,7 +19,9 @@ pub struct LogSide<D: Area> {
     pub(crate) log: LogState<D>,
     pub(crate) group: Group,
     pub(crate) stable: Vec<u64>,
-    pub(crate) ended: Vec<u64>,
+    pub(crate) ended: Ended,
+    /// How many records it has published since it was opened.
+    pub(crate) count: u64,
     pub(crate) round: u64,
     pub(crate) known: KnownClean,
 }

@@ -12,7 +12,8 @@ use lc_stage::Stage;
 use std::sync::atomic::AtomicIn;
 
 /// A running node: its number, from 0, which its records name, its stage, a lock round its log, one round each of its segments, at
-/// most 16, from segment 1 on, and whether it is halted. This project's own.
+/// most 16, from segment 1 on, whether it is halted, and whether it is the only one, so that no peer wants its records. This
+/// project's own.
 #[derive(Drop)]
 pub struct Node<D: Area + Drop> {
     pub(crate) number: u16,
@@ -21,6 +22,7 @@ pub struct Node<D: Area + Drop> {
     pub(crate) segments: Vec<Lock<SegSide<D>, u32>>,
     /// Not 0 once a call of a device has failed.
     pub(crate) halted: AtomicIn<Halting<D>>,
+    pub(crate) is_alone: bool,
     ghost numbered: { number ≤ 7 },
     ghost one_stage: { (key_of log).table.shared.table_id ≡ stage.table.shared.table_id },
     ghost in_order: { (place : ℕ) (lock : Keeps (SegView D) ℕ) → slice_get segments.items place ≡ Some lock → key_of lock ≡ place + 1 },

@@ -1,5 +1,5 @@
 //! The nodes of a store at their beginning.
-ghost use Rattle.std.specs.Prelude.{◌≡◌, ◌<◌, ◌≤◌, All, length, IfErr, IfOk};
+ghost use Rattle.std.specs.Prelude.{◌≡◌, ◌<◌, ◌≤◌, true, All, length, IfErr, IfOk};
 ghost use Rattle.lc_recover.specs.Reads.{HaveLengths};
 ghost use Rattle.lc_recover.specs.Recovered.{AreFinished};
 ghost use Rattle.lc_stage.specs.Staging.{newcomer};
@@ -23,7 +23,7 @@ pub(crate) struct Opened<D: Area + Drop> {
 
 impl<D: Area + Drop> Node<D> {
     /// The one node of a recovered store, and the first committer's seat. All segments are here, and nothing is known clean
-    /// yet. A store of several nodes comes up as one node too, on the log of the first: the areas of the other logs, which a
+    /// yet. It has no peer, so each truncation forgets the records of the rounds that have ended. A store of several nodes comes up as one node too, on the log of the first: the areas of the other logs, which a
     /// recovery leaves empty, are dropped. All memory is taken before the store is taken apart.
     ///
     /// # Errors
@@ -39,10 +39,12 @@ impl<D: Area + Drop> Node<D> {
         ensures number { IfOk result (λ made. made.0.number ≡ 0) }
         ensures room { IfOk result (λ made. made.0.stage.room ≡ recovered.geometry.words) }
         ensures segments { IfOk result (λ made. length made.0.segments.items ≡ recovered.geometry.segments) }
+        ensures alone { IfOk result (λ made. made.0.is_alone ≡ true) }
         ensures back { IfErr result (λ back. (back.0 ≡ recovered) × (back.1 ≡ NoMemory)) }
     {
         let mut nodes = open_first(alloc, recovered, 1)?;
-        let Opened { node, seat } = nodes.remove(0);
+        let Opened { mut node, seat } = nodes.remove(0);
+        node.is_alone = true;
         Ok((node, seat))
     }
 }

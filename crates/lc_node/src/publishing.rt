@@ -9,23 +9,35 @@ use lc_record::length;
 
 impl<D: Area + Drop> LogSide<D> {
     /// The words of the published record that begins behind so many words of the published records, those of the rounds that
-    /// have ended first; None exactly behind the last. A record begins behind no word, and then behind the words of each
-    /// record: who counts them on goes over the records in their order, in the time of those that it reads, also where
-    /// others are published or the log is reset in between. At a place where no record begins it gives some words that are
-    /// published, or None: which, no clause says. It takes no memory. Log-based coherency: Feeley et al., OSDI 1994; that a
-    /// log keeps its records' words over its resets is this project's own.
+    /// have ended first; None exactly behind the last, and in front of what is kept. A record begins behind no word, and then
+    /// behind the words of each record: who counts them on goes over the records in their order, in the time of those that it
+    /// reads, also where others are published or the log is reset in between. At a place where no record begins it gives some
+    /// words that are published, or None: which, no clause says. It takes no memory. Log-based coherency: Feeley et al., OSDI
+    /// 1994; that a log keeps its records' words over its resets is this project's own.
     pub fn record_at(&self, place: usize) -> Option<&[u64]>
         ensures whole { IsWhole self.now }
-        ensures found { (count : ℕ) → IsStart (published self.now) count place → option_map (λ words. words.now) result ≡ slice_get (published self.now) count }
+        ensures found { (count : ℕ) → self.now.gone ≤ place → IsStart (published self.now) count place → option_map (λ words. words.now) result ≡ slice_get (published self.now) count }
         ensures next { (count : ℕ) → IsStart (published self.now) count place → IfSome result (λ words. IsStart (published self.now) (count + 1) (place + length words.now)) }
+        ensures kept { IfSome result (λ _. self.now.gone ≤ place) }
         ensures some { IfSome result (λ words. 0 < length words.now) }
         ensures within { IfSome result (λ words. place + length words.now < 2 ^ 64) }
     {
         let ended = self.ended.as_slice();
+        if (place as u64) < self.ended.gone() {
+            return None;
+        }
+        let place = (place as u64 - self.ended.gone()) as usize;
         if place < ended.len() {
             return first_behind(ended, place);
         }
         first_behind(self.stable.as_slice(), place - ended.len())
+    }
+
+    /// How many records were published since the log was opened. One load.
+    pub(crate) fn published(&self) -> u64
+        ensures { result ≡ length (published self.now) }
+    {
+        self.count
     }
 }
 

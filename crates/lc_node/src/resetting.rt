@@ -9,7 +9,6 @@ ghost use Rattle.lc_node.specs.Published.{published};
 ghost use Rattle.lc_node.specs.Resets.{Begins, CanReset, Empties, FailsToBegin, IsReady, IsSealed, IsSpent, IsUnemptied, IsUnfit, IsUnsealed, Seals};
 ghost use Rattle.lc_node.specs.declared.node_fault.NodeFault.TheVariants.{RoundsSpent, Unclean};
 
-use crate::ending::extend;
 use crate::log_state::LogState;
 use crate::{LogSide, NodeFault};
 use lc_disk::Area;
@@ -125,7 +124,7 @@ impl<D: Area + Drop> LogSide<D> {
                     Err(_) => unreachable!(),
                 }
                 stage.clear(&mut self.flusher);
-                extend(&mut self.ended, self.stable.as_slice());
+                self.ended.extend(self.stable.as_slice());
                 self.stable.clear();
                 self.round += 1;
                 Ok(self.round)

@@ -1,5 +1,5 @@
 //! The memory of a node of a recovered store, taken before its areas are.
-ghost use Rattle.std.specs.Prelude.{◌≡◌, ◌≤◌, [], length, vec_capacity, vec_len, IfOk};
+ghost use Rattle.std.specs.Prelude.{◌≡◌, ◌≤◌, [], false, length, vec_capacity, vec_len, IfOk};
 ghost use Rattle.lc_stage.specs.Seats.{IsSeatOf};
 ghost use Rattle.lc_node.specs.Rooms.{AreOfSegments, FitsLog, FitRooms, IsRoomFor};
 ghost use Rattle.lc_node.specs.Shares.{AreShared};
@@ -62,6 +62,7 @@ impl<D: Area + Drop> Room<D> {
         ensures number { result.node.number ≡ share.number }
         ensures room { result.node.stage.room ≡ self.log.stage.room }
         ensures segments { length result.node.segments.items ≡ vec_len self.segments }
+        ensures peers { result.node.is_alone ≡ false }
         ensures places { length pages.new ≡ length pages.old }
         ensures shared { AreShared share.number share.nodes pages.old pages.new }
     {

@@ -1,12 +1,12 @@
 //! How published records are sent to all peers.
-ghost use Rattle.std.specs.Prelude.{◌≡◌, ◌+◌, ◌-◌, ◌^◌, ◌<◌, ◌≤◌, ℕ, List, length, min, IfOk, IfErr, OnOk, OnErr};
+ghost use Rattle.std.specs.Prelude.{◌≡◌, ◌+◌, ◌-◌, ◌^◌, ◌<◌, ◌≤◌, ℕ, All, List, length, min, IfOk, IfErr, OnOk, OnErr};
 ghost use Rattle.lc_node.specs.Copies.{CanBeSent, AreNext, SendsAll, SendsFirst};
 ghost use Rattle.lc_node.specs.Each.{Each, EachThree};
 ghost use Rattle.lc_node.specs.Published.{published};
-ghost use Rattle.lc_node.specs.Spread.{ArePrefixes, SameLines, SendsFew, SendsMost, sent_in, missing_in, tokens_in};
+ghost use Rattle.lc_node.specs.Spread.{ArePrefixes, LacksNoneOf, SameLines, SendsFew, SendsMost, sent_in, missing_in, tokens_in};
 ghost use Rattle.lc_node.specs.declared.node_fault.NodeFault.TheVariants.{NoMemory};
 
-use crate::copying::{copies_for, count_behind};
+use crate::copying::copies_for;
 use crate::{LogSide, NodeFault, PeerEnd, SendEnds};
 use lc_disk::Area;
 use std::alloc::Global;
@@ -24,7 +24,8 @@ pub struct Spread {
 
 impl<P: Drop> SendEnds<P> {
     /// Sends each peer the published records that it lacks, in the order of their numbers: 64 in a call, or all where these
-    /// are fewer. A peer is cut off before where its line held 64 messages at one moment, or its receiving end is gone. All
+    /// are fewer, if none of them was dropped. A peer is cut off before where its line held 64 messages at one moment, or its
+    /// receiving end is gone. All
     /// that may be sent is copied before the first is sent: NoMemory, the one fault, changes nothing. There are less than
     /// 2^16 peers, so the sum of what is sent fits; what is left is added up saturating.
     /// Log-based coherency: Feeley et al., OSDI 1994.
@@ -37,9 +38,9 @@ impl<P: Drop> SendEnds<P> {
         requires few { length self.old.ends.items < 2 ^ 16 }
         ensures prefix { ArePrefixes (published log.now) self.old.ends.items → ArePrefixes (published log.now) self.new.ends.items }
         ensures each { OnOk result (Each SendsFew self.old.ends.items self.new.ends.items) }
-        ensures most { OnOk result (ArePrefixes (published log.now) self.old.ends.items → Each (SendsMost (published log.now)) self.old.ends.items self.new.ends.items) }
+        ensures most { OnOk result (ArePrefixes (published log.now) self.old.ends.items → All (LacksNoneOf log.now.gone) self.old.ends.items → Each (SendsMost (published log.now)) self.old.ends.items self.new.ends.items) }
         ensures sent { IfOk result (λ s. sent_in self.new.ends.items ≡ sent_in self.old.ends.items + s.sent) }
-        ensures left { IfOk result (λ s. ArePrefixes (published log.now) self.old.ends.items → s.left ≡ min (2 ^ 64 - 1) (missing_in (published log.now) self.new.ends.items)) }
+        ensures left { IfOk result (λ s. s.left ≡ min (2 ^ 64 - 1) (missing_in (published log.now) self.new.ends.items)) }
         ensures tokens { tokens_in self.new.ends.items ≡ tokens_in self.old.ends.items }
         ensures lines { SameLines self.old.ends.items self.new.ends.items }
         ensures err { OnErr result (self.new ≡ self.old) }
@@ -102,11 +103,11 @@ impl<P: Drop> PeerEnd<P> {
 
 // How many of the published records were not sent, those of each peer counted; `u64::MAX` where they are more.
 fn missing<P: Drop, D: Area + Drop>(log: &LogSide<D>, peers: &[PeerEnd<P>]) -> u64
-    ensures { ArePrefixes (published log.now) peers.now → result ≡ min (2 ^ 64 - 1) (missing_in (published log.now) peers.now) }
+    ensures { result ≡ min (2 ^ 64 - 1) (missing_in (published log.now) peers.now) }
 {
     let mut left: u64 = 0;
     for peer in peers {
-        left = left.saturating_add(count_behind(log, peer.place));
+        left = left.saturating_add(log.published().saturating_sub(peer.count));
     }
     left
 }

@@ -8,7 +8,7 @@ ghost use Rattle.lc_node.specs.Held.{IsHeldOf};
 ghost use Rattle.lc_node.specs.Halting.{IsUntruncatable};
 ghost use Rattle.lc_node.specs.LogView.{LogView};
 ghost use Rattle.lc_node.specs.Logs.{IsLogOf};
-ghost use Rattle.lc_node.specs.Truncates.{HasNotTruncated, HasPagesIn, HasTruncated, IsOfTruncation, IsSameHeld, IsUntruncated, IsUntruncatedHeld, IsUntruncatedInRoom, MayTruncate, Truncates, TruncatesHeld, TruncatesInRoom};
+ghost use Rattle.lc_node.specs.Truncates.{HasNotTruncated, HasPagesIn, HasTruncated, IsOfTruncation, IsSameHeld, IsUntruncated, IsUntruncatedHeld, IsUntruncatedInRoom, MayTruncate, Truncates, TruncatesAlone, TruncatesHeld, TruncatesInRoom};
 
 use crate::cleaning::{most_pages, write_all};
 use crate::held::{Held, HeldSide};
@@ -80,7 +80,8 @@ impl<D: Area + Drop> Node<D> {
     /// Empties the log: it waits for the locks of all segments, ascending, and then for the log's, flushes, writes the dirty
     /// pages of the segments whose tokens are here, and resets the log. Answers the round that the log is in then: where it
     /// has no record behind the flush, the present one. What was applied is folded into the segments' bytes. The records stay
-    /// published. All memory, for their words too, is taken before anything is changed.
+    /// published; a node that was opened alone forgets their words. All memory, for their words too, is taken before anything is
+    /// changed.
     ///
     /// # Errors
     ///
@@ -128,9 +129,31 @@ impl<D: Area + Drop> Node<D> {
             return Err(NodeFault::NoMemory);
         };
         let (mut log, loan) = self.log.lock(rt);
-        let truncated = log.truncate(&self.stage, &mut held.sides, &mut writes);
+        let truncated = self.truncate_log(&mut log, &mut held.sides, &mut writes);
         self.tell_halted(&log);
         self.log.unlock(log, loan);
         truncated
+    }
+
+    // Truncates the log with these sides. Where the node is alone nobody wants the records of the rounds that have ended.
+    fn truncate_log(
+        &self,
+        log: &mut LogSide<D>,
+        sides: &mut Vec<HeldSide<D>>,
+        writes: &mut VecDeque<Writing>,
+    ) -> Result<u64, NodeFault>
+        requires own { IsFlusherOf self.now.stage log.old.flusher × IsSeatOf self.now.stage log.old.probe }
+        requires none { writes.old.items ≡ [] }
+        requires room { All (HasPagesIn (deque_capacity writes.old)) sides.old.items }
+        ensures own { IsFlusherOf self.now.stage log.new.flusher × IsSeatOf self.now.stage log.new.probe }
+        ensures same { Each IsSameHeld sides.old.items sides.new.items }
+        ensures truncated { IfOk result (λ round. TruncatesAlone D.Area self.now.is_alone self.now.stage.room log.old sides.old.items round log.new sides.new.items) }
+        ensures refused { IfErr result (λ fault. IsUntruncatedInRoom D.Area self.now.stage.room log.old sides.old.items fault log.new sides.new.items) }
+    {
+        let round = log.truncate(&self.stage, sides, writes)?;
+        if self.is_alone {
+            log.forget_ended();
+        }
+        Ok(round)
     }
 }

@@ -14,4 +14,6 @@ pub(crate) enum Act {
     Give(u32),
     /// It goes on with the other's next message.
     Pump,
+    /// It forgets what neither wants any more: just so many records.
+    Trim(u64),
 }

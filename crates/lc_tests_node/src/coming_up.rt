@@ -171,6 +171,7 @@ fn go_on<D: Area + Drop, R: Wait>(
         }
         1 => {
             let _ = cluster.node(number).truncate(rt, alloc);
+            let _ = cluster.trim(rt, number);
         }
         2 => {
             let _ = cluster.give(rt, number, other, segment);
@@ -400,6 +401,18 @@ fn steps_of(run: u32) -> u8 {
     (run % 24) as u8 + 1
 }
 
+// Empties all logs that may be, and drops what none of the nodes wants any more.
+fn trim_all<R: Wait>(rt: &R, alloc: Global, cluster: &Cluster<MemArea>) {
+    for node in 0..cluster.nodes() {
+        let _ = cluster.node(node).truncate(rt, alloc);
+    }
+    for _ in 0..cluster.nodes() {
+        for node in 0..cluster.nodes() {
+            let _ = cluster.trim(rt, node);
+        }
+    }
+}
+
 // Lets the threads of a cluster of so many nodes run, and the store that it becomes go on.
 fn run_and_come_up<R: Threads + Wait + Sync>(
     rt: &R,
@@ -418,6 +431,9 @@ fn run_and_come_up<R: Threads + Wait + Sync>(
         workers,
         &|worker: Worker<MemArea>| act_often(rt, alloc, worker, steps_of(run)),
     )?;
+    if run % 2 == 1 {
+        trim_all(rt, alloc, &cluster);
+    }
     let Ok(mut world) = come_up(rt, alloc, cluster) else {
         return Ok(false);
     };

@@ -43,3 +43,5 @@ mod seats;
 mod shared;
 #[cfg(test)]
 mod stores;
+#[cfg(test)]
+mod trims;

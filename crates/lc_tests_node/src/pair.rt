@@ -82,6 +82,7 @@ fn does<D: Area + Drop, R: Wait>(
         Act::Spread => cluster.spread(rt, alloc, node).is_ok(),
         Act::Give(segment) => cluster.give(rt, node, other, segment).is_ok(),
         Act::Pump => cluster.pump(rt, alloc, node, other).is_ok(),
+        Act::Trim(count) => cluster.trim(rt, node) == count,
     }
 }
 
@@ -105,7 +106,7 @@ fn act_one<D: Area + Drop, R: Wait>(
         return commit_one(rt, alloc, cluster, seats, node, work);
     }
     if !does(rt, alloc, cluster, node, act) {
-        return Err(Fail::from("no act is refused"));
+        return Err(Fail::from("no act is refused, and a trim drops as many records as are told"));
     }
     Ok(seats)
 }

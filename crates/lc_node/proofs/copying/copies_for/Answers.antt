@@ -13,8 +13,8 @@ loop-peer-preserved g c = let peers = c.args.peers.now in let n = c.loop-peer.pe
       room = search rules;
       fit = subst (λ l. Each (λ peer lacks. CanBeSent peer lacks.items) l c.push_reserved.new.self.items) (sym more) (subst (λ l. Each (λ peer lacks. CanBeSent peer lacks.items) (take n peers ++ peer ∷ []) l) (sym c.push_reserved.ensures.items)
           (each_more (λ peer lacks. CanBeSent peer lacks.items) (take n peers) c.loop-peer.copies.items peer lacks inv.fit (c.in_ok-lacks.ensures.few, c.in_ok-lacks.ensures.fit)));
-      most = subst (λ l. Each (λ peer lacks. AreAllNext all peer lacks.items) l c.push_reserved.new.self.items) (sym more) (subst (λ l. Each (λ peer lacks. AreAllNext all peer lacks.items) (take n peers ++ peer ∷ []) l) (sym c.push_reserved.ensures.items)
-          (each_more (λ peer lacks. AreAllNext all peer lacks.items) (take n peers) c.loop-peer.copies.items peer lacks inv.most c.in_ok-lacks.ensures.most));
+      most = subst (λ l. Each (λ peer lacks. AreAllNext c.args.log.now.gone all peer lacks.items) l c.push_reserved.new.self.items) (sym more) (subst (λ l. Each (λ peer lacks. AreAllNext c.args.log.now.gone all peer lacks.items) (take n peers ++ peer ∷ []) l) (sym c.push_reserved.ensures.items)
+          (each_more (λ peer lacks. AreAllNext c.args.log.now.gone all peer lacks.items) (take n peers) c.loop-peer.copies.items peer lacks inv.most c.in_ok-lacks.ensures.most));
       next = subst (λ l. Each (λ peer lacks. AreNext all peer lacks.items) l c.push_reserved.new.self.items) (sym more) (subst (λ l. Each (λ peer lacks. AreNext all peer lacks.items) (take n peers ++ peer ∷ []) l) (sym c.push_reserved.ensures.items)
           (each_more (λ peer lacks. AreNext all peer lacks.items) (take n peers) c.loop-peer.copies.items peer lacks inv.next c.in_ok-lacks.ensures.behind));
     }
@@ -26,4 +26,4 @@ pub returns-clause-next : goal.returns-clause-next
 returns-clause-next g c = subst (λ l. Each (λ peer lacks. AreNext (published c.args.log.now) peer lacks.items) l c.loop-peer.copies.items) (take_all c.loop-peer.peer-index c.args.peers.now c.loop-peer-test.false) c.loop-peer.invariant.next
 
 pub returns-clause-most : goal.returns-clause-most
-returns-clause-most g c = subst (λ l. Each (λ peer lacks. AreAllNext (published c.args.log.now) peer lacks.items) l c.loop-peer.copies.items) (take_all c.loop-peer.peer-index c.args.peers.now c.loop-peer-test.false) c.loop-peer.invariant.most
+returns-clause-most g c = subst (λ l. Each (λ peer lacks. AreAllNext c.args.log.now.gone (published c.args.log.now) peer lacks.items) l c.loop-peer.copies.items) (take_all c.loop-peer.peer-index c.args.peers.now c.loop-peer-test.false) c.loop-peer.invariant.most

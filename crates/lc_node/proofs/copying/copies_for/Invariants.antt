@@ -8,6 +8,6 @@ abbrev pub invariant-loop-peer : goal.invariant-loop-peer
 invariant-loop-peer g l = record {
   room : length l.peers ≤ vec_capacity l.copies;
   fit : Each (λ peer lacks. CanBeSent peer lacks.items) (take l.peer-index l.peers) l.copies.items;
-  most : Each (λ peer lacks. AreAllNext (published l.log) peer lacks.items) (take l.peer-index l.peers) l.copies.items;
+  most : Each (λ peer lacks. AreAllNext l.log.gone (published l.log) peer lacks.items) (take l.peer-index l.peers) l.copies.items;
   next : Each (λ peer lacks. AreNext (published l.log) peer lacks.items) (take l.peer-index l.peers) l.copies.items;
 }

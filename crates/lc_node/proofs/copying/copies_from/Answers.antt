@@ -32,16 +32,16 @@ loop-preserved g c = let inv = c.loop.invariant in let copy = c.in_ok-copy.copy 
       fit = subst (FitBehind c.args.place) (sym {A = List (Vec ℕ)} is)
           (fit_more c.args.place old copy inv.fit (let some = c.in-Some.ensures.some in omega arith) (let within = c.in-Some.ensures.within in let before = inv.here in omega arith));
       behind = subst (AreBehind all c.args.place) (sym {A = List (Vec ℕ)} is)
-          (behind_more all c.args.place c.loop.at old copy inv.behind inv.here (λ count start. ap (λ (l : List ℕ). Some l) same ∙ c.in-Some.ensures.found count start));
+          (behind_more all c.args.place c.loop.at old copy inv.behind inv.here (λ count start. ap (λ (l : List ℕ). Some l) same ∙ c.in-Some.ensures.found count c.in-Some.ensures.kept start));
       next = λ count start. let again : count + length old + 1 ≡ count + length c.push_back_reserved.new.self.items = omega arith in let at_same : c.loop.at + length c.in-Some.words.now ≡ c.loop.at + c.len-at.result = omega arith in
           subst (λ (k : ℕ). IsStart all k (c.loop.at + c.len-at.result)) again (subst (λ (a : ℕ). IsStart all (count + length old + 1) a) at_same (c.in-Some.ensures.next (count + length old) (inv.next count start)));
     }
 
 pub returns-in_default-clause-most : goal.returns-in_default-clause-most
-returns-in_default-clause-most g c = λ count start. let n : ℕ = length c.loop.copies.items in let at = c.loop.invariant.next count start in
-    let all : n ≡ length (published c.args.log.now) - count = count_is (published c.args.log.now) count n c.loop.at at (sym (c.in_default.ensures.found (count + n) at)) in
+returns-in_default-clause-most g c = λ kept count start. let n : ℕ = length c.loop.copies.items in let at = c.loop.invariant.next count start in
+    let all : n ≡ length (published c.args.log.now) - count = count_is (published c.args.log.now) count n c.loop.at at (sym (c.in_default.ensures.found (count + n) (let here = c.loop.invariant.here in omega (arith, kept, here)) at)) in
     let many = c.loop.invariant.many in omega arith
 
 pub returns-clause-most : goal.returns-clause-most
-returns-clause-most g c = λ count start. let at = c.loop.invariant.next count start in let many = c.loop.invariant.many in
+returns-clause-most g c = λ kept count start. let at = c.loop.invariant.next count start in let many = c.loop.invariant.many in
     let whole : length (published c.args.log.now) ≡ length at.0 + length at.1 = ap (λ (l : List (List ℕ)). length l) at.2 ∙ length-append at.0 at.1 in let front = at.3 in omega arith

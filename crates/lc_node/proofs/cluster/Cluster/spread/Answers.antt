@@ -18,7 +18,7 @@ spread-spread-requires g c =
 pub returns-clause-spread : goal.returns-clause-spread
 returns-clause-spread g c =
     let log = c.lock-log.result.0 in let old = c.lock-ends.result.0.ends.items in let new = c.spread-spread.new.self.ends.items in
-    IfOk-weaker c.spread-spread.result (λ s. Spreads (published log) old s new) (λ s. SpreadsAt c.args.self.now c.args.node s) (λ s spreads. record {
+    IfOk-weaker c.spread-spread.result (λ s. Spreads log.gone (published log) old s new) (λ s. SpreadsAt c.args.self.now c.args.node s) (λ s spreads. record {
       member = c.member-member.result.now;
       at = c.member-member.ensures.member;
       log = log;
@@ -27,7 +27,7 @@ returns-clause-spread g c =
       wired = c.lock-ends.ensures.fits;
       new = new;
       spreads = spreads;
-    }) (spreads_of (published log) old new c.spread-spread.result c.spread-spread.ensures.prefix c.spread-spread.ensures.each c.spread-spread.ensures.most c.spread-spread.ensures.sent c.spread-spread.ensures.left c.spread-spread.ensures.tokens c.spread-spread.ensures.lines)
+    }) (spreads_of log.gone (published log) old new c.spread-spread.result c.spread-spread.ensures.prefix c.spread-spread.ensures.each c.spread-spread.ensures.most c.spread-spread.ensures.sent c.spread-spread.ensures.left c.spread-spread.ensures.tokens c.spread-spread.ensures.lines)
 
 pub returns-clause-memory : goal.returns-clause-memory
 returns-clause-memory g c =

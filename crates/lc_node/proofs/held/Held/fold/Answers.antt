@@ -6,6 +6,7 @@ use Rattle.lc_node.specs.Truncates.{IsSameHeld}
 use Rattle.lc_node.specs.declared.held.HeldSide.{HeldSide}
 use Rattle.lc_node.proofs.Forwards.{next}
 use Rattle.lc_node.proofs.PagesWritten.{still_held}
+use Rattle.lc_node.proofs.Slots.{each_map}
 use Rattle.lc_node.proofs.held.Held.fold.Goals as goal
 
 pub loop-place-preserved : goal.loop-place-preserved
@@ -14,14 +15,20 @@ loop-place-preserved g c = let h = c.index_mut-held.result.now in
     (let more = c.loop-place-test.true in let len = c.len-place-end.ensures in let ok = c.args.self.now.sides.ok.0 in let long = c.loop-place.invariant.long in omega arith) c.index_mut-held.ensures.value
     (ap (λ s. record h { side = s }) c.fold.ensures.folded)
 
-pub returns-clause-folded : goal.returns-clause-folded
-returns-clause-folded g c = let f = c.loop-place.invariant in record {
+folded_all : goal.returns-clause-folded
+folded_all g c = let f = c.loop-place.invariant in record {
   long = f.long;
   each = λ k x z x_at z_at.
       (let within = slice_get_within c.loop-place.self.sides.items k z z_at in
       let whole = c.loop-place-test.false in let len = c.len-place-end.ensures in let ok = c.args.self.now.sides.ok.0 in let long = f.long in
       f.done k x z (omega arith) x_at z_at);
 }
+
+pub returns-clause-folded : goal.returns-clause-folded
+returns-clause-folded g c = folded_all g c
+
+pub returns-clause-segments : goal.returns-clause-segments
+returns-clause-segments g c = each_map IsFoldedSide (λ (h : HeldSide _). h.side.segment) (λ (h : HeldSide _). h.side.segment) c.args.self.now.sides.items c.loop-place.self.sides.items (folded_all g c) (λ h z is. ap (λ (x : HeldSide _). x.side.segment) is)
 
 pub returns-clause-held : goal.returns-clause-held
 returns-clause-held g c = let f = c.loop-place.invariant in

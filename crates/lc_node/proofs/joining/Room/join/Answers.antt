@@ -1,4 +1,4 @@
-use Rattle.std.proofs.Common.{◌≡◌, ◌++◌, subst, ◌+◌, ◌<◌, length, Some, refl, sym, ap, ◌∙◌, arith}
+use Rattle.std.proofs.Common.{◌≡◌, ◌++◌, false, subst, ◌+◌, ◌<◌, length, Some, refl, sym, ap, ◌∙◌, arith}
 use Rattle.std.specs.Prelude.{slice_get, vec_len}
 use Rattle.lc_lock.specs.Loans.{key_of}
 use Rattle.lc_stage.specs.declared.seats.CommitSeat.{CommitSeat as Seat}
@@ -45,6 +45,8 @@ loop-preserved g c =
           ap (slice_get all.items) (sym next) ∙ inv.nodes (1 + k) opened (left_is c.loop.nodes.items c.remove-node.new.self.items k opened c.remove-node.ensures.items got));
       sized = each_more (λ _ (m : Member g.row.D.Denot). vec_len m.node.segments ≡ c.args.geometry.segments) c.push_reserved.new.self.items c.loop.members.items member c.loop.counter
           c.push_reserved.ensures.items member_count inv.sized (at_each (λ (o : Opened g.row.D.Denot). vec_len o.node.segments ≡ c.args.geometry.segments) all.items c.loop.counter node c.requires.all_segments here);
+      peers = each_more (λ _ (m : Member g.row.D.Denot). m.node.is_alone ≡ false) c.push_reserved.new.self.items c.loop.members.items member c.loop.counter
+          c.push_reserved.ensures.items member_count inv.peers (at_each (λ (o : Opened g.row.D.Denot). o.node.is_alone ≡ false) all.items c.loop.counter node c.requires.peers here);
       numbered = each_more (λ place (m : Member g.row.D.Denot). m.node.number ≡ place) c.push_reserved.new.self.items c.loop.members.items member c.loop.counter
           c.push_reserved.ensures.items member_count inv.numbered (c.requires.numbered c.loop.counter node here);
       each = both_more (λ place (m : Member g.row.D.Denot) (s : Seat). slice_get all.items place ≡ Some (record { node = m.node; seat = s }))
@@ -52,8 +54,8 @@ loop-preserved g c =
           c.push_reserved.ensures.items c.push_reserved-in-loop.ensures.items member_count seat_count inv.each here;
     }
 
-pub invariant_of-result-clause-wired : goal.invariant_of-result-clause-wired
-invariant_of-result-clause-wired g c =
+pub invariant_of-cluster-clause-wired : goal.invariant_of-cluster-clause-wired
+invariant_of-cluster-clause-wired g c =
     let inv = c.loop.invariant in
     let all : vec_len c.loop.members ≡ vec_len c.args.nodes = (let count = inv.member_count in let left = inv.nodes_left in let test = c.loop-test.false in let end = c.len-end.ensures in omega arith) in
     let none : length c.loop.posts.items ≡ 0 = (let left = inv.posts_left in let ok = c.loop.posts.ok.0 in let count = inv.member_count in let test = c.loop-test.false in let end = c.len-end.ensures in omega arith) in

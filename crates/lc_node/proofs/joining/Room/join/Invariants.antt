@@ -1,4 +1,4 @@
-use Rattle.std.proofs.Common.{◌≡◌, ◌≤◌, ◌+◌, ◌++◌, ℕ, All, Some, vec_len, vec_capacity}
+use Rattle.std.proofs.Common.{◌≡◌, ◌≤◌, ◌+◌, ◌++◌, ℕ, false, All, Some, vec_len, vec_capacity}
 use Rattle.std.specs.Prelude.{slice_get}
 use Rattle.lc_stage.specs.declared.seats.CommitSeat.{CommitSeat as Seat}
 use Rattle.lc_node.specs.Keys.{HasOneKey, HasOwnKey, wired_by, wired_in}
@@ -19,6 +19,7 @@ invariant-loop g l = record {
   own_key : All HasOwnKey l.members.items;
   nodes : (k : ℕ) (opened : Opened g.row.D.Denot) → slice_get l.nodes.items k ≡ Some opened → slice_get l.fn.nodes.items (l.counter + k) ≡ Some opened;
   sized : (place : ℕ) (member : Member g.row.D.Denot) → slice_get l.members.items place ≡ Some member → vec_len member.node.segments ≡ l.fn.geometry.segments;
+  peers : (place : ℕ) (member : Member g.row.D.Denot) → slice_get l.members.items place ≡ Some member → member.node.is_alone ≡ false;
   numbered : (place : ℕ) (member : Member g.row.D.Denot) → slice_get l.members.items place ≡ Some member → member.node.number ≡ place;
   each : (place : ℕ) (member : Member g.row.D.Denot) (seat : Seat) → slice_get l.members.items place ≡ Some member → slice_get l.seats.items place ≡ Some seat
       → slice_get l.fn.nodes.items place ≡ Some (record { node = member.node; seat = seat });

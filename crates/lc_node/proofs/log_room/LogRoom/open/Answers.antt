@@ -1,11 +1,16 @@
-use Rattle.std.proofs.Common.{◌≡◌, ◌≤◌, ℕ, List, [], length, sym, ap, subst, ◌∙◌, arith, vec_capacity}
+use Rattle.std.proofs.Common.{◌≡◌, ◌≤◌, ◌++◌, ℕ, List, [], length, sym, ap, subst, ◌∙◌, arith, vec_capacity}
 use Rattle.std.specs.List.{concat}
 use Rattle.lc_stage.specs.declared.view.View.{View}
 use Rattle.lc_stage.specs.Staging.{flusher, open_count, AreRecords}
 use Rattle.lc_stage.specs.Seats.{flush_view}
 use Rattle.lc_trunc.specs.KnownClean.{known}
 use Rattle.lc_trunc.specs.Reset.{AreKnown}
+use Rattle.lc_ended.specs.Ended.{Kept}
+use Rattle.lc_ended.specs.Left.{IsLeft}
+use Rattle.lc_ended.proofs.Leaving.{left-none}
+use Rattle.lc_node.specs.Published.{records_of}
 use Rattle.lc_node.proofs.Knowing.{none_ended}
+use Rattle.lc_node.proofs.Published.{none_counted}
 use Rattle.lc_node.proofs.Rounds.{no_records}
 use Rattle.lc_node.proofs.log_room.LogRoom.open.Goals as goal
 
@@ -25,8 +30,10 @@ invariant_of-fill g c =
       clear = ap (λ (v : View). v.ended_cleared) is ∙ sym (ap (λ (v : View). v.ended) is);
       uncleared = ap (λ (v : View). v.cleared) is;
       records = subst AreRecords (sym self.empty) no_records;
-      ended = self.none_ended ∙ ap (λ (v : View). concat v.past) (sym is);
-      ended_records = subst AreRecords (sym self.none_ended) no_records;
+      left = subst (λ (p : List (List ℕ)). IsLeft p c.new-2.result self.ended.gone self.ended.words) (sym (ap (λ (v : View). v.past) is))
+          (subst (λ (e : Kept). IsLeft [] c.new-2.result e.gone e.words) (sym self.none_ended) (left-none c.new-2.result));
+      small = (let gone : self.ended.gone ≡ 0 = ap (λ (e : Kept). e.gone) self.none_ended in let long : length self.ended.words ≡ 0 = ap (λ (e : Kept). length e.words) self.none_ended in omega (arith, gone, long));
+      counted = none_counted ∙ (ap (λ (l : List ℕ). length (records_of l)) (sym self.empty) ∙ ap (λ (v : View). length (records_of (concat v.past ++ self.stable.items))) (sym is));
       past_records = none_ended AreRecords (flush_view self.flusher).past (ap (λ (v : View). v.past) is);
       published = (let p : (flush_view self.flusher).published ≡ 0 = ap (λ (v : View). v.published) is in omega (arith, p));
       clean = none_ended (λ (words : List ℕ). AreKnown words (known c.new-2.result)) (flush_view self.flusher).past (ap (λ (v : View). v.past) is);

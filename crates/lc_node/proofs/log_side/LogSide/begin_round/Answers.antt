@@ -1,4 +1,4 @@
-use Rattle.std.proofs.Common.{rules, ◌≡◌, ◌≢◌, ℕ, List, [], ◌∷◌, ◌++◌, ◌+◌, ◌≤◌, All, length, refl, sym, ap, subst, ◌∙◌, arith, length-append, vec_capacity}
+use Rattle.std.proofs.Common.{rules, ◌≡◌, ◌≢◌, ℕ, List, [], ◌∷◌, ◌++◌, ◌+◌, ◌≤◌, All, length, refl, sym, ap, subst, ◌∙◌, arith, length-append}
 use Rattle.lc_stage.specs.declared.view.View.{View}
 use Rattle.lc_stage.specs.Staging.{AreRecords}
 use Rattle.lc_stage.specs.Seats.{flush_view}
@@ -6,8 +6,10 @@ use Rattle.std.proofs.lemmas.List.Elements.{All-append}
 use Rattle.lc_trunc.specs.KnownClean.{known}
 use Rattle.lc_trunc.specs.Reset.{AreKnown}
 use Rattle.lc_node.proofs.Knowing.{all_alone}
-use Rattle.lc_node.proofs.FlushKeeps.{at_rest, records_append, reset_fails}
-use Rattle.lc_node.proofs.Published.{ends, moved}
+use Rattle.lc_node.proofs.FlushKeeps.{at_rest, reset_fails}
+use Rattle.lc_node.proofs.EndedRecords.{AreOf, records_known, spelled}
+use Rattle.lc_node.proofs.LeftWords.{left-reset, published-same}
+use Rattle.lc_ended.specs.Ended.{Kept}
 use Rattle.lc_node.specs.Ended.{HasRoom}
 use Rattle.lc_node.specs.Published.{published}
 use Rattle.lc_node.proofs.Rounds.{Reopened, reopened, to_clear, no_records}
@@ -26,7 +28,9 @@ invariant_of-self-in-Ok-reset_sync g c = let inv = c.self.invariant in let v : V
     let held = at_rest g.D.Area c.self.inside.log c.in-Idle.log _ v.taken _ inv.holds (sym c.replace.ensures.value ∙ c.in-Idle.is) in
     let o : Reopened v w = reopened v v3 _ w c.publish.ensures.published c.in-Ok-reopen.ensures.ok (c.clear.ensures.before (to_clear v v3 _ c.publish.ensures.published c.in-Ok-reopen.ensures.ok inv.uncleared (let n : (flush_view c.self.inside.flusher).sealed_at ≡ length c.self.inside.stable.items = subst (λ (x : LogView g.row.D.Denot). (flush_view x.flusher).sealed_at ≡ length x.stable) (sym c.self.view_is) c.requires.sealed.1 in let m = some in omega arith))) in
     let none : c.clear-in-Ok-reset_sync.new.self.items ≡ [] = c.clear-in-Ok-reset_sync.ensures.items in
-    let more_ended : c.extend.new.ended.items ≡ c.self.inside.ended.items ++ c.self.inside.stable.items = c.extend.ensures.words ∙ ap (λ (l : List ℕ). c.self.inside.ended.items ++ l) c.as_slice.ensures.value in
+    let more_ended : c.extend.new.self.words ≡ c.self.inside.ended.words ++ c.self.inside.stable.items = ap (λ (e : Kept). e.words) c.extend.ensures ∙ ap (λ (l : List ℕ). c.self.inside.ended.words ++ l) c.as_slice.ensures.value in
+    let same_gone : c.extend.new.self.gone ≡ c.self.inside.ended.gone = ap (λ (e : Kept). e.gone) c.extend.ensures in
+    let its : AreOf c.self.inside.stable.items = spelled c.self.inside.stable.items inv.records in
     let closing = c.in-Ok.ensures in let synced = c.in-Ok-reset_sync.ensures in
     let more : length w.past ≡ length v.past + 1 = ap (λ (l : List (List ℕ)). length l) o.past ∙ length-append v.past (v.taken ∷ []) in
     let at = inv.at_round in let few : length v.taken ≤ v.room = c.self.inside.flusher.in_room in let room = o.same_room in record {
@@ -40,8 +44,12 @@ invariant_of-self-in-Ok-reset_sync g c = let inv = c.self.invariant in let v : V
       uncleared = o.uncleared;
       clean = subst (All (λ (words : List ℕ). AreKnown words (known c.self.inside.known))) (sym o.past) (All-append (λ (words : List ℕ). AreKnown words (known c.self.inside.known)) v.past (v.taken ∷ []) inv.clean (all_alone (λ (words : List ℕ). AreKnown words (known c.self.inside.known)) v.taken (subst (λ (l : List ℕ). AreKnown l (known c.self.inside.known)) held.0 known_all)));
       records = subst AreRecords (sym none) no_records;
-      ended = ends c.self.inside.ended.items c.self.inside.stable.items v.taken c.extend.new.ended.items v.past w.past more_ended inv.ended held.0 o.past;
-      ended_records = subst AreRecords (sym more_ended) (records_append c.self.inside.ended.items c.self.inside.stable.items inv.ended_records inv.records);
+      left = left-reset v.past w.past c.self.inside.known c.self.inside.ended.gone c.extend.new.self.gone c.self.inside.ended.words c.self.inside.stable.items v.taken c.extend.new.self.words inv.left its
+          (records_known c.self.inside.known c.self.inside.stable.items its known_all) held.0 o.past more_ended same_gone;
+      small = (let old = inv.small in let long : length c.extend.new.self.words ≡ length c.self.inside.ended.words + length c.self.inside.stable.items = ap length more_ended ∙ length-append c.self.inside.ended.words c.self.inside.stable.items in
+          let all : length c.self.inside.stable.items ≡ length v.taken = ap (λ (l : List ℕ). length l) held.0 in
+          let wide = c.args.stage.now.wide in let narrow = c.self.inside.flusher.of_table in let own : c.self.inside.flusher.seat.table_id.words ≡ c.args.stage.now.table.shared.table_id.words = ap (λ l. l.flusher.seat.table_id.words) c.self.view_is ∙ ap (λ t. t.words) c.requires.own.0 in omega arith);
+      counted = inv.counted ∙ ap (λ (l : List (List ℕ)). length l) (sym (published-same v.past w.past v.taken c.self.inside.stable.items c.clear-in-Ok-reset_sync.new.self.items o.past held.0 none));
       past_records = subst (All AreRecords) (sym o.past) (All-append AreRecords v.past (v.taken ∷ []) inv.past_records (all_alone AreRecords v.taken (subst AreRecords held.0 inv.records)));
       published = (let a = o.published in let wide = c.args.stage.now.wide in let narrow = c.self.inside.flusher.of_table in let own : c.self.inside.flusher.seat.table_id.words ≡ c.args.stage.now.table.shared.table_id.words = ap (λ l. l.flusher.seat.table_id.words) c.self.view_is ∙ ap (λ t. t.words) c.requires.own.0 in omega arith);
       holds = (
@@ -66,6 +74,7 @@ invariant_of-self g c = let inv = c.self.invariant in let v : View = flush_view 
       same_ended = refl;
       same_round = refl;
       same_known = refl;
+      same_count = refl;
       steps = steps_publishes v z c.publish.ensures.published;
       published = published_to c.self.inside.stable.items v z c.self.inside.round c.publish.ensures.published held.0 inv.at_round;
       holds = (
@@ -85,6 +94,7 @@ invariant_of-self-in-Err-reset_sync g c = let inv = c.self.invariant in let v : 
       same_ended = refl;
       same_round = refl;
       same_known = refl;
+      same_count = refl;
       steps = steps_publishes v z c.publish.ensures.published;
       published = published_to c.self.inside.stable.items v z c.self.inside.round c.publish.ensures.published held.0 inv.at_round;
       holds = (
@@ -95,16 +105,27 @@ invariant_of-self-in-Err-reset_sync g c = let inv = c.self.invariant in let v : 
       );
     })
 
-pub extend-requires : goal.extend-requires
-extend-requires g c = let v : View = flush_view c.self.inside.flusher in
+pub extend-requires-clause-room : goal.extend-requires-clause-room
+extend-requires-clause-room g c = let v : View = flush_view c.self.inside.flusher in
     let held = at_rest g.D.Area c.self.inside.log c.in-Idle.log _ v.taken _ c.self.invariant.holds (sym c.replace.ensures.value ∙ c.in-Idle.is) in
-    let room : length c.self.inside.ended.items + v.room ≤ vec_capacity c.self.inside.ended = subst (λ (x : LogView g.row.D.Denot). HasRoom x) (sym c.self.view_is) c.requires.room in
+    let room : v.room ≤ c.self.inside.ended.room = subst (λ (x : LogView g.row.D.Denot). HasRoom x) (sym c.self.view_is) c.requires.room in
     let few : length v.taken ≤ v.room = c.self.inside.flusher.in_room in let all : length c.self.inside.stable.items ≡ length v.taken = ap (λ (l : List ℕ). length l) held.0 in
     let same : length c.as_slice.result.now ≡ length c.self.inside.stable.items = ap (λ (l : List ℕ). length l) c.as_slice.ensures.value in
     omega arith
 
+pub extend-requires-clause-small : goal.extend-requires-clause-small
+extend-requires-clause-small g c = let v : View = flush_view c.self.inside.flusher in
+    let held = at_rest g.D.Area c.self.inside.log c.in-Idle.log _ v.taken _ c.self.invariant.holds (sym c.replace.ensures.value ∙ c.in-Idle.is) in
+    let few : length v.taken ≤ v.room = c.self.inside.flusher.in_room in let all : length c.self.inside.stable.items ≡ length v.taken = ap (λ (l : List ℕ). length l) held.0 in
+    let same : length c.as_slice.result.now ≡ length c.self.inside.stable.items = ap (λ (l : List ℕ). length l) c.as_slice.ensures.value in
+    let small = c.self.invariant.small in let rounds = c.self.invariant.few_rounds in
+    let wide = c.args.stage.now.wide in let narrow = c.self.inside.flusher.of_table in let own : c.self.inside.flusher.seat.table_id.words ≡ c.args.stage.now.table.shared.table_id.words = ap (λ l. l.flusher.seat.table_id.words) c.self.view_is ∙ ap (λ t. t.words) c.requires.own.0 in
+    omega arith
+
 pub returns-in-Ok-reopen-clause-published : goal.returns-in-Ok-reopen-clause-published
-returns-in-Ok-reopen-clause-published g c =
-    let more_ended : c.extend.new.ended.items ≡ c.self.inside.ended.items ++ c.self.inside.stable.items = c.extend.ensures.words ∙ ap (λ (l : List ℕ). c.self.inside.ended.items ++ l) c.as_slice.ensures.value in
-    moved c.self.inside.ended.items c.self.inside.stable.items c.extend.new.ended.items c.clear-in-Ok-reset_sync.new.self.items more_ended c.clear-in-Ok-reset_sync.ensures.items
+returns-in-Ok-reopen-clause-published g c = let inv = c.self.invariant in let v : View = flush_view c.self.inside.flusher in let v3 : View = flush_view c.publish.new.flusher in let w : View = flush_view c.clear.new.flusher in
+    let some = has_some c.self.inside.stable.items (subst (λ (x : LogView g.row.D.Denot). x.stable ≢ []) (sym c.self.view_is) c.requires.can.0.1) in
+    let held = at_rest g.D.Area c.self.inside.log c.in-Idle.log _ v.taken _ inv.holds (sym c.replace.ensures.value ∙ c.in-Idle.is) in
+    let o : Reopened v w = reopened v v3 _ w c.publish.ensures.published c.in-Ok-reopen.ensures.ok (c.clear.ensures.before (to_clear v v3 _ c.publish.ensures.published c.in-Ok-reopen.ensures.ok inv.uncleared (let n : (flush_view c.self.inside.flusher).sealed_at ≡ length c.self.inside.stable.items = subst (λ (x : LogView g.row.D.Denot). (flush_view x.flusher).sealed_at ≡ length x.stable) (sym c.self.view_is) c.requires.sealed.1 in let m = some in omega arith))) in
+    published-same v.past w.past v.taken c.self.inside.stable.items c.clear-in-Ok-reset_sync.new.self.items o.past held.0 c.clear-in-Ok-reset_sync.ensures.items
     ∙ ap (λ (x : LogView g.row.D.Denot). published x) c.self.view_is

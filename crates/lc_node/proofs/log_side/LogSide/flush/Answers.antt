@@ -1,5 +1,4 @@
-use Rattle.std.proofs.Common.{rules, ◌≡◌, ◌-◌, ◌<◌, ◌++◌, ℕ, List, take, drop, [], length, All, inr, refl, sym, ap, ◌∙◌, subst, arith}
-use Rattle.std.specs.List.{concat}
+use Rattle.std.proofs.Common.{rules, ◌≡◌, ◌-◌, ◌+◌, ◌^◌, ◌<◌, ◌++◌, ℕ, List, take, drop, [], length, All, inr, refl, sym, ap, ◌∙◌, subst, arith}
 use Rattle.lc_stage.specs.declared.view.View.{View}
 use Rattle.lc_stage.specs.Seats.{flush_view}
 use Rattle.lc_stage.specs.Staging.{AreRecords}
@@ -13,10 +12,34 @@ use Rattle.lc_node.specs.Flushes.{Flushes}
 use Rattle.lc_node.specs.LogSide.{area_of, log_view}
 use Rattle.lc_node.specs.LogView.{LogView}
 use Rattle.lc_node.specs.declared.log_state.LogState.TheVariants.{Idle}
-use Rattle.lc_node.proofs.Published.{flush_publishes, no_record_in_front, tail_is}
+use Rattle.lc_node.proofs.Published.{count_fits, counts_more, flush_publishes, no_record_in_front, tail_is}
 use Rattle.lc_node.proofs.SideKeeps.{goes, steps_publishes, steps_takes, steps_twice}
 use Rattle.lc_node.proofs.FlushKeeps.{at_rest, flush_fails, takes_and_publishes, records_append}
+use Rattle.lc_node.proofs.LeftWords.{left-long, left-same}
 use Rattle.lc_node.proofs.log_side.LogSide.flush.Goals as goal
+
+pub overflow_add-self : goal.overflow_add-self
+overflow_add-self g c =
+    let v : View = flush_view c.self.inside.flusher in let w : View = flush_view c.take-words.new.flusher in let z : View = flush_view c.publish-in-Ok.new.flusher in let inv = c.self.invariant in
+    let same = takes_and_publishes v w z c.take-words.ensures.takes c.publish-in-Ok.ensures.published in
+    let held = at_rest g.D.Area c.self.inside.log c.in-Idle.log _ v.taken _ inv.holds (sym c.replace.ensures.value ∙ c.in-Idle.is) in
+    let words : List ℕ = c.take-words.new.group.words in
+    let taken : z.taken ≡ w.taken = ap (λ (y : View). y.taken) c.publish-in-Ok.ensures.published in
+    let all : c.keep.new.stable.items ≡ z.taken = c.keep.ensures.words ∙ (ap (λ (l : List ℕ). l ++ words) held.0 ∙ (sym c.take-words.ensures.words ∙ sym taken)) in
+    let behind : take (length c.deref.result.now - c.len-start.result) (drop c.len-start.result c.deref.result.now) ≡ words = tail_is c.deref.result.now c.self.inside.stable.items words c.len-start.result (c.deref.ensures.value ∙ c.keep.ensures.words) (search rules) in
+    let front : AreInFront words (length words) c.count_in_front-count.result = subst (λ (y : List ℕ × ℕ). AreInFront y.0 y.1 c.count_in_front-count.result) (λ k. (behind k, c.take-words.ensures.len k)) c.count_in_front-count.ensures in
+    let counted = counts_more (log_view g.D.Area c.self.inside) v.past c.keep.new.stable.items words c.self.inside.count c.count_in_front-count.result inv.counted inv.past_records inv.records front c.keep.ensures.words refl in
+    let small = inv.small in
+    let long = left-long v.past c.self.inside.known c.self.inside.ended.gone c.self.inside.ended.words inv.left in
+    let fits = c.publish-in-Ok.new.flusher.in_room in
+    let room = same.same_room in
+    let wide = c.args.stage.now.wide in
+    let narrow = c.self.inside.flusher.of_table in
+    let own : c.self.inside.flusher.seat.table_id.words ≡ c.args.stage.now.table.shared.table_id.words = ap (λ l. l.flusher.seat.table_id.words) c.self.view_is ∙ ap (λ t. t.words) c.requires.own in
+    let same_long : length c.keep.new.stable.items ≡ length z.taken = ap (λ (l : List ℕ). length l) all in
+    let few : c.self.inside.count + c.count_in_front-count.result < 2 ^ 64 =
+    count_fits v.past c.keep.new.stable.items (c.self.inside.count + c.count_in_front-count.result) c.self.inside.round counted (omega (arith, small, long)) inv.few_rounds (omega (arith, same_long, fits, room, wide, narrow, own)) in
+    omega (arith, few)
 
 pub publish-requires-in-Ok-clause-stable : goal.publish-requires-in-Ok-clause-stable
 publish-requires-in-Ok-clause-stable g c = let ws : List ℕ = c.take-words.new.group.words in let taken : List ℕ = (flush_view c.self.inside.flusher).taken in let some : 0 < length ws = omega (arith, c.take-words.ensures.len, c.if-words-eq0.false) in
@@ -40,8 +63,13 @@ invariant_of-self-in-Ok g c = let v : View = flush_view c.self.inside.flusher in
       uncleared = same.same_cleared ∙ inv.uncleared;
       clean = subst (All (λ (words : List ℕ). AreKnown words (known c.self.inside.known))) (sym same.same_past) inv.clean;
       records = subst AreRecords (sym c.keep.ensures.words) (records_append _ _ inv.records c.take-words.ensures.records);
-      ended = inv.ended ∙ ap concat (sym same.same_past);
-      ended_records = inv.ended_records;
+      left = left-same v.past z.past c.self.inside.known c.self.inside.known c.self.inside.ended c.self.inside.ended inv.left same.same_past refl refl;
+      small = inv.small;
+      counted =
+          (let words : List ℕ = c.take-words.new.group.words in
+          let behind : take (length c.deref.result.now - c.len-start.result) (drop c.len-start.result c.deref.result.now) ≡ words = tail_is c.deref.result.now c.self.inside.stable.items words c.len-start.result (c.deref.ensures.value ∙ c.keep.ensures.words) (search rules) in
+          let front : AreInFront words (length words) c.count_in_front-count.result = subst (λ (z : List ℕ × ℕ). AreInFront z.0 z.1 c.count_in_front-count.result) (λ k. (behind k, c.take-words.ensures.len k)) c.count_in_front-count.ensures in
+          counts_more (log_view g.D.Area c.self.inside) z.past c.keep.new.stable.items words c.self.inside.count c.count_in_front-count.result inv.counted inv.past_records inv.records front c.keep.ensures.words same.same_past);
       past_records = subst (All AreRecords) (sym same.same_past) inv.past_records;
       published = (let a = same.published in let b = inv.at_round in let d : length c.keep.new.stable.items ≡ length z.taken = ap (λ (l : List ℕ). length l) all in omega arith);
       holds = (all, subst (λ (l : List ℕ). HoldsTaken g.D.Area c.in-Ok.log.area c.in-Ok.log.end l) (sym taken) (subst (λ (l : List ℕ). HoldsTaken g.D.Area c.in-Ok.log.area c.in-Ok.log.end l) (sym c.take-words.ensures.words) (flush_holds g.D.Area c.in-Idle.log.area c.in-Ok.log.area c.in-Idle.log.end c.in-Ok.log.end v.taken c.take-words.new.group.words held.1 c.take-words.ensures.records (omega (arith, c.take-words.ensures.len, c.if-words-eq0.false)) c.in-Ok.ensures.device c.in-Ok.ensures.end c.in-Ok.ensures.flushed)), (let fits = held.2 in let long = (c.in-Ok.ensures.device).same_length in let b = same.same_room in omega arith));
@@ -62,6 +90,7 @@ invariant_of-self-then-words-eq0 g c = let v : View = flush_view c.self.inside.f
       same_ended = refl;
       same_round = refl;
       same_known = refl;
+      same_count = refl;
       steps = steps_twice v w z (steps_takes v w c.take-words.ensures.takes) (steps_publishes w z c.publish.ensures.published);
       published = (let a = same.published in let b = inv.at_round in let d : length c.self.inside.stable.items ≡ length z.taken = ap (λ (l : List ℕ). length l) all in omega arith);
       holds = (
@@ -82,6 +111,7 @@ invariant_of-self-in-Err g c = let v : View = flush_view c.self.inside.flusher i
       same_ended = refl;
       same_round = refl;
       same_known = refl;
+      same_count = refl;
       steps = steps_takes v w c.take-words.ensures.takes;
       published = (let old = inv.published in let same : w.published ≡ v.published = ap (λ (y : View). y.published) c.take-words.ensures.takes.1 in omega arith);
       holds = (
@@ -98,11 +128,13 @@ pub returns-in-Ok-clause-published : goal.returns-in-Ok-clause-published
 returns-in-Ok-clause-published g c = let words : List ℕ = c.take-words.new.group.words in
     let behind : take (length c.deref.result.now - c.len-start.result) (drop c.len-start.result c.deref.result.now) ≡ words = tail_is c.deref.result.now c.self.inside.stable.items words c.len-start.result (c.deref.ensures.value ∙ c.keep.ensures.words) (search rules) in
     let front : AreInFront words (length words) c.count_in_front-count.result = subst (λ (z : List ℕ × ℕ). AreInFront z.0 z.1 c.count_in_front-count.result) (λ k. (behind k, c.take-words.ensures.len k)) c.count_in_front-count.ensures in
-    flush_publishes (log_view g.D.Area c.self.inside) _ c.keep.new.stable.items words c.count_in_front-count.result c.self.view_is c.self.invariant.ended_records c.self.invariant.records front c.keep.ensures.words
+    flush_publishes (log_view g.D.Area c.self.inside) _ (flush_view c.publish-in-Ok.new.flusher).past c.keep.new.stable.items words c.count_in_front-count.result c.self.view_is c.self.invariant.past_records c.self.invariant.records front c.keep.ensures.words
+    (takes_and_publishes (flush_view c.self.inside.flusher) (flush_view c.take-words.new.flusher) (flush_view c.publish-in-Ok.new.flusher) c.take-words.ensures.takes c.publish-in-Ok.ensures.published).same_past
 
 pub returns-then-words-eq0-clause-published : goal.returns-then-words-eq0-clause-published
 returns-then-words-eq0-clause-published g c =
-    flush_publishes (log_view g.D.Area c.self.inside) _ c.self.inside.stable.items [] 0 c.self.view_is c.self.invariant.ended_records c.self.invariant.records no_record_in_front (sym (append-nil c.self.inside.stable.items))
+    flush_publishes (log_view g.D.Area c.self.inside) _ (flush_view c.publish.new.flusher).past c.self.inside.stable.items [] 0 c.self.view_is c.self.invariant.past_records c.self.invariant.records no_record_in_front (sym (append-nil c.self.inside.stable.items))
+    (takes_and_publishes (flush_view c.self.inside.flusher) (flush_view c.take-words.new.flusher) (flush_view c.publish.new.flusher) c.take-words.ensures.takes c.publish.ensures.published).same_past
 
 pub returns-then-words-eq0-clause-flushed : goal.returns-then-words-eq0-clause-flushed
 returns-then-words-eq0-clause-flushed g c = let words : List ℕ = c.take-words.new.group.words in
@@ -116,6 +148,7 @@ returns-then-words-eq0-clause-flushed g c = let words : List ℕ = c.take-words.
       publishes = c.publish.ensures.published;
       stable = sym (ap (λ (l : List ℕ). c.self.inside.stable.items ++ l) none ∙ append-nil c.self.inside.stable.items);
       ended = refl;
+      gone = refl;
       ended_room = refl;
       round = refl;
       known = refl;

@@ -7,6 +7,7 @@ use Rattle.lc_stage.specs.declared.view.View.{View}
 use Rattle.lc_trunc.specs.KnownClean.{known as known_of}
 use Rattle.lc_trunc.specs.Reset.{AreKnown}
 use Rattle.lc_rest.specs.declared.node_part.NodePart.{NodePart}
+use Rattle.lc_ended.specs.Left.{IsLeft}
 use Rattle.lc_node.specs.LeftBy.{AreAllStaged, LeavesLog}
 use Rattle.lc_node.specs.LogSide.{area_of, is_halted, log_view}
 use Rattle.lc_node.specs.LogView.{LogView}
@@ -26,7 +27,7 @@ returns-clause-kept g c =
     let held = at_rest g.D.Area c.self.inside.log c.in-Idle.log _ v.taken _ inv.holds c.in-Idle.is in
     let words : c.in_ok-staged.staged.items ≡ c.take-taken.new.group.words = c.in_ok-staged.ensures.words in
     let count : length c.in_ok-staged.staged.items ≡ c.take-taken.result = ap (λ (l : List ℕ). length l) words ∙ sym c.take-taken.ensures.len in
-    keeps_log g.D.Area c.args.geometry.now _ v.past inv.ended inv.past_records inv.clean inv.records
+    keeps_log g.D.Area c.args.geometry.now _ v.past c.self.inside.ended.gone (subst (IsLeft v.past c.self.inside.known c.self.inside.ended.gone) (sym c.into_words.ensures) inv.left) inv.records
     (subst AreRecords (sym words) c.take-taken.ensures.records)
     (subst (HoldsTaken g.D.Area c.in-Idle.log.area c.in-Idle.log.end) (sym held.0) held.1)
     (omega (arith, count)) (omega arith) inv.few_rounds
@@ -47,7 +48,7 @@ returns-clause-left g c =
     let part : NodePart g.row.D.Denot g.D.Area = record {
       log = c.in-Idle.log;
       round = c.self.inside.round;
-      ended = c.self.inside.ended;
+      ended = c.into_words.result;
       stable = c.self.inside.stable;
       staged = c.in_ok-staged.staged;
       known = c.self.inside.known;
@@ -57,7 +58,7 @@ returns-clause-left g c =
     subst (λ (x : LogView g.row.D.Denot). LeavesLog g.D.Area c.args.stage.now.room x part) c.self.view_is (record {
       area = ap (area_of g.D.Area) c.in-Idle.is;
       round = refl;
-      ended = refl;
+      ended = c.into_words.ensures;
       stable = refl;
       known = refl;
       staged = record {

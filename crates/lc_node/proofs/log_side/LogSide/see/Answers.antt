@@ -1,4 +1,6 @@
-use Rattle.lc_node.proofs.Knowing.{all-seen}
+use Rattle.lc_stage.specs.Seats.{flush_view}
+use Rattle.lc_node.proofs.Knowing.{all-seen, sees-grows}
+use Rattle.lc_ended.proofs.Leaving.{left-sees}
 use Rattle.lc_node.proofs.log_side.LogSide.see.Goals as goal
 
 pub invariant_of-self : goal.invariant_of-self
@@ -14,8 +16,9 @@ invariant_of-self g c = let inv = c.self.invariant in record {
   records = inv.records;
   published = inv.published;
   holds = inv.holds;
-  ended = inv.ended;
-  ended_records = inv.ended_records;
+  left = left-sees (flush_view c.self.inside.flusher).past c.self.inside.known c.see.new.self c.self.inside.ended.gone c.self.inside.ended.words inv.left (sees-grows c.self.inside.known _ c.args.token.now c.see.ensures);
+  small = inv.small;
+  counted = inv.counted;
   past_records = inv.past_records;
   clean = all-seen c.self.inside.known _ c.args.token.now _ c.see.ensures inv.clean;
 }

@@ -1,8 +1,8 @@
-use Rattle.std.proofs.Common.{◌-◌, ◌^◌, min, sym, ap, subst, ◌∙◌}
+use Rattle.std.proofs.Common.{◌-◌, ◌^◌, min, ap, subst, ◌∙◌}
 use Rattle.lc_node.specs.Copies.{AreAllNext, AreNext}
 use Rattle.lc_node.specs.Each.{Each}
 use Rattle.lc_node.specs.Published.{published}
-use Rattle.lc_node.specs.Spread.{ArePrefixes, missing_in}
+use Rattle.lc_node.specs.Spread.{missing_in}
 use Rattle.lc_node.proofs.SentToAll.{most_sent}
 use Rattle.lc_node.proofs.send_ends.SendEnds.spread.Goals as goal
 
@@ -11,11 +11,9 @@ returns-clause-prefix g c = λ before. let all = published c.args.log.now in
     c.send_copies-sent.ensures.prefix all (subst (λ l. Each (λ peer lacks. AreNext all peer lacks.items) l c.in-Ok.copies.items) c.as_slice.ensures.value c.in-Ok.ensures.next) before
 
 pub returns-clause-left : goal.returns-clause-left
-returns-clause-left g c = λ before. let all = published c.args.log.now in
-    let after : ArePrefixes all c.send_copies-sent.new.peers.items = c.send_copies-sent.ensures.prefix all (subst (λ l. Each (λ peer lacks. AreNext all peer lacks.items) l c.in-Ok.copies.items) c.as_slice.ensures.value c.in-Ok.ensures.next) before in
-    c.missing-left.ensures (subst (ArePrefixes all) (sym c.as_slice-2.ensures.value) after) ∙ ap (λ l. min (2 ^ 64 - 1) (missing_in all l)) c.as_slice-2.ensures.value
+returns-clause-left g c = let all = published c.args.log.now in c.missing-left.ensures ∙ ap (λ l. min (2 ^ 64 - 1) (missing_in all l)) c.as_slice-2.ensures.value
 
 pub returns-clause-most : goal.returns-clause-most
-returns-clause-most g c = λ before. let all = published c.args.log.now in
-    most_sent all c.args.self.now.ends.items c.send_copies-sent.new.peers.items c.in-Ok.copies.items c.send_copies-sent.ensures.all
-    (subst (λ l. Each (λ peer lacks. AreAllNext all peer lacks.items) l c.in-Ok.copies.items) c.as_slice.ensures.value c.in-Ok.ensures.most) before
+returns-clause-most g c = λ before kept. let all = published c.args.log.now in
+    most_sent c.args.log.now.gone all c.args.self.now.ends.items c.send_copies-sent.new.peers.items c.in-Ok.copies.items c.send_copies-sent.ensures.all
+    (subst (λ l. Each (λ peer lacks. AreAllNext c.args.log.now.gone all peer lacks.items) l c.in-Ok.copies.items) c.as_slice.ensures.value c.in-Ok.ensures.most) before kept

@@ -90,6 +90,7 @@ loop-number-preserved g c =
       ap commit_view c.open.ensures.seat.1 ∙ its.seat,
       c.open.ensures.room ∙ its.words,
       c.open.ensures.segments ∙ its.count,
+      c.open.ensures.peers,
     ) in
     record {
       rooms_left = omega (arith, c.remove-room.ensures.len, inv.rooms_left);

@@ -1,0 +1,166 @@
+//! Which records are forgotten, and which stay.
+ghost use Rattle.lc_stage.specs.Seats.{commit_view, IsIdle, IsSeatOf};
+
+use crate::act::Act;
+use crate::changing::refused;
+use crate::expect::{equal, holds};
+use crate::pair::left;
+use crate::seats::put;
+use crate::stores::{in_memory, opened, two_segments};
+use lc_disk::Area;
+use lc_node::{Mode, Node, Put};
+use lc_stage::CommitSeat;
+use std::alloc::Global;
+use std::sync::Wait;
+use std::test::*;
+
+const ONE: Put<'static> = Put {
+    segment: 1,
+    offset: 3,
+    bytes: b"first",
+};
+
+const TWO: Put<'static> = Put {
+    segment: 1,
+    offset: 3,
+    bytes: b"other",
+};
+
+// The token of segment 1 begins at the second node.
+const FIRST: u16 = 0;
+
+const SECOND: u16 = 1;
+
+// A record that is sent and not yet applied stays, also where its round has ended; once both have applied it, it goes.
+const APPLIED_AT_ONE: &[(u16, Act)] = &[
+    (SECOND, Act::Commit(ONE)),
+    (SECOND, Act::Trim(0)),
+    (SECOND, Act::Spread),
+    (SECOND, Act::Truncate),
+    (SECOND, Act::Trim(0)),
+];
+
+const APPLIED_AT_BOTH: &[(u16, Act)] = &[
+    (SECOND, Act::Commit(ONE)),
+    (SECOND, Act::Spread),
+    (SECOND, Act::Truncate),
+    (FIRST, Act::Pump),
+    (SECOND, Act::Trim(1)),
+    (SECOND, Act::Trim(0)),
+];
+
+// The record of number 1 is in the log of the second node, which is not emptied; that of number 2 in that of the first, which is.
+const SECOND_NUMBER: &[(u16, Act)] = &[
+    (SECOND, Act::Commit(ONE)),
+    (SECOND, Act::Spread),
+    (SECOND, Act::Give(1)),
+    (FIRST, Act::Pump),
+    (FIRST, Act::Pump),
+    (FIRST, Act::Commit(TWO)),
+    (FIRST, Act::Spread),
+    (SECOND, Act::Pump),
+    (FIRST, Act::Truncate),
+    (FIRST, Act::Trim(0)),
+];
+
+// Once the other is emptied too, its record goes, and then this one.
+const BOTH_NUMBERS: &[(u16, Act)] = &[
+    (SECOND, Act::Commit(ONE)),
+    (SECOND, Act::Spread),
+    (SECOND, Act::Give(1)),
+    (FIRST, Act::Pump),
+    (FIRST, Act::Pump),
+    (FIRST, Act::Commit(TWO)),
+    (FIRST, Act::Spread),
+    (SECOND, Act::Pump),
+    (FIRST, Act::Truncate),
+    (FIRST, Act::Trim(0)),
+    (FIRST, Act::Give(1)),
+    (SECOND, Act::Pump),
+    (SECOND, Act::Truncate),
+    (SECOND, Act::Trim(1)),
+    (FIRST, Act::Trim(1)),
+];
+
+#[test]
+fn what_is_left_comes_up(rt: HostRuntime) -> Result<(), Fail> {
+    let alloc = rt.alloc();
+    for (row, acts) in [
+        ("applied at one", APPLIED_AT_ONE),
+        ("applied at both", APPLIED_AT_BOTH),
+        ("the second number", SECOND_NUMBER),
+        ("both numbers", BOTH_NUMBERS),
+    ] {
+        equal(
+            &rt,
+            &row,
+            &refused(alloc, left(&rt, alloc, 2, acts)?),
+            &None,
+        );
+    }
+    Ok(())
+}
+
+// As many small records as a log of this store has room for, and how many words each has.
+const RECORDS: u32 = 500;
+
+const RECORD_WORDS: usize = 8;
+
+const ROUNDS: u64 = 200;
+
+// Commits so often, and does not wait; the seat, and how many commits were refused.
+fn put_often<D: Area + Drop, R: Wait>(
+    rt: &R,
+    alloc: Global,
+    node: &Node<D>,
+    seat: CommitSeat,
+) -> (CommitSeat, u32)
+    requires own { IsSeatOf node.now.stage seat }
+    requires idle { IsIdle (commit_view seat) }
+    ensures own { IsSeatOf node.now.stage result.0 }
+    ensures idle { IsIdle (commit_view result.0) }
+{
+    let mut seat = seat;
+    let mut refused: u32 = 0;
+    for _ in 0..RECORDS {
+        let (next, done) = put(rt, alloc, node, seat, &[1], ONE, Mode::Lazy);
+        seat = next;
+        refused = refused.saturating_add(u32::from(done.is_err()));
+    }
+    (seat, refused)
+}
+
+#[test]
+fn a_node_alone_forgets_each_round(rt: HostRuntime) -> Result<(), Fail> {
+    let alloc = rt.alloc();
+    let (node, seat) = opened(alloc, two_segments()?, in_memory(alloc)?)?;
+    let mut seat = seat;
+    for round in 1..=ROUNDS {
+        let (next, refused) = put_often(&rt, alloc, &node, seat);
+        seat = next;
+        equal(&rt, &format_args!("refused in round {round}"), &refused, &0);
+        equal(
+            &rt,
+            &format_args!("round {round}"),
+            &node.truncate(&rt, alloc),
+            &Ok(round),
+        );
+    }
+    let (_seat, last) = put(&rt, alloc, &node, seat, &[1], TWO, Mode::Flush);
+    holds(&rt, &"one more is stable", last.is_ok());
+    let gone = RECORDS as usize * ROUNDS as usize;
+    let lock = node.log_lock();
+    let (log, loan) = lock.lock(&rt);
+    for number in 0..gone {
+        let place = number * RECORD_WORDS;
+        holds(
+            &rt,
+            &format_args!("record {number} is gone"),
+            log.record_at(place).is_none(),
+        );
+    }
+    let last = log.record_at(gone * RECORD_WORDS).map(|words| words.len());
+    lock.unlock(log, loan);
+    equal(&rt, &"the words of the last", &last, &Some(RECORD_WORDS));
+    Ok(())
+}
