@@ -2,7 +2,7 @@
 use crate::measurement::{Measurement, Subject};
 use crate::measurements::ALL;
 use crate::rounds::Found;
-use crate::{files, growth, memory, running};
+use crate::{files, growth, memory, resident, running};
 use lc_disk::HeldFile;
 use std::io;
 use std::rt::{Clock, Files};
@@ -76,6 +76,10 @@ where
         Subject::Node => running::in_memory(rt, measurement),
         Subject::Events => {
             growth::measure(rt)?;
+            return Ok(None);
+        }
+        Subject::Resident => {
+            resident::measure(rt)?;
             return Ok(None);
         }
     };

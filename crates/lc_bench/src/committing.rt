@@ -81,8 +81,8 @@ fn commit<R: AllocGlobal + Wait, D: Area + Drop>(
     }
 }
 
-// Commits the first range of a transaction.
-fn put<R: AllocGlobal + Wait, D: Area + Drop>(
+/// Commits the first range of a transaction.
+pub(crate) fn put<R: AllocGlobal + Wait, D: Area + Drop>(
     rt: &R,
     node: &Node<D>,
     seat: CommitSeat,

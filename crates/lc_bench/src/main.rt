@@ -15,6 +15,7 @@ mod measurement;
 mod measurements;
 mod memory;
 mod nodes;
+mod resident;
 mod rounds;
 mod running;
 mod side_by_side;

@@ -29,6 +29,8 @@ pub(crate) enum Subject {
     Node,
     /// A running node in files, where each commit waits until it is stable.
     NodeFiles,
+    /// The memory of running nodes, behind many commits.
+    Resident,
 }
 
 /// What is timed of a round on a store.

@@ -26,7 +26,7 @@ const NODE: Measurement = Measurement {
 };
 
 /// All that there are, in the order in which their names are printed.
-pub(crate) static ALL: [Measurement; 26] = [
+pub(crate) static ALL: [Measurement; 27] = [
     ONE,
     Measurement {
         name: "32-ranges",
@@ -200,6 +200,11 @@ pub(crate) static ALL: [Measurement; 26] = [
         threads: 16,
         segments: 16,
         group: 16,
+        ..NODE
+    },
+    Measurement {
+        name: "resident",
+        subject: Subject::Resident,
         ..NODE
     },
 ];
