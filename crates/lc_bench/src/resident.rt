@@ -1,5 +1,6 @@
 //! How much of the program's memory is resident while commits go on for long.
-ghost use Rattle.std.specs.Prelude.{◌≡◌, ◌+◌, ◌<◌, IfOk, length};
+ghost use Rattle.std.specs.Prelude.{◌≡◌, ◌+◌, ◌<◌, ℕ, IfOk, Some, length, slice_get};
+ghost use Rattle.lc_stage.specs.declared.seats.CommitSeat.{CommitSeat as Seat};
 ghost use Rattle.lc_node.specs.Cluster.{IsSeatAt};
 ghost use Rattle.lc_stage.specs.Seats.{commit_view, IsSeatOf, IsIdle};
 
@@ -133,12 +134,27 @@ fn opened(alloc: Global) -> io::Result<(Cluster<MemArea>, CommitSeat, CommitSeat
 {
     let geometry = TWO.geometry()?;
     let store = recovered(alloc, geometry, zero_areas(alloc, &geometry)?)?;
-    let Ok((cluster, mut seats)) = Cluster::open(alloc, store) else {
-        return Err(Error::from(ErrorKind::OutOfMemory));
-    };
-    if cluster.nodes() != TWO.nodes {
+    match Cluster::open(alloc, store) {
+        Ok((cluster, seats)) => with_two(cluster, seats),
+        Err(_) => Err(Error::from(ErrorKind::OutOfMemory)),
+    }
+}
+
+// The cluster with its seats, where it has two nodes.
+fn with_two(
+    cluster: Cluster<MemArea>,
+    seats: Vec<CommitSeat>,
+) -> io::Result<(Cluster<MemArea>, CommitSeat, CommitSeat)>
+    requires count { length seats.items ≡ length cluster.members.items }
+    requires seats { (node : ℕ) (seat : Seat) → slice_get seats.items node ≡ Some seat → IsSeatAt cluster node seat }
+    ensures nodes { IfOk result (λ made. length made.0.members.items ≡ 2) }
+    ensures first { IfOk result (λ made. IsSeatAt made.0 0 made.1) }
+    ensures second { IfOk result (λ made. IsSeatAt made.0 1 made.2) }
+{
+    if cluster.nodes() != 2 {
         return Err(Error::from(ErrorKind::InvalidData));
     }
+    let mut seats = seats;
     let first = seats.remove(0);
     let second = seats.remove(0);
     Ok((cluster, first, second))

@@ -1,0 +1,18 @@
+use Rattle.std.proofs.Common.{rules, ◌≡◌, ◌<◌, length, arith}
+use Rattle.lc_node.proofs.EachPlace.{first_is, left_is}
+use Rattle.lc_bench.proofs.resident.with_two.Goals as goal
+
+pub returns-clause-first : goal.returns-clause-first
+returns-clause-first c =
+    let two : length c.args.seats.items ≡ 2 = search rules in
+    let some : 0 < length c.args.seats.items = omega (arith, two) in
+    let seat = c.remove-first.result in
+    c.requires.seats 0 seat (first_is c.args.seats.items seat some c.remove-first.ensures.value)
+
+pub returns-clause-second : goal.returns-clause-second
+returns-clause-second c =
+    let two : length c.args.seats.items ≡ 2 = search rules in
+    let left = c.remove-first.new.self in
+    let some : 0 < length left.items = omega (arith, two, c.remove-first.ensures.len, c.args.seats.ok.0, left.ok.0) in
+    let seat = c.remove-second.result in
+    c.requires.seats 1 seat (left_is c.args.seats.items left.items 0 seat c.remove-first.ensures.items (first_is left.items seat some c.remove-second.ensures.value))
