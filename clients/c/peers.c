@@ -166,7 +166,7 @@ static void lite_need(int status)
 
 static void lite_path(const char *folder, char *path)
 {
-    snprintf(path, PATH_BYTES, "%s/lite.db", folder);
+    snprintf(path, PATH_BYTES, "%s.lite", folder);
 }
 
 static void lite_run(sqlite3_stmt *statement)
@@ -284,7 +284,7 @@ static void map_begin(const char *folder)
 {
     char path[PATH_BYTES];
 
-    snprintf(path, sizeof path, "%s/map.mdb", folder);
+    snprintf(path, sizeof path, "%s.map", folder);
     map_need(mdb_env_create(&map));
     map_need(mdb_env_set_mapsize(map, (size_t)16 << 20));
     map_need(mdb_env_open(map, path, MDB_NOSUBDIR | MDB_WRITEMAP | MDB_NOSYNC, 0666));
@@ -386,7 +386,7 @@ enum { STORES = sizeof stores / sizeof stores[0] };
 
 /* ---- the work */
 
-static char folder[PATH_BYTES / 2];
+static char room[PATH_BYTES / 4], folder[PATH_BYTES / 2];
 static struct change changes[MOST_CHANGES];
 static unsigned char read_back[STORES][SEGMENT_BYTES];
 
@@ -547,14 +547,14 @@ static bool agree(void)
     return same;
 }
 
-static void remove_files(const char *room)
+static void remove_files(void)
 {
-    static const char *const names[] = {"lcrvm.store", "lcrvm.clean", "log0", "seg1",        "lite.db",
-                                        "lite.db-wal", "lite.db-shm", "map.mdb", "map.mdb-lock"};
+    static const char *const names[] = {"/lcrvm.store", "/lcrvm.clean", "/log0",     "/seg1", ".lite",
+                                        ".lite-wal",    ".lite-shm",    ".map",      ".map-lock"};
     char path[PATH_BYTES];
 
     for (size_t i = 0; i < sizeof names / sizeof names[0]; i++) {
-        snprintf(path, sizeof path, "%s/%s", folder, names[i]);
+        snprintf(path, sizeof path, "%s%s", folder, names[i]);
         unlink(path);
     }
     rmdir(folder);
@@ -563,7 +563,6 @@ static void remove_files(const char *room)
 
 int main(int count, char *words[])
 {
-    char room[PATH_BYTES / 4];
     const bool is_short = count > 1 && strcmp(words[1], "--short") == 0;
     const int first = is_short ? 2 : 1, rounds = is_short ? 3 : MOST_ROUNDS;
     bool same;
@@ -588,6 +587,6 @@ int main(int count, char *words[])
         measure(&works[i], rounds, is_short);
     same = agree();
     printf("%s\n", same ? "all have the same bytes" : "failed: the bytes differ");
-    remove_files(room);
+    remove_files();
     return same ? 0 : 1;
 }
