@@ -108,6 +108,9 @@ const RECORD_WORDS: usize = 8;
 
 const ROUNDS: u64 = 200;
 
+// How many records go.
+const GONE: usize = 100_000;
+
 // Commits so often, and does not wait; the seat, and how many commits were refused.
 fn put_often<D: Area + Drop, R: Wait>(
     rt: &R,
@@ -130,6 +133,25 @@ fn put_often<D: Area + Drop, R: Wait>(
     (seat, refused)
 }
 
+// How many of the first so many records a log still has, and how many words the next has.
+fn records_behind<D: Area + Drop, R: Wait>(
+    rt: &R,
+    node: &Node<D>,
+    count: usize,
+) -> (u32, Option<usize>) {
+    let lock = node.log_lock();
+    let (log, loan) = lock.lock(rt);
+    let mut there: u32 = 0;
+    for number in 0..count {
+        let is_there = log.record_at(number.wrapping_mul(RECORD_WORDS)).is_some();
+        there = there.saturating_add(u32::from(is_there));
+    }
+    let next = log.record_at(count.wrapping_mul(RECORD_WORDS));
+    let words = next.map(|words| words.len());
+    lock.unlock(log, loan);
+    (there, words)
+}
+
 #[test]
 fn a_node_alone_forgets_each_round(rt: HostRuntime) -> Result<(), Fail> {
     let alloc = rt.alloc();
@@ -148,19 +170,8 @@ fn a_node_alone_forgets_each_round(rt: HostRuntime) -> Result<(), Fail> {
     }
     let (_seat, last) = put(&rt, alloc, &node, seat, &[1], TWO, Mode::Flush);
     holds(&rt, &"one more is stable", last.is_ok());
-    let gone = RECORDS as usize * ROUNDS as usize;
-    let lock = node.log_lock();
-    let (log, loan) = lock.lock(&rt);
-    for number in 0..gone {
-        let place = number * RECORD_WORDS;
-        holds(
-            &rt,
-            &format_args!("record {number} is gone"),
-            log.record_at(place).is_none(),
-        );
-    }
-    let last = log.record_at(gone * RECORD_WORDS).map(|words| words.len());
-    lock.unlock(log, loan);
+    let (there, last) = records_behind(&rt, &node, GONE);
+    equal(&rt, &"records that are there", &there, &0);
     equal(&rt, &"the words of the last", &last, &Some(RECORD_WORDS));
     Ok(())
 }
