@@ -42,6 +42,7 @@ rows='
 300 descriptors tests/descriptors.sh $LCRVM
 300 coprocess tests/coprocess.sh $LCRVM
 300 copies tests/copies.sh $LCRVM
+300 measures tests/measures.sh $LC_C
 300 checks tests/checks.sh $LCRVM
 60 runs tests/runs.sh $LCRVM
 60 proved python3 tests/proved.py

@@ -1,11 +1,12 @@
 /* Measures the same transactions by lcrvm.h, SQLite and LMDB, in alternating rounds, so that anyone can put them side by
-   side. A store is left out where its header was not there when this was compiled.
+   side. A store is left out where its header was not there when this was compiled, or -DWITHOUT_SQLITE or
+   -DWITHOUT_LMDB was said.
 
    usage: peers [--short] [FOLDER]     (FOLDER: where the files stand, by itself where it runs)
 
    Each has 64 pages of 256 bytes; a change is 5 bytes at a random place, from a fixed seed, in a transaction of its own.
    lcrvm has a log of 4,096 words. SQLite has a row a page, in WAL, with `synchronous` off but for a commit that is
-   durable, and writes by incremental blobs. LMDB has a value a page, with a writable map and without syncs but those
+   durable, by prepared statements. LMDB has a value a page, with a writable map and without syncs but those
    that are asked for. A flush makes all commits before it durable. Before an opening with commits in the log a child
    commits, makes that durable, and ends without a close; an opening reads all pages. At the end all have to have the
    same bytes. It takes half a minute.
@@ -25,14 +26,14 @@
 #include <time.h>
 #include <unistd.h>
 
-#if __has_include(<sqlite3.h>)
+#if __has_include(<sqlite3.h>) && !defined WITHOUT_SQLITE
 #define HAS_SQLITE 1
 #include <sqlite3.h>
 #else
 #define HAS_SQLITE 0
 #endif
 
-#if __has_include(<lmdb.h>)
+#if __has_include(<lmdb.h>) && !defined WITHOUT_LMDB
 #define HAS_LMDB 1
 #include <lmdb.h>
 #else
@@ -56,12 +57,6 @@ struct change {
     unsigned char bytes[CHANGE_BYTES];
 };
 
-/* A part of a change, which lies on one page. */
-struct piece {
-    uint32_t page, offset, length;
-    const unsigned char *bytes;
-};
-
 /* What is measured of a store. An opening reads all pages, into `bytes`. A commit is durable where it says so. */
 struct store {
     const char *name;
@@ -79,6 +74,13 @@ static void stop(const char *name, const char *what)
     exit(1);
 }
 
+#if HAS_SQLITE || HAS_LMDB
+/* A part of a change, which lies on one page. */
+struct piece {
+    uint32_t page, offset, length;
+    const unsigned char *bytes;
+};
+
 /* The part of a change from a byte of it on. */
 static struct piece piece_of(const struct change *change, uint32_t from)
 {
@@ -86,6 +88,7 @@ static struct piece piece_of(const struct change *change, uint32_t from)
 
     return (struct piece){at / PAGE_BYTES, at % PAGE_BYTES, left < room ? left : room, change->bytes + from};
 }
+#endif
 
 /* ---- lcrvm */
 
@@ -155,8 +158,7 @@ static void own_empty(void)
 
 #if HAS_SQLITE
 static sqlite3 *lite;
-static sqlite3_blob *lite_page;
-static sqlite3_stmt *lite_begin, *lite_commit, *lite_rollback, *lite_off, *lite_full;
+static sqlite3_stmt *lite_begin, *lite_commit, *lite_rollback, *lite_off, *lite_full, *lite_read, *lite_write;
 
 static void lite_need(int status)
 {
@@ -169,12 +171,16 @@ static void lite_path(const char *folder, char *path)
     snprintf(path, PATH_BYTES, "%s.lite", folder);
 }
 
+/* Takes a step that has to be the last, or one row. */
+static void lite_step(sqlite3_stmt *statement, int wanted)
+{
+    if (sqlite3_step(statement) != wanted)
+        stop("SQLite", sqlite3_errmsg(lite));
+}
+
 static void lite_run(sqlite3_stmt *statement)
 {
-    const int status = sqlite3_step(statement);
-
-    if (status != SQLITE_DONE && status != SQLITE_ROW)
-        lite_need(status);
+    lite_step(statement, SQLITE_DONE);
     lite_need(sqlite3_reset(statement));
 }
 
@@ -205,28 +211,43 @@ static void lite_open(const char *folder, unsigned char *bytes)
 
     lite_path(folder, path);
     lite_need(sqlite3_open(path, &lite));
-    lite_need(sqlite3_exec(lite, "PRAGMA synchronous = OFF", NULL, NULL, NULL));
     lite_prepare("BEGIN IMMEDIATE", &lite_begin);
     lite_prepare("COMMIT", &lite_commit);
     lite_prepare("ROLLBACK", &lite_rollback);
     lite_prepare("PRAGMA synchronous = OFF", &lite_off);
     lite_prepare("PRAGMA synchronous = FULL", &lite_full);
+    lite_prepare("SELECT bytes FROM page WHERE number = ?1", &lite_read);
+    lite_prepare("UPDATE page SET bytes = ?2 WHERE number = ?1", &lite_write);
+    lite_run(lite_off);
     lite_prepare("SELECT number, bytes FROM page", &pages);
     while (sqlite3_step(pages) == SQLITE_ROW)
         memcpy(bytes + PAGE_BYTES * sqlite3_column_int(pages, 0), sqlite3_column_blob(pages, 1), PAGE_BYTES);
     lite_need(sqlite3_finalize(pages));
-    lite_need(sqlite3_blob_open(lite, "main", "page", "bytes", 0, 1, &lite_page));
 }
 
 static void lite_close(void)
 {
-    sqlite3_stmt *const all[] = {lite_begin, lite_commit, lite_rollback, lite_off, lite_full};
+    sqlite3_stmt *const all[] = {lite_begin, lite_commit, lite_rollback, lite_off, lite_full, lite_read, lite_write};
 
-    lite_need(sqlite3_blob_close(lite_page));
     for (size_t i = 0; i < sizeof all / sizeof all[0]; i++)
         lite_need(sqlite3_finalize(all[i]));
     lite_need(sqlite3_close(lite));
     lite = NULL;
+}
+
+/* Reads the page, and writes it with the bytes of the piece. */
+static void lite_set(const struct piece *piece)
+{
+    unsigned char bytes[PAGE_BYTES];
+
+    lite_need(sqlite3_bind_int(lite_read, 1, (int)piece->page));
+    lite_step(lite_read, SQLITE_ROW);
+    memcpy(bytes, sqlite3_column_blob(lite_read, 0), PAGE_BYTES);
+    lite_need(sqlite3_reset(lite_read));
+    memcpy(bytes + piece->offset, piece->bytes, piece->length);
+    lite_need(sqlite3_bind_int(lite_write, 1, (int)piece->page));
+    lite_need(sqlite3_bind_blob(lite_write, 2, bytes, PAGE_BYTES, SQLITE_STATIC));
+    lite_run(lite_write);
 }
 
 static void lite_change(const struct change *change)
@@ -235,8 +256,7 @@ static void lite_change(const struct change *change)
     for (uint32_t from = 0; from < CHANGE_BYTES;) {
         const struct piece piece = piece_of(change, from);
 
-        lite_need(sqlite3_blob_reopen(lite_page, piece.page));
-        lite_need(sqlite3_blob_write(lite_page, piece.bytes, (int)piece.length, (int)piece.offset));
+        lite_set(&piece);
         from += piece.length;
     }
 }
@@ -254,17 +274,12 @@ static void lite_commits(const struct change *change, bool durable)
 static void lite_aborts(const struct change *change)
 {
     lite_change(change);
-    /* A blob that is open would keep the rollback from its end. */
-    lite_need(sqlite3_blob_close(lite_page));
     lite_run(lite_rollback);
-    lite_need(sqlite3_blob_open(lite, "main", "page", "bytes", 0, 1, &lite_page));
 }
 
 static void lite_empty(void)
 {
-    lite_need(sqlite3_blob_close(lite_page));
     lite_need(sqlite3_wal_checkpoint_v2(lite, NULL, SQLITE_CHECKPOINT_TRUNCATE, NULL, NULL));
-    lite_need(sqlite3_blob_open(lite, "main", "page", "bytes", 0, 1, &lite_page));
 }
 #endif
 

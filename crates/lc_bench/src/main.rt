@@ -16,6 +16,7 @@ mod measurements;
 mod memory;
 mod nodes;
 mod resident;
+mod ring;
 mod rounds;
 mod running;
 mod side_by_side;
