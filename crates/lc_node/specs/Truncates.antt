@@ -108,12 +108,12 @@ module _ {D : Type 0} (a : Ghosts D) where
   abbrev pub TruncatesInRoom : ℕ → LogView D → List (HeldSide D) → ℕ → LogView D → List (HeldSide D) → Type 0
   TruncatesInRoom room old olds round new news = (roomy : LogView D) × MakesRoom old roomy × Truncates room roomy olds round new news
 
-  -- it may not be truncated at all, or that room could not be made, and nothing has changed; or it was, and then the truncation was
-  -- refused
+  -- it may not be truncated at all, or it may and that room could not be made, and nothing has changed; or it was, and then the
+  -- truncation was refused
   abbrev pub IsUntruncatedInRoom : ℕ → LogView D → List (HeldSide D) → NodeFault → LogView D → List (HeldSide D) → Type 0
   IsUntruncatedInRoom room old olds fault new news =
       (IsUntruncatable old fault × (new ≡ old) × (news ≡ olds))
-      ⊎ (((fault ≡ NoMemory) × LacksRoom old new × (news ≡ olds))
+      ⊎ (((fault ≡ NoMemory) × (old.is_halted ≡ false) × (¬ IsSpent old) × LacksRoom old new × (news ≡ olds))
       ⊎ ((roomy : LogView D) × MakesRoom old roomy × IsUntruncated room roomy olds fault new news))
 
   -- and where the node is alone, its log forgets the records of the rounds that have ended
