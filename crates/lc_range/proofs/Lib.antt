@@ -11,3 +11,4 @@ pub mod CutLemmas
 pub mod KeepLemmas
 pub mod StepLemmas
 pub mod RoomLemmas
+pub mod FirstLemmas

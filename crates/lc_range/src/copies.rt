@@ -1,5 +1,5 @@
 //! Bytes of ranges, taken from an image one after another and put back.
-ghost use Rattle.std.specs.Prelude.{◌≡◌, ◌⊎◌, ◌+◌, ◌-◌, ◌^◌, ◌<◌, ◌≤◌, ◌++◌, ℕ, length, slice_index, unwrap_or, OnOk, OnErr};
+ghost use Rattle.std.specs.Prelude.{◌≡◌, ◌⊎◌, ◌+◌, ◌-◌, ◌^◌, ◌<◌, ◌≤◌, [], ◌∷◌, ◌++◌, ℕ, length, slice_index, unwrap_or, OnOk, OnErr};
 ghost use Rattle.lc_range.specs.RangeSet.{total_len};
 ghost use Rattle.lc_range.specs.Copies.{AreCopies, AreSome, copies_of, first_ranges, is_last_continued, with_range};
 ghost use Rattle.lc_range.specs.Undo.{LiesBelow, kept};
@@ -74,6 +74,10 @@ pub fn put_back(ranges: &[Range], bytes: &[u8], segment: u32, image: &mut [u8])
     ensures bytes { (k : ℕ) → slice_index image.new k
         ≡ unwrap_or (kept (copies_of ranges.now bytes.now) segment k) (slice_index image.old k) }
 {
+    if let [only] = ranges {
+        put_only(*only, bytes, segment, image);
+        return;
+    }
     let mut start = bytes.len();
     for i in (0..ranges.len()).rev() {
         let range = ranges[i];
@@ -82,6 +86,19 @@ pub fn put_back(ranges: &[Range], bytes: &[u8], segment: u32, image: &mut [u8])
         if range.segment == segment {
             lay(image, range.offset as usize, &bytes[start..end]);
         }
+    }
+}
+
+// Puts back the only copy, if it is of the segment.
+fn put_only(range: Range, bytes: &[u8], segment: u32, image: &mut [u8])
+    requires copies { AreCopies (range ∷ []) bytes.now }
+    requires within { LiesBelow (copies_of (range ∷ []) bytes.now) segment (length image.old) }
+    ensures len { length image.new ≡ length image.old }
+    ensures bytes { (k : ℕ) → slice_index image.new k
+        ≡ unwrap_or (kept (copies_of (range ∷ []) bytes.now) segment k) (slice_index image.old k) }
+{
+    if range.segment == segment {
+        lay(image, range.offset as usize, bytes);
     }
 }
 

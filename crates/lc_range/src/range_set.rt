@@ -1,10 +1,10 @@
 //! The positions that a transaction has set.
-ghost use Rattle.std.specs.Prelude.{◌≡◌, ◌+◌, ◌-◌, ◌^◌, ◌<◌, ◌≤◌, ◌↔◌, ℕ, [], false, length, Err, IsTrue, OnOk, OnErr};
+ghost use Rattle.std.specs.Prelude.{◌≡◌, ◌+◌, ◌-◌, ◌^◌, ◌<◌, ◌≤◌, ◌↔◌, ℕ, [], ◌∷◌, false, length, Err, IsTrue, OnOk, OnErr};
 ghost use Rattle.lc_range.specs.Touched.{IsTouched};
 ghost use Rattle.lc_range.specs.RangeSet.{Has, IsCanonical, EndWithin, AddsPositions, MissesSome, NeedsRunsAbove};
 ghost use Rattle.lc_range.specs.Walk.{merged};
 
-use crate::runs::{replace, some_holds, touched};
+use crate::runs::{remove_all, replace, some_holds, touched};
 use crate::touched::Touched;
 use crate::{Range, RangeFault};
 use smallvec::SmallVec;
@@ -49,7 +49,7 @@ impl RangeSet {
     pub fn clear(&mut self)
         ensures { self.new ≡ [] }
     {
-        self.runs.clear();
+        remove_all(&mut self.runs);
     }
 
     /// Adds `len` positions, in bytes, of a segment of `segment_len` bytes, from `offset` on. Runs that overlap or
@@ -128,6 +128,16 @@ impl RangeSet {
             return Err(AllocError);
         }
         Ok(())
+    }
+
+    /// Adds a range to an empty set. It takes no memory.
+    pub(crate) fn put_first(&mut self, range: Range)
+        requires none { self.old ≡ [] }
+        requires some { 1 ≤ range.len }
+        requires end { range.offset + range.len < 2 ^ 32 }
+        ensures { self.new ≡ range ∷ [] }
+    {
+        self.runs.push_reserved(range);
     }
 
     /// Whether each of `len` positions of a segment, from `offset` on, is in the set.

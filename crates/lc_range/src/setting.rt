@@ -1,6 +1,7 @@
 //! A range that is set: its old bytes are kept and it is added, both at the place that one search has found.
-ghost use Rattle.std.specs.Prelude.{◌≡◌, ◌≢◌, ◌⊎◌, ◌↔◌, ◌+◌, ◌-◌, ◌^◌, ◌<◌, ◌≤◌, ℕ, length, min, slice_index, Err, OnOk, OnErr};
+ghost use Rattle.std.specs.Prelude.{◌≡◌, ◌≢◌, ◌⊎◌, ◌↔◌, ◌+◌, ◌-◌, ◌^◌, ◌<◌, ◌≤◌, ℕ, [], ◌∷◌, length, min, slice_index, Err, IfErr, OnOk, OnErr};
 ghost use Rattle.lc_range.specs.RangeSet.{AddsPositions, CountsOutside, MissesSome, NeedsRunsAbove};
+ghost use Rattle.lc_range.specs.Copies.{copy_at};
 ghost use Rattle.lc_range.specs.Undo.{AddsCopies, KeepsOld, LiesBelow, NeedsBytesAbove, NeedsCopiesAbove, bytes_kept, first_bytes};
 
 use crate::runs::touched;
@@ -52,6 +53,9 @@ impl RangeSet {
             offset,
             len,
         };
+        if self.ranges().is_empty() && undo.copies() == 0 {
+            return self.add_first(undo, range, image);
+        }
         let place = touched(self.ranges(), &range);
         if !self.has_room(&place) {
             return Err(RangeFault::TooManyRanges);
@@ -64,6 +68,26 @@ impl RangeSet {
             undo.truncate(kept);
             return Err(RangeFault::NoMemory);
         }
+        Ok(())
+    }
+
+    // Keeps the bytes of a range and adds it, where nothing is set and nothing is kept. There is nothing to search.
+    fn add_first(&mut self, undo: &mut Undo, range: Range, image: &[u8]) -> Result<(), RangeFault>
+        requires none { self.old ≡ [] }
+        requires none_kept { undo.old ≡ [] }
+        requires some { 1 ≤ range.len }
+        requires within { range.offset + range.len ≤ min (length image.now) (2 ^ 32 - 1) }
+        ensures adds { OnOk result (self.new ≡ range ∷ []) }
+        ensures keeps { OnOk result (undo.new ≡ copy_at image.now range ∷ []) }
+        ensures err { OnErr result (self.new ≡ self.old) }
+        ensures err_kept { OnErr result (undo.new ≡ undo.old) }
+        ensures needs { OnErr result (64 < range.len) }
+        ensures faults { IfErr result (λ fault. fault ≡ RangeFault.NoMemory) }
+    {
+        if undo.keep_first(range, image).is_err() {
+            return Err(RangeFault::NoMemory);
+        }
+        self.put_first(range);
         Ok(())
     }
 }

@@ -1,13 +1,13 @@
 //! The old bytes of a transaction, which an abort puts back.
-ghost use Rattle.std.specs.Prelude.{◌≡◌, ◌⊎◌, ◌+◌, ◌-◌, ◌^◌, ◌<◌, ◌≤◌, ℕ, [], length, min, slice_index, unwrap_or, OnOk, OnErr};
+ghost use Rattle.std.specs.Prelude.{◌≡◌, ◌⊎◌, ◌+◌, ◌-◌, ◌^◌, ◌<◌, ◌≤◌, ℕ, [], ◌∷◌, length, min, slice_index, unwrap_or, OnOk, OnErr};
 ghost use Rattle.lc_range.specs.RangeSet.{CountsOutside, EndWithin, IsCanonical, MissesSome};
 ghost use Rattle.lc_range.specs.Undo.{AddsCopies, KeepsOld, LiesBelow, NeedsBytesAbove, NeedsCopiesAbove, TakeMemory, bytes_kept, first_bytes, kept};
-ghost use Rattle.lc_range.specs.Copies.{with_copies};
+ghost use Rattle.lc_range.specs.Copies.{copy_at, with_copies};
 ghost use Rattle.lc_range.specs.Walk.{parts_of, piece};
 ghost use Rattle.lc_range.specs.Touched.{IsTouched};
 
 use crate::copies::{add, cut_back, put_back};
-use crate::runs::touched;
+use crate::runs::{remove_all, touched};
 use crate::touched::Touched;
 use crate::{Range, RangeSet};
 use smallvec::SmallVec;
@@ -52,7 +52,7 @@ impl Undo {
     pub fn clear(&mut self)
         ensures { self.new ≡ [] }
     {
-        self.ranges.clear();
+        remove_all(&mut self.ranges);
         self.bytes.clear();
     }
 
@@ -137,6 +137,22 @@ impl Undo {
             self.truncate(before);
         }
         done
+    }
+
+    /// Keeps the bytes of a range where nothing is kept yet. It takes no memory for 64 bytes.
+    pub(crate) fn keep_first(&mut self, range: Range, image: &[u8]) -> Result<(), AllocError>
+        requires none { self.old ≡ [] }
+        requires some { 1 ≤ range.len }
+        requires within { range.offset + range.len ≤ length image.now }
+        ensures ok { OnOk result (self.new ≡ copy_at image.now range ∷ []) }
+        ensures err { OnErr result (self.new ≡ self.old) }
+        ensures needs { OnErr result (64 < range.len) }
+    {
+        let start = range.offset as usize;
+        self.bytes
+            .extend_from_slice(&image[start..start + range.len as usize])?;
+        self.ranges.push_reserved(range);
+        Ok(())
     }
 
     // Keeps the bytes of the range that has this place, at the positions that no run has.

@@ -1,5 +1,5 @@
 -- Records that are read in their words.
-use Rattle.std.proofs.Common.{◌≡◌, ℕ, zero, suc, ◌+◌, ◌-◌, ◌*◌, ◌/◌, ◌%◌, ◌<◌, ◌≤◌, List, [], ◌∷◌, ◌++◌, length, take, drop, Option, Some, None, refl, sym, ap, subst, ◌∙◌, arith, append_assoc}
+use Rattle.std.proofs.Common.{◌≡◌, ℕ, zero, suc, ◌+◌, ◌-◌, ◌*◌, ◌/◌, ◌%◌, ◌^◌, ◌<◌, ◌≤◌, List, [], ◌∷◌, ◌++◌, length, get_or, take, drop, Option, Some, None, refl, sym, ap, subst, ◌∙◌, arith, append_assoc}
 use Rattle.std.specs.Prelude.{slice_get, slice_range}
 use Rattle.std.specs.Int.{w64, to_le_bytes}
 use Rattle.std.specs.List.{flat_map, AllByRecursion}
@@ -16,7 +16,7 @@ use Rattle.lc_record.specs.declared.record.Record.{Record}
 use Rattle.lc_record.specs.declared.record.Lock.{Lock}
 use Rattle.lc_record.proofs.ReadingLemmas.{bind_some, lock_again}
 use Rattle.lc_record.proofs.LoopLemmas.{with_front, many_next}
-use Rattle.lc_record.proofs.RecordLemmas.{len_takes, record_is, record_length}
+use Rattle.lc_record.proofs.RecordLemmas.{header_tells, len_takes, record_is, record_length, record_some}
 
 pub range_behind : (words : List ℕ) (place : ℕ) → slice_range words place (length words) ≡ drop place words
 range_behind words place = take_all (length words - place) (drop place words) (omega (arith, length-drop place words))
@@ -43,6 +43,27 @@ found words len fit e =
       is = subst (λ (q : Record). IsRecord q (take len words)) (sym same) its.begins.whole;
       begins = subst (λ (q : Record). BeginsWith words q (record_len q)) (sym same) begins;
       within = its.begins.within;
+    }
+
+first_taken : (n : ℕ) (words : List ℕ) → 0 < n → get_or (take n words) 0 0 ≡ get_or words 0 0
+first_taken zero words some = absurd (omega (arith, some))
+first_taken (suc n) [] some = refl
+first_taken (suc n) (w ∷ words) some = refl
+
+-- those of the record that is known to begin the words
+pub kept : (words : List ℕ) (len : ℕ) (r : Record) → BeginsWith words r (record_len r) → len ≡ get_or words 0 0 / 2 ^ 32 → Found words len
+kept words len r begins tells =
+    let front : List ℕ = take (record_len r) words in
+    let long : length front ≡ record_len r = record_length r front begins.whole in
+    let some : 0 < record_len r = omega (arith, long, record_some r front begins.whole) in
+    let first : get_or front 0 0 ≡ get_or words 0 0 = first_taken (record_len r) words some in
+    let len_is : record_len r ≡ len = sym (tells ∙ ap (λ (w : ℕ). w / 2 ^ 32) (sym first) ∙ header_tells r front begins.whole ∙ long) in
+    let whole : IsRecord r (take len words) = subst (λ (n : ℕ). IsRecord r (take n words)) len_is begins.whole in
+    let same : record_in (take len words) ≡ r = in_is r (take len words) whole in
+    record {
+      is = subst (λ (q : Record). IsRecord q (take len words)) (sym same) whole;
+      begins = subst (λ (q : Record). BeginsWith words q (record_len q)) (sym same) begins;
+      within = omega (arith, len_is, begins.within);
     }
 
 -- what was read, where something stands

@@ -33,7 +33,7 @@ pub fn push(words: &mut Vec<u64>, word: u64)
     ensures len { vec_len words.new ≡ vec_len words.old + 1 }
     ensures room { vec_capacity words.old ≤ vec_capacity words.new }
 {
-    words.push(word).unwrap();
+    words.push_reserved(word);
 }
 
 /// Adds the words of these bytes, in the room that there is.

@@ -1,5 +1,5 @@
 //! A buffer for the words of records that are written together.
-ghost use Rattle.std.specs.Prelude.{◌≡◌, ◌+◌, ◌*◌, ◌<◌, ◌≤◌, ◌↔◌, [], ◌∷◌, ◌++◌, length, slice_index, IfOk, IsTrue, vec_len, vec_capacity};
+ghost use Rattle.std.specs.Prelude.{◌≡◌, ◌+◌, ◌-◌, ◌*◌, ◌<◌, ◌≤◌, ◌↔◌, [], ◌∷◌, ◌++◌, length, replicate, slice_index, IfOk, IsTrue, vec_len, vec_capacity};
 ghost use Rattle.std.specs.Int.{w64, to_le_bytes};
 ghost use Rattle.lc_record.specs.Words.{bytes_of};
 
@@ -7,6 +7,8 @@ use std::alloc::{AllocError, Global};
 use std::marker::Model;
 
 const WORD_BYTES: usize = 8;
+// How many words are put into bytes at once.
+const CHUNK_WORDS: usize = 8;
 
 /// A list of words, with room for a number of them. It is kept as the bytes that stand on the disk, with one zero
 /// word behind them, so that it is written as it lies in memory.
@@ -102,16 +104,46 @@ impl Group {
     }
 }
 
-// Adds the bytes of these words, in the room that there is.
+// Adds the bytes of these words, in the room that there is, a chunk at a time.
 fn append_all(bytes: &mut Vec<u8>, words: &[u64])
     requires { vec_len bytes.old + 8 * length words.now ≤ vec_capacity bytes.old }
     ensures items { bytes.new.items ≡ bytes.old.items ++ bytes_of words.now }
     ensures len { vec_len bytes.new ≡ vec_len bytes.old + 8 * length words.now }
     ensures room { vec_capacity bytes.old ≤ vec_capacity bytes.new }
 {
-    for word in words {
-        append(bytes, *word);
+    let mut rest = words;
+    while let Some((front, behind)) = rest.split_first_chunk::<CHUNK_WORDS>() {
+        append_chunk(bytes, front);
+        rest = behind;
     }
+    append_chunk(bytes, rest);
+}
+
+// Adds the bytes of at most a chunk of words, in the room that there is.
+fn append_chunk(bytes: &mut Vec<u8>, words: &[u64])
+    requires few { length words.now ≤ 8 }
+    requires room { vec_len bytes.old + 8 * length words.now ≤ vec_capacity bytes.old }
+    ensures items { bytes.new.items ≡ bytes.old.items ++ bytes_of words.now }
+    ensures len { vec_len bytes.new ≡ vec_len bytes.old + 8 * length words.now }
+    ensures room { vec_capacity bytes.old ≤ vec_capacity bytes.new }
+{
+    let chunk = chunk_of(words);
+    bytes
+        .extend_from_slice(&chunk[..WORD_BYTES * words.len()])
+        .unwrap();
+}
+
+// The bytes of at most a chunk of words, and zeros behind them.
+fn chunk_of(words: &[u64]) -> [u8; WORD_BYTES * CHUNK_WORDS]
+    requires { length words.now ≤ 8 }
+    ensures { result ≡ bytes_of words.now ++ replicate (8 * (8 - length words.now)) 0 }
+{
+    let mut chunk = [0; WORD_BYTES * CHUNK_WORDS];
+    for index in 0..words.len() {
+        let place = WORD_BYTES * index;
+        chunk[place..place + WORD_BYTES].copy_from_slice(&words[index].to_le_bytes());
+    }
+    chunk
 }
 
 // Adds the bytes of a word, in the room that there is.

@@ -8,10 +8,11 @@ ghost use Rattle.lc_record.specs.Record.{record_len, span_of, version_of, IsReco
 ghost use Rattle.lc_record.specs.Reading.{Gives, range_of, ranges_at};
 ghost use Rattle.lc_record.specs.Spans.{left_of, placed_spans};
 ghost use Rattle.lc_record.specs.View.{byte_at};
+ghost use Rattle.lc_record.specs.declared.record.Record.{Record as Spelled};
 
 use crate::data::read_byte;
 use crate::decoding::read_ranges_of;
-use crate::fields::{node, range_count};
+use crate::fields::{length, node, range_count};
 use crate::kept_locks::{kept_lock, kept_lock_count};
 use crate::limits::{HEAD_WORDS, LOCK_WORDS};
 use crate::parts::{Head, RangeWords, head_of, len_of, nth_range};
@@ -53,6 +54,19 @@ impl<'a> View<'a> {
         Some(View {
             words: &rest[..len],
         })
+    }
+
+    /// The record that is known to begin at a place of these words, from 0. Only its length is read, and it takes no
+    /// memory.
+    pub fn kept_at(words: &'a [u64], place: usize) -> View<'a>
+        requires { (r : Spelled) × BeginsWith (drop place words.now) r (record_len r) }
+        ensures { BeginsWith (drop place words.now) result (record_len result) }
+    {
+        let behind = &words[place..];
+        let len = length(behind[0]) as usize;
+        View {
+            words: &behind[..len],
+        }
     }
 
     /// How many words the record takes.

@@ -114,17 +114,6 @@ module _ {I : Type 0} (m : Ghosts I) where
       beside = laws.beside_chained old mid new one.beside two.beside;
     }
 
-    -- the same image once more changes nothing
-    pub same_imaged : (s : I) (x : ℕ) (image : Picture) → IsHere m s x → image ≡ m.image_of s x → IsSame m s (m.with_image s x image)
-    same_imaged s x image here is = record {
-      numbers = λ n. laws.same_numbers s x n image here;
-      others = λ n there not. elim (cases_eq n x) [
-        | inl same ↦ subst (λ (k : ℕ). m.image_of (m.with_image s x image) k ≡ m.image_of s k) (sym same) (laws.own_image s x image here ∙ is)
-        | inr other ↦ laws.other_image s x n image here there other
-      ];
-      beside = laws.beside_image s x image here;
-    }
-
     each_more : (R : ℕ → Picture → Picture → Type 0) → ((s : ℕ) (a b c : Picture) → R s a b → R s b c → R s a c) → (xs : List ℕ) (x : ℕ) (old mid : I) (image : Picture)
         → ((s : ℕ) → is_member s xs ≡ true → IsHere m old s) → IsHere m mid x → EachIs R xs old mid → R x (m.image_of mid x) image → EachIs R (xs ++ x ∷ []) old (m.with_image mid x image)
     each_more R twice xs x old mid image all there each step =

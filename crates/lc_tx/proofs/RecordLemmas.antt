@@ -15,7 +15,6 @@ use Rattle.lc_tx.specs.Images.{IsHere, bytes_of, IsSame}
 use Rattle.lc_tx.specs.Prepared.{segments_of, next_number, run_data, runs_record, IsFirstSpent, AreUnspent}
 use Rattle.lc_tx.specs.Walk.{run_span, runs_layout, spent_in, locks_of, AreFromOne, AreInside}
 use Rattle.lc_tx.specs.declared.image.Image.{Image as Picture}
-use Rattle.lc_tx.proofs.ImagesLemmas.{ImageLaws, here_along, same_imaged, same_chained}
 use Rattle.lc_tx.proofs.RunLemmas.{others, with_others}
 
 module _ {I : Type 0} (m : Ghosts I) where
@@ -30,12 +29,10 @@ module _ {I : Type 0} (m : Ghosts I) where
   inside_at images (run ∷ runs) zero d inside within = inside.0
   inside_at images (run ∷ runs) (suc i) d inside within = inside_at images runs i d inside.1 (omega arith)
 
-  -- the images are the same after a run's is lent
-  pub same_lent : (laws : ImageLaws m) (old mid : I) (runs : List Range) (i : ℕ) (d : Range) (image : Picture) → AreInside m old runs → i < length runs → IsSame m old mid
-      → image ≡ m.image_of mid (get_or runs i d).segment → IsSame m old (m.with_image mid (get_or runs i d).segment image)
-  same_lent laws old mid runs i d image inside within was is =
-      let x : ℕ = (get_or runs i d).segment in
-      same_chained m laws old mid (m.with_image mid x image) was (same_imaged m laws mid x image (here_along m [] old mid x was (inside_at old runs i d inside within).0) is)
+  -- a run has the same bytes in the same images
+  pub same_data : (old mid : I) (run : Range) → IsHere m old run.segment → IsSame m old mid → run_data m mid run ≡ run_data m old run
+  same_data old mid run here same =
+      ap (λ (p : Picture). record { segment = run.segment; offset = run.offset; bytes = take run.len (drop run.offset p.bytes.items) }) (same.others run.segment here refl)
 
   -- The first that is spent
 

@@ -1,12 +1,11 @@
 -- The words of a record, written in parts.
-use Rattle.std.proofs.Common.{◌≡◌, ◌+◌, ◌<◌, ◌≤◌, ℕ, List, [], ◌∷◌, ◌++◌, length, sym, ap, subst, ◌∙◌, arith, length-append}
+use Rattle.std.proofs.Common.{◌≡◌, ◌+◌, ◌<◌, ◌≤◌, ℕ, List, [], ◌∷◌, ◌++◌, length, ap, ◌∙◌, arith, length-append}
 use Rattle.std.specs.List.{flat_map}
 use Rattle.std.proofs.lemmas.List.{length-map}
 use Rattle.lc_record.specs.Layout.{layout_len, first_word, second_word}
 use Rattle.lc_record.specs.Record.{record_layout, record_len, spelling, span_of, version_of, lock_words, range_words}
 use Rattle.lc_record.specs.SpellingView.{SpellingView}
 use Rattle.lc_record.specs.declared.layout.Layout.{Layout}
-use Rattle.lc_record.specs.declared.grammar_version.GrammarVersion.{GrammarVersion}
 use Rattle.lc_record.specs.declared.record.Record.{Record}
 use Rattle.lc_record.proofs.SpellingLemmas.{length-spelling, begun}
 

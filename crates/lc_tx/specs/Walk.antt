@@ -1,5 +1,5 @@
 -- What the walks over segments and runs give.
-use Rattle.std.specs.Prelude.{ℕ, ◌+◌, ◌*◌, ◌/◌, ◌^◌, ◌≤◌, nat_lt, nat_le, if◌then◌else◌, List, [], ◌∷◌, length, map, Option, Some, None, unwrap_or, sum_by}
+use Rattle.std.specs.Prelude.{ℕ, ◌+◌, ◌^◌, ◌≤◌, nat_lt, nat_le, if◌then◌else◌, List, [], ◌∷◌, length, map, Option, Some, None, unwrap_or}
 use Rattle.lc_range.specs.declared.range.Range.{Range}
 use Rattle.lc_record.specs.Layout.{layout_of}
 use Rattle.lc_record.specs.declared.layout.Layout.{Layout}

@@ -1,11 +1,12 @@
 //! The beginning of a transaction.
-ghost use Rattle.std.specs.Prelude.{◌≡◌, ◌↔◌, ◌<◌, ◌⊎◌, ℕ, List, [], length, None, IfOk, OnOk, OnErr, IfErr, IsTrue};
+ghost use Rattle.std.specs.Prelude.{◌≡◌, ◌↔◌, ◌<◌, ◌⊎◌, ℕ, List, [], ◌∷◌, length, None, IfOk, OnOk, OnErr, IfErr, IsTrue};
 ghost use Rattle.lc_tx.specs.Images.{IsHere, IsLockable, IsFirstTaken, IsSame};
+ghost use Rattle.lc_tx.specs.Locking.{CanLock};
 ghost use Rattle.lc_tx.specs.Fault.{is_of_begin};
 ghost use Rattle.lc_tx.specs.Tx.{Begins, IsIdle, IsSetOf, RunsOn, none_of};
 
 use crate::lock_mode::LockMode;
-use crate::locking::{add_all, add_beside, first_shut, lesser, lock};
+use crate::locking::{add_all, add_beside, first_shut, lesser, lock, lock_free};
 use crate::{Images, Tx, TxFault};
 use std::alloc::{AllocError, Global};
 
@@ -91,6 +92,9 @@ impl Tx {
         ensures idle { OnErr result (IsIdle self.new) }
         ensures faults { IfErr result (λ fault. IsTrue (is_of_begin fault)) }
     {
+        if let ([segment], []) = (segments, reading) {
+            return self.begin_one(images, thread, *segment);
+        }
         let written = first_shut(images, segments, LockMode::Exclusive);
         let read = first_shut(images, reading, LockMode::Shared);
         if let Some(segment) = lesser(written, read) {
@@ -103,6 +107,31 @@ impl Tx {
         self.thread = thread;
         lock(images, self.locked.as_slice(), thread, LockMode::Exclusive);
         lock(images, self.reading.as_slice(), thread, LockMode::Shared);
+        Ok(())
+    }
+
+    // Begins one that writes a single segment and reads none.
+    fn begin_one<I: Images>(
+        &mut self,
+        images: &mut I,
+        thread: u16,
+        segment: u32,
+    ) -> Result<(), TxFault>
+        requires idle { IsIdle self.old }
+        ensures begins { OnOk result (Begins I.Images thread (segment ∷ []) [] images.old images.new self.new) }
+        ensures can { OnOk result (CanLock I.Images LockMode.Exclusive images.old segment) }
+        ensures cannot { OnErr result (CanLock I.Images LockMode.Exclusive images.old segment → ⊥) }
+        ensures same { OnErr result (IsSame I.Images images.old images.new) }
+        ensures idle { OnErr result (IsIdle self.new) }
+        ensures not_here { IfErr result (λ fault. I.number_of images.old segment ≡ None
+            → fault ≡ TxFault.NotHere segment) }
+        ensures busy { IfErr result (λ fault. IsHere I.Images images.old segment → fault ≡ TxFault.Busy segment) }
+    {
+        lock_free(images, segment, thread)?;
+        self.thread = thread;
+        // There is room for 16 at least.
+        let _room = self.locked.capacity();
+        self.locked.push_reserved(segment);
         Ok(())
     }
 

@@ -1,5 +1,6 @@
 //! The changes of a transaction.
 ghost use Rattle.std.specs.Prelude.{◌≡◌, ◌≢◌, ◌↔◌, ◌+◌, ◌-◌, ◌^◌, ◌<◌, ◌≤◌, ℕ, IsTrue, IsOk, length, take, drop, min, slice_index, Some, None, IfOk, OnOk, OnErr, IfErr};
+ghost use Rattle.lc_record.specs.Transaction.{is_member};
 ghost use Rattle.lc_range.specs.RangeSet.{AddsPositions, EndWithin, IsCanonical, MissesSome, NeedsRunsAbove};
 ghost use Rattle.lc_range.specs.Undo.{KeepsOld, LiesBelow};
 ghost use Rattle.lc_tx.specs.Images.{IsSame, IsWritten, bytes_of};
@@ -11,6 +12,16 @@ use crate::lock_mode::LockMode;
 use crate::{Images, Tx, TxFault};
 use lc_range::{Range, RangeFault, RangeSet};
 use std::alloc::Global;
+
+// Whether a number is among these. One alone is looked at straight.
+fn is_among(numbers: &[u32], number: u32) -> bool
+    ensures { result ≡ is_member number numbers.now }
+{
+    if let [only] = numbers {
+        return *only == number;
+    }
+    numbers.contains(&number)
+}
 
 // Whether so many bytes from an offset on lie among these.
 fn lies_within(bytes: &[u8], offset: u32, len: usize) -> bool
@@ -82,10 +93,10 @@ impl Tx {
         ensures reading { (result ≡ Some LockMode.Shared) ↔ (Reads self.now segment × ¬ Locked self.now segment) }
         ensures none { (result ≡ None) ↔ ¬ Holds self.now segment }
     {
-        if self.locked().contains(&segment) {
+        if is_among(self.locked(), segment) {
             return Some(LockMode::Exclusive);
         }
-        if self.reading().contains(&segment) {
+        if is_among(self.reading(), segment) {
             return Some(LockMode::Shared);
         }
         None
@@ -262,6 +273,11 @@ impl Tx {
             × ¬ AreSet self.now segment offset (length bytes.now)) }
         ensures no_memory { result ≢ Err TxFault.NoMemory }
     {
+        // What is set is locked for writing, and lies in the segment.
+        if !bytes.is_empty() && self.is_set(segment, offset, bytes.len()) {
+            images.image(segment).set(offset, bytes);
+            return Ok(());
+        }
         match self.mode_of(segment) {
             None => return Err(TxFault::NotLocked),
             Some(LockMode::Shared) => return Err(TxFault::ReadOnly { segment }),

@@ -1,5 +1,5 @@
 //! The end of a transaction.
-ghost use Rattle.std.specs.Prelude.{◌≡◌, ◌↔◌, ◌<◌, ◌≤◌, ℕ, [], None, List, length, vec_capacity, IfOk, IfErr, OnErr, IsTrue, MatchResult, Some};
+ghost use Rattle.std.specs.Prelude.{◌≡◌, ◌↔◌, ◌<◌, ◌≤◌, ℕ, [], ◌∷◌, None, List, length, vec_capacity, IfOk, IfErr, OnErr, IsTrue, MatchResult, Some};
 ghost use Rattle.lc_record.specs.Record.{record_layout, record_len, IsRecord};
 ghost use Rattle.lc_record.specs.declared.layout.Layout.{Layout as Laid};
 ghost use Rattle.lc_tx.specs.Images.{AreReleased, AreRestored, IsSame};
@@ -10,7 +10,7 @@ ghost use Rattle.lc_tx.specs.Fault.{is_of_end, is_of_needs};
 ghost use Rattle.lc_tx.specs.Tx.{IsIdle, RunsOn};
 
 use crate::recording::{first_spent, layout_of, spell};
-use crate::{Images, Prepared, Tx, TxFault, locking};
+use crate::{Holders, Images, Prepared, Tx, TxFault, locking};
 use lc_record::{Items, Layout, MAX_WORDS};
 use std::alloc::{AllocError, Global};
 
@@ -143,11 +143,28 @@ impl Tx {
         }
     }
 
+    // Gives back the bytes that its only segment had, and the lock. The segment is looked up once.
+    fn restore_one<I: Images>(&self, images: &mut I, segment: u32)
+        requires runs { RunsOn I.Images images.old self.now }
+        requires only { self.now.locked.items ≡ segment ∷ [] }
+        requires none_read { self.now.reading.items ≡ [] }
+        ensures { AreRestored I.Images self.now.undo self.now.thread self.now.locked.items self.now.reading.items
+            images.old images.new }
+    {
+        let image = images.image(segment);
+        self.undo.restore(segment, image.bytes.as_mut_slice());
+        image.holders = Holders::Free;
+    }
+
     // Gives back its locks.
     fn unlock<I: Images>(&self, images: &mut I)
         requires { RunsOn I.Images images.old self.now }
         ensures { AreReleased I.Images self.now.thread self.now.locked.items self.now.reading.items images.old images.new }
     {
+        if let ([segment], []) = (self.locked(), self.reading()) {
+            images.image(*segment).holders = Holders::Free;
+            return;
+        }
         locking::unlock(images, self.locked.as_slice(), self.thread);
         locking::unlock(images, self.reading.as_slice(), self.thread);
     }
@@ -171,6 +188,11 @@ impl Tx {
             images.old images.new }
         ensures idle { IsIdle self.new }
     {
+        if let ([segment], []) = (self.locked(), self.reading()) {
+            self.restore_one(images, *segment);
+            self.clear();
+            return;
+        }
         self.restore(images);
         self.release_in_place(images);
     }

@@ -12,6 +12,7 @@ mod lock_mode;
 mod locking;
 mod one_segment;
 mod prepared;
+mod preparing;
 mod readers;
 mod recording;
 mod tx;

@@ -1,5 +1,5 @@
 //! Which segments are free, and who holds them.
-ghost use Rattle.std.specs.Prelude.{◌≡◌, ◌↔◌, ◌++◌, ◌≤◌, ℕ, ◌<◌, List, [], IsTrue, length, take, drop, IfOk, OnOk, OnErr};
+ghost use Rattle.std.specs.Prelude.{◌≡◌, ◌↔◌, ◌++◌, ◌≤◌, ℕ, ◌<◌, List, [], ◌∷◌, None, IsTrue, length, take, drop, IfOk, IfErr, OnOk, OnErr};
 ghost use Rattle.smallvec.specs.SmallVec.{small_vec_len};
 ghost use Rattle.lc_record.specs.Transaction.{is_member};
 ghost use Rattle.lc_tx.specs.Images.{IsHere, IsSame};
@@ -8,8 +8,8 @@ ghost use Rattle.lc_tx.specs.Tx.{IsSetOf, none_of};
 ghost use Rattle.lc_tx.specs.Prepared.{with_number};
 ghost use Rattle.lc_tx.specs.Walk.{with_in_order};
 
-use crate::Images;
 use crate::lock_mode::LockMode;
+use crate::{Holders, Images, TxFault};
 use smallvec::SmallVec;
 use std::alloc::{AllocError, Global};
 
@@ -67,11 +67,24 @@ fn insert(set: &mut SmallVec<u32, 16>, number: u32) -> Result<(), AllocError>
     ensures memory { OnErr result (set.old.capacity < length (with_in_order number set.old.items)) }
 {
     let place = count_below(set.as_slice(), number);
-    if place < set.len() && set[place] == number {
+    if place == set.len() {
+        set.push(number)?;
         return Ok(());
     }
-    set.insert(place, number)?;
+    if set[place] != number {
+        set.insert(place, number)?;
+    }
     Ok(())
+}
+
+/// Removes all of these, and keeps their memory. The last is taken off first: for one alone this costs less than
+/// `clear`.
+pub fn remove_all(set: &mut SmallVec<u32, 16>)
+    ensures { set.new.items ≡ [] }
+{
+    if set.pop().is_some() && !set.is_empty() {
+        set.clear();
+    }
 }
 
 /// Adds those numbers that are none of these to an empty set: ascending, each once. It takes no memory for 16. Without
@@ -117,6 +130,27 @@ pub fn set_of(alloc: Global, numbers: &[u32]) -> Result<SmallVec<u32, 16>, Alloc
     let mut set = SmallVec::new(alloc);
     add_all(&mut set, numbers)?;
     Ok(set)
+}
+
+/// Locks a segment for writing, if its token is here and nobody holds it. The segment is looked up once.
+pub fn lock_free<I: Images>(images: &mut I, segment: u32, thread: u16) -> Result<(), TxFault>
+    ensures can { OnOk result (CanLock I.Images LockMode.Exclusive images.old segment) }
+    ensures taken { OnOk result (AreTaken I.Images LockMode.Exclusive thread (segment ∷ []) images.old images.new) }
+    ensures cannot { OnErr result (CanLock I.Images LockMode.Exclusive images.old segment → ⊥) }
+    ensures same { OnErr result (IsSame I.Images images.old images.new) }
+    ensures not_here { IfErr result (λ fault. I.number_of images.old segment ≡ None
+        → fault ≡ TxFault.NotHere segment) }
+    ensures busy { IfErr result (λ fault. IsHere I.Images images.old segment → fault ≡ TxFault.Busy segment) }
+{
+    if images.number(segment).is_none() {
+        return Err(TxFault::NotHere { segment });
+    }
+    let image = images.image(segment);
+    if !image.holders.is_free() {
+        return Err(TxFault::Busy { segment });
+    }
+    image.holders = Holders::Writer(thread);
+    Ok(())
 }
 
 /// Locks each of these segments, which are here, in this mode.

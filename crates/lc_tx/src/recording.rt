@@ -1,12 +1,12 @@
 //! The record of a transaction's runs.
-ghost use Rattle.std.specs.Prelude.{◌≡◌, ◌+◌, ◌*◌, ◌<◌, ◌≤◌, ◌^◌, ◌++◌, length, map, take, drop, unwrap_or, vec_capacity, IfOk, OnErr};
+ghost use Rattle.std.specs.Prelude.{◌≡◌, ◌+◌, ◌*◌, ◌<◌, ◌≤◌, ◌^◌, [], ◌∷◌, ◌++◌, length, map, take, drop, unwrap_or, vec_capacity, IfOk, OnErr};
 ghost use Rattle.std.specs.List.{AllByRecursion, flat_map};
 ghost use Rattle.lc_record.specs.Words.{AreBytes};
 ghost use Rattle.lc_record.specs.Layout.{layout_len};
 ghost use Rattle.lc_record.specs.Record.{spelling as spelling_of, lock_words, range_words};
 ghost use Rattle.lc_range.specs.RangeSet.{EndWithin};
 ghost use Rattle.lc_tx.specs.Images.{IsSame};
-ghost use Rattle.lc_tx.specs.Prepared.{AreUnspent, run_data, runs_record, segments_of};
+ghost use Rattle.lc_tx.specs.Prepared.{AreUnspent, next_number, run_data, runs_record, segments_of};
 ghost use Rattle.lc_tx.specs.Walk.{locks_of, runs_layout, spent_in, AreFromOne, AreInside};
 
 use crate::Images;
@@ -41,6 +41,10 @@ pub fn layout_of(runs: &[Range]) -> Layout
     ensures laid { result ≡ runs_layout runs.now }
     ensures fits { layout_len result < 2 ^ 32 }
 {
+    // One run alone needs no walk.
+    if let [run] = runs {
+        return Layout::of_one(run.offset, run.len as usize);
+    }
     let mut layout = Layout::new();
     let mut last = 0;
     for run in runs {
@@ -89,14 +93,31 @@ fn add_locks<I: Images>(spelling: &mut Spelling, images: &I, runs: &[Range])
       words = spelling.old.words ++ flat_map lock_words (locks_of I.Images images.now runs.now);
     } }
 {
+    // One run alone needs no walk.
+    if let [only] = runs {
+        add_next_lock(spelling, images, only.segment);
+        return;
+    }
     let mut last = 0;
     for run in runs {
         if run.segment != last {
             last = run.segment;
-            let seq = number(images, last) + 1;
-            spelling.add_lock(Lock { segment: last, seq });
+            add_next_lock(spelling, images, last);
         }
     }
+}
+
+// Adds a lock of a segment, with its next number.
+fn add_next_lock<I: Images>(spelling: &mut Spelling, images: &I, segment: u32)
+    requires unspent { next_number I.Images images.now segment ≤ 2 ^ 60 }
+    requires room { length spelling.old.words + 2 ≤ spelling.old.len }
+    ensures { spelling.new ≡ record spelling.old {
+      words = spelling.old.words
+          ++ lock_words (record { segment = segment; seq = next_number I.Images images.now segment });
+    } }
+{
+    let seq = number(images, segment) + 1;
+    spelling.add_lock(Lock { segment, seq });
 }
 
 // Adds the runs, with the bytes that the images have there.
@@ -111,11 +132,30 @@ fn add_ranges<I: Images>(spelling: &mut Spelling, images: &mut I, runs: &[Range]
     ensures fit { AllByRecursion (λ it. AreBytes it.bytes) (map (run_data I.Images images.old) runs.now) }
     ensures same { IsSame I.Images images.old images.new }
 {
-    for run in runs {
-        let image = images.image(run.segment);
-        let bytes = run_bytes(image.bytes(), run);
-        spelling.add_range(run.segment, run.offset, bytes);
+    // One run alone needs no walk.
+    if let [only] = runs {
+        add_run(spelling, images, only);
+        return;
     }
+    for run in runs {
+        add_run(spelling, images, run);
+    }
+}
+
+// Adds a run, with the bytes that the images have there.
+fn add_run<I: Images>(spelling: &mut Spelling, images: &mut I, run: &Range)
+    requires inside { AreInside I.Images images.old (run.now ∷ []) }
+    requires room { length spelling.old.words
+        + length (range_words spelling.old.version (run_data I.Images images.old run.now)) ≤ spelling.old.len }
+    ensures spelled { spelling.new ≡ record spelling.old {
+      words = spelling.old.words ++ range_words spelling.old.version (run_data I.Images images.old run.now);
+    } }
+    ensures fit { AreBytes (run_data I.Images images.old run.now).bytes }
+    ensures same { IsSame I.Images images.old images.new }
+{
+    let image = images.image(run.segment);
+    let bytes = run_bytes(image.bytes(), run);
+    spelling.add_range(run.segment, run.offset, bytes);
 }
 
 // The bytes that an image has in a run.

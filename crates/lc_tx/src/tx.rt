@@ -1,6 +1,7 @@
 //! One transaction.
 ghost use Rattle.lc_tx.specs.Tx.{IsIdle};
 
+use crate::locking::remove_all;
 use lc_range::{RangeSet, Undo};
 use smallvec::SmallVec;
 use std::alloc::Global;
@@ -35,8 +36,8 @@ impl Tx {
     pub(crate) fn clear(&mut self)
         ensures { IsIdle self.new }
     {
-        self.locked.clear();
-        self.reading.clear();
+        remove_all(&mut self.locked);
+        remove_all(&mut self.reading);
         self.set.clear();
         self.undo.clear();
     }

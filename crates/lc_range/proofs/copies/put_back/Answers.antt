@@ -1,12 +1,22 @@
-use Rattle.std.proofs.Common.{◌≡◌, ◌+◌, ◌-◌, ◌<◌, ◌≤◌, ℕ, List, [], length, get_or, take, drop, unwrap_or, refl, sym, ap, subst, ◌∙◌, arith}
+use Rattle.std.proofs.Common.{◌≡◌, ◌+◌, ◌-◌, ◌<◌, ◌≤◌, ℕ, List, [], ◌∷◌, length, get_or, take, drop, unwrap_or, refl, sym, ap, subst, ◌∙◌, arith}
 use Rattle.std.proofs.lemmas.List.{drop_all, take_all}
 use Rattle.std.specs.Prelude.{slice_index}
 use Rattle.lc_range.specs.RangeSet.{total_len}
 use Rattle.lc_range.specs.Copies.{copies_of}
-use Rattle.lc_range.specs.Undo.{OldBytes, kept}
+use Rattle.lc_range.specs.Undo.{LiesBelow, OldBytes, kept}
 use Rattle.lc_range.specs.declared.range.Range.{Range}
 use Rattle.lc_range.proofs.CopyLemmas.{put_one, put_none, copies_more, total_more, range_below, length_part}
 use Rattle.lc_range.proofs.copies.put_back.Goals as goal
+
+only_is : (xs : List Range) (d : Range) → 1 ≤ length xs → length xs < 2 → xs ≡ get_or xs 0 d ∷ []
+only_is [] d some one = absurd (omega (arith, some))
+only_is (x ∷ []) d some one = refl
+only_is (x ∷ y ∷ xs) d some one = absurd (omega (arith, one))
+
+pub put_only-requires-clause-within : goal.put_only-requires-clause-within
+put_only-requires-clause-within c =
+    subst (λ (l : List Range). LiesBelow (copies_of l c.args.bytes.now) c.args.segment (length c.args.image.now))
+    (only_is c.args.ranges.now (record { segment = 0; offset = 0; len = 0 }) c.in-len1.len_at_least c.in-len1.len_below) c.requires.within
 
 pub loop-i-init : goal.loop-i-init
 loop-i-init c =

@@ -1,10 +1,9 @@
-use Rattle.std.proofs.Common.{◌≡◌, ◌+◌, ◌*◌, ◌++◌, ◌<◌, ℕ, List, [], length, map, drop, get_or, ap, sym, subst, ◌∙◌, arith, length-append, append-nil, rules}
+use Rattle.std.proofs.Common.{◌≡◌, ◌+◌, ◌*◌, ◌++◌, ℕ, List, [], length, map, drop, ap, sym, subst, ◌∙◌, arith, length-append, append-nil, rules}
 use Rattle.std.specs.List.{flat_map}
 use Rattle.std.proofs.lemmas.List.{drop_all, length-map}
 use Rattle.lc_range.specs.declared.range.Range.{Range}
 use Rattle.lc_record.specs.Record.{lock_words}
 use Rattle.lc_record.specs.SpellingView.{SpellingView}
-use Rattle.lc_record.specs.declared.record.Lock.{Lock}
 use Rattle.lc_record.proofs.SpellingLemmas.{length-lock_words}
 use Rattle.lc_tx.specs.Prepared.{AreUnspent, segments_of}
 use Rattle.lc_tx.proofs.RunLemmas.{others, others_of_none, others_next}
@@ -20,8 +19,8 @@ loop-run-init g c =
       unspent = subst (λ (l : List ℕ). AreUnspent (map (lock_of g.I.Images c.args.images.now) l)) (sym of_none) c.requires.unspent;
     }
 
-pub add_lock-requires : goal.add_lock-requires
-add_lock-requires g c =
+pub add_next_lock-requires-then-run-last-clause-room : goal.add_next_lock-requires-then-run-last-clause-room
+add_next_lock-requires-then-run-last-clause-room g c =
     let d : Range = record { segment = 0; offset = 0; len = 0 } in
     let m = lock_of g.I.Images c.args.images.now in
     let l = c.loop-run in

@@ -1,5 +1,4 @@
-use Rattle.std.proofs.Common.{◌≡◌, ℕ, sym, ◌∙◌}
-use Rattle.lc_record.specs.Record.{record_layout}
+use Rattle.std.proofs.Common.{sym, ◌∙◌}
 use Rattle.lc_tx.specs.Prepared.{runs_record}
 use Rattle.lc_tx.proofs.RecordLemmas.{layout_is}
 use Rattle.lc_tx.proofs.SpellLemmas.{room, last_room, spelled}

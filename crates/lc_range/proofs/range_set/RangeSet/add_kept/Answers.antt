@@ -1,17 +1,86 @@
-use Rattle.std.proofs.Common.{◌≡◌, ◌<◌, ◌⊎◌, ◌+◌, ◌≤◌, ℕ, length, ap, refl, sym, subst, ◌∙◌, inl, inr, arith}
-use Rattle.std.specs.Prelude.{slice_index}
-use Rattle.lc_range.specs.RangeSet.{CountsOutside, MissesSome, NeedsRunsAbove}
-use Rattle.lc_range.specs.Undo.{AddsCopies, KeepsOld, LiesBelow, NeedsBytesAbove, NeedsCopiesAbove, bytes_kept, first_bytes}
+use Rattle.std.proofs.Common.{◌≡◌, ◌<◌, ◌⊎◌, ◌+◌, ◌≤◌, ℕ, List, [], length, is_err, ap, refl, sym, subst, ◌∙◌, inl, inr, arith}
+use Rattle.std.specs.Prelude.{slice_index, Result, Ok, Err, IfErr}
+use Rattle.std.proofs.lemmas.Bool.{eqb-true}
+use Rattle.std.proofs.lemmas.List.{nil_from_length}
+use Rattle.std.proofs.lemmas.Result.{on_ok_weaker}
+use Rattle.lc_range.specs.declared.fault.RangeFault.{RangeFault}
+use Rattle.lc_range.specs.declared.fault.RangeFault.TheVariants.{NoMemory, TooManyRanges}
+use Rattle.lc_range.proofs.FirstLemmas.{first_kept, first_counted, first_copies, first_below, first_adds, never_above, first_needs, first_misses}
+use Rattle.lc_range.specs.RangeSet.{AddsPositions, CountsOutside, MissesSome, NeedsRunsAbove}
+use Rattle.lc_range.specs.Undo.{OldBytes, AddsCopies, KeepsOld, LiesBelow, NeedsBytesAbove, NeedsCopiesAbove, bytes_kept, first_bytes}
 use Rattle.lc_range.specs.Walk.{merged}
 use Rattle.lc_range.specs.declared.range.Range.{Range}
 use Rattle.lc_range.proofs.AddLemmas.{adds, ok_gives, err_gives, needs_misses}
 use Rattle.lc_range.proofs.RoomLemmas.{no_room_needs, room_needs}
 use Rattle.lc_range.proofs.SetLemmas.{needs_above}
 use Rattle.lc_range.proofs.range_set.RangeSet.add_kept.Goals as goal
-use Rattle.lc_range.proofs.range_set.RangeSet.add_kept.Goals.{After-truncate}
+use Rattle.lc_range.proofs.range_set.RangeSet.add_kept.Goals.{After-add_first, After-truncate}
 
 abbrev the_range : ℕ → ℕ → ℕ → Range
 the_range segment offset len = record { segment = segment; offset = offset; len = len }
+
+-- the first range
+
+none_set : (c : After-add_first) → c.args.self.now ≡ []
+none_set c = sym c.ranges-2.ensures.runs ∙ nil_from_length c.ranges-2.result.now (eqb-true _ _ (sym c.is_empty.ensures ∙ c.if-is_empty.true))
+
+none_kept : (c : After-add_first) → c.args.undo.now ≡ []
+none_kept c = nil_from_length c.args.undo.now (sym c.copies.ensures ∙ c.if-copies-eq0.true)
+
+pub returns-then-copies-eq0-clause-adds : goal.returns-then-copies-eq0-clause-adds
+returns-then-copies-eq0-clause-adds c =
+    let e = first_adds c.args.self.now c.args.undo.now c.args.image.now c.args.segment c.args.offset c.args.len (none_set c) (none_kept c) c.requires.some (omega (arith, c.requires.within)) in
+    on_ok_weaker c.add_first.result (λ is. subst (λ (l : List Range). AddsPositions c.args.self.now c.args.segment c.args.offset c.args.len l) (sym is) e) c.add_first.ensures.adds
+
+pub returns-then-copies-eq0-clause-kept : goal.returns-then-copies-eq0-clause-kept
+returns-then-copies-eq0-clause-kept c =
+    let e = first_kept c.args.self.now c.args.undo.now c.args.image.now c.args.segment c.args.offset c.args.len (none_set c) (none_kept c) c.requires.some (omega (arith, c.requires.within)) in
+    on_ok_weaker c.add_first.result (λ is. subst (λ (l : List OldBytes). KeepsOld c.args.undo.now c.args.self.now c.args.segment c.args.offset c.args.len (slice_index c.args.image.now) l) (sym is) e) c.add_first.ensures.keeps
+
+pub returns-then-copies-eq0-clause-count : goal.returns-then-copies-eq0-clause-count
+returns-then-copies-eq0-clause-count c =
+    let e = first_counted c.args.self.now c.args.undo.now c.args.image.now c.args.segment c.args.offset c.args.len (none_set c) (none_kept c) c.requires.some (omega (arith, c.requires.within)) in
+    on_ok_weaker c.add_first.result
+    (λ is. subst (λ (l : List OldBytes). (n : ℕ) × CountsOutside c.args.self.now c.args.segment c.args.offset c.args.len n × (bytes_kept l ≡ bytes_kept c.args.undo.now + n)) (sym is) e)
+    c.add_first.ensures.keeps
+
+pub returns-then-copies-eq0-clause-copies : goal.returns-then-copies-eq0-clause-copies
+returns-then-copies-eq0-clause-copies c =
+    let e = first_copies c.args.self.now c.args.undo.now c.args.image.now c.args.segment c.args.offset c.args.len (none_set c) (none_kept c) c.requires.some (omega (arith, c.requires.within)) in
+    on_ok_weaker c.add_first.result (λ is. subst (λ (l : List OldBytes). AddsCopies c.args.undo.now c.args.self.now c.args.segment c.args.offset c.args.len l) (sym is) e) c.add_first.ensures.keeps
+
+pub returns-then-copies-eq0-clause-below : goal.returns-then-copies-eq0-clause-below
+returns-then-copies-eq0-clause-below c =
+    let e = first_below c.args.self.now c.args.undo.now c.args.image.now c.args.segment c.args.offset c.args.len (none_set c) (none_kept c) c.requires.some (omega (arith, c.requires.within)) in
+    on_ok_weaker c.add_first.result
+    (λ is. subst (λ (l : List OldBytes). (s bound : ℕ) → LiesBelow c.args.undo.now s bound → (s ≡ c.args.segment → c.args.offset + c.args.len ≤ bound) → LiesBelow l s bound) (sym is) e)
+    c.add_first.ensures.keeps
+
+pub returns-then-copies-eq0-clause-front : goal.returns-then-copies-eq0-clause-front
+returns-then-copies-eq0-clause-front c =
+    let none = none_kept c in
+    on_ok_weaker c.add_first.result (λ is. ap (λ (l : List OldBytes). first_bytes (bytes_kept l) c.add_first.new.undo) none ∙ sym none) c.add_first.ensures.keeps
+
+pub returns-then-copies-eq0-clause-too_many : goal.returns-then-copies-eq0-clause-too_many
+returns-then-copies-eq0-clause-too_many c = (
+  λ e. absurd (not_many c.add_first.result c.add_first.ensures.faults e),
+  λ needs. absurd (never_above c.args.self.now c.args.undo.now c.args.image.now c.args.segment c.args.offset c.args.len (none_set c) (none_kept c) c.requires.some (omega (arith, c.requires.within)) 64 (omega arith) needs),
+)
+  where
+    not_many : (r : Result Unit RangeFault) → IfErr r (λ fault. fault ≡ NoMemory) → r ≡ Err TooManyRanges → ⊥
+    not_many (Ok x) is e = absurd cc
+    not_many (Err x) is e = absurd cc
+
+pub returns-then-copies-eq0-clause-no_memory : goal.returns-then-copies-eq0-clause-no_memory
+returns-then-copies-eq0-clause-no_memory c = λ e.
+    first_misses c.args.self.now c.args.undo.now c.args.image.now c.args.segment c.args.offset c.args.len (none_set c) (none_kept c) c.requires.some (omega (arith, c.requires.within))
+
+pub returns-then-copies-eq0-clause-needs : goal.returns-then-copies-eq0-clause-needs
+returns-then-copies-eq0-clause-needs c = λ e.
+    inr (inr (first_needs c.args.self.now c.args.undo.now c.args.image.now c.args.segment c.args.offset c.args.len (none_set c) (none_kept c) c.requires.some (omega (arith, c.requires.within))
+    (err_gives c.add_first.result (ap is_err e) c.add_first.ensures.needs)))
+
+-- one behind others
 
 pub keep_at-requires-clause-within : goal.keep_at-requires-clause-within
 keep_at-requires-clause-within c =

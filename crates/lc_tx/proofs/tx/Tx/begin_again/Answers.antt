@@ -59,7 +59,7 @@ lock-requires-2-clause-here g c = λ s e.
     let mid = c.first_shut-written.new.images in
     let last = c.first_shut-read.new.images in
     let free : (s : ℕ) → IsLockable m old c.args.segments.now c.args.reading.now s = free_all m old mid c.args.segments.now c.args.reading.now c.first_shut-written.result c.first_shut-read.result c.lesser.result
-    c.first_shut-written.ensures.same c.first_shut-written.ensures.least c.first_shut-read.ensures.least c.lesser.ensures c.in_default.is in
+    c.first_shut-written.ensures.same c.first_shut-written.ensures.least c.first_shut-read.ensures.least c.lesser.ensures c.in_default-lesser.is in
     let same : IsSame m old last = same_chained m (laws g) old mid last c.first_shut-written.ensures.same c.first_shut-read.ensures.same in
     here_along m c.as_slice.result.now last c.lock.new.images s c.lock.ensures.same
     (here_along m [] old last s same
@@ -69,7 +69,7 @@ lock-requires-2-clause-here g c = λ s e.
 free : (g : Over) (c : After-lock-2 g) → (s : ℕ) → IsLockable g.I.Images c.args.images.now c.args.segments.now c.args.reading.now s
 free g c =
     free_all g.I.Images c.args.images.now c.first_shut-written.new.images c.args.segments.now c.args.reading.now c.first_shut-written.result c.first_shut-read.result c.lesser.result
-    c.first_shut-written.ensures.same c.first_shut-written.ensures.least c.first_shut-read.ensures.least c.lesser.ensures c.in_default.is
+    c.first_shut-written.ensures.same c.first_shut-written.ensures.least c.first_shut-read.ensures.least c.lesser.ensures c.in_default-lesser.is
 
 begins : (g : Over) (c : After-lock-2 g)
     → Begins g.I.Images c.args.thread c.args.segments.now c.args.reading.now c.args.images.now c.lock-2.new.images
