@@ -1,11 +1,12 @@
 //! The calls of the flusher.
 ghost use Rattle.std.specs.Prelude.{◌≡◌, ◌≢◌, List, ℕ, ◌+◌, ◌<◌, ◌≤◌, ◌++◌, length, slice_index, take as list_take};
-ghost use Rattle.lc_stage.specs.Staging.{loaded, taking, IsOneRecord, AreRecords, RaisesDurable};
+ghost use Rattle.lc_stage.specs.Staging.{loaded, taking, word_of, IsOneRecord, AreRecords, RaisesDurable};
 ghost use Rattle.lc_stage.specs.Publishing.{HoldsTaken};
 ghost use Rattle.lc_stage.specs.Seats.{flush_view, IsFlusherOf, OnlyLoads, OnlyTakes, EndsAt, publishing};
 
 use crate::Stage;
 use crate::layout::{DURABLE, ROUNDS};
+use crate::pending::Pending;
 use crate::plays::{Copied, Header, Publish};
 use crate::seats::FlushSeat;
 use lc_disk::Area;
@@ -27,6 +28,7 @@ impl Stage {
         ensures ends { EndsAt self.now.room (flush_view flusher.old) (flush_view flusher.new) }
     {
         group.clear();
+        let mut pending = Pending::new();
         let first = flusher.end;
         'records: while flusher.end < self.room {
             let start = flusher.end;
@@ -34,10 +36,11 @@ impl Stage {
             if found == 0 {
                 break;
             }
-            group.push(found);
+            pending.push(found, group);
             let end = flusher.end;
-            self.copy_range(flusher, start + 1, end, group);
+            self.copy_range(flusher, start + 1, end, &mut pending, group);
         }
+        pending.finish(group);
         flusher.end - first
     }
 
@@ -72,32 +75,42 @@ impl Stage {
         found
     }
 
-    // Loads a place that was taken.
-    fn copy(&self, flusher: &mut FlushSeat, place: u32) -> u64
+    // Loads a place that was taken, where the first of its round is this word of the table.
+    fn copy(&self, flusher: &mut FlushSeat, first: usize, place: u32) -> u64
         requires own { IsFlusherOf self.now flusher.old }
+        requires first { first ≡ word_of self.now.room (length (flush_view flusher.old).past) 0 }
         requires taken { place < length (flush_view flusher.old).taken }
         requires uncleared { (flush_view flusher.old).cleared ≡ 0 }
         ensures same { IsFlusherOf self.now flusher.new }
         ensures load { flush_view flusher.new ≡ loaded place result (flush_view flusher.old) }
         ensures word { result ≡ slice_index (flush_view flusher.old).taken place }
     {
-        let at = self.word_of(flusher.round, place);
+        let at = first + place as usize;
         self.table.shared.load::<Copied>(&mut flusher.seat, at)
     }
 
-    // Adds to the group the words of the places from start to end, which were taken.
-    fn copy_range(&self, flusher: &mut FlushSeat, start: u32, end: u32, group: &mut Group)
+    // Adds to the words that wait for the group those of the places from start to end, which were taken.
+    fn copy_range(
+        &self,
+        flusher: &mut FlushSeat,
+        start: u32,
+        end: u32,
+        pending: &mut Pending,
+        group: &mut Group,
+    )
         requires own { IsFlusherOf self.now flusher.old }
         requires taken { (start ≤ end) × (end ≤ length (flush_view flusher.old).taken) }
         requires uncleared { (flush_view flusher.old).cleared ≡ 0 }
-        requires room { length group.old.words + end ≤ group.old.room + start }
+        requires room { length (group.old.words ++ pending.old) + end ≤ group.old.room + start }
         ensures same { IsFlusherOf self.now flusher.new × (group.new.room ≡ group.old.room) }
         ensures loads { OnlyLoads (flush_view flusher.old) (flush_view flusher.new) }
-        ensures words { (front : List ℕ) → front ++ group.old.words ≡ list_take start (flush_view flusher.old).taken → front ++ group.new.words ≡ list_take end (flush_view flusher.old).taken }
+        ensures words { (front : List ℕ) → front ++ (group.old.words ++ pending.old) ≡ list_take start (flush_view flusher.old).taken
+            → front ++ (group.new.words ++ pending.new) ≡ list_take end (flush_view flusher.old).taken }
     {
+        let first = self.word_of(flusher.round, 0);
         for place in start..end {
-            let word = self.copy(flusher, place);
-            group.push(word);
+            let word = self.copy(flusher, first, place);
+            pending.push(word, group);
         }
     }
 }

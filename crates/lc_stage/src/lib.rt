@@ -6,6 +6,7 @@ mod fault;
 mod flush;
 mod laws;
 mod layout;
+mod pending;
 mod plays;
 mod receipt;
 mod rounds;

@@ -1,8 +1,9 @@
 -- The least lock above what is known, of the first locks of a record and of the records with which words begin.
-use Rattle.std.proofs.Common.{◌≡◌, ◌⊎◌, ℕ, ◌+◌, ◌<◌, ◌≤◌, eqb, ltb, List, [], ◌∷◌, ◌++◌, Option, Some, None, length, take, drop, get_or, Contains, refl, sym, ◌∙◌, ap, subst, inl, inr, arith, take-append-drop}
+use Rattle.std.proofs.Common.{◌≡◌, ◌⊎◌, ℕ, suc, ◌+◌, ◌<◌, ◌≤◌, eqb, ltb, List, [], ◌∷◌, ◌++◌, Option, Some, None, length, take, drop, Contains, refl, sym, ◌∙◌, ap, subst, inl, inr, arith, length-append, take-append-drop}
 use Rattle.std.specs.Prelude.{slice_get}
 use Rattle.std.proofs.lemmas.Bool.{cases_Bool, cases_lt, eqb-true, ltb-true, ltb-false}
-use Rattle.std.proofs.lemmas.List.{take_more, take_all}
+use Rattle.std.proofs.lemmas.List.{drop_at, nil_from_length, take_more, take_all}
+use Rattle.std.specs.List.{concat}
 use Rattle.std.proofs.lemmas.Option.{slice_get_within, slice_get_cases, none-some, get_or_from_slice_get}
 use Rattle.std.proofs.lemmas.List.Elements.{Contains-push, Contains-push_cases, Contains-append_cases, Contains-append_left, Contains-append_right}
 use Rattle.lc_record.specs.Record.{record_len}
@@ -10,8 +11,8 @@ use Rattle.lc_record.specs.Newest.{number_or_zero}
 use Rattle.lc_record.specs.Codec.{BeginsWith, BeginsNoRecord}
 use Rattle.lc_record.specs.declared.record.Record.{Record}
 use Rattle.lc_record.specs.declared.record.Lock.{Lock}
-use Rattle.lc_record.proofs.RecordLemmas.{begins_once}
-use Rattle.lc_trunc.specs.Reset.{BeginWith, IsAbove, IsAboveIn, IsLeastOf, above, lesser}
+use Rattle.lc_record.proofs.RecordLemmas.{begins_from, begins_once, record_length, record_some}
+use Rattle.lc_trunc.specs.Reset.{AreRecords, BeginWith, IsAbove, IsAboveIn, IsLeastOf, IsOneRecord, above, lesser}
 use Rattle.lc_trunc.specs.declared.unclean.Unclean.{Unclean}
 use Rattle.lc_trunc.proofs.LeastLemmas.{lesser_again, lesser_least, lesser_none, same_least}
 
@@ -147,3 +148,40 @@ module _ (known : ℕ → ℕ) where
       | inr lock ↦ absurd (none segment (number_or_zero segment r.locks) (rs, r, begin, among, (lock, high)))
     ]
   ]
+
+-- Words that are records
+
+no_record_of_none : BeginsNoRecord []
+no_record_of_none r front rest is e = absurd (omega (arith, record_some r front is, ap (λ (l : List ℕ). length l) e, length-append front rest))
+
+-- the first of them, and those behind it
+pub record Led (words : List ℕ) : Type 0 where
+  pub its : Record
+  pub begins : BeginsWith words its (record_len its)
+  pub behind : AreRecords (drop (record_len its) words)
+
+pub first_record : (words : List ℕ) → AreRecords words → 0 < length words → Led words
+first_record words ([], each, is) some = absurd (omega (arith, some, ap (λ (l : List ℕ). length l) is))
+first_record words (front ∷ records, each, is) some =
+    let one : IsOneRecord front = each 0 [] (omega arith) in
+    let r : Record = one.0 in
+    let long : length front ≡ record_len r = record_length r front one.1 in
+    let begins : BeginsWith (front ++ concat records) r (record_len r) = subst (λ (n : ℕ). BeginsWith (front ++ concat records) r n) long (begins_from r front (concat records) one.1) in
+    let rest : drop (record_len r) words ≡ concat records = ap (drop (record_len r)) is ∙ drop_at front (concat records) (record_len r) long in
+    record {
+      its = r;
+      begins = subst (λ (l : List ℕ). BeginsWith l r (record_len r)) (sym is) begins;
+      behind = (records, (λ k d lt. each (suc k) d (omega (arith, lt))), rest);
+    }
+
+-- behind a record that they begin with are records
+pub records_behind : (words : List ℕ) (r : Record) → AreRecords words → 0 < length words → BeginsWith words r (record_len r) → AreRecords (drop (record_len r) words)
+records_behind words r are some begins =
+    let led = first_record words are some in
+    let same : led.its ≡ r = (begins_once words led.its r (record_len led.its) (record_len r) led.begins begins).0 in
+    subst (λ (q : Record). AreRecords (drop (record_len q) words)) same led.behind
+
+-- once all records were looked at
+pub onward_end : (known : ℕ → ℕ) (words rest : List ℕ) (least : Option Unclean) → length rest ≡ 0 → IsOnward known words rest least → IsLeastOf (IsAbove words known) least
+onward_end known words rest least none before =
+    onward_all known words rest least (subst BeginsNoRecord (sym (nil_from_length rest none)) no_record_of_none) before

@@ -1,6 +1,7 @@
 -- Which locks of a log's records are above what is known to be on the pages.
-use Rattle.std.specs.Prelude.{◌≡◌, ℕ, ◌<◌, ◌||◌, ◌&&◌, ◌==◌, nat_lt, Bool, List, [], ◌∷◌, drop, Option, Some, None, Contains, if◌then◌else◌}
-use Rattle.lc_record.specs.Record.{record_len}
+use Rattle.std.specs.Prelude.{◌≡◌, ℕ, ◌<◌, ◌||◌, ◌&&◌, ◌==◌, nat_lt, Bool, List, [], ◌∷◌, drop, Option, Some, None, All, Contains, if◌then◌else◌}
+use Rattle.std.specs.List.{concat}
+use Rattle.lc_record.specs.Record.{record_len, IsRecord}
 use Rattle.lc_record.specs.Codec.{BeginsWith}
 use Rattle.lc_record.specs.declared.record.Record.{Record}
 use Rattle.lc_record.specs.declared.record.Lock.{Lock}
@@ -11,6 +12,14 @@ use Rattle.lc_trunc.specs.declared.unclean.Unclean.{Unclean}
 abbrev pub BeginWith : List Record → List ℕ → Type 0
 BeginWith [] words = Unit {0}
 BeginWith (r ∷ rs) words = BeginsWith words r (record_len r) × BeginWith rs (drop (record_len r) words)
+
+-- the words are one record, whole
+abbrev pub IsOneRecord : List ℕ → Type 0
+IsOneRecord words = (r : Record) × IsRecord r words
+
+-- the words are those of whole records, one after another
+abbrev pub AreRecords : List ℕ → Type 0
+AreRecords words = (records : List (List ℕ)) × All IsOneRecord records × (words ≡ concat records)
 
 -- one of these locks is the segment's under this number, which is above what is known
 abbrev pub IsAboveIn : List Lock → (ℕ → ℕ) → ℕ → ℕ → Type 0

@@ -10,5 +10,5 @@ mod unclean;
 pub use dirty::dirty_pages;
 pub use known_clean::KnownClean;
 pub use laws::{clean_pages, known_is_clean, known_numbers};
-pub use reset::{above, lesser, may_reset};
+pub use reset::{above, lesser, may_reset, may_reset_kept};
 pub use unclean::Unclean;

@@ -2,7 +2,7 @@
 ghost use Rattle.std.specs.Prelude.{◌≡◌, ◌↔◌, ℕ, Err, IsOk};
 ghost use Rattle.lc_model.specs.Merge.{IsLeastPair};
 ghost use Rattle.lc_trunc.specs.KnownClean.{known as known_of};
-ghost use Rattle.lc_trunc.specs.Reset.{AreKnown, IsAbove, IsAboveIn, IsLeastOf, above, is_before, lesser};
+ghost use Rattle.lc_trunc.specs.Reset.{AreKnown, AreRecords, IsAbove, IsAboveIn, IsLeastOf, above, is_before, lesser};
 
 use crate::{KnownClean, Unclean};
 use lc_record::{Lock, View};
@@ -28,6 +28,39 @@ pub fn may_reset(words: &[u64], known: &KnownClean) -> Result<(), Unclean>
         Some(unclean) => Err(unclean),
         None => Ok(()),
     }
+}
+
+/// The same of words that are known to be those of whole records, one after another, as a log keeps them: of each
+/// record only the length and the locks are read. It takes no memory.
+///
+/// # Errors
+///
+/// Those of `may_reset`.
+pub fn may_reset_kept(words: &[u64], known: &KnownClean) -> Result<(), Unclean>
+    requires { AreRecords words.now }
+    ensures unclean { (segment seq : ℕ) → (result ≡ Err (record { segment = segment; seq = seq })) ↔ IsLeastPair (IsAbove words.now (known_of known.now)) segment seq }
+    ensures clean { IsOk result ↔ AreKnown words.now (known_of known.now) }
+{
+    if let Some(least) = least_kept(words, known) {
+        return Err(least);
+    }
+    Ok(())
+}
+
+// The least lock of these records that is above what is known.
+fn least_kept(words: &[u64], known: &KnownClean) -> Option<Unclean>
+    requires { AreRecords words.now }
+    ensures { IsLeastOf (IsAbove words.now (known_of known.now)) result }
+{
+    let mut place = 0;
+    let mut least = None;
+    while place < words.len() {
+        let record = View::kept_at(words, place);
+        let own = least_in(&record, known);
+        least = lesser(least, own);
+        place += record.len();
+    }
+    least
 }
 
 // The least lock of the record that is above what is known.
