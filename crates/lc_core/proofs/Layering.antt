@@ -1,6 +1,6 @@
 -- What an event that wants no memory does, from the nodes up to the store.
 use Rattle.std.proofs.Common.{◌≡◌, ℕ, ◌++◌, false, true, List, Option, Some, None, get_or, refl, sym, ap, subst, ◌∙◌, true≢false}
-use Rattle.std.specs.Prelude.{Result, Ok, Err, IfErr}
+use Rattle.std.specs.Prelude.{Result, Ok, Err, IfErr, option_map, slice_set}
 use Rattle.std.specs.declared.alloc.AllocError.{AllocError}
 use Rattle.std.specs.Global.{Vec}
 use Rattle.lc_disk.specs.declared.area.Area.{Ghosts}
@@ -15,14 +15,15 @@ use Rattle.lc_model.specs.declared.refusal.Refusal.{Refusal}
 use Rattle.lc_model.specs.declared.refusal.Refusal.TheVariants.{Down as IsDown}
 use Rattle.lc_model.specs.declared.reply.Reply.{Reply}
 use Rattle.lc_model.specs.declared.reply.Reply.TheVariants.{Refused}
-use Rattle.lc_core.specs.Calls.{CallsArea}
+use Rattle.lc_core.specs.Answered.{Tries}
+use Rattle.lc_core.specs.Calls.{CallsArea, KeepsAreas}
 use Rattle.lc_core.specs.FaultReplies.{CountsFaults}
-use Rattle.lc_core.specs.Faults.{CountsPhase, area_failures, log_failures, logs_of, phase_failures}
+use Rattle.lc_core.specs.Faults.{CountsPhase, SameDevices, area_failures, log_failures, logs_of, phase_failures}
 use Rattle.lc_core.specs.FollowsDesk.{FollowsOpen}
 use Rattle.lc_core.specs.Geometries.{RefusesUnknown, phase_geometry}
-use Rattle.lc_core.specs.Layers.{StepsRunning, StepsUp}
+use Rattle.lc_core.specs.Layers.{StepsRunning, StepsUp, TriesRunning, TriesUp}
 use Rattle.lc_core.specs.MayReply.{is_common, may_read}
-use Rattle.lc_core.specs.NodeSteps.{StepsNode}
+use Rattle.lc_core.specs.NodeSteps.{StepsNode, is_own}
 use Rattle.lc_core.specs.Numbers.{Numbers}
 use Rattle.lc_core.specs.Pages.{areas_of}
 use Rattle.lc_core.specs.Refuses.{ActsRunning, Refuses}
@@ -30,7 +31,7 @@ use Rattle.lc_core.specs.Recovers.{RefusesAtOnce}
 use Rattle.lc_core.specs.Running.{FitsRunning, Onward}
 use Rattle.lc_core.specs.Stepping.{StepsOn, TellsWriting, is_plain, works_up}
 use Rattle.lc_core.specs.Truncating.{StepsTo}
-use Rattle.lc_core.specs.World.{Leads}
+use Rattle.lc_core.specs.World.{AsksIn, FitsPhase, Leads}
 use Rattle.lc_core.specs.declared.node.Node.{Node}
 use Rattle.lc_core.specs.declared.pages.Pages.{Pages}
 use Rattle.lc_core.specs.declared.phase.Phase.{Phase}
@@ -38,20 +39,25 @@ use Rattle.lc_core.specs.declared.phase.Phase.TheVariants.{Up}
 use Rattle.lc_core.specs.declared.running.Running.{Running}
 use Rattle.lc_core.specs.declared.up.Up.{Up as Rising}
 use Rattle.lc_core.specs.declared.world.World.{World}
+use Rattle.std.proofs.lemmas.Result.{IfOk-weaker}
+use Rattle.lc_core.proofs.Asking.{asks_world}
 use Rattle.lc_core.proofs.AtOnce.{stands}
-use Rattle.lc_core.proofs.Failures.{up_counts}
+use Rattle.lc_core.proofs.Devices.{steps_devices}
+use Rattle.lc_core.proofs.Logged.{err_then}
+use Rattle.lc_core.proofs.Refusing.{if_ok_both, on_err_both}
+use Rattle.lc_core.proofs.Failures.{up_counts, up_still_failed}
 use Rattle.lc_core.proofs.CallsTold.{refused_free, refused_log}
 use Rattle.lc_core.proofs.Faults.{quiet}
 use Rattle.lc_core.proofs.Geometries.{down_outside, refuses_known, up_geometry, up_outside}
 use Rattle.lc_core.proofs.Names.{answers_may, common_may, common_quiet, plain_acts, works_acts}
-use Rattle.lc_core.proofs.NodeSteps.{desk_steps, follows_there}
-use Rattle.lc_core.proofs.OneArea.{calls_none, step_calls, up_calls}
+use Rattle.lc_core.proofs.NodeSteps.{desk_steps, err_there, faults_there, follows_there, known_there, logs_there, memory_there}
+use Rattle.lc_core.proofs.OneArea.{calls_none, step_calls, step_keeps, up_calls, up_keeps}
 use Rattle.lc_core.proofs.Ordinary.{follows_step, refused_step}
 use Rattle.lc_core.proofs.OwnReplies.{own_known, own_no_fault}
-use Rattle.lc_core.specs.Lives.{Anyhow}
-use Rattle.lc_core.proofs.Living.{others_told, up_told}
-use Rattle.lc_core.proofs.Recoveries.{not_up, runs_up, up_follows}
-use Rattle.lc_core.proofs.StaysHonest.{stays_honest}
+use Rattle.lc_core.specs.Lives.{Anyhow, StillLives}
+use Rattle.lc_core.proofs.Living.{others_told, up_still_lives, up_told}
+use Rattle.lc_core.proofs.Recoveries.{not_up, runs_up, up_follows, up_still}
+use Rattle.lc_core.proofs.StaysHonest.{keeps_honest, stays_honest}
 use Rattle.lc_core.proofs.Recovers.{down_refuses, up_asks}
 use Rattle.lc_core.proofs.Seating.{set_same}
 
@@ -72,6 +78,32 @@ module _ {D : Type 0} (a : Ghosts D) where
         fits = on.fits;
       }
 
+  -- what its node does, where nothing refuses it at once
+  module _ (w : Running D a) (event : Event) (own : is_own event ≡ true) (o : Option Refusal) (refuses : Refuses a w event o) (none : o ≡ None) (is : is_known w.geometry event ≡ true)
+      (runs : ActsRunning a (named event) w.nodes.items) (n : ℕ) (acts : Some n ≡ option_map (λ its. its.node) (named event)) (node : Node D a) (read : node ≡ get_or w.nodes.items n node)
+      (result : Result Reply AllocError) (new : Node D a) (steps : StepsNode a n event node result new)
+      (later : Running D a) (geometry : later.geometry ≡ w.geometry) (nodes : later.nodes.items ≡ slice_set w.nodes.items n new) (travelling : later.travelling.items ≡ w.travelling.items) where
+    pub node_tries : TriesRunning a w event result later
+    node_tries =
+        let follows = follows_there a w event own is runs n acts node read result new steps in
+        let told = faults_there a w event own is runs n acts node read result new steps in
+        let known = known_there a w event own is runs n acts node read result new steps in
+        record {
+          steps = IfOk-weaker result _ _ (λ reply all. record {
+            follows = rw (geometry, nodes, travelling) (row_steps w event o refuses none reply w.geometry (slice_set w.nodes.items n new) w.travelling.items all.0);
+            counts = record {
+              counts = rw nodes all.1.0.0;
+              devices = record { geometry = geometry; kinds = rw nodes all.1.0.1 };
+              calls = rw nodes all.1.0.2;
+            };
+            unknown = refuses_known w.geometry event reply is all.1.1.0;
+            names = answers_may event reply all.1.1.1;
+          }) (if_ok_both result _ _ follows (if_ok_both result _ _ told (if_ok_both result _ _ known steps.names)));
+          memory = err_then result (memory_there a w event own is runs n acts node read result new steps) (λ wants. (subst (λ (r : Option Refusal). Refuses a w event r) none refuses, wants));
+          err = err_then result (err_there a w event own is runs n acts node read result new steps) (λ still m s x h. rw (geometry, nodes, travelling) (still m s x h));
+          no_fault = err_then result (logs_there a w event own is runs n acts node read result new steps) (λ same. record { geometry = geometry; logs = rw nodes same });
+        }
+
   -- what is refused at once
   pub refused_running : (w : Running D a) (event : Event) (o : Option Refusal) → Refuses a w event o → (refusal : Refusal) → o ≡ Some refusal → is_plain event ≡ true
       → is_common refusal ≡ true → RefusesUnknown w.geometry event (Refused refusal) → StepsRunning a w event (Refused refusal) w
@@ -80,6 +112,16 @@ module _ {D : Type 0} (a : Ghosts D) where
     counts = quiet a w event (Refused refusal) w (refused_log event refusal (common_quiet refusal common)) (common_quiet refusal common) (record { geometry = refl; logs = refl });
     unknown = unknown;
     names = common_may event refusal (plain_acts event plain) common;
+  }
+
+  -- also where it may want memory
+  pub refused_tries : (w : Running D a) (event : Event) (o : Option Refusal) → Refuses a w event o → (refusal : Refusal) → o ≡ Some refusal → is_plain event ≡ true
+      → is_common refusal ≡ true → RefusesUnknown w.geometry event (Refused refusal) → TriesRunning a w event (Ok (Refused refusal)) w
+  refused_tries w event o refuses refusal some plain common unknown = record {
+    steps = refused_running w event o refuses refusal some plain common unknown;
+    memory = tt;
+    err = tt;
+    no_fault = tt;
   }
 
   -- what a thread is shown changes nothing
@@ -117,6 +159,27 @@ module _ {D : Type 0} (a : Ghosts D) where
         names = steps.names;
       }
 
+  -- also where it may want memory
+  pub up_tries : (up later : Rising D a) (event : Event) (result : Result Reply AllocError) → is_plain event ≡ true → ((m : Setting) (x : Numbers) → TellsWriting m x event false) → later.segments ≡ up.segments
+      → TriesRunning a up.running event result later.running → TriesUp a up event result later
+  up_tries up later event result plain told segments tries = record {
+    steps = IfOk-weaker result _ _ (λ reply. up_steps up later event reply plain told segments) tries.steps;
+    memory = tries.memory;
+    err = err_then result (on_err_both result _ _ tries.err tries.no_fault) (λ both m s x h. record {
+      running = both.0 m s x h.running;
+      pages = rw segments h.pages;
+      failed = rw segments h.failed;
+    });
+    no_fault = err_then result tries.no_fault (λ same.
+        subst (λ (v : Vec (Pages D a)). log_failures a (logs_of a later.running.nodes.items) ++ area_failures a (areas_of a v.items) ≡ phase_failures a (Up up)) (sym segments) (up_still_failed a up later.running same));
+    geometry = err_then result tries.no_fault (λ same. same.geometry);
+    kept = step_keeps a up later result (ap (λ (v : Vec (Pages D a)). areas_of a v.items) segments) tries.no_fault;
+  }
+
+  -- the devices are the same, whatever is answered
+  pub tries_devices : (old new : Running D a) (event : Event) (result : Result Reply AllocError) → TriesRunning a old event result new → SameDevices a old new
+  tries_devices old new event result tries = steps_devices a old new event result (IfOk-weaker result _ _ (λ reply steps. steps.counts) tries.steps) tries.no_fault
+
   pub steps_up : (old new : World D a) (up later : Rising D a) (event : Event) (reply : Reply) → old.phase ≡ Up up → new.phase ≡ Up later → (event ≡ RecoverStep → ⊥) → StepsUp a up event reply later
       → StepsTo a old event reply new
   steps_up old new up later event reply was is other steps = record {
@@ -130,6 +193,22 @@ module _ {D : Type 0} (a : Ghosts D) where
     calls = subst (λ (p : Phase D a). CallsArea a old.phase event reply p) (sym is) (up_calls a old.phase up later event reply was steps.calls);
     names = steps.names;
   }
+
+  -- and so where it may want memory
+  pub tries_up : (old new : World D a) (up later : Rising D a) (event : Event) (result : Result Reply AllocError) → old.phase ≡ Up up → new.phase ≡ Up later → (event ≡ RecoverStep → ⊥) → TriesUp a up event result later
+      → Tries a old event result new
+  tries_up old new up later event (Ok reply) was is other tries = steps_up old new up later event reply was is other tries.steps
+  tries_up old new up later event (Err fault) was is other tries =
+      let asks : AsksIn a old.phase event = subst (λ (p : Phase D a). AsksIn a p event) (sym was) tries.memory in
+      record {
+        asks = asks_world a old event asks;
+        at_all = asks;
+        still = λ m s x h. subst (λ (p : Phase D a). FitsPhase a m p s x) (sym is) (up_still a old.phase up later was (keeps_honest a up later tries.kept) tries.err m s x h);
+        lives = subst (λ (p : Phase D a). StillLives a old.phase p) (sym is) (up_still_lives a old.phase up later was tries.err);
+        failures = ap (phase_failures a) is ∙ tries.no_fault ∙ ap (phase_failures a) (sym was);
+        geometry = ap (phase_geometry a) is ∙ up_geometry a old.phase up later was tries.geometry;
+        kept = subst (λ (p : Phase D a). KeepsAreas a old.phase p) (sym is) (up_keeps a old.phase up later was tries.kept);
+      }
 
   -- one that is down does nothing
   pub steps_down : (old new : World D a) → new.phase ≡ old.phase → (event : Event) → works_up event ≡ true → ((up : Rising D a) → old.phase ≡ Up up → ⊥) → StepsTo a old event (Refused IsDown) new

@@ -141,3 +141,4 @@ pub mod StaysHonest
 pub mod PageSeen
 pub mod Living
 pub mod Anew
+pub mod EndCalls

@@ -1,6 +1,6 @@
 -- A step of one node, and of the store that it is of.
 use Rattle.std.proofs.Common.{Bool, ◌≡◌, ℕ, ◌<◌, true, false, ◌++◌, [], ◌∷◌, List, Option, Some, None, get_or, refl, sym, ap, subst, ◌∙◌, arith}
-use Rattle.std.specs.Prelude.{Result, IfOk, OnErr, option_map, slice_get, slice_set, vec_len}
+use Rattle.std.specs.Prelude.{Result, Ok, IfOk, OnErr, option_map, slice_get, slice_set, vec_len}
 use Rattle.std.specs.declared.alloc.AllocError.{AllocError}
 use Rattle.std.proofs.lemmas.Result.{IfOk-weaker}
 use Rattle.lc_disk.specs.declared.area.Area.{Ghosts}
@@ -18,9 +18,9 @@ use Rattle.lc_core.specs.FaultReplies.{CountsFaults, TellsFault, is_unknown}
 use Rattle.lc_core.specs.Faults.{CallsLog, areas_in, log_failures, log_kinds, logs_of}
 use Rattle.lc_core.specs.FollowsDesk.{FollowsOpen, StillFits}
 use Rattle.lc_core.specs.Here.{the_images}
-use Rattle.lc_core.specs.Log.{area_of, is_failed}
-use Rattle.lc_core.specs.MayReply.{may_answer}
-use Rattle.lc_core.specs.Node.{moved_by}
+use Rattle.lc_core.specs.Log.{area_of, is_failed, is_sealed}
+use Rattle.lc_core.specs.MayReply.{done_or, is_turn, may_answer, may_reserve}
+use Rattle.lc_core.specs.Node.{FollowsNode, FollowsReserve, HasSameRoom, StillFitsNode, WantsPlace, moved_by}
 use Rattle.lc_core.specs.NodeSteps.{IsOf, StepsNode, WantsOf, is_own}
 use Rattle.lc_core.specs.Nodes.{AreWhole}
 use Rattle.lc_core.specs.Numbers.{Numbers}
@@ -36,6 +36,7 @@ use Rattle.lc_core.specs.declared.desk.Desk.{Desk}
 use Rattle.lc_core.specs.declared.log.Log.{Log}
 use Rattle.lc_core.specs.declared.node.Node.{Node}
 use Rattle.lc_core.specs.declared.running.Running.{Running}
+use Rattle.lc_record.proofs.ListLemmas.{OnErr_from as on_err}
 use Rattle.lc_core.proofs.AtOnce.{stands}
 use Rattle.lc_core.proofs.CallsTold.{log_of}
 use Rattle.lc_core.proofs.Faults.{flush_counts, logs_stay, one_called, own_tells, same_kinds}
@@ -134,6 +135,33 @@ module _ {D : Type 0} (a : Ghosts D) where
         no_fault = err_then result err (λ still. refl);
         names = names;
       })
+
+  -- a reservation that is closed
+  pub closed_steps : (n thread : ℕ) (old : Node D a) (reply : Reply) (new : Node D a) → FollowsNode a n (Close n thread) old reply new → HasSameRoom a old new → done_or is_turn reply ≡ true
+      → new.journal.log ≡ old.journal.log → StepsNode a n (Close n thread) old (Ok reply) new
+  closed_steps n thread old reply new follows room names log = record {
+    follows = λ m s x sound common fits sealed. follows m s x sound common fits;
+    memory = tt;
+    err = tt;
+    room = room;
+    device = plain_tells (done_or is_turn) refl refl false refl reply old.journal.log new.journal.log names log;
+    no_fault = tt;
+    names = names;
+  }
+
+  -- a transaction that gets its place
+  pub placed_steps : (n thread : ℕ) (old : Node D a) (result : Result Reply AllocError) (new : Node D a) → IfOk result (λ reply. FollowsReserve a n thread (is_sealed a old.journal.log) old reply new)
+      → OnErr result (WantsPlace a n thread (is_sealed a old.journal.log) old) → OnErr result (StillFitsNode a old new) → HasSameRoom a old new → IfOk result (λ reply. may_reserve reply ≡ true)
+      → new.journal.log ≡ old.journal.log → StepsNode a n (Reserve n thread) old result new
+  placed_steps n thread old result new follows memory err room names log = record {
+    follows = follows;
+    memory = memory;
+    err = err;
+    room = room;
+    device = IfOk-weaker result _ _ (λ reply its. plain_tells may_reserve refl refl false refl reply old.journal.log new.journal.log its log) names;
+    no_fault = on_err result _ log;
+    names = names;
+  }
 
   -- what it wants memory for, the store does
   pub wants_at : (w : Running D a) (n threads : ℕ) (event : Event) (node : Node D a) → slice_get w.nodes.items n ≡ Some node → is_failed a node.journal.log ≡ false → IsOf n threads event

@@ -1,5 +1,6 @@
 -- What the calls of a store hand out, as the replies to their events.
 use Rattle.std.specs.Prelude.{◌≡◌, ℕ, Bool, true, false, Option, Some, None, Result, Ok, Err}
+use Rattle.std.specs.declared.alloc.AllocError.{AllocError}
 use Rattle.lc_disk.specs.declared.area.Area.{Ghosts}
 use Rattle.lc_model.specs.declared.event.Event.{Event}
 use Rattle.lc_model.specs.declared.event.Event.TheVariants.{SetRange, Read, Reserve, Deliver, Begin, Write, Abort, Close, Leave, Arrive}
@@ -124,6 +125,11 @@ module _ {D : Type 0} (a : Ghosts D) where
   abbrev pub ComesTo : World D a → Event → Option Reply → World D a → Type 0
   ComesTo old event (Some reply) new = StepsTo a old event reply new
   ComesTo old event None new = WantsMemory old event new
+
+  -- so it did where this is answered, or there was no memory
+  abbrev pub Tries : World D a → Event → Result Reply AllocError → World D a → Type 0
+  Tries old event (Ok reply) new = StepsTo a old event reply new
+  Tries old event (Err fault) new = WantsMemory old event new
 
   -- a reservation that has a record is closed, and nothing else is
   abbrev pub ClosesBehind : ℕ → ℕ → Result Placement CallFault → World D a → Result Placement CallFault → World D a → Type 0

@@ -86,3 +86,4 @@ pub mod Unfinished
 pub mod Lives
 pub mod HonestAreas
 pub mod Anew
+pub mod EndCalls

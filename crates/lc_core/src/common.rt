@@ -5,10 +5,10 @@ ghost use Rattle.lc_core.specs.Refuses.{Refuses, ActsRunning};
 ghost use Rattle.std.specs.Option.{ForSome};
 ghost use Rattle.lc_core.specs.Geometries.{RefusesUnknown};
 ghost use Rattle.lc_core.specs.MayReply.{is_common};
-ghost use Rattle.lc_model.specs.declared.event.Event.TheVariants.{SetRange};
+ghost use Rattle.lc_model.specs.declared.event.Event.TheVariants.{Close, SetRange};
 ghost use Rattle.lc_model.specs.declared.reply.Reply.TheVariants.{Refused};
 
-use crate::named::{acting_node, is_known, knows_place};
+use crate::named::{acting_node, is_known, is_seat, knows_place};
 use crate::running::Running;
 use crate::{Event, Refusal};
 use lc_disk::Area;
@@ -44,6 +44,26 @@ impl<D: Area + Drop> Running<D> {
         ensures running { result ≡ None → ActsRunning D.Area (named (SetRange node thread segment 0 0)) self.now.nodes.items }
     {
         if !knows_place(&self.geometry, node, thread, segment) {
+            return Some(Refusal::Unknown);
+        }
+        let log = &self.nodes[node as usize].journal.log;
+        if log.is_failed() {
+            Some(Refusal::Halted)
+        } else {
+            None
+        }
+    }
+
+    /// Why what a thread asks without a segment is refused at once, be it a close: the node or the thread is unknown,
+    /// or the node is halted.
+    pub(crate) fn seat_refusal(&self, node: u16, thread: u16) -> Option<Refusal>
+        ensures refused { Refuses D.Area self.now (Close node thread) result }
+        ensures names { ForSome result (λ refusal. is_common refusal ≡ true) }
+        ensures unknown { ForSome result (λ refusal. RefusesUnknown self.now.geometry (Close node thread) (Refused refusal)) }
+        ensures known { result ≡ None → is_known self.now.geometry (Close node thread) ≡ true }
+        ensures running { result ≡ None → ActsRunning D.Area (named (Close node thread)) self.now.nodes.items }
+    {
+        if !is_seat(&self.geometry, node, thread) {
             return Some(Refusal::Unknown);
         }
         let log = &self.nodes[node as usize].journal.log;

@@ -2,7 +2,7 @@
 ghost use Rattle.std.specs.Prelude.{◌≡◌, ◌&&◌, option_map};
 ghost use Rattle.std.specs.List.{list_all};
 ghost use Rattle.lc_model.specs.Refusals.{is_known, is_node, is_page, is_thread, is_segment, named};
-ghost use Rattle.lc_model.specs.declared.event.Event.TheVariants.{Begin, SetRange};
+ghost use Rattle.lc_model.specs.declared.event.Event.TheVariants.{Begin, Close, SetRange};
 
 use crate::Event;
 use lc_record::Geometry;
@@ -120,9 +120,10 @@ pub(crate) fn is_page_of(geometry: &Geometry, node: u16, segment: u32, page: u32
     is_node(geometry, node) && is_segment(geometry, segment) && page < geometry.pages
 }
 
-// Whether the geometry has this node, and each node this thread.
-fn is_seat(geometry: &Geometry, node: u16, thread: u16) -> bool
-    ensures { result ≡ (is_node geometry.now node && is_thread geometry.now thread) }
+/// Whether the geometry has this node, and each node this thread.
+pub(crate) fn is_seat(geometry: &Geometry, node: u16, thread: u16) -> bool
+    ensures seat { result ≡ (is_node geometry.now node && is_thread geometry.now thread) }
+    ensures known { result ≡ is_known geometry.now (Close node thread) }
 {
     is_node(geometry, node) && thread < geometry.threads
 }

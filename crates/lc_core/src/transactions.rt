@@ -1,8 +1,8 @@
 //! The calls of a thread's transaction, by RVM's names.
-ghost use Rattle.std.specs.Prelude.{◌≡◌, IfErr, IfOk, Ok, length};
+ghost use Rattle.std.specs.Prelude.{◌≡◌, IfErr, IfOk, length};
 ghost use Rattle.lc_model.specs.declared.event.Event.TheVariants.{Abort, Begin, Close, Read, Reserve, SetRange, Write};
 ghost use Rattle.lc_model.specs.declared.reply.Reply.TheVariants.{Bytes, Refused};
-ghost use Rattle.lc_core.specs.Answered.{ClosesBehind, ComesTo, Ends, done, place_taken, range_set};
+ghost use Rattle.lc_core.specs.Answered.{ComesTo, Ends, Tries, done, place_taken, range_set};
 ghost use Rattle.lc_core.specs.Truncating.{StepsTo};
 
 use crate::call_fault::CallFault;
@@ -10,9 +10,9 @@ use crate::phase::Phase;
 use crate::placement::Placement;
 use crate::reply_values::{done, placement, range_set};
 use crate::world::World;
-use crate::{Event, Refusal, Reply};
+use crate::{Refusal, Reply};
 use lc_disk::Stoppable;
-use std::alloc::Global;
+use std::alloc::{AllocError, Global};
 
 impl<D: Stoppable + Drop> World<D> {
     /// A thread of a node begins a transaction: it locks the segments `writing`, from 1, for writing and `reading` for
@@ -53,7 +53,7 @@ impl<D: Stoppable + Drop> World<D> {
     /// `OutOfSegment`, `TooManyRanges`, and `NoMemory`. Nothing has changed then.
     pub fn set_range(
         &mut self,
-        alloc: Global,
+        _alloc: Global,
         node: u16,
         thread: u16,
         segment: u32,
@@ -62,15 +62,24 @@ impl<D: Stoppable + Drop> World<D> {
     ) -> Result<(), CallFault>
         ensures { ComesTo D.Area self.old (SetRange node thread segment offset len) (range_set result) self.new }
     {
-        let event = Event::SetRange {
-            node,
-            thread,
-            segment,
-            offset,
-            len,
-        };
-        let reply = self.step(alloc, &event)?;
+        let reply = self.set_range_reply(node, thread, segment, offset, len)?;
         range_set(&reply)
+    }
+
+    fn set_range_reply(
+        &mut self,
+        node: u16,
+        thread: u16,
+        segment: u32,
+        offset: u32,
+        len: u32,
+    ) -> Result<Reply, AllocError>
+        ensures { Tries D.Area self.old (SetRange node thread segment offset len) result self.new }
+    {
+        match &mut self.phase {
+            Phase::Up(up) => up.set_range(node, thread, segment, offset, len),
+            _ => Ok(Reply::Refused(Refusal::Down)),
+        }
     }
 
     /// The open transaction of a thread writes bytes over those of a segment, from 1, from `offset` on, each at a position
@@ -168,10 +177,20 @@ impl<D: Stoppable + Drop> World<D> {
     /// # Errors
     ///
     /// `Down`, `Unknown`, `Halted`, and `OutOfTurn` without an open transaction. Nothing has changed then.
-    pub fn abort(&mut self, alloc: Global, node: u16, thread: u16) -> Result<(), Refusal>
+    pub fn abort(&mut self, _alloc: Global, node: u16, thread: u16) -> Result<(), Refusal>
         ensures { StepsTo D.Area self.old (Abort node thread) (done result) self.new }
     {
-        self.carry_out(alloc, &Event::Abort { node, thread })
+        let reply = self.abort_reply(node, thread);
+        done(&reply)
+    }
+
+    fn abort_reply(&mut self, node: u16, thread: u16) -> Reply
+        ensures { StepsTo D.Area self.old (Abort node thread) result self.new }
+    {
+        match &mut self.phase {
+            Phase::Up(up) => up.abort(node, thread),
+            _ => Reply::Refused(Refusal::Down),
+        }
     }
 
     /// The open transaction of a thread gets its place in the log of its node; one that set nothing is over. Its locks are
@@ -184,8 +203,17 @@ impl<D: Stoppable + Drop> World<D> {
     pub fn reserve(&mut self, alloc: Global, node: u16, thread: u16) -> Result<Placement, CallFault>
         ensures { ComesTo D.Area self.old (Reserve node thread) (place_taken result) self.new }
     {
-        let reply = self.step(alloc, &Event::Reserve { node, thread })?;
+        let reply = self.reserve_reply(alloc, node, thread)?;
         placement(&reply)
+    }
+
+    fn reserve_reply(&mut self, alloc: Global, node: u16, thread: u16) -> Result<Reply, AllocError>
+        ensures { Tries D.Area self.old (Reserve node thread) result self.new }
+    {
+        match &mut self.phase {
+            Phase::Up(up) => up.reserve(alloc, node, thread),
+            _ => Ok(Reply::Refused(Refusal::Down)),
+        }
     }
 
     /// The record that a thread reserved is complete: a flush may take it, and its locks are free. It takes no memory.
@@ -193,10 +221,20 @@ impl<D: Stoppable + Drop> World<D> {
     /// # Errors
     ///
     /// `Down`, `Unknown`, `Halted`, and `OutOfTurn` where the thread has reserved none. Nothing has changed then.
-    pub fn close(&mut self, alloc: Global, node: u16, thread: u16) -> Result<(), Refusal>
+    pub fn close(&mut self, _alloc: Global, node: u16, thread: u16) -> Result<(), Refusal>
         ensures { StepsTo D.Area self.old (Close node thread) (done result) self.new }
     {
-        self.carry_out(alloc, &Event::Close { node, thread })
+        let reply = self.close_reply(node, thread);
+        done(&reply)
+    }
+
+    fn close_reply(&mut self, node: u16, thread: u16) -> Reply
+        ensures { StepsTo D.Area self.old (Close node thread) result self.new }
+    {
+        match &mut self.phase {
+            Phase::Up(up) => up.close(node, thread),
+            _ => Reply::Refused(Refusal::Down),
+        }
     }
 
     /// The open transaction of a thread ends (RVM's end_transaction): it gets its place in the log, and is closed there, so
@@ -209,28 +247,9 @@ impl<D: Stoppable + Drop> World<D> {
     pub fn end(&mut self, alloc: Global, node: u16, thread: u16) -> Result<Placement, CallFault>
         ensures { Ends D.Area node thread self.old result self.new }
     {
-        match self.reserve(alloc, node, thread) {
-            Ok(placement) => self.close_behind(alloc, node, thread, placement),
-            Err(fault) => Err(fault),
-        }
-    }
-
-    // Closes the record that the thread has reserved, if it has one.
-    fn close_behind(
-        &mut self,
-        alloc: Global,
-        node: u16,
-        thread: u16,
-        placement: Placement,
-    ) -> Result<Placement, CallFault>
-        ensures { ClosesBehind D.Area node thread (Ok placement) self.old result self.new }
-    {
-        match placement {
-            Placement::Record { place, words } => match self.close(alloc, node, thread) {
-                Ok(()) => Ok(Placement::Record { place, words }),
-                Err(refusal) => Err(CallFault::Refused(refusal)),
-            },
-            Placement::Empty => Ok(Placement::Empty),
+        match &mut self.phase {
+            Phase::Up(up) => up.end(alloc, node, thread),
+            _ => Err(CallFault::Refused(Refusal::Down)),
         }
     }
 }

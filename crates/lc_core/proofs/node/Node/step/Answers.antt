@@ -1,11 +1,8 @@
-use Rattle.std.proofs.Common.{false, refl, sym, ap, subst, ◌∙◌}
+use Rattle.std.proofs.Common.{refl, sym, ap, subst, ◌∙◌}
 use Rattle.std.specs.Prelude.{vec_len}
-use Rattle.std.proofs.lemmas.Result.{IfOk-weaker}
 use Rattle.lc_model.specs.declared.event.Event.TheVariants.{Begin, SetRange, Write, Read, Abort, Reserve}
-use Rattle.lc_record.proofs.ListLemmas.{OnErr_from as on_err}
-use Rattle.lc_core.specs.MayReply.{may_reserve}
 use Rattle.lc_core.specs.NodeSteps.{IsOf, StepsNode}
-use Rattle.lc_core.proofs.NodeSteps.{desk_steps, plain_tells}
+use Rattle.lc_core.proofs.NodeSteps.{desk_steps, placed_steps}
 use Rattle.lc_core.proofs.node.Node.step.Goals as goal
 
 pub returns-in-Begin : goal.returns-in-Begin
@@ -43,12 +40,5 @@ returns-in-Abort g c =
 pub returns-in-Reserve : goal.returns-in-Reserve
 returns-in-Reserve g c =
     let own = subst (IsOf c.args.node (vec_len c.args.self.now.desk.seats)) c.in-Reserve.is c.requires.own in
-    subst (λ e. StepsNode g.D.Area c.args.node e c.args.self.now c.reserve.result c.reserve.new.self) (sym (c.in-Reserve.is ∙ ap (λ k. Reserve k c.in-Reserve.thread) own.0)) (record {
-      follows = c.reserve.ensures.follows;
-      memory = c.reserve.ensures.memory;
-      err = c.reserve.ensures.err;
-      room = c.reserve.ensures.whole;
-      device = IfOk-weaker c.reserve.result _ _ (λ reply its. plain_tells g.D.Area may_reserve refl refl false refl reply c.args.self.now.journal.log c.reserve.new.self.journal.log its c.reserve.ensures.log) c.reserve.ensures.names;
-      no_fault = on_err c.reserve.result _ c.reserve.ensures.log;
-      names = c.reserve.ensures.names;
-    })
+    subst (λ e. StepsNode g.D.Area c.args.node e c.args.self.now c.reserve.result c.reserve.new.self) (sym (c.in-Reserve.is ∙ ap (λ k. Reserve k c.in-Reserve.thread) own.0))
+    (placed_steps g.D.Area c.args.node c.in-Reserve.thread c.args.self.now c.reserve.result c.reserve.new.self c.reserve.ensures.follows c.reserve.ensures.memory c.reserve.ensures.err c.reserve.ensures.whole c.reserve.ensures.names c.reserve.ensures.log)

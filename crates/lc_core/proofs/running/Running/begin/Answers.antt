@@ -3,10 +3,8 @@ use Rattle.std.specs.Prelude.{Ok, Result}
 use Rattle.std.specs.declared.alloc.AllocError.{AllocError}
 use Rattle.lc_model.specs.declared.event.Event.TheVariants.{Begin}
 use Rattle.lc_model.specs.declared.reply.Reply.{Reply}
-use Rattle.lc_core.proofs.Geometries.{refuses_known}
-use Rattle.lc_core.proofs.Layering.{refused_running, row_steps}
-use Rattle.lc_core.proofs.NodeSteps.{faults_there, follows_there, known_there, of_there, whole_there}
-use Rattle.lc_core.proofs.Names.{answers_may}
+use Rattle.lc_core.proofs.Layering.{node_tries, refused_running}
+use Rattle.lc_core.proofs.NodeSteps.{of_there, whole_there}
 use Rattle.lc_core.proofs.running.Running.begin.Goals as goal
 
 pub returns-in-Some : goal.returns-in-Some
@@ -34,19 +32,6 @@ invariant_of-self g c =
 
 pub returns : goal.returns
 returns g c =
-    let w = c.args.self.now in
-    let event = Begin c.args.node c.args.thread c.args.segments.now c.args.reading.now in
-    let reply = c.begin.result in
-    let r : Result Reply AllocError = Ok reply in
-    let known = c.begin_refusal.ensures.known c.in_default.is in
-    let runs = c.begin_refusal.ensures.running c.in_default.is in
-    let node = c.index_mut.result.now in
-    let steps = c.begin.ensures c.args.node in
-    let both = faults_there g.D.Area w event refl known runs c.args.node refl node c.index_mut.ensures.value r c.begin.new.self steps in
-    record {
-      follows = row_steps g.D.Area w event c.begin_refusal.result c.begin_refusal.ensures.refused c.in_default.is reply _ _ _
-          (follows_there g.D.Area w event refl known runs c.args.node refl node c.index_mut.ensures.value r c.begin.new.self steps);
-      counts = record { counts = both.0; devices = record { geometry = refl; kinds = both.1 }; calls = both.2 };
-      unknown = refuses_known w.geometry event reply known (known_there g.D.Area w event refl known runs c.args.node refl node c.index_mut.ensures.value r c.begin.new.self steps);
-      names = answers_may event reply steps.names;
-    }
+    let r : Result Reply AllocError = Ok c.begin.result in
+    (node_tries g.D.Area c.args.self.now (Begin c.args.node c.args.thread c.args.segments.now c.args.reading.now) refl c.begin_refusal.result c.begin_refusal.ensures.refused c.in_default.is
+    (c.begin_refusal.ensures.known c.in_default.is) (c.begin_refusal.ensures.running c.in_default.is) c.args.node refl c.index_mut.result.now c.index_mut.ensures.value r c.begin.new.self (c.begin.ensures c.args.node) _ refl refl refl).steps

@@ -1,20 +1,18 @@
-use Rattle.std.proofs.Common.{Ok, Err, refl, subst}
+use Rattle.std.proofs.Common.{Err, refl}
 use Rattle.lc_model.specs.declared.event.Event.TheVariants.{Reserve}
-use Rattle.lc_core.specs.Answered.{ComesTo, place_taken}
+use Rattle.lc_model.specs.declared.refusal.Refusal.TheVariants.{Down as IsDown}
+use Rattle.lc_core.specs.declared.call_fault.CallFault.TheVariants.{Refused as IsRefused}
+use Rattle.lc_core.proofs.EndCalls.{world_ends}
+use Rattle.lc_core.proofs.Layering.{steps_down}
 use Rattle.lc_core.proofs.world.World.end.Goals as goal
 
-pub returns-in-Ok : goal.returns-in-Ok
-returns-in-Ok g c = (
-  Ok c.in-Ok.placement,
-  c.reserve.new.self,
-  subst (λ r. ComesTo g.D.Area c.args.self.now (Reserve c.args.node c.args.thread) (place_taken r) c.reserve.new.self) c.in-Ok.is c.reserve.ensures,
-  c.close_behind.ensures,
-)
+pub returns-in-Up : goal.returns-in-Up
+returns-in-Up g c = world_ends g.D.Area c.args.node c.args.thread c.args.self.now _ c.in-Up.up c.end.new.self c.end.result c.in-Up.is refl c.end.ensures
 
-pub returns-in-Err : goal.returns-in-Err
-returns-in-Err g c = (
-  Err c.in-Err.fault,
-  c.reserve.new.self,
-  subst (λ r. ComesTo g.D.Area c.args.self.now (Reserve c.args.node c.args.thread) (place_taken r) c.reserve.new.self) c.in-Err.is c.reserve.ensures,
+pub returns-in_default : goal.returns-in_default
+returns-in_default g c = (
+  Err (IsRefused IsDown),
+  _,
+  steps_down g.D.Area c.args.self.now _ refl (Reserve c.args.node c.args.thread) refl c.in_default.not-Up,
   (refl, refl),
 )

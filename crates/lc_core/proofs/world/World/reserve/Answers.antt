@@ -1,13 +1,7 @@
 use Rattle.lc_model.specs.declared.event.Event.TheVariants.{Reserve}
-use Rattle.lc_core.proofs.Replying.{stands_comes, steps_of}
+use Rattle.lc_core.proofs.Replying.{stands_comes}
 use Rattle.lc_core.proofs.world.World.reserve.Goals as goal
 
 pub returns : goal.returns
-returns g c =
-    let event = Reserve c.args.node c.args.thread in
-    let before = c.args.self.now in
-    let after = c.step.new.self in
-    let reply = c.in_ok-reply.reply in
-    let e = c.in_ok-reply.ensures in
-    stands_comes g.D.Area event _ reply before after (c.placement.ensures c.args.node c.args.thread)
-    (steps_of g.D.Area before event reply after (λ choices stops. absurd cc) e.follows e.at_once e.faults c.step.ensures.geometry e.unknown e.calls e.anyhow e.names)
+returns g c = stands_comes g.D.Area (Reserve c.args.node c.args.thread) _ c.in_ok-reply.reply c.args.self.now c.reserve_reply.new.self (c.placement.ensures c.args.node c.args.thread)
+    c.in_ok-reply.ensures

@@ -1,0 +1,10 @@
+use Rattle.std.proofs.Common.{refl}
+use Rattle.lc_model.specs.declared.event.Event.TheVariants.{Abort}
+use Rattle.lc_core.proofs.Layering.{steps_down, steps_up}
+use Rattle.lc_core.proofs.world.World.abort_reply.Goals as goal
+
+pub returns-in-Up : goal.returns-in-Up
+returns-in-Up g c = steps_up g.D.Area c.args.self.now _ c.in-Up.up c.abort.new.self (Abort c.args.node c.args.thread) c.abort.result c.in-Up.is refl (λ e. absurd cc) c.abort.ensures
+
+pub returns-in_default : goal.returns-in_default
+returns-in_default g c = steps_down g.D.Area c.args.self.now _ refl (Abort c.args.node c.args.thread) refl c.in_default.not-Up
