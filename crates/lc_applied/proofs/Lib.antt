@@ -1,0 +1,3 @@
+pub mod RunsLemmas
+pub mod PartsLemmas
+pub mod RecordLemmas

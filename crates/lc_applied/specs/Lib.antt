@@ -1,0 +1,2 @@
+pub mod AppliedParts
+pub mod Entry
