@@ -1,5 +1,5 @@
 -- What a commit makes of held segments.
-use Rattle.std.proofs.Common.{◌≡◌, ℕ, ◌+◌, ◌≤◌, ◌^◌, ◌==◌, true, List, Some, None, length, map, refl, sym, ap, subst, ◌∙◌, arith, All, filter}
+use Rattle.std.proofs.Common.{◌≡◌, ℕ, ◌+◌, ◌==◌, true, List, Some, None, length, map, refl, sym, ap, subst, ◌∙◌, arith, filter}
 use Rattle.std.specs.Prelude.{slice_get, slice_index, Option, IsSome, unwrap_or}
 use Rattle.std.proofs.lemmas.List.{ext_get_or, length-map}
 use Rattle.std.proofs.lemmas.Option.{slice_get_within, same_Some as some_same}
@@ -7,7 +7,7 @@ use Rattle.lc_record.specs.Part.{number_in, part_of}
 use Rattle.lc_record.specs.Transaction.{is_member}
 use Rattle.lc_record.specs.declared.part.Part.{Part}
 use Rattle.lc_record.specs.declared.record.Record.{Record}
-use Rattle.lc_record.proofs.ListLemmas.{slice_get_some as some_at, All-slice_get as all_at}
+use Rattle.lc_record.proofs.ListLemmas.{slice_get_some as some_at}
 use Rattle.lc_range.specs.RangeSet.{Has}
 use Rattle.lc_stage.specs.declared.view.View.{View}
 use Rattle.lc_token.specs.declared.token.Token.{Token}
@@ -23,21 +23,21 @@ use Rattle.lc_node.specs.Each.{Each, EachThree}
 use Rattle.lc_node.specs.Held.{lent_side}
 use Rattle.lc_node.specs.Lent.{the_images}
 use Rattle.lc_node.specs.Ran.{Tells}
-use Rattle.lc_node.specs.SegView.{laid_parts}
-use Rattle.lc_node.specs.Sides.{IsOut, IsReady, IsBack, CanCount, IsCounted, HasRoomFor, IsNext, number_in as number_here}
+use Rattle.lc_applied.specs.AppliedParts.{laid_parts}
+use Rattle.lc_node.specs.Sides.{IsOut, IsReady, IsBack, IsCounted, number_in as number_here}
 use Rattle.lc_node.specs.declared.held.HeldSide.{HeldSide}
 use Rattle.lc_node.specs.declared.lent.LentSlot.{LentSlot}
 use Rattle.lc_node.specs.declared.lent.Lent.{Lent}
 use Rattle.lc_node.proofs.Applied.{laid_is_left}
 use Rattle.lc_node.proofs.Laying.{laid_more}
-use Rattle.lc_node.proofs.PartsOf.{number_made, number_fits, part_is, none_set, lie_inside}
+use Rattle.lc_node.proofs.PartsOf.{number_made, part_is, none_set, lie_inside}
 use Rattle.lc_node.proofs.Slots.{AscendFrom, SameBeside, each_map, each_of, each_to, got_map, map_got, member_here, member_place, segments_in, image_is, number_is, same_beside, same_segments, hidden_image}
 
-number_some : (token : Option Token) (n : ℕ) → number_here token ≡ Some n → (t : Token) × (token ≡ Some t) × (t.seq ≡ n)
+pub number_some : (token : Option Token) (n : ℕ) → number_here token ≡ Some n → (t : Token) × (token ≡ Some t) × (t.seq ≡ n)
 number_some None n is = absurd cc
 number_some (Some t) n is = (t, refl, some_same t.seq n is)
 
-some_number : (o : Option ℕ) → IsSome o → (n : ℕ) × (o ≡ Some n)
+pub some_number : (o : Option ℕ) → IsSome o → (n : ℕ) × (o ≡ Some n)
 some_number None is = absurd cc
 some_number (Some n) is = (n, refl)
 
@@ -188,26 +188,6 @@ module _ {D : Type 0} where
       slot_beside k h h_at = let a = each_to IsOut sides lent.slots.items k h out h_at in
           let b = each_to SameBeside lent.slots.items new.slots.items k a.0 (same_beside lent new w.same.beside) a.1 in
           (b.0, b.1, now k h b.0 h_at b.1)
-
-      is_next : (h : HeldSide D) (b : LentSlot) (part : Part) → Now h b → part_of h.side.segment w.whole ≡ Some part → IsNext part h.side.standing.token
-      is_next h b part n is = let s : ℕ = h.side.segment in
-          let number : number_in s w.whole.locks ≡ Some part.seq = (part_is s w.whole part is).0 in
-          let made : part.seq ≡ next_number the_images w.at_end s = number_made (next_number the_images w.at_end) s part.seq (segments_of w.tx.set) (sym (ap (λ (r : Record). number_in s r.locks) w.whole_is) ∙ number) in
-          let low : part.seq ≤ 2 ^ 60 = number_fits s part.seq w.whole.locks w.is_record.canonical.each_lock number in
-          let t = number_some h.side.standing.token n.number n.here in let seq = t.2 in let next = n.next in
-          subst (λ (o : Option Token). IsNext part o) (sym t.1) (omega arith, omega arith)
-
-      -- the parts may be counted
-      pub can_count : All HasRoomFor sides → Each CanCount (map lent_side sides) parts
-      can_count room = record {
-        long = ap (λ (l : List (Option Part)). length l) w.parts_are ∙ (length-map (segments sides) (λ (s : ℕ). part_of s w.whole) ∙ (length-map sides (λ (x : HeldSide D). x.side.segment) ∙ sym (length-map sides lent_side)));
-        each = λ k g p g_at p_at. let side = map_got lent_side sides k g g_at in let h : HeldSide D = side.0 in let slot = slot_beside k h side.1 in
-            let is : p ≡ part_of h.side.segment w.whole = part_at k h p side.1 p_at in
-            subst (λ (x : HeldSide D). CanCount x p) side.2 (elim p as (λ (q : Option Part). p ≡ q → CanCount (lent_side h) q) [
-              | None ↦ λ e. tt
-              | Some part ↦ λ e. (refl, all_at HasRoomFor sides k h room side.1, is_next h slot.0 part slot.2 (sym is ∙ e))
-            ] refl);
-      }
 
       module _ (counted : List (HeldSide D)) (counts : EachThree IsCounted (map lent_side sides) parts counted) where
         count_at : (k : ℕ) (h g : HeldSide D) → slice_get sides k ≡ Some h → slice_get counted k ≡ Some g → IsCounted (lent_side h) (part_of h.side.segment w.whole) g

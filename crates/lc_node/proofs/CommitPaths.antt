@@ -1,5 +1,5 @@
 -- The ways of a commit: its images go out of sides with more room, and come back.
-use Rattle.std.proofs.Common.{◌≡◌, ◌∙◌, ℕ, ◌<◌, List, [], ◌∷◌, length, map, All, inr, sym, ap, subst, arith}
+use Rattle.std.proofs.Common.{◌≡◌, ◌∙◌, ℕ, ◌<◌, List, map, All, inr, sym, ap, subst}
 use Rattle.std.specs.Prelude.{Option, Result, Ok}
 use Rattle.lc_record.specs.Record.{Chain}
 use Rattle.lc_record.specs.declared.part.Part.{Part}
@@ -14,21 +14,16 @@ use Rattle.lc_node.specs.Each.{Each, EachThree}
 use Rattle.lc_node.specs.Held.{lent_side}
 use Rattle.lc_node.specs.Lent.{the_images}
 use Rattle.lc_node.specs.Ran.{AgreeOn, Ran, Runs, Tells}
-use Rattle.lc_node.specs.Sides.{IsOut, IsReady, IsBack, CanCount, IsCounted, IsRoomier, HasFewParts, HasRoomFor}
+use Rattle.lc_node.specs.Sides.{IsOut, IsReady, IsBack, IsCounted, IsRoomier, HasFewParts}
 use Rattle.lc_node.specs.declared.held.HeldSide.{HeldSide}
 use Rattle.lc_node.specs.declared.lent.Lent.{Lent}
 use Rattle.lc_node.specs.declared.lent.LentSlot.{LentSlot}
 use Rattle.lc_node.specs.declared.node_fault.NodeFault.{NodeFault}
-use Rattle.lc_node.proofs.CommitKeeps.{are_small, ready_undone, back_undone, can_count, ready_counted, takes_parts}
+use Rattle.lc_node.proofs.CommitKeeps.{are_small, ready_undone, back_undone, ready_counted, takes_parts}
 use Rattle.lc_node.proofs.Runs.{ran_as, unstaged_as}
 use Rattle.lc_node.proofs.SideBytes.{back_bytes, out_bytes, out_unbegun}
 use Rattle.lc_node.proofs.Slots.{AscendFrom, ascend_from, each_map, segments_in}
 use Rattle.lc_node.proofs.Standing.{kept_of_roomier, tidy_of_roomier, takes_of_roomier, segments_roomier, segments_takes}
-
--- held sides have segments
-pub some_segment : {D : Type 0} (sides : List (HeldSide D)) → 0 < length sides → map (λ (h : HeldSide D). h.side.segment) sides ≡ [] → ⊥
-some_segment [] some none = absurd (omega arith)
-some_segment (h ∷ hs) some none = absurd cc
 
 module _ {D : Type 0} (xs ys zs : List (HeldSide D)) (lent : Lent) (segments : List ℕ)
     (same : segments ≡ map (λ (h : HeldSide D). h.side.segment) xs) (up : Chain (λ a b. a < b) (map (λ (h : HeldSide D). h.side.segment) xs))
@@ -89,9 +84,6 @@ module _ {D : Type 0} (xs ys zs : List (HeldSide D)) (lent : Lent) (segments : L
   module _ {tells : Tells} {node : ℕ} (parts : List (Option Part)) (new : Lent) (before after : View) (w : StagesWork tells node segments lent parts new before after) where
     pub staged : StagesWork tells node (map (λ (h : HeldSide D). h.side.segment) ys) lent parts new before after
     staged = subst (λ (l : List ℕ). StagesWork tells node l lent parts new before after) again w
-
-    pub may_count : All HasRoomFor ys → Each CanCount zs parts
-    may_count room = subst (λ (l : List (HeldSide D)). Each CanCount l parts) (sym gone) (can_count ys lent out ascend parts new before after staged room)
 
     module _ (counted : List (HeldSide D)) (counts : EachThree IsCounted zs parts counted) where
       these : EachThree IsCounted (map lent_side ys) parts counted

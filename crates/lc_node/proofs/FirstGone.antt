@@ -1,5 +1,5 @@
 -- The first held segment whose token is elsewhere.
-use Rattle.std.proofs.Common.{◌≡◌, ℕ, suc, ◌+◌, ◌<◌, ◌≤◌, ◌==◌, cond, Bool, true, false, List, [], ◌∷◌, Some, None, length, map, take, drop, get_or, refl, sym, ap, subst, ◌∙◌, inl, inr, arith, eqb-true, eq-eqb, ne_eqb}
+use Rattle.std.proofs.Common.{◌≡◌, ℕ, ◌+◌, ◌<◌, ◌≤◌, ◌==◌, cond, Bool, true, false, List, [], ◌∷◌, Some, None, length, map, take, drop, get_or, refl, sym, ap, subst, ◌∙◌, inl, inr, arith, eqb-true, eq-eqb, ne_eqb}
 use Rattle.std.specs.Prelude.{◌↔◌, IsSome, IsTrue, Option}
 use Rattle.std.proofs.lemmas.Bool.{false≢true, or_cases, or_left, or_right}
 use Rattle.std.proofs.lemmas.List.{drop_more, take_all}
@@ -48,12 +48,6 @@ module _ {D : Type 0} (sides : List (HeldSide D)) where
 
   pub all_here : (i : ℕ) → length sides ≤ i → IsLooking i → AreHere sides
   all_here i all look = subst AreHere (take_all i sides all) look.1
-
--- where each token is here, none is gone
-pub none_of_here : {D : Type 0} (sides : List (HeldSide D)) (s : ℕ) → AreHere sides → IsFirstGone sides s → ⊥
-none_of_here [] s all gone = gone
-none_of_here (h ∷ hs) s all (inl here) = false≢true (subst IsSome here.0 (all 0 h (omega arith)))
-none_of_here (h ∷ hs) s all (inr later) = none_of_here hs s (λ k d within. all (suc k) d (omega (arith, within))) later.1
 
 -- The first that is gone is the least whose token is elsewhere
 

@@ -1,6 +1,6 @@
 -- The areas of a recovered store fit the log and the segments that come up on them.
 use Rattle.std.proofs.Common.{◌≡◌, ℕ, ◌+◌, ◌*◌, ◌<◌, length, Some, refl, sym, ap, subst, ◌∙◌, arith}
-use Rattle.std.specs.Prelude.{slice_get, option_map}
+use Rattle.std.specs.Prelude.{slice_get, option_map, IsSome}
 use Rattle.std.proofs.lemmas.Option.{slice_get-map, slice_get_within, same_Some as one_item}
 use Rattle.lc_disk.specs.declared.area.Area.{Ghosts}
 use Rattle.lc_page.specs.Page.{Page, slot_at}
@@ -15,6 +15,8 @@ use Rattle.lc_token.specs.declared.token.Token.{Token}
 use Rattle.lc_node.specs.Fresh.{HasWholePages, fresh_token, segment_bytes}
 use Rattle.lc_node.specs.Pages.{FitsPage, FitsToken}
 use Rattle.lc_node.specs.Rooms.{FitsLog, FitsRoom, IsOfSegment, IsRoomOf}
+use Rattle.lc_applied.specs.AppliedParts.{laid_parts}
+use Rattle.lc_node.specs.SegView.{SegView}
 use Rattle.lc_node.specs.declared.seg_room.SegRoom.{SegRoom}
 use Rattle.lc_node.proofs.FreshPages.{bytes_long, entries_count, entry_there, page_there}
 
@@ -28,9 +30,8 @@ module _ {D : Type 0} (r : RecoveredStore D) where
   pub of_segment : (segment : ℕ) (room : SegRoom D) → IsRoomOf r segment room → IsOfSegment segment room
   of_segment segment room its = record {
     key = its.key;
-    of_token = ap (λ (t : Token). t.segment) its.fresh.token;
-    same = its.fresh.image ∙ sym its.fresh.base;
-    short = (let few = r.geometry.few_pages in omega (arith, few, whole_long segment its.whole, ap length its.fresh.base));
+    of_side = ap (λ (v : SegView D). v.segment) its.fresh.side;
+    here = subst (λ (v : SegView D). IsSome v.image) (sym its.fresh.side) refl;
   }
 
 module _ {D : Type 0} (a : Ghosts D) (r : RecoveredStore D) (lengths : HaveLengths a r.geometry r.areas) where
@@ -95,10 +96,13 @@ module _ {D : Type 0} (a : Ghosts D) (r : RecoveredStore D) (lengths : HaveLengt
       }
 
       pub fits_room : (room : SegRoom D) → IsRoomOf r (s + 1) room → FitsRoom a (s + 1) room area
-      fits_room room its = record {
+      fits_room room its = let side = its.fresh.side in record {
         key = its.key;
-        of_token = ap (λ (t : Token). t.segment) its.fresh.token;
-        same = its.fresh.image ∙ sym its.fresh.base;
-        fits = subst (λ (t : Token). FitsToken a 0 area t room.fresh.base.items) (sym its.fresh.token)
-            (subst (FitsToken a 0 area (fresh_token r (s + 1))) (sym its.fresh.base) fits_token);
+        of_side = ap (λ (v : SegView D). v.segment) side;
+        here = subst (λ (v : SegView D). IsSome v.image) (sym side) refl;
+        of_token = ap (λ (t : Token). t.segment) its.fresh.token ∙ sym (ap (λ (v : SegView D). v.segment) side);
+        number = ap (λ (t : Token). t.seq) its.fresh.token ∙ sym (ap (λ (v : SegView D). v.backlog.applied) side);
+        fits = subst (λ (v : SegView D). FitsToken a v.since area room.fresh.token (laid_parts v.applied v.base)) (sym side)
+            (subst (λ (t : Token). FitsToken a 0 area t its.fresh.base.items) (sym its.fresh.token)
+            (subst (FitsToken a 0 area (fresh_token r (s + 1))) (sym its.fresh.bytes) fits_token));
       }

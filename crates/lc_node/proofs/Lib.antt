@@ -4,6 +4,7 @@ pub mod Arrived
 pub mod Asking
 pub mod Attempted
 pub mod Backwards
+pub mod BoxedSides
 pub mod Bringing
 pub mod Called
 pub mod CatchingUp
@@ -13,6 +14,7 @@ pub mod Confirms
 pub mod Copied
 pub mod Counted
 pub mod CountedFits
+pub mod CountedSides
 pub mod Deliveries
 pub mod DeliveryKeeps
 pub mod EachPlace
@@ -34,11 +36,13 @@ pub mod LeftParts
 pub mod LeftSegments
 pub mod LeftTokens
 pub mod LinesClosed
+pub mod LockedCommit
 pub mod MessagesAnswered
 pub mod MessagesGone
 pub mod NextSent
 pub mod Noted
 pub mod OfRuns
+pub mod Onwards
 pub mod OrderedTokens
 pub mod Outside
 pub mod PagesWritten
@@ -50,8 +54,11 @@ pub mod PutBytes
 pub mod Received
 pub mod ReceivedRecords
 pub mod Refused
+pub mod Roomed
 pub mod Rounds
+pub mod RunParts
 pub mod Runs
+pub mod RunsCounted
 pub mod SegmentLocks
 pub mod SentToAll
 pub mod Settled

@@ -1,9 +1,9 @@
 -- The record of a transaction is of the runs that it set.
-use Rattle.std.proofs.Common.{◌≡◌, ℕ, List, [], ◌∷◌, length, map, take, drop, refl, ap, ◌∙◌, inl, arith}
+use Rattle.std.proofs.Common.{◌≡◌, ℕ, List, [], ◌∷◌, length, map, take, drop, refl, ap, ◌∙◌, arith}
 use Rattle.std.proofs.lemmas.List.{length-drop, length-map, length-take-le}
 use Rattle.lc_record.specs.Record.{IsRecord}
 use Rattle.lc_record.specs.declared.record.Lock.{Lock}
-use Rattle.lc_range.specs.RangeSet.{Has, IsCanonical}
+use Rattle.lc_range.specs.RangeSet.{IsCanonical}
 use Rattle.lc_range.specs.declared.range.Range.{Range}
 use Rattle.lc_tx.specs.Images.{bytes_of}
 use Rattle.lc_tx.specs.Prepared.{final_record, next_number, run_data, segments_of}
@@ -13,11 +13,6 @@ use Rattle.lc_tx.specs.declared.images.Images.{Ghosts}
 use Rattle.lc_tx.specs.declared.tx.Tx.{Tx}
 use Rattle.lc_tx.proofs.RecordLemmas.{inside_from}
 use Rattle.lc_node.specs.Ran.{IsOfRuns, run_of}
-
--- runs of which no position is set are none
-pub none_is_empty : (runs : List Range) → IsCanonical runs → ((s k : ℕ) → Has runs s k → ⊥) → runs ≡ []
-none_is_empty [] canonical none = refl
-none_is_empty (run ∷ runs) canonical none = absurd (none run.segment run.offset (inl (refl, omega arith, omega (arith, canonical.0))))
 
 module _ {I : Type 0} (m : Ghosts I) (images : I) where
   runs_are : (runs : List Range) → AreInside m images runs → map run_of (map (run_data m images) runs) ≡ runs

@@ -1,6 +1,6 @@
 -- Held sides through the steps of a commit.
-use Rattle.std.proofs.Common.{◌≡◌, ℕ, zero, suc, ◌<◌, true, false, true≢false, Ok, Err, List, [], ◌∷◌, Some, None, length, map, refl, sym, ap, subst, ◌∙◌, inl, inr, arith, All, get_or}
-use Rattle.std.specs.Prelude.{slice_get, Option, IsSome, Result, OnErr, OnOk}
+use Rattle.std.proofs.Common.{◌≡◌, ℕ, zero, suc, ◌<◌, false, true≢false, Ok, Err, List, [], ◌∷◌, Some, None, length, map, refl, sym, ap, subst, ◌∙◌, inl, inr, arith, All, get_or}
+use Rattle.std.specs.Prelude.{slice_get, Option, IsSome, Result, OnOk}
 use Rattle.std.specs.Result.{is_err}
 use Rattle.std.proofs.lemmas.Option.{slice_get_within, get_or_from_slice_get, same_Some as some_same}
 use Rattle.lc_lock.specs.Loans.{IsLoanOf}
@@ -84,9 +84,6 @@ module _ {D : Type 0} where
     pub held_takes : (r : Record) (xs ys : List (HeldSide D)) → Each (TakesOf r) xs ys → All (IsHeldOf node) xs → All (IsHeldOf node) ys
     held_takes r = all_still (TakesOf r) (λ h g t held. takes_held (part_of h.side.segment r) t.0 g t.2 (roomier_held h t.0 t.1.0 held))
 
-    pub held_roomier : (xs ys : List (HeldSide D)) → Each IsRoomier xs ys → All (IsHeldOf node) xs → All (IsHeldOf node) ys
-    held_roomier = all_still IsRoomier roomier_held
-
     -- the image of each is here
     pub held_here : (xs : List (HeldSide D)) → All (IsHeldOf node) xs → All (λ (h : HeldSide D). IsSome h.side.image) xs
     held_here xs all = λ k d within. (all k d within).5
@@ -121,7 +118,3 @@ module _ {D : Type 0} where
 pub on_ok : {T E : Type 0} (r : Result T E) (P : Type 0) → is_err r ≡ false → OnOk r P → P
 on_ok (Ok x) P fine p = p
 on_ok (Err e) P fine p = absurd (true≢false fine)
-
-pub on_err : {T E : Type 0} (r : Result T E) (P : Type 0) → is_err r ≡ true → OnErr r P → P
-on_err (Ok x) P fault p = absurd (true≢false (sym fault))
-on_err (Err e) P fault p = p

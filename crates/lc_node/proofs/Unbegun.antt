@@ -4,7 +4,6 @@ use Rattle.std.specs.Prelude.{◌⊎◌, ◌↔◌, IfErr, IsTrue, None, Result,
 use Rattle.std.proofs.lemmas.Bool.{or_left, false≢true}
 use Rattle.lc_record.specs.Transaction.{is_member}
 use Rattle.lc_tx.specs.declared.images.Images.{Ghosts}
-use Rattle.lc_tx.specs.declared.tx.Tx.{Tx}
 use Rattle.lc_tx.specs.declared.tx_fault.TxFault.{TxFault}
 use Rattle.lc_tx.specs.declared.tx_fault.TxFault.TheVariants.{Busy, NotHere, NoRange, OutOfSegment, NotLocked, NoMemory, TooLong, SequenceSpent, EmptyRange, TooManyRanges, ReadOnly}
 use Rattle.lc_tx.specs.Fault.{is_of_begin}
@@ -16,10 +15,10 @@ none_many : (set : List ℕ) → IsSetOf [] set → 16 < length set → ⊥
 none_many [] is many = absurd (omega arith)
 none_many (x ∷ xs) is many = absurd (false≢true (sym (is.same x) ∙ or_left (eqb x x) (is_member x xs) (eq-eqb x x refl)))
 
-not_of_it : (r : Result Tx TxFault) (f : TxFault) → r ≡ Err f → IfErr r (λ fault. IsTrue (is_of_begin fault)) → is_of_begin f ≡ false → ⊥
-not_of_it r f is faults not = false≢true (sym not ∙ subst (λ (x : Result Tx TxFault). IfErr x (λ fault. IsTrue (is_of_begin fault))) is faults)
+not_of_it : {A : Type 0} (r : Result A TxFault) (f : TxFault) → r ≡ Err f → IfErr r (λ fault. IsTrue (is_of_begin fault)) → is_of_begin f ≡ false → ⊥
+not_of_it {A} r f is faults not = false≢true (sym not ∙ subst (λ (x : Result A TxFault). IfErr x (λ fault. IsTrue (is_of_begin fault))) is faults)
 
-module _ {I : Type 0} (m : Ghosts I) (images : I) (segments : List ℕ) (r : Result Tx TxFault)
+module _ {A I : Type 0} (m : Ghosts I) (images : I) (segments : List ℕ) (r : Result A TxFault)
     (not_here : (s : ℕ) → (r ≡ Err (NotHere s)) ↔ (IsFirstTaken m images segments [] s × (m.number_of images s ≡ None)))
     (busy : (s : ℕ) → (r ≡ Err (Busy s)) ↔ (IsFirstTaken m images segments [] s × IsHere m images s))
     (no_memory : r ≡ Err NoMemory → ((s : ℕ) → IsLockable m images segments [] s)

@@ -9,7 +9,8 @@ use Rattle.lc_token.specs.declared.received.Received.TheVariants.{Applied, HeldB
 use Rattle.lc_node.specs.Applying.{applying}
 use Rattle.lc_node.specs.Arriving.{MayArrive, with_token}
 use Rattle.lc_node.specs.Growing.{folded, parts_size, HasGrown}
-use Rattle.lc_node.specs.SegView.{SegView, laid_parts}
+use Rattle.lc_applied.specs.AppliedParts.{laid_parts}
+use Rattle.lc_node.specs.SegView.{SegView}
 use Rattle.lc_node.specs.declared.held.HeldSide.{HeldSide}
 
 module _ {D : Type 0} where
@@ -19,7 +20,7 @@ module _ {D : Type 0} where
 
   -- its applied parts may be folded, where they had grown, and there may be more room for parts; else it is the same
   abbrev pub IsReadied : SegView D → SegView D → Type 0
-  IsReadied s t = (t ≡ record s { room = t.room }) ⊎ (HasGrown s × (t ≡ record (folded s) { room = t.room }))
+  IsReadied s t = (t ≡ record s { room = t.room }) ⊎ (HasGrown s × (t ≡ record (folded s) { room = t.room; runs_room = t.runs_room }))
 
   -- so that its applied parts take at most twice its bytes
   abbrev pub IsTidy : SegView D → SegView D → Type 0

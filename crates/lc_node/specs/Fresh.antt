@@ -1,6 +1,7 @@
 -- What a segment of a recovered store is, as it comes up at a node.
 use Rattle.std.specs.Prelude.{◌≡◌, ℕ, ◌<◌, ◌≤◌, ◌^◌, List, [], length, map, None, Some}
 use Rattle.std.specs.List.{flat_map}
+use Rattle.std.specs.Global.{Vec}
 use Rattle.lc_record.specs.Marks.{counting}
 use Rattle.lc_page.specs.PageVector.{new_entry}
 use Rattle.lc_page.specs.declared.page_text.PageText.{PageText}
@@ -30,10 +31,33 @@ module _ {D : Type 0} where
     pages = map new_entry (segment_texts r segment);
   }
 
+  -- a segment at a node where its token is not: it has these bytes and counts on from this number; nothing is applied, nothing is
+  -- held back, no token waits, and its pages are elsewhere
+  abbrev pub elsewhere_side : ℕ → ℕ → Vec ℕ → Vec ℕ → SegView D
+  elsewhere_side segment number image base = record {
+    segment = segment;
+    image = Some (record { bytes = image; holders = Free });
+    base = base.items;
+    applied = [];
+    room = 0;
+    runs_room = record { runs = 0; bytes = 0 };
+    backlog = fresh segment number;
+    standing = record { segment = segment; token = None };
+    pages = Elsewhere;
+    since = 0;
+    waiting = None;
+  }
+
+  -- with its token there, and an area that serves, each page of which was written there
+  abbrev pub fresh_side : FreshSegment D → D → SegView D
+  fresh_side s area = record s.side { standing = record s.side.standing { token = Some s.token }; pages = Serves area }
+
   -- a segment's bytes, twice, and its token
-  pub record IsFresh (r : RecoveredStore D) (segment : ℕ) (s : FreshSegment) : Type 0 where
-    pub image : s.image.items ≡ segment_bytes r segment
-    pub base : s.base.items ≡ segment_bytes r segment
+  pub record IsFresh (r : RecoveredStore D) (segment : ℕ) (s : FreshSegment D) : Type 0 where
+    pub image : Vec ℕ
+    pub base : Vec ℕ
+    pub side : s.side ≡ elsewhere_side segment (sequence_of r segment) image base
+    pub bytes : base.items ≡ segment_bytes r segment
     pub token : s.token ≡ fresh_token r segment
 
   -- each page of a segment has 256 bytes, and a sequence of at most the segment's number, which is at most 2^60
@@ -41,34 +65,3 @@ module _ {D : Type 0} where
     pub small : sequence_of r segment ≤ 2 ^ 60
     pub long : (page : ℕ) → page < r.geometry.pages → length (page_of r segment page).bytes ≡ 256
     pub within : (page : ℕ) → page < r.geometry.pages → (page_of r segment page).text.seq ≤ sequence_of r segment
-
-  -- the segment at a node, whose token is there: nothing is applied, nothing is held back, no token waits, and
-  -- its area serves, each page of which was written here
-  abbrev pub fresh_side : FreshSegment → D → ℕ → SegView D
-  fresh_side s area room = record {
-    segment = s.token.segment;
-    image = Some (record { bytes = s.image; holders = Free });
-    base = s.base.items;
-    applied = [];
-    room = room;
-    backlog = fresh s.token.segment s.token.seq;
-    standing = record { segment = s.token.segment; token = Some s.token };
-    pages = Serves area;
-    since = 0;
-    waiting = None;
-  }
-
-  -- the segment at any other node: it has the same bytes and counts on from the same number, and its pages are elsewhere
-  abbrev pub elsewhere_side : FreshSegment → ℕ → SegView D
-  elsewhere_side s room = record {
-    segment = s.token.segment;
-    image = Some (record { bytes = s.image; holders = Free });
-    base = s.base.items;
-    applied = [];
-    room = room;
-    backlog = fresh s.token.segment s.token.seq;
-    standing = record { segment = s.token.segment; token = None };
-    pages = Elsewhere;
-    since = 0;
-    waiting = None;
-  }

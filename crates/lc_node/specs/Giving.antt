@@ -7,7 +7,8 @@ use Rattle.lc_node.specs.Leaving.{HasFailed, IsJourneyFrom, IsServing, IsUnleft,
 use Rattle.lc_node.specs.LogView.{LogView}
 use Rattle.lc_node.specs.Pages.{FitsToken}
 use Rattle.lc_node.specs.Peers.{place_of}
-use Rattle.lc_node.specs.SegView.{SegView, laid_parts}
+use Rattle.lc_applied.specs.AppliedParts.{laid_parts}
+use Rattle.lc_node.specs.SegView.{SegView}
 use Rattle.lc_node.specs.Spread.{SameLines}
 use Rattle.lc_node.specs.Tokens.{IsCutOffAt, SameRecords, sent_at}
 use Rattle.lc_node.specs.declared.message.Message.{Message}

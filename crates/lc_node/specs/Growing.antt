@@ -1,8 +1,10 @@
 -- How much the applied parts of a segment take.
 use Rattle.std.specs.Prelude.{ℕ, ◌+◌, ◌*◌, ◌<◌, List, [], ◌∷◌, length}
+use Rattle.lc_range.specs.declared.range.Range.{Range}
 use Rattle.lc_record.specs.declared.part.Part.{Part}
 use Rattle.lc_record.specs.declared.record.RangeData.{RangeData}
-use Rattle.lc_node.specs.SegView.{SegView, laid_parts}
+use Rattle.lc_applied.specs.AppliedParts.{laid_parts}
+use Rattle.lc_node.specs.SegView.{SegView}
 
 -- what a part takes, and what each of its ranges takes beside its bytes
 abbrev pub entry_size : ℕ
@@ -11,6 +13,11 @@ entry_size = 48
 abbrev pub ranges_size : List RangeData → ℕ
 ranges_size [] = 0
 ranges_size (range ∷ ranges) = entry_size + length range.bytes + ranges_size ranges
+
+-- the same, of runs
+abbrev pub runs_size : List Range → ℕ
+runs_size [] = 0
+runs_size (run ∷ runs) = entry_size + run.len + runs_size runs
 
 abbrev pub part_size : Part → ℕ
 part_size part = entry_size + ranges_size part.ranges

@@ -1,5 +1,5 @@
 -- The memory of a node and its segments, before their areas are there.
-use Rattle.std.specs.Prelude.{◌≡◌, ◌≢◌, ℕ, ◌+◌, ◌*◌, ◌%◌, ◌≤◌, true, false, List, [], length, Option, Some, slice_get, slice_index, vec_capacity, vec_len}
+use Rattle.std.specs.Prelude.{◌≡◌, ◌≢◌, ℕ, ◌+◌, ◌*◌, ◌%◌, ◌≤◌, true, false, List, [], length, Option, Some, IsSome, slice_get, slice_index, vec_capacity, vec_len}
 use Rattle.lc_disk.specs.declared.area.Area.{Ghosts}
 use Rattle.lc_lock.specs.Loans.{key_of}
 use Rattle.lc_recover.specs.Recovered.{RecoveredStore}
@@ -7,6 +7,7 @@ use Rattle.lc_stage.specs.Seats.{commit_view}
 use Rattle.lc_stage.specs.Staging.{newcomer}
 use Rattle.lc_node.specs.Fresh.{HasWholePages, IsFresh}
 use Rattle.lc_node.specs.Pages.{FitsToken}
+use Rattle.lc_applied.specs.AppliedParts.{laid_parts}
 use Rattle.lc_node.specs.declared.room.Room.{Room}
 use Rattle.lc_node.specs.declared.seg_room.SegRoom.{SegRoom}
 use Rattle.lc_node.specs.declared.store_room.StoreRoom.{StoreRoom}
@@ -21,9 +22,8 @@ module _ {D : Type 0} where
   -- the segment may come up where its token is not
   pub record IsOfSegment (segment : ℕ) (room : SegRoom D) : Type 0 where
     pub key : key_of room.lock.lock ≡ segment
-    pub of_token : room.fresh.token.segment ≡ segment
-    pub same : room.fresh.image.items ≡ room.fresh.base.items
-    pub short : length room.fresh.base.items ≤ 262144
+    pub of_side : room.fresh.side.segment ≡ segment
+    pub here : IsSome room.fresh.side.image
 
   -- so may each, in their order from segment 1 on
   abbrev pub AreOfSegments : List (SegRoom D) → Type 0
@@ -55,9 +55,11 @@ module _ {D : Type 0} (a : Ghosts D) where
   -- the segment may come up on this area
   pub record FitsRoom (segment : ℕ) (room : SegRoom D) (area : D) : Type 0 where
     pub key : key_of room.lock.lock ≡ segment
-    pub of_token : room.fresh.token.segment ≡ segment
-    pub same : room.fresh.image.items ≡ room.fresh.base.items
-    pub fits : FitsToken a 0 area room.fresh.token room.fresh.base.items
+    pub of_side : room.fresh.side.segment ≡ segment
+    pub here : IsSome room.fresh.side.image
+    pub of_token : room.fresh.token.segment ≡ room.fresh.side.segment
+    pub number : room.fresh.token.seq ≡ room.fresh.side.backlog.applied
+    pub fits : FitsToken a room.fresh.side.since area room.fresh.token (laid_parts room.fresh.side.applied room.fresh.side.base)
 
   -- whichever area stands at the place of a segment fits its room
   abbrev pub FitRooms : List (SegRoom D) → List (Option D) → Type 0

@@ -1,6 +1,8 @@
 -- Which pages the ranges of a record touch.
 use Rattle.std.specs.Prelude.{ℕ, suc, ◌+◌, ◌*◌, ◌&&◌, nat_lt, Bool, List, [], ◌∷◌, length, if◌then◌else◌}
 use Rattle.std.specs.List.{list_any}
+use Rattle.lc_range.specs.declared.range.Range.{Range}
+use Rattle.lc_record.specs.Marks.{counting}
 use Rattle.lc_record.specs.declared.record.RangeData.{RangeData}
 use Rattle.lc_page.specs.declared.entry.Entry.{Entry}
 use Rattle.lc_page.specs.PageVector.{touched_at}
@@ -21,3 +23,7 @@ touched_from ranges seq page (entry ∷ entries) = touched_by ranges seq page en
 -- those of all pages
 abbrev pub touched_pages : List RangeData → ℕ → List Entry → List Entry
 touched_pages ranges seq entries = touched_from ranges seq 0 entries
+
+-- a range at the positions of a run: which bytes it has does not matter here
+abbrev pub range_at : Range → RangeData
+range_at run = record { segment = run.segment; offset = run.offset; bytes = counting 0 run.len }

@@ -15,7 +15,8 @@ use Rattle.lc_node.specs.Logs.{IsLogOf}
 use Rattle.lc_node.specs.Pages.{AreWritten, HaveBytes}
 use Rattle.lc_node.specs.Receipts.{IsOfDevice}
 use Rattle.lc_node.specs.Resets.{Empties, IsSpent, IsUnemptied}
-use Rattle.lc_node.specs.SegView.{SegView, laid_parts}
+use Rattle.lc_applied.specs.AppliedParts.{laid_parts}
+use Rattle.lc_node.specs.SegView.{SegView}
 use Rattle.lc_node.specs.Trimming.{ForgetsAlone}
 use Rattle.lc_node.specs.declared.held.HeldSide.{HeldSide}
 use Rattle.lc_node.specs.declared.node.Node.{Node}
@@ -31,7 +32,7 @@ SeesToken old (Some token) new = Sees old token new
 module _ {D : Type 0} where
   -- the applied records are folded into the base; the pages and their token may be others, and there may be more room
   abbrev pub IsFolded : SegView D → SegView D → Type 0
-  IsFolded old new = new ≡ record old { base = laid_parts old.applied old.base; applied = []; room = new.room; standing = new.standing; pages = new.pages }
+  IsFolded old new = new ≡ record old { base = laid_parts old.applied old.base; applied = []; runs_room = new.runs_room; standing = new.standing; pages = new.pages }
 
   -- the same of a held side, whose lock and image stay
   abbrev pub IsSameHeld : HeldSide D → HeldSide D → Type 0

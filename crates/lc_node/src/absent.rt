@@ -11,9 +11,10 @@ pub(crate) fn first_absent<D: Area + Drop>(sides: &[HeldSide<D>]) -> Option<u32>
     ensures none { IfNone result (AreHere sides.now) }
 {
     for held in sides {
-        let Some(_) = held.side.token() else {
-            return Some(held.side.segment());
-        };
+        let side = &*held.side.inner;
+        if side.token().is_none() {
+            return Some(side.segment());
+        }
     }
     None
 }

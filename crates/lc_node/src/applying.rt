@@ -4,7 +4,7 @@ ghost use Rattle.lc_token.specs.Backlog.{counted, forgetting, is_known, keeping,
 ghost use Rattle.lc_tx.specs.Image.{laid_over};
 ghost use Rattle.lc_tx.specs.declared.holders.Holders.TheVariants.{Free};
 ghost use Rattle.lc_node.specs.Applying.{applying, caught_up, ready_in};
-ghost use Rattle.lc_node.specs.SegView.{laid_parts};
+ghost use Rattle.lc_applied.specs.AppliedParts.{laid_parts};
 
 use crate::SegSide;
 use crate::growing::size_of_part;
@@ -94,7 +94,7 @@ impl<D: Area + Drop> SegSide<D> {
         image.put(&part);
         let size = size_of_part(&part);
         self.stored = self.stored.saturating_add(size);
-        self.applied.push_reserved(part);
+        self.applied.push(part);
     }
 
     // Puts the parts on the image, which is out, that are held back and follow on what is applied.

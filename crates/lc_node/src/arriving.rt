@@ -3,14 +3,14 @@ ghost use Rattle.std.specs.Prelude.{◌≡◌, ◌↔◌, true, false, None, Som
 ghost use Rattle.std.specs.Option.{ForSome};
 ghost use Rattle.lc_node.specs.Arriving.{MayArrive, with_token};
 ghost use Rattle.lc_node.specs.Pages.{FitsToken};
-ghost use Rattle.lc_node.specs.SegView.{laid_parts};
+ghost use Rattle.lc_applied.specs.AppliedParts.{laid_parts};
 ghost use Rattle.lc_node.specs.declared.page_area.PageArea.TheVariants.{Serves};
 
 use crate::page_area::PageArea;
 use crate::{SegSide, Travelling};
 use lc_disk::Area;
 use lc_page::PAGE_BYTES;
-use lc_token::TokenPlace;
+use lc_token::{Token, TokenPlace};
 
 impl<D: Area + Drop> SegSide<D> {
     /// Places a token that came here, with the area of the pages. It may where no token is here, where it is of the segment
@@ -40,6 +40,16 @@ impl<D: Area + Drop> SegSide<D> {
         ensures { self.new ≡ record self.old { standing = record self.old.standing { token = Some journey.token }; pages = Serves journey.area } }
     {
         let Travelling { token, area, .. } = journey;
+        self.serve(token, area);
+    }
+
+    /// Places the token, with the area of the pages. It takes no memory.
+    pub(crate) fn serve(&mut self, token: Token, area: D)
+        requires segment { token.segment ≡ self.old.segment }
+        requires number { token.seq ≡ self.old.backlog.applied }
+        requires fits { FitsToken D.Area self.old.since area token (laid_parts self.old.applied self.old.base) }
+        ensures { self.new ≡ record self.old { standing = record self.old.standing { token = Some token }; pages = Serves area } }
+    {
         self.token = TokenPlace::new(self.segment, Some(token));
         self.pages = PageArea::Serves(area);
     }

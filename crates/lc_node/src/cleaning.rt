@@ -77,7 +77,7 @@ pub(crate) fn most_pages<D: Area + Drop>(sides: &[HeldSide<D>]) -> usize
 {
     let mut most = 0;
     for held in sides {
-        most = most.max(held.side.page_count());
+        most = most.max(held.side.inner.page_count());
     }
     most
 }
@@ -95,7 +95,7 @@ pub(crate) fn write_all<D: Area + Drop>(
 {
     for place in 0..sides.len() {
         let held = &mut sides[place];
-        held.side.write_pages(writes)?;
+        held.side.inner.write_pages(writes)?;
     }
     Ok(())
 }
@@ -107,7 +107,7 @@ impl<D: Area + Drop> LogSide<D> {
         ensures same { self.new ≡ record self.old { known = self.new.known } }
     {
         for held in sides {
-            if let Some(token) = held.side.token() {
+            if let Some(token) = held.side.inner.token() {
                 self.see(token);
             }
         }

@@ -40,7 +40,9 @@ impl<D: Area + Drop> Cluster<D> {
         let (mut side, side_loan) = lock.lock(rt);
         let (mut log, log_loan) = node.log.lock(rt);
         let (mut ends, ends_loan) = member.to.lock(rt);
-        let given = side.hand_over(rt, &node.stage, &mut log, from, to, &mut ends);
+        let given = side
+            .inner
+            .hand_over(rt, &node.stage, &mut log, from, to, &mut ends);
         member.to.unlock(ends, ends_loan);
         node.log.unlock(log, log_loan);
         lock.unlock(side, side_loan);

@@ -20,7 +20,7 @@ pub(crate) fn keep(stable: &mut Vec<u64>, group: &Group)
     ensures room { vec_capacity stable.old ≤ vec_capacity stable.new }
 {
     for index in 0..group.len() {
-        stable.push(group.word(index)).unwrap();
+        stable.push_reserved(group.word(index));
     }
 }
 

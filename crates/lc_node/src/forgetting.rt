@@ -56,7 +56,7 @@ impl<D: Area + Drop> Node<D> {
     {
         let lock = &self.segments[place];
         let (side, loan) = lock.lock(rt);
-        let applied = side.applied_number();
+        let applied = side.inner.applied_number();
         lock.unlock(side, loan);
         applied
     }

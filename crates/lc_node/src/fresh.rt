@@ -4,9 +4,12 @@ ghost use Rattle.lc_page.specs.PageVector.{new_entry};
 ghost use Rattle.lc_recover.specs.Recovered.{page_of, sequence_of};
 ghost use Rattle.lc_node.specs.Fresh.{HasWholePages, IsFresh, elsewhere_side, fresh_side, segment_bytes, segment_texts};
 ghost use Rattle.lc_node.specs.Pages.{FitsToken};
+ghost use Rattle.lc_applied.specs.AppliedParts.{laid_parts};
 
 use crate::SegSide;
+use crate::boxed_side::BoxedSide;
 use crate::page_area::PageArea;
+use lc_applied::AppliedParts;
 use lc_disk::Area;
 use lc_page::PageVector;
 use lc_record::PAGE;
@@ -15,22 +18,21 @@ use lc_token::{HoldBack, Token, TokenPlace};
 use lc_tx::Image;
 use std::alloc::{AllocError, Global};
 
-/// What a segment needs of memory at a node, with what the recovery has made of it: its bytes, for its image and its base,
-/// and its token.
+/// What a segment needs of memory at a node, with what the recovery has made of it: the segment as it is where its
+/// token is not, and its token.
 #[derive(Drop)]
-pub(crate) struct FreshSegment {
-    pub(crate) image: Vec<u8>,
-    pub(crate) base: Vec<u8>,
+pub(crate) struct FreshSegment<D: Area + Drop> {
+    pub(crate) side: BoxedSide<D>,
     pub(crate) token: Token,
 }
 
-impl FreshSegment {
+impl<D: Area + Drop> FreshSegment<D> {
     /// That of a segment, from 1.
-    pub(crate) fn new<D: Area>(
+    pub(crate) fn new(
         alloc: Global,
         segment: u32,
         recovered: &Recovered<D>,
-    ) -> Result<FreshSegment, AllocError>
+    ) -> Result<FreshSegment<D>, AllocError>
         requires first { 1 ≤ segment }
         requires last { segment ≤ recovered.now.geometry.segments }
         ensures fresh { IfOk result (λ s. IsFresh recovered.now segment s) }
@@ -40,55 +42,64 @@ impl FreshSegment {
         let image = bytes_of(alloc, segment, recovered)?;
         let base = bytes_of(alloc, segment, recovered)?;
         let pages = pages_of(alloc, segment, recovered)?;
+        let side = SegSide::elsewhere(alloc, segment, number, image, base);
+        let side = BoxedSide::new(alloc, side)?;
         let token = Token::recovered(segment, number, pages);
-        Ok(FreshSegment { image, base, token })
+        Ok(FreshSegment { side, token })
     }
 
     /// The segment at a node, with the area of its pages. It takes no memory.
-    pub(crate) fn with_area<D: Area>(self, alloc: Global, area: D) -> SegSide<D>
-        requires same { self.image.items ≡ self.base.items }
-        requires first { 1 ≤ self.token.segment }
-        requires last { self.token.segment ≤ 16 }
-        requires fits { FitsToken D.Area 0 area self.token self.base.items }
-        ensures { result ≡ fresh_side self area result.room }
+    pub(crate) fn with_area(self, area: D) -> BoxedSide<D>
+        requires segment { self.token.segment ≡ self.side.segment }
+        requires number { self.token.seq ≡ self.side.backlog.applied }
+        requires fits { FitsToken D.Area self.side.since area self.token (laid_parts self.side.applied self.side.base) }
+        ensures { result ≡ fresh_side self area }
     {
-        let FreshSegment { image, base, token } = self;
-        let segment = token.segment();
-        SegSide {
-            segment,
-            image: Some(Image::new(image)),
-            base: Image::new(base),
-            applied: Vec::new(alloc),
-            stored: 0,
-            hold_back: HoldBack::new(alloc, segment, token.seq()),
-            token: TokenPlace::new(segment, Some(token)),
-            pages: PageArea::Serves(area),
-            since: 0,
-            waiting: None,
-        }
+        let FreshSegment { mut side, token } = self;
+        side.inner.serve(token, area);
+        side
     }
 
     /// The segment at a node where its token is not. It takes no memory.
-    pub(crate) fn elsewhere<D: Area>(self, alloc: Global) -> SegSide<D>
-        requires same { self.image.items ≡ self.base.items }
-        requires first { 1 ≤ self.token.segment }
-        requires last { self.token.segment ≤ 16 }
-        requires short { length self.base.items ≤ 262144 }
-        ensures { result ≡ elsewhere_side self result.room }
+    pub(crate) fn elsewhere(self) -> BoxedSide<D>
+        ensures { result ≡ self.side }
     {
-        let FreshSegment { image, base, token } = self;
-        let segment = token.segment();
+        let FreshSegment {
+            side,
+            token: _token,
+        } = self;
+        side
+    }
+}
+
+impl<D: Area + Drop> SegSide<D> {
+    // A segment of these bytes, twice, at a node where its token is not. The records up to a number are applied. It
+    // takes no memory.
+    fn elsewhere(
+        alloc: Global,
+        segment: u32,
+        number: u64,
+        image: Vec<u8>,
+        base: Vec<u8>,
+    ) -> SegSide<D>
+        requires same { image.items ≡ base.items }
+        requires first { 1 ≤ segment }
+        requires last { segment ≤ 16 }
+        requires short { length base.items ≤ 262144 }
+        ensures { result ≡ elsewhere_side segment number image base }
+    {
         SegSide {
             segment,
             image: Some(Image::new(image)),
             base: Image::new(base),
-            applied: Vec::new(alloc),
+            applied: AppliedParts::new(alloc),
             stored: 0,
-            hold_back: HoldBack::new(alloc, segment, token.seq()),
+            hold_back: HoldBack::new(alloc, segment, number),
             token: TokenPlace::new(segment, None),
             pages: PageArea::Elsewhere,
             since: 0,
             waiting: None,
+            scratch: None,
         }
     }
 }
@@ -103,6 +114,7 @@ fn bytes_of<D: Area>(
     requires last { segment ≤ recovered.now.geometry.segments }
     ensures bytes { IfOk result (λ bytes. bytes.items ≡ segment_bytes recovered.now segment) }
     ensures long { OnOk result ((page : ℕ) → page < recovered.now.geometry.pages → length (page_of recovered.now segment page).bytes ≡ 256) }
+    ensures short { IfOk result (λ bytes. length bytes.items ≤ 262144) }
 {
     let pages = recovered.geometry().pages;
     let mut bytes = Vec::with_capacity(alloc, (pages * PAGE) as usize)?;

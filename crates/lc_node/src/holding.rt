@@ -6,16 +6,13 @@ ghost use Rattle.lc_tx.specs.Tx.{IsSetOf};
 ghost use Rattle.lc_node.specs.Held.{HasSegment, IsFirstOutside, IsHeldOf, IsUnheld, segments_of};
 ghost use Rattle.lc_node.specs.declared.node_fault.NodeFault.TheVariants.{NotHere, NoMemory};
 
+use crate::boxed_side::BoxedSide;
 use crate::held::{Held, HeldSide};
-use crate::{Node, NodeFault, SegSide};
+use crate::{Node, NodeFault};
 use lc_disk::Area;
-use lc_lock::{Keyed, Lock};
+use lc_lock::Lock;
 use std::alloc::Global;
 use std::sync::Wait;
-
-impl<D: Area + Drop> Keyed<u32> for SegSide<D> {
-    ghost fits = { λ segment side. (side.segment ≡ segment) × IsSome side.image };
-}
 
 impl<D: Area + Drop> Node<D> {
     /// Whether the node has a segment.
@@ -26,7 +23,7 @@ impl<D: Area + Drop> Node<D> {
     }
 
     // The lock of a segment.
-    pub(crate) fn lock_of(&self, segment: u32) -> &Lock<SegSide<D>, u32>
+    pub(crate) fn lock_of(&self, segment: u32) -> &Lock<BoxedSide<D>, u32>
         requires { HasSegment self.now segment }
         ensures { key_of result.now ≡ segment }
     {
@@ -73,7 +70,7 @@ impl<D: Area + Drop> Node<D> {
     {
         let Held { mut sides } = held;
         while let Some(HeldSide { side, loan }) = sides.pop() {
-            let segment = side.segment();
+            let segment = side.inner.segment();
             self.segments[segment as usize - 1].unlock(side, loan);
         }
         sides.destroy_empty();

@@ -2,7 +2,7 @@
 ghost use Rattle.std.specs.Prelude.{◌≡◌, ◌↔◌, ◌^◌, ◌≤◌, true, false, None, IfErr, IfOk, IsOk, OnOk, OnErr};
 ghost use Rattle.lc_node.specs.Leaving.{HasFailed, IsUnleft, IsJourneyFrom, IsServing, without_token};
 ghost use Rattle.lc_node.specs.Pages.{FitsToken};
-ghost use Rattle.lc_node.specs.SegView.{laid_parts};
+ghost use Rattle.lc_applied.specs.AppliedParts.{laid_parts};
 
 use crate::page_area::PageArea;
 use crate::{NodeFault, SegSide, Travelling};

@@ -5,6 +5,7 @@ ghost use Rattle.lc_node.specs.LeftBy.{HasFailed, IsServingArea, IsSettledPart, 
 ghost use Rattle.lc_node.specs.Refusals.{StopsSegment};
 ghost use Rattle.lc_node.specs.declared.node_fault.NodeFault.TheVariants.{Mismatch, NoMemory};
 
+use crate::boxed_side::BoxedSide;
 use crate::page_area::PageArea;
 use crate::{NodeFault, SegSide, Travelling};
 use lc_disk::Area;
@@ -36,7 +37,7 @@ impl Images {
         rt: &R,
         alloc: Global,
         node: u16,
-        segments: Vec<Lock<SegSide<D>, u32>>,
+        segments: Vec<Lock<BoxedSide<D>, u32>>,
         tokens: &mut Vec<SegmentPart<D>>,
     ) -> Result<Images, NodeFault>
         requires settled { All (IsSettledPart D.Area) tokens.old.items }
@@ -53,7 +54,7 @@ impl Images {
             let lock = segments.remove(0);
             let (side, loan) = lock.lock(rt);
             lock.end(loan);
-            let (image, number) = side.into_image(node, tokens)?;
+            let (image, number) = Box::into_inner(side.inner).into_image(node, tokens)?;
             images.push_reserved(image);
             applied.push_reserved(number);
         }

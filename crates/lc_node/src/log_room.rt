@@ -6,9 +6,10 @@ ghost use Rattle.lc_stage.specs.Staging.{newcomer, flusher as first_flusher};
 ghost use Rattle.lc_stage.specs.Seats.{commit_view, flush_view, IsFlusherOf, IsSeatOf};
 ghost use Rattle.lc_node.specs.SegView.{SegView};
 
+use crate::boxed_side::BoxedSide;
 use crate::log_state::LogState;
 use crate::vacant::Vacant;
-use crate::{LogSide, Node, SegSide};
+use crate::{LogSide, Node};
 use lc_disk::Area;
 use lc_ended::Ended;
 use lc_lock::Lock;
@@ -73,7 +74,7 @@ impl<D: Area + Drop> LogRoom<D> {
         self,
         number: u16,
         area: D,
-        segments: Vec<Lock<SegSide<D>, u32>>,
+        segments: Vec<Lock<BoxedSide<D>, u32>>,
     ) -> (Node<D>, CommitSeat)
         requires number { number ≤ 7 }
         requires room { 8 * self.stage.room + 8 ≤ length (D.now area) }

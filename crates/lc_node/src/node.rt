@@ -4,8 +4,9 @@ ghost use Rattle.lc_lock.specs.declared.lock.Lock.{Lock as Keeps};
 ghost use Rattle.lc_lock.specs.Loans.{key_of};
 ghost use Rattle.lc_node.specs.SegView.{SegView};
 
+use crate::LogSide;
+use crate::boxed_side::BoxedSide;
 use crate::halting::Halting;
-use crate::{LogSide, SegSide};
 use lc_disk::Area;
 use lc_lock::Lock;
 use lc_stage::Stage;
@@ -19,7 +20,7 @@ pub struct Node<D: Area + Drop> {
     pub(crate) number: u16,
     pub(crate) stage: Stage,
     pub(crate) log: Lock<LogSide<D>, Stage>,
-    pub(crate) segments: Vec<Lock<SegSide<D>, u32>>,
+    pub(crate) segments: Vec<Lock<BoxedSide<D>, u32>>,
     /// Not 0 once a call of a device has failed.
     pub(crate) halted: AtomicIn<Halting<D>>,
     pub(crate) is_alone: bool,

@@ -88,7 +88,7 @@ fn open_first<D: Area + Drop>(
     ensures back { IfErr result (λ back. (back.0 ≡ recovered) × (back.1 ≡ NoMemory)) }
 {
     match StoreRoom::new(alloc, &recovered, nodes) {
-        Ok(room) => Ok(room.open(alloc, recovered)),
+        Ok(room) => Ok(room.open(recovered)),
         Err(_) => Err((recovered, NodeFault::NoMemory)),
     }
 }

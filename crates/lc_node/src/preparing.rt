@@ -1,27 +1,28 @@
-//! What a commit makes ready before its record is reserved.
-ghost use Rattle.std.specs.Prelude.{◌≡◌, ◌≤◌, ◌<◌, ℕ, [], map, length, None, Some, Ok, IfOk, IfErr, IfSome, OnErr, OnOk};
-ghost use Rattle.lc_record.specs.declared.record.Record.{Record as Spelled};
-ghost use Rattle.lc_record.specs.Record.{IsRecord};
-ghost use Rattle.lc_record.specs.Part.{part_of};
-ghost use Rattle.lc_stage.specs.Staging.{IsOneRecord};
+//! The work of a commit, up to its record in the stage.
+ghost use Rattle.std.specs.Prelude.{◌≡◌, ◌≤◌, ◌<◌, [], List, Option, map, length, true, false, Ok, IfOk, IfErr, OnErr};
+ghost use Rattle.lc_record.specs.declared.part.Part.{Part};
 ghost use Rattle.lc_stage.specs.Seats.{commit_view, IsSeatOf, IsIdle};
 ghost use Rattle.lc_tx.specs.Images.{bytes_of};
 ghost use Rattle.lc_tx.specs.Prepared.{AreSmall};
+ghost use Rattle.lc_tx.specs.Tx.{IsIdle as HoldsNothing};
 ghost use Rattle.lc_node.specs.Lent.{the_images};
 ghost use Rattle.lc_node.specs.Attempts.{IsUnbegun, IsUndone};
 ghost use Rattle.lc_node.specs.Commits.{IsUnstaged, StagesWork};
+ghost use Rattle.lc_node.specs.Each.{Each, EachThree};
 ghost use Rattle.lc_node.specs.Ran.{Ran};
+ghost use Rattle.lc_node.specs.Sides.{AreOut, HasMoreRoom, IsCounted};
 ghost use Rattle.lc_node.specs.Stages.{Sees};
+ghost use Rattle.lc_node.specs.declared.held.HeldSide.{HeldSide as HeldSides};
 
 use crate::attempting::attempt;
 use crate::held::HeldSide;
 use crate::lent::Lent;
 use crate::staging::stage_record;
+use crate::taking_out::{count_runs, make_room_in};
 use crate::{Gate, NodeFault, Work};
 use lc_disk::Area;
-use lc_record::{Part, View};
 use lc_stage::{CommitSeat, Stage};
-use lc_tx::Prepared;
+use lc_tx::Tx;
 use smallvec::SmallVec;
 use std::alloc::{AllocError, Global};
 
@@ -35,32 +36,20 @@ pub(crate) fn segments_in<D: Area + Drop>(
 {
     let mut segments = SmallVec::new(alloc);
     for held in sides {
-        segments.push(held.side.segment())?;
+        segments.push(held.side.inner.segment())?;
     }
     Ok(segments)
 }
 
-// The part that each of the segments has in the record of these words.
-fn parts_in(alloc: Global, words: &[u64], segments: &[u32]) -> Result<Vec<Option<Part>>, AllocError>
-    requires one { IsOneRecord words.now }
-    ensures { IfOk result (λ parts. (r : Spelled) → IsRecord r words.now → parts.items ≡ map (λ s. part_of s r) segments.now) }
-{
-    let Some(record) = View::at(words, 0) else {
-        unreachable!();
-    };
-    let mut parts = Vec::with_capacity(alloc, segments.len())?;
-    for segment in segments {
-        let part = record.part(alloc, *segment)?;
-        parts.push_reserved(part);
-    }
-    Ok(parts)
-}
-
-// Runs the work on these segments and stages the record of what it did; the part that each segment has in it, or None
-// where nothing was set. All memory is taken before the record is reserved. Where it is refused, the work is undone.
-pub(crate) fn stage_work<W: Work, G: Gate>(
+// Runs the work in this transaction, which is idle, on these segments, whose images are out, stages the record of
+// what it did, in the memory of these words, and counts it at each; false where nothing was set. All memory is taken
+// before the record is reserved. Where it is refused, the work is undone. The transaction is idle then.
+pub(crate) fn stage_work<D: Area + Drop, W: Work, G: Gate>(
     alloc: Global,
+    sides: &mut [HeldSide<D>],
     lent: &mut Lent,
+    tx: &mut Tx,
+    words: &mut Vec<u64>,
     segments: &[u32],
     work: &mut W,
     node: u16,
@@ -68,40 +57,47 @@ pub(crate) fn stage_work<W: Work, G: Gate>(
     seat: &mut CommitSeat,
     tries: u32,
     gate: &G,
-) -> Result<Option<Vec<Option<Part>>>, NodeFault>
+) -> Result<bool, NodeFault>
     requires own { IsSeatOf stage.now seat.old }
     requires idle { IsIdle (commit_view seat.old) }
     requires tries { 0 < tries }
     requires node { node ≤ 7 }
+    requires holds_nothing { HoldsNothing tx.old }
     requires small { AreSmall the_images lent.old segments.now }
+    requires out { AreOut segments.now sides.old lent.old.slots.items }
     ensures own { IsSeatOf stage.now seat.new }
     ensures idle { IsIdle (commit_view seat.new) }
-    ensures staged { IfOk result (λ done. IfSome done (λ parts. StagesWork (W.ran work.old work.new) node segments.now lent.old parts.items lent.new (commit_view seat.old) (commit_view seat.new))) }
-    ensures nothing { result ≡ Ok None → (commit_view seat.new ≡ commit_view seat.old) × IsUndone the_images segments.now lent.old lent.new
+    ensures holds_nothing { HoldsNothing tx.new }
+    ensures staged { result ≡ Ok true → (parts : List (Option Part)) × (mid : List (HeldSides D)) × Each HasMoreRoom sides.old mid × EachThree IsCounted mid parts sides.new
+        × StagesWork (W.ran work.old work.new) node segments.now lent.old parts lent.new (commit_view seat.old) (commit_view seat.new) }
+    ensures nothing { result ≡ Ok false → (commit_view seat.new ≡ commit_view seat.old) × IsUndone the_images segments.now lent.old lent.new
         × Ran (W.ran work.old work.new) segments.now (bytes_of the_images lent.old) (Ok tt) (bytes_of the_images lent.new) [] }
     ensures why { IfErr result (λ fault. IsUnstaged (W.ran work.old work.new) (IsUnbegun the_images lent.old segments.now) segments.now
         (bytes_of the_images lent.old) stage.now.room tries (commit_view seat.new).seen fault) }
     ensures refused { IfErr result (λ _. Sees (commit_view seat.old) (commit_view seat.new) × IsUndone the_images segments.now lent.old lent.new) }
+    ensures unchanged { result ≡ Ok false → Each HasMoreRoom sides.old sides.new }
+    ensures undone { IfErr result (λ _. Each HasMoreRoom sides.old sides.new) }
 {
-    let (tx, prepared) = match attempt(alloc, lent, segments, work, node) {
-        Ok(made) => made,
+    match attempt(alloc, tx, words, lent, segments, work, node) {
+        Ok(true) => {}
+        Ok(false) => {
+            tx.release_in_place(lent);
+            return Ok(false);
+        }
         Err(fault) => return Err(fault.into()),
-    };
-    let Prepared::Record(words) = prepared else {
-        tx.release(lent);
-        return Ok(None);
-    };
-    let Ok(parts) = parts_in(alloc, words.as_slice(), segments) else {
-        tx.abort(lent);
+    }
+    if make_room_in(sides, tx.ranges()).is_err() {
+        tx.abort_in_place(lent);
         return Err(NodeFault::NoMemory);
-    };
+    }
     match stage_record(stage, seat, words.as_slice(), tries, gate) {
         Ok(()) => {
-            tx.release(lent);
-            Ok(Some(parts))
+            count_runs(sides, lent.slots.as_slice(), tx.ranges());
+            tx.release_in_place(lent);
+            Ok(true)
         }
         Err(fault) => {
-            tx.abort(lent);
+            tx.abort_in_place(lent);
             Err(fault)
         }
     }

@@ -77,7 +77,7 @@ impl<D: Area + Drop> Node<D> {
         }
         let lock = self.lock_of(segment);
         let (mut side, loan) = lock.lock(rt);
-        let admitted = side.admit(journey);
+        let admitted = side.inner.admit(journey);
         lock.unlock(side, loan);
         match admitted {
             Ok(true) => Ok(Pumped::Arrived),

@@ -60,7 +60,7 @@ fn prepare_all<D: Area + Drop>(
     let mut whole = true;
     for place in 0..sides.len() {
         let held = &mut sides[place];
-        let reception = held.side.prepare(alloc, record);
+        let reception = held.side.inner.prepare(alloc, record);
         whole = whole && reception.is_received();
         receptions.push_reserved(reception);
     }
@@ -75,7 +75,7 @@ fn forgo_all<D: Area + Drop>(sides: &mut Vec<HeldSide<D>>, receptions: Vec<Recep
     let mut receptions = receptions;
     while let Some(reception) = receptions.pop() {
         let held = &mut sides[receptions.len()];
-        held.side.forgo(reception);
+        held.side.inner.forgo(reception);
     }
 }
 
@@ -112,8 +112,9 @@ fn finish_side<D: Area + Drop>(held: &mut HeldSide<D>, reception: Reception) -> 
     ensures arrived { IsTrue result.arrived ↔ HasArrived held.old held.new }
     ensures here { IsSome held.new.side.image }
 {
-    let first = held.side.finish(reception);
-    let arrived = held.side.admit_waiting();
+    let side = &mut *held.side.inner;
+    let first = side.finish(reception);
+    let arrived = side.admit_waiting();
     Delivered { first, arrived }
 }
 

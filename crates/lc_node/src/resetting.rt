@@ -13,7 +13,7 @@ use crate::log_state::LogState;
 use crate::{LogSide, NodeFault};
 use lc_disk::Area;
 use lc_stage::{Stage, StageFault};
-use lc_trunc::may_reset;
+use lc_trunc::may_reset_kept;
 use std::mem;
 
 // No round comes after it.
@@ -64,7 +64,7 @@ impl<D: Area + Drop> LogSide<D> {
         if self.round == LAST_ROUND {
             return Err(NodeFault::RoundsSpent);
         }
-        match may_reset(self.stable.as_slice(), &self.known) {
+        match may_reset_kept(self.stable.as_slice(), &self.known) {
             Ok(()) => Ok(true),
             Err(unclean) => Err(NodeFault::Unclean {
                 segment: unclean.segment,

@@ -4,7 +4,7 @@ ghost use Rattle.lc_stage.specs.Seats.{IsSeatOf};
 ghost use Rattle.lc_node.specs.Rooms.{AreOfSegments, FitsLog, FitRooms, IsRoomFor};
 ghost use Rattle.lc_node.specs.Shares.{AreShared};
 
-use crate::SegSide;
+use crate::boxed_side::BoxedSide;
 use crate::log_room::LogRoom;
 use crate::opening::Opened;
 use crate::seg_room::{SegRoom, end_all, fill_all, rooms_of};
@@ -18,7 +18,7 @@ use std::alloc::{AllocError, Global};
 pub(crate) struct Room<D: Area + Drop> {
     pub(crate) log: LogRoom<D>,
     pub(crate) segments: Vec<SegRoom<D>>,
-    pub(crate) locks: Vec<Lock<SegSide<D>, u32>>,
+    pub(crate) locks: Vec<Lock<BoxedSide<D>, u32>>,
 }
 
 impl<D: Area + Drop> Room<D> {
@@ -44,13 +44,7 @@ impl<D: Area + Drop> Room<D> {
 
     /// The node comes up, with its log on this area. The segments whose tokens are its share have the areas at their places,
     /// which are taken. It takes no memory.
-    pub(crate) fn open(
-        self,
-        alloc: Global,
-        share: Share,
-        log: D,
-        pages: &mut [Option<D>],
-    ) -> Opened<D>
+    pub(crate) fn open(self, share: Share, log: D, pages: &mut [Option<D>]) -> Opened<D>
         requires log { FitsLog D.Area self.log.stage.room log }
         requires count { vec_len self.segments ≡ length pages.old }
         requires few { vec_len self.segments ≤ 16 }
@@ -71,7 +65,7 @@ impl<D: Area + Drop> Room<D> {
             segments,
             locks,
         } = self;
-        let locks = fill_all(alloc, share, segments, pages, locks);
+        let locks = fill_all(share, segments, pages, locks);
         let (node, seat) = log_room.open(share.number as u16, log, locks);
         Opened { node, seat }
     }

@@ -7,7 +7,7 @@ ghost use Rattle.lc_node.specs.SegView.{SegView};
 ghost use Rattle.lc_node.specs.Shares.{AreShared};
 ghost use Rattle.lc_node.specs.declared.seg_room.SegRoom.{SegRoom as Room};
 
-use crate::SegSide;
+use crate::boxed_side::BoxedSide;
 use crate::fresh::FreshSegment;
 use crate::share::Share;
 use crate::vacant::Vacant;
@@ -18,8 +18,8 @@ use std::alloc::{AllocError, Global};
 
 /// A segment of a recovered store, and the lock that waits for it. It is never dropped: it ends in `fill_all` or in `end`.
 pub(crate) struct SegRoom<D: Area + Drop> {
-    pub(crate) fresh: FreshSegment,
-    pub(crate) lock: Vacant<SegSide<D>, u32>,
+    pub(crate) fresh: FreshSegment<D>,
+    pub(crate) lock: Vacant<BoxedSide<D>, u32>,
 }
 
 impl<D: Area + Drop> SegRoom<D> {
@@ -36,39 +36,33 @@ impl<D: Area + Drop> SegRoom<D> {
 
     // The lock with the segment: on the area of its pages, or without one where another node has the token. It takes no
     // memory.
-    fn come_up(self, alloc: Global, segment: u32, area: Option<D>) -> Lock<SegSide<D>, u32>
-        requires first { 1 ≤ segment }
-        requires last { segment ≤ 16 }
+    fn come_up(self, segment: u32, area: Option<D>) -> Lock<BoxedSide<D>, u32>
         requires room { IsOfSegment segment self }
         requires fits { IfSome area (FitsRoom D.Area segment self) }
         ensures { key_of result ≡ segment }
     {
         match area {
-            Some(area) => self.fill(alloc, segment, area),
-            None => self.fill_elsewhere(alloc, segment),
+            Some(area) => self.fill(segment, area),
+            None => self.fill_elsewhere(segment),
         }
     }
 
     // The lock with the segment, on the area of its pages.
-    fn fill(self, alloc: Global, segment: u32, area: D) -> Lock<SegSide<D>, u32>
-        requires first { 1 ≤ segment }
-        requires last { segment ≤ 16 }
+    fn fill(self, segment: u32, area: D) -> Lock<BoxedSide<D>, u32>
         requires fits { FitsRoom D.Area segment self area }
         ensures { key_of result ≡ segment }
     {
         let SegRoom { fresh, lock } = self;
-        lock.fill(fresh.with_area(alloc, area))
+        lock.fill(fresh.with_area(area))
     }
 
     // The lock with the segment, whose token is at another node.
-    fn fill_elsewhere(self, alloc: Global, segment: u32) -> Lock<SegSide<D>, u32>
-        requires first { 1 ≤ segment }
-        requires last { segment ≤ 16 }
+    fn fill_elsewhere(self, segment: u32) -> Lock<BoxedSide<D>, u32>
         requires room { IsOfSegment segment self }
         ensures { key_of result ≡ segment }
     {
         let SegRoom { fresh, lock } = self;
-        lock.fill(fresh.elsewhere(alloc))
+        lock.fill(fresh.elsewhere())
     }
 
     // The segment does not come up.
@@ -106,12 +100,11 @@ pub(crate) fn rooms_of<D: Area + Drop>(
 /// The segments come up at a node, in the room that is there for their locks. Those whose tokens are its share have the areas
 /// at their places, which are taken.
 pub(crate) fn fill_all<D: Area + Drop>(
-    alloc: Global,
     share: Share,
     rooms: Vec<SegRoom<D>>,
     pages: &mut [Option<D>],
-    locks: Vec<Lock<SegSide<D>, u32>>,
-) -> Vec<Lock<SegSide<D>, u32>>
+    locks: Vec<Lock<BoxedSide<D>, u32>>,
+) -> Vec<Lock<BoxedSide<D>, u32>>
     requires count { vec_len rooms ≡ length pages.old }
     requires few { vec_len rooms ≤ 16 }
     requires rooms { AreOfSegments rooms.items }
@@ -128,7 +121,7 @@ pub(crate) fn fill_all<D: Area + Drop>(
         let segment = place as u32 + 1;
         let room = rooms.remove(0);
         let area = share.take(segment, &mut pages[place]);
-        locks.push_reserved(room.come_up(alloc, segment, area));
+        locks.push_reserved(room.come_up(segment, area));
     }
     rooms.destroy_empty();
     locks

@@ -1,7 +1,8 @@
 //! What a node has of a segment, copied.
 ghost use Rattle.std.specs.Prelude.{◌≡◌, ◌⊎◌, ◌↔◌, IfOk, IfErr, IsSome};
 ghost use Rattle.lc_node.specs.Held.{HasSegment};
-ghost use Rattle.lc_node.specs.SegView.{SegView, laid_parts};
+ghost use Rattle.lc_applied.specs.AppliedParts.{laid_parts};
+ghost use Rattle.lc_node.specs.SegView.{SegView};
 ghost use Rattle.lc_node.specs.Snapshots.{IsCopyOf};
 ghost use Rattle.lc_node.specs.declared.node_fault.NodeFault.TheVariants.{NotHere, NoMemory};
 
@@ -57,7 +58,7 @@ impl<D: Area + Drop> Node<D> {
         }
         let lock = self.lock_of(segment);
         let (side, loan) = lock.lock(rt);
-        let copied = side.snapshot(alloc);
+        let copied = side.inner.snapshot(alloc);
         lock.unlock(side, loan);
         match copied {
             Ok(copy) => Ok(copy),

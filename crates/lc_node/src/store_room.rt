@@ -41,7 +41,7 @@ impl<D: Area + Drop> StoreRoom<D> {
 
     /// The nodes come up, from node 0 on, each on the area of its log. They share the tokens, and with them the areas of the
     /// segments, so that none is left. The areas of other nodes' logs are dropped. It takes no memory.
-    pub(crate) fn open(self, alloc: Global, recovered: Recovered<D>) -> Vec<Opened<D>>
+    pub(crate) fn open(self, recovered: Recovered<D>) -> Vec<Opened<D>>
         requires room { IsStoreRoom recovered (vec_len self.nodes) self }
         requires some { 0 < vec_len self.nodes }
         requires within { vec_len self.nodes ≤ recovered.geometry.nodes }
@@ -66,7 +66,7 @@ impl<D: Area + Drop> StoreRoom<D> {
             let room = rooms.remove(0);
             let log = logs.remove(0);
             let share = Share::new(number, count);
-            opened.push_reserved(room.open(alloc, share, log, pages.as_mut_slice()));
+            opened.push_reserved(room.open(share, log, pages.as_mut_slice()));
         }
         rooms.destroy_empty();
         end_places(pages);

@@ -1,16 +1,16 @@
 //! A whole transaction on a running node.
-ghost use Rattle.std.specs.Prelude.{◌≡◌, ◌⊎◌, ◌<◌, ℕ, [], All, length, Ok, IfErr, OnOk};
+ghost use Rattle.std.specs.Prelude.{◌≡◌, ◌⊎◌, ◌<◌, ℕ, List, [], All, length, Ok, IfErr, OnOk};
 ghost use Rattle.lc_stage.specs.declared.receipt.Receipt.{Receipt as Given};
 ghost use Rattle.lc_stage.specs.declared.view.View.{View};
 ghost use Rattle.lc_stage.specs.Seats.{commit_view, IsSeatOf, IsIdle};
 ghost use Rattle.lc_node.specs.Receipts.{HasReceipt, IsOfDevice, Learns, Receives};
 ghost use Rattle.lc_node.specs.Stages.{Sees};
 ghost use Rattle.lc_tx.specs.Tx.{IsSetOf};
-ghost use Rattle.lc_node.specs.Commits.{AreHere, ClosesWork, IsUnbegunAmong, IsUncommitted};
+ghost use Rattle.lc_node.specs.Commits.{AreHere, segments_in, ClosesWork, IsUnbegunAmong, IsUncommitted};
 ghost use Rattle.lc_node.specs.Ran.{Bytes, Ran};
 ghost use Rattle.lc_node.specs.Halting.{IsHalted};
-ghost use Rattle.lc_node.specs.Held.{IsFirstOutside, IsHeldOf, segments_of};
-ghost use Rattle.lc_node.specs.declared.held.Held.{Held as Several};
+ghost use Rattle.lc_node.specs.Held.{IsFirstOutside, IsHeldOf};
+ghost use Rattle.lc_node.specs.declared.held.HeldSide.{HeldSide as Side};
 ghost use Rattle.lc_node.specs.declared.node_fault.NodeFault.TheVariants.{NotHere, NoMemory};
 ghost use Rattle.lc_node.specs.declared.commit_kind.Commit.TheVariants.{Empty, Lazy, Flushed};
 
@@ -46,7 +46,7 @@ impl<D: Area + Drop> Node<D> {
         requires tries { 0 < tries }
         ensures own { IsSeatOf self.now.stage result.0 }
         ensures idle { IsIdle (commit_view result.0) }
-        ensures here { OnOk result.1 ((held : Several D) × All (IsHeldOf self.now) held.sides.items × IsSetOf segments.now (segments_of held) × AreHere held.sides.items) }
+        ensures here { OnOk result.1 ((sides : List (Side D)) × All (IsHeldOf self.now) sides × IsSetOf segments.now (segments_in sides) × AreHere sides) }
         ensures empty { result.1 ≡ Ok Empty → (commit_view result.0 ≡ commit_view seat)
             × ((same : Bytes) × Ran (W.ran work.old work.new) segments.now same (Ok tt) same []) }
         ensures lazy { result.1 ≡ Ok Lazy → ClosesWork self.now.number (W.ran work.old work.new) segments.now (commit_view seat) (commit_view result.0) }
@@ -62,12 +62,7 @@ impl<D: Area + Drop> Node<D> {
             ⊎ (IsOfDevice fault × ((w : View) × ClosesWork self.now.number (W.ran work.old work.new) segments.now (commit_view seat) w × Learns w (commit_view result.0)))) }
     {
         let mut seat = seat;
-        let mut held = match self.hold(rt, alloc, segments) {
-            Ok(held) => held,
-            Err(fault) => return (seat, Err(fault)),
-        };
-        let committed = held.commit(alloc, self, &mut seat, work, tries, gate);
-        self.release(held);
+        let committed = self.commit(rt, alloc, &mut seat, segments, work, tries, gate);
         match committed {
             Err(fault) => (seat, Err(fault)),
             Ok(false) => (seat, Ok(Commit::Empty)),

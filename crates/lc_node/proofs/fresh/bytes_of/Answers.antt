@@ -1,8 +1,8 @@
-use Rattle.std.proofs.Common.{◌≡◌, length, ap, sym, ◌∙◌, arith}
+use Rattle.std.proofs.Common.{◌≡◌, ℕ, ◌+◌, ◌*◌, length, ap, sym, ◌∙◌, arith}
 use Rattle.std.specs.List.{flat_map}
 use Rattle.lc_record.specs.Marks.{counting}
 use Rattle.lc_recover.specs.Recovered.{page_of}
-use Rattle.lc_node.proofs.FreshPages.{below_more, bytes_more}
+use Rattle.lc_node.proofs.FreshPages.{below_more, bytes_long, bytes_more}
 use Rattle.lc_node.proofs.fresh.bytes_of.Goals as goal
 
 pub loop-page-init : goal.loop-page-init
@@ -29,3 +29,14 @@ pub returns-clause-long : goal.returns-clause-long
 returns-clause-long g c = λ page less.
     let all = ap (λ h. h.pages) c.geometry-pages.ensures in
     c.loop-page.invariant.long page (omega (arith, all, less, c.loop-page-test.false))
+
+pub returns-clause-short : goal.returns-clause-short
+returns-clause-short g c =
+    let r = c.args.recovered.now in
+    let all = ap (λ h. h.pages) c.geometry-pages.ensures in
+    let few = r.geometry.few_pages in
+    let end : c.loop-page.page ≡ r.geometry.pages = omega (arith, all, c.loop-page-test.false, c.loop-page.auto.page-end) in
+    let long : length (flat_map (λ page. (page_of r c.args.segment page).bytes) (counting 0 c.loop-page.page)) ≡ c.loop-page.page * 256 =
+    bytes_long (λ page. (page_of r c.args.segment page).bytes) 0 c.loop-page.page
+    (λ k within. (let same : 0 + k ≡ k = omega arith in ap (λ (n : ℕ). length (page_of r c.args.segment n).bytes) same ∙ c.loop-page.invariant.long k within)) in
+    omega (arith, ap length c.loop-page.invariant.bytes, long, end, few)

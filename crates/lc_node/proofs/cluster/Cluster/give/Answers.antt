@@ -1,9 +1,10 @@
-use Rattle.std.proofs.Common.{rules, ◌≡◌, ◌+◌, false, length, ◌∙◌, arith}
+use Rattle.std.proofs.Common.{rules, ◌≡◌, ◌+◌, false, length, ap, ◌∙◌, arith}
 use Rattle.std.specs.Prelude.{IsTrue}
 use Rattle.lc_lock.specs.Loans.{key_of}
 use Rattle.lc_node.specs.Held.{HasSegment}
 use Rattle.lc_node.proofs.Called.{has_here, here_has}
 use Rattle.lc_node.proofs.KeysKept.{peer_place}
+use Rattle.lc_node.specs.SegView.{SegView}
 use Rattle.lc_node.specs.Spread.{line_of}
 use Rattle.lc_node.proofs.cluster.Cluster.give.Goals as goal
 
@@ -19,11 +20,11 @@ returns-then-not-has-clause-gives g c = λ has.
     let not : c.has.result ≡ false = c.if-not-has.true in absurd cc
 
 pub returns-clause-gives : goal.returns-clause-gives
-returns-clause-gives g c = λ has. record {
+returns-clause-gives g c = λ has. let same : c.deref_mut.result.now ≡ c.lock-side.result.0 = c.deref_mut.ensures.value ∙ c.side.view_is in record {
   member = c.member-member.result.now;
   at = c.member-member.ensures.member;
-  side = c.lock-side.result.0;
-  of_segment = c.lock-side.ensures.fits.0 ∙ c.lock_of-lock.ensures;
+  side = c.deref_mut.result.now;
+  of_segment = ap (λ (s : SegView _). s.segment) same ∙ (c.lock-side.ensures.fits.0 ∙ c.lock_of-lock.ensures);
   log = c.lock-log.result.0;
   own = (let stage = c.member-member.result.now.node.one_stage in (c.lock-log.ensures.fits.0 ∙ stage, c.lock-log.ensures.fits.1 ∙ stage));
   ends = c.lock-ends.result.0.ends.items;

@@ -7,12 +7,14 @@ use Rattle.lc_node.specs.declared.held.HeldSide.{HeldSide}
 use Rattle.lc_node.proofs.Forwards.{next}
 use Rattle.lc_node.proofs.PagesWritten.{still_held}
 use Rattle.lc_node.proofs.Slots.{each_map}
+use Rattle.lc_node.specs.SegView.{SegView}
+use Rattle.lc_node.proofs.BoxedSides.{at_place}
 use Rattle.lc_node.proofs.held.Held.fold.Goals as goal
 
 pub loop-place-preserved : goal.loop-place-preserved
-loop-place-preserved g c = let h = c.index_mut-held.result.now in
+loop-place-preserved g c = let h : HeldSide _ = record { side = c.deref_mut.result.now; loan = c.held.inside.0.1.0 } in
     next IsFoldedSide c.args.self.now.sides.items c.loop-place.self.sides.items c.loop-place.place h (record { side = c.fold.new.self; loan = h.loan }) c.loop-place.invariant
-    (let more = c.loop-place-test.true in let len = c.len-place-end.ensures in let ok = c.args.self.now.sides.ok.0 in let long = c.loop-place.invariant.long in omega arith) c.index_mut-held.ensures.value
+    (let more = c.loop-place-test.true in let len = c.len-place-end.ensures in let ok = c.args.self.now.sides.ok.0 in let long = c.loop-place.invariant.long in omega arith) (at_place c.loop-place.self.sides.items c.loop-place.place c.index_mut-held.result.now (record { side = c.deref_mut.result.now; loan = c.held.inside.0.1.0 }) (ap (λ (s : SegView _). record { side = s; loan = c.held.inside.0.1.0 }) c.deref_mut.ensures.value ∙ c.held.view_is) c.index_mut-held.ensures.value)
     (ap (λ s. record h { side = s }) c.fold.ensures.folded)
 
 folded_all : goal.returns-clause-folded

@@ -1,4 +1,4 @@
-use Rattle.std.proofs.Common.{◌≡◌, ◌⊎◌, ◌<◌, ◌≤◌, ℕ, List, Some, length, refl, subst, arith}
+use Rattle.std.proofs.Common.{◌≡◌, ◌⊎◌, ◌<◌, ◌≤◌, ℕ, List, Some, length, refl, ap, subst, ◌∙◌, arith}
 use Rattle.std.specs.Prelude.{slice_get}
 use Rattle.std.proofs.lemmas.List.{take_all}
 use Rattle.lc_lock.specs.declared.lock.Lock.{Lock}
@@ -34,6 +34,7 @@ loop-preserved g c =
     let n = c.loop.counter in
     let all = c.args.segments.items in
     let its = c.in_ok-image.ensures in
+    let same : c.into_inner.result ≡ c.lock-side.result.0 = c.into_inner.ensures ∙ c.side.view_is in
     let some : n < length all = omega (arith, c.loop-test.true, c.len-end.ensures, c.args.segments.ok.0) in
     let next : slice_get all n ≡ Some c.remove-lock.result = next_is all c.loop.segments.items n c.remove-lock.result inv.taken some c.remove-lock.ensures.value in
     record {
@@ -43,7 +44,7 @@ loop-preserved g c =
       images_fit = omega (arith, c.push_reserved.ensures.capacity, inv.images_fit);
       applied_fit = omega (arith, c.push_reserved-in-loop.ensures.capacity, inv.applied_fit);
       taken = left_more all c.loop.segments.items c.remove-lock.new.self.items n inv.taken c.remove-lock.ensures.items;
-      behind = one_behind c.args.node all n c.remove-lock.result c.lock-side.result.0 next c.lock-side.ensures.fits.0 c.push_reserved.new.self.items c.push_reserved-in-loop.new.self.items inv.behind
+      behind = one_behind c.args.node all n c.remove-lock.result c.into_inner.result next (ap (λ (s : SegView _). s.segment) same ∙ c.lock-side.ensures.fits.0) c.push_reserved.new.self.items c.push_reserved-in-loop.new.self.items inv.behind
           its.image c.push_reserved.ensures.items its.applied c.push_reserved-in-loop.ensures.items its.serves its.tokens;
       settled = its.settled;
     }

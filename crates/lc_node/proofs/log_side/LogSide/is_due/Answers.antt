@@ -22,5 +22,5 @@ returns-in-Err-clause-refused g c = subst (λ (s : LogView g.row.D.Denot). IsUnf
   refl,
   (ap (is_halted g.D.Area) c.in-Idle.is, search rules),
   (λ spent. c.if-self-eq-LAST_ROUND.false (omega arith)),
-  subst (λ (l : List ℕ). IsLeastPair (IsAbove l (known_of c.self.inside.known)) c.in-Err.unclean.segment c.in-Err.unclean.seq) c.as_slice.ensures.value ((c.may_reset.ensures.unclean c.in-Err.unclean.segment c.in-Err.unclean.seq).0 c.in-Err.is),
+  subst (λ (l : List ℕ). IsLeastPair (IsAbove l (known_of c.self.inside.known)) c.in-Err.unclean.segment c.in-Err.unclean.seq) c.as_slice.ensures.value ((c.may_reset_kept.ensures.unclean c.in-Err.unclean.segment c.in-Err.unclean.seq).0 c.in-Err.is),
 )))

@@ -4,7 +4,7 @@ use Rattle.lc_record.specs.declared.part.Part.{Part}
 use Rattle.lc_token.specs.Backlog.{above}
 use Rattle.lc_token.proofs.BacklogLemmas.{length_above}
 use Rattle.lc_tx.specs.Image.{laid_over}
-use Rattle.lc_node.specs.SegView.{laid_parts}
+use Rattle.lc_applied.specs.AppliedParts.{laid_parts}
 use Rattle.lc_node.proofs.Laying.{laid_more}
 use Rattle.lc_node.proofs.seg_side.SegSide.apply.Goals as goal
 

@@ -3,7 +3,7 @@ use Rattle.std.specs.Prelude.{Option}
 use Rattle.lc_record.specs.declared.part.Part.{Part}
 use Rattle.lc_token.specs.Backlog.{HandsOutKept}
 use Rattle.lc_tx.specs.Image.{laid_over}
-use Rattle.lc_node.specs.SegView.{laid_parts}
+use Rattle.lc_applied.specs.AppliedParts.{laid_parts}
 use Rattle.lc_node.proofs.CatchingUp.{all_taken, end_step, one_more, room_step, run_step, same_step}
 use Rattle.lc_node.proofs.Laying.{laid_more}
 use Rattle.lc_node.proofs.seg_side.SegSide.catch_up.Goals as goal

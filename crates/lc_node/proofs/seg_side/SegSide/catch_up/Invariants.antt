@@ -1,6 +1,6 @@
 use Rattle.std.proofs.Common.{◌≡◌, ◌+◌, ◌≤◌, ◌++◌, length}
 use Rattle.lc_node.specs.Applying.{caught_up, ready_in}
-use Rattle.lc_node.specs.SegView.{laid_parts}
+use Rattle.lc_applied.specs.AppliedParts.{laid_parts}
 use Rattle.lc_node.proofs.seg_side.SegSide.catch_up.Given as goal
 
 abbrev pub invariant-loop-part : goal.invariant-loop-part

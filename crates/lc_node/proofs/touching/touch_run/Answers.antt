@@ -1,19 +1,19 @@
-use Rattle.std.proofs.Common.{◌≡◌, ◌<◌, ◌+◌, ◌*◌, ◌∙◌, ap, sym, subst, length, arith, Option, Some, eqb-true}
-use Rattle.std.proofs.lemmas.Bool.{eqb-false}
+use Rattle.std.proofs.Common.{◌≡◌, ◌<◌, ◌+◌, ◌*◌, ◌∙◌, ap, sym, subst, length, arith, Option, Some}
 use Rattle.std.proofs.lemmas.Option.{same_Some as some_same}
 use Rattle.std.specs.Option.{IsSomeAnd, option_copied}
+use Rattle.lc_record.proofs.ListLemmas.{length-counting}
+use Rattle.lc_node.specs.Touched.{range_at}
 use Rattle.lc_token.specs.Standing.{Standing}
 use Rattle.lc_token.specs.declared.token.Token.{Token}
 use Rattle.lc_node.proofs.TouchedPages.{touched_empty, touching_start, touching_step, touching_end}
-use Rattle.lc_node.proofs.touching.touch_range.Goals as goal
+use Rattle.lc_node.proofs.touching.touch_run.Goals as goal
 
-pub returns-then-is_empty : goal.returns-then-is_empty
-returns-then-is_empty c = λ t is.
-    let none : length c.as_slice-bytes.result.now ≡ 0 = eqb-true _ _ (sym c.is_empty.ensures ∙ c.if-is_empty.true) in
-    touched_empty c.args.range.now t c.args.place.now (sym (ap (λ bytes. length bytes) c.as_slice-bytes.ensures) ∙ none) is
+pub returns-then-run-eq0 : goal.returns-then-run-eq0
+returns-then-run-eq0 c = λ t is.
+    touched_empty (range_at c.args.run.now) t c.args.place.now (length-counting 0 c.args.run.now.len ∙ c.if-run-eq0.true) is
 
 pub loop-page-init : goal.loop-page-init
-loop-page-init c = λ t is. touching_start c.args.range.now _ t c.args.place.now (omega arith) is
+loop-page-init c = λ t is. touching_start (range_at c.args.run.now) _ t c.args.place.now (omega arith) is
 
 pub touch-requires : goal.touch-requires
 touch-requires c =
@@ -24,22 +24,19 @@ touch-requires c =
 
 pub loop-page-preserved : goal.loop-page-preserved
 loop-page-preserved c = λ t is.
-    let range = c.args.range.now in let page = c.loop-page.page in
+    let range = range_at c.args.run.now in let long : length range.bytes ≡ c.args.run.now.len = length-counting 0 c.args.run.now.len in let page = c.loop-page.page in
     let here : Some c.unwrap.result.now ≡ c.args.place.now.token = ap option_copied (sym c.unwrap.ensures) ∙ c.token.ensures.token in
-    let bytes : length c.as_slice-bytes.result.now ≡ length range.bytes = ap (λ bytes. length bytes) c.as_slice-bytes.ensures in
-    let differ = eqb-false (length c.as_slice-bytes.result.now) 0 (sym c.is_empty.ensures ∙ c.if-is_empty.false) in
-    let some : 0 < length range.bytes = omega (arith, differ, bytes) in
+    let some : 0 < length range.bytes = omega (arith, c.if-run-eq0.false, long) in
     let begins : range.offset < page * 256 + 256 = omega arith in
-    let ends : page * 256 < range.offset + length range.bytes = omega (arith, c.loop-page-test.true, c.min-behind.ensures, c.div_ceil.ensures, bytes) in
+    let ends : page * 256 < range.offset + length range.bytes = omega (arith, c.loop-page-test.true, c.min-behind.ensures, c.div_ceil.ensures, long) in
     let same : c.unwrap.result.now ≡ t = some_same _ _ (here ∙ is) in
     let among : page < length t.pages = omega (arith, ap (λ (t : Token). length t.pages) same, c.loop-page-test.true, c.min-behind.ensures, c.len-pages.ensures, ap length c.pages.ensures) in
     touching_step range page t c.args.place.now c.loop-page.place c.touch.new.self (c.loop-page.invariant t is) some begins ends among c.touch.ensures
 
 pub returns : goal.returns
 returns c = λ t is.
-    let range = c.args.range.now in let page = c.loop-page.page in
+    let range = range_at c.args.run.now in let long : length range.bytes ≡ c.args.run.now.len = length-counting 0 c.args.run.now.len in let page = c.loop-page.page in
     let here : Some c.unwrap.result.now ≡ c.args.place.now.token = ap option_copied (sym c.unwrap.ensures) ∙ c.token.ensures.token in
-    let bytes : length c.as_slice-bytes.result.now ≡ length range.bytes = ap (λ bytes. length bytes) c.as_slice-bytes.ensures in
     let same : c.unwrap.result.now ≡ t = some_same _ _ (here ∙ is) in
     let count : length c.unwrap.result.now.pages ≡ length t.pages = ap (λ (t : Token). length t.pages) same in
-    touching_end range page t c.args.place.now c.loop-page.place (c.loop-page.invariant t is) (λ q le among. omega (arith, c.loop-page-test.false, c.min-behind.ensures, c.div_ceil.ensures, c.len-pages.ensures, ap length c.pages.ensures, count, bytes))
+    touching_end range page t c.args.place.now c.loop-page.place (c.loop-page.invariant t is) (λ q le among. omega (arith, c.loop-page-test.false, c.min-behind.ensures, c.div_ceil.ensures, c.len-pages.ensures, ap length c.pages.ensures, count, long))
