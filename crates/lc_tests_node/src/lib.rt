@@ -14,6 +14,8 @@ mod clusters;
 #[cfg(test)]
 mod coming_up;
 #[cfg(test)]
+mod committers;
+#[cfg(test)]
 mod commits;
 #[cfg(test)]
 mod crowds;
