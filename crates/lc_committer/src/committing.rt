@@ -34,16 +34,9 @@ impl<'a, D: Area + Drop> Committer<'a, D> {
         ensures keeps { KeepsReceipts self.old.view self.new.view }
     {
         let seat = self.seat.take().unwrap();
-        let (seat, done) = self.node.transact(
-            rt,
-            rt.alloc(),
-            seat,
-            segments,
-            work,
-            mode,
-            TRIES,
-            &Open,
-        );
+        let (seat, done) = self
+            .node
+            .transact(rt, rt.alloc(), seat, segments, work, mode, TRIES, &Open);
         self.seat = Some(seat);
         done
     }

@@ -3,6 +3,7 @@
 
 mod committer;
 mod committing;
+mod confirming;
 mod open;
 mod reading;
 mod settling;

@@ -1,9 +1,9 @@
-//! A committer asks for its records by their receipts.
+//! A committer reads its records back.
 ghost use Rattle.std.specs.Prelude.{◌≡◌, ◌≤◌, ◌<◌, ℕ, List, length, IfOk, IfErr, OnOk, OnErr, vec_capacity};
 ghost use Rattle.lc_node.specs.Among.{IsAmong};
 ghost use Rattle.lc_node.specs.Receipts.{HasReceipt};
 ghost use Rattle.lc_node.specs.declared.node_fault.NodeFault.TheVariants.{NoMemory};
-ghost use Rattle.lc_committer.specs.Records.{ConfirmsIn, ReadsIn};
+ghost use Rattle.lc_committer.specs.Records.{ReadsIn};
 
 use crate::Committer;
 use lc_disk::Area;
@@ -13,22 +13,6 @@ use std::alloc::AllocError;
 use std::sync::Wait;
 
 impl<'a, D: Area + Drop> Committer<'a, D> {
-    /// Where the record of a receipt is that it has: among the stable ones of the log, or of an earlier round. It waits for the
-    /// lock of the log, and takes no memory.
-    pub fn confirm<R: Wait>(&mut self, rt: &R, receipt: Receipt) -> Confirmed
-        requires received { HasReceipt self.old.view receipt }
-        ensures same { self.new ≡ self.old }
-        ensures confirms { ConfirmsIn self.old.node self.old.view receipt result }
-    {
-        let seat = self.seat.take().unwrap();
-        let lock = self.node.log_lock();
-        let (mut log, loan) = lock.lock(rt);
-        let (seat, confirmed) = self.node.confirm(seat, &mut log, receipt);
-        lock.unlock(log, loan);
-        self.seat = Some(seat);
-        confirmed
-    }
-
     /// Copies the words of the record of a receipt that it has into this list, in place of what stands there: `Here` names its
     /// index, and the words are those that were committed. Where a reset has taken the record away, `Earlier` names the round
     /// of the log, and the list is as before. It waits for the lock of the log, and takes memory before, where the list has room

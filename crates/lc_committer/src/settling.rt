@@ -1,7 +1,7 @@
 //! A committer waits for its records.
 ghost use Rattle.std.specs.Prelude.{◌≡◌, ◌↔◌, None, Some, Ok, IfErr};
 ghost use Rattle.lc_stage.specs.declared.receipt.Receipt.{Receipt as Given};
-ghost use Rattle.lc_stage.specs.Seats.{HasClosed};
+ghost use Rattle.lc_stage.specs.Closed.{HasClosed};
 ghost use Rattle.lc_node.specs.Receipts.{HasReceipt, IsOfDevice, Learns, Receives};
 ghost use Rattle.lc_node.specs.Settling.{FailsIn, LooksIn};
 ghost use Rattle.lc_committer.specs.Kept.{KeepsReceipts};

@@ -1,9 +1,10 @@
 //! A committer waits until its last record is stable.
 ghost use Rattle.std.specs.Prelude.{◌≡◌, ◌⊎◌, ◌↔◌, None, Some, Ok, IfOk, IfErr, IfSome, IfNone, MatchOption};
+ghost use Rattle.lc_stage.specs.Closed.{HasClosed};
 ghost use Rattle.lc_stage.specs.declared.receipt.Receipt.{Receipt as Given};
 ghost use Rattle.lc_stage.specs.Receipts.{IsReceiptOf};
 ghost use Rattle.lc_stage.specs.Staging.{latest, learns_durable, with_receipt, HasReached};
-ghost use Rattle.lc_stage.specs.Seats.{commit_view, flush_view, HasClosed, IsSeatOf, IsFlusherOf, IsIdle};
+ghost use Rattle.lc_stage.specs.Seats.{commit_view, flush_view, IsSeatOf, IsFlusherOf, IsIdle};
 ghost use Rattle.lc_node.specs.LogView.{IsSameLog};
 ghost use Rattle.lc_node.specs.Receipts.{HasReceipt, IsOfDevice, Learns, Receives};
 ghost use Rattle.lc_node.specs.Settling.{FailsIn, LooksIn, Settles, SettlesIn};

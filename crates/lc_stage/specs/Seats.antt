@@ -2,7 +2,7 @@
 use Rattle.std.specs.Prelude.{◌≡◌, ◌<◌, ◌⊎◌, ℕ, true, List, [], ◌∷◌, ◌++◌, length}
 use Rattle.lc_stage.specs.declared.view.View.{View}
 use Rattle.lc_stage.specs.declared.view.Load.{Load}
-use Rattle.lc_stage.specs.Staging.{hears, saw, offset_of, reserved, latest, load, open_count, end_of}
+use Rattle.lc_stage.specs.Staging.{hears, saw, offset_of, reserved, load, open_count, end_of}
 use Rattle.lc_stage.specs.declared.seats.CommitSeat.{CommitSeat}
 use Rattle.lc_stage.specs.declared.seats.FlushSeat.{FlushSeat}
 use Rattle.lc_stage.specs.declared.stage.Stage.{Stage}
@@ -38,10 +38,6 @@ IsUnsealed at v w RoundsSpent = ⊥
 -- the flusher's round is sealed, and all its records are taken and durable
 abbrev pub IsSettled : View → Type 0
 IsSettled v = (v.sealed ≡ true) × (length v.taken ≡ v.sealed_at) × (v.published ≡ end_of v)
-
--- a record of the seat is closed
-abbrev pub HasClosed : View → Type 0
-HasClosed v = 0 < length (latest v.mine).words
 
 -- no reservation of the seat is open
 abbrev pub IsIdle : View → Type 0

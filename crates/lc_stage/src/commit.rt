@@ -1,8 +1,9 @@
 //! The calls of a committer.
 ghost use Rattle.std.specs.Prelude.{◌≡◌, ℕ, ◌+◌, ◌<◌, ◌≤◌, ◌↔◌, false, length, slice_set, IfOk, IfErr, IfSome, IfNone, IsTrue, Err};
 ghost use Rattle.lc_stage.specs.Staging.{latest, HasReached, learns_durable, with_receipt, saw, reserved, filled, shut_with, newest, offset_of, seal_of, IsOneRecord, Holds, LieBelow};
+ghost use Rattle.lc_stage.specs.Closed.{HasClosed};
 ghost use Rattle.lc_stage.specs.Receipts.{IsReceiptOf};
-ghost use Rattle.lc_stage.specs.Seats.{commit_view, HasClosed, IsSeatOf, IsRefused, IsIdle};
+ghost use Rattle.lc_stage.specs.Seats.{commit_view, IsSeatOf, IsRefused, IsIdle};
 ghost use Rattle.lc_stage.specs.declared.fault.StageFault.TheVariants.{Full, Sealed};
 
 use crate::layout::{DURABLE, OFFSETS, ROUNDS, TAIL};

@@ -125,7 +125,12 @@ fn a_truncation_leaves_receipts_of_an_earlier_round(rt: HostRuntime) -> Result<(
     equal(&rt, &"the truncation", &node.truncate(&rt, alloc), &Ok(1));
 
     let earlier = Confirmed::Earlier { round: 1 };
-    equal(&rt, &"in the next", &committer.confirm(&rt, receipt), &earlier);
+    equal(
+        &rt,
+        &"in the next",
+        &committer.confirm(&rt, receipt),
+        &earlier,
+    );
     let mut none = Vec::new(alloc);
     let gone = committer.read_record(&rt, receipt, &mut none);
     equal(&rt, &"its words in the next", &gone, &Ok(earlier));
@@ -143,13 +148,22 @@ fn a_committer_settles_what_it_closed(rt: HostRuntime) -> Result<(), Fail> {
     let mut work = HELLO;
     let done = other.commit(&rt, &[1], &mut work, Mode::Lazy);
     holds(&rt, &"the commit", matches!(done, Ok(Commit::Lazy)));
-    holds(&rt, &"still a fresh one", matches!(first.settle(&rt), Ok(None)));
+    holds(
+        &rt,
+        &"still a fresh one",
+        matches!(first.settle(&rt), Ok(None)),
+    );
     first.join(other);
     let Ok(Some(receipt)) = first.settle(&rt) else {
         return Err(Fail::from("it has a record"));
     };
     equal(&rt, &"its place", &receipt.place(), &0);
-    equal(&rt, &"its record", &first.confirm(&rt, receipt), &Confirmed::Here(0));
+    equal(
+        &rt,
+        &"its record",
+        &first.confirm(&rt, receipt),
+        &Confirmed::Here(0),
+    );
     Ok(())
 }
 

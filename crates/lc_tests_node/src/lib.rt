@@ -14,9 +14,9 @@ mod clusters;
 #[cfg(test)]
 mod coming_up;
 #[cfg(test)]
-mod committers;
-#[cfg(test)]
 mod commits;
+#[cfg(test)]
+mod committers;
 #[cfg(test)]
 mod crowds;
 #[cfg(test)]
