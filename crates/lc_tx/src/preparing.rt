@@ -18,8 +18,8 @@ impl Tx {
     ///
     /// # Errors
     ///
-    /// Those of `prepare_end`, and `NoMemory` only where the list has no room for all words of the record. After each of
-    /// them the list is as it was.
+    /// Those of `prepare_end`, and `NoMemory` only where the list has no room for all words of the record. After each
+    /// of them the list is as it was.
     pub fn prepare_end_in<I: Images>(
         &self,
         alloc: Global,
@@ -40,7 +40,8 @@ impl Tx {
             × (4096 < record_len (final_record I.Images images.old self.now node))
             × (n ≡ record_len (final_record I.Images images.old self.now node))) }
         ensures record { result ≡ Ok true → IsRecord (final_record I.Images images.old self.now node) words.new.items }
-        ensures len { result ≡ Ok true → length words.new.items ≡ record_len (final_record I.Images images.old self.now node) }
+        ensures len { result ≡ Ok true
+            → length words.new.items ≡ record_len (final_record I.Images images.old self.now node) }
 
         // Where there is no record, the list has what it had.
         ensures kept { result ≡ Ok false → words.new ≡ words.old }
@@ -66,7 +67,8 @@ impl Tx {
     }
 }
 
-// Takes the memory of a list that has room for this many words. Of another one it takes nothing, and there is no memory yet.
+// Takes the memory of a list that has room for this many words. Of another list it takes nothing, and what it gives has
+// no memory yet.
 fn take_memory(alloc: Global, words: &mut Vec<u64>, needed: usize) -> Vec<u64>
     ensures taken { needed ≤ vec_capacity words.old → result ≡ words.old }
     ensures left { needed ≤ vec_capacity words.old → words.new.items ≡ [] }
