@@ -1,5 +1,5 @@
 //! Transactions as events.
-use crate::measurement::{DATA, End, Measurement, Transaction};
+use crate::measurement::{DATA, End, Transaction};
 use lc_core::Event;
 use lc_record::Items;
 use std::alloc::{AllocError, Global};
@@ -9,33 +9,6 @@ pub(crate) const THREAD: u16 = 0;
 
 // The steps of a flush.
 const FLUSH_STEPS: u32 = 4;
-
-/// The events of all transactions, each with the flush behind it.
-pub(crate) fn events_of_all(
-    alloc: Global,
-    measurement: &Measurement,
-) -> Result<Vec<Vec<Event>>, AllocError> {
-    let mut all = Vec::new(alloc);
-    for transaction in &measurement.transactions(alloc, 0, 1, measurement.count)? {
-        all.push(events_of(alloc, transaction, &measurement.end)?)?;
-    }
-    Ok(all)
-}
-
-// The events of a transaction, with the flush behind it.
-fn events_of(
-    alloc: Global,
-    transaction: &Transaction,
-    end: &End,
-) -> Result<Vec<Event>, AllocError> {
-    let mut events = Vec::new(alloc);
-    begin(&mut events, alloc, transaction)?;
-    finish(&mut events, transaction.node, end)?;
-    if transaction.is_flushed {
-        flush(&mut events, transaction.node)?;
-    }
-    Ok(events)
-}
 
 /// Adds a transaction that sets and writes its ranges, and is open then.
 pub(crate) fn begin(

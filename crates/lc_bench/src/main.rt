@@ -3,6 +3,7 @@
 #![tactic(auto)]
 
 mod by_hand;
+mod calls;
 mod choosing;
 mod committing;
 mod copies;

@@ -26,7 +26,7 @@ const NODE: Measurement = Measurement {
 };
 
 /// All that there are, in the order in which their names are printed.
-pub(crate) static ALL: [Measurement; 27] = [
+pub(crate) static ALL: [Measurement; 29] = [
     ONE,
     Measurement {
         name: "32-ranges",
@@ -178,6 +178,16 @@ pub(crate) static ALL: [Measurement; 27] = [
         name: "node-lazy-16-threads",
         threads: 16,
         segments: 16,
+        ..NODE
+    },
+    Measurement {
+        name: "node-lazy-4-threads-one-segment",
+        threads: 4,
+        ..NODE
+    },
+    Measurement {
+        name: "node-lazy-16-threads-one-segment",
+        threads: 16,
         ..NODE
     },
     Measurement {

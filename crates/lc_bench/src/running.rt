@@ -38,8 +38,9 @@ struct Committer<'a, D: Area + Drop> {
 }
 
 /// Measures lazy commits of 5 bytes on a node in memory, which so many threads make in equal shares, each on a segment of its
-/// own, beside as many transactions by hand, of 8 bytes, which one thread does in its own memory. Where the log is not emptied
-/// within the time, it is before each round. A round takes from where the first thread begins to where the last ends.
+/// own where there are as many. They are beside as many transactions by hand, of 8 bytes, which one thread does in its own
+/// memory. Where the log is not emptied within the time, it is before each round. A round takes from where the first thread
+/// begins to where the last ends.
 pub(crate) fn in_memory<R: AllocGlobal + Clock + Threads + Wait + Sync>(
     rt: &R,
     measurement: &'static Measurement,

@@ -1,9 +1,9 @@
 //! What a store is asked to do.
-use crate::events::{THREAD, events_of_all};
+use crate::calls;
 use crate::harness::{self, Work, ended};
-use crate::measurement::{Measurement, Timed};
+use crate::measurement::{Measurement, Timed, Transaction};
 use crate::rounds::{Round, Rounds};
-use lc_core::{Event, Refusal, Reply, World};
+use lc_core::{Event, Reply, World};
 use lc_disk::Stoppable;
 use lc_record::Items;
 use std::alloc::{AllocError, Global};
@@ -31,12 +31,12 @@ pub(crate) enum Act {
     Stop,
 }
 
-/// A store, with the events of its transactions.
+/// A store, and its transactions.
 #[derive(Drop)]
 pub(crate) struct Store<D: Stoppable + Drop> {
     pub(crate) alloc: Global,
     pub(crate) measurement: &'static Measurement,
-    pub(crate) transactions: Vec<Vec<Event>>,
+    pub(crate) transactions: Vec<Transaction>,
     pub(crate) world: World<D>,
 }
 
@@ -105,7 +105,8 @@ pub(crate) fn world_of<D: Stoppable + Drop>(
 impl<D: Stoppable + Drop> Store<D> {
     // It comes up, and has its transactions.
     fn begin(&mut self) -> io::Result<()> {
-        self.transactions = events_of_all(self.alloc, self.measurement)?;
+        let measurement = self.measurement;
+        self.transactions = measurement.transactions(self.alloc, 0, 1, measurement.count)?;
         self.does(&Act::Recover)
     }
 
@@ -124,15 +125,20 @@ impl<D: Stoppable + Drop> Store<D> {
             Act::Stop => Event::Stop {
                 choices: Items::new(Vec::new(self.alloc)),
             },
-            Act::Empty => return empty_log(self.alloc, &mut self.world, node),
-            Act::Transact => return self.transact(node),
+            Act::Empty => return calls::empty_log(self.alloc, &mut self.world, node),
+            Act::Transact => return self.transact(),
         };
         finish(self.alloc, &mut self.world, event)
     }
 
-    fn transact(&mut self, node: u16) -> io::Result<()> {
-        for events in self.transactions.as_slice() {
-            transact(self.alloc, &mut self.world, node, events.as_slice())?;
+    fn transact(&mut self) -> io::Result<()> {
+        for transaction in self.transactions.as_slice() {
+            calls::transact(
+                self.alloc,
+                &mut self.world,
+                transaction,
+                &self.measurement.end,
+            )?;
         }
         Ok(())
     }
@@ -174,49 +180,4 @@ fn finish<D: Stoppable + Drop>(
         }
     }
     Err(Error::from(ErrorKind::InvalidData))
-}
-
-// Does a transaction, on an emptied log where it is full.
-fn transact<D: Stoppable + Drop>(
-    alloc: Global,
-    world: &mut World<D>,
-    node: u16,
-    events: &[Event],
-) -> io::Result<()> {
-    let mut refusal = play(alloc, world, events)?;
-    if let Some(Refusal::Full { .. }) = refusal {
-        let thread = THREAD;
-        finish(alloc, world, Event::Abort { node, thread })?;
-        empty_log(alloc, world, node)?;
-        refusal = play(alloc, world, events)?;
-    }
-    match refusal {
-        Some(_) => Err(Error::from(ErrorKind::InvalidData)),
-        None => Ok(()),
-    }
-}
-
-// What refuses the first of these events that is refused.
-fn play<D: Stoppable + Drop>(
-    alloc: Global,
-    world: &mut World<D>,
-    events: &[Event],
-) -> Result<Option<Refusal>, AllocError> {
-    for event in events {
-        if let Reply::Refused(refusal) = world.step(alloc, event)? {
-            return Ok(Some(refusal));
-        }
-    }
-    Ok(None)
-}
-
-fn empty_log<D: Stoppable + Drop>(
-    alloc: Global,
-    world: &mut World<D>,
-    node: u16,
-) -> io::Result<()> {
-    match world.truncate(alloc, node) {
-        Reply::Refused(_) => Err(Error::from(ErrorKind::InvalidData)),
-        _ => Ok(()),
-    }
 }
