@@ -18,12 +18,13 @@ const ADDITIONS: u64 = 10_000;
 // Threads of which most wait so long that they sleep.
 const CROWD: usize = 16;
 
-const ADDITIONS_OF_EACH: u64 = 400;
+const ADDITIONS_OF_EACH: u64 = 2_000;
 
-// A holder sleeps within each so manieth addition, and lets others run within each so manieth: one of the two by turns.
-const SLEEPS_ONCE_IN: u64 = 23;
+// A holder sleeps at one addition of so many, and else lets others run up to so many times: so some holds are just as long as a
+// thread looks before it sleeps.
+const SLEEPS_ONCE_IN: u64 = 97;
 
-const YIELDS_ONCE_IN: u64 = 5;
+const YIELDS: u64 = 24;
 
 const NAP_MICROSECONDS: u64 = 50;
 
@@ -75,8 +76,10 @@ fn add_slowly<R: Clock + Wait>(rt: &R, lock: &Lock<Tally, u64>, passed: &AtomicU
         let turn = turn.wrapping_add(first);
         if turn % SLEEPS_ONCE_IN == 0 {
             sleep(rt, Duration::from_micros(NAP_MICROSECONDS));
-        } else if turn % YIELDS_ONCE_IN == 0 {
-            yield_now();
+        } else {
+            for _ in 0..turn % YIELDS {
+                yield_now();
+            }
         }
         passed.fetch_add(1, Ordering::SeqCst);
         lock.unlock(plus_one(tally), loan);
@@ -193,7 +196,7 @@ fn no_wake_is_lost_in_a_crowd(rt: HostRuntime) -> Result<(), Fail> {
         || watch(host, count, CROWD as u64 * ADDITIONS_OF_EACH),
     );
     added?;
-    assert!(rt; look(&rt, &lock) == (6_407, 6_400));
+    assert!(rt; look(&rt, &lock) == (32_007, 32_000));
     assert!(rt; lock.tickets_out() == 0);
     Ok(())
 }
