@@ -1,14 +1,13 @@
 -- Receipts are kept.
-use Rattle.std.proofs.Common.{◌≡◌, ℕ, suc, List, ◌∷◌, Option, None, Some, refl, sym, ap, subst, inl, inr, ◌∙◌}
-use Rattle.std.specs.Prelude.{Result, Ok, Err}
-use Rattle.lc_stage.specs.Staging.{Owns, latest, learns_durable, with_receipt}
+use Rattle.std.proofs.Common.{◌≡◌, ℕ, suc, List, ◌∷◌, Option, None, Some, refl, sym, ap, subst, inl, inr}
+use Rattle.std.specs.Prelude.{IfErr, Result, Ok, Err}
+use Rattle.lc_stage.specs.Staging.{Owns, latest}
 use Rattle.lc_stage.specs.declared.receipt.Receipt.{Receipt}
 use Rattle.lc_stage.specs.declared.view.Reservation.{Reservation}
 use Rattle.lc_stage.specs.declared.view.View.{View}
 use Rattle.lc_node.specs.Commits.{ClosesWork}
 use Rattle.lc_node.specs.Ran.{Tells}
-use Rattle.lc_node.specs.Receipts.{HasReceipt, Learns, Receives}
-use Rattle.lc_node.specs.Stages.{Sees}
+use Rattle.lc_node.specs.Receipts.{IsOfDevice, Learns, Receives}
 use Rattle.lc_node.specs.declared.commit_kind.Commit.{Commit}
 use Rattle.lc_node.specs.declared.commit_kind.Commit.TheVariants.{Empty, Lazy, Flushed}
 use Rattle.lc_node.specs.declared.commit_kind.Mode.{Mode}
@@ -42,3 +41,9 @@ module _ {D : Type 0} (node : Node D) (tells : Tells) (segments : List ℕ) (mod
     | inl undone ↦ same v w (ap (λ (u : View). u.receipts) undone.0)
     | inr unflushed ↦ (λ c has. learning unflushed.1.0 w unflushed.1.2 c (closing node.number tells segments v unflushed.1.0 unflushed.1.1 c has))
   ]
+
+pub settling : (v w : View) (result : Result (Option Receipt) NodeFault) → (result ≡ Ok None → w ≡ v) → ((receipt : Receipt) → result ≡ Ok (Some receipt) → Receives v receipt w)
+    → IfErr result (λ fault. IsOfDevice fault × Learns v w) → KeepsReceipts v w
+settling v w (Ok None) none some refused = same v w (ap (λ (u : View). u.receipts) (none refl))
+settling v w (Ok (Some receipt)) none some refused = receiving v w receipt (some receipt refl)
+settling v w (Err fault) none some refused = learning v w refused.1

@@ -1,50 +1,25 @@
 -- What a work that changes bytes tells, from what the calls of a transaction tell.
 use Rattle.std.proofs.Common.{◌≡◌, ◌≢◌, ℕ, ◌+◌, ◌-◌, ◌^◌, ◌<◌, ◌≤◌, false, List, [], ◌∷◌, length, refl, sym, ap, subst, ◌∙◌, inl, inr, arith, true≢false}
 use Rattle.std.specs.Prelude.{◌↔◌, IfErr, IsOk, IsTrue, OnOk, Result, Ok, Err, min}
-use Rattle.std.specs.Global.{Vec}
 use Rattle.std.proofs.lemmas.Bool.{cases_Bool, cases_lt, false_from_ne_true, false≢true, or_cases}
 use Rattle.lc_record.specs.Content.{put}
 use Rattle.lc_record.specs.Transaction.{is_member}
-use Rattle.lc_range.specs.RangeSet.{AddsPositions, NeedsRunsAbove, MissesSome}
+use Rattle.lc_range.specs.RangeSet.{NeedsRunsAbove, MissesSome}
 use Rattle.lc_tx.specs.declared.image.Image.{Image as Picture}
 use Rattle.lc_tx.specs.declared.images.Images.{Ghosts}
 use Rattle.lc_tx.specs.declared.tx.Tx.{Tx}
 use Rattle.lc_tx.specs.declared.tx_fault.TxFault.{TxFault}
 use Rattle.lc_tx.specs.declared.tx_fault.TxFault.TheVariants.{Busy, NotHere, NoRange, OutOfSegment, NotLocked, NoMemory, TooLong, SequenceSpent, EmptyRange, TooManyRanges, ReadOnly}
-use Rattle.lc_tx.specs.Fault.{is_of_read, is_of_set_range}
+use Rattle.lc_tx.specs.Fault.{is_of_set_range}
 use Rattle.lc_tx.specs.Images.{IsSame, IsWritten, bytes_of}
 use Rattle.lc_tx.specs.Tx.{AreSet, Holds, Locked, Reads, RunsOn, SetsRange}
 use Rattle.lc_tx.proofs.HoldsLemmas.{read_apart}
 use Rattle.lc_tx.proofs.MemberLemmas.{is_one}
 use Rattle.lc_node.proofs.PutBytes.{agree, not_locked}
-use Rattle.lc_node.proofs.WorkSteps.{image_same}
 use Rattle.lc_committer.specs.Update.{Fits, IsUnchanged}
 use Rattle.lc_committer.specs.declared.update.Update.{Update}
 
-module _ {I F : Type 0} (m : Ghosts I) (old : I) (tx : Tx) (on : RunsOn m old tx) (u : Update F) where
-  -- The bytes are read, or not
-
-  module _ (r : Result (Vec ℕ) TxFault)
-      (unlocked : (r ≡ Err NotLocked) ↔ (Holds tx u.segment → ⊥))
-      (outside : (r ≡ Err OutOfSegment) ↔ (Holds tx u.segment × (length (bytes_of m old u.segment) < u.offset + u.len)))
-      (no_memory : r ≡ Err NoMemory → Holds tx u.segment × (0 < u.len) × (u.offset + u.len ≤ length (bytes_of m old u.segment)))
-      (faults : IfErr r (λ fault. IsTrue (is_of_read fault))) where
-    other_read : (f : TxFault) → r ≡ Err f → is_of_read f ≡ false → ⊥
-    other_read f is not = false≢true (sym not ∙ subst (λ (x : Result (Vec ℕ) TxFault). IfErr x (λ fault. IsTrue (is_of_read fault))) is faults)
-
-    pub unread : (f : TxFault) → r ≡ Err f → IsUnchanged u tx.locked.items (bytes_of m old) f
-    unread NotLocked is = inl (refl, not_locked m old tx on u.segment (unlocked.0 is))
-    unread OutOfSegment is = let why = outside.0 is in let over = why.1 in inr (inr (inr (inl (refl, omega arith))))
-    unread NoMemory is = let why = no_memory is in inr (inr (inr (inr (inr (refl, why.1, why.2)))))
-    unread (ReadOnly s) is = absurd (other_read (ReadOnly s) is refl)
-    unread EmptyRange is = absurd (other_read EmptyRange is refl)
-    unread TooManyRanges is = absurd (other_read TooManyRanges is refl)
-    unread (Busy s) is = absurd (other_read (Busy s) is refl)
-    unread (NotHere s) is = absurd (other_read (NotHere s) is refl)
-    unread NoRange is = absurd (other_read NoRange is refl)
-    unread (TooLong words) is = absurd (other_read (TooLong words) is refl)
-    unread (SequenceSpent s) is = absurd (other_read (SequenceSpent s) is refl)
-
+module _ {I C : Type 0} (m : Ghosts I) (old : I) (tx : Tx) (on : RunsOn m old tx) (u : Update C) where
   -- The range is set, or not
 
   module _ (mid : I) (same : IsSame m old mid) (on_mid : RunsOn m mid tx) (r : Result (Unit {0}) TxFault)

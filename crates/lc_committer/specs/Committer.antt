@@ -1,6 +1,5 @@
 -- What contracts see of a committer.
 use Rattle.std.specs.Prelude.{◌≡◌, Option, None, Some}
-use Rattle.lc_disk.specs.declared.area.Area.{Ghosts}
 use Rattle.lc_stage.specs.Seats.{commit_view, IsSeatOf, IsIdle}
 use Rattle.lc_stage.specs.Staging.{newcomer}
 use Rattle.lc_stage.specs.declared.seats.CommitSeat.{CommitSeat}
@@ -28,9 +27,8 @@ module _ {D : Type 0} where
   Sits node None = ⊥
   Sits node (Some seat) = IsSeatOf node.stage seat × IsIdle (commit_view seat)
 
-module _ {D : Type 0} (a : Ghosts D) where
-  abbrev pub committing : Inside D a → Committing D
+  abbrev pub committing : Inside D → Committing D
   committing c = record { node = c.node.now; view = view_in c.seat }
 
-  abbrev pub IsSeated : Inside D a → Type 0
+  abbrev pub IsSeated : Inside D → Type 0
   IsSeated c = Sits c.node.now c.seat

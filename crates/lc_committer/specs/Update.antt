@@ -1,7 +1,5 @@
--- What a work that changes bytes by a closure does.
+-- What a work that changes bytes does.
 use Rattle.std.specs.Prelude.{◌≡◌, ◌≢◌, ◌⊎◌, ℕ, ◌+◌, ◌-◌, ◌^◌, ◌<◌, ◌≤◌, false, List, length, take, drop, min, IsTrue, Result, MatchResult}
-use Rattle.std.specs.Fn.{CalledAtMut, Mut}
-use denote.Ref.{MutBor}
 use Rattle.lc_record.specs.Content.{put}
 use Rattle.lc_record.specs.Transaction.{is_member}
 use Rattle.lc_range.specs.RangeSet.{AddsPositions}
@@ -10,13 +8,13 @@ use Rattle.lc_tx.specs.declared.tx_fault.TxFault.TheVariants.{NotLocked, ReadOnl
 use Rattle.lc_node.specs.Ran.{AgreeOn, Bytes, Runs}
 use Rattle.lc_committer.specs.declared.update.Update.{Update}
 
-module _ {F : Type 0} where
+module _ {C : Type 0} where
   -- the segment is locked for writing, and the range has bytes and lies in it
-  abbrev pub Fits : Update F → List ℕ → Bytes → Type 0
+  abbrev pub Fits : Update C → List ℕ → Bytes → Type 0
   Fits u locked before = IsTrue (is_member u.segment locked) × (0 < u.len) × (u.offset + u.len ≤ min (length (before u.segment)) (2 ^ 32 - 1))
 
   -- why nothing is changed. More ranges than may stand, and no memory, only the transaction tells
-  abbrev pub IsUnchanged : Update F → List ℕ → Bytes → TxFault → Type 0
+  abbrev pub IsUnchanged : Update C → List ℕ → Bytes → TxFault → Type 0
   IsUnchanged u locked before fault =
       ((fault ≡ NotLocked) × (is_member u.segment locked ≡ false))
       ⊎ (((fault ≡ ReadOnly u.segment) × (is_member u.segment locked ≡ false))
@@ -25,15 +23,12 @@ module _ {F : Type 0} where
       ⊎ (((fault ≡ TooManyRanges) × Fits u locked before)
       ⊎ ((fault ≡ NoMemory) × (0 < u.len) × (u.offset + u.len ≤ length (before u.segment)))))))
 
-  -- the closure was called once, at the range's bytes, and left these
-  abbrev pub Changes : Mut F (MutBor (List ℕ) × Unit {0}) (Unit {0} × (MutBor (List ℕ) × Unit {0})) → Update F → Bytes → List ℕ → Update F → Type 0
-  Changes calls old before bytes new = CalledAtMut calls old.change (take old.len (drop old.offset (before old.segment))) tt new.change bytes
-
-  -- it sets the range's positions beside those that were set, puts there what the closure left, and changes nothing else
-  abbrev pub Updates : Mut F (MutBor (List ℕ) × Unit {0}) (Unit {0} × (MutBor (List ℕ) × Unit {0})) → Update F → Update F → List ℕ → Bytes → Runs → Result (Unit {0}) TxFault → Bytes → Runs → Type 0
-  Updates calls old new locked before set answer after sets =
+  -- it sets the range's positions beside those that were set, puts there what one call of the change made of its bytes, and changes
+  -- nothing else
+  abbrev pub Updates : (C → List ℕ → C → List ℕ → Type 0) → Update C → Update C → List ℕ → Bytes → Runs → Result (Unit {0}) TxFault → Bytes → Runs → Type 0
+  Updates changes old new locked before set answer after sets =
       MatchResult answer
-      (λ _. Fits old locked before × (new ≡ record old { change = new.change }) × AddsPositions set old.segment old.offset old.len sets
-      × ((bytes : List ℕ) × (length bytes ≡ old.len) × Changes calls old before bytes new × (after old.segment ≡ put old.offset bytes (before old.segment)))
-      × ((s : ℕ) → IsTrue (is_member s locked) → s ≢ old.segment → after s ≡ before s))
+      (λ _. Fits old locked before × AddsPositions set old.segment old.offset old.len sets
+      × ((bytes : List ℕ) × (length bytes ≡ old.len) × changes old.change (take old.len (drop old.offset (before old.segment))) new.change bytes × (after old.segment ≡ put old.offset bytes (before old.segment)))
+      × ((s : ℕ) → IsTrue (is_member s locked) → s ≢ old.segment → after s ≡ before s) × (new ≡ record old { change = new.change }))
       (λ fault. (new ≡ old) × IsUnchanged old locked before fault × AgreeOn locked after before × (sets ≡ set))

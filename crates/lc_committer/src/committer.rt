@@ -22,9 +22,9 @@ impl<'a, D: Area + Drop> Model for Committer<'a, D> {
 
     ghost Value = { Committing D };
 
-    ghost view = { committing D.Area };
+    ghost view = { committing };
 
-    ghost invariant = { IsSeated D.Area };
+    ghost invariant = { IsSeated };
 }
 
 impl<'a, D: Area + Drop> Committer<'a, D> {

@@ -1,6 +1,7 @@
 //! What a thread of a program commits with: a node and a seat on it, as one value.
 #![tactic(auto)]
 
+mod change;
 mod committer;
 mod committing;
 mod confirming;
@@ -8,6 +9,8 @@ mod open;
 mod reading;
 mod settling;
 mod update;
+mod updating;
 
+pub use change::Change;
 pub use committer::Committer;
 pub use update::Update;

@@ -1,5 +1,5 @@
 //! A committer reads its records back.
-ghost use Rattle.std.specs.Prelude.{◌≡◌, ◌≤◌, ◌<◌, ℕ, List, length, IfOk, IfErr, OnOk, OnErr, vec_capacity};
+ghost use Rattle.std.specs.Prelude.{◌≡◌, ◌≤◌, ◌<◌, ℕ, List, [], length, IfOk, IfErr, OnOk, OnErr, vec_capacity};
 ghost use Rattle.lc_node.specs.Among.{IsAmong};
 ghost use Rattle.lc_node.specs.Receipts.{HasReceipt};
 ghost use Rattle.lc_node.specs.declared.node_fault.NodeFault.TheVariants.{NoMemory};
@@ -40,8 +40,9 @@ impl<'a, D: Area + Drop> Committer<'a, D> {
         let lock = self.node.log_lock();
         let (mut log, loan) = lock.lock(rt);
         let (seat, confirmed) = self.node.confirm(seat, &mut log, receipt);
-        if let Confirmed::Here(_) = confirmed {
-            copy_record(&log, receipt, words);
+        match confirmed {
+            Confirmed::Here(_) => copy_record(&log, receipt, words),
+            Confirmed::Earlier { .. } => {}
         }
         lock.unlock(log, loan);
         self.seat = Some(seat);
@@ -64,10 +65,21 @@ fn copy_record<D: Area + Drop>(log: &LogSide<D>, receipt: Receipt, words: &mut V
     ensures { (index : ℕ) (record_words : List ℕ) → IsAmong log.now.stable index receipt.place record_words → receipt.words ≡ length record_words → words.new.items ≡ record_words }
 {
     words.clear();
-    let Some(found) = log.stable_at(receipt.place() as usize) else {
+    if let Some(found) = log.stable_at(receipt.place() as usize) {
+        append(words, found, receipt.words() as usize);
+    }
+}
+
+// Adds these words where they are so many, for which the list, which is empty, has room.
+fn append(words: &mut Vec<u64>, more: &[u64], count: usize)
+    requires empty { words.old.items ≡ [] }
+    requires room { count ≤ vec_capacity words.old }
+    ensures { length more.now ≡ count → words.new.items ≡ more.now }
+{
+    if more.len() != count {
         return;
-    };
-    for word in found.iter().take(receipt.words() as usize) {
-        words.push_reserved(*word);
+    }
+    for index in 0..more.len() {
+        words.push_reserved(more[index]);
     }
 }

@@ -1,10 +1,10 @@
 //! Threads that commit, each with a committer of its own.
-ghost use Rattle.lc_node.specs.Receipts.{HasReceipt};
+ghost use Rattle.std.specs.Prelude.{◌≡◌, length};
 
 use crate::expect::{equal, holds};
 use crate::failures::opened_again;
 use crate::stores::{in_memory, opened, two_segments};
-use lc_committer::{Committer, Update};
+use lc_committer::{Change, Committer, Update};
 use lc_disk::{Area, MemArea};
 use lc_node::{Commit, Confirmed, Mode, NodeFault, Put};
 use lc_record::View;
@@ -168,6 +168,20 @@ fn a_committer_settles_what_it_closed(rt: HostRuntime) -> Result<(), Fail> {
     Ok(())
 }
 
+// Adds 1 to the first of the bytes.
+#[derive(Drop)]
+struct AddOne;
+
+impl Change for AddOne {
+    ghost changes = { λ old before new after. length after ≡ length before };
+
+    fn change(&mut self, bytes: &mut [u8]) {
+        if let Some(byte) = bytes.first_mut() {
+            *byte = byte.wrapping_add(1);
+        }
+    }
+}
+
 // Adds 1 to a byte of segment 2.
 fn add_one<D: Area + Drop, R: Wait + AllocGlobal>(
     rt: &R,
@@ -177,11 +191,7 @@ fn add_one<D: Area + Drop, R: Wait + AllocGlobal>(
         segment: 2,
         offset: 7,
         len: 1,
-        change: |bytes: &mut [u8]| {
-            if let Some(byte) = bytes.first_mut() {
-                *byte = byte.wrapping_add(1);
-            }
-        },
+        change: AddOne,
     };
     committer.commit(rt, &[2], &mut update, Mode::Lazy)
 }
