@@ -1,4 +1,5 @@
 pub mod FirstGone
+pub mod AllHeld
 pub mod Applied
 pub mod Arrived
 pub mod Asking

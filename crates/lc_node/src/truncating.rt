@@ -113,7 +113,7 @@ impl<D: Area + Drop> Node<D> {
     }
 
     // Truncates where the segments are held.
-    fn truncate_held<R: Wait>(
+    pub(crate) fn truncate_held<R: Wait>(
         &self,
         rt: &R,
         alloc: Global,
