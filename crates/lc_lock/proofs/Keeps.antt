@@ -1,5 +1,5 @@
 -- Each step keeps the rule of a lock.
-use Rattle.std.proofs.Common.{◌≡◌, ◌≢◌, ◌⊎◌, ℕ, zero, suc, ◌+◌, ◌/◌, ◌%◌, ◌<◌, ◌≤◌, eqb, List, [], ◌∷◌, length, replicate, get_or, set, refl, sym, ap, ◌∙◌, subst, inl, inr, ⊎_elim, arith}
+use Rattle.std.proofs.Common.{◌≡◌, ◌≢◌, ◌⊎◌, ℕ, zero, suc, ◌+◌, ◌/◌, ◌%◌, ◌<◌, ◌≤◌, eqb, List, [], ◌∷◌, length, replicate, get_or, set, bit_or, refl, sym, ap, ◌∙◌, subst, inl, inr, ⊎_elim, arith}
 use mathlib.Core.Logic.{dite}
 use mathlib.Core.Option.{none, some, some-injective, some-ne-none}
 use mathlib.Core.Option as maybe
@@ -13,6 +13,8 @@ use Rattle.lc_lock.specs.declared.turn.Turn.{Turn}
 use Rattle.lc_lock.specs.declared.turn.Turn.TheVariants.{Idle, Waits, Holds}
 use Rattle.lc_lock.specs.declared.turn.Place.{Place}
 use Rattle.lc_lock.specs.Queue.{word_of, ticket_of, HasTicket, Stands, place, first_place, HasComeTo, IsHome, IsOut, IsQueue, came, drew, began, took, gave}
+use Rattle.lc_lock.specs.Bells.{listened, rang}
+use Rattle.lc_lock.proofs.LowBit.{sets_bit, clears_bit}
 use Rattle.lc_lock.proofs.Halves.{served_half, next_half, one_drawn, ServesNext, one_served, has_room, same_ticket}
 
 more_drawn : (d s : ℕ) (t : Turn) → Stands d s t → Stands (d + 1) s t
@@ -41,6 +43,11 @@ module _ {A : Type 0} where
   one_only [] a e = absurd (omega arith)
   one_only (x ∷ []) a e = refl
   one_only (x ∷ (y ∷ ys)) a e = absurd (omega arith)
+
+  -- what is written behind the first leaves the first
+  behind_first : (x : A) (l : List A) (i : ℕ) (a : A) → 0 < i → (m : List A) × (set (x ∷ l) i a ≡ x ∷ m)
+  behind_first x l zero a h = absurd (omega arith)
+  behind_first x l (suc i) a h = (set l i a, refl)
 
   within : (l : List A) (i : ℕ) (a : A) → get_elem? l i ≡ some a → i < length l
   within [] i a e = absurd (some-ne-none a (sym e))
@@ -75,17 +82,18 @@ module _ {T K : Type 0} (fits : K → T → Type 0) (key : K) where
   found : (s : St) → (r : IsQueue fits key s) → get_or s.words 0 0 ≡ word_of r.drawn r.served
   found s r = ap (λ (ws : List ℕ). get_or ws 0 0) r.word
 
-  stored : (s : St) → IsQueue fits key s → (n : ℕ) → set s.words 0 n ≡ n ∷ []
+  stored : (s : St) → (r : IsQueue fits key s) → (n : ℕ) → set s.words 0 n ≡ n ∷ r.bells
   stored s r n = ap (λ (ws : List ℕ). set ws 0 n) r.word
 
   -- the seat has a new view, the other seats still stand, and none of them has its ticket
-  moved : (s : St) → IsQueue fits key s → (id : ℕ) (w : Place K) (drawn served : ℕ) (words : List ℕ) (homes : List (maybe.Option (Option T))) → words ≡ word_of drawn served ∷ [] → 0 < drawn → served ≤ drawn → drawn < served + 4294967296
+  moved : (s : St) → IsQueue fits key s → (id : ℕ) (w : Place K) (drawn served : ℕ) (bells words : List ℕ) (homes : List (maybe.Option (Option T))) → words ≡ word_of drawn served ∷ bells → 0 < drawn → served ≤ drawn → drawn < served + 4294967296
       → Knows drawn served w → ((j : ℕ) (u : Place K) → j ≢ id → get_elem? s.views j ≡ some u → Stands drawn served u.turn)
       → ((j n : ℕ) (u : Place K) → j ≢ id → get_elem? s.views j ≡ some u → HasTicket w.turn n → HasTicket u.turn n → ⊥)
       → IsHome fits key served homes (set s.views id w) ⊎ IsOut served homes (set s.views id w) → IsQueue fits key record { words = words; homes = homes; views = set s.views id w }
-  moved s r id w drawn served words homes word begun behind few mine others alone value = record {
+  moved s r id w drawn served bells words homes word begun behind few mine others alone value = record {
     drawn = drawn;
     served = served;
+    bells = bells;
     word = word;
     begun = begun;
     behind = behind;
@@ -103,6 +111,29 @@ module _ {T K : Type 0} (fits : K → T → Type 0) (key : K) where
   stays s r id me told at tells = let same : s.words ≡ set s.words 0 (get_or s.words 0 0) = r.word ∙ sym (ap (λ (ws : List ℕ). set ws 0 (get_or ws 0 0)) r.word) in
       (me.0, keeps, tt, subst (IsQueue fits key) (λ k. record { words = same k; homes = s.homes; views = sym (set_again s.views id me.0 at) k }) r, tells)
 
+  -- a step on a bell, whatever it makes of it
+  tolls : (slots id : ℕ) (me : M) (place : ℕ) (f : ℕ → ℕ) (told : ℕ → M → Type 0) → 0 < place → ((n : ℕ) → told n me) → Allows (IsQueue fits key) slots id me place f told
+  tolls slots id me place f told beside tells s r wide at small = let n : ℕ = get_or s.words place 0 in let kept = behind_first (word_of r.drawn r.served) r.bells place (f n) beside in
+      let r' : IsQueue fits key record { words = set s.words place (f n); homes = s.homes; views = s.views } = record {
+        drawn = r.drawn;
+        served = r.served;
+        bells = kept.0;
+        word = ap (λ (ws : List ℕ). set ws place (f n)) r.word ∙ kept.1;
+        begun = r.begun;
+        behind = r.behind;
+        few = r.few;
+        knows = r.knows;
+        apart = r.apart;
+        value = r.value;
+      } in
+      (me.0, keeps, tt, subst (IsQueue fits key) (λ k. record { words = set s.words place (f n); homes = s.homes; views = sym (set_again s.views id me.0 at) k }) r', tells n)
+
+  pub listens : (slots id : ℕ) (me : M) (place : ℕ) → 0 < place → Allows (IsQueue fits key) slots id me place (λ n. bit_or n 1) (listened (step slots place 1 0 none) me)
+  listens slots id me place beside = tolls slots id me place (λ n. bit_or n 1) (listened (step slots place 1 0 none) me) beside (λ n. (refl, sets_bit n))
+
+  pub rings : (slots id : ℕ) (me : M) (place : ℕ) → 0 < place → Allows (IsQueue fits key) slots id me place (λ n. (n + 1) % 18446744073709551616) (rang (step slots place 1 0 none) me)
+  rings slots id me place beside = tolls slots id me place (λ n. (n + 1) % 18446744073709551616) (rang (step slots place 1 0 none) me) beside (λ n. (refl, clears_bit n))
+
   -- a seat that holds nothing, and whose new view does not either, leaves the value where it is
   value_stays : (s : St) → (r : IsQueue fits key s) → (id : ℕ) (v w : Place K) → get_elem? s.views id ≡ some v → ((n : ℕ) → v.turn ≢ Holds n) → ((n : ℕ) → w.turn ≢ Holds n)
       → IsHome fits key r.served s.homes (set s.views id w) ⊎ IsOut r.served s.homes (set s.views id w)
@@ -119,6 +150,7 @@ module _ {T K : Type 0} (fits : K → T → Type 0) (key : K) where
     record {
       drawn = r.drawn;
       served = r.served;
+      bells = r.bells;
       word = r.word;
       begun = r.begun;
       behind = r.behind;
@@ -145,7 +177,7 @@ module _ {T K : Type 0} (fits : K → T → Type 0) (key : K) where
         w,
         keeps,
         tt,
-        moved s r id w (d + 1) f (set s.words 0 new) s.homes (stored s r new ∙ ap (λ (z : ℕ). z ∷ []) becomes) (omega arith) (omega arith) left ((r.knows id me.0 at).0, (behind, omega arith))
+        moved s r id w (d + 1) f r.bells (set s.words 0 new) s.homes (stored s r new ∙ ap (λ (z : ℕ). z ∷ r.bells) becomes) (omega arith) (omega arith) left ((r.knows id me.0 at).0, (behind, omega arith))
             (λ j u other e. more_drawn d f u.turn (r.knows j u e).1) (λ j k u other e mine has. let low = is_drawn d f k u.turn (r.knows j u e).1 has in let same : d ≡ k = mine in omega arith)
             (value_stays s r id me.0 w at (λ k held. let clash : Idle ≡ Holds k = sym idle ∙ held in cc) (λ k clash. cc)),
         ((λ _. (d, r.begun, ap (λ (z : ℕ). z / 4294967296) (found s r) ∙ next_half d f, refl)), λ miss. absurd (miss hit)),
@@ -161,7 +193,7 @@ module _ {T K : Type 0} (fits : K → T → Type 0) (key : K) where
         w,
         takes 0 y,
         ap (λ (l : List (maybe.Option (Option T))). get_elem? l 0) h.1,
-        moved s r id w r.drawn f (set s.words 0 (get_or s.words 0 0)) (set s.homes 0 none) (ap (λ (ws : List ℕ). set ws 0 (get_or ws 0 0)) r.word) r.begun r.behind r.few (known.0, (is, drawn)) (λ j u other e. (r.knows j u e).1)
+        moved s r id w r.drawn f r.bells (set s.words 0 (get_or s.words 0 0)) (set s.homes 0 none) (ap (λ (ws : List ℕ). set ws 0 (get_or ws 0 0)) r.word) r.begun r.behind r.few (known.0, (is, drawn)) (λ j u other e. (r.knows j u e).1)
             (λ j n u other e has also. other (sym (r.apart id j n me.0 u at e (subst (λ (z : ℕ). HasTicket me.0.turn z) has mine) also)))
             (inr (ap (λ (l : List (maybe.Option (Option T))). set l 0 none) h.1, (id, w, set_here s.views id w (within s.views id me.0 at), ap (λ (z : ℕ). Holds z) is))),
         tells y come,
@@ -197,7 +229,7 @@ module _ {T K : Type 0} (fits : K → T → Type 0) (key : K) where
         w,
         gives,
         tt,
-        moved s r id w d (f + 1) (set s.words 0 new) (put_back s.homes me.1) (stored s r new ∙ ap (λ (z : ℕ). z ∷ []) becomes) r.begun (omega arith) (omega arith) (known.0, tt)
+        moved s r id w d (f + 1) r.bells (set s.words 0 new) (put_back s.homes me.1) (stored s r new ∙ ap (λ (z : ℕ). z ∷ r.bells) becomes) r.begun (omega arith) (omega arith) (known.0, tt)
             (λ j u other e. one_served_less d f u.turn (r.knows j u e).1 (others j u other e)) (λ j n u other e has also. has)
             (inl (
               Some x,
@@ -210,10 +242,11 @@ module _ {T K : Type 0} (fits : K → T → Type 0) (key : K) where
         (refl, refl, ap (λ (z : ℕ). z % 4294967296) (found s r) ∙ (served_half d f ∙ ap (λ (z : ℕ). z % 4294967296) (sym (ap ticket_of holds ∙ same)))),
       )
 
-  pub opens : (words : List ℕ) → words ≡ word_of 1 0 ∷ [] → IsQueue fits key (opening words (replicate 1 None) (first_place key))
-  opens words is = record {
+  pub opens : (words bells : List ℕ) → words ≡ word_of 1 0 ∷ bells → IsQueue fits key (opening words (replicate 1 None) (first_place key))
+  opens words bells is = record {
     drawn = 1;
     served = 0;
+    bells = bells;
     word = is;
     begun = omega arith;
     behind = omega arith;

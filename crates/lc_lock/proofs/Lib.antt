@@ -1,3 +1,4 @@
 pub mod Halves
 pub mod Keeps
+pub mod LowBit
 pub mod Seats

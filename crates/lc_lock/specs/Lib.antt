@@ -1,2 +1,4 @@
 pub mod Queue
+pub mod Bells
+pub mod Patience
 pub mod Loans

@@ -61,7 +61,8 @@ module _ {T K : Type 0} where
   pub record IsQueue (fits : K → T → Type 0) (key : K) (s : State (Option T) (Place K)) : Type 0 where
     pub drawn : ℕ
     pub served : ℕ
-    pub word : s.words ≡ word_of drawn served ∷ []
+    pub bells : List ℕ
+    pub word : s.words ≡ word_of drawn served ∷ bells
     pub begun : 0 < drawn
     pub behind : served ≤ drawn
     pub few : drawn < served + 2 ^ 32

@@ -1,12 +1,15 @@
 //! A lock for one value at a time: who has it has a value that fits the lock's key, and gives back one that does.
 #![tactic(auto)]
 
+mod bells;
 mod keyed;
 mod laws;
 mod loan;
 mod lock;
 mod making;
+mod patience;
 mod plays;
+mod sleeping;
 mod taking;
 mod tickets;
 mod turn;

@@ -1,5 +1,6 @@
 //! The lock.
 ghost use Rattle.std.specs.Prelude.{◌≡◌};
+ghost use Rattle.lc_lock.specs.declared.bells.TheConstants.{WORDS};
 
 use crate::Keyed;
 use crate::turn::QueueTable;
@@ -15,5 +16,5 @@ use crate::turn::QueueTable;
 #[derive(Drop)]
 pub struct Lock<T: Keyed<K>, K> {
     pub(crate) table: QueueTable<T, K>,
-    ghost sized: { (table.shared.table_id.words ≡ 1) × (table.shared.table_id.slots ≡ 1) },
+    ghost sized: { (table.shared.table_id.words ≡ WORDS) × (table.shared.table_id.slots ≡ 1) },
 }

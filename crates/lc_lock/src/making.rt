@@ -2,8 +2,8 @@
 ghost use Rattle.std.specs.Prelude.{◌≡◌, IfOk, IfErr};
 ghost use Rattle.lc_lock.specs.Loans.{key_of, IsLoanOf};
 
+use crate::bells::first_words;
 use crate::plays::Begin;
-use crate::tickets::DRAWN;
 use crate::turn::{QueueSeat, QueueTable, WORD};
 use crate::{Keyed, Loan, Lock};
 use atomic_table::Table;
@@ -18,7 +18,7 @@ impl<T: Keyed<K>, K> Lock<T, K> {
     {
         let (table, mut seat): (QueueTable<T, K>, QueueSeat<T, K>) = Table::vacant(
             alloc,
-            &[DRAWN],
+            &first_words(),
             1,
             key,
         )?;

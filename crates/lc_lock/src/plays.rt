@@ -1,5 +1,6 @@
 //! What each step on the table tells.
 ghost use Rattle.lc_lock.specs.Queue.{came, drew, began, took, gave};
+ghost use Rattle.lc_lock.specs.Bells.{listened, rang};
 
 use crate::Keyed;
 use crate::turn::Place;
@@ -33,4 +34,16 @@ pub(crate) struct Serve;
 
 impl<T, K> Play<Option<T>, Place<K>> for Serve {
     ghost then = { gave };
+}
+
+pub(crate) struct Listen;
+
+impl<T, K> Play<Option<T>, Place<K>> for Listen {
+    ghost then = { listened };
+}
+
+pub(crate) struct Ring;
+
+impl<T, K> Play<Option<T>, Place<K>> for Ring {
+    ghost then = { rang };
 }

@@ -1,18 +1,17 @@
 //! The calls of a lock.
-ghost use Rattle.std.specs.Prelude.{◌≡◌, ◌%◌, ◌^◌, []};
+ghost use Rattle.std.specs.Prelude.{◌≡◌, ◌%◌, ◌^◌, ◌<◌, [], IfNone, IfSome};
 ghost use Rattle.lc_lock.specs.declared.turn.Turn.TheVariants.{Idle};
 ghost use Rattle.lc_lock.specs.Queue.{IsWaiting, IsServed, holding, ticket_of};
 ghost use Rattle.lc_lock.specs.Loans.{key_of, IsLoanOf};
 
+use crate::bells::bell_behind;
+use crate::patience::{Pause, pause_after};
 use crate::plays::{Come, Draw, Serve, Take};
-use crate::tickets::{DRAWN, has_waiters, is_full, next_in, out_in, served_in, to_next};
+use crate::tickets::{DRAWN, ahead_of, has_waiters, is_full, next_in, out_in, served_in, to_next};
 use crate::turn::{QueueSeat, SLOT, WORD};
 use crate::{Keyed, Loan, Lock};
 use std::sync::Wait;
-use std::thread;
-
-// How often a thread looks for its turn before it sleeps.
-const LOOKS: u32 = 16;
+use std::{hint, thread};
 
 impl<T: Keyed<K>, K> Lock<T, K> {
     /// Waits until all who drew a ticket before have had the value and have given one back, and takes it. Who has the value and
@@ -39,7 +38,7 @@ impl<T: Keyed<K>, K> Lock<T, K> {
         let Loan { mut seat, ticket } = loan;
         let found = self.give_back(&mut seat, ticket, value);
         if has_waiters(found, ticket) {
-            self.table.shared.wake_all(WORD);
+            self.ring(&mut seat, bell_behind(ticket));
         }
     }
 
@@ -83,21 +82,40 @@ impl<T: Keyed<K>, K> Lock<T, K> {
         ensures own { seat.new.table_id ≡ self.now.table.shared.table_id }
         ensures served { IsServed T.fits (key_of self.now) ticket seat.new.me }
     {
-        let shared = &self.table.shared;
-        let mut looks = 0;
+        let mut looks = 0u32;
         for _ in rt.forever() {
-            let served = served_in(shared.load::<Take>(seat, WORD));
-            if served == ticket {
+            let Some(ahead) = self.look(seat, ticket) else {
                 return;
+            };
+            match pause_after(looks, ahead) {
+                Pause::Spin => hint::spin_loop(),
+                Pause::Yield => thread::yield_now(),
+                Pause::Sleep => {
+                    if self.sleep(rt, seat, ticket) {
+                        return;
+                    }
+                }
             }
-            if looks < LOOKS {
-                looks += 1;
-                thread::yield_now();
-            } else {
-                shared.park(rt, WORD, served);
-            }
+            looks = looks.saturating_add(1);
         }
         unreachable!()
+    }
+
+    // Looks once whether the seat's ticket is served, and takes the slot where it is. Else it answers how many tickets are served
+    // before.
+    pub(crate) fn look(&self, seat: &mut QueueSeat<T, K>, ticket: u32) -> Option<u32>
+        requires own { seat.old.table_id ≡ self.now.table.shared.table_id }
+        requires waits { IsWaiting (key_of self.now) ticket seat.old.me }
+        ensures own { seat.new.table_id ≡ self.now.table.shared.table_id }
+        ensures served { IfNone result (IsServed T.fits (key_of self.now) ticket seat.new.me) }
+        ensures waits { IfSome result (λ ahead. (0 < ahead) × IsWaiting (key_of self.now) ticket seat.new.me) }
+    {
+        let shared = &self.table.shared;
+        let served = served_in(shared.load::<Take>(seat, WORD));
+        if served == ticket {
+            return None;
+        }
+        Some(ahead_of(ticket, served))
     }
 
     // Puts the value into the slot, which is empty, and serves the next ticket. It answers the word as it was before, in which
@@ -107,6 +125,7 @@ impl<T: Keyed<K>, K> Lock<T, K> {
         requires holds { seat.old ≡ holding seat.old }
         requires ticket { ticket ≡ ticket_of seat.old.me.0.turn % 2 ^ 32 }
         requires fits { T.fits (key_of self.now) value }
+        ensures own { seat.new.table_id ≡ self.now.table.shared.table_id }
         ensures idle { (seat.new.me.0.turn ≡ Idle) × (seat.new.me.1 ≡ []) }
         ensures found { result % 2 ^ 32 ≡ ticket }
     {

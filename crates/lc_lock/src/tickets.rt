@@ -36,6 +36,13 @@ pub(crate) fn out_in(word: u64) -> u32
     next_in(word).wrapping_sub(served_in(word))
 }
 
+// How many tickets are served before this one is, where that one is served now.
+pub(crate) fn ahead_of(ticket: u32, served: u32) -> u32
+    ensures { result ≡ (ticket + 2 ^ 32 - served) % 2 ^ 32 }
+{
+    ticket.wrapping_sub(served)
+}
+
 // Whether somebody waits behind the holder of a ticket, by the word as the holder found it: the next ticket to be drawn is
 // then not the one behind the holder's.
 pub(crate) fn has_waiters(found: u64, ticket: u32) -> bool

@@ -20,8 +20,8 @@ pub struct Place<K> {
     pub turn: Turn,
 }
 
-/// The one word counts the tickets that were drawn and those that were served, and the one slot has the value until the
-/// seat whose ticket is served takes it.
+/// The first word counts the tickets that were drawn and those that were served, and the one slot has the value until the seat
+/// whose ticket is served takes it. The other words are bells, of which nothing is known.
 pub struct Queue;
 
 impl<T: Keyed<K>, K> TableRule<Option<T>, Place<K>, K> for Queue {
@@ -36,7 +36,7 @@ pub(crate) type QueueTable<T, K> = Table<Option<T>, Place<K>, K, Queue, Global>;
 
 pub(crate) type QueueSeat<T, K> = Seat<Option<T>, Place<K>>;
 
-// The place of the word in the table.
+// The place of the word of the tickets in the table.
 pub(crate) const WORD: usize = 0;
 
 // The place of the slot.

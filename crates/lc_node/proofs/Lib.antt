@@ -49,6 +49,7 @@ pub mod Outside
 pub mod PagesWritten
 pub mod PartsOf
 pub mod PeerPlaces
+pub mod Placed
 pub mod Published
 pub mod Pushing
 pub mod PutBytes

@@ -11,7 +11,7 @@ pub enum Mode {
 }
 
 /// What became of a transaction. This project's own.
-#[derive(Clone, Copy)]
+#[derive(Clone, Copy, Debug)]
 pub enum Commit {
     /// Nothing was set, so there is no record.
     Empty,

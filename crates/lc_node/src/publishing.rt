@@ -1,6 +1,7 @@
 //! The records that a log has made stable since it was opened, read one after another.
-ghost use Rattle.std.specs.Prelude.{◌≡◌, ◌+◌, ◌^◌, ◌<◌, ◌≤◌, ℕ, length, drop, option_map, slice_get, IfSome};
-ghost use Rattle.lc_stage.specs.Staging.{AreRecords};
+ghost use Rattle.std.specs.Prelude.{◌≡◌, ◌+◌, ◌^◌, ◌<◌, ◌≤◌, ◌++◌, ℕ, List, Some, length, drop, option_map, slice_get, IfSome};
+ghost use Rattle.lc_stage.specs.Staging.{AreRecords, IsOneRecord};
+ghost use Rattle.lc_node.specs.Among.{IsAmong};
 ghost use Rattle.lc_node.specs.Published.{published, records_of, IsStart, IsWhole};
 
 use crate::LogSide;
@@ -33,6 +34,14 @@ impl<D: Area + Drop> LogSide<D> {
         first_behind(self.stable.as_slice(), place - ended.len())
     }
 
+    /// The words of the stable record that stands at this place of the log's round, as a receipt names it. Where none begins there
+    /// it gives some words that are stable, or None: which, no clause says. It takes no memory.
+    pub fn stable_at(&self, place: usize) -> Option<&[u64]>
+        ensures { (index : ℕ) (record_words : List ℕ) → IsAmong self.now.stable index place record_words → option_map (λ words. words.now) result ≡ Some record_words }
+    {
+        first_behind(self.stable.as_slice(), place)
+    }
+
     /// How many records were published since the log was opened. One load.
     pub(crate) fn published(&self) -> u64
         ensures { result ≡ length (published self.now) }
@@ -44,6 +53,7 @@ impl<D: Area + Drop> LogSide<D> {
 // The words behind a place that are as many as the first of them tells; None where they are not there.
 fn first_behind(words: &[u64], place: usize) -> Option<&[u64]>
     ensures found { place ≤ length words.now → AreRecords (drop place words.now) → option_map (λ words. words.now) result ≡ slice_get (records_of (drop place words.now)) 0 }
+    ensures one { (record_words behind : List ℕ) → drop place words.now ≡ record_words ++ behind → IsOneRecord record_words → option_map (λ words. words.now) result ≡ Some record_words }
     ensures some { IfSome result (λ first. 0 < length first.now) }
     ensures within { IfSome result (λ first. place + length first.now ≤ length words.now) }
 {

@@ -1,6 +1,7 @@
 //! The calls of a committer.
-ghost use Rattle.std.specs.Prelude.{◌≡◌, ℕ, ◌+◌, ◌<◌, ◌≤◌, ◌↔◌, false, length, slice_set, IfOk, IfErr, IfSome, IfNone, Err};
+ghost use Rattle.std.specs.Prelude.{◌≡◌, ℕ, ◌+◌, ◌<◌, ◌≤◌, ◌↔◌, false, length, slice_set, IfOk, IfErr, IfSome, IfNone, IsTrue, Err};
 ghost use Rattle.lc_stage.specs.Staging.{latest, HasReached, learns_durable, with_receipt, saw, reserved, filled, shut_with, newest, offset_of, seal_of, IsOneRecord, Holds, LieBelow};
+ghost use Rattle.lc_stage.specs.Closed.{HasClosed};
 ghost use Rattle.lc_stage.specs.Receipts.{IsReceiptOf};
 ghost use Rattle.lc_stage.specs.Seats.{commit_view, IsSeatOf, IsRefused, IsIdle};
 ghost use Rattle.lc_stage.specs.declared.fault.StageFault.TheVariants.{Full, Sealed};
@@ -9,6 +10,15 @@ use crate::layout::{DURABLE, OFFSETS, ROUNDS, TAIL};
 use crate::plays::{Exchange, Learn, Look, Put, Shut};
 use crate::seats::CommitSeat;
 use crate::{Receipt, Stage, StageFault};
+
+impl CommitSeat {
+    /// Whether a record of it is closed. Where none is, there is nothing that `durable` could give a receipt of.
+    pub fn has_closed(&self) -> bool
+        ensures { IsTrue result ↔ HasClosed (commit_view self.now) }
+    {
+        self.last.words != 0
+    }
+}
 
 impl Stage {
     /// The tail, in one load: the place behind the last reservation.

@@ -2,7 +2,7 @@
 use crate::layout::ROUNDS;
 
 /// A record that is durable: its round, its place and how many words it has. `durable` alone makes one.
-#[derive(Clone, Copy)]
+#[derive(Clone, Copy, Debug)]
 pub struct Receipt {
     pub(crate) round: u64,
     pub(crate) place: u32,

@@ -16,6 +16,8 @@ mod coming_up;
 #[cfg(test)]
 mod commits;
 #[cfg(test)]
+mod committers;
+#[cfg(test)]
 mod crowds;
 #[cfg(test)]
 mod expect;

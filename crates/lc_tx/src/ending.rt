@@ -92,13 +92,12 @@ impl Tx {
         ensures faults { IfErr result (λ fault. IsTrue (is_of_end fault)) }
         ensures canonical { IsCanonical self.now.set }
     {
-        let Some(layout) = self.layout(images)? else {
-            return Ok(Prepared::Empty);
-        };
-        let Ok(words) = self.spell_end(Vec::new(alloc), images, node, &layout) else {
-            return Err(TxFault::NoMemory);
-        };
-        Ok(Prepared::Record(words))
+        let mut words = Vec::new(alloc);
+        if self.prepare_end_in(alloc, &mut words, images, node)? {
+            Ok(Prepared::Record(Items::new(words)))
+        } else {
+            Ok(Prepared::Empty)
+        }
     }
 
     /// The words of the record of the transaction, as a node, numbered up to 7, is about to log it, of which `layout` has

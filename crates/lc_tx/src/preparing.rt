@@ -1,5 +1,5 @@
 //! The end of a transaction in the memory of the one before.
-ghost use Rattle.std.specs.Prelude.{◌≡◌, ◌↔◌, ◌⊎◌, ◌<◌, ◌≤◌, ℕ, [], true, false, vec_capacity, Ok, Err, IfErr, IsTrue};
+ghost use Rattle.std.specs.Prelude.{◌≡◌, ◌↔◌, ◌⊎◌, ◌<◌, ◌≤◌, ℕ, [], true, false, length, vec_capacity, Ok, Err, IfErr, OnErr, IsTrue};
 ghost use Rattle.lc_record.specs.Record.{record_len, IsRecord};
 ghost use Rattle.lc_tx.specs.Images.{IsSame};
 ghost use Rattle.lc_tx.specs.Prepared.{AreSmall, AreUnspent, IsFirstSpent, IsLoggable, final_record};
@@ -13,11 +13,13 @@ use std::mem;
 
 impl Tx {
     /// Makes the record that `prepare_end` makes, in the memory of a list whose own words go, such as those of a
-    /// record before: true, the list has the record's words; false, nothing is set.
+    /// record before: true, the list has the record's words; false, nothing is set, and the list is as it was. Where it
+    /// has no room for all words of the record, other memory is taken for all of them at once.
     ///
     /// # Errors
     ///
-    /// Those of `prepare_end`, and `NoMemory` only where the list has no room for all words of the record.
+    /// Those of `prepare_end`, and `NoMemory` only where the list has no room for all words of the record. After each
+    /// of them the list is as it was.
     pub fn prepare_end_in<I: Images>(
         &self,
         alloc: Global,
@@ -38,6 +40,12 @@ impl Tx {
             × (4096 < record_len (final_record I.Images images.old self.now node))
             × (n ≡ record_len (final_record I.Images images.old self.now node))) }
         ensures record { result ≡ Ok true → IsRecord (final_record I.Images images.old self.now node) words.new.items }
+        ensures len { result ≡ Ok true
+            → length words.new.items ≡ record_len (final_record I.Images images.old self.now node) }
+
+        // Where there is no record, the list has what it had.
+        ensures kept { result ≡ Ok false → words.new ≡ words.old }
+        ensures refused { OnErr result (words.new ≡ words.old) }
 
         // Where there is a layout, there is a record, or no memory; elsewhere no memory is wanted.
         ensures ready { IsLoggable I.Images images.old self.now node → (result ≡ Ok true) ⊎ (result ≡ Err TxFault.NoMemory) }
@@ -50,11 +58,25 @@ impl Tx {
         let Some(layout) = self.layout(images)? else {
             return Ok(false);
         };
-        let memory = mem::replace(words, Vec::new(alloc));
+        let memory = take_memory(alloc, words, layout.words());
         let Ok(spelled) = self.spell_end(memory, images, node, &layout) else {
             return Err(TxFault::NoMemory);
         };
         *words = spelled.into_vec();
         Ok(true)
     }
+}
+
+// Takes the memory of a list that has room for this many words. Of another list it takes nothing, and what it gives has
+// no memory yet.
+fn take_memory(alloc: Global, words: &mut Vec<u64>, needed: usize) -> Vec<u64>
+    ensures taken { needed ≤ vec_capacity words.old → result ≡ words.old }
+    ensures left { needed ≤ vec_capacity words.old → words.new.items ≡ [] }
+    ensures none { vec_capacity words.old < needed → vec_capacity result ≡ 0 }
+    ensures kept { vec_capacity words.old < needed → words.new ≡ words.old }
+{
+    if words.capacity() < needed {
+        return Vec::new(alloc);
+    }
+    mem::replace(words, Vec::new(alloc))
 }

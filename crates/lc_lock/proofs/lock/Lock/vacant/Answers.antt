@@ -1,10 +1,11 @@
-use Rattle.std.proofs.Common.{rules, ◌≡◌, ◌∷◌, [], ap, ◌∙◌, None}
+use Rattle.std.proofs.Common.{rules, ◌≡◌, ◌∷◌, [], replicate, ap, ◌∙◌, None}
+use Rattle.lc_lock.specs.declared.bells.TheConstants.{BELLS}
 use Rattle.lc_lock.proofs.Keeps.{opens, begins}
 use Rattle.lc_lock.proofs.Seats.{is_holding}
 use Rattle.lc_lock.proofs.lock.Lock.vacant.Goals as goal
 
 pub vacant-requires : goal.vacant-requires
-vacant-requires g c = opens g.T.Keyed.fits c.args.key.now _ (search rules)
+vacant-requires g c = opens g.T.Keyed.fits c.args.key.now _ (replicate BELLS 0) (search rules)
 
 pub load-requires : goal.load-requires
 load-requires g c = (search rules, search rules, begins g.T.Keyed.fits _ _ _ _ (search rules))

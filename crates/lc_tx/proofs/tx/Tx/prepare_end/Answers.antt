@@ -1,75 +1,14 @@
-use Rattle.std.proofs.Common.{◌≡◌, ℕ, List, Some, Ok, Err, refl, ap, subst, ◌∙◌, arith}
+use Rattle.std.proofs.Common.{◌≡◌, Err, ap, ◌∙◌}
 use Rattle.std.proofs.lemmas.Result.{err_from_is_err_and}
-use Rattle.lc_record.specs.Record.{record_layout, IsRecord}
-use Rattle.lc_record.specs.declared.layout.Layout.{Layout}
 use Rattle.lc_tx.specs.declared.tx_fault.TxFault.{TxFault}
-use Rattle.lc_tx.specs.declared.tx_fault.TxFault.TheVariants.{SequenceSpent, TooLong}
-use Rattle.lc_tx.specs.Prepared.{IsLoggable, final_record}
-use Rattle.lc_tx.proofs.EndLemmas.{handed_on, loggable}
-use Rattle.lc_tx.proofs.RecordLemmas.{spent_not_unspent}
+use Rattle.lc_tx.specs.declared.tx_fault.TxFault.TheVariants.{TooLong}
+use Rattle.lc_tx.proofs.EndLemmas.{handed_on}
 use Rattle.lc_tx.proofs.tx.Tx.prepare_end.Goals as goal
 
--- it is refused as the layout is
+-- it is refused as what it calls
 
-pub returns-in_err-layout-clause-spent : goal.returns-in_err-layout-clause-spent
-returns-in_err-layout-clause-spent g c =
+pub returns-in_err-prepare_end_in-clause-too_long : goal.returns-in_err-prepare_end_in-clause-too_long
+returns-in_err-prepare_end_in-clause-too_long g c =
     let p = err_from_is_err_and c.from_residual.result c.from_residual.ensures.1 in
-    let is : c.from_residual.result ≡ Err c.in_err-layout.field-0.0 = p.1 ∙ ap (λ (f : TxFault). Err f) p.2 in
-    λ x. handed_on c.layout.result c.from_residual.result c.in_err-layout.field-0.0 (SequenceSpent x) c.in_err-layout.was is (c.layout.ensures.spent c.args.node x)
-
-pub returns-in_err-layout-clause-too_long : goal.returns-in_err-layout-clause-too_long
-returns-in_err-layout-clause-too_long g c =
-    let p = err_from_is_err_and c.from_residual.result c.from_residual.ensures.1 in
-    let is : c.from_residual.result ≡ Err c.in_err-layout.field-0.0 = p.1 ∙ ap (λ (f : TxFault). Err f) p.2 in
-    λ x. handed_on c.layout.result c.from_residual.result c.in_err-layout.field-0.0 (TooLong x) c.in_err-layout.was is (c.layout.ensures.too_long c.args.node x)
-
-pub returns-in_err-layout-clause-ready : goal.returns-in_err-layout-clause-ready
-returns-in_err-layout-clause-ready g c = λ may.
-    let layout : Layout = record_layout (final_record g.I.Images c.args.images.now c.args.self.now c.args.node) in
-    let told : c.layout.result ≡ Ok (Some layout) = (c.layout.ensures.laid c.args.node layout).1 (may, refl) in
-    let was : c.layout.result ≡ Err c.in_err-layout.field-0.0 = c.in_err-layout.was in
-    absurd cc
-
--- there is a record of at most 4096 words, laid out so
-
-pub spell_end-requires-clause-loggable : goal.spell_end-requires-clause-loggable
-spell_end-requires-clause-loggable g c = (loggable g.I.Images c.args.images.now c.args.self.now c.args.node c.layout.result c.in_ok-layout.field-0 c.in-Some.layout c.layout.ensures.laid c.in_ok-layout.was c.in-Some.is).0
-
-pub spell_end-requires-clause-laid : goal.spell_end-requires-clause-laid
-spell_end-requires-clause-laid g c = (loggable g.I.Images c.args.images.now c.args.self.now c.args.node c.layout.result c.in_ok-layout.field-0 c.in-Some.layout c.layout.ensures.laid c.in_ok-layout.was c.in-Some.is).1
-
-pub returns-in_default-spell_end-clause-spent : goal.returns-in_default-spell_end-clause-spent
-returns-in_default-spell_end-clause-spent g c = λ s. (
-  λ e. absurd cc,
-  λ f. absurd (spent_not_unspent g.I.Images (final_record g.I.Images c.args.images.now c.args.self.now c.args.node).locks s f
-      (loggable g.I.Images c.args.images.now c.args.self.now c.args.node c.layout.result c.in_ok-layout.field-0 c.in-Some.layout c.layout.ensures.laid c.in_ok-layout.was c.in-Some.is).0.unspent),
-)
-
-pub returns-in_default-spell_end-clause-too_long : goal.returns-in_default-spell_end-clause-too_long
-returns-in_default-spell_end-clause-too_long g c =
-    let may : IsLoggable g.I.Images c.args.images.now c.args.self.now c.args.node = (loggable g.I.Images c.args.images.now c.args.self.now c.args.node c.layout.result c.in_ok-layout.field-0 c.in-Some.layout c.layout.ensures.laid c.in_ok-layout.was c.in-Some.is).0 in
-    λ words. (λ e. absurd cc, λ h. absurd (omega (arith, h.1, may.short)))
-
-pub returns-in_default-spell_end-clause-no_memory : goal.returns-in_default-spell_end-clause-no_memory
-returns-in_default-spell_end-clause-no_memory g c = λ e.
-    (loggable g.I.Images c.args.images.now c.args.self.now c.args.node c.layout.result c.in_ok-layout.field-0 c.in-Some.layout c.layout.ensures.laid c.in_ok-layout.was c.in-Some.is).0
-
--- the words are the record's
-
-pub returns-clause-spent : goal.returns-clause-spent
-returns-clause-spent g c =
-    let may : IsLoggable g.I.Images c.args.images.now c.args.self.now c.args.node = (loggable g.I.Images c.args.images.now c.args.self.now c.args.node c.layout.result c.in_ok-layout.field-0 c.in-Some.layout c.layout.ensures.laid c.in_ok-layout.was c.in-Some.is).0 in
-    λ s. (λ e. absurd cc, λ f. absurd (spent_not_unspent g.I.Images (final_record g.I.Images c.args.images.now c.args.self.now c.args.node).locks s f may.unspent))
-
-pub returns-clause-too_long : goal.returns-clause-too_long
-returns-clause-too_long g c =
-    let may : IsLoggable g.I.Images c.args.images.now c.args.self.now c.args.node = (loggable g.I.Images c.args.images.now c.args.self.now c.args.node c.layout.result c.in_ok-layout.field-0 c.in-Some.layout c.layout.ensures.laid c.in_ok-layout.was c.in-Some.is).0 in
-    λ words. (λ e. absurd cc, λ h. absurd (omega (arith, h.1, may.short)))
-
-pub returns-clause-record : goal.returns-clause-record
-returns-clause-record g c = λ words e.
-    let same : c.in-Ok.words ≡ words = cc in
-    subst (λ (l : List ℕ). IsRecord (final_record g.I.Images c.args.images.now c.args.self.now c.args.node) l) same c.in-Ok.ensures.record
-
-pub returns-clause-ready : goal.returns-clause-ready
-returns-clause-ready g c = λ ready. (c.in-Ok.ensures.record, c.in-Ok.ensures.len)
+    let is : c.from_residual.result ≡ Err c.in_err-prepare_end_in.field-0.0 = p.1 ∙ ap (λ (f : TxFault). Err f) p.2 in
+    λ x. handed_on c.prepare_end_in.result c.from_residual.result c.in_err-prepare_end_in.field-0.0 (TooLong x) c.in_err-prepare_end_in.was is (c.prepare_end_in.ensures.too_long x)

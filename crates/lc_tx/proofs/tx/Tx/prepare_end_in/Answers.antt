@@ -1,12 +1,14 @@
-use Rattle.std.proofs.Common.{rules, ◌≡◌, Some, Ok, Err, refl, ap, ◌∙◌, arith}
+use Rattle.std.proofs.Common.{rules, ◌≡◌, ℕ, ◌-◌, ◌^◌, ◌<◌, ◌≤◌, min, Some, Ok, Err, vec_capacity, refl, ap, ◌∙◌, arith}
 use Rattle.std.proofs.lemmas.Result.{err_from_is_err_and}
-use Rattle.lc_record.specs.Record.{record_layout}
+use Rattle.lc_record.specs.Layout.{layout_len}
+use Rattle.lc_record.specs.Record.{record_layout, record_len}
 use Rattle.lc_record.specs.declared.layout.Layout.{Layout}
 use Rattle.lc_tx.specs.declared.tx_fault.TxFault.{TxFault}
 use Rattle.lc_tx.specs.declared.tx_fault.TxFault.TheVariants.{SequenceSpent, TooLong}
 use Rattle.lc_tx.specs.Prepared.{IsLoggable, final_record}
 use Rattle.lc_tx.proofs.EndLemmas.{handed_on, loggable}
 use Rattle.lc_tx.proofs.RecordLemmas.{spent_not_unspent}
+use Rattle.lc_tx.proofs.tx.Tx.prepare_end_in.Given.{Over}
 use Rattle.lc_tx.proofs.tx.Tx.prepare_end_in.Goals as goal
 
 -- it is refused as the layout is
@@ -50,10 +52,26 @@ returns-in_default-spell_end-clause-too_long g c =
     let may : IsLoggable g.I.Images c.args.images.now c.args.self.now c.args.node = (loggable g.I.Images c.args.images.now c.args.self.now c.args.node c.layout.result c.in_ok-layout.field-0 c.in-Some.layout c.layout.ensures.laid c.in_ok-layout.was c.in-Some.is).0 in
     λ words. (λ e. absurd cc, λ h. absurd (omega (arith, h.1, may.short)))
 
+-- no memory: the list has no room for the record, so nothing was taken of it
+
+cramped : (had taken needed len : ℕ) → needed ≡ min len (2 ^ 64 - 1) → len ≤ 4096 → (needed ≤ had → taken ≡ had) → taken < len → (had < needed) × (had < len)
+cramped had taken needed len is short takes less = grind arith
+
+no_room : (g : Over) (c : goal.In_default-spell_end g) → (vec_capacity c.args.words.now < c.words.result) × (vec_capacity c.args.words.now < record_len (final_record g.I.Images c.args.images.now c.args.self.now c.args.node))
+no_room g c =
+    let told = loggable g.I.Images c.args.images.now c.args.self.now c.args.node c.layout.result c.in_ok-layout.field-0 c.in-Some.layout c.layout.ensures.laid c.in_ok-layout.was c.in-Some.is in
+    let needed : c.words.result ≡ min (record_len (final_record g.I.Images c.args.images.now c.args.self.now c.args.node)) (2 ^ 64 - 1) =
+    c.words.ensures ∙ ap (λ (layout : Layout). min (layout_len layout) (2 ^ 64 - 1)) told.1 in
+    cramped (vec_capacity c.args.words.now) (vec_capacity c.take_memory-memory.result) c.words.result (record_len (final_record g.I.Images c.args.images.now c.args.self.now c.args.node))
+    needed told.0.short (λ room. ap vec_capacity (c.take_memory-memory.ensures.taken room)) (search rules)
+
+pub returns-in_default-spell_end-clause-refused : goal.returns-in_default-spell_end-clause-refused
+returns-in_default-spell_end-clause-refused g c = c.take_memory-memory.ensures.kept (no_room g c).0
+
 pub returns-in_default-spell_end-clause-no_memory : goal.returns-in_default-spell_end-clause-no_memory
 returns-in_default-spell_end-clause-no_memory g c = λ e. (
   (loggable g.I.Images c.args.images.now c.args.self.now c.args.node c.layout.result c.in_ok-layout.field-0 c.in-Some.layout c.layout.ensures.laid c.in_ok-layout.was c.in-Some.is).0,
-  search rules,
+  (no_room g c).1,
 )
 
 -- the words are the record's

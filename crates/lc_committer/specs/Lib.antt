@@ -1,0 +1,5 @@
+pub mod Committer
+pub mod Kept
+pub mod Records
+pub mod Transacts
+pub mod Update
