@@ -1,5 +1,5 @@
 -- A commit that makes room in the log where it has none.
-use Rattle.std.specs.Prelude.{◌≡◌, ◌⊎◌, ℕ, ◌≤◌, List, All, length, take, drop, IsTrue, IfErr, OnOk, Bool, true, false, Result, Ok, Err}
+use Rattle.std.specs.Prelude.{◌≡◌, ◌⊎◌, ℕ, ◌≤◌, List, [], All, length, take, drop, IsTrue, IfErr, OnOk, Bool, true, false, Result, Ok, Err}
 use Rattle.lc_disk.specs.declared.area.Area.{Ghosts}
 use Rattle.lc_record.specs.Transaction.{is_member}
 use Rattle.lc_stage.specs.declared.view.View.{View}
