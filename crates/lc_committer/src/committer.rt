@@ -2,7 +2,7 @@
 ghost use Rattle.std.specs.Prelude.{◌≡◌};
 ghost use Rattle.lc_stage.specs.Seats.{commit_view, IsSeatOf, IsIdle};
 ghost use Rattle.lc_stage.specs.Staging.{newcomer, joining};
-ghost use Rattle.lc_committer.specs.Committer.{IsOfSameStage};
+ghost use Rattle.lc_committer.specs.Committer.{IsOfSameStage, Sits, view_in};
 
 use lc_disk::Area;
 use lc_node::Node;
@@ -61,7 +61,7 @@ impl<'a, D: Area + Drop> Committer<'a, D> {
         ensures same { self.new ≡ self.old }
         ensures new { result ≡ record { node = self.old.node; view = newcomer self.old.node.stage.room } }
     {
-        let mut seat = self.seat.take().unwrap();
+        let mut seat = take_out(self.node, &mut self.seat);
         let other = self.node.split(&mut seat);
         self.seat = Some(seat);
         Committer::new(self.node, other)
@@ -72,8 +72,18 @@ impl<'a, D: Area + Drop> Committer<'a, D> {
         requires { IsOfSameStage self.old.node other.node }
         ensures { self.new ≡ record self.old { view = joining self.old.view other.entry.view } }
     {
-        let mut seat = self.seat.take().unwrap();
+        let mut seat = take_out(self.node, &mut self.seat);
         self.node.join(&mut seat, other.into_seat());
         self.seat = Some(seat);
     }
+}
+
+/// Takes the seat out, for a call of the node: it is there.
+pub(crate) fn take_out<D: Area + Drop>(node: &Node<D>, seat: &mut Option<CommitSeat>) -> CommitSeat
+    requires there { Sits node.now seat.old }
+    ensures own { IsSeatOf node.now.stage result }
+    ensures idle { IsIdle (commit_view result) }
+    ensures view { commit_view result ≡ view_in seat.old }
+{
+    seat.take().unwrap()
 }

@@ -4,6 +4,7 @@ ghost use Rattle.lc_committer.specs.Kept.{KeepsReceipts};
 ghost use Rattle.lc_committer.specs.Transacts.{Transacts};
 
 use crate::Committer;
+use crate::committer::take_out;
 use crate::open::Open;
 use lc_disk::Area;
 use lc_node::{Commit, Mode, NodeFault, Work};
@@ -33,7 +34,7 @@ impl<'a, D: Area + Drop> Committer<'a, D> {
         ensures transacts { Transacts self.old.node (W.ran work.old work.new) segments.now mode TRIES self.old.view self.new.view result }
         ensures keeps { KeepsReceipts self.old.view self.new.view }
     {
-        let seat = self.seat.take().unwrap();
+        let seat = take_out(self.node, &mut self.seat);
         let (seat, done) = self
             .node
             .transact(rt, rt.alloc(), seat, segments, work, mode, TRIES, &Open);

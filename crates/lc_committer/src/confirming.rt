@@ -4,6 +4,7 @@ ghost use Rattle.lc_node.specs.Receipts.{HasReceipt};
 ghost use Rattle.lc_committer.specs.Records.{ConfirmsIn};
 
 use crate::Committer;
+use crate::committer::take_out;
 use lc_disk::Area;
 use lc_node::Confirmed;
 use lc_stage::Receipt;
@@ -17,7 +18,7 @@ impl<'a, D: Area + Drop> Committer<'a, D> {
         ensures same { self.new ≡ self.old }
         ensures confirms { ConfirmsIn self.old.node self.old.view receipt result }
     {
-        let seat = self.seat.take().unwrap();
+        let seat = take_out(self.node, &mut self.seat);
         let lock = self.node.log_lock();
         let (mut log, loan) = lock.lock(rt);
         let (seat, confirmed) = self.node.confirm(seat, &mut log, receipt);

@@ -6,6 +6,7 @@ ghost use Rattle.lc_node.specs.declared.node_fault.NodeFault.TheVariants.{NoMemo
 ghost use Rattle.lc_committer.specs.Records.{ReadsIn};
 
 use crate::Committer;
+use crate::committer::take_out;
 use lc_disk::Area;
 use lc_node::{Confirmed, LogSide, NodeFault};
 use lc_stage::Receipt;
@@ -35,7 +36,7 @@ impl<'a, D: Area + Drop> Committer<'a, D> {
         let Ok(()) = make_room(words, receipt.words() as usize) else {
             return Err(NodeFault::NoMemory);
         };
-        let seat = self.seat.take().unwrap();
+        let seat = take_out(self.node, &mut self.seat);
         let lock = self.node.log_lock();
         let (mut log, loan) = lock.lock(rt);
         let (seat, confirmed) = self.node.confirm(seat, &mut log, receipt);

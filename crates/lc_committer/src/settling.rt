@@ -7,6 +7,7 @@ ghost use Rattle.lc_node.specs.Settling.{FailsIn, LooksIn};
 ghost use Rattle.lc_committer.specs.Kept.{KeepsReceipts};
 
 use crate::Committer;
+use crate::committer::take_out;
 use lc_disk::Area;
 use lc_node::NodeFault;
 use lc_stage::Receipt;
@@ -32,7 +33,7 @@ impl<'a, D: Area + Drop> Committer<'a, D> {
         ensures refused { IfErr result (λ fault. IsOfDevice fault × Learns self.old.view self.new.view) }
         ensures keeps { KeepsReceipts self.old.view self.new.view }
     {
-        let seat = self.seat.take().unwrap();
+        let seat = take_out(self.node, &mut self.seat);
         let (seat, settled) = self.node.settle_last(rt, seat);
         self.seat = Some(seat);
         settled

@@ -3,9 +3,9 @@ ghost use Rattle.std.specs.Prelude.{◌≡◌};
 ghost use Rattle.lc_lock.specs.Patience.{pause, spins, yields};
 
 // How often a thread spins first: that whose ticket is served next, and any other.
-const SPINS_OF_THE_NEXT: u32 = 256;
+const SPINS_OF_THE_NEXT: u32 = 32;
 
-const SPINS: u32 = 64;
+const SPINS: u32 = 8;
 
 // How often it then lets others run: one that is near its turn, and any other.
 const YIELDS_OF_THE_NEAR: u32 = 16;

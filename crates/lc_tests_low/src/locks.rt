@@ -3,13 +3,34 @@ ghost use Rattle.std.specs.Prelude.{◌≡◌, ◌+◌};
 ghost use Rattle.lc_lock.specs.Loans.{key_of, IsLoanOf};
 
 use lc_lock::{Keyed, Loan, Lock};
+use std::process::Abort;
+use std::rt::Clock;
 use std::sync::Wait;
+use std::sync::atomic::{AtomicU64, Ordering};
 use std::test::Fail;
-use std::thread::{join, map_indices, yield_now};
+use std::thread::{join, map_indices, sleep, yield_now};
+use std::time::Duration;
 
 const THREADS: usize = 4;
 
 const ADDITIONS: u64 = 10_000;
+
+// Threads of which most wait so long that they sleep.
+const CROWD: usize = 16;
+
+const ADDITIONS_OF_EACH: u64 = 400;
+
+// A holder sleeps within each so manieth addition, and lets others run within each so manieth: one of the two by turns.
+const SLEEPS_ONCE_IN: u64 = 23;
+
+const YIELDS_ONCE_IN: u64 = 5;
+
+const NAP_MICROSECONDS: u64 = 50;
+
+// A crowd that is not through after so many looks, of so long each, waits for a wake that was lost.
+const LOOKS: u32 = 3000;
+
+const LOOK_MILLISECONDS: u64 = 10;
 
 // What a lock keeps: a total, and how many additions of 1 led to it.
 #[derive(Drop)]
@@ -45,6 +66,36 @@ fn add_all<R: Wait>(rt: &R, lock: &Lock<Tally, u64>) {
         let (tally, loan) = lock.lock(rt);
         lock.unlock(plus_one(tally), loan);
     }
+}
+
+// Adds as often as each of a crowd does, where now and then the holder is slow, and counts each addition.
+fn add_slowly<R: Clock + Wait>(rt: &R, lock: &Lock<Tally, u64>, passed: &AtomicU64, first: u64) {
+    for turn in 0..ADDITIONS_OF_EACH {
+        let (tally, loan) = lock.lock(rt);
+        let turn = turn.wrapping_add(first);
+        if turn % SLEEPS_ONCE_IN == 0 {
+            sleep(rt, Duration::from_micros(NAP_MICROSECONDS));
+        } else if turn % YIELDS_ONCE_IN == 0 {
+            yield_now();
+        }
+        passed.fetch_add(1, Ordering::SeqCst);
+        lock.unlock(plus_one(tally), loan);
+    }
+}
+
+// Looks until so many additions are made, and ends the test where they are not made in time.
+fn watch<R: Abort + Clock>(rt: &R, passed: &AtomicU64, all: u64) {
+    for _ in 0..LOOKS {
+        if passed.load(Ordering::SeqCst) >= all {
+            return;
+        }
+        sleep(rt, Duration::from_millis(LOOK_MILLISECONDS));
+    }
+    let seen = passed.load(Ordering::SeqCst);
+    assert!(rt;
+        seen >= all,
+        "{seen} of {all} additions are made, and the others wait"
+    );
 }
 
 // Total and additions, under the lock.
@@ -113,6 +164,36 @@ fn no_addition_is_lost(rt: HostRuntime) -> Result<(), Fail> {
     let host = &rt;
     map_indices(&rt, rt.alloc(), THREADS, &|_| add_all(host, shared))?;
     assert!(rt; look(&rt, &lock) == (40_007, 40_000));
+    assert!(rt; lock.tickets_out() == 0);
+    Ok(())
+}
+
+// Most of the crowd sleep at any time. Where a wake is lost nobody goes on.
+#[test]
+fn no_wake_is_lost_in_a_crowd(rt: HostRuntime) -> Result<(), Fail> {
+    let tally = Tally {
+        total: 7,
+        additions: 0,
+    };
+    let Ok(lock) = Lock::new(rt.alloc(), tally, &7) else {
+        return Err(Fail::from("there is memory for a lock"));
+    };
+    let passed = AtomicU64::new(0);
+    let shared = &lock;
+    let count = &passed;
+    let host = &rt;
+    let (added, ()) = join(
+        &rt,
+        || map_indices(
+            host,
+            host.alloc(),
+            CROWD,
+            &|i| add_slowly(host, shared, count, i as u64),
+        ),
+        || watch(host, count, CROWD as u64 * ADDITIONS_OF_EACH),
+    );
+    added?;
+    assert!(rt; look(&rt, &lock) == (6_407, 6_400));
     assert!(rt; lock.tickets_out() == 0);
     Ok(())
 }

@@ -2,10 +2,11 @@
 ghost use Rattle.lc_node.specs.Receipts.{HasReceipt};
 
 use crate::expect::{equal, holds};
+use crate::failures::opened_again;
 use crate::stores::{in_memory, opened, two_segments};
 use lc_committer::{Committer, Update};
 use lc_disk::{Area, MemArea};
-use lc_node::{Commit, Confirmed, Mode, Node, NodeFault, Put};
+use lc_node::{Commit, Confirmed, Mode, NodeFault, Put};
 use lc_record::View;
 use lc_stage::Receipt;
 use std::alloc::{AllocError, Global};
@@ -189,7 +190,7 @@ fn add_one<D: Area + Drop, R: Wait + AllocGlobal>(
 #[test]
 fn a_commit_without_memory_changes_nothing(rt: HostRuntime) -> Result<(), Fail> {
     let alloc = rt.alloc();
-    let (node, seat) = opened(alloc, two_segments()?, in_memory(alloc)?)?;
+    let (node, seat) = opened_again(alloc)?;
     let mut committer = Committer::new(&node, seat);
     for _ in 0..3 {
         let done = match add_one(&rt, &mut committer) {

@@ -64,7 +64,7 @@ impl Tx {
     ///
     /// # Errors
     ///
-    /// Those of `begin`. It is idle then as before, and the images are as before.
+    /// Those of `begin`. It is idle then as before, of the same thread, and the images are as before.
     pub fn begin_again<I: Images>(
         &mut self,
         images: &mut I,
@@ -90,6 +90,7 @@ impl Tx {
 
         ensures err { OnErr result (IsSame I.Images images.old images.new) }
         ensures idle { OnErr result (IsIdle self.new) }
+        ensures thread { OnErr result (self.new.thread ≡ self.old.thread) }
         ensures faults { IfErr result (λ fault. IsTrue (is_of_begin fault)) }
     {
         if let ([segment], []) = (segments, reading) {
@@ -123,6 +124,7 @@ impl Tx {
         ensures cannot { OnErr result (CanLock I.Images LockMode.Exclusive images.old segment → ⊥) }
         ensures same { OnErr result (IsSame I.Images images.old images.new) }
         ensures idle { OnErr result (IsIdle self.new) }
+        ensures thread { OnErr result (self.new.thread ≡ self.old.thread) }
         ensures not_here { IfErr result (λ fault. I.number_of images.old segment ≡ None
             → fault ≡ TxFault.NotHere segment) }
         ensures busy { IfErr result (λ fault. IsHere I.Images images.old segment → fault ≡ TxFault.Busy segment) }
@@ -143,6 +145,7 @@ impl Tx {
         ensures reading { OnOk result (IsSetOf (none_of segments.now reading.now) self.new.reading.items) }
         ensures set { self.new.set ≡ self.old.set }
         ensures undo { self.new.undo ≡ self.old.undo }
+        ensures thread { self.new.thread ≡ self.old.thread }
         ensures memory { OnErr result (((set : List ℕ) × IsSetOf segments.now set × (16 < length set))
             ⊎ ((set : List ℕ) × IsSetOf (none_of segments.now reading.now) set × (16 < length set))) }
     {

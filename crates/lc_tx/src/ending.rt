@@ -179,13 +179,14 @@ impl Tx {
         self.release(images);
     }
 
-    /// Ends the transaction without a commit, as `abort` does. It is idle then, with the memory of its lists kept for the
-    /// next one.
+    /// Ends the transaction without a commit, as `abort` does. It is idle then, with its thread as it was and the memory of
+    /// its lists kept for the next one.
     pub fn abort_in_place<I: Images>(&mut self, images: &mut I)
         requires runs { RunsOn I.Images images.old self.old }
         ensures restored { AreRestored I.Images self.old.undo self.old.thread self.old.locked.items self.old.reading.items
             images.old images.new }
         ensures idle { IsIdle self.new }
+        ensures thread { self.new.thread ≡ self.old.thread }
     {
         if let ([segment], []) = (self.locked(), self.reading()) {
             self.restore_one(images, *segment);
@@ -205,13 +206,14 @@ impl Tx {
         self.unlock(images);
     }
 
-    /// Ends the transaction with its writes, as `release` does. It is idle then, with the memory of its lists kept for the
-    /// next one.
+    /// Ends the transaction with its writes, as `release` does. It is idle then, with its thread as it was and the memory
+    /// of its lists kept for the next one.
     pub fn release_in_place<I: Images>(&mut self, images: &mut I)
         requires runs { RunsOn I.Images images.old self.old }
         ensures released { AreReleased I.Images self.old.thread self.old.locked.items self.old.reading.items
             images.old images.new }
         ensures idle { IsIdle self.new }
+        ensures thread { self.new.thread ≡ self.old.thread }
     {
         self.unlock(images);
         self.clear();

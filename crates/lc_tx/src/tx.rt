@@ -1,4 +1,5 @@
 //! One transaction.
+ghost use Rattle.std.specs.Prelude.{◌≡◌};
 ghost use Rattle.lc_tx.specs.Tx.{IsIdle};
 
 use crate::locking::remove_all;
@@ -32,9 +33,10 @@ impl Tx {
         }
     }
 
-    /// Forgets its locks, what it set and what it keeps, and keeps the memory of all these lists.
+    /// Forgets its locks, what it set and what it keeps, and keeps its thread and the memory of all these lists.
     pub(crate) fn clear(&mut self)
-        ensures { IsIdle self.new }
+        ensures idle { IsIdle self.new }
+        ensures thread { self.new.thread ≡ self.old.thread }
     {
         remove_all(&mut self.locked);
         remove_all(&mut self.reading);
