@@ -1,4 +1,6 @@
 pub mod FirstGone
+pub mod AllHeld
+pub mod MadeRoom
 pub mod Applied
 pub mod Arrived
 pub mod Asking

@@ -27,6 +27,7 @@ pub mod Lent
 pub mod LogSide
 pub mod LogView
 pub mod Logs
+pub mod MakingRoom
 pub mod Messages
 pub mod Opened
 pub mod Pages

@@ -77,7 +77,7 @@ impl<D: Area + Drop> Node<D> {
     }
 
     // The first of these segments that the node does not have.
-    fn first_outside(&self, segments: &[u32]) -> Option<u32>
+    pub(crate) fn first_outside(&self, segments: &[u32]) -> Option<u32>
         ensures first { (s : ℕ) → (result ≡ Some s) ↔ IsFirstOutside self.now segments.now s }
         ensures none { IfNone result (All (HasSegment self.now) segments.now) }
     {
@@ -91,7 +91,7 @@ impl<D: Area + Drop> Node<D> {
 }
 
 // Whether a segment is one of these.
-fn is_asked(segments: &[u32], segment: u32) -> bool
+pub(crate) fn is_asked(segments: &[u32], segment: u32) -> bool
     ensures { result ≡ is_member segment segments.now }
 {
     for asked in segments {

@@ -44,6 +44,7 @@ mod locked_commit;
 mod log_room;
 mod log_side;
 mod log_state;
+mod making_room;
 mod member;
 mod message;
 mod node;

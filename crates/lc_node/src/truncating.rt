@@ -4,7 +4,7 @@ ghost use Rattle.std.specs.VecDeque.{deque_capacity};
 ghost use Rattle.lc_stage.specs.Seats.{IsFlusherOf, IsSeatOf};
 ghost use Rattle.lc_node.specs.Each.{Each};
 ghost use Rattle.lc_node.specs.Ended.{HasRoom};
-ghost use Rattle.lc_node.specs.Held.{IsHeldOf};
+ghost use Rattle.lc_node.specs.Held.{IsHeldOf, segments_of};
 ghost use Rattle.lc_node.specs.Halting.{IsUntruncatable};
 ghost use Rattle.lc_node.specs.LogView.{LogView};
 ghost use Rattle.lc_node.specs.Logs.{IsLogOf};
@@ -113,7 +113,7 @@ impl<D: Area + Drop> Node<D> {
     }
 
     // Truncates where the segments are held.
-    fn truncate_held<R: Wait>(
+    pub(crate) fn truncate_held<R: Wait>(
         &self,
         rt: &R,
         alloc: Global,
@@ -121,6 +121,7 @@ impl<D: Area + Drop> Node<D> {
     ) -> Result<u64, NodeFault>
         requires held { All (IsHeldOf self.now) held.old.sides.items }
         ensures held { All (IsHeldOf self.now) held.new.sides.items }
+        ensures segments { segments_of held.new ≡ segments_of held.old }
         ensures truncated { IfOk result (λ round. TruncatesHeld D.Area self.now held.old.sides.items round held.new.sides.items) }
         ensures refused { IfErr result (λ fault. IsUntruncatedHeld D.Area self.now held.old.sides.items fault held.new.sides.items) }
     {

@@ -3,6 +3,7 @@ use Rattle.std.specs.VecDeque.{deque_capacity}
 use Rattle.std.proofs.lemmas.Result.{IfErr-weaker as if_err, IfOk-weaker as if_ok}
 use Rattle.lc_node.specs.Logs.{IsLogOf}
 use Rattle.lc_node.specs.Truncates.{HasPagesIn, IsUntruncatedHeld, IsUntruncatedInRoom, TruncatesAlone, TruncatesHeld}
+use Rattle.lc_node.proofs.MadeRoom.{same_held}
 use Rattle.lc_node.proofs.PagesWritten.{still_held, more_places}
 use Rattle.lc_node.proofs.node.Node.truncate_held.Goals as goal
 
@@ -24,3 +25,6 @@ returns-clause-truncated g c = let own : IsLogOf c.args.self.now c.lock-log.resu
     if_ok c.truncate_log-truncated.result (λ round. TruncatesAlone g.D.Area c.args.self.now.is_alone c.args.self.now.stage.room c.lock-log.result.0 c.args.held.now.sides.items round c.truncate_log-truncated.new.log c.truncate_log-truncated.new.sides.items)
     (λ round. TruncatesHeld g.D.Area c.args.self.now c.args.held.now.sides.items round c.truncate_log-truncated.new.sides.items)
     (λ round truncates. (c.lock-log.result.0, c.truncate_log-truncated.new.log, own, truncates)) c.truncate_log-truncated.ensures.truncated
+
+pub returns-clause-segments : goal.returns-clause-segments
+returns-clause-segments g c = same_held c.args.held.now.sides.items c.truncate_log-truncated.new.sides.items c.truncate_log-truncated.ensures.same

@@ -1,0 +1,197 @@
+//! A commit that makes room in the log where it has none.
+ghost use Rattle.std.specs.Prelude.{◌≡◌, ◌<◌, ◌≤◌, ◌↔◌, ℕ, [], All, Err, IfErr, IfOk, length, take, vec_capacity};
+ghost use Rattle.lc_record.specs.Record.{Chain};
+ghost use Rattle.lc_stage.specs.Seats.{commit_view, IsSeatOf, IsIdle};
+ghost use Rattle.lc_node.specs.Commits.{segments_in};
+ghost use Rattle.lc_node.specs.Held.{IsFirstOutside, IsHeldOf, IsUnheld};
+ghost use Rattle.lc_node.specs.MakingRoom.{AllHeld, CommitsAlone, CommitsFirst, CommitsInRoom, CommitsOrEmpties};
+ghost use Rattle.lc_node.specs.declared.node_fault.NodeFault.TheVariants.{NoMemory, NotHere};
+
+use crate::committing::commit_on;
+use crate::held::{Held, HeldSide};
+use crate::holding::is_asked;
+use crate::{Gate, Node, NodeFault, Work};
+use lc_disk::Area;
+use lc_stage::CommitSeat;
+use std::alloc::{AllocError, Global};
+use std::sync::Wait;
+
+/// All segments of a node, held. The first so many are those that were asked for.
+struct HeldAll<D: Area + Drop> {
+    held: Held<D>,
+    count: usize,
+}
+
+impl<D: Area + Drop> Node<D> {
+    /// Runs the work in a transaction on these segments, as `transact` does, and closes its record in the stage; false where
+    /// nothing was set. Where the log has no room for the record, it gets the locks of all segments, so that nobody else
+    /// commits, and tries again. Where the log has no room still, it is truncated, and the work is tried once more before a lock
+    /// is given back. So of all who meet a full log one truncates, and no other commit comes between. A work that is tried
+    /// again runs on what its last run made of the work itself.
+    ///
+    /// # Errors
+    ///
+    /// Those of `hold`, of `Held::commit`, and, where the log is to be emptied, of `truncate`. `Full` only where the emptied
+    /// log has no room either.
+    pub fn commit_in_room<R: Wait, W: Work, G: Gate>(
+        &self,
+        rt: &R,
+        alloc: Global,
+        seat: &mut CommitSeat,
+        segments: &[u32],
+        work: &mut W,
+        tries: u32,
+        gate: &G,
+    ) -> Result<bool, NodeFault>
+        requires own { IsSeatOf self.now.stage seat.old }
+        requires idle { IsIdle (commit_view seat.old) }
+        requires tries { 0 < tries }
+        ensures own { IsSeatOf self.now.stage seat.new }
+        ensures idle { IsIdle (commit_view seat.new) }
+        ensures commits { CommitsInRoom D.Area self.now W.ran tries segments.now work.old work.new (commit_view seat.old) (commit_view seat.new) result }
+    {
+        match self.commit(rt, alloc, seat, segments, work, tries, gate) {
+            Err(NodeFault::Full { .. }) => {
+                self.commit_alone(rt, alloc, seat, segments, work, tries, gate)
+            }
+            done => done,
+        }
+    }
+
+    // Does it with all segments held.
+    fn commit_alone<R: Wait, W: Work, G: Gate>(
+        &self,
+        rt: &R,
+        alloc: Global,
+        seat: &mut CommitSeat,
+        segments: &[u32],
+        work: &mut W,
+        tries: u32,
+        gate: &G,
+    ) -> Result<bool, NodeFault>
+        requires own { IsSeatOf self.now.stage seat.old }
+        requires idle { IsIdle (commit_view seat.old) }
+        requires tries { 0 < tries }
+        ensures own { IsSeatOf self.now.stage seat.new }
+        ensures idle { IsIdle (commit_view seat.new) }
+        ensures commits { CommitsAlone D.Area self.now W.ran tries segments.now work.old work.new (commit_view seat.old) (commit_view seat.new) result }
+    {
+        let HeldAll { mut held, count } = self.hold_all(rt, alloc, segments)?;
+        let done = self.commit_or_empty(rt, alloc, seat, &mut held, count, work, tries, gate);
+        self.release(held);
+        done
+    }
+
+    // Does it on the first of these, which are all, and once more behind a truncation where the log has no room.
+    fn commit_or_empty<R: Wait, W: Work, G: Gate>(
+        &self,
+        rt: &R,
+        alloc: Global,
+        seat: &mut CommitSeat,
+        held: &mut Held<D>,
+        count: usize,
+        work: &mut W,
+        tries: u32,
+        gate: &G,
+    ) -> Result<bool, NodeFault>
+        requires own { IsSeatOf self.now.stage seat.old }
+        requires idle { IsIdle (commit_view seat.old) }
+        requires held { All (IsHeldOf self.now) held.old.sides.items }
+        requires count { count ≤ length held.old.sides.items }
+        requires ascends { Chain (λ a b. a < b) (segments_in (take count held.old.sides.items)) }
+        requires tries { 0 < tries }
+        ensures own { IsSeatOf self.now.stage seat.new }
+        ensures idle { IsIdle (commit_view seat.new) }
+        ensures held { All (IsHeldOf self.now) held.new.sides.items }
+        ensures commits { CommitsOrEmpties D.Area self.now W.ran tries count held.old.sides.items work.old work.new (commit_view seat.old) (commit_view seat.new) result }
+    {
+        match self.commit_first(alloc, seat, held, count, work, tries, gate) {
+            Err(NodeFault::Full { .. }) => {
+                self.truncate_held(rt, alloc, held)?;
+                self.commit_first(alloc, seat, held, count, work, tries, gate)
+            }
+            done => done,
+        }
+    }
+
+    // Does it on the first of these.
+    fn commit_first<W: Work, G: Gate>(
+        &self,
+        alloc: Global,
+        seat: &mut CommitSeat,
+        held: &mut Held<D>,
+        count: usize,
+        work: &mut W,
+        tries: u32,
+        gate: &G,
+    ) -> Result<bool, NodeFault>
+        requires own { IsSeatOf self.now.stage seat.old }
+        requires idle { IsIdle (commit_view seat.old) }
+        requires held { All (IsHeldOf self.now) held.old.sides.items }
+        requires count { count ≤ length held.old.sides.items }
+        requires ascends { Chain (λ a b. a < b) (segments_in (take count held.old.sides.items)) }
+        requires tries { 0 < tries }
+        ensures own { IsSeatOf self.now.stage seat.new }
+        ensures idle { IsIdle (commit_view seat.new) }
+        ensures held { All (IsHeldOf self.now) held.new.sides.items }
+        ensures segments { segments_in held.new.sides.items ≡ segments_in held.old.sides.items }
+        ensures commits { CommitsFirst self.now (W.ran work.old work.new) tries count held.old.sides.items held.new.sides.items (commit_view seat.old) (commit_view seat.new) result }
+    {
+        let (asked, _others) = held.sides.as_mut_slice().split_at_mut(count);
+        commit_on(asked, alloc, self, seat, work, tries, gate)
+    }
+
+    // Gets the locks of all segments, in ascending order, and puts those of these in front, in that order too. All memory is
+    // taken before the first lock.
+    fn hold_all<R: Wait>(
+        &self,
+        rt: &R,
+        alloc: Global,
+        segments: &[u32],
+    ) -> Result<HeldAll<D>, NodeFault>
+        ensures held { IfOk result (λ all. AllHeld self.now segments.now all.count all.held.sides.items) }
+        ensures not_here { (s : ℕ) → (result ≡ Err (NotHere s)) ↔ IsFirstOutside self.now segments.now s }
+        ensures refused { IfErr result IsUnheld }
+    {
+        if let Some(segment) = self.first_outside(segments) {
+            return Err(NodeFault::NotHere { segment });
+        }
+        let Ok((mut asked, mut others)) = two_lists(alloc, self.segments.len()) else {
+            return Err(NodeFault::NoMemory);
+        };
+        for place in 0..self.segments.len() {
+            let (side, loan) = self.segments[place].lock(rt);
+            let held = HeldSide { side, loan };
+            if is_asked(segments, place as u32 + 1) {
+                asked.push_reserved(held);
+            } else {
+                others.push_reserved(held);
+            }
+        }
+        let count = asked.len();
+        let Ok(()) = asked.append(&mut others) else {
+            unreachable!();
+        };
+        others.destroy_empty();
+        let held = Held { sides: asked };
+        Ok(HeldAll { held, count })
+    }
+}
+
+// Two empty lists, each with room for so many.
+fn two_lists<D: Area + Drop>(
+    alloc: Global,
+    count: usize,
+) -> Result<(Vec<HeldSide<D>>, Vec<HeldSide<D>>), AllocError>
+    ensures empty { IfOk result (λ lists. (lists.0.items ≡ []) × (lists.1.items ≡ [])) }
+    ensures room { IfOk result (λ lists. (count ≤ vec_capacity lists.0) × (count ≤ vec_capacity lists.1)) }
+{
+    let first = Vec::with_capacity(alloc, count)?;
+    match Vec::with_capacity(alloc, count) {
+        Ok(second) => Ok((first, second)),
+        Err(error) => {
+            first.destroy_empty();
+            Err(error)
+        }
+    }
+}
