@@ -1,7 +1,8 @@
 -- A commit that makes room in the log where it has none.
-use Rattle.std.specs.Prelude.{◌≡◌, ◌⊎◌, ℕ, ◌≤◌, List, [], All, length, take, drop, IsTrue, IfErr, OnOk, Bool, true, false, Result, Ok, Err}
+use Rattle.std.specs.Prelude.{◌≡◌, ◌⊎◌, ℕ, ◌≤◌, List, [], All, length, take, drop, IsTrue, IfErr, OnOk, Bool, true, false, Result, Ok, Err, MatchResult}
 use Rattle.lc_disk.specs.declared.area.Area.{Ghosts}
 use Rattle.lc_record.specs.Transaction.{is_member}
+use Rattle.lc_stage.specs.declared.receipt.Receipt.{Receipt}
 use Rattle.lc_stage.specs.declared.view.View.{View}
 use Rattle.lc_tx.specs.Tx.{IsSetOf}
 use Rattle.lc_node.specs.Commits.{AreHere, CommitsAmong, CommitsWork, IsFirstGone, IsKept, IsKeptTidy, IsUnbegunOn, IsUncommitted, bytes_at, segments_in}
@@ -9,8 +10,13 @@ use Rattle.lc_node.specs.Each.{Each}
 use Rattle.lc_node.specs.Halting.{IsHalted}
 use Rattle.lc_node.specs.Held.{HasSegment, IsFirstOutside, IsHeldOf}
 use Rattle.lc_node.specs.Ran.{Ran, Tells}
+use Rattle.lc_node.specs.Receipts.{IsOfDevice, Learns, Receives}
 use Rattle.lc_node.specs.Stages.{Sees}
 use Rattle.lc_node.specs.Truncates.{IsUntruncatedHeld, TruncatesHeld}
+use Rattle.lc_node.specs.declared.commit_kind.Commit.{Commit}
+use Rattle.lc_node.specs.declared.commit_kind.Commit.TheVariants.{Empty, Lazy, Flushed}
+use Rattle.lc_node.specs.declared.commit_kind.Mode.{Mode}
+use Rattle.lc_node.specs.declared.commit_kind.Mode.TheVariants.{Lazy as NotWaiting, Flush as Waiting}
 use Rattle.lc_node.specs.declared.held.HeldSide.{HeldSide}
 use Rattle.lc_node.specs.declared.node.Node.{Node}
 use Rattle.lc_node.specs.declared.node_fault.NodeFault.{NodeFault}
@@ -43,6 +49,17 @@ module _ {D : Type 0} where
   CommitsFirst node tells tries count olds news v w result =
       CommitsOn node tells tries (take count olds) (take count news) v w result × (drop count news ≡ drop count olds)
 
+-- a transaction whose commit is done ends: as that was answered, and where its record is closed and it is to wait, with the
+-- receipt of it, or with the fault of the device
+abbrev pub EndsClosed : Mode → View → View → Result Commit NodeFault → Type 0
+EndsClosed NotWaiting u w result = (result ≡ Ok Lazy) × (w ≡ u)
+EndsClosed Waiting u w result = MatchResult result (λ commit. (receipt : Receipt) × (commit ≡ Flushed receipt) × Receives u receipt w) (λ fault. IsOfDevice fault × Learns u w)
+
+abbrev pub EndsIn : Mode → View → Result Bool NodeFault → View → Result Commit NodeFault → Type 0
+EndsIn mode u (Ok true) w result = EndsClosed mode u w result
+EndsIn mode u (Ok false) w result = (result ≡ Ok Empty) × (w ≡ u)
+EndsIn mode u (Err fault) w result = (result ≡ Err fault) × (w ≡ u)
+
 -- What a work makes of itself in a run, and what it tells of that, is `ran`
 
 module _ {D W : Type 0} (a : Ghosts D) (node : Node D) (ran : W → W → Tells) (tries : ℕ) where
@@ -70,3 +87,10 @@ module _ {D W : Type 0} (a : Ghosts D) (node : Node D) (ran : W → W → Tells)
   CommitsInRoom segments x y v w result =
       (CommitsAmong node (ran x y) segments tries v w result × ¬ IsFull result)
       ⊎ ((z : W) × (u : View) × (full : Result Bool NodeFault) × CommitsAmong node (ran x z) segments tries v u full × IsFull full × CommitsAlone segments z y u w result)
+
+  -- a seat of the node committed a work on these segments in this mode, with room made in the log
+  pub record TransactsInRoom (segments : List ℕ) (mode : Mode) (x y : W) (v w : View) (result : Result Commit NodeFault) : Type 0 where
+    pub between : View
+    pub done : Result Bool NodeFault
+    pub commits : CommitsInRoom segments x y v between done
+    pub ends : EndsIn mode between done w result

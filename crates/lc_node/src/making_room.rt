@@ -1,16 +1,19 @@
 //! A commit that makes room in the log where it has none.
-ghost use Rattle.std.specs.Prelude.{◌≡◌, ◌<◌, ◌≤◌, ◌↔◌, ℕ, [], All, Err, IfErr, IfOk, length, take, vec_capacity};
+ghost use Rattle.std.specs.Prelude.{◌≡◌, ◌<◌, ◌≤◌, ◌↔◌, ℕ, [], All, Err, Ok, IfErr, IfOk, length, take, vec_capacity};
 ghost use Rattle.lc_record.specs.Record.{Chain};
 ghost use Rattle.lc_stage.specs.Seats.{commit_view, IsSeatOf, IsIdle};
 ghost use Rattle.lc_node.specs.Commits.{segments_in};
 ghost use Rattle.lc_node.specs.Held.{IsFirstOutside, IsHeldOf, IsUnheld};
-ghost use Rattle.lc_node.specs.MakingRoom.{AllHeld, CommitsAlone, CommitsFirst, CommitsInRoom, CommitsOrEmpties};
+ghost use Rattle.lc_node.specs.MakingRoom.{AllHeld, CommitsAlone, CommitsFirst, CommitsInRoom, CommitsOrEmpties, EndsClosed, TransactsInRoom};
+ghost use Rattle.lc_node.specs.Receipts.{HasReceipt};
+ghost use Rattle.lc_stage.specs.declared.receipt.Receipt.{Receipt as Given};
+ghost use Rattle.lc_node.specs.declared.commit_kind.Commit.TheVariants.{Flushed};
 ghost use Rattle.lc_node.specs.declared.node_fault.NodeFault.TheVariants.{NoMemory, NotHere};
 
 use crate::committing::commit_on;
 use crate::held::{Held, HeldSide};
 use crate::holding::is_asked;
-use crate::{Gate, Node, NodeFault, Work};
+use crate::{Commit, Gate, Mode, Node, NodeFault, Work};
 use lc_disk::Area;
 use lc_stage::CommitSeat;
 use std::alloc::{AllocError, Global};
@@ -23,17 +26,69 @@ struct HeldAll<D: Area + Drop> {
 }
 
 impl<D: Area + Drop> Node<D> {
-    /// Runs the work in a transaction on these segments, as `transact` does, and closes its record in the stage; false where
-    /// nothing was set. Where the log has no room for the record, it gets the locks of all segments, so that nobody else
-    /// commits, and tries again. Where the log has no room still, it is truncated, and the work is tried once more before a lock
-    /// is given back. So of all who meet a full log one truncates, and no other commit comes between. A work that is tried
-    /// again runs on what its last run made of the work itself.
+    /// A whole transaction on these segments, as `transact` makes it, for which room is made in the log. Where the log has no
+    /// room for the record, it gets the locks of all segments, so that nobody else commits, and tries again. Where the log has no
+    /// room still, it is truncated, and the work is tried once more before a lock is given back. So of all who meet a full log
+    /// one truncates, and no other commit comes between. A work that is tried again runs on what its last run made of itself.
     ///
     /// # Errors
     ///
-    /// Those of `hold`, of `Held::commit`, and, where the log is to be emptied, of `truncate`. `Full` only where the emptied
-    /// log has no room either.
-    pub fn commit_in_room<R: Wait, W: Work, G: Gate>(
+    /// Those of `transact`, and, where the log is to be emptied, of `truncate`: as `Unclean` where the token of a segment is
+    /// elsewhere. `Full` only where the emptied log has no room either.
+    pub fn transact_in_room<R: Wait, W: Work, G: Gate>(
+        &self,
+        rt: &R,
+        alloc: Global,
+        seat: CommitSeat,
+        segments: &[u32],
+        work: &mut W,
+        mode: Mode,
+        tries: u32,
+        gate: &G,
+    ) -> (CommitSeat, Result<Commit, NodeFault>)
+        requires own { IsSeatOf self.now.stage seat }
+        requires idle { IsIdle (commit_view seat) }
+        requires tries { 0 < tries }
+        ensures own { IsSeatOf self.now.stage result.0 }
+        ensures idle { IsIdle (commit_view result.0) }
+        ensures transacts { TransactsInRoom D.Area self.now W.ran tries segments.now mode work.old work.new (commit_view seat) (commit_view result.0) result.1 }
+        ensures received { (receipt : Given) → result.1 ≡ Ok (Flushed receipt) → HasReceipt (commit_view result.0) receipt }
+    {
+        let mut seat = seat;
+        let closed = self.commit_in_room(rt, alloc, &mut seat, segments, work, tries, gate);
+        match closed {
+            Err(fault) => (seat, Err(fault)),
+            Ok(false) => (seat, Ok(Commit::Empty)),
+            Ok(true) => self.end_closed(rt, seat, mode),
+        }
+    }
+
+    // Waits for the record that the seat closed last, where it is to wait.
+    fn end_closed<R: Wait>(
+        &self,
+        rt: &R,
+        seat: CommitSeat,
+        mode: Mode,
+    ) -> (CommitSeat, Result<Commit, NodeFault>)
+        requires own { IsSeatOf self.now.stage seat }
+        requires idle { IsIdle (commit_view seat) }
+        ensures own { IsSeatOf self.now.stage result.0 }
+        ensures idle { IsIdle (commit_view result.0) }
+        ensures ends { EndsClosed mode (commit_view seat) (commit_view result.0) result.1 }
+        ensures received { (receipt : Given) → result.1 ≡ Ok (Flushed receipt) → HasReceipt (commit_view result.0) receipt }
+    {
+        let Mode::Flush = mode else {
+            return (seat, Ok(Commit::Lazy));
+        };
+        let (seat, settled) = self.settle(rt, seat);
+        match settled {
+            Ok(receipt) => (seat, Ok(Commit::Flushed(receipt))),
+            Err(fault) => (seat, Err(fault)),
+        }
+    }
+
+    // Closes the record of a work on these segments; false where nothing was set.
+    fn commit_in_room<R: Wait, W: Work, G: Gate>(
         &self,
         rt: &R,
         alloc: Global,

@@ -15,7 +15,7 @@ returns-clause-held g c = let node = c.args.self.now in let olds : List (HeldSid
     let whole : olds ≡ asked ++ others = sym c.as_mut_slice.ensures.value ∙ c.split_at_mut-asked.ensures.value in
     let same : length news ≡ length asked = long_as news asked c.commit_on.ensures.segments in
     let long : length news + length others ≡ c.args.held.now.sides.len =
-        (let both = length-append asked others in let all : length olds ≡ length (asked ++ others) = (λ i. length (whole i)) in let ok = c.args.held.now.sides.ok.0 in omega arith) in
+    (let both = length-append asked others in let all : length olds ≡ length (asked ++ others) = (λ i. length (whole i)) in let ok = c.args.held.now.sides.ok.0 in omega arith) in
     let back = written_back news others (drop (length (news ++ others)) olds) c.args.held.now.sides.len long in
     subst (All (IsHeldOf node)) (sym back) (All-append (IsHeldOf node) news others c.commit_on.ensures.held (All-append_right (IsHeldOf node) asked others (subst (All (IsHeldOf node)) whole c.requires.held)))
 
@@ -26,11 +26,11 @@ returns-clause-commits g c = let node = c.args.self.now in let olds : List (Held
     let whole : olds ≡ asked ++ others = sym c.as_mut_slice.ensures.value ∙ c.split_at_mut-asked.ensures.value in
     let same : length news ≡ length asked = long_as news asked c.commit_on.ensures.segments in
     let long : length news + length others ≡ c.args.held.now.sides.len =
-        (let both = length-append asked others in let all : length olds ≡ length (asked ++ others) = (λ i. length (whole i)) in let ok = c.args.held.now.sides.ok.0 in omega arith) in
+    (let both = length-append asked others in let all : length olds ≡ length (asked ++ others) = (λ i. length (whole i)) in let ok = c.args.held.now.sides.ok.0 in omega arith) in
     let back = written_back news others (drop (length (news ++ others)) olds) c.args.held.now.sides.len long in
     let e = c.commit_on.ensures in
     let on : CommitsOn node (g.W.Work.ran c.args.work.now c.commit_on.new.work) c.args.tries asked news (commit_view c.args.seat.now) (commit_view c.commit_on.new.seat) c.commit_on.result =
-        record { here = e.here; committed = e.committed; nothing = e.nothing; why = e.why; absent = e.absent; refused = e.refused } in
+    record { here = e.here; committed = e.committed; nothing = e.nothing; why = e.why; absent = e.absent; refused = e.refused } in
     commits_first node (g.W.Work.ran c.args.work.now c.commit_on.new.work) c.args.tries c.args.count olds asked others news
-        (take c.args.held.now.sides.len (news ++ others ++ drop (length (news ++ others)) olds)) (commit_view c.args.seat.now) (commit_view c.commit_on.new.seat) c.commit_on.result
-        whole c.split_at_mut-asked.ensures.front_len back same on
+    (take c.args.held.now.sides.len (news ++ others ++ drop (length (news ++ others)) olds)) (commit_view c.args.seat.now) (commit_view c.commit_on.new.seat) c.commit_on.result
+    whole c.split_at_mut-asked.ensures.front_len back same on
