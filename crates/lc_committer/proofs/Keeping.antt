@@ -1,20 +1,22 @@
 -- Receipts are kept.
-use Rattle.std.proofs.Common.{◌≡◌, ℕ, suc, List, ◌∷◌, Option, None, Some, refl, sym, ap, subst, inl, inr}
-use Rattle.std.specs.Prelude.{IfErr, Result, Ok, Err}
+use Rattle.std.proofs.Common.{◌≡◌, ℕ, suc, List, ◌∷◌, Option, None, Some, refl, sym, ap, subst, ◌∙◌, inl, inr}
+use Rattle.std.specs.Prelude.{Bool, true, false, IfErr, Result, Ok, Err}
 use Rattle.lc_stage.specs.Staging.{Owns, latest}
 use Rattle.lc_stage.specs.declared.receipt.Receipt.{Receipt}
 use Rattle.lc_stage.specs.declared.view.Reservation.{Reservation}
 use Rattle.lc_stage.specs.declared.view.View.{View}
-use Rattle.lc_node.specs.Commits.{ClosesWork}
+use Rattle.lc_disk.specs.declared.area.Area.{Ghosts}
+use Rattle.lc_node.specs.Commits.{CommitsAmong}
+use Rattle.lc_node.specs.MakingRoom.{CommitsAlone, CommitsFirst, CommitsInRoom, CommitsOrEmpties, EmptiesAndCommits, EndsIn, TransactsInRoom}
 use Rattle.lc_node.specs.Ran.{Tells}
 use Rattle.lc_node.specs.Receipts.{IsOfDevice, Learns, Receives}
 use Rattle.lc_node.specs.declared.commit_kind.Commit.{Commit}
-use Rattle.lc_node.specs.declared.commit_kind.Commit.TheVariants.{Empty, Lazy, Flushed}
 use Rattle.lc_node.specs.declared.commit_kind.Mode.{Mode}
+use Rattle.lc_node.specs.declared.commit_kind.Mode.TheVariants.{Lazy as NotWaiting, Flush as Waiting}
+use Rattle.lc_node.specs.declared.held.HeldSide.{HeldSide}
 use Rattle.lc_node.specs.declared.node.Node.{Node}
 use Rattle.lc_node.specs.declared.node_fault.NodeFault.{NodeFault}
 use Rattle.lc_committer.specs.Kept.{KeepsReceipts}
-use Rattle.lc_committer.specs.Transacts.{Transacts}
 
 same : (v w : View) → w.receipts ≡ v.receipts → KeepsReceipts v w
 same v w is = λ receipt has. (has.0, subst (λ (l : List Reservation). Owns l has.0) (sym is) has.1, has.2)
@@ -22,25 +24,51 @@ same v w is = λ receipt has. (has.0, subst (λ (l : List Reservation). Owns l h
 more : (v w : View) (r : Reservation) → w.receipts ≡ r ∷ v.receipts → KeepsReceipts v w
 more v w r is = λ receipt has. (has.0, subst (λ (l : List Reservation). Owns l has.0) (sym is) (suc has.1.0, has.1.1), has.2)
 
-closing : (node : ℕ) (tells : Tells) (segments : List ℕ) (v w : View) → ClosesWork node tells segments v w → KeepsReceipts v w
-closing node tells segments v w closes = same v w (ap (λ (u : View). u.receipts) closes.closes.is)
-
 pub learning : (v w : View) → Learns v w → KeepsReceipts v w
 learning v w learns = same v w (ap (λ (u : View). u.receipts) learns.1)
 
 pub receiving : (v w : View) (receipt : Receipt) → Receives v receipt w → KeepsReceipts v w
 receiving v w receipt got = more v w (latest v.mine) (ap (λ (u : View). u.receipts) got.1.1)
 
-module _ {D : Type 0} (node : Node D) (tells : Tells) (segments : List ℕ) (mode : Mode) (tries : ℕ) (v w : View) where
-  pub transacting : (result : Result Commit NodeFault) → Transacts node tells segments mode tries v w result → KeepsReceipts v w
-  transacting (Ok Empty) t = same v w (ap (λ (u : View). u.receipts) (t.empty refl).0)
-  transacting (Ok Lazy) t = closing node.number tells segments v w (t.lazy refl)
-  transacting (Ok (Flushed receipt)) t = let done = t.flushed receipt refl in
-      λ c has. receiving done.0 w receipt done.2 c (closing node.number tells segments v done.0 done.1 c has)
-  transacting (Err fault) t = elim t.refused [
-    | inl undone ↦ same v w (ap (λ (u : View). u.receipts) undone.0)
-    | inr unflushed ↦ (λ c has. learning unflushed.1.0 w unflushed.1.2 c (closing node.number tells segments v unflushed.1.0 unflushed.1.1 c has))
-  ]
+-- A commit with room made leaves the receipts as they are
+
+module _ {D : Type 0} (node : Node D) (tells : Tells) (tries : ℕ) (v w : View) where
+  among : (segments : List ℕ) (r : Result Bool NodeFault) → CommitsAmong node tells segments tries v w r → w.receipts ≡ v.receipts
+  among segments (Ok true) t = ap (λ (u : View). u.receipts) (t.closed refl).closes.is
+  among segments (Ok false) t = ap (λ (u : View). u.receipts) (t.nothing refl).0
+  among segments (Err fault) t = ap (λ (u : View). u.receipts) t.refused.0
+
+  first : (count : ℕ) (olds news : List (HeldSide D)) (r : Result Bool NodeFault) → CommitsFirst node tells tries count olds news v w r → w.receipts ≡ v.receipts
+  first count olds news (Ok true) t = ap (λ (u : View). u.receipts) (t.0.committed refl).closes.is
+  first count olds news (Ok false) t = ap (λ (u : View). u.receipts) (t.0.nothing refl).0
+  first count olds news (Err fault) t = ap (λ (u : View). u.receipts) t.0.refused.0
+
+module _ {D W : Type 0} (a : Ghosts D) (node : Node D) (ran : W → W → Tells) (tries : ℕ) where
+  emptied : (count : ℕ) (olds : List (HeldSide D)) (x y : W) (v w : View) (r : Result Bool NodeFault) → EmptiesAndCommits a node ran tries count olds x y v w r → w.receipts ≡ v.receipts
+  emptied count olds x y v w r (inl not) = ap (λ (u : View). u.receipts) not.5
+  emptied count olds x y v w r (inr t) = first node (ran x y) tries v w count t.1 t.2 r t.4
+
+  tried : (count : ℕ) (olds : List (HeldSide D)) (x y : W) (v w : View) (r : Result Bool NodeFault) → CommitsOrEmpties a node ran tries count olds x y v w r → w.receipts ≡ v.receipts
+  tried count olds x y v w r (inl once) = first node (ran x y) tries v w count olds once.0 r once.1
+  tried count olds x y v w r (inr t) = emptied count t.3 t.0 y t.1 w r t.6 ∙ first node (ran x t.0) tries v t.1 count olds t.3 t.2 t.4
+
+  alone : (segments : List ℕ) (x y : W) (v w : View) (r : Result Bool NodeFault) → CommitsAlone a node ran tries segments x y v w r → w.receipts ≡ v.receipts
+  alone segments x y v w r (inl not) = ap (λ (u : View). u.receipts) not.4
+  alone segments x y v w r (inr t) = tried t.0 t.1 x y v w r t.3
+
+  in_room : (segments : List ℕ) (x y : W) (v w : View) (r : Result Bool NodeFault) → CommitsInRoom a node ran tries segments x y v w r → w.receipts ≡ v.receipts
+  in_room segments x y v w r (inl once) = among node (ran x y) tries v w segments r once.0
+  in_room segments x y v w r (inr t) = alone segments t.0 y t.1 w r t.5 ∙ among node (ran x t.0) tries v t.1 segments t.2 t.3
+
+  ending : (mode : Mode) (u w : View) (done : Result Bool NodeFault) (result : Result Commit NodeFault) → EndsIn mode u done w result → KeepsReceipts u w
+  ending mode u w (Err fault) result ends = same u w (ap (λ (z : View). z.receipts) ends.1)
+  ending mode u w (Ok false) result ends = same u w (ap (λ (z : View). z.receipts) ends.1)
+  ending NotWaiting u w (Ok true) result ends = same u w (ap (λ (z : View). z.receipts) ends.1)
+  ending Waiting u w (Ok true) (Ok commit) ends = receiving u w ends.0 ends.2
+  ending Waiting u w (Ok true) (Err fault) ends = learning u w ends.1
+
+  pub transacting : (segments : List ℕ) (mode : Mode) (x y : W) (v w : View) (result : Result Commit NodeFault) → TransactsInRoom a node ran tries segments mode x y v w result → KeepsReceipts v w
+  transacting segments mode x y v w result t = λ c has. ending mode t.between w t.done result t.ends c (same v t.between (in_room segments x y v t.between t.done t.commits) c has)
 
 pub settling : (v w : View) (result : Result (Option Receipt) NodeFault) → (result ≡ Ok None → w ≡ v) → ((receipt : Receipt) → result ≡ Ok (Some receipt) → Receives v receipt w)
     → IfErr result (λ fault. IsOfDevice fault × Learns v w) → KeepsReceipts v w

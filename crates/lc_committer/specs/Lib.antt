@@ -1,5 +1,4 @@
 pub mod Committer
 pub mod Kept
 pub mod Records
-pub mod Transacts
 pub mod Update
