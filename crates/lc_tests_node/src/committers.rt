@@ -1,5 +1,5 @@
 //! Threads that commit, each with a committer of its own.
-ghost use Rattle.std.specs.Prelude.{◌≡◌, length};
+ghost use Rattle.std.specs.Prelude.{◌≡◌, IfOk, length};
 
 use crate::expect::{equal, holds};
 use crate::failures::opened_again;
@@ -7,7 +7,8 @@ use crate::stores::{in_memory, opened, two_segments};
 use lc_committer::{Change, Committer, Update};
 use lc_disk::{Area, MemArea};
 use lc_node::{Commit, Confirmed, Mode, NodeFault, Put};
-use lc_record::View;
+use lc_record::{Geometry, View};
+use lc_recover::zero_areas;
 use lc_stage::Receipt;
 use std::alloc::{AllocError, Global};
 use std::process::Abort;
@@ -19,6 +20,9 @@ const THREADS: u8 = 4;
 
 // Few enough for one round of the log.
 const COMMITS: u8 = 50;
+
+// The words of the least log: eight records of eight words fill it.
+const LEAST_WORDS: u32 = 64;
 
 const HELLO: Put<'static> = Put {
     segment: 1,
@@ -215,5 +219,92 @@ fn a_commit_without_memory_changes_nothing(rt: HostRuntime) -> Result<(), Fail> 
     };
     let copy = copy.ok().expect(&rt, "there is memory");
     equal(&rt, &"the byte", &copy.bytes.get(7), &Some(&3));
+    Ok(())
+}
+
+// One node, two segments of two pages, and the least log.
+fn least_log() -> Result<Geometry, Fail>
+    ensures { IfOk result (λ g. g.nodes ≡ 1) }
+{
+    Ok(Geometry::new(1, 1, 2, 2, LEAST_WORDS).ok_or("these numbers are a geometry")?)
+}
+
+// Each ninth commit meets a full log.
+#[test]
+fn a_commit_finds_room_in_a_full_log(rt: HostRuntime) -> Result<(), Fail> {
+    let alloc = rt.alloc();
+    let geometry = least_log()?;
+    let areas = zero_areas(alloc, &geometry)?;
+    let (node, seat) = opened(alloc, geometry, areas)?;
+    let mut committer = Committer::new(&node, seat);
+    for number in 0..2 * LEAST_WORDS as u8 {
+        let bytes = [number];
+        let done = committer.commit(&rt, &[1], &mut put_of(0, &bytes), Mode::Lazy);
+        holds(
+            &rt,
+            &format_args!("commit {number}"),
+            matches!(done, Ok(Commit::Lazy)),
+        );
+    }
+    equal(
+        &rt,
+        &"the round behind them",
+        &node.truncate(&rt, alloc),
+        &Ok(2 * u64::from(LEAST_WORDS) / 8),
+    );
+    Ok(())
+}
+
+// Commits so often that the log is full many times; whether each was carried out.
+fn fill<R: Wait + AllocGlobal>(rt: &R, committer: &mut Committer<MemArea>, number: u8) -> bool {
+    for round in 0..COMMITS {
+        let bytes = [round];
+        let done = committer.commit(rt, &[1], &mut put_of(number, &bytes), Mode::Lazy);
+        if !matches!(done, Ok(Commit::Lazy)) {
+            return false;
+        }
+    }
+    matches!(committer.settle(rt), Ok(Some(_)))
+}
+
+#[test]
+fn threads_find_room_in_a_small_log(rt: HostRuntime) -> Result<(), Fail> {
+    let alloc = rt.alloc();
+    let geometry = least_log()?;
+    let areas = zero_areas(alloc, &geometry)?;
+    let (node, seat) = opened(alloc, geometry, areas)?;
+    let mut first = Committer::new(&node, seat);
+    let workers = workers(alloc, &mut first)?;
+    let host = &rt;
+    let done = map_vec(
+        &rt,
+        workers,
+        &|worker: Worker| {
+            let Worker {
+                number,
+                mut committer,
+            } = worker;
+            fill(host, &mut committer, number)
+        },
+    )?;
+    for number in 0..THREADS {
+        equal(
+            &rt,
+            &format_args!("thread {number}"),
+            &done.get(usize::from(number)),
+            &Some(&true),
+        );
+    }
+    let Ok(copy) = node.snapshot(&rt, alloc, 1) else {
+        return Err(Fail::from("there is a copy"));
+    };
+    for number in 0..THREADS {
+        equal(
+            &rt,
+            &format_args!("the last byte of thread {number}"),
+            &copy.bytes.get(usize::from(number)),
+            &Some(&(COMMITS - 1)),
+        );
+    }
     Ok(())
 }
