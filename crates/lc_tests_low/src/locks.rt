@@ -3,6 +3,7 @@ ghost use Rattle.std.specs.Prelude.{◌≡◌, ◌+◌};
 ghost use Rattle.lc_lock.specs.Loans.{key_of, IsLoanOf};
 
 use lc_lock::{Keyed, Loan, Lock};
+use std::hint::spin_loop;
 use std::process::Abort;
 use std::rt::Clock;
 use std::sync::Wait;
@@ -27,6 +28,13 @@ const SLEEPS_ONCE_IN: u64 = 97;
 const YIELDS: u64 = 24;
 
 const NAP_MICROSECONDS: u64 = 50;
+
+// Two threads pass a lock on, after holds of so many lengths: so some end just where the other falls asleep.
+const PAIR: usize = 2;
+
+const ADDITIONS_OF_A_PAIR: u64 = 60_000;
+
+const LENGTHS: u64 = 1_000;
 
 // A crowd that is not through after so many looks, of so long each, waits for a wake that was lost.
 const LOOKS: u32 = 3000;
@@ -80,6 +88,18 @@ fn add_slowly<R: Clock + Wait>(rt: &R, lock: &Lock<Tally, u64>, passed: &AtomicU
             for _ in 0..turn % YIELDS {
                 yield_now();
             }
+        }
+        passed.fetch_add(1, Ordering::SeqCst);
+        lock.unlock(plus_one(tally), loan);
+    }
+}
+
+// The same where each hold spins a little longer than the one before, up to the longest.
+fn add_by_lengths<R: Wait>(rt: &R, lock: &Lock<Tally, u64>, passed: &AtomicU64) {
+    for turn in 0..ADDITIONS_OF_A_PAIR {
+        let (tally, loan) = lock.lock(rt);
+        for _ in 0..turn % LENGTHS {
+            spin_loop();
         }
         passed.fetch_add(1, Ordering::SeqCst);
         lock.unlock(plus_one(tally), loan);
@@ -197,6 +217,36 @@ fn no_wake_is_lost_in_a_crowd(rt: HostRuntime) -> Result<(), Fail> {
     );
     added?;
     assert!(rt; look(&rt, &lock) == (32_007, 32_000));
+    assert!(rt; lock.tickets_out() == 0);
+    Ok(())
+}
+
+// Who falls asleep while its ticket is served is woken all the same.
+#[test]
+fn no_wake_is_lost_where_a_thread_falls_asleep(rt: HostRuntime) -> Result<(), Fail> {
+    let tally = Tally {
+        total: 7,
+        additions: 0,
+    };
+    let Ok(lock) = Lock::new(rt.alloc(), tally, &7) else {
+        return Err(Fail::from("there is memory for a lock"));
+    };
+    let passed = AtomicU64::new(0);
+    let shared = &lock;
+    let count = &passed;
+    let host = &rt;
+    let (added, ()) = join(
+        &rt,
+        || map_indices(
+            host,
+            host.alloc(),
+            PAIR,
+            &|_| add_by_lengths(host, shared, count),
+        ),
+        || watch(host, count, PAIR as u64 * ADDITIONS_OF_A_PAIR),
+    );
+    added?;
+    assert!(rt; look(&rt, &lock) == (120_007, 120_000));
     assert!(rt; lock.tickets_out() == 0);
     Ok(())
 }
