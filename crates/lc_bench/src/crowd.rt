@@ -223,7 +223,7 @@ fn print_case<R: Print>(
         commits,
         least,
         most,
-        longest.as_micros() as u64,
+        u64::try_from(longest.as_micros()).unwrap_or(u64::MAX),
         round,
         filled
     )
