@@ -8,7 +8,6 @@ mod choosing;
 mod committing;
 mod copies;
 mod counted;
-mod crowd;
 mod events;
 mod files;
 mod growth;

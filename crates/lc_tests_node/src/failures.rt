@@ -130,8 +130,8 @@ fn a_page_that_fails_halts_the_node(rt: HostRuntime) -> Result<(), Fail> {
     Ok(())
 }
 
-/// Opens a node, once more where there was no memory.
-pub(crate) fn opened_again(alloc: Global) -> Result<(Node<MemArea>, CommitSeat), Fail>
+// Opens a node, once more where there was no memory.
+fn opened_again(alloc: Global) -> Result<(Node<MemArea>, CommitSeat), Fail>
     ensures own { IfOk result (λ made. IsSeatOf made.0.stage made.1) }
     ensures idle { IfOk result (λ made. IsIdle (commit_view made.1)) }
 {

@@ -16,8 +16,6 @@ mod coming_up;
 #[cfg(test)]
 mod commits;
 #[cfg(test)]
-mod committers;
-#[cfg(test)]
 mod crowds;
 #[cfg(test)]
 mod expect;
