@@ -2,7 +2,7 @@
 use crate::measurement::{Measurement, Subject};
 use crate::measurements::ALL;
 use crate::rounds::Found;
-use crate::{files, growth, memory, resident, running};
+use crate::{crowd, files, growth, memory, resident, running};
 use lc_disk::HeldFile;
 use std::io;
 use std::rt::{Clock, Files};
@@ -80,6 +80,10 @@ where
         }
         Subject::Resident => {
             resident::measure(rt)?;
+            return Ok(None);
+        }
+        Subject::Crowd => {
+            crowd::measure(rt)?;
             return Ok(None);
         }
     };

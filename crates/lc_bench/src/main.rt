@@ -8,6 +8,7 @@ mod choosing;
 mod committing;
 mod copies;
 mod counted;
+mod crowd;
 mod events;
 mod files;
 mod growth;

@@ -31,6 +31,8 @@ pub(crate) enum Subject {
     NodeFiles,
     /// The memory of running nodes, behind many commits.
     Resident,
+    /// Threads on a log that is full again and again.
+    Crowd,
 }
 
 /// What is timed of a round on a store.

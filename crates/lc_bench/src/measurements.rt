@@ -26,7 +26,7 @@ const NODE: Measurement = Measurement {
 };
 
 /// All that there are, in the order in which their names are printed.
-pub(crate) static ALL: [Measurement; 29] = [
+pub(crate) static ALL: [Measurement; 30] = [
     ONE,
     Measurement {
         name: "32-ranges",
@@ -215,6 +215,11 @@ pub(crate) static ALL: [Measurement; 29] = [
     Measurement {
         name: "resident",
         subject: Subject::Resident,
+        ..NODE
+    },
+    Measurement {
+        name: "crowd",
+        subject: Subject::Crowd,
         ..NODE
     },
 ];

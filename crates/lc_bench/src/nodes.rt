@@ -8,13 +8,11 @@ use crate::measurement::Measurement;
 use lc_disk::Area;
 use lc_node::Node;
 use lc_record::Geometry;
-use lc_recover::{Progress, Recovered, Recovery};
+use lc_recover::Recovered;
 use lc_stage::CommitSeat;
+use lc_store::recovered_on;
 use std::alloc::Global;
 use std::io::{self, Error, ErrorKind};
-
-// More steps than any recovery has.
-const MOST_STEPS: u32 = 1_000_000;
 
 /// A node that runs, and a seat of which those of its threads are split.
 #[derive(Drop)]
@@ -48,15 +46,8 @@ pub(crate) fn recovered<D: Area + Drop>(
     ensures lengths { IfOk result (λ r. HaveLengths D.Area r.geometry r.areas) }
     ensures finished { IfOk result (AreFinished D.Area) }
 {
-    let Ok(mut recovery) = Recovery::new(geometry, areas) else {
-        return Err(Error::from(ErrorKind::InvalidInput));
-    };
-    for _ in 0..MOST_STEPS {
-        match recovery.step(alloc) {
-            Ok(Progress::Stepped(_)) => {}
-            Ok(Progress::Recovered) => return Ok(recovery.finish()),
-            Err(_) => return Err(Error::from(ErrorKind::InvalidData)),
-        }
+    match recovered_on(alloc, geometry, areas) {
+        Ok(recovered) => Ok(recovered),
+        Err(_) => Err(Error::from(ErrorKind::InvalidData)),
     }
-    Err(Error::from(ErrorKind::InvalidData))
 }

@@ -41,6 +41,14 @@ pub(crate) struct Together {
 }
 
 impl StartingLine {
+    /// For so many threads, none of which is here yet.
+    pub(crate) fn of(threads: u64) -> StartingLine {
+        StartingLine {
+            ready: AtomicU64::new(0),
+            threads,
+        }
+    }
+
     /// Lets a thread on once all are here; when that is.
     pub(crate) fn pass<R: Clock>(&self, rt: &R) -> io::Result<Instant> {
         self.ready.fetch_add(1, Ordering::SeqCst);
@@ -67,10 +75,7 @@ pub(crate) fn run_all<R: Threads + Sync, T: Task<R> + Send + Drop>(
     rt: &R,
     tasks: Vec<T>,
 ) -> io::Result<Together> {
-    let line = StartingLine {
-        ready: AtomicU64::new(0),
-        threads: tasks.len() as u64,
-    };
+    let line = StartingLine::of(tasks.len() as u64);
     let spans = map_vec(rt, tasks, &|task: T| task.run(rt, &line))?;
     of_all(spans.as_slice())
 }

@@ -50,6 +50,7 @@ pub mod Sides
 pub mod Snapshots
 pub mod Spread
 pub mod Stages
+pub mod Telling
 pub mod Tokens
 pub mod Touched
 pub mod Travelling

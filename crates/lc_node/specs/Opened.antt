@@ -6,9 +6,10 @@ use Rattle.lc_stage.specs.Staging.{newcomer}
 use Rattle.lc_node.specs.declared.opening.Opened.{Opened}
 
 module _ {D : Type 0} where
-  -- its stage has the room of the store's logs, its committer begins, it has each segment, and it may have peers
+  -- its stage has the room of the store's logs, its committer begins, it has each segment, it may have peers, and its geometry is the
+  -- store's
   abbrev pub IsOpened : RecoveredStore D → Opened D → Type 0
-  IsOpened r made = IsSeatOf made.node.stage made.seat × (commit_view made.seat ≡ newcomer r.geometry.words) × (made.node.stage.room ≡ r.geometry.words) × (length made.node.segments.items ≡ r.geometry.segments) × (made.node.is_alone ≡ false)
+  IsOpened r made = IsSeatOf made.node.stage made.seat × (commit_view made.seat ≡ newcomer r.geometry.words) × (made.node.stage.room ≡ r.geometry.words) × (length made.node.segments.items ≡ r.geometry.segments) × (made.node.is_alone ≡ false) × (made.node.geometry ≡ r.geometry)
 
   -- each stands at the place of its number
   abbrev pub StandByNumber : List (Opened D) → Type 0

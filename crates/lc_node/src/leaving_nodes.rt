@@ -51,8 +51,12 @@ pub(crate) fn take_nodes<R: Wait, D: Area + Drop>(
 }
 
 impl<D: Area + Drop> Node<D> {
-    // What the node leaves. Its tokens go behind these.
-    fn into_part<R: Wait>(
+    /// What the node leaves. Its tokens go after these.
+    ///
+    /// # Errors
+    ///
+    /// `Mismatch` of the node's log or its seats. `NoMemory`.
+    pub(crate) fn into_part<R: Wait>(
         self,
         rt: &R,
         alloc: Global,

@@ -14,7 +14,7 @@ use lc_disk::Area;
 use lc_ended::Ended;
 use lc_lock::Lock;
 use lc_log::NodeLog;
-use lc_record::Group;
+use lc_record::{Geometry, Group};
 use lc_stage::{CommitSeat, FlushSeat, Stage};
 use lc_trunc::KnownClean;
 use std::alloc::{AllocError, Global};
@@ -68,10 +68,11 @@ impl<D: Area + Drop> LogRoom<D> {
         })
     }
 
-    /// The node of this number with these segments, which may have peers, and whose log is on this area, which begins with no open
-    /// gate. It takes no memory.
+    /// The node of this number of a store of this geometry with these segments, which are all, which may have peers, and whose log is
+    /// on this area, which begins with no open gate. It takes no memory.
     pub(crate) fn open(
         self,
+        geometry: Geometry,
         number: u16,
         area: D,
         segments: Vec<Lock<BoxedSide<D>, u32>>,
@@ -82,7 +83,10 @@ impl<D: Area + Drop> LogRoom<D> {
         requires clean { D.honest area ≡ true → D.dirty area 0 ≡ false }
         requires in_order { (place : ℕ) (lock : Keeps (SegView D) ℕ) → slice_get segments.items place ≡ Some lock → key_of lock ≡ place + 1 }
         requires few { vec_len segments ≤ 16 }
+        requires all_segments { vec_len segments ≡ geometry.segments }
+        requires words { self.stage.room ≡ geometry.words }
         ensures seat { IsSeatOf result.0.stage result.1 × (result.1 ≡ self.seat) }
+        ensures geometry { result.0.geometry ≡ geometry }
         ensures number { result.0.number ≡ number }
         ensures room { result.0.stage.room ≡ self.stage.room }
         ensures segments { result.0.segments ≡ segments }
@@ -110,6 +114,7 @@ impl<D: Area + Drop> LogRoom<D> {
             known: KnownClean::new(),
         });
         let node = Node {
+            geometry,
             number,
             stage,
             log,

@@ -1,5 +1,6 @@
 //! The nodes of a store at their beginning.
 ghost use Rattle.std.specs.Prelude.{◌≡◌, ◌<◌, ◌≤◌, true, All, length, IfErr, IfOk};
+ghost use Rattle.lc_record.specs.Geometry.{HasNumbers};
 ghost use Rattle.lc_recover.specs.Reads.{HaveLengths};
 ghost use Rattle.lc_recover.specs.Recovered.{AreFinished};
 ghost use Rattle.lc_stage.specs.Staging.{newcomer};
@@ -10,6 +11,7 @@ ghost use Rattle.lc_node.specs.declared.node_fault.NodeFault.TheVariants.{NoMemo
 use crate::store_room::StoreRoom;
 use crate::{Node, NodeFault};
 use lc_disk::Area;
+use lc_record::Geometry;
 use lc_recover::Recovered;
 use lc_stage::CommitSeat;
 use std::alloc::Global;
@@ -23,8 +25,9 @@ pub(crate) struct Opened<D: Area + Drop> {
 
 impl<D: Area + Drop> Node<D> {
     /// The one node of a recovered store, and the first committer's seat. All segments are here, and nothing is known clean
-    /// yet. It has no peer, so each truncation forgets the records of the rounds that have ended. A store of several nodes comes up as one node too, on the log of the first: the areas of the other logs, which a
-    /// recovery leaves empty, are dropped. All memory is taken before the store is taken apart.
+    /// yet. It has no peer, so each truncation forgets the records of the rounds that have ended. A store of several nodes comes up
+    /// as one node too, on the log of the first, and is a store of one node then: the areas of the other logs, which a recovery
+    /// leaves empty, are dropped. All memory is taken before the store is taken apart.
     ///
     /// # Errors
     ///
@@ -39,14 +42,30 @@ impl<D: Area + Drop> Node<D> {
         ensures number { IfOk result (λ made. made.0.number ≡ 0) }
         ensures room { IfOk result (λ made. made.0.stage.room ≡ recovered.geometry.words) }
         ensures segments { IfOk result (λ made. length made.0.segments.items ≡ recovered.geometry.segments) }
+        ensures geometry { IfOk result (λ made. HasNumbers made.0.geometry 1 recovered.geometry.threads recovered.geometry.segments recovered.geometry.pages recovered.geometry.words) }
         ensures alone { IfOk result (λ made. made.0.is_alone ≡ true) }
         ensures back { IfErr result (λ back. (back.0 ≡ recovered) × (back.1 ≡ NoMemory)) }
     {
         let mut nodes = open_first(alloc, recovered, 1)?;
         let Opened { mut node, seat } = nodes.remove(0);
+        node.geometry = with_one_node(node.geometry);
         node.is_alone = true;
         Ok((node, seat))
     }
+}
+
+// The same numbers, with one node.
+fn with_one_node(geometry: Geometry) -> Geometry
+    ensures { HasNumbers result 1 geometry.threads geometry.segments geometry.pages geometry.words }
+{
+    let Geometry {
+        threads,
+        segments,
+        pages,
+        words,
+        ..
+    } = geometry;
+    Geometry::new(1, threads, segments, pages, words).unwrap()
 }
 
 /// All nodes of a recovered store, in the order of their numbers, each with its own log, and the first committer's seat of

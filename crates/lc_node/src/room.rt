@@ -11,6 +11,7 @@ use crate::seg_room::{SegRoom, end_all, fill_all, rooms_of};
 use crate::share::Share;
 use lc_disk::Area;
 use lc_lock::Lock;
+use lc_record::Geometry;
 use lc_recover::Recovered;
 use std::alloc::{AllocError, Global};
 
@@ -42,17 +43,26 @@ impl<D: Area + Drop> Room<D> {
         }
     }
 
-    /// The node comes up, with its log on this area. The segments whose tokens are its share have the areas at their places,
-    /// which are taken. It takes no memory.
-    pub(crate) fn open(self, share: Share, log: D, pages: &mut [Option<D>]) -> Opened<D>
+    /// The node comes up, of a store of this geometry, with its log on this area. The segments whose tokens are its share have the
+    /// areas at their places, which are taken. It takes no memory.
+    pub(crate) fn open(
+        self,
+        geometry: Geometry,
+        share: Share,
+        log: D,
+        pages: &mut [Option<D>],
+    ) -> Opened<D>
         requires log { FitsLog D.Area self.log.stage.room log }
         requires count { vec_len self.segments ≡ length pages.old }
         requires few { vec_len self.segments ≤ 16 }
+        requires all_segments { vec_len self.segments ≡ geometry.segments }
+        requires words { self.log.stage.room ≡ geometry.words }
         requires rooms { AreOfSegments self.segments.items }
         requires fits { FitRooms D.Area self.segments.items pages.old }
         requires empty { self.locks.items ≡ [] }
         requires space { vec_len self.segments ≤ vec_capacity self.locks }
         ensures seat { IsSeatOf result.node.stage result.seat × (result.seat ≡ self.log.seat) }
+        ensures geometry { result.node.geometry ≡ geometry }
         ensures number { result.node.number ≡ share.number }
         ensures room { result.node.stage.room ≡ self.log.stage.room }
         ensures segments { length result.node.segments.items ≡ vec_len self.segments }
@@ -66,7 +76,7 @@ impl<D: Area + Drop> Room<D> {
             locks,
         } = self;
         let locks = fill_all(share, segments, pages, locks);
-        let (node, seat) = log_room.open(share.number as u16, log, locks);
+        let (node, seat) = log_room.open(geometry, share.number as u16, log, locks);
         Opened { node, seat }
     }
 

@@ -58,6 +58,7 @@ impl<D: Area + Drop> StoreRoom<D> {
             mut opened,
         } = self;
         let count = rooms.len() as u32;
+        let geometry = recovered.geometry();
         let Areas {
             mut logs,
             mut pages,
@@ -66,7 +67,7 @@ impl<D: Area + Drop> StoreRoom<D> {
             let room = rooms.remove(0);
             let log = logs.remove(0);
             let share = Share::new(number, count);
-            opened.push_reserved(room.open(share, log, pages.as_mut_slice()));
+            opened.push_reserved(room.open(geometry, share, log, pages.as_mut_slice()));
         }
         rooms.destroy_empty();
         end_places(pages);

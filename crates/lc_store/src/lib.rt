@@ -9,5 +9,6 @@ mod serving;
 mod store;
 
 pub use open_fault::OpenFault;
+pub use recovering::recovered_on;
 pub use serving::{FolderServing, Serving};
 pub use store::{FolderStore, Store};

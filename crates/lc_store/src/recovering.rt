@@ -11,8 +11,14 @@ use lc_record::Geometry;
 use lc_recover::{Progress, RecoverFault, Recovered, Recovery};
 use std::alloc::Global;
 
-/// What a recovery makes of these areas.
-pub(crate) fn recovered_on<D: Area + Drop>(
+/// What a recovery makes of these areas, the logs of the nodes and then the segments, run to its end. `Node::open` and
+/// `Cluster::open` of `lc_node` take it.
+///
+/// # Errors
+///
+/// `BadGeometry` of the first area that has not the length of the geometry, or is one too many or too few; `NotUp` where a record or
+/// a page is not one, a device failed, or there is no memory. The areas are gone.
+pub fn recovered_on<D: Area + Drop>(
     alloc: Global,
     geometry: Geometry,
     areas: Vec<D>,

@@ -8,8 +8,9 @@ ghost use Rattle.lc_stage.specs.Seats.{commit_view, IsSeatOf, IsIdle};
 use lc_disk::{Area, MemArea};
 use lc_node::Node;
 use lc_record::Geometry;
-use lc_recover::{Progress, Recovered, Recovery};
+use lc_recover::Recovered;
 use lc_stage::CommitSeat;
+use lc_store::recovered_on;
 use std::alloc::Global;
 use std::test::Fail;
 
@@ -21,9 +22,6 @@ pub(crate) const SEGMENT_BYTES: usize = 2 * 544;
 
 /// The words of a log.
 pub(crate) const WORDS: u32 = 4096;
-
-// More steps than a recovery of these stores has.
-const MOST_STEPS: u64 = 2000;
 
 /// One node, two segments of two pages.
 pub(crate) fn two_segments() -> Result<Geometry, Fail>
@@ -42,18 +40,10 @@ pub(crate) fn recovered<D: Area + Drop>(
     ensures lengths { IfOk result (λ r. HaveLengths D.Area r.geometry r.areas) }
     ensures finished { IfOk result (AreFinished D.Area) }
 {
-    let Ok(mut recovery) = Recovery::new(geometry, areas) else {
-        return Err(Fail::from("the areas have their lengths"));
-    };
-    for _ in 0..MOST_STEPS {
-        match recovery.step(alloc) {
-            Ok(Progress::Stepped(_)) => {}
-            Ok(Progress::Recovered) => return Ok(recovery.finish()),
-            Err(_) => break,
-        }
+    match recovered_on(alloc, geometry, areas) {
+        Ok(recovered) => Ok(recovered),
+        Err(_) => Err(Fail::from("the recovery ends")),
     }
-    let _areas = recovery.areas();
-    Err(Fail::from("the recovery ends"))
 }
 
 /// A node over the store of these areas, and its first seat.

@@ -3,6 +3,7 @@ use Rattle.std.specs.Prelude.{slice_get}
 use Rattle.std.proofs.lemmas.Bool.{eqb-false}
 use Rattle.std.proofs.lemmas.Nat.{mod_below}
 use Rattle.std.proofs.lemmas.List.Elements.{All-push}
+use Rattle.lc_record.specs.declared.geometry.Geometry.{Geometry}
 use Rattle.lc_stage.specs.Seats.{commit_view}
 use Rattle.lc_node.specs.Opened.{IsOpened}
 use Rattle.lc_node.specs.Shares.{has_token}
@@ -39,6 +40,20 @@ open-requires-clause-few g c =
     let its = inv.rooms 0 c.remove-room.result (first_is c.loop-number.rooms.items c.remove-room.result some c.remove-room.ensures.value) in
     let few = c.args.recovered.geometry.few_segments in
     omega (arith, its.count, few)
+
+pub open-requires-clause-all_segments : goal.open-requires-clause-all_segments
+open-requires-clause-all_segments g c =
+    let inv = c.loop-number.invariant in
+    let some : 0 < length c.loop-number.rooms.items = omega (arith, inv.rooms_left, c.loop-number-test.true, c.len-count.ensures, c.loop-number.rooms.ok.0) in
+    let its = inv.rooms 0 c.remove-room.result (first_is c.loop-number.rooms.items c.remove-room.result some c.remove-room.ensures.value) in
+    its.count ∙ sym (ap (λ (geometry : Geometry). geometry.segments) c.geometry-geometry.ensures)
+
+pub open-requires-clause-words : goal.open-requires-clause-words
+open-requires-clause-words g c =
+    let inv = c.loop-number.invariant in
+    let some : 0 < length c.loop-number.rooms.items = omega (arith, inv.rooms_left, c.loop-number-test.true, c.len-count.ensures, c.loop-number.rooms.ok.0) in
+    let its = inv.rooms 0 c.remove-room.result (first_is c.loop-number.rooms.items c.remove-room.result some c.remove-room.ensures.value) in
+    its.words ∙ sym (ap (λ (geometry : Geometry). geometry.words) c.geometry-geometry.ensures)
 
 pub open-requires-clause-rooms : goal.open-requires-clause-rooms
 open-requires-clause-rooms g c =
@@ -91,6 +106,7 @@ loop-number-preserved g c =
       c.open.ensures.room ∙ its.words,
       c.open.ensures.segments ∙ its.count,
       c.open.ensures.peers,
+      c.open.ensures.geometry ∙ c.geometry-geometry.ensures,
     ) in
     record {
       rooms_left = omega (arith, c.remove-room.ensures.len, inv.rooms_left);

@@ -1,0 +1,2 @@
+pub mod Acquiring
+pub mod Round

@@ -1,0 +1,32 @@
+-- What a service did in a round.
+use Rattle.std.specs.Prelude.{◌≡◌, ◌⊎◌, ℕ, ◌*◌, ◌<◌, ◌≤◌, Some}
+use Rattle.lc_disk.specs.declared.area.Area.{Ghosts}
+use Rattle.lc_node.specs.Telling.{TakesWords}
+use Rattle.lc_node.specs.Cluster.{node_at}
+use Rattle.lc_node.specs.Flushes.{HasFlushed}
+use Rattle.lc_node.specs.Truncates.{HasNotTruncated, HasTruncated}
+use Rattle.lc_node.specs.declared.cluster.Cluster.{Cluster}
+use Rattle.lc_node.specs.declared.node.Node.{Node}
+use Rattle.lc_node.specs.declared.node_fault.NodeFault.{NodeFault}
+use Rattle.lc_service.specs.declared.upkeep.Upkeep.{Upkeep}
+
+-- a log of so many words is to be truncated, of which so many are taken: some are, and at least the percentage that is wanted
+abbrev pub IsDue : Upkeep → ℕ → ℕ → Type 0
+IsDue upkeep taken words = (0 < taken) × (words * upkeep.truncate_at ≤ taken * 100)
+
+module _ {D : Type 0} (a : Ghosts D) where
+  -- the node was truncated, or refused to be
+  abbrev pub WasAsked : Node D → Type 0
+  WasAsked node = ((round : ℕ) × HasTruncated a node round) ⊎ ((fault : NodeFault) × HasNotTruncated a node fault)
+
+  -- what was closed at the node was made stable; and then the log was truncated, where what was found of it was due
+  pub record WasKept (upkeep : Upkeep) (node : Node D) : Type 0 where
+    pub count : ℕ
+    pub flushed : HasFlushed node count
+    pub taken : ℕ
+    pub words : TakesWords node taken
+    pub emptied : IsDue upkeep taken node.geometry.words → WasAsked node
+
+  -- so it was with the node of this number
+  abbrev pub WasKeptAt : Upkeep → Cluster D → ℕ → Type 0
+  WasKeptAt upkeep cluster number = (node : Node D) × (node_at cluster number ≡ Some node) × WasKept upkeep node

@@ -1,0 +1,75 @@
+//! A node gets the token of a segment.
+ghost use Rattle.std.specs.Prelude.{◌≡◌, ◌≢◌, ◌⊎◌, IfErr, OnErr, OnOk, true};
+ghost use Rattle.lc_node.specs.Calls.{HasSegmentAt};
+ghost use Rattle.lc_node.specs.Cluster.{HasNode};
+ghost use Rattle.lc_node.specs.Receipts.{IsOfDevice};
+ghost use Rattle.lc_node.specs.declared.node_fault.NodeFault.TheVariants.{NotHere};
+ghost use Rattle.lc_service.specs.Acquiring.{HadToken};
+
+use crate::member_round::pump_all;
+use lc_disk::Area;
+use lc_node::{Cluster, NodeFault};
+use std::sync::Wait;
+use std::thread;
+
+/// Gets the token of a segment to a node of a cluster, by its number: as long as the token is elsewhere it lets a peer that has it
+/// flush and give it, and goes on with what the peers have sent the node. Another thread that waits for the segment at that peer
+/// may get it first, and one that asks for the token at another node may take it away again. So it tries so many turns, and a
+/// transaction of the caller's that is then refused as `NotHere` is to be begun again by another call.
+///
+/// # Errors
+///
+/// `NotHere` where the node has no such segment, and where the token is not here after the last turn. `Halted` and `DeviceFault` of a
+/// peer that has the token.
+pub fn acquire<D: Area + Drop, R: AllocGlobal + Wait>(
+    rt: &R,
+    cluster: &Cluster<D>,
+    number: u16,
+    segment: u32,
+    turns: u32,
+) -> Result<(), NodeFault>
+    requires { HasNode cluster.now number }
+    ensures here { OnOk result (HadToken cluster.now number segment) }
+    ensures refused { IfErr result (λ fault. (fault ≡ NotHere segment) ⊎ IsOfDevice fault) }
+{
+    if cluster.node(number).has_token(rt, segment) {
+        return Ok(());
+    }
+    for _ in 0..turns {
+        for peer in 0..cluster.nodes() {
+            if peer != number {
+                ask(rt, cluster, peer, number, segment)?;
+                pump_all(rt, cluster, number, peer);
+            }
+        }
+        if cluster.node(number).has_token(rt, segment) {
+            return Ok(());
+        }
+        thread::yield_now();
+    }
+    Err(NodeFault::NotHere { segment })
+}
+
+// Lets a node give the token of a segment to another, where it has it.
+fn ask<D: Area + Drop, R: AllocGlobal + Wait>(
+    rt: &R,
+    cluster: &Cluster<D>,
+    from: u16,
+    to: u16,
+    segment: u32,
+) -> Result<(), NodeFault>
+    requires apart { from ≢ to }
+    requires within { HasNode cluster.now from × HasNode cluster.now to }
+    ensures refused { IfErr result IsOfDevice }
+{
+    let node = cluster.node(from);
+    if !node.has_token(rt, segment) {
+        return Ok(());
+    }
+    node.flush(rt)?;
+    let _spread = cluster.spread(rt, rt.alloc(), from);
+    match cluster.give(rt, from, to, segment) {
+        Err(fault @ (NodeFault::DeviceFault | NodeFault::Halted)) => Err(fault),
+        _ => Ok(()),
+    }
+}

@@ -1,0 +1,184 @@
+//! Services that keep nodes in order beside a thread that commits.
+ghost use Rattle.std.specs.Prelude.{◌<◌, length};
+ghost use Rattle.lc_node.specs.Cluster.{IsSeatAt};
+
+use crate::stores::{HELLO, LEAST_WORDS, MANY_WORDS, opened, opened_pair};
+use lc_committer::Committer;
+use lc_disk::MemArea;
+use lc_node::{Cluster, Commit, Confirmed, Mode, Node, Pumped, Put};
+use lc_service::{Ending, Upkeep, keep_member, keep_node};
+use std::rt::Clock;
+use std::sync::Wait;
+use std::test::*;
+use std::thread::{self, join};
+use std::time::Duration;
+
+// A flush each millisecond.
+fn often() -> Upkeep {
+    Upkeep {
+        flush_every: Duration::from_millis(1),
+        truncate_at: 50,
+    }
+}
+
+// A flush each hour, and no truncation.
+fn rarely() -> Upkeep {
+    Upkeep {
+        flush_every: Duration::from_secs(3600),
+        truncate_at: 101,
+    }
+}
+
+// How often a test looks whether the service has done a thing, a millisecond apart: half a minute.
+const LOOKS: u32 = 30_000;
+
+// The words of the record of `HELLO`.
+const RECORD_WORDS: usize = 8;
+
+fn wait_a_little<R: Clock + Wait>(rt: &R) {
+    thread::sleep(rt, Duration::from_millis(1));
+}
+
+// Commits lazily, and waits until the record is stable without a flush of its own; whether it became so.
+fn sees_it_stable<R: AllocGlobal + Clock + Wait>(
+    rt: &R,
+    node: &Node<MemArea>,
+    committer: Committer<MemArea>,
+    ending: &Ending,
+) -> bool {
+    let mut committer = committer;
+    let mut work = HELLO;
+    let done = committer.commit(rt, &[1], &mut work, Mode::Lazy);
+    let mut is_stable = false;
+    for _ in 0..LOOKS {
+        is_stable = node.stable_words(rt) == RECORD_WORDS;
+        if is_stable {
+            break;
+        }
+        wait_a_little(rt);
+    }
+    ending.tell(rt);
+    matches!(done, Ok(Commit::Lazy)) && is_stable
+}
+
+#[test]
+fn a_service_makes_lazy_commits_stable(rt: HostRuntime) -> Result<(), Fail> {
+    let (node, seat) = opened(rt.alloc(), MANY_WORDS)?;
+    let committer = Committer::new(&node, seat);
+    let ending = Ending::new();
+    let (kept, is_stable) = join(
+        &rt,
+        || keep_node(&rt, &node, &often(), &ending),
+        || sees_it_stable(&rt, &node, committer, &ending),
+    );
+    assert!(rt; kept == Ok(()), "the service: {kept:?}");
+    assert!(rt; is_stable, "the record is stable");
+    Ok(())
+}
+
+// Fills half of the least log, and waits until the records are of an earlier round; whether they became so.
+fn sees_it_emptied<R: AllocGlobal + Clock + Wait>(
+    rt: &R,
+    committer: Committer<MemArea>,
+    ending: &Ending,
+) -> bool {
+    let mut committer = committer;
+    for _ in 0..LEAST_WORDS as usize / RECORD_WORDS / 2 {
+        let mut work = HELLO;
+        let _done = committer.commit(rt, &[1], &mut work, Mode::Lazy);
+    }
+    let settled = committer.settle(rt);
+    let mut is_emptied = false;
+    if let Ok(Some(receipt)) = settled {
+        for _ in 0..LOOKS {
+            is_emptied = committer.confirm(rt, receipt) == Confirmed::Earlier { round: 1 };
+            if is_emptied {
+                break;
+            }
+            wait_a_little(rt);
+        }
+    }
+    ending.tell(rt);
+    is_emptied
+}
+
+#[test]
+fn a_service_empties_a_log_that_is_half_full(rt: HostRuntime) -> Result<(), Fail> {
+    let (node, seat) = opened(rt.alloc(), LEAST_WORDS)?;
+    let committer = Committer::new(&node, seat);
+    let ending = Ending::new();
+    let (kept, is_emptied) = join(
+        &rt,
+        || keep_node(&rt, &node, &often(), &ending),
+        || sees_it_emptied(&rt, committer, &ending),
+    );
+    assert!(rt; kept == Ok(()), "the service: {kept:?}");
+    assert!(rt; is_emptied, "the records are of an earlier round");
+    Ok(())
+}
+
+// It is woken where it would sleep for an hour, and makes one more round.
+#[test]
+fn a_service_that_is_told_to_end_flushes_once_more(rt: HostRuntime) -> Result<(), Fail> {
+    let (node, seat) = opened(rt.alloc(), MANY_WORDS)?;
+    let committer = Committer::new(&node, seat);
+    let ending = Ending::new();
+    let (kept, done) = join(
+        &rt,
+        || keep_node(&rt, &node, &rarely(), &ending),
+        || {
+            let mut committer = committer;
+            let mut work = HELLO;
+            let done = committer.commit(&rt, &[1], &mut work, Mode::Lazy);
+            ending.tell(&rt);
+            done
+        },
+    );
+    assert!(rt; kept == Ok(()), "the service: {kept:?}");
+    assert!(rt; matches!(done, Ok(Commit::Lazy)), "the commit: {done:?}");
+    let words = node.stable_words(&rt);
+    assert!(rt; words == RECORD_WORDS, "words that are stable: {words}");
+    Ok(())
+}
+
+// Goes on at the second node with what the first has sent, until a record came; whether one did.
+fn sees_it_come<R: AllocGlobal + Clock + Wait>(
+    rt: &R,
+    cluster: &Cluster<MemArea>,
+    ending: &Ending,
+) -> bool
+    requires { length cluster.now.members.items ≡ 2 }
+{
+    let mut has_come = false;
+    for _ in 0..LOOKS {
+        let pumped = cluster.pump(rt, rt.alloc(), 1, 0);
+        has_come = matches!(pumped, Ok(Pumped::Applied { applied: 1, .. }));
+        if has_come {
+            break;
+        }
+        wait_a_little(rt);
+    }
+    ending.tell(rt);
+    has_come
+}
+
+#[test]
+fn a_service_sends_the_records_of_its_node(rt: HostRuntime) -> Result<(), Fail> {
+    let (cluster, first, _second) = opened_pair(rt.alloc(), MANY_WORDS)?;
+    let ending = Ending::new();
+    let mut work = Put {
+        segment: 2,
+        ..HELLO
+    };
+    let mut committer = Committer::new(cluster.node(0), first);
+    let done = committer.commit(&rt, &[2], &mut work, Mode::Lazy);
+    assert!(rt; matches!(done, Ok(Commit::Lazy)), "the commit: {done:?}");
+    let (kept, has_come) = join(
+        &rt,
+        || keep_member(&rt, &cluster, 0, &often(), &ending),
+        || sees_it_come(&rt, &cluster, &ending),
+    );
+    assert!(rt; kept == Ok(()), "the service: {kept:?}");
+    assert!(rt; has_come, "the record came");
+    Ok(())
+}
