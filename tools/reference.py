@@ -224,7 +224,7 @@ def statement(kind: str, text: str, plain: str, start: int, end: int) -> List[st
     elif kind in ("struct", "enum", "trait") and plain[end] == "{":
         body = text[end + 1 : statements.closing(plain, end) - 1].splitlines()
         parts = body[1:] if kind == "enum" else list(public_parts(body, plain[end + 1 :].splitlines()))
-        head = "\n".join([head + " {", *parts, "}"])
+        head = "\n".join([head + " {", *parts, "}"]) if any(parts) else head + " { .. }"
     lines = [it.rstrip() for it in head.splitlines() if it.strip()]
     indent = len(lines[0]) - len(lines[0].lstrip())
     return [it[indent:] for it in lines]
