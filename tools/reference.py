@@ -135,7 +135,7 @@ def modules_around(lines: List[str], number: int) -> List[str]:
 
 
 def definitions(path: pathlib.Path) -> Section:
-    """Each definition of a file, with the comment above it."""
+    """Each definition of a file, with the comment above it; and the comment at its head, which ends above no code."""
     lines = path.read_text(encoding="utf-8").splitlines()
     found = [(number - 1, name) for name, _, number, _ in dead_names.File(path).definitions]
     begins = [comment_above(lines, number)[1] for number, _ in found]
@@ -148,13 +148,8 @@ def definitions(path: pathlib.Path) -> Section:
         code = modules_around(lines, number) + lines[number:end]
         entries.append(Entry(name, comment_above(lines, number)[0], [it.rstrip() for it in code if it.strip()]))
     head = next((at for at, line in enumerate(lines) if not line.startswith("--")), len(lines))
-    is_head = head and (head == len(lines) or is_separate(lines[head]))
-    return Section(path, comment_above(lines, head)[0] if is_head else "", entries)
-
-
-def is_separate(line: str) -> bool:
-    """Whether what stands above this line belongs to the file, and not to a definition."""
-    return not line.strip() or not is_code(line)
+    is_of_file = head == len(lines) or not is_code(lines[head])
+    return Section(path, comment_above(lines, head)[0] if is_of_file else "", entries)
 
 
 # ---- What a crate exports.
@@ -197,7 +192,7 @@ def items(path: pathlib.Path) -> Iterator[Item]:
             clauses, end = statements.head_of(plain, start + item.end())
             kind, name, is_public = item["kind"], item["name"], bool(item["pub"])
             if item["indent"]:
-                is_public |= block == "trait" or block == "impl of a trait" and bool(docs or clauses)
+                is_public |= block == "trait" or (block == "impl of a trait" and bool(docs or clauses))
             else:
                 owner, block = block_of(kind, name, plain[start + item.start("kind") : end])
             code = statement(kind, text, plain, start, end)
