@@ -1,6 +1,6 @@
 #!/bin/sh
-# Runs the scripts of this folder over what was built, side by side, each with a limit of its own, and the looks at
-# what the documents name. What each said is shown where it failed; the last line counts them: 'N passed, M failed, K
+# Runs the scripts of this folder over what was built, side by side, each with a limit of its own, and the looks at the
+# documents. What each said is shown where it failed; the last line counts them: 'N passed, M failed, K
 # skipped'. A script that lacks a tool, for all of it or for a part, or has to be root, is skipped, by name, and never
 # passed.
 #
@@ -45,7 +45,9 @@ rows='
 300 measures tests/measures.sh $LC_C
 300 checks tests/checks.sh $LCRVM
 60 runs tests/runs.sh $LCRVM
-60 proved python3 tests/proved.py
+60 document_names python3 tests/document_names.py
+60 reference python3 tools/reference.py --check
+60 lengths python3 tests/lengths.py
 60 statements python3 tests/statements.py
 60 dead_names python3 tests/dead_names.py
 60 edits tests/edits.sh --fits

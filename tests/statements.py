@@ -16,7 +16,7 @@ KEPT = TOP / "tests" / "statements.txt"
 HEADLINE = ("lc_core", "run_areas")
 
 OWNER = re.compile(r"^(?:pub(?:\(crate\))? )?(impl|trait)\b(.*)", re.M)
-FUNCTION = re.compile(r"^( *)(pub )?(?:final )?(?:unsafe )?fn (\w+)", re.M)
+FUNCTION = re.compile(r"^( *)(pub )?(?:final |const |unsafe |extern \S+ )*fn (\w+)", re.M)
 TRAIT = re.compile(r"^pub trait (\w+)[^{]*\{", re.M)
 MEMBER = re.compile(r"^    ghost (\w+): \{", re.M)
 CLAUSE = re.compile(r"\s*(ghost|requires\*?|ensures\*?)\s+(?:(\w+)\s*:?\s*)?\{")
@@ -44,19 +44,26 @@ def closing(text, start):
     return len(text)
 
 
-def clauses_of(text, start):
-    """The clauses between the head of a function, whose name ends here, and its body: kind, name and text."""
+def head_of(text, start):
+    """The clauses between the name of a function, which ends here, and its body, each with its kind, name and text; and the place of
+    the body, or of the semicolon in its stead."""
     found = []
-    place = start
-    while place < len(text) and text[place] not in "{;":
+    place, brackets = start, 0
+    while place < len(text) and (brackets or text[place] not in "{;"):
         clause = CLAUSE.match(text, place)
         if clause and text[place] in " \n":
             end = closing(text, clause.end() - 1)
             found.append((clause.group(1), clause.group(2) or "", one_line(text[clause.end() : end - 1])))
             place = end
         else:
+            brackets += {"[": 1, "]": -1}.get(text[place], 0)  # (an array's type has a semicolon)
             place += 1
-    return found
+    return found, place
+
+
+def clauses_of(text, start):
+    """The clauses of the function whose name ends here: kind, name and text."""
+    return head_of(text, start)[0]
 
 
 def functions():

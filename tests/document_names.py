@@ -1,9 +1,9 @@
 #!/usr/bin/env python3
-"""Looks that what the documents name stands in the sources: each name in backticks, and each clause that docs/PROVED.md
+"""Looks that what the documents name stands in the sources: each name in backticks, and each clause that docs/PROMISES.md
 names.
 
-usage: tests/proved.py [DOCUMENT..]     (seconds; proves nothing; else README.md, CONTRIBUTING.md, docs/*.md and
-                                         the README.md of each crate)
+usage: tests/document_names.py [DOCUMENT..]     (seconds; proves nothing; else README.md, CONTRIBUTING.md, docs/*.md and
+                                                 the README.md of each crate; docs/reference/ is made of the sources)
 
 Of a text in backticks this is looked up:
  1. A name: what a crate defines or imports, a word of the code of a script, a client or an example, a file or a folder.
@@ -15,7 +15,7 @@ Skipped is what is no name: blocks between ``` lines, a text with ': ' (which is
 (which is code), a first word in capitals (which stands for a number or a name), and a path from the root (the
 system's). tests/outside_names.txt has the words of the outside world.
 
-In docs/PROVED.md a name with names in brackets after it, as in `sync` [`honest`, `len`], is a function with clauses of
+In docs/PROMISES.md a name with names in brackets after it, as in `sync` [`honest`, `len`], is a function with clauses of
 its contract. With several names in braces each clause stands at one of them. Brackets without a clause, and links, are
 passed over.
 
@@ -217,7 +217,7 @@ def unknown_names(sources, outside, document, text):
     return wrong, passed
 
 
-# ---- The clauses that docs/PROVED.md names.
+# ---- The clauses that docs/PROMISES.md names.
 
 NAMED = re.compile(r"`([\w:]+(?:\{[\w, ]+\})?)`(?:\s+\([^)]*\))?\s*\[([^\[\]]*`[^\[\]]*)\](?!\()")
 HEAD = re.compile(r"^[ \t]*(?:pub(?:\([a-z]+\))? )?(?:final )?(?:extern \S+ )?fn (\w+)", re.M)
@@ -263,7 +263,7 @@ def main(documents):
     for document in documents or DOCUMENTS:
         text = (TOP / document).read_text(encoding="utf-8")
         looks = [unknown_names(sources, outside, document, text)]
-        if document == "docs/PROVED.md":
+        if document == "docs/PROMISES.md":
             looks.append(unknown_clauses(document, text))
         for found, good in looks:
             wrong += found
