@@ -21,7 +21,7 @@ heap=$(whole "${3:-$(dirname "$(rt doc | head -n 1)")/c/liblibc_c.a}")
 work=$(mktemp -d "${TMPDIR:-/tmp}/lcrvm-guide.XXXXXX")
 trap 'rm -rf "$work"' EXIT
 trap 'exit 1' HUP INT TERM
-unset PREFIX BINDIR LIBDIR INCLUDEDIR MANDIR COMPLETIONDIR DESTDIR MAKEFLAGS MAKELEVEL CFLAGS CPPFLAGS LDFLAGS
+unset PREFIX BINDIR LIBDIR INCLUDEDIR MANDIR DOCDIR COMPLETIONDIR DESTDIR MAKEFLAGS MAKELEVEL CFLAGS CPPFLAGS LDFLAGS
 export PYTHONDONTWRITEBYTECODE=1
 
 for tool in make cc python3; do
@@ -29,7 +29,8 @@ for tool in make cc python3; do
 done
 mkdir "$work/top" "$work/blocks"
 (cd "$top" && cp -R Makefile packaging clients include man completion LICENSE-* "$work/top")
-make -s -C "$work/top" install PROGRAM="$program" STORE="$library" HEAP="$heap" PREFIX="$work/prefix" > "$work/said" 2>&1 ||
+make -s -C "$work/top" install PROGRAM="$program" STORE="$library" HEAP="$heap" PREFIX="$work/prefix" LDCONFIG=true \
+    > "$work/said" 2>&1 ||
     { cat "$work/said"; echo '0 passed, 1 failed'; exit 1; }
 
 python=$work/package/environment/bin/python
