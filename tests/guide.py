@@ -44,11 +44,11 @@ SECONDS = 60
 ELSEWHERE = {
     "(cd crates/lcrvm && rt try -- run < ../../examples/hello.script)": "by hand: it takes a minute and wants the kit",
     "bash .ci/run": "the gate itself",
-    "make prove": "by hand: the gate proves the same crates",
+    "make prove": "nothing here: the gate proves the same crates",
     "make": "tests/install.sh",
     "sudo make install": "tests/install.sh, without root",
     "make python": "tests/python_package.sh",
-    "pip install build/wheel/*.whl": "tests/install.sh, of the wheel in the archive",
+    "python3 -m venv env && env/bin/pip install build/wheel/*.whl": "tests/install.sh, from the archive",
     "mkdir -p crates/count/src": "by hand",
     "cp examples/rattle/count/main.rt.txt crates/count/src/main.rt": "by hand",
     "echo 'count: lc_disk lc_core lc_files lc_store' >> crates.txt": "by hand",
