@@ -17,20 +17,22 @@ the gate leaves it. What a block is its tag says:
     python    A program, which prints what its comments `# prints TEXT` say.
     c         A program, compiled by `cc`, without a warning, and with what pkg-config says. It prints what its comments
               `/* prints TEXT */` say.
-    rust      Rattle: lines that stand one after another in examples/rattle/NAME/main.rt.txt. Each such file is a block
-              of docs/GUIDE.md. Whether they are proved is not looked at.
+    rust      Rattle: lines that stand one after another in a file of examples/rattle/NAME. Each file NAME/*.rt.txt is a
+              block of docs/GUIDE.md. Whether they are proved is not looked at.
     sh        Commands that want the kit, root or a network: each is a line of ELSEWHERE, which says what runs it.
     text      No code: a drawing.
 
 Each failure is named with its document and line. First each kind of block is tried with a wrong one, which has to be
 found. The last line is 'N passed, M failed', in blocks.
 """
+import contextlib
 import os
 import pathlib
 import re
 import select
 import shlex
 import shutil
+import signal
 import subprocess
 import sys
 import time
@@ -158,8 +160,8 @@ def answers_by_turns(process, number, lines):
     """Types each line, and compares its answer before the next is typed."""
     for index in range(0, len(lines), 2):
         typed, wanted = lines[index], lines[index + 1 : index + 2]
-        process.stdin.write(typed.encode() + b"\n")
-        process.stdin.flush()
+        with contextlib.suppress(BrokenPipeError):  # what it said before it ended can still be read
+            process.stdin.write(typed.encode() + b"\n")
         answer, end = b"", time.monotonic() + SECONDS
         while not answer.endswith(b"\n"):
             if not select.select([process.stdout], [], [], max(0, end - time.monotonic()))[0]:
@@ -190,7 +192,8 @@ def run_session(folder, environment, first, lines):
         except subprocess.TimeoutExpired:
             raise Failure(number, f"{text}: not at its end after {SECONDS} seconds") from None
         finally:
-            process.kill()
+            with contextlib.suppress(ProcessLookupError):
+                os.killpg(process.pid, signal.SIGKILL)
         compare(number, text, printed, [] if follows else wanted)
         status = process.returncode
         following = commands[index + 1][1] if index + 1 < len(commands) else ""
@@ -235,14 +238,14 @@ def run_c(folder, environment, first, lines):
 
 
 def rattle_programs():
-    return {it: it.read_text(encoding="utf-8").splitlines() for it in sorted(PROGRAMS.glob("*/main.rt.txt"))}
+    return {it: it.read_text(encoding="utf-8").splitlines() for it in sorted(PROGRAMS.glob("*/*.rt.txt"))}
 
 
 def look_at_rattle(first, lines):
     for program in rattle_programs().values():
         if any(program[at : at + len(lines)] == lines for at in range(len(program) - len(lines) + 1)):
             return
-    raise Failure(first, "these lines stand in no examples/rattle/NAME/main.rt.txt, one after another")
+    raise Failure(first, "these lines stand in no file of examples/rattle, one after another")
 
 
 def look_at_commands(first, lines, used):
