@@ -2,7 +2,7 @@
 #
 #   make prove       proves and builds the program and the store within the library. This alone needs the kit.
 #   make             the libraries, the program and lcrvm.pc, in build/
-#   make install     with PREFIX=/usr/local, DESTDIR, and BINDIR, LIBDIR, INCLUDEDIR, MANDIR, COMPLETIONDIR
+#   make install     with PREFIX=/usr/local, DESTDIR, and BINDIR, LIBDIR, INCLUDEDIR, MANDIR, DOCDIR, COMPLETIONDIR
 #   make uninstall   takes away what install has put there
 #   make python      the Python package with the library within, as a wheel in build/wheel/
 #   make dist        build/lcrvm-VERSION.tar.gz, from which all of it is installed without the kit
@@ -100,7 +100,7 @@ modules = $(wildcard $(package)/*.py $(package)/*.toml $(addprefix $(package)/lc
 .PHONY: python
 python: build/wheel.made
 
-build/wheel.made: build/$(library) $(modules) include/lcrvm.h
+build/wheel.made: build/$(library) $(modules) include/lcrvm.h LICENSE-MIT LICENSE-APACHE
 	$(INSTALL) -m 644 build/$(library) $(package)/lcrvm/$(soname)
 	rm -rf build/wheel && mkdir build/wheel
 	cd $(package) && CC='$(CC)' CFLAGS='$(CFLAGS)' PYTHONDONTWRITEBYTECODE=1 \

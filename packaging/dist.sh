@@ -1,6 +1,6 @@
 #!/bin/sh
 # Packs build/lcrvm-VERSION.tar.gz, from which all is installed without the kit: what stands in build/, the header, the
-# manual pages, the completion, a Makefile, and the file PROOF.
+# manual pages, the completion, the licenses, a Makefile, and the file PROOF.
 #
 # usage: packaging/dist.sh VERSION PROVED PROGRAM STORE HEAP
 #   PROVED    the folder in which `make prove` keeps what the checker said
@@ -45,8 +45,9 @@ install -m 644 "build/liblcrvm.so.$version" build/liblcrvm.a build/wheel/*.whl "
 install -m 644 include/lcrvm.h "$folder/include/lcrvm.h"
 install -m 644 man/lcrvm.1 man/lcrvm.3 "$folder/man"
 install -m 644 completion/lcrvm.bash "$folder/completion/lcrvm.bash"
+install -m 644 LICENSE-MIT LICENSE-APACHE "$folder"
 {
-    echo '# make install      with PREFIX=/usr/local, DESTDIR, and BINDIR, LIBDIR, INCLUDEDIR, MANDIR, COMPLETIONDIR'
+    echo '# make install      with PREFIX=/usr/local, DESTDIR, and BINDIR, LIBDIR, INCLUDEDIR, MANDIR, DOCDIR, COMPLETIONDIR'
     echo '# make uninstall    takes away what install has put there'
     echo '#'
     echo '# pip installs the package for Python: pip install ./*.whl. PROOF says what was proved, and of which files.'

@@ -6,6 +6,7 @@ BINDIR ?= $(PREFIX)/bin
 LIBDIR ?= $(PREFIX)/lib
 INCLUDEDIR ?= $(PREFIX)/include
 MANDIR ?= $(PREFIX)/share/man
+DOCDIR ?= $(PREFIX)/share/doc/lcrvm
 COMPLETIONDIR ?= $(PREFIX)/share/bash-completion/completions
 INSTALL ?= install
 LDCONFIG ?= ldconfig
@@ -37,7 +38,7 @@ endef
 .PHONY: install uninstall
 install: $(built)/lcrvm $(built)/$(library) $(built)/liblcrvm.a
 	$(INSTALL) -d "$(DESTDIR)$(BINDIR)" "$(DESTDIR)$(LIBDIR)/pkgconfig" "$(DESTDIR)$(INCLUDEDIR)" \
-	    "$(DESTDIR)$(MANDIR)/man1" "$(DESTDIR)$(MANDIR)/man3" "$(DESTDIR)$(COMPLETIONDIR)"
+	    "$(DESTDIR)$(MANDIR)/man1" "$(DESTDIR)$(MANDIR)/man3" "$(DESTDIR)$(DOCDIR)" "$(DESTDIR)$(COMPLETIONDIR)"
 	$(INSTALL) -m 755 $(built)/lcrvm "$(DESTDIR)$(BINDIR)/lcrvm"
 	$(INSTALL) -m 644 $(built)/$(library) "$(DESTDIR)$(LIBDIR)/$(library)"
 	ln -sf $(library) "$(DESTDIR)$(LIBDIR)/$(soname)"
@@ -48,6 +49,7 @@ install: $(built)/lcrvm $(built)/$(library) $(built)/liblcrvm.a
 	chmod 644 "$(DESTDIR)$(LIBDIR)/pkgconfig/lcrvm.pc"
 	$(INSTALL) -m 644 man/lcrvm.1 "$(DESTDIR)$(MANDIR)/man1/lcrvm.1"
 	$(INSTALL) -m 644 man/lcrvm.3 "$(DESTDIR)$(MANDIR)/man3/lcrvm.3"
+	$(INSTALL) -m 644 LICENSE-MIT LICENSE-APACHE "$(DESTDIR)$(DOCDIR)"
 	$(INSTALL) -m 644 completion/lcrvm.bash "$(DESTDIR)$(COMPLETIONDIR)/lcrvm"
 	$(renew_cache)
 
@@ -56,5 +58,6 @@ uninstall:
 	rm -f "$(DESTDIR)$(BINDIR)/lcrvm" "$(DESTDIR)$(LIBDIR)/liblcrvm.a" "$(DESTDIR)$(LIBDIR)/pkgconfig/lcrvm.pc" \
 	    "$(DESTDIR)$(LIBDIR)/liblcrvm.so" "$(DESTDIR)$(LIBDIR)/$(soname)" "$(DESTDIR)$(LIBDIR)/$(soname)".* \
 	    "$(DESTDIR)$(INCLUDEDIR)/lcrvm.h" "$(DESTDIR)$(MANDIR)/man1/lcrvm.1" "$(DESTDIR)$(MANDIR)/man3/lcrvm.3" \
-	    "$(DESTDIR)$(COMPLETIONDIR)/lcrvm"
+	    "$(DESTDIR)$(DOCDIR)/LICENSE-MIT" "$(DESTDIR)$(DOCDIR)/LICENSE-APACHE" "$(DESTDIR)$(COMPLETIONDIR)/lcrvm"
+	[ ! -d "$(DESTDIR)$(DOCDIR)" ] || rmdir --ignore-fail-on-non-empty "$(DESTDIR)$(DOCDIR)"
 	$(renew_cache)

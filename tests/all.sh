@@ -44,7 +44,9 @@ rows='
 300 copies tests/copies.sh $LCRVM
 300 measures tests/measures.sh $LC_C
 300 checks tests/checks.sh $LCRVM
+300 guide tests/guide.sh $LCRVM $LC_C
 60 runs tests/runs.sh $LCRVM
+60 examples tests/examples.sh $LCRVM
 60 document_names python3 tests/document_names.py
 60 reference python3 tools/reference.py --check
 60 lengths python3 tests/lengths.py

@@ -27,7 +27,7 @@ heap=$(whole "${3:-$(dirname "$(rt doc | head -n 1)")/c/liblibc_c.a}")
 work=$(mktemp -d "${TMPDIR:-/tmp}/lcrvm-install.XXXXXX")
 trap 'rm -rf "$work"' EXIT
 trap 'exit 1' HUP INT TERM
-unset PREFIX BINDIR LIBDIR INCLUDEDIR MANDIR COMPLETIONDIR DESTDIR MAKEFLAGS MAKELEVEL CFLAGS CPPFLAGS LDFLAGS
+unset PREFIX BINDIR LIBDIR INCLUDEDIR MANDIR DOCDIR COMPLETIONDIR DESTDIR MAKEFLAGS MAKELEVEL CFLAGS CPPFLAGS LDFLAGS
 export PYTHONDONTWRITEBYTECODE=1 LC_ALL=C
 
 passed=0
@@ -55,7 +55,7 @@ is_there() {
 }
 
 mkdir "$work/top" "$work/proved"
-(cd "$top" && cp -r Makefile packaging clients include man completion "$work/top")
+(cd "$top" && cp -r Makefile packaging clients include man completion LICENSE-* "$work/top")
 rm -f "$work"/top/clients/python/lcrvm/*.so "$work"/top/clients/python/lcrvm/*.so.*
 [ ! -e "$top/.git" ] || export GIT_DIR="$(cd "$top" && git rev-parse --absolute-git-dir)"
 cd "$work/top"
@@ -115,6 +115,8 @@ cat > "$work/wanted" <<END
 ./usr/lib/liblcrvm.so.$version
 ./usr/lib/pkgconfig/lcrvm.pc
 ./usr/share/bash-completion/completions/lcrvm
+./usr/share/doc/lcrvm/LICENSE-APACHE
+./usr/share/doc/lcrvm/LICENSE-MIT
 ./usr/share/man/man1/lcrvm.1
 ./usr/share/man/man3/lcrvm.3
 END
@@ -301,7 +303,10 @@ if [ -f $archive ]; then
             attempt 'pip install' "$work/venv/bin/pip" install -q --no-index --disable-pip-version-check ./*.whl
             cat > "$work/package.py" <<'END'
 import sys, lcrvm
+from importlib.metadata import files, metadata
 assert lcrvm.__version__ == sys.argv[2], lcrvm.__version__
+assert metadata("lcrvm")["License-Expression"] == "MIT OR Apache-2.0", metadata("lcrvm")
+assert {"LICENSE-MIT", "LICENSE-APACHE"} <= {it.name for it in files("lcrvm")}, files("lcrvm")
 with lcrvm.open(sys.argv[1], create=True) as store:
     with store.transaction(1) as t:
         t[1, 3:8] = b"hello"

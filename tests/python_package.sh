@@ -24,7 +24,7 @@ sys.exit(not os.path.exists(os.path.join(sysconfig.get_paths()["include"], "Pyth
 
 mkdir -p "$folder/tree"
 cd "$top"
-cp -R Makefile packaging include clients "$folder/tree"
+cp -R Makefile packaging include clients LICENSE-* "$folder/tree"
 cd "$folder"
 make -s -C tree python STORE="$store"
 python3 -m venv environment

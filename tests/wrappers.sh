@@ -25,7 +25,7 @@ bound=120
 work=$(mktemp -d "${TMPDIR:-/tmp}/lcrvm-wrappers.XXXXXX")
 trap 'rm -rf "$work"' EXIT
 trap 'exit 1' HUP INT TERM
-unset PREFIX BINDIR LIBDIR INCLUDEDIR MANDIR COMPLETIONDIR DESTDIR MAKEFLAGS MAKELEVEL CFLAGS CPPFLAGS LDFLAGS
+unset PREFIX BINDIR LIBDIR INCLUDEDIR MANDIR DOCDIR COMPLETIONDIR DESTDIR MAKEFLAGS MAKELEVEL CFLAGS CPPFLAGS LDFLAGS
 
 passed=0
 failed=0
@@ -47,7 +47,7 @@ is_there() {
 }
 
 mkdir "$work/top"
-(cd "$top" && cp -r Makefile packaging clients include man completion examples "$work/top")
+(cd "$top" && cp -r Makefile packaging clients include man completion examples LICENSE-* "$work/top")
 cd "$work/top"
 make -s install PROGRAM="$program" STORE="$library" HEAP="$heap" PREFIX="$work/prefix" > "$work/said"
 lib=$work/prefix/lib

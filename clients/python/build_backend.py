@@ -18,10 +18,12 @@ from typing import Dict, List, Optional
 
 HERE = os.path.dirname(os.path.abspath(__file__))
 PACKAGE = os.path.join(HERE, "lcrvm")
-HEADERS = os.path.join(HERE, "..", "..", "include")
+TOP = os.path.join(HERE, "..", "..")
+HEADERS = os.path.join(TOP, "include")
 LIBRARY = "liblcrvm.so.0"
 EXTENSION = "_lcrvm.abi3.so"
 KEPT = (".py", ".pyi", "py.typed", LIBRARY)
+LICENSES = ("LICENSE-MIT", "LICENSE-APACHE")
 
 
 def _content(path: str) -> bytes:
@@ -40,10 +42,13 @@ VERSION = _version()
 INFO = f"lcrvm-{VERSION}.dist-info"
 PLATFORM = re.sub("[-.]", "_", sysconfig.get_platform())
 TAG = f"cp38-abi3-{PLATFORM}"
-METADATA = f"""Metadata-Version: 2.1
+METADATA = f"""Metadata-Version: 2.4
 Name: lcrvm
 Version: {VERSION}
 Summary: Recoverable virtual memory: transactions on bytes that outlive a crash
+License-Expression: MIT OR Apache-2.0
+License-File: LICENSE-MIT
+License-File: LICENSE-APACHE
 Requires-Python: >=3.8
 """
 WHEEL = f"Wheel-Version: 1.0\nGenerator: lcrvm\nRoot-Is-Purelib: false\nTag: {TAG}\n"
@@ -85,6 +90,9 @@ def _extension() -> bytes:
 def _pack(folder: str, files: Dict[str, bytes]) -> str:
     """Writes a wheel, which is the same for the same files."""
     name, record = f"lcrvm-{VERSION}-{TAG}.whl", ""
+    for text in LICENSES:
+        _need(os.path.join(TOP, text), "the package is built within the repository")
+        files[f"{INFO}/licenses/{text}"] = _content(os.path.join(TOP, text))
     files[f"{INFO}/METADATA"] = METADATA.encode()
     files[f"{INFO}/WHEEL"] = WHEEL.encode()
     for path, data in files.items():
