@@ -1,11 +1,8 @@
 //! Services that keep nodes in order beside a thread that commits.
-ghost use Rattle.std.specs.Prelude.{◌<◌, length};
-ghost use Rattle.lc_node.specs.Cluster.{IsSeatAt};
-
-use crate::stores::{HELLO, LEAST_WORDS, MANY_WORDS, opened, opened_pair};
+use crate::stores::{HELLO, LEAST_WORDS, MANY_WORDS, Pair, opened, opened_pair};
 use lc_committer::Committer;
 use lc_disk::MemArea;
-use lc_node::{Cluster, Commit, Confirmed, Mode, Node, Pumped, Put};
+use lc_node::{Commit, Confirmed, Mode, Node, Pumped, Put};
 use lc_service::{Ending, Upkeep, keep_member, keep_node};
 use std::rt::Clock;
 use std::sync::Wait;
@@ -142,16 +139,10 @@ fn a_service_that_is_told_to_end_flushes_once_more(rt: HostRuntime) -> Result<()
 }
 
 // Goes on at the second node with what the first has sent, until a record came; whether one did.
-fn sees_it_come<R: AllocGlobal + Clock + Wait>(
-    rt: &R,
-    cluster: &Cluster<MemArea>,
-    ending: &Ending,
-) -> bool
-    requires { length cluster.now.members.items ≡ 2 }
-{
+fn sees_it_come<R: AllocGlobal + Clock + Wait>(rt: &R, pair: &Pair, ending: &Ending) -> bool {
     let mut has_come = false;
     for _ in 0..LOOKS {
-        let pumped = cluster.pump(rt, rt.alloc(), 1, 0);
+        let pumped = pair.cluster.pump(rt, rt.alloc(), 1, 0);
         has_come = matches!(pumped, Ok(Pumped::Applied { applied: 1, .. }));
         if has_come {
             break;
@@ -164,19 +155,19 @@ fn sees_it_come<R: AllocGlobal + Clock + Wait>(
 
 #[test]
 fn a_service_sends_the_records_of_its_node(rt: HostRuntime) -> Result<(), Fail> {
-    let (cluster, first, _second) = opened_pair(rt.alloc(), MANY_WORDS)?;
+    let (pair, first, _second) = opened_pair(rt.alloc(), MANY_WORDS)?;
     let ending = Ending::new();
     let mut work = Put {
         segment: 2,
         ..HELLO
     };
-    let mut committer = Committer::new(cluster.node(0), first);
+    let mut committer = Committer::new(pair.cluster.node(0), first);
     let done = committer.commit(&rt, &[2], &mut work, Mode::Lazy);
     assert!(rt; matches!(done, Ok(Commit::Lazy)), "the commit: {done:?}");
     let (kept, has_come) = join(
         &rt,
-        || keep_member(&rt, &cluster, 0, &often(), &ending),
-        || sees_it_come(&rt, &cluster, &ending),
+        || keep_member(&rt, &pair.cluster, 0, &often(), &ending),
+        || sees_it_come(&rt, &pair, &ending),
     );
     assert!(rt; kept == Ok(()), "the service: {kept:?}");
     assert!(rt; has_come, "the record came");

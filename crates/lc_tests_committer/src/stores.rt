@@ -51,14 +51,17 @@ pub(crate) fn opened(alloc: Global, words: u32) -> Result<(Node<MemArea>, Commit
     }
 }
 
+/// A cluster of two nodes.
+#[derive(Drop)]
+pub(crate) struct Pair {
+    pub(crate) cluster: Cluster<MemArea>,
+    ghost two: { length cluster.members.items ≡ 2 },
+}
+
 /// Two nodes over a store of zeros, and the first seat of each: segment 2 begins at the first node, segment 1 at the second.
-pub(crate) fn opened_pair(
-    alloc: Global,
-    words: u32,
-) -> Result<(Cluster<MemArea>, CommitSeat, CommitSeat), Fail>
-    ensures nodes { IfOk result (λ made. length made.0.members.items ≡ 2) }
-    ensures first { IfOk result (λ made. IsSeatAt made.0 0 made.1) }
-    ensures second { IfOk result (λ made. IsSeatAt made.0 1 made.2) }
+pub(crate) fn opened_pair(alloc: Global, words: u32) -> Result<(Pair, CommitSeat, CommitSeat), Fail>
+    ensures first { IfOk result (λ made. IsSeatAt made.0.cluster 0 made.1) }
+    ensures second { IfOk result (λ made. IsSeatAt made.0.cluster 1 made.2) }
 {
     let geometry = geometry(2, words)?;
     let areas = zero_areas(alloc, &geometry)?;
@@ -70,7 +73,7 @@ pub(crate) fn opened_pair(
             let mut seats = seats;
             let first = seats.remove(0);
             let second = seats.remove(0);
-            Ok((cluster, first, second))
+            Ok((Pair { cluster }, first, second))
         }
         Err(_) => Err(Fail::from("there is memory for a cluster")),
     }

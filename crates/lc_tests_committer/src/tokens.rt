@@ -1,6 +1,4 @@
 //! Nodes that get the token of a segment.
-ghost use Rattle.lc_node.specs.Cluster.{IsSeatAt};
-
 use crate::stores::{HELLO, MANY_WORDS, opened_pair};
 use lc_committer::Committer;
 use lc_node::{Commit, Mode, NodeFault, Put};
@@ -10,9 +8,9 @@ use std::test::*;
 #[test]
 fn a_node_acquires_a_segment_and_its_bytes(rt: HostRuntime) -> Result<(), Fail> {
     let alloc = rt.alloc();
-    let (cluster, first, second) = opened_pair(alloc, MANY_WORDS)?;
-    let mut first = Committer::new(cluster.node(0), first);
-    let mut second = Committer::new(cluster.node(1), second);
+    let (pair, first, second) = opened_pair(alloc, MANY_WORDS)?;
+    let mut first = Committer::new(pair.cluster.node(0), first);
+    let mut second = Committer::new(pair.cluster.node(1), second);
     let mut work = Put {
         segment: 2,
         ..HELLO
@@ -23,18 +21,18 @@ fn a_node_acquires_a_segment_and_its_bytes(rt: HostRuntime) -> Result<(), Fail> 
         "at the first node: {done:?}"
     );
     assert!(rt;
-        !cluster.node(1).has_token(&rt, 2),
+        !pair.cluster.node(1).has_token(&rt, 2),
         "the token is elsewhere"
     );
 
-    let got = acquire(&rt, &cluster, 1, 2, 1);
+    let got = acquire(&rt, &pair.cluster, 1, 2, 1);
     assert!(rt; got == Ok(()), "in one turn: {got:?}");
-    assert!(rt; cluster.node(1).has_token(&rt, 2), "the token is here");
+    assert!(rt; pair.cluster.node(1).has_token(&rt, 2), "the token is here");
     assert!(rt;
-        !cluster.node(0).has_token(&rt, 2),
+        !pair.cluster.node(0).has_token(&rt, 2),
         "the token is no more at the first node"
     );
-    let Ok(copy) = cluster.node(1).snapshot(&rt, alloc, 2) else {
+    let Ok(copy) = pair.cluster.node(1).snapshot(&rt, alloc, 2) else {
         return Err(Fail::from("there is a copy"));
     };
     assert!(rt;
@@ -51,18 +49,18 @@ fn a_node_acquires_a_segment_and_its_bytes(rt: HostRuntime) -> Result<(), Fail> 
 
 #[test]
 fn a_segment_that_is_not_got_is_named(rt: HostRuntime) -> Result<(), Fail> {
-    let (cluster, _first, _second) = opened_pair(rt.alloc(), MANY_WORDS)?;
-    let none = acquire(&rt, &cluster, 1, 3, 2);
+    let (pair, _first, _second) = opened_pair(rt.alloc(), MANY_WORDS)?;
+    let none = acquire(&rt, &pair.cluster, 1, 3, 2);
     assert!(rt;
         none == Err(NodeFault::NotHere { segment: 3 }),
         "no such segment: {none:?}"
     );
-    let no_turn = acquire(&rt, &cluster, 1, 2, 0);
+    let no_turn = acquire(&rt, &pair.cluster, 1, 2, 0);
     assert!(rt;
         no_turn == Err(NodeFault::NotHere { segment: 2 }),
         "no turn: {no_turn:?}"
     );
-    let here = acquire(&rt, &cluster, 0, 2, 0);
+    let here = acquire(&rt, &pair.cluster, 0, 2, 0);
     assert!(rt; here == Ok(()), "where it is: {here:?}");
     Ok(())
 }
