@@ -32,7 +32,11 @@ pub fn acquire<D: Area + Drop, R: AllocGlobal + Wait>(
     ensures here { OnOk result (HadToken cluster.now number segment) }
     ensures refused { IfErr result (λ fault. (fault ≡ NotHere segment) ⊎ IsOfDevice fault) }
 {
-    if cluster.node(number).has_token(rt, segment) {
+    let node = cluster.node(number);
+    if !node.has(segment) {
+        return Err(NodeFault::NotHere { segment });
+    }
+    if node.has_token(rt, segment) {
         return Ok(());
     }
     for _ in 0..turns {
@@ -42,7 +46,7 @@ pub fn acquire<D: Area + Drop, R: AllocGlobal + Wait>(
                 pump_all(rt, cluster, number, peer);
             }
         }
-        if cluster.node(number).has_token(rt, segment) {
+        if node.has_token(rt, segment) {
             return Ok(());
         }
         thread::yield_now();

@@ -8,6 +8,8 @@ use std::sync::Wait;
 
 /// What is kept in order, a round at a time.
 pub(crate) trait Round {
+    ghost use Rattle.lc_service.specs.declared.upkeep.Upkeep.{Upkeep};
+
     /// What one round did.
     ghost kept: { Upkeep → Self → Type 0 };
 
