@@ -4,7 +4,7 @@ ghost use Rattle.lc_stage.specs.Seats.{commit_view, IsSeatOf, IsIdle};
 use crate::nodes::recovered;
 use crate::side_by_side::StartingLine;
 use lc_committer::Committer;
-use lc_disk::MemArea;
+use lc_disk::Area;
 use lc_node::{Mode, Node, Put};
 use lc_record::Geometry;
 use lc_recover::zero_areas;
@@ -46,8 +46,8 @@ struct Case {
 
 // A thread of a case.
 #[derive(Drop)]
-struct Member<'a> {
-    committer: Committer<'a, MemArea>,
+struct Member<'a, D: Area + Drop> {
+    committer: Committer<'a, D>,
     segment: u32,
     mode: Mode,
 }
@@ -110,10 +110,10 @@ fn measure_case<R: AllocGlobal + Clock + Print + Threads + Wait + Sync>(
     measure_on(rt, case, &node, seat)
 }
 
-fn measure_on<R: AllocGlobal + Clock + Print + Threads + Wait + Sync>(
+fn measure_on<D: Area + Drop + Send, R: AllocGlobal + Clock + Print + Threads + Wait + Sync>(
     rt: &R,
     case: &Case,
-    node: &Node<MemArea>,
+    node: &Node<D>,
     seat: CommitSeat,
 ) -> io::Result<()>
     requires own { IsSeatOf node.now.stage seat }
@@ -121,7 +121,11 @@ fn measure_on<R: AllocGlobal + Clock + Print + Threads + Wait + Sync>(
 {
     let members = members(rt.alloc(), case, Committer::new(node, seat))?;
     let line = StartingLine::of(u64::from(case.threads));
-    let shares = map_vec(rt, members, &|member: Member| member.commit_on(rt, &line))?;
+    let shares = map_vec(
+        rt,
+        members,
+        &|member: Member<D>| member.commit_on(rt, &line),
+    )?;
     let Ok(round) = node.truncate(rt, rt.alloc()) else {
         return Err(Error::from(ErrorKind::InvalidData));
     };
@@ -129,11 +133,11 @@ fn measure_on<R: AllocGlobal + Clock + Print + Threads + Wait + Sync>(
 }
 
 // The threads of a case, on segments of their own or on one.
-fn members<'a>(
+fn members<'a, D: Area + Drop>(
     alloc: Global,
     case: &Case,
-    first: Committer<'a, MemArea>,
-) -> Result<Vec<Member<'a>>, AllocError> {
+    first: Committer<'a, D>,
+) -> Result<Vec<Member<'a, D>>, AllocError> {
     let mut first = first;
     let mut members = Vec::new(alloc);
     for thread in 0..case.threads {
@@ -151,7 +155,7 @@ fn members<'a>(
     Ok(members)
 }
 
-impl Member<'_> {
+impl<D: Area + Drop> Member<'_, D> {
     // Commits until the time is over.
     fn commit_on<R: AllocGlobal + Clock + Wait>(
         self,

@@ -25,7 +25,7 @@ fn a_node_leaves_what_was_staged(rt: HostRuntime) -> Result<(), Fail> {
         return Err(Fail::from("the store has the page"));
     };
     assert!(rt;
-        page[3..8] == b"hello".as_slice()[..],
+        page.get(3..8) == Some(b"hello".as_slice()),
         "the page of the store"
     );
     let flushed = world.flush(alloc, 0);
@@ -38,7 +38,7 @@ fn a_node_leaves_what_was_staged(rt: HostRuntime) -> Result<(), Fail> {
         return Err(Fail::from("the areas are a store"));
     };
     assert!(rt;
-        recovered.page(1, 0)[3..8] == b"hello".as_slice()[..],
+        recovered.page(1, 0).get(3..8) == Some(b"hello".as_slice()),
         "the page in the areas"
     );
     Ok(())
@@ -58,9 +58,8 @@ fn a_node_that_was_truncated_becomes_a_store(rt: HostRuntime) -> Result<(), Fail
             "commit {number}: {done:?}"
         );
     }
-    let mut seats = Vec::new(alloc);
-    seats.push(committer.into_seat())?;
-    let world = node_into_world(node, &rt, alloc, seats);
+    drop(committer);
+    let world = node_into_world(node, &rt, alloc, Vec::new(alloc));
     assert!(rt; world.is_ok(), "it becomes a store");
     Ok(())
 }

@@ -1,13 +1,13 @@
 //! Threads that commit side by side, each with a committer of its own.
 use crate::stores::{LEAST_WORDS, MANY_WORDS, opened};
 use lc_committer::Committer;
-use lc_disk::MemArea;
+use lc_disk::Area;
 use lc_node::{Commit, Confirmed, Mode, Put};
 use lc_record::View;
 use std::alloc::{AllocError, Global};
 use std::sync::Wait;
 use std::test::*;
-use std::thread::map_vec;
+use std::thread::{Threads, map_vec};
 
 const THREADS: u8 = 4;
 
@@ -16,9 +16,17 @@ const COMMITS: u8 = 50;
 
 // A thread with its committer.
 #[derive(Drop)]
-struct Worker<'a> {
+struct Worker<'a, D: Area + Drop> {
     number: u8,
-    committer: Committer<'a, MemArea>,
+    committer: Committer<'a, D>,
+}
+
+// What a thread says of its commits.
+#[derive(Clone, Copy, Debug, PartialEq, Eq)]
+struct Said {
+    is_done: bool,
+    // The offset and the byte of its last record, as the log has them.
+    last: Option<(u32, u8)>,
 }
 
 // A thread's put, at an offset of its own.
@@ -30,7 +38,7 @@ fn put_of(number: u8, bytes: &[u8]) -> Put<'_> {
     }
 }
 
-impl Worker<'_> {
+impl<D: Area + Drop> Worker<'_, D> {
     // Commits lazily, and waits until all of it is stable; whether each was carried out.
     fn commit_all<R: Wait + AllocGlobal>(&mut self, rt: &R) -> bool {
         for round in 0..COMMITS {
@@ -60,10 +68,11 @@ impl Worker<'_> {
 }
 
 // The threads, each with a committer that was split off.
-fn workers<'a>(
+fn workers<'a, D: Area + Drop>(
     alloc: Global,
-    first: &mut Committer<'a, MemArea>,
-) -> Result<Vec<Worker<'a>>, AllocError> {
+    first: Committer<'a, D>,
+) -> Result<Vec<Worker<'a, D>>, AllocError> {
+    let mut first = first;
     let mut workers = Vec::new(alloc);
     for number in 0..THREADS {
         let committer = first.split();
@@ -72,24 +81,51 @@ fn workers<'a>(
     Ok(workers)
 }
 
+// What each thread says: whether each of its commits was carried out, and its last record.
+fn say_all<D: Area + Drop + Send, R: AllocGlobal + Threads + Wait + Sync>(
+    rt: &R,
+    first: Committer<D>,
+) -> Result<Vec<Said>, AllocError> {
+    let workers = workers(rt.alloc(), first)?;
+    map_vec(
+        rt,
+        workers,
+        &|worker: Worker<D>| {
+            let mut worker = worker;
+            Said {
+                is_done: worker.commit_all(rt),
+                last: worker.last_record(rt),
+            }
+        },
+    )
+}
+
+// Whether each thread's commits were carried out.
+fn commit_side_by_side<D: Area + Drop + Send, R: AllocGlobal + Threads + Wait + Sync>(
+    rt: &R,
+    first: Committer<D>,
+) -> Result<Vec<bool>, AllocError> {
+    let workers = workers(rt.alloc(), first)?;
+    map_vec(
+        rt,
+        workers,
+        &|worker: Worker<D>| {
+            let mut worker = worker;
+            worker.commit_all(rt)
+        },
+    )
+}
+
 #[test]
 fn each_thread_reads_its_own_record_back(rt: HostRuntime) -> Result<(), Fail> {
-    let alloc = rt.alloc();
-    let (node, seat) = opened(alloc, MANY_WORDS)?;
-    let mut first = Committer::new(&node, seat);
-    let workers = workers(alloc, &mut first)?;
-    let host = &rt;
-    let found = map_vec(
-        &rt,
-        workers,
-        &|worker: Worker| {
-            let mut worker = worker;
-            (worker.commit_all(host), worker.last_record(host))
-        },
-    )?;
+    let (node, seat) = opened(rt.alloc(), MANY_WORDS)?;
+    let said = say_all(&rt, Committer::new(&node, seat))?;
     for number in 0..THREADS {
-        let wanted = (true, Some((u32::from(number), COMMITS - 1)));
-        let got = found.get(usize::from(number));
+        let wanted = Said {
+            is_done: true,
+            last: Some((u32::from(number), COMMITS - 1)),
+        };
+        let got = said.get(usize::from(number));
         assert!(rt; got == Some(&wanted), "thread {number}: {got:?}");
     }
     Ok(())
@@ -99,17 +135,7 @@ fn each_thread_reads_its_own_record_back(rt: HostRuntime) -> Result<(), Fail> {
 fn threads_find_room_in_a_small_log(rt: HostRuntime) -> Result<(), Fail> {
     let alloc = rt.alloc();
     let (node, seat) = opened(alloc, LEAST_WORDS)?;
-    let mut first = Committer::new(&node, seat);
-    let workers = workers(alloc, &mut first)?;
-    let host = &rt;
-    let done = map_vec(
-        &rt,
-        workers,
-        &|worker: Worker| {
-            let mut worker = worker;
-            worker.commit_all(host)
-        },
-    )?;
+    let done = commit_side_by_side(&rt, Committer::new(&node, seat))?;
     let Ok(copy) = node.snapshot(&rt, alloc, 1) else {
         return Err(Fail::from("there is a copy"));
     };

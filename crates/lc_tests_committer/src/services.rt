@@ -2,7 +2,7 @@
 use crate::stores::{HELLO, LEAST_WORDS, MANY_WORDS, Pair, opened, opened_pair};
 use lc_committer::Committer;
 use lc_disk::MemArea;
-use lc_node::{Commit, Confirmed, Mode, Node, Pumped, Put};
+use lc_node::{Commit, Mode, Node, Pumped, Put};
 use lc_service::{Ending, Upkeep, keep_member, keep_node};
 use std::rt::Clock;
 use std::sync::Wait;
@@ -73,9 +73,10 @@ fn a_service_makes_lazy_commits_stable(rt: HostRuntime) -> Result<(), Fail> {
     Ok(())
 }
 
-// Fills half of the least log, and waits until the records are of an earlier round; whether they became so.
+// Fills half of the least log, makes that stable, and waits until the log is empty; whether it became so.
 fn sees_it_emptied<R: AllocGlobal + Clock + Wait>(
     rt: &R,
+    node: &Node<MemArea>,
     committer: Committer<MemArea>,
     ending: &Ending,
 ) -> bool {
@@ -86,17 +87,15 @@ fn sees_it_emptied<R: AllocGlobal + Clock + Wait>(
     }
     let settled = committer.settle(rt);
     let mut is_emptied = false;
-    if let Ok(Some(receipt)) = settled {
-        for _ in 0..LOOKS {
-            is_emptied = committer.confirm(rt, receipt) == Confirmed::Earlier { round: 1 };
-            if is_emptied {
-                break;
-            }
-            wait_a_little(rt);
+    for _ in 0..LOOKS {
+        is_emptied = node.stable_words(rt) == 0;
+        if is_emptied {
+            break;
         }
+        wait_a_little(rt);
     }
     ending.tell(rt);
-    is_emptied
+    matches!(settled, Ok(Some(_))) && is_emptied
 }
 
 #[test]
@@ -107,10 +106,10 @@ fn a_service_empties_a_log_that_is_half_full(rt: HostRuntime) -> Result<(), Fail
     let (kept, is_emptied) = join(
         &rt,
         || keep_node(&rt, &node, &often(), &ending),
-        || sees_it_emptied(&rt, committer, &ending),
+        || sees_it_emptied(&rt, &node, committer, &ending),
     );
     assert!(rt; kept == Ok(()), "the service: {kept:?}");
-    assert!(rt; is_emptied, "the records are of an earlier round");
+    assert!(rt; is_emptied, "the log is empty");
     Ok(())
 }
 

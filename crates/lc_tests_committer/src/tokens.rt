@@ -36,7 +36,7 @@ fn a_node_acquires_a_segment_and_its_bytes(rt: HostRuntime) -> Result<(), Fail> 
         return Err(Fail::from("there is a copy"));
     };
     assert!(rt;
-        copy.bytes[3..8] == b"hello".as_slice()[..],
+        copy.bytes.get(3..8) == Some(b"hello".as_slice()),
         "the bytes came with it"
     );
     let done = second.commit(&rt, &[2], &mut work, Mode::Flush);
