@@ -1,0 +1,113 @@
+//! All clients side by side on one node.
+ghost use Rattle.lc_stage.specs.Seats.{commit_view, IsSeatOf, IsIdle};
+
+use crate::client::Client;
+use crate::fault::Fault;
+use crate::queues::{Message, Queues};
+use crate::reader::read_lines;
+use crate::replies::Replies;
+use crossbeam_channel::Receiver;
+use lc_committer::Committer;
+use lc_disk::Area;
+use lc_node::Node;
+use lc_stage::CommitSeat;
+use std::alloc::{AllocError, Global};
+use std::sync::{Arc, Wait};
+use std::thread::{self, JoinHandle, Scope, Threads};
+
+/// Serves the clients up to the end of standard input, each by a thread, and then empties the log; whether each line was
+/// understood.
+///
+/// # Errors
+///
+/// Where a device, standard input or standard output fails, or there is no memory or no thread. All clients have ended then;
+/// standard input may still be waited for.
+pub(crate) fn serve<R, D: Area + Drop + Send>(
+    rt: R,
+    node: &Node<D>,
+    seat: CommitSeat,
+) -> Result<bool, Fault>
+where
+    R: AllocGlobal + Input + Print + Threads + Wait + Copy + Send + Sync + 'static,
+    requires own { IsSeatOf node.now.stage seat }
+    requires idle { IsIdle (commit_view seat) }
+{
+    let alloc = rt.alloc();
+    let (queues, receivers) = Queues::open(alloc)?;
+    let queues = Arc::new(alloc, queues).map_err(AllocError::from)?;
+    let theirs = Arc::try_clone(&queues)?;
+    // It is joined only behind its end: a thread that waits for input cannot be stopped.
+    let reader = thread::spawn(&rt, move || read_lines(&rt, &theirs)).map_err(AllocError::from)?;
+    let replies = Replies::new();
+    let clients = clients_on(alloc, Committer::new(node, seat), receivers, &replies)?;
+    serve_all(&rt, clients, &queues)?;
+    reader.join(&rt)?;
+    match node.truncate(&rt, alloc) {
+        Ok(_) => Ok(replies.are_understood()),
+        Err(_) => Err(Fault::Device),
+    }
+}
+
+// A client for each queue.
+fn clients_on<'a, D: Area + Drop>(
+    alloc: Global,
+    mut first: Committer<'a, D>,
+    receivers: Vec<Receiver<Message>>,
+    replies: &'a Replies,
+) -> Result<Vec<Client<'a, D>>, AllocError> {
+    let mut clients = Vec::new(alloc);
+    for (number, queue) in receivers.into_iter().enumerate() {
+        clients.push(Client {
+            number,
+            committer: first.split(),
+            queue,
+            replies,
+        })?;
+    }
+    Ok(clients)
+}
+
+// Serves the clients, each by a thread, until all have ended. Where one cannot be, all are to end.
+fn serve_all<R: AllocGlobal + Print + Threads + Wait + Sync, D: Area + Drop + Send>(
+    rt: &R,
+    clients: Vec<Client<'_, D>>,
+    queues: &Queues,
+) -> Result<(), Fault> {
+    thread::scope(thread::scope_env(), rt, |scope| -> Result<(), Fault> {
+        let started = start_all(rt, scope, clients, queues);
+        if started.is_err() {
+            queues.end(rt);
+        }
+        for thread in started? {
+            thread.join(rt)?;
+        }
+        Ok(())
+    })
+}
+
+// Starts a thread for each client.
+fn start_all<'s, R: AllocGlobal + Print + Threads + Wait + Sync, D: Area + Drop + Send, E>(
+    rt: &'s R,
+    scope: &Scope<'s, E>,
+    clients: Vec<Client<'s, D>>,
+    queues: &'s Queues,
+) -> Result<Vec<JoinHandle<Result<(), Fault>>>, AllocError> {
+    let mut threads = Vec::new(rt.alloc());
+    for client in clients {
+        threads.push(scope.spawn(move || serve_client(rt, client, queues))?)?;
+    }
+    Ok(threads)
+}
+
+// Serves a client. Where that fails all are to end.
+fn serve_client<R: AllocGlobal + Print + Wait, D: Area + Drop>(
+    rt: &R,
+    client: Client<'_, D>,
+    queues: &Queues,
+) -> Result<(), Fault> {
+    let served = client.serve(rt);
+    if served.is_err() {
+        queues.end(rt);
+    }
+    served
+}
