@@ -97,7 +97,6 @@ status 0'
 # ---- Descriptors
 
 is 'a closed standard input' "$(serve store <&-)" 'status 1'
-echo '0 create closed' | serve store >&- 2> /dev/null || true
 status=0
 echo '0 find a' | timeout -k 5 $bound "$names" store >&- 2> err || status=$?
 is 'a closed standard output' "$status" 1
@@ -112,13 +111,13 @@ is 'a full standard output' "$status $(cat err)" '1 names: standard output: No s
 
 mkfifo input
 # The input stays open: the reply comes all the same.
-{ echo '0 create b'; sleep 5; } > input &
+{ echo '0 create b'; sleep 2; } > input &
 is 'a reply while the input is open' "$(timeout -k 5 $bound "$names" store < input | head -n 1)" '0 created'
 wait
 
 # The reader is gone with the first line, and the input open: the next reply ends the server.
 begun=$(date +%s)
-{ echo '0 find b'; sleep 1; echo '0 find b'; sleep 20; } > input &
+{ echo '0 find b'; sleep 1; echo '0 find b'; exec sleep 20; } > input &
 writer=$!
 {
     status=0
@@ -133,7 +132,7 @@ is 'and soon' "$(($(date +%s) - begun < 15))" 1
 # Two processes on one folder: the second says so, and the first goes on.
 { echo '0 find b'; sleep 2; echo '0 find b'; } > input &
 timeout -k 5 $bound "$names" store < input > first &
-until [ -s first ]; do sleep 0.1; done
+timeout $bound sh -c 'until [ -s first ]; do sleep 0.1; done'
 is 'a second process' "$(echo '0 remove b' | serve store)" 'device fault
 status 3'
 is 'and why' "$(sed 's/[0-9][0-9]*$/P/' err)" 'lcrvm: store: store in use by process P'
