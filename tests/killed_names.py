@@ -20,7 +20,7 @@ import socket
 import subprocess
 import sys
 import time
-from typing import Dict, Iterator, List, NamedTuple, Optional, Tuple
+from typing import Dict, Iterator, List, NamedTuple, NoReturn, Optional, Tuple
 
 CLIENTS = 8
 # Names that a client has at most: with those of all others there is room in the table, which has 64.
@@ -126,7 +126,7 @@ def of_each(names: Names) -> List[Names]:
     return [{name: names[name] for name in names if owner(name) == number} for number in range(CLIENTS)]
 
 
-def fail(why: str) -> None:
+def fail(why: str) -> NoReturn:
     raise SystemExit(f"failed: {why}")
 
 
@@ -216,7 +216,7 @@ def connect(path: str, process: subprocess.Popen) -> socket.socket:
         except OSError:
             connection.close()
             time.sleep(0.001)
-    raise SystemExit("failed: no connection")
+    fail("no connection")
 
 
 def write(descriptor: int, text: str) -> None:
@@ -296,16 +296,16 @@ class Story:
         there = of_each(table(server))
         final = []
         for client, names in zip(self.clients, there):
-            may = [client.replied + 1, client.replied][client.replied == len(client.asked) :]
-            count = next((count for count in may if client.names(count) == names), None)
-            if count is None:
-                wanted = client.names(client.replied)
+            count = client.replied
+            if count < len(client.asked) and client.names(count + 1) != client.names(count):
+                is_there = client.names(count + 1) == names
+                self.kept += is_there
+                self.lost += not is_there
+                count += is_there
+            if client.names(count) != names:
+                wanted = client.names(count)
                 fail(f"client {client.number} has {names}, and behind all that was replied to {wanted}")
-                return
             final.append(count)
-            if client.replied < len(client.asked) and client.names(may[0]) != client.names(may[1]):
-                self.kept += count == may[0]
-                self.lost += count == may[1]
         for shown in self.shown:
             for client, count in zip(self.clients, final):
                 names = {name for name in shown if owner(name) == client.number}

@@ -13,7 +13,7 @@ use lc_node::Node;
 use lc_stage::CommitSeat;
 use std::alloc::{AllocError, Global};
 use std::sync::{Arc, Wait};
-use std::thread::{self, JoinHandle, Scope, Threads};
+use std::thread::{self, Threads};
 
 /// Serves the clients up to the end of standard input, each by a thread, and then empties the log; whether each line was
 /// understood.
@@ -67,36 +67,30 @@ fn clients_on<'a, D: Area + Drop>(
     Ok(clients)
 }
 
-// Serves the clients, each by a thread, until all have ended. Where one cannot be, all are to end.
+// Serves the clients, each by a thread, until all have ended. Where a thread cannot be made all are to end.
 fn serve_all<R: AllocGlobal + Print + Threads + Wait + Sync, D: Area + Drop + Send>(
     rt: &R,
     clients: Vec<Client<'_, D>>,
     queues: &Queues,
 ) -> Result<(), Fault> {
-    thread::scope(thread::scope_env(), rt, |scope| -> Result<(), Fault> {
-        let started = start_all(rt, scope, clients, queues);
-        if started.is_err() {
-            queues.end(rt);
+    thread::scope(thread::scope_env(), rt, move |scope| -> Result<(), Fault> {
+        let mut threads = Vec::new(rt.alloc());
+        let mut are_started = true;
+        for client in clients {
+            match scope.spawn(move || serve_client(rt, client, queues)) {
+                Ok(thread) => are_started &= threads.push(thread).is_ok(),
+                Err(_) => are_started = false,
+            }
         }
-        for thread in started? {
+        if !are_started {
+            queues.end(rt);
+            return Err(Fault::NoMemory);
+        }
+        for thread in threads {
             thread.join(rt)?;
         }
         Ok(())
     })
-}
-
-// Starts a thread for each client.
-fn start_all<'s, R: AllocGlobal + Print + Threads + Wait + Sync, D: Area + Drop + Send, E>(
-    rt: &'s R,
-    scope: &Scope<'s, E>,
-    clients: Vec<Client<'s, D>>,
-    queues: &'s Queues,
-) -> Result<Vec<JoinHandle<Result<(), Fault>>>, AllocError> {
-    let mut threads = Vec::new(rt.alloc());
-    for client in clients {
-        threads.push(scope.spawn(move || serve_client(rt, client, queues))?)?;
-    }
-    Ok(threads)
 }
 
 // Serves a client. Where that fails all are to end.
