@@ -1,7 +1,7 @@
 #!/bin/sh
 # Kills the server `names` in its midst, again and again, while eight clients ask at once: each time every change that
-# was replied to is there. And what is around it: closed descriptors, a reader that goes away, a store in use, and inputs
-# of all kinds.
+# was replied to is there. And what is around it: closed descriptors, a reader that goes away, a store in use, and
+# inputs of all kinds.
 #
 # usage: tests/names.sh [NAMES [PROGRAM [KILLS [SEED]]]]
 #        (default: $NAMES, or crates/names/out/names; $LCRVM, or crates/lcrvm/out/lcrvm; 500; 1)

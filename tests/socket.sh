@@ -1,7 +1,7 @@
 #!/bin/sh
 # Builds examples/socket.c, and tries it before the server `names`: eight clients at once over a Unix domain socket, and
-# a ninth, which waits. The server is killed again and again, and each change that a client has read a reply to is there.
-# And clients that go away, that read nothing or send half a line, a signal, and a socket that a killed one has left.
+# a ninth, which waits. The server is killed again and again, and each change that a client has read a reply to is
+# there. And clients that go away, that read nothing or send half a line, a signal, and a socket that is left.
 #
 # usage: tests/socket.sh [NAMES [PROGRAM [KILLS [SEED]]]]
 #        (default: $NAMES, or crates/names/out/names; $LCRVM, or crates/lcrvm/out/lcrvm; 100; 1)

@@ -15,13 +15,13 @@ use std::alloc::{AllocError, Global};
 use std::sync::{Arc, Wait};
 use std::thread::{self, Threads};
 
-/// Serves the clients up to the end of standard input, each by a thread, and then empties the log; whether each line was
-/// understood.
+/// Serves the clients up to the end of standard input, each by a thread, and then empties the log; whether each line
+/// was understood.
 ///
 /// # Errors
 ///
-/// Where a device, standard input or standard output fails, or there is no memory or no thread. All clients have ended then;
-/// standard input may still be waited for.
+/// Where a device, standard input or standard output fails, or there is no memory or no thread. All clients have ended
+/// then; standard input may still be waited for.
 pub(crate) fn serve<R, D: Area + Drop + Send>(
     rt: R,
     node: &Node<D>,
