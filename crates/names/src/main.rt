@@ -1,5 +1,5 @@
-//! A server of names: it serves up to eight clients at once, each by a thread of its own on one running node, and prints
-//! each reply as soon as it is durable.
+//! A server of names: it serves up to eight clients at once, each by a thread of its own on one running node, and
+//! prints each reply as soon as it is durable.
 #![tactic(auto)]
 
 mod client;

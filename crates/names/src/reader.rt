@@ -9,8 +9,8 @@ use std::sync::Wait;
 // The client that is told of a line that names none.
 const ANY_CLIENT: usize = 0;
 
-/// Puts each line of standard input into the queue of the client that it names, as it comes, and behind the last one ends
-/// all queues. It stops early where nobody takes from a queue.
+/// Puts each line of standard input into the queue of the client that it names, as it comes, and behind the last one
+/// ends all queues. It stops early where nobody takes from a queue.
 ///
 /// # Errors
 ///
