@@ -6,7 +6,7 @@
 # usage: tests/names.sh [NAMES [PROGRAM [KILLS [SEED]]]]
 #        (default: $NAMES, or crates/names/out/names; $LCRVM, or crates/lcrvm/out/lcrvm; 500; 1)
 #
-# It takes some two minutes, and works in a folder of its own below TMPDIR. What does not end in time is a failure.
+# It takes minutes, and works in a folder of its own below TMPDIR. What does not end in time is a failure.
 set -eu
 
 top=$(cd "$(dirname "$0")/.." && pwd)

@@ -6,7 +6,7 @@
 # usage: tests/socket.sh [NAMES [PROGRAM [KILLS [SEED]]]]
 #        (default: $NAMES, or crates/names/out/names; $LCRVM, or crates/lcrvm/out/lcrvm; 100; 1)
 #
-# It takes about a minute, and works in a folder of its own below TMPDIR. `cc` and `python3` are wanted.
+# It takes a minute or two, and works in a folder of its own below TMPDIR. `cc` and `python3` are wanted.
 set -eu
 
 top=$(cd "$(dirname "$0")/.." && pwd)
