@@ -18,9 +18,13 @@ use help::HELP;
 use lc_files::StoreFolder;
 use lc_record::Geometry;
 use lc_store::Serving;
+use queues::Queues;
+use reader::read_lines;
 use service::serve;
+use std::alloc::AllocError;
 use std::process::ExitCode;
-use std::{env, io};
+use std::sync::Arc;
+use std::{env, io, thread};
 
 // The status where the arguments or a line is not understood.
 const NOT_UNDERSTOOD: u8 = 2;
@@ -39,11 +43,16 @@ fn main(rt: HostRuntime) -> io::Result<ExitCode> {
         rt.print(HELP)?;
         return Ok(ExitCode::SUCCESS);
     }
+    let (queues, receivers) = Queues::open(alloc)?;
+    let queues = Arc::new(alloc, queues).map_err(AllocError::from)?;
+    let theirs = Arc::try_clone(&queues)?;
+    // It is joined only after its end: a thread that waits for input cannot be stopped.
+    let reader = thread::spawn(&rt, move || read_lines(&rt, &theirs)).map_err(AllocError::from)?;
     let folder = StoreFolder::new(alloc, &rt, path.as_str());
     // One node with 8 threads, one segment of 16 pages, and a log of 4096 words.
     let geometry = Geometry::new(1, 8, 1, 16, 4096).unwrap();
     let served = match Serving::open(alloc, &folder, geometry) {
-        Ok((serving, seat)) => serve(rt, &serving.node, seat),
+        Ok((serving, seat)) => serve(&rt, &serving.node, seat, &queues, receivers, reader),
         Err(fault) => {
             if folder.fault().is_none() {
                 eprintln!(rt; "names: {path}: {fault}")?;

@@ -4,7 +4,6 @@ ghost use Rattle.lc_stage.specs.Seats.{commit_view, IsSeatOf, IsIdle};
 use crate::client::Client;
 use crate::fault::Fault;
 use crate::queues::{Message, Queues};
-use crate::reader::read_lines;
 use crate::replies::Replies;
 use crossbeam_channel::Receiver;
 use lc_committer::Committer;
@@ -12,8 +11,8 @@ use lc_disk::Area;
 use lc_node::Node;
 use lc_stage::CommitSeat;
 use std::alloc::{AllocError, Global};
-use std::sync::{Arc, Wait};
-use std::thread::{self, Threads};
+use std::sync::Wait;
+use std::thread::{self, JoinHandle, Threads};
 
 /// Serves the clients up to the end of standard input, each by a thread, and then empties the log; whether each line
 /// was understood.
@@ -22,27 +21,23 @@ use std::thread::{self, Threads};
 ///
 /// Where a device, standard input or standard output fails, or there is no memory or no thread. All clients have ended
 /// then; standard input may still be waited for.
-pub(crate) fn serve<R, D: Area + Drop + Send>(
-    rt: R,
+pub(crate) fn serve<R: AllocGlobal + Print + Threads + Wait + Sync, D: Area + Drop + Send>(
+    rt: &R,
     node: &Node<D>,
     seat: CommitSeat,
+    queues: &Queues,
+    receivers: Vec<Receiver<Message>>,
+    reader: JoinHandle<Result<(), Fault>>,
 ) -> Result<bool, Fault>
-where
-    R: AllocGlobal + Input + Print + Threads + Wait + Copy + Send + Sync + 'static,
     requires own { IsSeatOf node.now.stage seat }
     requires idle { IsIdle (commit_view seat) }
 {
     let alloc = rt.alloc();
-    let (queues, receivers) = Queues::open(alloc)?;
-    let queues = Arc::new(alloc, queues).map_err(AllocError::from)?;
-    let theirs = Arc::try_clone(&queues)?;
-    // It is joined only behind its end: a thread that waits for input cannot be stopped.
-    let reader = thread::spawn(&rt, move || read_lines(&rt, &theirs)).map_err(AllocError::from)?;
     let replies = Replies::new();
     let clients = clients_on(alloc, Committer::new(node, seat), receivers, &replies)?;
-    serve_all(&rt, clients, &queues)?;
-    reader.join(&rt)?;
-    match node.truncate(&rt, alloc) {
+    serve_all(rt, clients, queues)?;
+    reader.join(rt)?;
+    match node.truncate(rt, alloc) {
         Ok(_) => Ok(replies.are_understood()),
         Err(_) => Err(Fault::Device),
     }
