@@ -7,14 +7,15 @@
 # usage: tests/all.sh [-j N] [NAME..]     (default: a script for each processor; all)
 #
 # The program, the library and the tests have to be built:
-#   make prove   (cd crates/lc_tests_store && rt test)
-# LCRVM, LC_C and LC_TESTS_STORE may name them elsewhere. `make`, `cc` and `python3` are wanted. Some scripts take more
-# cuts, kills or seeds by an argument of their own: see their first lines.
+#   make prove   (cd crates/lc_tests_store && rt test)   (cd crates/names && rt run -- --help)
+# LCRVM, LC_C, LC_TESTS_STORE and NAMES may name them elsewhere. `make`, `cc` and `python3` are wanted. Some scripts take
+# more cuts, kills or seeds by an argument of their own: see their first lines.
 set -eu
 
 top=$(cd "$(dirname "$0")/.." && pwd)
 export LCRVM="${LCRVM:-$top/crates/lcrvm/out/lcrvm}"
 export LC_C="${LC_C:-$top/crates/lc_c/out/liblc_c.a}"
+export NAMES="${NAMES:-$top/crates/names/out/names}"
 export LC_TESTS_STORE="${LC_TESTS_STORE:-$top/crates/lc_tests_store/out/lc_tests_store_tests}"
 lanes=$(nproc)
 if [ "${1:-}" = -j ]; then
@@ -31,9 +32,11 @@ rows='
 600 python tests/python.sh $LC_C
 600 faults tests/faults.sh $LCRVM
 600 objects tests/objects.sh $LC_C 20
+600 names tests/names.sh $NAMES $LCRVM
 600 files tests/files.sh $LCRVM
 600 wrappers tests/wrappers.sh $LCRVM $LC_C
 600 install tests/install.sh $LCRVM $LC_C
+300 socket tests/socket.sh $NAMES $LCRVM
 300 clean_close tests/clean_close.sh $LCRVM $LC_C
 300 processes tests/processes.sh $LCRVM 40
 300 failed_sync tests/failed_sync.sh $LCRVM

@@ -1,29 +1,36 @@
-//! A small server of names: it reads the commands of up to eight clients, lets each client's run in a thread of its own
-//! on one running node, and prints what each was told.
+//! A server of names: it serves up to eight clients at once, each by a thread of its own on one running node, and
+//! prints each reply as soon as it is durable.
 #![tactic(auto)]
 
-mod clients;
+mod client;
+mod fault;
 mod help;
+mod line;
+mod queues;
+mod reader;
+mod replies;
+mod reply;
 mod request;
+mod service;
 
-use clients::serve;
+use fault::Fault;
 use help::HELP;
 use lc_files::StoreFolder;
 use lc_record::Geometry;
 use lc_store::Serving;
-use request::requests_in;
-use std::env;
-use std::io::{self, Read};
+use queues::Queues;
+use reader::read_lines;
+use service::serve;
+use std::alloc::AllocError;
 use std::process::ExitCode;
+use std::sync::Arc;
+use std::{env, io, thread};
 
-// The status where the arguments, so long an input or a line is not understood.
+// The status where the arguments or a line is not understood.
 const NOT_UNDERSTOOD: u8 = 2;
 
 // The status where the device failed or has no such store.
 const DEVICE_FAULT: u8 = 3;
-
-// So many bytes the input has at most.
-const LONGEST_INPUT: u64 = 1 << 20;
 
 fn main(rt: HostRuntime) -> io::Result<ExitCode> {
     let alloc = rt.alloc();
@@ -36,30 +43,35 @@ fn main(rt: HostRuntime) -> io::Result<ExitCode> {
         rt.print(HELP)?;
         return Ok(ExitCode::SUCCESS);
     }
-    // One byte more shows an input that is too long, of which nothing is done.
-    let mut text = Vec::new(alloc);
-    rt.reader().take(LONGEST_INPUT + 1).read_to_end(&mut text)?;
-    if text.len() as u64 > LONGEST_INPUT {
-        eprintln!(rt; "names: the input has more than {LONGEST_INPUT} bytes")?;
-        return Ok(ExitCode::from(NOT_UNDERSTOOD));
-    }
-    let (requests, is_understood) = requests_in(&rt, &text)?;
+    let (queues, receivers) = Queues::open(alloc)?;
+    let queues = Arc::new(alloc, queues).map_err(AllocError::from)?;
+    let theirs = Arc::try_clone(&queues)?;
+    // It is joined only after its end: a thread that waits for input cannot be stopped.
+    let reader = thread::spawn(&rt, move || read_lines(&rt, &theirs)).map_err(AllocError::from)?;
     let folder = StoreFolder::new(alloc, &rt, path.as_str());
     // One node with 8 threads, one segment of 16 pages, and a log of 4096 words.
     let geometry = Geometry::new(1, 8, 1, 16, 4096).unwrap();
     let served = match Serving::open(alloc, &folder, geometry) {
-        Ok((serving, seat)) => serve(&rt, &serving.node, seat, &requests),
+        Ok((serving, seat)) => serve(&rt, &serving.node, seat, &queues, receivers, reader),
         Err(fault) => {
             if folder.fault().is_none() {
                 eprintln!(rt; "names: {path}: {fault}")?;
             }
-            Ok(false)
+            Err(Fault::Device)
         }
     };
     folder.tell();
-    if !served? || folder.fault().is_some() {
-        rt.println("device fault")?;
-        return Ok(ExitCode::from(DEVICE_FAULT));
+    let is_well = folder.fault().is_none();
+    match served {
+        Ok(true) if is_well => Ok(ExitCode::SUCCESS),
+        Ok(false) if is_well => Ok(ExitCode::from(NOT_UNDERSTOOD)),
+        Ok(_) | Err(Fault::Device) => {
+            rt.println(Fault::Device)?;
+            Ok(ExitCode::from(DEVICE_FAULT))
+        }
+        Err(fault) => {
+            eprintln!(rt; "names: {fault}")?;
+            Ok(ExitCode::FAILURE)
+        }
     }
-    Ok(ExitCode::from(if is_understood { 0 } else { NOT_UNDERSTOOD }))
 }
