@@ -32,11 +32,11 @@ rows='
 600 python tests/python.sh $LC_C
 600 faults tests/faults.sh $LCRVM
 600 objects tests/objects.sh $LC_C 20
-600 names tests/names.sh $NAMES $LCRVM
+600 names tests/names.sh $NAMES $LCRVM 100
 600 files tests/files.sh $LCRVM
 600 wrappers tests/wrappers.sh $LCRVM $LC_C
 600 install tests/install.sh $LCRVM $LC_C
-300 socket tests/socket.sh $NAMES $LCRVM
+600 socket tests/socket.sh $NAMES $LCRVM
 300 clean_close tests/clean_close.sh $LCRVM $LC_C
 300 processes tests/processes.sh $LCRVM 40
 300 failed_sync tests/failed_sync.sh $LCRVM
