@@ -32,7 +32,7 @@ rows='
 600 python tests/python.sh $LC_C
 600 faults tests/faults.sh $LCRVM
 600 objects tests/objects.sh $LC_C 20
-600 names tests/names.sh $NAMES $LCRVM 100
+600 names tests/names.sh $NAMES $LCRVM
 600 files tests/files.sh $LCRVM
 600 wrappers tests/wrappers.sh $LCRVM $LC_C
 600 install tests/install.sh $LCRVM $LC_C

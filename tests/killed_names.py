@@ -322,6 +322,7 @@ class Story:
 
     def kill_one(self) -> None:
         server = self.start()
+        replies = server.lines()
         opening = self.chance.randrange(100) < WHILE_OPENING
         if opening:
             time.sleep(self.chance.random() * OPENING)
@@ -329,13 +330,13 @@ class Story:
             self.check(server)
             lines = self.requests()
             server.send(lines)
-            replies = server.lines()
             left = self.chance.randrange(len(lines) + 1)
             while left > 0:
                 left -= self.hear(*next(replies))
             time.sleep(self.chance.random() * SOON)
         server.kill()
-        for client, line in server.lines():
+        # It goes on with what was read already: a new one would lose the lines that came with the last that was heard.
+        for client, line in replies:
             self.hear(client, line)
         server.wait()
         if not opening:
