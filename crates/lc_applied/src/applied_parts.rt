@@ -13,7 +13,7 @@ use std::alloc::{AllocError, Global};
 use std::marker::Model;
 
 /// The parts of records that were applied at a segment, one after another. Of a part that was made here, the runs and
-/// their bytes lie behind those of the parts before it, in lists that live on. So it takes no block of memory of its
+/// their bytes lie after those of the parts before it, in lists that live on. So it takes no block of memory of its
 /// own. A part that came from a peer is kept as it is. This project's own.
 #[derive(Drop)]
 pub struct AppliedParts {

@@ -8,8 +8,8 @@ use lc_range::Range;
 use lc_record::Part;
 use lc_tx::Image;
 
-/// A part of a record: as it was given; or the segment and number of one that was made here, and how many runs it
-/// has. These are the first behind those of the parts before it, and so are their bytes.
+/// A part of a record: as it was given; or the segment and number of one that was made here, and how many runs it has.
+/// These are the first after those of the parts before it, and so are their bytes.
 #[derive(Drop)]
 pub(crate) enum Entry {
     Given(Part),
@@ -17,8 +17,8 @@ pub(crate) enum Entry {
 }
 
 impl Entry {
-    /// Lays the bytes of its part over those of an image, where these are the runs and bytes behind the parts before
-    /// it. Answers those that are behind it.
+    /// Lays the bytes of its part over those of an image, where these are the runs and bytes that follow on the parts
+    /// before it. Answers those that follow on it.
     pub(crate) fn lay_on<'a>(
         &self,
         runs: &'a [Range],

@@ -6,7 +6,7 @@ ghost use Rattle.lc_applied.specs.Entry.{bytes_of};
 
 use lc_range::Range;
 
-/// Adds those of these runs that are of a segment, and the bytes that an image has in them, behind what is kept, where
+/// Adds those of these runs that are of a segment, and the bytes that an image has in them, after what is kept, where
 /// there is room for both. Answers how many runs these are.
 pub(crate) fn add_runs(
     kept: &mut Vec<Range>,

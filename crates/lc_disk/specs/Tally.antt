@@ -5,7 +5,7 @@ use Rattle.lc_disk.specs.declared.tally.Tally.{Tally}
 use Rattle.lc_disk.specs.declared.tally.Tally.TheOpen.{Tally-F}
 use Rattle.lc_disk.specs.declared.tally.Tally.TheFolds.{fold-Tally}
 
--- the number behind the one before, 0 where there is none
+-- one more than the number before, 0 where there is none
 abbrev pub after : Option (Snapshot ℕ) → ℕ
 after None = 0
 after (Some number) = number.value + 1

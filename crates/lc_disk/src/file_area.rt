@@ -23,11 +23,11 @@ static ZEROS: [u8; 4096] = [0; 4096];
 /// a signal interrupts is tried again, and any other error is a fault, of which its witness is told, and is counted. A sync
 /// makes the file's data stable. No file is under a descriptor of the standard streams.
 ///
-/// Behind a write or a sync that failed each call is a fault, and none is made of the system, until the file is opened anew:
-/// what it holds in memory may then be other than what is on the device, and the system no longer tells.
+/// After a write or a sync that failed each call is a fault, and none is made of the system, until the file is opened
+/// anew. What it holds in memory may then be other than what is on the device, and the system no longer tells.
 ///
-/// A sync calls the system only where there is something to sync: behind the opening, for whoever had the file before may have
-/// left bytes that are not stable, and behind a write. A write of no bytes calls nothing.
+/// A sync calls the system only where there is something to sync. That is so after a write, and after the opening, for
+/// whoever had the file before may have left bytes that are not stable. A write of no bytes calls nothing.
 ///
 /// Nothing is known of what other processes do to the file, so contracts never see it as honest; a stop leaves it as it is.
 /// The file is closed where the area is dropped. This project's own.
@@ -120,7 +120,7 @@ impl<F: HeldFile> FileArea<F> {
         FileArea::of_zeros(make_new(rt, path)?, len)
     }
 
-    // A new file, behind so many zeros that are stable.
+    // A new file of so many zeros, which are stable.
     fn of_zeros(file: F, len: usize) -> io::Result<FileArea<F>>
         ensures len { IfOk result (λ area. file_len area ≡ len) }
         ensures failures { IfOk result (λ area. file_failures area ≡ 0) }
@@ -176,8 +176,8 @@ impl<F: HeldFile> FileArea<F> {
 impl<F: HeldFile, W: FaultWitness> FileArea<F, W> {
     ghost use Rattle.lc_disk.specs.FileArea.{file_calls, file_failures, file_len};
 
-    // What a call of the system gave, with its error as a fault that is counted. Behind a write or a sync that failed the
-    // file is given up.
+    // What a call of the system gave, with its error as a fault that is counted. After a write or a sync that failed
+    // the file is given up.
     fn counted(&mut self, call: FileCall, done: io::Result<()>) -> Result<(), DeviceFault>
         ensures len { file_len self.new ≡ file_len self.old }
         ensures calls { file_calls self.new ≡ file_calls self.old }

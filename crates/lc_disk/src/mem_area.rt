@@ -17,7 +17,7 @@ pub struct MemArea {
     bytes: Vec<u8>,
     stable: Vec<u8>,
     dirty: Vec<bool>,
-    // From the first dirty position to behind the last.
+    // From the first dirty position to the place after the last.
     span: Range<usize>,
     calls: Tally,
     ghost fits: { (k : ℕ) → slice_index_or bytes.items k 0 < 256 },

@@ -8,8 +8,8 @@ use crossbeam_channel::TrySendError;
 use std::sync::Wait;
 
 impl<T: Drop> SendEnd<T> {
-    /// Sends a message behind those that were sent, or hands it back: Full only where `ROOM` messages that were sent were not
-    /// taken at one moment of the call. It waits for no message to be taken, and takes no memory.
+    /// Sends a message after those that were sent, or hands it back: Full only where `ROOM` messages that were sent
+    /// were not taken at one moment of the call. It waits for no message to be taken, and takes no memory.
     pub fn send<R: Wait>(&mut self, rt: &R, message: T) -> Result<(), Refused<T>>
         ensures sent { OnOk result (sent_on self.new ≡ sent_on self.old ++ message ∷ []) }
         ensures none { OnErr result (sent_on self.new ≡ sent_on self.old) }

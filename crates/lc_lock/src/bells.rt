@@ -40,7 +40,7 @@ pub(crate) fn bell_of(ticket: u32) -> usize
     1 + ticket as usize % BELLS
 }
 
-// The place of the bell at which who has the ticket behind this one sleeps.
+// The place of the bell at which who has the ticket after this one sleeps.
 pub(crate) fn bell_behind(ticket: u32) -> usize
     ensures place { result ≡ bell_at ((ticket + 1) % 2 ^ 32) }
     ensures bell { IsBell result }

@@ -43,8 +43,8 @@ pub(crate) fn ahead_of(ticket: u32, served: u32) -> u32
     ticket.wrapping_sub(served)
 }
 
-// Whether somebody waits behind the holder of a ticket, by the word as the holder found it: the next ticket to be drawn is
-// then not the one behind the holder's.
+// Whether somebody waits after the holder of a ticket, by the word as the holder found it: the next ticket to be drawn
+// is then not the one after the holder's.
 pub(crate) fn has_waiters(found: u64, ticket: u32) -> bool
     ensures { IsTrue result ↔ (found / 2 ^ 32 ≢ (ticket + 1) % 2 ^ 32) }
 {

@@ -26,7 +26,7 @@ abbrev pub placed : ℕ → List Record → List (ℕ × Record)
 placed place [] = []
 placed place (r ∷ rs) = (place, r) ∷ placed (place + length (spelling r)) rs
 
--- a walk over these words finds their records, each with its place, and the place behind the last
+-- a walk over these words finds their records, each with its place, and the place after the last
 pub record IsWalk (words : List ℕ) (found : List (ℕ × Record)) (end : ℕ) : Type 0 where
   pub text : IsLogText words (map (λ x. x.1) found)
   pub places : found ≡ placed 0 (map (λ x. x.1) found)

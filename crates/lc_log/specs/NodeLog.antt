@@ -13,7 +13,7 @@ pub record IsGroup (words : List ℕ) (records : List Record) : Type 0 where
   pub whole : AllByRecursion IsWhole records
   pub some : 0 < length records
 
--- the bytes of records behind their first gate
+-- the bytes of records after their first gate
 abbrev pub behind_gate : List Record → List ℕ
 behind_gate records = drop 1 (bytes_of (joined records))
 
@@ -27,7 +27,7 @@ pub record IsAtRest (now : List ℕ) (dirty : ℕ → Bool) (end : ℕ) (stable 
   pub size : length (joined stable) ≡ end
   pub clean : (k : ℕ) → k < 8 * end + 1 → dirty k ≡ false
 
--- the same, with a group of so many words behind the closed gate, and a closed gate behind the group
+-- the same, with a group of so many words behind the closed gate, and a closed gate after the group
 pub record IsStaged (now : List ℕ) (dirty : ℕ → Bool) (end words : ℕ) (stable group : List Record) : Type 0 where
   pub at_rest : IsAtRest now dirty end stable
   pub next_gate : ℕ
@@ -38,7 +38,8 @@ pub record IsStaged (now : List ℕ) (dirty : ℕ → Bool) (end words : ℕ) (s
   pub some : 0 < length group
   pub size : length (joined group) ≡ words
 
--- the stable records, a gate of this byte with the group behind it, and a closed gate; of these the first gate alone may be dirty
+-- the stable records, a gate of this byte with the group after it, and a closed gate; of these the first gate alone may
+-- be dirty
 pub record IsOpening (gate : ℕ) (now : List ℕ) (dirty : ℕ → Bool) (end words : ℕ) (stable group : List Record) : Type 0 where
   pub next_gate : ℕ
   pub after : List ℕ

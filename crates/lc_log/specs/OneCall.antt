@@ -1,4 +1,4 @@
--- What one call of a device leaves of an area. A write that changed some byte and a sync behind it leave none of it.
+-- What one call of a device leaves of an area. A write that changed some byte, with a sync after it, leaves none of it.
 use Rattle.std.specs.Prelude.{◌≡◌, ◌⊎◌, ℕ, ◌+◌, Bool, true, false, List, length, if◌then◌else◌}
 use Rattle.lc_disk.specs.Area.{BecomeDirty, IsClean, IsSameOutside, overlaid}
 use Rattle.lc_disk.specs.declared.area.Area.{Ghosts}

@@ -21,7 +21,7 @@ impl<D: Area> Closing<D> {
     ghost use Rattle.lc_log.specs.OneCall.{IsOneCall};
 
     /// Closes the first gate of an area where it reads open, as the caller has read it; else the call is made with no
-    /// bytes. What stands behind the records may be anything, an open gate too.
+    /// bytes. What stands after the records may be anything, an open gate too.
     pub fn begin(area: D, is_open: bool) -> Result<Closing<D>, Failed<D>>
         requires room { 8 ≤ length (D.now area) }
 

@@ -25,7 +25,7 @@ pub fn begins_open(words: &[u64]) -> bool
 }
 
 /// Closes the first gate of a log where it reads open, as the caller has read it; else the call is made with no bytes.
-/// What stands behind the records may be anything, an open gate too. This project's own.
+/// What stands after the records may be anything, an open gate too. This project's own.
 pub fn close_first_gate<D: Area>(area: &mut D, is_open: bool) -> Result<(), DeviceFault>
     requires room { 8 ≤ length (D.now area.old) }
 

@@ -6,6 +6,6 @@ use lc_record::Record;
 pub struct Walk {
     /// Each record with its place, in words from the log's front.
     pub records: Vec<(usize, Record)>,
-    /// The place behind the last record, where no record begins.
+    /// The place after the last record, where no record begins.
     pub end_place: usize,
 }

@@ -39,8 +39,8 @@ impl<D: Area> Idle<D> {
         Idle { area, end: 0 }
     }
 
-    /// Makes a group stable, behind the records that are: the four calls of the device in a row. A group is one
-    /// record or more, and fits.
+    /// Makes a group stable, after the records that are: the four calls of the device in a row. A group is one record
+    /// or more, and fits.
     pub fn flush(self, group: &Group) -> Result<Idle<D>, Failed<D>>
         requires fits { 8 * (self.end + length group.now.words) + 8 ≤ length (D.now self.area) }
 
@@ -52,7 +52,7 @@ impl<D: Area> Idle<D> {
             → IsIdle D.Area self.area self.end stable → IsGroup group.now.words records
             → LeavesOnly D.Area log.area (λ words. IsLogText words (stable ++ records))) }
 
-        // The group stands behind the records, with its gate open, and a zero word behind it.
+        // The group stands after the records, with its gate open, and then a zero word.
         ensures wrote { IfOk result (λ log. D.honest self.area ≡ true
             → D.now log.area ≡ overlaid (D.now self.area) (8 * self.end) (165 ∷ drop 1 (bytes_of (group.now.words ++ 0 ∷ [])))) }
 
@@ -75,7 +75,7 @@ impl<D: Area> Idle<D> {
             .sync_gate()
     }
 
-    /// Writes a group behind the closed gate, and closes the gate behind it. A group is one record or more, and fits.
+    /// Writes a group behind the closed gate, and closes the gate after it. A group is one record or more, and fits.
     pub fn write_group(self, group: &Group) -> Result<Written<D>, Failed<D>>
         requires fits { 8 * (self.end + length group.now.words) + 8 ≤ length (D.now self.area) }
 

@@ -15,7 +15,7 @@ pub struct RecordPlaces<'a> {
     place: usize,
 }
 
-/// The places of the records of a log's words, one behind another, up to the first place where none begins. It is safe
+/// The places of the records of a log's words, one after another, up to the first place where none begins. It is safe
 /// on any words: a rest that begins no record ends it. It takes no memory.
 pub fn walk_in_place(words: &[u64]) -> RecordPlaces<'_>
     ensures { (records : List Record) → IsLogText words.now records → left_of result ≡ spans_from 0 records }

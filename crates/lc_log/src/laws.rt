@@ -45,7 +45,7 @@ pub fn images_at_rest()
         → EachImage now dirty (λ words. IsLogText words stable) }
 {}
 
-/// A stop leaves of a log whose gate is being opened, or closed, the group behind it or not.
+/// A stop leaves of a log whose gate is being opened, or closed, the group after it or not.
 pub fn images_at_gate()
     ensures { (gate : ℕ) (now : List ℕ) (dirty : ℕ → Bool) (end words : ℕ) (stable group : List Record)
         → IsOpening gate now dirty end words stable group → EachImage now dirty (IsWithOrWithout stable group) }

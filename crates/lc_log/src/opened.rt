@@ -4,7 +4,7 @@ ghost use Rattle.std.specs.Prelude.{◌≡◌, ◌++◌, ℕ, ◌+◌, ◌*◌, 
 use crate::{Failed, Idle};
 use lc_disk::Area;
 
-/// A log with an open gate, which may be torn, and a stable group behind it. This project's own.
+/// A log with an open gate, which may be torn, and a stable group after it. This project's own.
 #[derive(Drop)]
 pub struct Opened<D: Area> {
     /// The log's area.

@@ -10,8 +10,8 @@ use std::alloc::{AllocError, Global};
 
 pub(crate) const WORD_BYTES: usize = 8;
 
-/// The records of a log's bytes, one behind another, up to the first place where none begins. It is safe on any
-/// bytes; those behind the last whole word are not looked at, and without a whole word no memory is asked for.
+/// The records of a log's bytes, one after another, up to the first place where none begins. It is safe on any bytes;
+/// those after the last whole word are not looked at, and without a whole word no memory is asked for.
 pub fn walk(alloc: Global, bytes: &[u8]) -> Result<Walk, AllocError>
     ensures walk { IfOk result (λ w. IsWalk (words_of bytes.now) w.records.items w.end_place) }
     ensures memory { OnErr result (8 ≤ length bytes.now) }

@@ -1,4 +1,4 @@
--- How many answers there may be, an answer being a reply and the state behind it.
+-- How many answers there may be, an answer being a reply and the state after it.
 use Rattle.std.specs.Prelude.{◌≡◌, ◌≢◌, Bool, true, false}
 use Rattle.lc_model.specs.State.{State}
 use Rattle.lc_model.specs.declared.event.Event.{Event}

@@ -89,7 +89,7 @@ moving = placed unflushed 1 Travelling
 abbrev pub half_closed : State
 half_closed = record (all_at 0 (having (three true true false))) { ack = λ node. 1 }
 
--- behind all three, a thread of node 0 has set and written the second byte of segment 1
+-- after all three, a thread of node 0 has set and written the second byte of segment 1
 abbrev pub reader : Transaction
 reader = written (marked (opened 0 1 (1 ∷ [])) 1 1 1) 1 1 (99 ∷ [])
 

@@ -23,6 +23,6 @@ stopped_halted = placed (halting stopped 1) 1 (At 0)
 abbrev pub recovered : State
 recovered = fresh small (first ∷ second ∷ []) Up
 
--- a thread of node 0 has locked segment 2 behind the recovery
+-- a thread of node 0 has locked segment 2 after the recovery
 abbrev pub begun_again : State
 begun_again = begun small recovered 0 0 (2 ∷ []) []

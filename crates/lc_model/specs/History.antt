@@ -29,7 +29,7 @@ pub record Numbered : Type 0 where
   pub transaction : Transaction
   pub number : ℕ
 
--- these transactions with their numbers, behind those before
+-- these transactions with their numbers, after those before
 abbrev pub numbered_after : List Transaction → List Transaction → List Numbered
 numbered_after before [] = []
 numbered_after before (t ∷ ts) =

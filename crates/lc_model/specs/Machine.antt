@@ -122,7 +122,7 @@ LeaveRow old node segment reply new =
     ⊎ ((reply ≡ Refused Unflushed) × (old.ack node < reserved node old.history) × (new ≡ old))
     ⊎ ((reply ≡ Refused Writing) × (new ≡ old))
 
--- a token arrives where it travels, unless what is applied there is behind it
+-- a travelling token arrives, or may be refused as `Behind`; one that is at a node is out of turn
 abbrev pub ArriveRow : Place → State → ℕ → ℕ → Reply → State → Type 0
 ArriveRow (At other) old node segment reply new = (reply ≡ Refused OutOfTurn) × (new ≡ old)
 ArriveRow Travelling old node segment reply new =
@@ -187,7 +187,7 @@ RecoverRow (DownAt cut) g old reply new =
 
 -- The rows
 
--- an event's own answers, behind the refusals that are common to all
+-- an event's own answers, after the refusals that are common to all
 abbrev pub Row : Setting → State → Event → Reply → State → Type 0
 Row m old (Begin node thread segments reading) reply new =
     Unless (begin_refusal m.geometry old node thread segments reading) old reply new

@@ -46,7 +46,7 @@ sets segment t = is_set (segment_of segment t.marks)
 abbrev pub Rises : ℕ → Record → Record → Type 0
 Rises segment r q = 0 < number_or_zero segment r.locks → 0 < number_or_zero segment q.locks → number_or_zero segment r.locks < number_or_zero segment q.locks
 
--- the numbers behind these transactions
+-- the numbers after these transactions
 abbrev pub counted_all : (ℕ → ℕ) → List Transaction → ℕ → ℕ
 counted_all numbers [] = numbers
 counted_all numbers (t ∷ ts) = counted_all (counted numbers t) ts

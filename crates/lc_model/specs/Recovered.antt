@@ -26,7 +26,7 @@ AreRenewed store content numbers pages =
     (segment page : ℕ) (old : Page) → slice_get (segment_of segment store.pages) page ≡ Some old →
     IsRenewed store content numbers segment page old (pages segment page)
 
--- the disks behind a recovery: every log is empty, no write is under way
+-- the disks after a recovery: every log is empty, no write is under way
 abbrev pub recovered_disks : (ℕ → ℕ) → (ℕ → ℕ → Page) → Disks
 recovered_disks numbers pages = record {
   numbers = numbers;

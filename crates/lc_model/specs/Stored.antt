@@ -90,7 +90,7 @@ pub record Fits (m : Setting) (s : State) (d : Disks) : Type 0 where
   pub dropped_acked : (node : ℕ) → node < m.geometry.nodes → d.dropped node ≤ s.ack node
   pub sealed : (node : ℕ) → node < m.geometry.nodes → IsTrue (d.resetting node) → length (records_of m s d node) ≤ s.ack node
 
--- the records that are read of a node's log where the stop cut its records at this number: those behind the dropped
+-- the records that are read of a node's log where the stop cut its records at this number: those after the dropped
 -- ones, or none where a reset is under way
 abbrev pub IsLog : Setting → State → Disks → ℕ → ℕ → List Record → Type 0
 IsLog m s d node number log =

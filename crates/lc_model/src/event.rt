@@ -87,8 +87,11 @@ pub enum Event {
     ResetStep {
         node: u16,
     },
-    /// All nodes stop. Of each area in the order of the store, one choice for each dirty position; the last one holds for
-    /// the rest, and an area without a list keeps what it reads.
+    /// All nodes stop. A store that is up is then down at some cut that a stop may make, and one that is down stays as
+    /// it is: the machine does not look at the choices. A store stops each area by the list at its place in the order
+    /// of the store, and by an empty one where there is none. What an honest area reads then, `Stoppable` says. An area
+    /// in memory takes one choice for each dirty position, ascending; the last one holds for the rest, and with none
+    /// all is kept.
     Stop {
         choices: Items<Items<Choice>>,
     },

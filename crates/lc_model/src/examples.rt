@@ -157,7 +157,7 @@ pub fn closing()
     ensures not_ended { Never reading (Event.Abort 0 1) Reply.Ended }
 {}
 
-/// A token arrives where it travels, and may be behind what is applied there.
+/// A token arrives where it travels, or may be refused as `Behind`.
 pub fn arriving()
     ensures arrives { let travelling = placed unflushed 1 Travelling in
         May travelling (Event.Arrive 0 1) Reply.Ok (placed travelling 1 (At 0)) }
@@ -205,7 +205,7 @@ pub fn stop_cuts()
     ensures three_not_between { MayCutAt (flushing 3) 0 1 → ⊥ }
 {}
 
-/// A recovery keeps what the cut kept, behind what earlier ones kept.
+/// A recovery keeps what the cut kept, after what earlier ones kept.
 pub fn recoveries()
     ensures down { (node thread : ℕ) (segments reading : List ℕ) →
         Refuses stopped (Event.Begin node thread segments reading) Refusal.Down }

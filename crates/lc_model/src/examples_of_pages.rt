@@ -53,7 +53,7 @@ pub fn reset_steps()
     ensures nothing_changes { (new : State) → May half_closed (Event.ResetStep 0) Reply.Reset new → new ≡ half_closed }
 {}
 
-/// A trim counts what it drops, and is refused nothing behind what is common to all.
+/// A trim counts what it drops, and has no refusal but those that are common to all events.
 pub fn trims()
     ensures none { May half_closed (Event.Trim 0) (Reply.Trimmed 0) half_closed }
     ensures some { May half_closed (Event.Trim 0) (Reply.Trimmed 1) half_closed }

@@ -10,9 +10,8 @@ ghost use Rattle.lc_model.specs.ExamplesOfStops.{closed_since, stopped_halted, r
 
 use crate::{Event, Refusal, Reply};
 
-/// A record that is closed behind what a flush took is not in a stop: it cuts at what is acknowledged, and from the
-/// third
-/// step on at what was taken.
+/// A record that is closed after a flush took its part is in no cut of a stop: a stop cuts at what is acknowledged, and
+/// from the third step on at what was taken.
 pub fn closed_behind_a_flush()
     ensures closed { front 0 (closed_since 3).history ≡ 3 }
     ensures two_acked { MayCutAt (closed_since 2) 0 1 }
@@ -100,7 +99,7 @@ pub fn recovery_is_not_refused()
     ensures not_nothing { Never stopped_halted Event.RecoverStep Reply.Nothing }
 {}
 
-/// Behind a recovery no node is halted, and each token is where it was at first.
+/// After a recovery no node is halted, and each token is where it was at first.
 pub fn recovery_begins_anew()
     ensures again { May stopped_halted Event.RecoverStep Reply.Recovered recovered }
     ensures no_other { (new : State) → May stopped_halted Event.RecoverStep Reply.Recovered new → new ≡ recovered }
@@ -112,7 +111,7 @@ pub fn recovery_begins_anew()
     ensures not_refused { Never recovered (Event.FlushStep 1) (Reply.Refused Refusal.Halted) }
 {}
 
-/// A read behind a recovery sees what the cut kept, and nothing of what was lost.
+/// A read after a recovery sees what the cut kept, and nothing of what was lost.
 pub fn read_behind_a_recovery()
     ensures kept { May begun_again (Event.Read 0 0 2 0 2) (Reply.Bytes (22 ∷ 0 ∷ [])) begun_again }
     ensures not_lost { Never begun_again (Event.Read 0 0 2 0 2) (Reply.Bytes (32 ∷ 0 ∷ [])) }

@@ -11,7 +11,7 @@ use Rattle.lc_page.specs.Slot.{other, next_slot}
 use Rattle.lc_page.specs.Page.{Page, slot_at, slot_bytes, has_gate, is_open, page_of_slot, no_page, page_of, text_of, page_in}
 use Rattle.lc_page.specs.PageVector.{gate_of}
 
--- what stands behind the gate of a slot with this page
+-- what stands after the gate of a slot with this page
 abbrev pub behind_gate : ℕ → List ℕ → List ℕ
 behind_gate seq bytes = replicate 7 0 ++ to_le_bytes w64 seq ++ bytes
 
@@ -75,7 +75,7 @@ pub record IsClosed (now : List ℕ) (dirty : ℕ → Bool) (draft : Draft) (tex
   pub closed : slice_index_or (slot_bytes now draft.page draft.slot) 0 0 ≢ 165
   pub clean : dirty (slot_at draft.page draft.slot) ≡ false
 
--- and the page reads behind it
+-- and the page reads after its gate
 pub record IsFilling (now : List ℕ) (dirty : ℕ → Bool) (draft : Draft) (text : PageText) (old : Page) : Type 0 where
   pub closed : IsClosed now dirty draft text old
   pub behind : drop 1 (slot_bytes now draft.page draft.slot) ≡ behind_gate draft.seq draft.bytes
@@ -85,7 +85,7 @@ pub record IsFilled (now : List ℕ) (dirty : ℕ → Bool) (draft : Draft) (tex
   pub filling : IsFilling now dirty draft text old
   pub clean : (k : ℕ) → 0 < k → k < 272 → dirty (slot_at draft.page draft.slot + k) ≡ false
 
--- the page stays behind the gate, which may be any byte
+-- the page stays after its gate, which may be any byte
 pub record IsTorn (now : List ℕ) (dirty : ℕ → Bool) (draft : Draft) (text : PageText) (old : Page) : Type 0 where
   pub beside : IsBeside now dirty draft text old
   pub behind : drop 1 (slot_bytes now draft.page draft.slot) ≡ behind_gate draft.seq draft.bytes

@@ -27,7 +27,7 @@ impl Draft {
         (2 * self.page as usize + self.slot.number()) * SLOT_BYTES
     }
 
-    // What stands behind the gate of its slot: seven zeros, the sequence and the page.
+    // What stands after the gate of its slot: seven zeros, the sequence and the page.
     pub(crate) fn behind_gate(&self) -> [u8; 271]
         ensures bytes { result ≡ behind_gate self.now.seq self.now.bytes }
         ensures len { length result ≡ 271 }

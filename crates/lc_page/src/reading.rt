@@ -79,7 +79,7 @@ fn present(first: &[u8], second: &[u8]) -> Option<Slot>
 
 /// What an area says of a page.
 ///
-/// A slot is open where its gate is a5, its seven bytes behind the gate are zero and its sequence is at most 2^60. The
+/// A slot is open where its gate is a5, its seven bytes after the gate are zero and its sequence is at most 2^60. The
 /// page is the open slot with the greater sequence, on equal sequences the first one. A page with no open slot has the
 /// sequence 0. The area has both slots of the page: `has_page` tests it. Two slots with a gate are this project's own.
 pub fn read_page(bytes: &[u8], page: u32) -> PageText

@@ -5,7 +5,7 @@
 pub enum Slot {
     /// Slot 0.
     First,
-    /// Slot 1, behind it.
+    /// Slot 1, after it.
     Second,
 }
 

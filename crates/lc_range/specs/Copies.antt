@@ -1,4 +1,4 @@
--- Copies that lie flat, their ranges and all bytes one after another; and copies with more behind them.
+-- Copies that lie flat, their ranges and all bytes one after another; and copies with more after them.
 use Rattle.smallvec.specs.SmallVec.{SmallVec}
 use Rattle.std.specs.Prelude.{◌≡◌, ℕ, zero, suc, ◌+◌, ◌-◌, ◌≤◌, if◌then◌else◌, Bool, false, min, List, [], ◌∷◌, ◌++◌, length, take, drop}
 use Rattle.lc_range.specs.Undo.{OldBytes, is_end}

@@ -4,7 +4,7 @@ use thiserror::Error;
 /// Why `RangeSet::add` adds nothing. This project's own.
 #[derive(Clone, Copy, Debug, PartialEq, Eq, Error)]
 pub enum RangeFault {
-    /// The range's end lies behind the segment's.
+    /// The range's end lies beyond the segment's.
     #[error("the range ends outside the segment")]
     OutOfSegment,
     /// The range has no position.

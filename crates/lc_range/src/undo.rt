@@ -56,8 +56,8 @@ impl Undo {
         self.bytes.clear();
     }
 
-    /// Keeps the bytes of `len` positions of a segment from `offset` on that are not in the set, as the segment's
-    /// image has them. What was kept before stays. As in a `RangeSet`, no range ends behind 2^32 - 1.
+    /// Keeps the bytes of `len` positions of a segment from `offset` on that are not in the set, as the segment's image
+    /// has them. What was kept before stays. As in a `RangeSet`, no range ends beyond 2^32 - 1.
     ///
     /// # Errors
     ///

@@ -28,6 +28,6 @@ end_of span = span.offset + span.len
 abbrev pub version_to : ℕ → GrammarVersion
 version_to end = if nat_le end 16384 then First else Second
 
--- ranges are in the second version exactly where some range ends behind 16384
+-- ranges are in the second version exactly where some range ends beyond 16384
 abbrev pub version_for : List Span → GrammarVersion
 version_for spans = if list_all (λ span. nat_le (end_of span) 16384) spans then First else Second

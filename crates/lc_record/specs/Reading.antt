@@ -65,7 +65,7 @@ locks_at = many lock_at
 abbrev pub is_lock : Lock → Bool
 is_lock lock = nat_le 1 lock.segment && nat_le lock.segment 16 && nat_le 1 lock.seq && nat_le lock.seq (2 ^ 60)
 
--- locks that a record may have, ascending behind this segment
+-- locks that a record may have, with ascending segments above this one
 abbrev pub ascend : ℕ → List Lock → Bool
 ascend before [] = true
 ascend before (lock ∷ locks) = is_lock lock && nat_lt before lock.segment && ascend lock.segment locks
@@ -91,7 +91,7 @@ place_at Second words = apart_at words
 abbrev pub has_room : Span → List ℕ → Bool
 has_room span rest = nat_le 1 span.len && nat_le (end_of span) 262144 && nat_le (data_len span.len) (length rest)
 
--- what stands behind so many bytes is zero
+-- what stands after so many bytes is zero
 abbrev pub is_padded : ℕ → List ℕ → Bool
 is_padded len words = list_all (λ b. b == 0) (drop len (bytes_of words))
 
@@ -127,7 +127,7 @@ pub record Place : Type 0 where
 abbrev pub place : ℕ → ℕ → List Lock → Place
 place segment end locks = record { segment = segment; end = end; locks = locks }
 
--- before the first range; nothing stands in segment 0 behind this end
+-- before the first range; nothing stands in segment 0 after this end
 abbrev pub start : List Lock → Place
 start locks = place 0 262144 locks
 
@@ -152,7 +152,7 @@ abbrev pub follow : Place → List RangeData → Bool
 follow before [] = length before.locks == 0
 follow before (range ∷ ranges) = holds (step before (span_of range)) (λ after. follow after ranges)
 
--- what stands behind ranges that follow, and that are of this version
+-- what stands after ranges that follow, and that are of this version
 abbrev pub walked : GrammarVersion → Place → Option (List RangeData × List ℕ) → Option (List ℕ)
 walked version before read = read >>= λ ranges. if follow before ranges.0 && (number (version_of ranges.0) == number version) then Some ranges.1 else None
 

@@ -12,7 +12,7 @@ use Rattle.lc_record.specs.declared.record.Record.{Record}
 use Rattle.lc_record.specs.declared.record.Lock.{Lock}
 use Rattle.lc_record.specs.declared.record.RangeData.{RangeData}
 
--- each of these has a relation to the one behind it
+-- each of these has a relation to the one after it
 abbrev pub Chain : {A : Type 0} → (A → A → Type 0) → List A → Type 0
 Chain R [] = Unit {0}
 Chain R (x ∷ []) = Unit {0}
@@ -27,7 +27,7 @@ span_of range = record { segment = range.segment; offset = range.offset; len = l
 abbrev pub spans_of : List RangeData → List Span
 spans_of ranges = map span_of ranges
 
--- the second exactly where some range ends behind 16384
+-- the second exactly where some range ends beyond 16384
 abbrev pub version_of : List RangeData → GrammarVersion
 version_of ranges = version_for (spans_of ranges)
 

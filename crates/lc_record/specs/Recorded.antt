@@ -7,7 +7,7 @@ use Rattle.lc_record.specs.declared.record.Lock.{Lock}
 use Rattle.lc_record.specs.declared.record.RangeData.{RangeData}
 use Rattle.lc_record.specs.Marks.{stretches}
 
--- the ranges behind it, with the byte at this offset before them: it joins the first where it touches it
+-- these ranges, and before them the byte at this offset: it joins the first where it touches it
 abbrev pub with_byte : ℕ → ℕ → ℕ → List RangeData → List RangeData
 with_byte segment offset byte [] = record { segment = segment; offset = offset; bytes = byte ∷ [] } ∷ []
 with_byte segment offset byte (range ∷ ranges) =
@@ -48,7 +48,7 @@ record_of numbers content t = record {
   ranges = ranges_of 1 t.marks (effect t content);
 }
 
--- the numbers behind a transaction: one greater for each segment that it set
+-- the numbers after a transaction: one greater for each segment that it set
 abbrev pub counted : (ℕ → ℕ) → Transaction → ℕ → ℕ
 counted numbers t segment =
     if is_set (segment_of segment t.marks) then numbers segment + 1 else numbers segment

@@ -11,14 +11,14 @@ use Rattle.lc_record.specs.declared.record.Record.{Record}
 use Rattle.lc_record.specs.declared.record.RangeData.{RangeData}
 use Rattle.lc_record.specs.declared.spans.Spans.{Spans}
 
--- ranges that stand one behind another from this place on: each has its header's words, and then its bytes
+-- ranges that stand one after another from this place on: each has its header's words, and then its bytes
 abbrev pub placed_from : GrammarVersion → ℕ → List RangeData → List PlacedSpan
 placed_from version place [] = []
 placed_from version place (range ∷ ranges) =
     record { span = span_of range; place = place + place_words version }
     ∷ placed_from version (place + place_words version + data_len (length range.bytes)) ranges
 
--- those of a record stand behind its first two words and its locks
+-- those of a record stand after its first two words and its locks
 abbrev pub placed_spans : Record → List PlacedSpan
 placed_spans r = placed_from (version_of r.ranges) (2 + 2 * length r.locks) r.ranges
 

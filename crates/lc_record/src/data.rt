@@ -75,7 +75,7 @@ pub fn read_byte(len: usize, words: &[u64], place: usize) -> Option<u8>
     Some(word.to_le_bytes()[place % WORD])
 }
 
-/// Whether nothing but zeros stands behind so many of the bytes of these words.
+/// Whether nothing but zeros stands after so many of the bytes of these words.
 pub fn is_padded(len: usize, words: &[u64]) -> bool
     requires { length words.now ≡ data_len len }
     ensures { result ≡ is_padded len words.now }

@@ -55,7 +55,7 @@ impl Geometry {
         })
     }
 
-    /// The bytes of a log's area: its words, and one behind them.
+    /// The bytes of a log's area: its words, and one word more after them.
     pub fn log_len(&self) -> usize
         ensures { result ≡ 8 * (self.now.words + 1) }
     {

@@ -9,7 +9,7 @@ use crate::limits::FIRST_END;
 pub enum GrammarVersion {
     /// Each range ends at or before 16,384, so that one word has its segment and its offset.
     First,
-    /// Some range ends behind 16,384.
+    /// Some range ends beyond 16,384.
     Second,
 }
 

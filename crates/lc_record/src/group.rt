@@ -10,8 +10,8 @@ const WORD_BYTES: usize = 8;
 // How many words are put into bytes at once.
 const CHUNK_WORDS: usize = 8;
 
-/// A list of words, with room for a number of them. It is kept as the bytes that stand on the disk, with one zero
-/// word behind them, so that it is written as it lies in memory.
+/// A list of words, with room for a number of them. It is kept as the bytes that stand on the disk, with one zero word
+/// after them, so that it is written as it lies in memory.
 #[derive(Drop)]
 pub struct Group {
     bytes: Vec<u8>,
@@ -31,7 +31,7 @@ impl Model for Group {
 }
 
 impl Group {
-    /// An empty group with room for this many words. It takes memory for them and for the zero word behind them.
+    /// An empty group with room for this many words. It takes memory for them and for the zero word after them.
     pub fn new(alloc: Global, room: u32) -> Result<Group, AllocError>
         ensures { IfOk result (λ g. g ≡ record { words = []; room = room }) }
     {
@@ -66,7 +66,7 @@ impl Group {
         u64::from_le_bytes(word)
     }
 
-    /// The bytes of the words, and of a zero word behind them.
+    /// The bytes of the words, and of a zero word after them.
     pub fn bytes(&self) -> &[u8]
         ensures { result.now ≡ bytes_of (self.now.words ++ 0 ∷ []) }
     {
@@ -133,7 +133,7 @@ fn append_chunk(bytes: &mut Vec<u8>, words: &[u64])
         .unwrap();
 }
 
-// The bytes of at most a chunk of words, and zeros behind them.
+// The bytes of at most a chunk of words, and zeros after them.
 fn chunk_of(words: &[u64]) -> [u8; WORD_BYTES * CHUNK_WORDS]
     requires { length words.now ≤ 8 }
     ensures { result ≡ bytes_of words.now ++ replicate (8 * (8 - length words.now)) 0 }

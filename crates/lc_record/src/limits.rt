@@ -22,7 +22,7 @@ pub const FIRST_END: u64 = 16384;
 pub const WORD: usize = 8;
 /// Above the second word of each record.
 pub const SECOND_END: u64 = 1 << 32;
-/// The words of a record beside its locks and ranges: two before them, and its length behind them.
+/// The words of a record beside its locks and ranges: two before them, and its length after them.
 pub const RECORD_WORDS: usize = 3;
 /// The words of a lock.
 pub const LOCK_WORDS: usize = 2;

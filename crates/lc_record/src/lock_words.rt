@@ -14,7 +14,7 @@ pub struct LockWords<'a> {
     words: &'a [u64],
 }
 
-/// The lock at the front, and the words behind it.
+/// The lock at the front, and the words after it.
 #[tactic(auto, unfolding(crate::specs::Reading::lock_at))]
 pub fn lock_of(words: &[u64]) -> Option<(Lock, &[u64])>
     ensures { Gives (λ x. (x.0, x.1.now)) result (lock_at words.now) }
@@ -32,7 +32,7 @@ pub fn lock_of(words: &[u64]) -> Option<(Lock, &[u64])>
     Some((lock, rest))
 }
 
-/// So many locks at the front, and the words behind them.
+/// So many locks at the front, and the words after them.
 pub fn locks_of(count: u16, words: &[u64]) -> Option<(LockWords<'_>, &[u64])>
     ensures { Gives (λ x. (locks_in x.0.words.now, x.1.now)) result (locks_at count words.now) }
 {

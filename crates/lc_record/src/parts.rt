@@ -51,7 +51,7 @@ fn is_second(second: u64) -> bool
         && lock_count(second) as usize <= MAX_LOCKS
 }
 
-/// What the first two words say, and the words behind them.
+/// What the first two words say, and the words after them.
 #[tactic(auto, unfolding(crate::specs::Reading::head_at))]
 pub fn head_of(words: &[u64]) -> Option<(Head, &[u64])>
     ensures { Gives (λ x. (x.0, x.1.now)) result (head_at words.now) }
@@ -73,7 +73,7 @@ pub fn head_of(words: &[u64]) -> Option<(Head, &[u64])>
     Some((head, rest))
 }
 
-/// What stands before the ranges, and the words behind it.
+/// What stands before the ranges, and the words after it.
 #[tactic(auto, unfolding(crate::specs::Reading::front_at))]
 pub fn front_of(words: &[u64]) -> Option<(Head, LockWords<'_>, &[u64])>
     ensures { Gives (λ x. front x.0 (locks_in x.1.words.now) x.2.now) result (front_at words.now) }
@@ -119,7 +119,7 @@ fn apart_of(words: &[u64]) -> Option<(Span, &[u64])>
     Some((span, rest))
 }
 
-/// Where the range at the front stands, and the words behind that.
+/// Where the range at the front stands, and the words after that.
 pub fn place_of(version: GrammarVersion, words: &[u64]) -> Option<(Span, &[u64])>
     ensures { Gives (λ x. (x.0, x.1.now)) result (place_at version words.now) }
 {
@@ -138,7 +138,7 @@ fn has_room(span: Span, rest: &[u64]) -> bool
         && data_len(span.len as usize) <= rest.len()
 }
 
-/// The range at the front, and the words behind it.
+/// The range at the front, and the words after it.
 #[tactic(auto, unfolding(crate::specs::Reading::range_at))]
 pub fn range_of(version: GrammarVersion, words: &[u64]) -> Option<(RangeWords<'_>, &[u64])>
     ensures read { Gives (λ x. (range_of x.0.span x.0.data.now, x.1.now)) result (range_at version words.now) }
@@ -176,7 +176,7 @@ pub fn nth_range(head: Head, index: usize, words: &[u64]) -> Option<RangeWords<'
     Some(range)
 }
 
-// The words behind the ranges, which follow on these locks and are of the version that the head has.
+// The words after the ranges, which follow on these locks and are of the version that the head has.
 fn behind_ranges<'a>(head: Head, locks: LockWords<'_>, words: &'a [u64]) -> Option<&'a [u64]>
     ensures { Gives (λ rest. rest.now) result (walked head.version (start (locks_in locks.entry.words.now)) (ranges_at head.version head.ranges words.now)) }
 {

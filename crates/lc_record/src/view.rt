@@ -43,7 +43,7 @@ impl<'a> Model for View<'a> {
 }
 
 impl<'a> View<'a> {
-    /// The record that begins at a place of these words, from 0; None exactly where none begins there, as behind the
+    /// The record that begins at a place of these words, from 0; None exactly where none begins there, as after the
     /// last word. It takes no memory.
     pub fn at(words: &'a [u64], place: usize) -> Option<View<'a>>
         ensures found { IfSome result (λ r. BeginsWith (drop place words.now) r (record_len r)) }
@@ -203,7 +203,7 @@ impl<'a> View<'a> {
         HEAD_WORDS + LOCK_WORDS * self.head().locks as usize
     }
 
-    // The words of the ranges, and all behind them.
+    // The words of the ranges, and all after them.
     fn ranges(&self) -> &'a [u64]
         ensures { (rest : List ℕ) × (ranges_at (version_of self.now.ranges) (length self.now.ranges) result.now ≡ Some (self.now.ranges, rest)) }
     {

@@ -15,7 +15,7 @@ pub struct Walk<'a> {
     pub locks: LockWords<'a>,
 }
 
-/// Before the first range. Nothing stands in segment 0 behind this end.
+/// Before the first range. Nothing stands in segment 0 after this end.
 pub fn start(locks: LockWords<'_>) -> Walk<'_>
     ensures { place result.segment result.end (locks_in result.locks.words.now) ≡ start (locks_in locks.entry.words.now) }
 {

@@ -58,6 +58,6 @@ OnlyLoads v w = (during : List Load) × (w ≡ record v { loads = v.loads ++ dur
 abbrev pub OnlyTakes : View → View → Type 0
 OnlyTakes v w = (during : List Load) × (w ≡ record v { taken = w.taken; loads = v.loads ++ during })
 
--- every place is taken, or the last of the loads read the place behind what was taken as 0
+-- every place is taken, or the last of the loads read the place after what was taken as 0
 abbrev pub EndsAt : ℕ → View → View → Type 0
 EndsAt room v w = (length w.taken ≡ room) ⊎ ((during : List Load) × (w.loads ≡ (v.loads ++ during) ++ load (length w.taken) 0 ∷ []))

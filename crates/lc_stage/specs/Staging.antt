@@ -1,5 +1,5 @@
--- The rule of the staging words, and what each step tells.
--- Word 0 is the tail, word 1 the durable end, and behind them stand two rows of places, one for the even rounds and one for the odd.
+-- The rule of the staging words, and what each step tells. Word 0 is the tail, word 1 the durable end, and after them
+-- stand two rows of places, one for the even rounds and one for the odd.
 use Rattle.std.specs.Prelude.{◌≡◌, ◌≢◌, ◌⊎◌, ℕ, ◌+◌, ◌-◌, ◌*◌, ◌%◌, ◌/◌, ◌^◌, ◌<◌, ◌≤◌, min, cond, eqb, nat_lt, Bool, true, false, List, [], ◌∷◌, ◌++◌, length, replicate, All, slice_index, slice_index_or, slice_set, take}
 use Rattle.std.specs.List.{concat}
 use mathlib.Core.Option.{some}
@@ -122,7 +122,8 @@ pub record Taken (room : ℕ) (words : List ℕ) (views : List View) (round offs
   pub whole : AreRecords f.taken
   pub clears : 0 < cleared → (sealed ≡ true) × (length f.taken ≡ offset) × (cleared ≤ offset)
 
--- the row of the round before, which ended at an offset: what was taken in it is all that was reserved, and durable. Its places are cleared from the first on, and those behind the offset are 0
+-- the row of the round before, which ended at an offset: what was taken in it is all that was reserved, and durable.
+-- Its places are cleared from the first on, and those after the offset are 0
 pub record Ended (room : ℕ) (words : List ℕ) (round ended ended_cleared : ℕ) (f : View) : Type 0 where
   pub inside : (ended ≤ room) × (ended_cleared ≤ ended)
   pub empty : (p : ℕ) → ended ≤ p → p < room → slice_index words (word_of room (1 + round) p) ≡ 0
@@ -271,7 +272,8 @@ closed st m x m' = (m'.1 ≡ m.1) × ((after : ℕ) × (m'.0 ≡ shut_with st.fi
 abbrev pub place_in : View → ℕ → ℕ
 place_in v word = word - word_of v.room (length v.past) 0
 
--- the load of the place behind what was taken: 0 tells nothing, and another word is the header of a closed record, which is taken
+-- the load of the place after what was taken: 0 tells nothing, and another word is the header of a closed record, which
+-- is taken
 abbrev pub headed : At → Sat → ℕ → Sat → Type 0
 headed st m x m' = (m'.1 ≡ m.1) × (x ≡ 0 → m'.0 ≡ loaded (place_in m.0 st.word) x m.0)
     × (x ≢ 0 → (ws : List ℕ) × (m'.0 ≡ taking ws (loaded (place_in m.0 st.word) x m.0)) × IsOneRecord ws × (slice_index ws 0 ≡ x) × (x / 2 ^ 32 ≡ length ws) × (length m.0.taken + length ws ≤ m.0.room) × (m.0.cleared ≡ 0))

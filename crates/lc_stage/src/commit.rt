@@ -21,7 +21,7 @@ impl CommitSeat {
 }
 
 impl Stage {
-    /// The tail, in one load: the place behind the last reservation.
+    /// The tail, in one load: the place after the last reservation.
     pub fn tail(&self, seat: &mut CommitSeat) -> u64
         requires { IsSeatOf self.now seat.old }
         ensures same { IsSeatOf self.now seat.new }
@@ -70,7 +70,7 @@ impl Stage {
         Ok(place)
     }
 
-    /// Fills the word i of the open reservation, behind its header. One store.
+    /// Fills the word i of the open reservation, which is after its header. One store.
     pub fn fill(&self, seat: &mut CommitSeat, i: u32, word: u64)
         requires own { IsSeatOf self.now seat.old }
         requires is_open { (newest (commit_view seat.old).mine).closed ≡ false }
@@ -82,7 +82,8 @@ impl Stage {
         self.table.shared.store::<Put>(&mut seat.seat, at, word);
     }
 
-    /// Stores the header, which closes the open reservation. Behind this header its words are one record. One store.
+    /// Stores the header, which closes the open reservation. With this header in front its words are one record. One
+    /// store.
     pub fn close(&self, seat: &mut CommitSeat, header: u64)
         requires own { IsSeatOf self.now seat.old }
         requires is_open { (newest (commit_view seat.old).mine).closed ≡ false }

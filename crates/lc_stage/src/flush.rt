@@ -14,9 +14,9 @@ use lc_log::NodeLog;
 use lc_record::{Group, length};
 
 impl Stage {
-    /// Empties the group, which has room for all words of the log, and puts into it the closed records behind
-    /// what was taken, whole and in place order, up to the first that is not closed. Answers their words.
-    /// One load and one copy a word.
+    /// Empties the group, which has room for all words of the log, and puts into it the closed records after what was
+    /// taken, whole and in place order, up to the first that is not closed. Answers their words. One load and one copy
+    /// a word.
     pub fn take(&self, flusher: &mut FlushSeat, group: &mut Group) -> u32
         requires own { IsFlusherOf self.now flusher.old }
         requires room { self.now.room ≤ group.old.room }
@@ -59,7 +59,7 @@ impl Stage {
             .store::<Publish>(&mut flusher.seat, DURABLE, end);
     }
 
-    // Loads the place behind what was taken. A word there is the header of a closed record, which is taken.
+    // Loads the place after what was taken. A word there is the header of a closed record, which is taken.
     fn header(&self, flusher: &mut FlushSeat) -> u64
         requires own { IsFlusherOf self.now flusher.old }
         requires room { length (flush_view flusher.old).taken < self.now.room }

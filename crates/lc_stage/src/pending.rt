@@ -7,7 +7,7 @@ use std::marker::Model;
 // How many words wait at most.
 const CHUNK_WORDS: usize = 64;
 
-/// The words behind those of a group that wait to be added to it, a chunk of them at a time. This project's own.
+/// The words after those of a group that wait to be added to it, a chunk of them at a time. This project's own.
 #[derive(Drop)]
 pub(crate) struct Pending {
     chunk: [u64; CHUNK_WORDS],
@@ -36,7 +36,7 @@ impl Pending {
         }
     }
 
-    /// Puts a word behind those that wait. Where they are a whole chunk they go into the group before.
+    /// Puts a word after those that wait. Where they are a whole chunk they go into the group before.
     pub(crate) fn push(&mut self, word: u64, group: &mut Group)
         requires { length group.old.words + length self.old < group.old.room }
         ensures words { group.new.words ++ self.new ≡ (group.old.words ++ self.old) ++ word ∷ [] }

@@ -54,7 +54,7 @@ pub struct View {
     pub heard: u64,
 }
 
-/// Word 0 is the tail, word 1 the durable end, and behind them stand two rows of places: of W places, the place p of the
+/// Word 0 is the tail, word 1 the durable end, and after them stand two rows of places: of W places, the place p of the
 /// round r is the word 2 + (r mod 2) * W + p.
 pub struct Staging;
 

@@ -5,7 +5,7 @@ use Rattle.lc_token.specs.declared.received.Received.{Received}
 use Rattle.lc_token.specs.declared.received.Received.TheVariants.{Applied, HeldBack, Ignored}
 
 -- what contracts see of a `HoldBack`: the number up to which all are applied, the applied parts that are to be handed
--- out, in the order of their numbers, and those behind a hole, ascending by number
+-- out, in the order of their numbers, and those after a hole, ascending by number
 pub record Backlog : Type 0 where
   pub segment : ℕ
   pub applied : ℕ
@@ -26,22 +26,22 @@ abbrev pub numbered : ℕ → List Part → Option Part
 numbered number [] = None
 numbered number (part ∷ parts) = if part.seq == number then Some part else numbered number parts
 
--- these are the parts with the numbers behind this one, up to the first number that no part has
+-- these are the parts with the numbers after this one, up to the first number that no part has
 abbrev pub AreDue : ℕ → List Part → List Part → Type 0
 AreDue applied parts [] = numbered (applied + 1) parts ≡ None
 AreDue applied parts (part ∷ due) = (numbered (applied + 1) parts ≡ Some part) × AreDue (applied + 1) parts due
 
--- a part, if there is one, and those behind it
+-- a part, if there is one, and those after it
 abbrev pub led_by : Option Part → List Part → List Part
 led_by None parts = []
 led_by (Some part) parts = part ∷ parts
 
--- the parts with the numbers behind this one without a hole, of so many numbers at most
+-- the parts with the numbers after this one without a hole, of so many numbers at most
 abbrev pub due_of : ℕ → ℕ → List Part → List Part
 due_of zero applied parts = []
 due_of (suc most) applied parts = led_by (numbered (applied + 1) parts) (due_of most (applied + 1) parts)
 
--- what parts make due behind a number: that with the next number, if there is one, then that with the number behind it,
+-- what parts make due after a number: that with the next number, if there is one, then that with the number after that,
 -- and so on. There are no more than parts.
 unfoldable pub due_behind : ℕ → List Part → List Part
 due_behind applied parts = due_of (length parts) applied parts
@@ -65,12 +65,12 @@ abbrev pub StandAtNumbers : List (ℕ × Part) → Type 0
 StandAtNumbers [] = Unit {0}
 StandAtNumbers (entry ∷ entries) = (entry.0 ≡ entry.1.seq) × StandAtNumbers entries
 
--- the first has the number behind this one
+-- the first has the number after this one
 abbrev pub is_next : ℕ → List Part → Bool
 is_next applied [] = false
 is_next applied (part ∷ parts) = part.seq == applied + 1
 
--- the first leaves, where it has the number behind this one
+-- the first leaves, where it has the number after this one
 abbrev pub TakesNext : ℕ → List Part → Option Part → List Part → Type 0
 TakesNext applied old None new = (is_next applied old ≡ false) × (new ≡ old)
 TakesNext applied old (Some part) new = (old ≡ part ∷ new) × (part.seq ≡ applied + 1)
@@ -80,7 +80,7 @@ abbrev pub run_of : ℕ → List Part → List Part
 run_of applied [] = []
 run_of applied (part ∷ parts) = if part.seq == applied + 1 then part ∷ run_of (applied + 1) parts else []
 
--- and those behind them
+-- and the others
 abbrev pub rest_of : ℕ → List Part → List Part
 rest_of applied [] = []
 rest_of applied (part ∷ parts) = if part.seq == applied + 1 then rest_of (applied + 1) parts else part ∷ parts

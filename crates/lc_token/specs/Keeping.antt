@@ -1,10 +1,10 @@
--- How the parts behind a hole are kept: the first by itself, and the others in a map.
+-- How the parts after a hole are kept: the first by itself, and the others in a map.
 use Rattle.std.specs.Prelude.{◌≡◌, ℕ, ◌+◌, ◌<◌, ◌^◌, Option, Some, None, List, [], ◌∷◌, length}
 use Rattle.std.specs.Map.{values_of}
 use Rattle.lc_record.specs.declared.part.Part.{Part}
 use Rattle.lc_token.specs.Backlog.{Ascends, StandAtNumbers}
 
--- none stands behind where there is no first, and else they ascend above it
+-- there are no others where there is no first, and else they ascend above it
 abbrev pub Leads : Option Part → List (ℕ × Part) → Type 0
 Leads None entries = entries ≡ []
 Leads (Some part) entries = Ascends part.seq (values_of entries)

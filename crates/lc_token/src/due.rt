@@ -57,7 +57,7 @@ impl Due {
         }
     }
 
-    /// Puts a part behind the others, where there is room.
+    /// Puts a part after the others, where there is room.
     pub fn push_reserved(&mut self, part: Part)
         requires { length self.old.parts < self.old.room }
         ensures { self.new ≡ record self.old { parts = self.old.parts ++ part ∷ [] } }

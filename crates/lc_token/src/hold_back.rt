@@ -155,8 +155,8 @@ impl HoldBack {
         self.kept.put(part)
     }
 
-    /// Forgets the kept part with this number, if there is one: behind a `keep` of it all is as it was before, as
-    /// `forgets_what_it_kept` says. It takes no memory.
+    /// Forgets the kept part with this number, if there is one. Where a `keep` has just put it there all is then as it
+    /// was before, as `forgets_what_it_kept` says. It takes no memory.
     pub fn forget(&mut self, seq: u64)
         ensures { self.new ≡ forgetting self.old seq }
     {

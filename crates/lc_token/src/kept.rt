@@ -1,4 +1,4 @@
-//! The parts behind a hole.
+//! The parts after a hole.
 ghost use Rattle.std.specs.Prelude.{◌≡◌, ◌+◌, ◌^◌, ◌<◌, ◌≤◌, [], ◌∷◌, ◌++◌, false, is_some, length, IfOk, OnOk, OnErr};
 ghost use Rattle.lc_token.specs.Backlog.{TakesNext, numbered, put, rest_of, run_of, without};
 ghost use Rattle.lc_token.specs.Keeping.{IsBeforeFirst, IsBehindFirst};
@@ -86,7 +86,7 @@ impl Kept {
         self.put_first(part)
     }
 
-    // Puts a part behind the first.
+    // Puts a part after the first.
     fn put_behind(&mut self, part: Part) -> Result<(), AllocError>
         requires behind { IsBehindFirst part.seq self.old }
         requires unknown { numbered part.seq self.old ≡ None }
@@ -135,7 +135,7 @@ impl Kept {
         let _ = self.behind.remove(&seq);
     }
 
-    /// Takes the first part, if it has the number behind this one.
+    /// Takes the first part, if it has the number after this one.
     pub fn take_next(&mut self, applied: u64) -> Option<Part>
         ensures { TakesNext applied self.old result self.new }
     {
@@ -157,8 +157,8 @@ impl Kept {
         replace(&mut self.first, next)
     }
 
-    /// Moves the parts that follow on this number without a hole behind those that are due, where there is room for
-    /// all. The result is the last number.
+    /// Moves the parts that follow on this number without a hole after those that are due, where there is room for all.
+    /// The result is the last number.
     pub fn move_next(&mut self, applied: u64, due: &mut Due) -> u64
         requires { length due.old.parts + length self.old ≤ due.old.room }
         ensures due { due.new.parts ≡ due.old.parts ++ run_of applied self.old }

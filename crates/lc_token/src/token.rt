@@ -17,7 +17,7 @@ pub struct Token {
 impl Token {
     ghost use Rattle.lc_token.specs.Token.{IsWritten, recovered_token};
 
-    /// The token of a segment, from 1, behind a recovery that has put the records of the segment up to a number on its
+    /// The token of a segment, from 1, after a recovery that has put the records of the segment up to a number on its
     /// pages on the disk: that is its last record, and up to it all is clean. It takes no memory.
     pub fn recovered(segment: u32, seq: u64, pages: PageVector) -> Token
         ensures { result ≡ recovered_token segment seq pages }
@@ -73,9 +73,9 @@ impl Token {
     }
 
     /// Notes that a page was written under a number: `clean` rises to the least number that a dirty page has on the
-    /// disk, and where no page is dirty to the token's own. It takes no memory. It looks at the
-    /// pages behind the written one as far as the first that holds `clean` back, and at all of them only where none does:
-    /// so pages that are written in order cost their number. This project's own.
+    /// disk, and where no page is dirty to the token's own. It takes no memory. It looks at the pages after the written
+    /// one as far as the first that holds `clean` back, and at all of them only where none does: so pages that are
+    /// written in order cost their number. This project's own.
     pub fn written(&mut self, page: u32, number: u64)
         requires { page < length self.old.pages }
         ensures { IsWritten self.old page number self.new }
@@ -89,7 +89,7 @@ impl Token {
     }
 }
 
-// Whether a dirty page behind this one has no greater number on the disk.
+// Whether a dirty page after this one has no greater number on the disk.
 fn is_older_behind(pages: &PageVector, page: u32, number: u64) -> bool
     ensures { result ≡ true → HasOlder pages.now number }
 {

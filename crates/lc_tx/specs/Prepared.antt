@@ -39,7 +39,7 @@ IsRecordOf r Empty = ⊥
 IsRecordOf r (Words words) = IsRecord r words × (length words ≡ record_len r)
 
 module _ {I : Type 0} (m : Ghosts I) where
-  -- the number behind that of a segment's token
+  -- the number after that of a segment's token
   abbrev pub next_number : I → ℕ → ℕ
   next_number images segment = unwrap_or (m.number_of images segment) 0 + 1
 

@@ -183,8 +183,8 @@ impl Tx {
     /// # Errors
     ///
     /// `NotLocked`, `ReadOnly`, `EmptyRange`, `OutOfSegment` and `TooManyRanges`, looked at in this order, and
-    /// `NoMemory`, only where some byte of the range was not set, and more than 8 runs or 8 copies or 64 old bytes would be
-    /// there with it. No range ends behind 2^32 - 1. The transaction is then as before.
+    /// `NoMemory`, only where some byte of the range was not set, and more than 8 runs or 8 copies or 64 old bytes
+    /// would be there with it. No range ends beyond 2^32 - 1. The transaction is then as before.
     pub fn set_range<I: Images>(
         &mut self,
         images: &mut I,
