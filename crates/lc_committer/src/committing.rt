@@ -24,9 +24,9 @@ impl<'a, D: Area + Drop> Committer<'a, D> {
     ///
     /// # Errors
     ///
-    /// Those of `Node::transact_in_room`. Where the work is refused, there is no memory, no token or no place, or the node was
-    /// halted before, nothing is closed. With `DeviceFault`, and with `Halted` in `Mode::Flush`, the flush may have failed behind
-    /// the closing: the record stays closed, and what becomes of it a recovery decides.
+    /// Those of `Node::transact_in_room`. Where the work is refused, there is no memory, no token or no place, or the
+    /// node was halted before, nothing is closed. With `DeviceFault`, and with `Halted` in `Mode::Flush`, the flush may
+    /// have failed after the closing: the record stays closed, and what becomes of it a recovery decides.
     pub fn commit<R: Wait + AllocGlobal, W: Work>(
         &mut self,
         rt: &R,

@@ -24,7 +24,7 @@ module _ {D : Type 0} (a : Ghosts D) where
     pub image : a.honest old ≡ true → IsImage (a.now old) (a.dirty old) (a.now new)
     pub clean : a.honest old ≡ true → IsClean (a.dirty new)
 
-  -- the areas behind a stop
+  -- the areas after a stop
   pub record AreStopped (olds news : List D) : Type 0 where
     pub count : length news ≡ length olds
     pub each : (k : ℕ) (old new : D) → slice_get olds k ≡ Some old → slice_get news k ≡ Some new → IsStopped old new

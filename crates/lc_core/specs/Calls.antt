@@ -52,7 +52,7 @@ module _ {D : Type 0} (a : Ghosts D) where
   CallsEach left g [] (reply ∷ replies) olds news = ⊥
   CallsEach left g (event ∷ events) [] olds news = ⊥
 
-  -- so it is of the areas of a store, before and behind these events
+  -- so it is of the areas of a store, before and after these events
   abbrev pub CallsAll : (D → List Choice → ℕ → ℕ) → List Event → List Reply → Phase D a → Phase D a → Type 0
   CallsAll left events replies old new = (g h : Geometry) (olds news : List D) → HasAreas a old g olds → HasAreas a new h news
       → CallsEach left g events replies olds news

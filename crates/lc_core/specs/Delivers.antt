@@ -28,7 +28,7 @@ pub record HasNewPart (m : Setting) (s : State) (x : Numbers) (sender number seg
   pub lock : number_in segment r.locks ≡ Some own
   pub unknown : (nat_le own (x.applied to segment) || is_member own (x.waiting to segment)) ≡ false
 
--- there is no way but to copy the part: its number is not the next, or others wait behind it
+-- there is no way but to copy the part: its number is not the next, or others wait
 pub record CopiesPart (m : Setting) (s : State) (x : Numbers) (sender number segment to : ℕ) (r : Record) : Type 0 where
   pub part : HasNewPart m s x sender number segment to r
   pub waits : part.own ≡ x.applied to segment + 1 → x.waiting to segment ≡ [] → ⊥

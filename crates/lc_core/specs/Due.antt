@@ -19,7 +19,8 @@ is_due_then s x node segment page = is_up s.phase && (is_at node (s.place segmen
 abbrev pub number_then : Numbers → ℕ → ℕ → ℕ
 number_then x segment page = if x.calls segment page == 0 then stable x segment page else begun_number (x.disks.begun segment page)
 
--- the page is to be written at the node, now or behind that write, and a transaction that is not over has set a position on it
+-- the page is to be written at the node, now or after that write, and a transaction that is not over has set a position
+-- on it
 abbrev pub is_blocked_then : State → Numbers → ℕ → ℕ → ℕ → Bool
 is_blocked_then s x node segment page =
     is_up s.phase

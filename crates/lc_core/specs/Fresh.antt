@@ -1,4 +1,4 @@
--- What comes up behind a recovery.
+-- What comes up after a recovery.
 use Rattle.std.specs.Prelude.{◌≡◌, ◌≤◌, ℕ, ◌+◌, ◌%◌, ◌==◌, true, List, [], length, map, replicate, Some, None, if◌then◌else◌, slice_get}
 use Rattle.std.specs.List.{flat_map}
 use Rattle.lc_disk.specs.declared.area.Area.{Ghosts}

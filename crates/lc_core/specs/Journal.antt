@@ -41,8 +41,8 @@ module _ {D : Type 0} (a : Ghosts D) where
   acked_after (Torn log) taken acked = acked
   acked_after Taken taken acked = acked
 
-  -- the words that are kept are the node's records behind those that were dropped; of these the log has what is
-  -- acknowledged, and the group under way is what a flush took behind that
+  -- the words that are kept are the node's records after those that were dropped; of these the log has what is
+  -- acknowledged, and the group under way is what a flush took after that
   pub record FitsLog (m : Setting) (node : ℕ) (log : Log D a) (kept : Kept) (dropped trimmed taken acked : ℕ) (s : State) (x : Numbers) : Type 0 where
     pub words : map (λ r. r.words) kept.records ≡ map spelling (drop kept.before (records_of m s x.disks node))
     pub marks : marks_of kept.records ≡ drop kept.before (map (λ e. e.closed) (entries_of node s.history))

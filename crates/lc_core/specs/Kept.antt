@@ -8,6 +8,6 @@ use Rattle.lc_core.specs.Records.{Kept, Spelled}
 abbrev pub closed_record : Record → Spelled
 closed_record r = record { words = spelling r; closed = true }
 
--- these are kept behind what was
+-- these are kept after those that were
 abbrev pub kept_behind : List Record → Kept → Kept
 kept_behind rs k = record k { records = k.records ++ map closed_record rs }

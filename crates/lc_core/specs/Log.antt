@@ -171,7 +171,7 @@ module _ {D : Type 0} (a : Ghosts D) where
   size (Torn log) = length (a.now log.area)
   size Taken = 0
 
-  -- so many words fit behind what the log has and is about to have
+  -- so many words fit after what the log has and is about to have
   abbrev pub HasRoom : Log D a → ℕ → Type 0
   HasRoom log words = is_failed log ≡ false → 8 * (end_of log + under_way log + words) + 8 ≤ size log
 
@@ -208,7 +208,7 @@ module _ {D : Type 0} (a : Ghosts D) where
   abbrev pub Comes : Log D a → ℕ → ℕ → ℕ → Type 0
   Comes new steps end words = is_failed new ≡ false → (steps_of new ≡ steps) × (end_of new ≡ end) × (under_way new ≡ words) × (is_sealed new ≡ false)
 
-  -- the first step takes a group of so many words under way, and the last puts it behind the records
+  -- the first step takes a group of so many words under way, and the last puts it after the records
   abbrev pub MovesOn : Log D a → ℕ → Log D a → Type 0
   MovesOn (Idle log) words new = Comes new 1 log.end words
   MovesOn (Written log) words new = Comes new 2 log.end log.words

@@ -27,8 +27,8 @@ pub record Numbers : Type 0 where
   pub reset : ℕ → ℕ
   pub round : ℕ → ℕ
   pub trimmed : ℕ → ℕ
-  -- by node and segment: the number up to which the segment is applied; the numbers behind a gap, ascending; the greatest
-  -- `clean` that the node has seen
+  -- by node and segment: the number up to which the segment is applied; the numbers after a gap, ascending; the
+  -- greatest `clean` that the node has seen
   pub applied : ℕ → ℕ → ℕ
   pub waiting : ℕ → ℕ → List ℕ
   pub known : ℕ → ℕ → ℕ
@@ -43,7 +43,7 @@ pub record Numbers : Type 0 where
   -- how many steps a recovery has made
   pub steps : ℕ
 
--- behind a recovery that gave the segments these numbers, and left these pages, of which the disk says this
+-- after a recovery that gave the segments these numbers, and left these pages, of which the disk says this
 abbrev pub recovered_numbers : Geometry → (ℕ → ℕ) → (ℕ → ℕ → Page) → (ℕ → ℕ → PageText) → Numbers
 recovered_numbers g numbers pages texts = record {
   disks = recovered_disks numbers pages;

@@ -48,7 +48,7 @@ StepsIn olds page write (Ok (Stepped calls)) news =
 StepsIn olds page write (Ok (Written number)) news = (calls_of write ≡ 5) × (number ≡ (draft_of write).seq) × (news ≡ slice_set olds page AtRest)
 StepsIn olds page write (Err fault) news = news ≡ slice_set olds page Failed
 
--- the numbers behind a call of a page write that is under way
+-- the numbers after a call of a page write that is under way
 abbrev pub numbers_behind : Setting → State → Numbers → ℕ → ℕ → Result PageProgress PageFault → Numbers
 numbers_behind m s x segment page (Ok (Stepped calls)) = called m s x segment page calls
 numbers_behind m s x segment page (Ok (Written number)) = page_settled x segment page

@@ -84,7 +84,8 @@ pub record IsTokenIn (g : Geometry) (segment : ℕ) (token : TheToken) (holder :
   pub entries : length token.pages ≡ g.pages
   pub node : node_of holder < g.nodes
 
--- the records have the segment's numbers behind the first up to the token's, each once, and the token agrees with them and with its area
+-- the records have the segment's numbers after the first up to the token's, each once, and the token agrees with them
+-- and with its area
 pub record KeepsTokenIn (segment pages : ℕ) (token : TheToken) (holder : Holder) (area : List ℕ) (logs : List (List Record)) (counts : List ℕ) : Type 0 where
   pub numbered : AreNumbered segment (token.seq - count_on segment logs) token.seq (flat_map (λ (log : List Record). log) logs)
   pub kept : IsKeptToken segment pages token holder logs counts area

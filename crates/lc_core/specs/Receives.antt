@@ -48,8 +48,8 @@ reply_of (Applied last) = IsApplied last
 reply_of HeldBack = IsHeldBack
 reply_of Ignored = IsIgnored
 
--- a closed record of the segment comes to a desk that fits the machine and the numbers: the answer is the one that is settled,
--- and the desk fits the machine, which stays, and the numbers behind that answer
+-- a closed record of the segment comes to a desk that fits the machine and the numbers: the answer is the one that is
+-- settled, and the desk fits the machine, which stays, and the numbers after that answer
 abbrev pub FollowsReceive : ℕ → Record → Desk → Received → Desk → Type 0
 FollowsReceive segment whole old answer new =
     (m : Setting) (node : ℕ) (s : State) (x : Numbers) (place number : ℕ) → Sound m.geometry s

@@ -9,7 +9,7 @@ pub record Spelled : Type 0 where
   pub words : List ℕ
   pub closed : Bool
 
--- how many were dropped, and those behind them
+-- how many were dropped, and those after them
 pub record Kept : Type 0 where
   pub before : ℕ
   pub records : List Spelled
@@ -49,13 +49,13 @@ closed_at number k = if nat_lt number k.before then k else record k { records = 
 
 -- How they are kept
 
--- the records with these places, of which the first begins with the first of these words, behind so many
+-- the records with these places, of which the first begins with the first of these words, after so many
 abbrev pub spelled : ℕ → List ℕ → List Place → List Spelled
 spelled start words [] = []
 spelled start words (p ∷ ps) =
     record { words = take (p.end - start) words; closed = p.closed } ∷ spelled p.end (drop (p.end - start) words) ps
 
--- the places of these records, behind so many words
+-- the places of these records, after so many words
 abbrev pub places_of : ℕ → List Spelled → List Place
 places_of start [] = []
 places_of start (r ∷ rs) =

@@ -52,7 +52,8 @@ module _ {D : Type 0} (a : Ghosts D) where
     pub few : (steps : ℕ) → reply ≡ Stepped steps → steps ≤ all_steps r.geometry (r.geometry.segments * r.geometry.pages)
     pub reads : (later : Recovering D) → new ≡ Down later → r.steps + 1 < first_steps r.geometry → AreHonest a r.areas → (steps : ℕ) → reply ≡ Stepped steps
         → AreHonest a later.areas × (map a.now later.areas ≡ map a.now r.areas)
-    -- behind the merge of honest areas what they read as is merged, and it fits the machine's first state, with that content
+    -- after the merge of honest areas what they read as is merged, and it fits the machine's first state, with that
+    -- content
     pub found : IsMergeNext r → AreHonest a r.areas → (later : Recovering D) → new ≡ Down later → (steps : ℕ) → reply ≡ Stepped steps → IsMerged a later
     pub anew : IsMergeNext r → AreHonest a r.areas → (steps : ℕ) → reply ≡ Stepped steps → StartsAnew a r.geometry steps new
 

@@ -37,7 +37,7 @@ RunsOn m s x (event ∷ events) [] after next = ⊥
 abbrev pub AreSettled : Setting → Numbers → List Event → List Reply → Type 0
 AreSettled m x events replies = (after : State) × (next : Numbers) × RunsOn m (first_state m.geometry) x events replies after next
 
--- the event behind those that were answered needs room in some state
+-- the event after those that were answered needs room in some state
 abbrev pub GrowsNext : List Event → List Reply → Type 0
 GrowsNext events replies = (event : Event) × (slice_get events (length replies) ≡ Some event) × (may_grow event ≡ true)
 
@@ -53,7 +53,7 @@ module _ {D : Type 0} (a : Ghosts D) where
   Settles m x events replies new =
       (after : State) × (next : Numbers) × RunsOn m (first_state m.geometry) x events replies after next × FitsWorld a m new after next
 
-  -- the event behind those that were answered asks for memory where the run has come to
+  -- the event after those that were answered asks for memory where the run has come to
   pub record AsksNext (m : Setting) (s : State) (x : Numbers) (events : List Event) (replies : List Reply) (new : World D a) : Type 0 where
     pub after : State
     pub next : Numbers

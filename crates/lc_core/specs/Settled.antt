@@ -184,7 +184,7 @@ open_answer m s x (PageStep node segment page) = Some (page_answer s x node segm
 open_answer m s x (ResetStep node) = Some (reset_call m s x node (x.reset node))
 open_answer m s x _ = None
 
--- behind the refusals that are common to all
+-- after the refusals that are common to all
 abbrev pub settled_answer : Setting → State → Numbers → Event → Option Reply
 settled_answer m s x event = if is_some (common_refusal m.geometry s event) then None else open_answer m s x event
 

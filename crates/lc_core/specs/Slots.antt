@@ -58,7 +58,7 @@ pub record Awaits (m : Setting) (s : State) (x : Numbers) (segment : ℕ) (part 
   pub closed : part.seq ≤ token_number s x segment
 
 pub record FitsSlot (m : Setting) (node segment : ℕ) (b : Besides) (s : State) (x : Numbers) : Type 0 where
-  -- up to which number the node has the segment's records, and what waits behind a gap
+  -- up to which number the node has the segment's records, and what waits after a gap
   pub applied : b.1.applied ≡ x.applied node segment
   pub within : x.applied node segment ≤ token_number s x segment
   pub waiting : map (λ (p : Part). p.seq) b.1.kept ≡ x.waiting node segment

@@ -35,7 +35,7 @@ TellsWriting m x (Leave node segment) writing = 1 ≤ segment → segment ≤ m.
 TellsWriting m x event writing = Unit {0}
 
 module _ {D : Type 0} (a : Ghosts D) where
-  -- a step of the machine under this reply, which is settled, and the numbers behind it
+  -- a step of the machine under this reply, which is settled, and the numbers after it
   pub record StepsOn (m : Setting) (event : Event) (s : State) (x : Numbers) (reply : Reply) (geometry : Geometry) (nodes : List (Node D a)) (travelling : List (Option Token)) : Type 0 where
     pub after : State
     pub next : Numbers

@@ -88,8 +88,8 @@ abbrev pub under_way_in : ℕ → {D : Type 0} {a : Ghosts D} → Option (Pages 
 under_way_in page None = None
 under_way_in page (Some pages) = under_way_at (slice_get pages.writes.items page)
 
--- the token stands here, and the page was changed under a greater number than the disk has, or will have behind the write that is
--- under way
+-- the token stands here, and the page was changed under a greater number than the disk has, or will have after the
+-- write that is under way
 abbrev pub newer_of : ℕ → Option ℕ → Option Token → Bool
 newer_of page under_way None = false
 newer_of page under_way (Some token) = nat_lt (unwrap_or under_way (entry_at token.pages page).stable) (entry_at token.pages page).touched
@@ -121,8 +121,8 @@ module _ {D : Type 0} (a : Ghosts D) where
   sizes_of (Down recovery) = (0, 0)
   sizes_of Taken = (0, 0)
 
-  -- the page of the segment, from 1, is to be written at the node, now or behind the write that is under way, and that write would
-  -- be refused, since a transaction that is not over has set a position on the page
+  -- the page of the segment, from 1, is to be written at the node, now or after the write that is under way. And that
+  -- write would be refused, since a transaction that is not over has set a position on the page
   abbrev pub IsBlocked : Phase D a → ℕ → ℕ → ℕ → Type 0
   IsBlocked (Up up) node segment page =
       (newer_at segment page (under_way_in page (slice_get up.segments.items (segment - 1))) (slice_get up.running.nodes.items node) ≡ true)
@@ -179,7 +179,7 @@ module _ {D : Type 0} (a : Ghosts D) where
   abbrev pub Round : ℕ → ℕ → ℕ → World D a → Option Refusal → World D a → Type 0
   Round node segment pages old refused new = EachFrom pages 0 (CallsDue node segment) old refused new
 
-  -- Thirteen rounds leave no page due: a write has six calls, and one that was under way may have another behind it.
+  -- Thirteen rounds leave no page due: a write has six calls, and one that was under way may have another after it.
   abbrev pub WritesSegment : ℕ → ℕ → ℕ → World D a → Option Refusal → World D a → Type 0
   WritesSegment node segment pages old refused new = EachFrom 13 0 (λ round. Round node segment pages) old refused new
 

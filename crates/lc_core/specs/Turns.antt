@@ -88,7 +88,7 @@ abbrev pub settled_with : Disks → ℕ → ℕ → Option Page → Disks
 settled_with d segment page None = d
 settled_with d segment page (Some text) = with_settled d segment page text
 
--- the disks behind this call of a page write, also where it failed: the first takes the page as it is, the fifth opens
+-- the disks after this call of a page write, also where it failed: the first takes the page as it is, the fifth opens
 -- the slot
 abbrev pub call_made : Setting → State → Disks → ℕ → ℕ → ℕ → Disks
 call_made m s d segment page calls =
@@ -131,7 +131,7 @@ reset_done s x node = record x {
 
 -- All events
 
--- the numbers behind this reply, but for the last step of a recovery
+-- the numbers after this reply, but for the last step of a recovery
 abbrev pub numbers_after : Setting → State → Numbers → Event → Reply → Numbers
 numbers_after m s x (Close node thread) Accepted = closed_with s x node (find (is_unclosed node thread) s.history)
 numbers_after m s x (Arrive node segment) Accepted = seen x node segment
@@ -159,8 +159,8 @@ abbrev pub AreWithin : Geometry → (ℕ → ℕ) → (ℕ → ℕ → Page) →
 AreWithin g numbers pages =
     (segment page : ℕ) → 1 ≤ segment → segment ≤ g.segments → page < g.pages → (pages segment page).sequence ≤ numbers segment
 
--- behind the last step of a recovery the segments have the numbers of what the cut kept, and the pages that it left have no
--- greater ones
+-- after the last step of a recovery the segments have the numbers of what the cut kept, and the pages that it left have
+-- no greater ones
 abbrev pub IsRecovered : Setting → State → Numbers → Numbers → Type 0
 IsRecovered m s x new =
     (pages : ℕ → ℕ → Page) × (texts : ℕ → ℕ → PageText) × AreWithin m.geometry (kept_numbers s.phase s x) pages × (new ≡ recovered_numbers m.geometry (kept_numbers s.phase s x) pages texts)

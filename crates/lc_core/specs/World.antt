@@ -30,7 +30,7 @@ use Rattle.lc_core.specs.declared.phase.Phase.TheVariants.{Down, Up, Taken}
 use Rattle.lc_core.specs.declared.world.World.{World}
 use Rattle.lc_core.specs.declared.up.Up.{Up as UpStore}
 
--- a step of the machine under this reply, which is settled, and the numbers behind it; there this fits
+-- a step of the machine under this reply, which is settled, and the numbers after it; there this fits
 pub record LeadsTo (m : Setting) (event : Event) (s : State) (x : Numbers) (reply : Reply) (Fits : State → Numbers → Type 0) : Type 0 where
   pub after : State
   pub next : Numbers

@@ -47,7 +47,7 @@ impl<D: Stoppable + Drop> World<D> {
         ensures at_once { IfOk result (λ reply. RefusesAtOnce D.Area self.old.phase event.now reply self.new.phase) }
         ensures recovers { event.now ≡ RecoverStep → IfOk result (λ reply. RecoversDown D.Area self.old.phase reply self.new.phase) }
 
-        // Behind a stop the areas are stopped, each by the choices at its place, and a recovery begins on them.
+        // After a stop the areas are stopped, each by the choices at its place, and a recovery begins on them.
         ensures stops { (choices : List (List Choice)) → event.now ≡ Stop choices
             → IfOk result (λ reply. (reply ≡ IsDown) × StopsAll D.Area self.old.phase self.new.phase) }
         ensures chosen { (choices : List (List Choice)) → event.now ≡ Stop choices

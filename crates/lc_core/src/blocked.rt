@@ -13,8 +13,9 @@ use crate::world::World;
 use lc_disk::Area;
 
 impl<D: Area + Drop> World<D> {
-    /// Whether some page is blocked at a node: it is to be written there, now or behind the write that is under way, and that write
-    /// would be refused, since a transaction that is not over has set a position on the page. It takes no memory.
+    /// Whether some page is blocked at a node. Such a page is to be written there, now or after the write that is under
+    /// way, and that write would be refused, since a transaction that is not over has set a position on the page. It
+    /// takes no memory.
     pub(crate) fn has_blocked_page(&self, node: u16) -> bool
         ensures { IsTrue result ↔ HasBlocked D.Area self.now.phase node (sizes_of D.Area self.now.phase) }
     {
@@ -96,7 +97,8 @@ impl PageState {
 }
 
 impl<D: Area + Drop> Node<D> {
-    // Whether the segment's token stands here, and the page was changed under a greater number than the disk has behind that write.
+    // Whether the segment's token stands here, and the page was changed under a greater number than the disk has after
+    // that write.
     fn is_newer(&self, segment: u32, page: u32, under_way: Option<u64>) -> bool
         requires first { 1 ≤ segment }
         ensures { result ≡ newer_in page under_way (slice_get self.now.desk.here.slots.items (segment - 1)) }

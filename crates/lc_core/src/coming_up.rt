@@ -15,14 +15,14 @@ impl<D: Stoppable + Drop> World<D> {
     ghost use Rattle.lc_core.specs.Lives.{IsNewborn};
     ghost use Rattle.lc_core.specs.Observed.{observed};
 
-    /// Recovers a store that is down, as `RecoverStep` again and again, as long as more is to come: behind an `Ok` it is up. It
-    /// makes no more steps than a recovery has that writes each page.
+    /// Recovers a store that is down, as `RecoverStep` again and again, as long as more is to come: after an `Ok` it is
+    /// up. It makes no more steps than a recovery has that writes each page.
     ///
     /// # Errors
     ///
     /// `OutOfTurn` where the store is up: nothing has changed then. `BadGeometry`, `Gap`, `Twice`, `OutOfSegment` and
-    /// `DeviceFault`: the next call begins again with the first step. `NoMemory`: the steps before it are done, and the next call
-    /// goes on from there. Behind each the store is as up or down as it was.
+    /// `DeviceFault`: the next call begins again with the first step. `NoMemory`: the steps before it are done, and the
+    /// next call goes on from there. After each of these the store is up or down as it was before.
     ///
     /// Idea: recovery at the opening of a store (RVM: Satyanarayanan et al., TOCS 1994).
     pub fn recover(&mut self, alloc: Global) -> Result<(), CallFault>

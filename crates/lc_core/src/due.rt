@@ -15,7 +15,7 @@ use crate::world::World;
 use lc_disk::Area;
 use lc_page::PageVector;
 
-// A write has six calls, one that was under way may have another behind it, and in the thirteenth round no page is due.
+// A write has six calls, one that was under way may have another after it, and in the thirteenth round no page is due.
 const LAST_ROUND: u32 = 12;
 
 impl<D: Area + Drop> World<D> {

@@ -1,6 +1,6 @@
 //! How far a flush is.
 
-/// How far the flush of a node's log is behind one of its four device calls.
+/// How far the flush of a node's log is after one of its four device calls.
 #[derive(Clone, Copy, PartialEq, Eq)]
 pub enum FlushProgress {
     /// So many of its calls are made, 1 to 3.

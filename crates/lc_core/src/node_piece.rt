@@ -24,9 +24,9 @@ pub(crate) struct NodePiece<D: Area> {
 }
 
 impl<D: Area + Drop> NodePiece<D> {
-    /// What a node is made of with this log in its round, which knows so much as clean: behind so many records that resets have
-    /// dropped, fewer than 2^63, those that the log has, and then those that are staged, each as the words that begin with them. It
-    /// takes memory for the words.
+    /// What a node is made of with this log in its round, which knows so much as clean. After so many records that
+    /// resets have dropped, fewer than 2^63, it has those of the log and then those that are staged, each as the words
+    /// that begin with them. It takes memory for the words.
     pub(crate) fn new(
         alloc: Global,
         log: Idle<D>,

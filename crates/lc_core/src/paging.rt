@@ -81,7 +81,7 @@ impl<D: Area + Drop> Node<D> {
         }
     }
 
-    // The next call of a write that is under way. Behind the last the token knows that the page is written.
+    // The next call of a write that is under way. After the last the token knows that the page is written.
     fn next_page_call(&mut self, segment: u32, page: u32, pages: &mut Pages<D>) -> Reply
         requires first { 1 ≤ segment }
         requires slot { segment ≤ vec_len self.old.desk.here.slots }

@@ -50,7 +50,7 @@ impl Records {
         }
     }
 
-    /// None, behind so many that were dropped: the next has their number. It takes no memory.
+    /// None, after so many that were dropped: the next has their number. It takes no memory.
     pub(crate) fn behind(alloc: Global, dropped: u64) -> Records
         requires { dropped < 2 ^ 63 }
         ensures { result ≡ record { before = dropped; records = [] } }
@@ -94,8 +94,8 @@ impl Records {
         closed_among(self.places.as_slice(), from) as u64
     }
 
-    /// Adds a record of these words, which is not closed, and answers its number. It takes memory for each, and where memory
-    /// is wanted, as behind the last number, 2^63 - 2, nothing has changed.
+    /// Adds a record of these words, which is not closed, and answers its number. It takes memory for each, and where
+    /// memory is wanted, as after the last number, 2^63 - 2, nothing has changed.
     pub(crate) fn reserve(&mut self, words: &[u64]) -> Result<u64, AllocError>
         ensures number { IfOk result (λ number. number ≡ count_of self.old) }
         ensures added { IfOk result (λ _. self.new ≡ record self.old {
@@ -117,8 +117,8 @@ impl Records {
         Ok(number)
     }
 
-    /// Adds a record of these words, which is closed. It takes memory for them, and where memory is wanted, as behind the last
-    /// number, 2^63 - 2, nothing has changed.
+    /// Adds a record of these words, which is closed. It takes memory for them, and where memory is wanted, as after
+    /// the last number, 2^63 - 2, nothing has changed.
     pub(crate) fn keep(&mut self, words: &[u64]) -> Result<(), AllocError>
         ensures kept { IfOk result (λ _. self.new ≡ record self.old {
           records = self.old.records ++ record { words = words.now; closed = true } ∷ [];

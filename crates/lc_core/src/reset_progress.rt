@@ -1,6 +1,6 @@
 //! How far a reset is.
 
-/// How far the reset of a node's log is behind one of its four steps.
+/// How far the reset of a node's log is after one of its four steps.
 #[derive(Clone, Copy, PartialEq, Eq)]
 pub enum ResetProgress {
     /// So many of its steps are done, 1 to 3.

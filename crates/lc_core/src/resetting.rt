@@ -1,4 +1,4 @@
-//! What the first step of a reset asks of the records, and the calls behind it.
+//! What the first step of a reset asks of the records, and the calls after it.
 ghost use Rattle.std.specs.Prelude.{◌≡◌, ◌⊎◌, ◌++◌, ℕ, List, true, false};
 ghost use Rattle.lc_record.specs.Record.{IsRecord};
 ghost use Rattle.lc_record.specs.declared.record.Lock.{Lock as Locked};

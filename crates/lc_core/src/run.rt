@@ -11,9 +11,9 @@ use lc_disk::Stoppable;
 use std::alloc::{AllocError, Global};
 
 impl<D: Stoppable + Drop> World<D> {
-    /// These events, one after another, as far as there is memory: the room of all replies is taken before the first event,
-    /// and without it none is answered; then memory is wanted only at an event that asks for it. The store stands behind the
-    /// events that were answered.
+    /// These events, one after another, as far as there is memory: the room of all replies is taken before the first
+    /// event, and without it none is answered. Then memory is wanted only at an event that asks for it. The store is as
+    /// those that were answered have left it.
     pub fn run(&mut self, alloc: Global, events: &[Event]) -> RunResult
         ensures follows { FollowsRun D.Area self.old (take (length result.replies.items) events.now) result.replies.items self.new }
         ensures lives { FollowsLives D.Area self.old.phase (take (length result.replies.items) events.now) result.replies.items self.new.phase }

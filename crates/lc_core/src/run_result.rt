@@ -6,6 +6,6 @@ use crate::Reply;
 pub struct RunResult {
     /// Of the events that were answered, in their order.
     pub replies: Vec<Reply>,
-    /// Whether the event behind them was given up for want of memory.
+    /// Whether the event after them was given up for want of memory.
     pub out_of_memory: bool,
 }

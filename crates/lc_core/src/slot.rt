@@ -38,8 +38,8 @@ impl Slot {
         true
     }
 
-    /// Notes that these positions are changed under the number of the token, where one stands here; positions behind the
-    /// last page are left out. It takes no memory.
+    /// Notes that these positions are changed under the number of the token, where one stands here; positions beyond
+    /// the last page are left out. It takes no memory.
     pub(crate) fn touch(&mut self, offset: u32, len: u32)
         ensures { MatchOption self.old.token.token (self.new ≡ self.old) (λ token. TouchesSlot offset len token self.old self.new) }
     {

@@ -147,7 +147,7 @@ fn log_areas<D: Area + Drop>(mut nodes: Vec<Node<D>>, mut areas: Vec<D>) -> Vec<
     areas
 }
 
-// The areas of the segments, behind those of the logs.
+// The areas of the segments, after those of the logs.
 fn with_segments<D: Area + Drop>(mut segments: Vec<Pages<D>>, mut areas: Vec<D>) -> Vec<D>
     requires room { vec_len areas + vec_len segments ≤ vec_capacity areas }
     ensures { result.items ≡ areas.items ++ areas_of D.Area segments.items }

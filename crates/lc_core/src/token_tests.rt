@@ -70,8 +70,8 @@ fn is_token(geometry: &Geometry, segment: u32, token: &Token, holder: Holder) ->
         && node_of(holder) < geometry.nodes
 }
 
-// The number that the segment has before all its records, if these have the numbers behind it up to the token's, each once, and
-// the token agrees with them and with its area.
+// The number that the segment has before all its records, if these have the numbers after it up to the token's, each
+// once, and the token agrees with them and with its area.
 fn keeps_first(
     alloc: Global,
     read: &SegmentRead<'_>,

@@ -237,9 +237,9 @@ impl<D: Stoppable + Drop> World<D> {
         }
     }
 
-    /// The open transaction of a thread ends (RVM's end_transaction): it gets its place in the log, and is closed there, so
-    /// that its locks are free; one that set nothing is over. Its record is stable once a flush behind it is acknowledged. It
-    /// takes memory as `reserve` does.
+    /// The open transaction of a thread ends (RVM's end_transaction): it gets its place in the log, and is closed
+    /// there, so that its locks are free; one that set nothing is over. Its record is stable once a flush that took it
+    /// is acknowledged. It takes memory as `reserve` does.
     ///
     /// # Errors
     ///

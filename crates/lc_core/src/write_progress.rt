@@ -1,6 +1,6 @@
 //! How far the write of a page is.
 
-/// How far the write of a page is behind one of its six device calls.
+/// How far the write of a page is after one of its six device calls.
 #[derive(Clone, Copy, PartialEq, Eq)]
 pub enum WriteProgress {
     /// So many of its calls are made, 1 to 5.

@@ -24,8 +24,8 @@ pub fn left()
     ensures all { (past : List (List ℕ)) (known : List ℕ) (gone : ℕ) (words : List ℕ) → IsLeft past known gone words → IsLeft past known (gone + length words) [] }
 {}
 
-/// What is dropped, by however many trims of whatever nodes one after another, are records that follow one another, each with the
-/// next numbers of its segments; the numbers behind them are those that the trims count.
+/// What is dropped, by however many trims of whatever nodes one after another, are records that follow one another,
+/// each with the next numbers of its segments. The numbers after them are those that the trims count.
 pub fn dropped_follow()
     ensures chain { (g : Geometry) (applied later dropped between after : List ℕ) (rs qs : List Record) → All (IsTaken g) rs → All (IsTaken g) qs →
         All (λ (r : Record). All (λ (lock : Lock). (1 ≤ lock.segment) × (lock.segment ≤ length dropped)) r.locks) rs → All (λ (r : Record). All (λ (lock : Lock). (1 ≤ lock.segment) × (lock.segment ≤ length dropped)) r.locks) qs →

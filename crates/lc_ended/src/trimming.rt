@@ -104,9 +104,10 @@ impl Ended {
         true
     }
 
-    /// Drops the records in front, as long as the next is due: all nodes have applied each of its locks, and on each of its
-    /// segments it has the number behind those that were dropped, of whatever node, which are counted then. The segments stand
-    /// from segment 1 on. Answers how many went. It takes no memory, and over many calls the time of what is dropped.
+    /// Drops the records in front, as long as the next is due: all nodes have applied each of its locks, and on each of
+    /// its segments it has the number after those that were dropped, of whatever node. The dropped ones are counted
+    /// then. The segments stand from segment 1 on. Answers how many went. It takes no memory, and over many calls the
+    /// time of what is dropped.
     pub fn trim(&mut self, applied: &[u64], dropped: &mut [u64]) -> u64
         ensures trimmed { (rs : List Record) → All IsWhole rs → self.old.words ≡ joined rs → Trims applied.now dropped.old rs result self.new.words dropped.new }
         ensures place { self.new.gone + length self.new.words ≡ self.old.gone + length self.old.words }

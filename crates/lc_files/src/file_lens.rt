@@ -19,7 +19,7 @@ const WORD: u64 = 8;
 // How many bytes the two slots of a page have.
 const SLOTS: u64 = 544;
 
-/// How many bytes each file of a store has, where there is one: `log0` and those behind it, and `seg1` and those behind it.
+/// How many bytes each file of a store has, where there is one: `log0` and the next ones, and `seg1` and the next ones.
 /// This project's own.
 #[derive(Clone, Copy)]
 pub struct FileLens {

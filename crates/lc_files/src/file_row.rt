@@ -2,7 +2,7 @@
 ghost use Rattle.std.specs.Prelude.{◌≤◌, IfErr, IfOk, length};
 ghost use Rattle.lc_files.specs.Found.{IsRow, IsRowFault, place_of};
 
-/// Files that stand one behind the other, all as long as the first.
+/// Files that stand one after the other, all as long as the first.
 #[derive(Clone, Copy)]
 pub(crate) struct FileRow {
     /// How many there are, at least one.
@@ -14,7 +14,7 @@ pub(crate) struct FileRow {
 /// Why files are in no row.
 #[derive(Clone, Copy)]
 pub(crate) enum RowFault {
-    /// This one is not there, and it is the first, or one behind it is there.
+    /// This one is not there, and it is the first, or one after it is there.
     Missing(usize),
     /// This one is not as long as the first.
     OtherLen(usize),

@@ -11,7 +11,7 @@ const LOCKS: &str = "/proc/locks";
 // The kind of the locks that a store takes.
 const KIND: &str = "FLOCK";
 
-/// Who has the lock of a file, where it is known. It prints as what stands behind `store in use`.
+/// Who has the lock of a file, where it is known. It prints as what stands after `store in use`.
 #[derive(Clone, Copy)]
 pub(crate) struct LockHolder(pub(crate) Option<u32>);
 

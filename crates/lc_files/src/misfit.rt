@@ -9,7 +9,7 @@ use std::io::{self, Write};
 /// Why the files of a folder are not those of a store of some size.
 #[derive(Clone, Copy, PartialEq, Eq)]
 pub enum Misfit {
-    /// This file is not there, and it is the first of its kind, or one behind it is there.
+    /// This file is not there, and it is the first of its kind, or one after it is there.
     Missing(FileName),
     /// This file, the first of its kind, is as long as no file of its kind.
     NoLen(FileName),

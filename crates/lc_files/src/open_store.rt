@@ -76,8 +76,8 @@ where
         }
     }
 
-    /// The areas of the files of a store of this size, opened to be read alone, beside others that do so, and as they are behind a
-    /// fault too. It takes no lock of the folder.
+    /// The areas of the files of a store of this size, opened to be read alone, beside others that do so, and as they
+    /// are after a fault too. It takes no lock of the folder.
     ///
     /// # Errors
     ///
@@ -93,7 +93,7 @@ where
         Ok(areas)
     }
 
-    /// Looks that no fault has left its mark, behind which what the system has of the files is not to be trusted.
+    /// Looks that no fault has left its mark: after a fault what the system has of the files is not to be trusted.
     ///
     /// # Errors
     ///
@@ -165,7 +165,7 @@ where
         }
     }
 
-    // The areas of a store's files, which are opened in the order of the areas, and behind them that of this name.
+    // The areas of a store's files, which are opened in the order of the areas, and after them that of this name.
     fn open_areas(
         &self,
         geometry: &Geometry,

@@ -14,8 +14,8 @@ use lc_record::Geometry;
 /// Puts a stable copy in the place of each file of a store, makes the names stable, and takes the mark of a fault away. What is left
 /// of an earlier copy is taken away first, and each copy is made of a file that was not there.
 ///
-/// So what the system has of a file in its memory alone is on the device behind it, or it was lost and is read as such: a page
-/// that could not be written is called clean by the system, and is not written again where it stands.
+/// So what the system has of a file in its memory alone is then on the device, or it was lost and is read as such. A
+/// page that could not be written is called clean by the system, and is not written again where it stands.
 pub fn renew_store<F: Folder>(folder: &mut F, geometry: &Geometry) -> Result<(), FolderFault>
     // Whatever fails, each file has the bytes that it had.
     ensures keeps { F.honest folder.old ≡ true → KeepsFiles (F.files folder.old) (F.files folder.new) }

@@ -64,7 +64,7 @@ fn size_in(bytes: &[u8]) -> Option<Geometry>
     Geometry::new(nodes, 1, segments, pages, words)
 }
 
-// The number with which a text goes on behind these words, up to the end of the line, and what stands behind that.
+// The number that follows these words at the front of a text, up to the end of the line, and what comes after that.
 fn number_in<'a>(text: &'a str, words: &str) -> Option<(u32, &'a str)>
     ensures { (n : ℕ) (rest : List ℕ) → n < 2 ^ 32 → text.now ≡ words.now ++ (decimal n ++ 10 ∷ rest)
         → MatchOption result ⊥ (λ found. (found.0 ≡ n) × (found.1.now ≡ rest)) }

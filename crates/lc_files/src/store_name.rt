@@ -21,7 +21,7 @@ pub enum StoreName {
     Mark,
     /// A file of the store.
     File(FileName),
-    /// The name of a file with `.new` behind it: the copy that takes its place behind a fault.
+    /// The name of a file with `.new` at its end: the copy that takes its place after a fault.
     Copy(FileName),
 }
 

@@ -10,9 +10,9 @@ use std::rt::Files;
 /// An area of a store in a folder.
 pub type StoreArea<'a, R> = FileArea<<R as Files>::File, FileWatch<'a, R>>;
 
-/// Notes in its folder why a file of the store failed. Behind a write or a sync that failed it leaves a mark there, before
-/// anybody is told: the system calls what could not be written clean, and would read it from its memory as if it were on the
-/// device.
+/// Notes in its folder why a file of the store failed. After a write or a sync that failed it leaves a mark there,
+/// before anybody is told: the system calls what could not be written clean, and would read it from its memory as if it
+/// were on the device.
 pub struct FileWatch<'a, R> {
     folder: &'a StoreFolder<'a, R>,
     name: FileName,

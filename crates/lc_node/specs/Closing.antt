@@ -35,7 +35,7 @@ module _ {P : Type 0} where
   abbrev pub GivesAll : List (Ends P) → List P → Type 0
   GivesAll all tokens = (from to : ℕ) → from < length all → to < length all → from ≢ to → Gives (end_to all from to) (inbox_from all to from) tokens
 
-  -- there are some more behind those that there were
+  -- there are some more after those that there were
   abbrev pub Grows : List P → List P → Type 0
   Grows old new = (more : List P) × (new ≡ old ++ more)
 

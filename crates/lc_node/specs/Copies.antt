@@ -11,17 +11,17 @@ use Rattle.lc_node.specs.declared.peer_end.PeerEnd.{PeerEnd}
 abbrev pub texts : List (Vec ℕ) → List (List ℕ)
 texts copies = map (λ (words : Vec ℕ). words.items) copies
 
--- each has a word, and a place behind this one and all their words is a `usize`
+-- each has a word, and this place and all their words together are a `usize`
 pub record FitBehind (place : ℕ) (copies : List (Vec ℕ)) : Type 0 where
   pub filled : All (λ (words : Vec ℕ). 0 < length words.items) copies
   pub within : place + length (concat (texts copies)) < 2 ^ 64
 
--- where a record begins at the place, or the last ends there, they are the first of those behind it
+-- where a record begins at the place, or the last ends there, they are the first of those from there on
 abbrev pub AreBehind : List (List ℕ) → ℕ → List (Vec ℕ) → Type 0
 AreBehind published place copies =
     (front behind : List (List ℕ)) → published ≡ front ++ behind → length (concat front) ≡ place → (rest : List (List ℕ)) × (behind ≡ texts copies ++ rest)
 
--- they are as many as are published behind the place, 64 at most
+-- they are as many as are published from the place on, 64 at most
 abbrev pub AreMost : List (List ℕ) → ℕ → List (Vec ℕ) → Type 0
 AreMost published place copies = (count : ℕ) → IsStart published count place → length copies ≡ min 64 (length published - count)
 

@@ -12,7 +12,8 @@ use Rattle.lc_node.specs.declared.node_fault.NodeFault.{NodeFault}
 use Rattle.lc_node.specs.declared.node_fault.NodeFault.TheVariants.{DeviceFault, Halted}
 
 module _ {D : Type 0} where
-  -- what is closed was taken: so many records, whose words are stable now behind those that were, and their end is published
+  -- what is closed was taken: so many records, whose words are stable now after those that were, and their end is
+  -- published
   pub record Flushes (room : ℕ) (old : LogView D) (count : ℕ) (new : LogView D) : Type 0 where
     pub words : List ℕ
     pub taking : View

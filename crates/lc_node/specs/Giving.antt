@@ -18,7 +18,7 @@ use Rattle.lc_node.specs.declared.node_fault.NodeFault.TheVariants.{ChannelFull,
 use Rattle.lc_node.specs.declared.peer_end.PeerEnd.{PeerEnd}
 use Rattle.lc_token.specs.declared.fault.TokenFault.TheVariants.{NotHere, Unflushed}
 
--- it left, with the area of the pages, whose bytes are the segment's, and was sent behind what was
+-- it left, with the area of the pages, whose bytes are the segment's, and was sent after what was sent before
 pub record GivesToken {D : Type 0} (a : Ghosts D) (from : ℕ) (old new : SegView D) (sent_before sent : List (Message (Journey D))) : Type 0 where
   pub journey : Journey D
   pub is_from : IsJourneyFrom old journey

@@ -121,8 +121,9 @@ module _ {D : Type 0} where
   HasFailed (Serves area) = ⊥
   HasFailed (Failed area) = Unit {0}
 
-  -- the segments that stood behind a node's locks, each of which is the one that its lock knows: these are their images, and the
-  -- numbers up to which their records are applied; no call of an area failed; and their tokens go behind the old ones
+  -- the segments that stood behind a node's locks, each of which is the one that its lock knows. These are their
+  -- images, and the numbers up to which their records are applied; no call of an area failed; and their tokens go after
+  -- the old ones
   pub record StoodBehind (node : ℕ) (locks : List (Lock (SegView D) ℕ)) (images : List Picture) (applied : List ℕ) (old new : List (SegmentPart D)) : Type 0 where
     pub sides : List (SegView D)
     pub segments : map (λ (side : SegView D). side.segment) sides ≡ map (λ (lock : Lock (SegView D) ℕ). key_of lock) locks
@@ -139,7 +140,7 @@ module _ {D : Type 0} (a : Ghosts D) where
 
   -- Logs
 
-  -- the part has what the log had, and behind its stable words all that was closed is staged
+  -- the part has what the log had, and after its stable words all that was closed is staged
   pub record LeavesLog (room : ℕ) (log : LogView D) (part : NodePart D a) : Type 0 where
     pub area : log.area ≡ part.log.area ∷ []
     pub round : part.round ≡ log.round

@@ -33,7 +33,7 @@ module _ {D : Type 0} (a : Ghosts D) where
   abbrev pub log_view : Inside D a → LogView D
   log_view s = record { flusher = s.flusher; probe = s.probe; area = area_of s.log; is_halted = is_halted s.log; stable = s.stable.items; ended = s.ended.words; gone = s.ended.gone; ended_room = s.ended.room; round = s.round; known = s.known }
 
-  -- a stop leaves none of the records whose words these are, or all of them, or all and a whole group behind them
+  -- a stop leaves none of the records whose words these are, or all of them, or all and a whole group after them
   abbrev pub LeavesRecords : D → List ℕ → Type 0
   LeavesRecords area stable = a.honest area ≡ true → (records : List Record) × (group : List Record) × (joined records ≡ stable)
       × EachImage (a.now area) (a.dirty area) (λ words. IsLogText words [] ⊎ IsWithOrWithout records group words)

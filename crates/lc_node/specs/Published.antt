@@ -30,6 +30,6 @@ module _ {D : Type 0} where
   abbrev pub IsWhole : LogView D → Type 0
   IsWhole log = All IsOneRecord (published log) × (concat (published log) ≡ concat (flush_view log.flusher).past ++ log.stable)
 
-  -- so many more are published, behind those that were
+  -- so many more are published, after those that were
   abbrev pub Publishes : LogView D → ℕ → LogView D → Type 0
   Publishes old count new = (more : List (List ℕ)) × All IsOneRecord more × (length more ≡ count) × (published new ≡ published old ++ more)

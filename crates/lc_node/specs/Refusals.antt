@@ -28,7 +28,7 @@ module _ {D : Type 0} where
     pub above : end_of taking < tail
 
 module _ {D : Type 0} (a : Ghosts D) where
-  -- the log has the room of the geometry's logs, with these words behind its stable ones
+  -- the log has the room of the geometry's logs, with these words after its stable ones
   pub record HasRoom (g : Geometry) (log : LogView D) (words : List ℕ) : Type 0 where
     pub fits : length log.stable + length words ≤ g.words
     pub area : All (λ area. length (a.now area) ≡ 8 * (g.words + 1)) log.area

@@ -50,8 +50,8 @@ module _ {D : Type 0} where
   IsUnsealed old fault new = (seen : ℕ) × (fault ≡ Lost seen) × (seen ≢ old.round * 65536 + length old.stable)
       × (((commit_view new.probe).seen ≡ seen) ⊎ ((flush_view new.flusher).heard ≡ seen)) × IsKept old new × (new.is_halted ≡ old.is_halted) × (new.area ≡ old.area)
 
-  -- the next round has begun without a record, what was taken stays under the ended one, and the words that were stable stand behind
-  -- those of the rounds before
+  -- the next round has begun without a record, what was taken stays under the ended one, and the words that were stable
+  -- stand after those of the rounds before
   pub record Begins (old : LogView D) (round : ℕ) (new : LogView D) : Type 0 where
     pub none_left : new.stable ≡ []
     pub round_is : round ≡ new.round

@@ -36,8 +36,8 @@ module _ {D : Type 0} (a : Ghosts D) where
   abbrev pub FailsFlush : LogView D → NodeFault → LogView D → Type 0
   FailsFlush old fault new = ((fault ≡ Halted) × (old.is_halted ≡ true) × IsSameLog old new) ⊎ ((fault ≡ DeviceFault) × FailsDevice a old new)
 
-  -- the receipt is there at once, where the published end had reached its record; and else it is looked for behind a flush, which may
-  -- fail
+  -- the receipt is there at once, where the published end had reached its record. Else it is looked for after a flush,
+  -- which may fail
   abbrev pub Settles : ℕ → LogView D → View → Result (Option Receipt) NodeFault → View → LogView D → Type 0
   Settles room old v (Ok found) w new =
       (IsSome found × Looks (published_end old) v found w × IsSameLog old new)

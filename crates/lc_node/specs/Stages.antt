@@ -11,7 +11,7 @@ use Rattle.lc_node.specs.declared.node_fault.NodeFault.TheVariants.{Full, Sealed
 abbrev pub Sees : View → View → Type 0
 Sees v w = w ≡ saw w.seen v
 
--- and has a reservation of n words more, from the tail that it saw, which lies behind its earlier ones
+-- and has a reservation of n words more, from the tail that it saw, which lies after its earlier ones
 abbrev pub Wins : ℕ → View → View → Type 0
 Wins n v w = (w ≡ reserved w.seen n (saw w.seen v)) × LieBelow w.seen v.mine
 
@@ -21,7 +21,8 @@ pub record Loses (tries seen : ℕ) : Type 0 where
   pub count : length earlier ≡ tries
   pub ascend : Chain (λ tail before. before < tail) (seen ∷ earlier)
 
--- why nothing was reserved: the words do not fit behind the tail that was seen, that is sealed, or all tries found another one
+-- why nothing was reserved: the words do not fit after the tail that was seen, that is sealed, or all tries found
+-- another one
 abbrev pub IsUnwon : ℕ → ℕ → ℕ → ℕ → NodeFault → Type 0
 IsUnwon room n tries seen (Full tail need) = (tail ≡ offset_of seen) × (need ≡ n) × (seal_of seen ≡ 0) × (room < tail + n)
 IsUnwon room n tries seen Sealed = seal_of seen ≡ 1
@@ -32,7 +33,7 @@ IsUnwon room n tries seen _ = ⊥
 abbrev pub with_words : List ℕ → View → View
 with_words us v = record v { mine = with_newest (λ r. record r { words = us }) v.mine }
 
--- of the newest reservation, the words behind the header and in front of one place are filled
+-- of the newest reservation, the words after the header and before one place are filled
 pub record IsFilling (v : View) (words : List ℕ) (next : ℕ) (w : View) : Type 0 where
   pub filled : List ℕ
   pub is : w ≡ with_words filled v

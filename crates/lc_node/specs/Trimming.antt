@@ -12,7 +12,7 @@ module _ {D : Type 0} where
       (new ≡ record old { ended = new.ended; gone = new.gone; ended_room = new.ended_room })
       × (new.gone + length new.ended ≡ old.gone + length old.ended) × (old.ended_room ≤ new.ended_room)
 
-  -- so many records in front were dropped, by these numbers, which are others behind them
+  -- so many records in front were dropped, by these numbers, which are others afterwards
   abbrev pub TrimsLog : List ℕ → List ℕ → LogView D → ℕ → LogView D → List ℕ → Type 0
   TrimsLog applied dropped old count new after =
       SameButEnded old new × ((records : List Record) → All IsWhole records → old.ended ≡ joined records → Trims applied dropped records count new.ended after)

@@ -74,7 +74,7 @@ module _ {D : Type 0} (a : Ghosts D) where
       × (((fault ≡ Halted) × ((area : D) × (old.pages ≡ Failed area) × (new.pages ≡ Failed area)))
       ⊎ ((fault ≡ DeviceFault) × ((before : D) × (after : D) × (old.pages ≡ Serves before) × (new.pages ≡ Failed after) × (a.failures after ≡ a.failures before + 1))))
 
-  -- the pages of one of these segments fail; those in front of it are written, and those behind it are as they were
+  -- the pages of one of these segments fail; those in front of it are written, and those after it are as they were
   pub record FailsSides (olds : List (HeldSide D)) (fault : NodeFault) (news : List (HeldSide D)) : Type 0 where
     pub place : ℕ
     pub same_length : length news ≡ length olds
@@ -105,7 +105,7 @@ module _ {D : Type 0} (a : Ghosts D) where
       × ((FailsSides olds fault news × (new ≡ record flushed { is_halted = true }))
       ⊎ ((known : List ℕ) × Each WritesSide olds news × SeesSides flushed.known news known × IsUnemptied (record flushed { known = known }) fault new)))
 
-  -- the same, behind room for the words of its round
+  -- the same, once there is room for the words of its round
   abbrev pub TruncatesInRoom : ℕ → LogView D → List (HeldSide D) → ℕ → LogView D → List (HeldSide D) → Type 0
   TruncatesInRoom room old olds round new news = (roomy : LogView D) × MakesRoom old roomy × Truncates room roomy olds round new news
 

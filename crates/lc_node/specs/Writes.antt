@@ -39,7 +39,7 @@ module _ {D : Type 0} (a : Ghosts D) where
   AreWritesOf area token bytes front [] = Unit {0}
   AreWritesOf area token bytes front (write ∷ writes) = IsWriteOf area token bytes front write × AreWritesOf area token bytes front writes
 
-  -- the page stands as it is to behind the writes: where it was dirty it has the segment's bytes
+  -- after the writes the page stands as it is to: where it was dirty it has the segment's bytes
   pub record IsOverAt (since : ℕ) (area : D) (token : Token) (bytes : List ℕ) (page : ℕ) : Type 0 where
     pub fits : FitsPage a since area bytes page (entry_after token page)
     pub wrote : is_dirty (entry_at token.pages page) ≡ true → HasBytes a area bytes page

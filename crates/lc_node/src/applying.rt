@@ -38,8 +38,8 @@ impl<D: Area + Drop> SegSide<D> {
         self.hold_back.keep(part)
     }
 
-    /// Holds back the part with this number no more, if there is one: behind a `keep` of it all is as it was. It takes no
-    /// memory.
+    /// Holds back the part with this number no more, if there is one. Where a `keep` has just put it there all is then
+    /// as it was. It takes no memory.
     pub(crate) fn forget(&mut self, seq: u64)
         ensures { self.new ≡ record self.old { backlog = forgetting self.old.backlog seq } }
     {
@@ -82,7 +82,7 @@ impl<D: Area + Drop> SegSide<D> {
         self.hold_back.own(seq);
     }
 
-    // Puts a part on the image, which is out, behind those that are applied.
+    // Puts a part on the image, which is out, after those that are applied.
     fn lay_part(&mut self, image: &mut Image, part: Part)
         requires lent { self.old.image ≡ None }
         requires elsewhere { self.old.standing.token ≡ None }

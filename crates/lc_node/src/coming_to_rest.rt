@@ -83,7 +83,7 @@ fn take_apart<D: Area + Drop>(
     Ok((nodes, posts))
 }
 
-// The tokens that were on their way go behind these.
+// The tokens that were on their way go after these.
 fn add_travelling<D: Area + Drop>(
     tokens: &mut Vec<SegmentPart<D>>,
     journeys: Vec<Travelling<D>>,

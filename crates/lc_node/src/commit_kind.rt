@@ -15,7 +15,7 @@ pub enum Mode {
 pub enum Commit {
     /// Nothing was set, so there is no record.
     Empty,
-    /// Its record is closed, and will be stable behind some flush.
+    /// Its record is closed, and is stable once a flush has made it so.
     Lazy,
     /// Its record is stable, and this is its receipt.
     Flushed(Receipt),

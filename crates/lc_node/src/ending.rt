@@ -9,10 +9,10 @@ use lc_stage::Stage;
 use std::alloc::AllocError;
 
 impl<D: Area + Drop> LogSide<D> {
-    /// Makes room for the words of the log's round behind those of the rounds before, so that a reset can move them there:
-    /// for as many as the log has, since a flush may still add some. It asks for memory exactly where there is less room, and
-    /// then for more the more there is already, so that over many rounds each word is moved a few times at most. The stage is
-    /// that of the log.
+    /// Makes room for the words of the log's round after those of the rounds before, so that a reset can move them
+    /// there: for as many as the log has, since a flush may still add some. It asks for memory exactly where there is
+    /// less room, and then for more the more there is already, so that over many rounds each word is moved a few times
+    /// at most. The stage is that of the log.
     ///
     /// # Errors
     ///

@@ -42,8 +42,8 @@ pub(crate) fn size_of_part(part: &Part) -> usize
 }
 
 impl<D: Area + Drop> SegSide<D> {
-    /// Folds the applied parts exactly where they take more than twice the segment's bytes, so that they never do behind it.
-    /// It takes no memory.
+    /// Folds the applied parts exactly where they take more than twice the segment's bytes, so that afterwards they
+    /// never do. It takes no memory.
     pub(crate) fn fold_grown(&mut self)
         ensures same { parts_size self.old.applied ≤ 2 * length self.old.base → self.new ≡ self.old }
         ensures grown { HasGrown self.old → self.new ≡ record (folded self.old) { runs_room = self.new.runs_room } }

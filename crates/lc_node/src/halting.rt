@@ -104,10 +104,10 @@ impl<D: Area + Drop> Node<D> {
     ///
     /// # Errors
     ///
-    /// In this order: `Halted` where a device failed before; `RoundsSpent` where the log is in its last round; `Unclean` of the
-    /// least segment and number of a record that is not known to be on its pages; `NoMemory`, where there is none for the words of
-    /// the round, which stay published; `Lost` where something is reserved behind the stable records. The log stands as it was
-    /// then. `DeviceFault` where the device fails: the node is halted.
+    /// In this order: `Halted` where a device failed before. `RoundsSpent` where the log is in its last round.
+    /// `Unclean` of the least segment and number of a record that is not known to be on its pages. `NoMemory`, where
+    /// there is none for the words of the round, which stay published. `Lost` where something is reserved after the
+    /// stable records. The log stands as it was then. `DeviceFault` where the device fails: the node is halted.
     pub fn reset_log(&self, log: &mut LogSide<D>) -> Result<u64, NodeFault>
         requires own { IsFlusherOf self.now.stage log.old.flusher × IsSeatOf self.now.stage log.old.probe }
         ensures own { IsFlusherOf self.now.stage log.new.flusher × IsSeatOf self.now.stage log.new.probe × (log.new.known ≡ log.old.known) }

@@ -16,7 +16,8 @@ use lc_stage::CommitSeat;
 use std::alloc::Global;
 use std::sync::Wait;
 
-/// What these nodes leave, whose seats are given beside, those of each in a list of its own. Their tokens go behind these.
+/// What these nodes leave, whose seats are given beside, those of each in a list of its own. Their tokens go after
+/// these.
 ///
 /// # Errors
 ///

@@ -27,8 +27,8 @@ pub(crate) struct Images {
 }
 
 impl Images {
-    /// What the segments of the node with this number leave, which takes each of them out of its lock. Their tokens go behind
-    /// these.
+    /// What the segments of the node with this number leave, which takes each of them out of its lock. Their tokens go
+    /// after these.
     ///
     /// # Errors
     ///
@@ -63,8 +63,8 @@ impl Images {
 }
 
 impl<D: Area + Drop> SegSide<D> {
-    /// The image of the segment at the node with this number, and the number up to which its records are applied there. The token
-    /// that stands there, and the one that waits there, go behind these. No transaction has the image.
+    /// The image of the segment at the node with this number, and the number up to which its records are applied there.
+    /// The token that stands there, and the one that waits there, go after these. No transaction has the image.
     ///
     /// # Errors
     ///

@@ -137,7 +137,7 @@ impl<D: Area + Drop> Node<D> {
         done
     }
 
-    // Does it on the first of these, which are all, and once more behind a truncation where the log has no room.
+    // Does it on the first of these, which are all, and once more after a truncation where the log has no room.
     fn commit_or_empty<R: Wait, W: Work, G: Gate>(
         &self,
         rt: &R,

@@ -42,7 +42,7 @@ pub enum NodeFault {
     /// More than 64 ranges would stand.
     #[error("there are too many ranges")]
     TooManyRanges,
-    /// The words do not fit behind the tail of the log.
+    /// The words do not fit after the tail of the log.
     #[error("the log is full: {need} words behind place {tail}")]
     Full { tail: u32, need: u32 },
     /// The log is being reset.

@@ -7,7 +7,7 @@ use crate::Message;
 use lc_line::SendEnd;
 
 /// The sending end to a peer, how many published records were sent on it, and how many words they have: the next begins
-/// behind so many words of what is published. It knows whether a message was refused because the receiving end is gone.
+/// after so many words of what is published. It knows whether a message was refused because the receiving end is gone.
 /// This project's own.
 #[derive(Drop)]
 pub struct PeerEnd<P: Drop> {

@@ -9,12 +9,13 @@ use lc_disk::Area;
 use lc_record::length;
 
 impl<D: Area + Drop> LogSide<D> {
-    /// The words of the published record that begins behind so many words of the published records, those of the rounds that
-    /// have ended first; None exactly behind the last, and in front of what is kept. A record begins behind no word, and then
-    /// behind the words of each record: who counts them on goes over the records in their order, in the time of those that it
-    /// reads, also where others are published or the log is reset in between. At a place where no record begins it gives some
-    /// words that are published, or None: which, no clause says. It takes no memory. Log-based coherency: Feeley et al., OSDI
-    /// 1994; that a log keeps its records' words over its resets is this project's own.
+    /// The words of the published record that begins after so many words of the published records, those of the rounds
+    /// that have ended first. Of the places where one may begin it is None after the last, and in front of what is
+    /// kept. A record begins after no word, and then after the words of each record. Who counts them on goes over the
+    /// records in their order, in the time of those that it reads, also where others are published or the log is reset
+    /// in between. At a place where no record begins it gives some words that are published, or None: which, no clause
+    /// says. It takes no memory. Log-based coherency: Feeley et al., OSDI 1994; that a log keeps its records' words
+    /// over its resets is this project's own.
     pub fn record_at(&self, place: usize) -> Option<&[u64]>
         ensures whole { IsWhole self.now }
         ensures found { (count : ℕ) → self.now.gone ≤ place → IsStart (published self.now) count place → option_map (λ words. words.now) result ≡ slice_get (published self.now) count }
@@ -50,7 +51,7 @@ impl<D: Area + Drop> LogSide<D> {
     }
 }
 
-// The words behind a place that are as many as the first of them tells; None where they are not there.
+// The words from a place on that are as many as the first of them tells; None where they are not there.
 fn first_behind(words: &[u64], place: usize) -> Option<&[u64]>
     ensures found { place ≤ length words.now → AreRecords (drop place words.now) → option_map (λ words. words.now) result ≡ slice_get (records_of (drop place words.now)) 0 }
     ensures one { (record_words behind : List ℕ) → drop place words.now ≡ record_words ++ behind → IsOneRecord record_words → option_map (λ words. words.now) result ≡ Some record_words }

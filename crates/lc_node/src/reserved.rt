@@ -19,7 +19,7 @@ impl<D: Area + Drop> LogSide<D> {
         !matches!(self.log, LogState::Idle(_))
     }
 
-    /// The tail that the log has where nothing is reserved behind its stable records.
+    /// The tail that the log has where nothing is reserved after its stable records.
     pub(crate) fn stable_tail(&self) -> u64
         ensures { result ≡ self.now.round * 65536 + length self.now.stable }
     {

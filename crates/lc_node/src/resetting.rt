@@ -21,16 +21,16 @@ pub(crate) const LAST_ROUND: u64 = (1 << 48) - 1;
 
 impl<D: Area + Drop> LogSide<D> {
     /// Empties the log and begins the next round, and answers which round the log is in then. Where the log has no
-    /// stable record nothing is done, and the present round is answered. The stage is sealed while the device is called,
-    /// and commits go on in the other row once the next round has begun, before this one's is clear. The records stay
-    /// published: their words go behind those of the rounds before, where `make_room` has made room for them. It takes no
-    /// memory. The stage is that of the log.
+    /// stable record nothing is done, and the present round is answered. The stage is sealed while the device is
+    /// called, and commits go on in the other row once the next round has begun, before this one's is clear. The
+    /// records stay published: their words go after those of the rounds before, where `make_room` has made room for
+    /// them. It takes no memory. The stage is that of the log.
     ///
     /// # Errors
     ///
-    /// In this order: `Halted` where the device failed before; `RoundsSpent` where the log is in its last round;
-    /// `Unclean` of the least segment and number, where a lock of a stable record is above what is known clean; `Lost`
-    /// where something is reserved behind the stable records. The log stands as it was then. `DeviceFault` where the
+    /// In this order: `Halted` where the device failed before. `RoundsSpent` where the log is in its last round.
+    /// `Unclean` of the least segment and number, where a lock of a stable record is above what is known clean. `Lost`
+    /// where something is reserved after the stable records. The log stands as it was then. `DeviceFault` where the
     /// device fails: the log is halted, with its stable records and its round, and stays sealed.
     pub(crate) fn reset(&mut self, stage: &Stage) -> Result<u64, NodeFault>
         requires own { IsFlusherOf stage.now self.old.flusher × IsSeatOf stage.now self.old.probe }
@@ -73,7 +73,7 @@ impl<D: Area + Drop> LogSide<D> {
         }
     }
 
-    // Seals the stage, where nothing is reserved behind the stable records.
+    // Seals the stage, where nothing is reserved after the stable records.
     fn seal(&mut self, stage: &Stage) -> Result<(), NodeFault>
         requires own { IsFlusherOf stage.now self.old.flusher × IsSeatOf stage.now self.old.probe }
         requires ready { IsReady self.old }
@@ -94,7 +94,7 @@ impl<D: Area + Drop> LogSide<D> {
         }
     }
 
-    // Closes the sealed log, and begins the next round. What was stable goes behind the words of the rounds before.
+    // Closes the sealed log, and begins the next round. What was stable goes after the words of the rounds before.
     fn begin_round(&mut self, stage: &Stage) -> Result<u64, NodeFault>
         requires own { IsFlusherOf stage.now self.old.flusher × IsSeatOf stage.now self.old.probe }
         requires can { CanReset self.old }

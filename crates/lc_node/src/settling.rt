@@ -34,7 +34,7 @@ impl<D: Area + Drop> LogSide<D> {
         stage.durable_beside(&mut self.flusher, seat)
     }
 
-    /// The same, and where the record is not stable yet, once more behind a flush.
+    /// The same, and where the record is not stable yet, once more after a flush.
     pub(crate) fn settle(
         &mut self,
         stage: &Stage,
@@ -116,8 +116,8 @@ impl<D: Area + Drop> Node<D> {
         }
     }
 
-    // The receipt of the seat's last closed record, once it is stable. Under the lock it is looked first whether it is, so
-    // that who waited behind another's flush makes no call of the device.
+    // The receipt of the seat's last closed record, once it is stable. Under the lock it is looked first whether it is,
+    // so that who waited for a flush of another that took it makes no call of the device.
     pub(crate) fn settle<R: Wait>(
         &self,
         rt: &R,

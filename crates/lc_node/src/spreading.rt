@@ -81,8 +81,8 @@ fn send_copies<P: Drop, R: Wait>(
 }
 
 impl<P: Drop> PeerEnd<P> {
-    // Sends records as the next, until one is refused; that and those behind it are dropped, and the peer is cut off. It answers
-    // how many were sent.
+    // Sends records as the next, until one is refused; that and those after it are dropped, and the peer is cut off. It
+    // answers how many were sent.
     fn send_all<R: Wait>(&mut self, rt: &R, records: VecDeque<Vec<u64>>) -> u64
         requires fit { CanBeSent self.old records.items }
         ensures sent { SendsFirst records.items result self.old self.new }

@@ -7,10 +7,11 @@ use crate::LogSide;
 use lc_disk::Area;
 
 impl<D: Area + Drop> LogSide<D> {
-    /// Drops, from the front of the records of the rounds that have ended, each that is due: all nodes have applied each of its
-    /// locks, and on each of its segments it has the number behind those that were dropped, of whatever node, which are counted
-    /// then. The segments stand from segment 1 on. The records stay published: their numbers are counted on. Answers how many
-    /// went. It takes no memory, and over many calls the time of what is dropped. This project's own.
+    /// Drops records from the front of those of the rounds that have ended, as long as the next is due. That is so
+    /// where all nodes have applied each of its locks, and on each of its segments it has the number after those that
+    /// were dropped, of whatever node. The dropped ones are counted then. The segments stand from segment 1 on. The
+    /// records stay published: their numbers are counted on. Answers how many went. It takes no memory, and over many
+    /// calls the time of what is dropped. This project's own.
     pub(crate) fn trim(&mut self, applied: &[u64], dropped: &mut [u64]) -> u64
         ensures trimmed { TrimsLog applied.now dropped.old self.old result self.new dropped.new }
         ensures published { published self.new ≡ published self.old }

@@ -77,18 +77,19 @@ impl<D: Area + Drop> LogSide<D> {
 }
 
 impl<D: Area + Drop> Node<D> {
-    /// Empties the log: it waits for the locks of all segments, ascending, and then for the log's, flushes, writes the dirty
-    /// pages of the segments whose tokens are here, and resets the log. Answers the round that the log is in then: where it
-    /// has no record behind the flush, the present one. What was applied is folded into the segments' bytes. The records stay
-    /// published; a node that was opened alone forgets their words. All memory, for their words too, is taken before anything is
-    /// changed.
+    /// Empties the log: it waits for the locks of all segments, ascending, and then for the log's, flushes, writes the
+    /// dirty pages of the segments whose tokens are here, and resets the log. Answers the round that the log is in
+    /// then: where it has no record after the flush, the present one. What was applied is folded into the segments'
+    /// bytes. The records stay published; a node that was opened alone forgets their words. All memory, for their words
+    /// too, is taken before anything is changed.
     ///
     /// # Errors
     ///
-    /// `Halted` where a device failed before, and else `RoundsSpent` where the log is in its last round: then nothing was
-    /// flushed; `NoMemory`; `DeviceFault` where a device fails now, and the node is halted; `Unclean` of the least segment and number of a record that is
-    /// not known to be on its pages, as where the segment's token is elsewhere; `Lost` where another tail was found. Behind
-    /// the last two the log stands as flushed, and the pages that were written stay.
+    /// `Halted` where a device failed before, and else `RoundsSpent` where the log is in its last round: then nothing
+    /// was flushed. `NoMemory`. `DeviceFault` where a device fails now, and the node is halted. `Unclean` of the least
+    /// segment and number of a record that is not known to be on its pages, as where the segment's token is elsewhere.
+    /// `Lost` where another tail was found. After the last two the log stands as flushed, and the pages that were
+    /// written stay.
     pub fn truncate<R: Wait>(&self, rt: &R, alloc: Global) -> Result<u64, NodeFault>
         ensures truncated { IfOk result (HasTruncated D.Area self.now) }
         ensures refused { IfErr result (HasNotTruncated D.Area self.now) }

@@ -57,7 +57,7 @@ fn wire_from<P: Drop>(alloc: Global, all: &mut Vec<Ends<P>>, from: usize) -> Res
     Ok(())
 }
 
-// A line from a node to another, whose ends go behind those that they have.
+// A line from a node to another, whose ends go after those that they have.
 fn connect<P: Drop>(
     alloc: Global,
     all: &mut Vec<Ends<P>>,

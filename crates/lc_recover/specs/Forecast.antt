@@ -8,7 +8,7 @@ use Rattle.lc_recover.specs.Reading.{store_of}
 use Rattle.lc_recover.specs.Stage.{IsWriting}
 use Rattle.lc_recover.specs.declared.page_writes.PageWrites.{PageWrites}
 
--- the store that was read, and the number of each segment behind its recovery, from segment 1 on
+-- the store that was read, and the number of each segment after its recovery, from segment 1 on
 pub record Foretold : Type 0 where
   pub geometry : Geometry
   pub store : Store

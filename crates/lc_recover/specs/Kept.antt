@@ -54,7 +54,7 @@ IsBefore c d =
     (c.segment < d.segment)
     ⊎ ((c.segment ≡ d.segment) × ((c.page < d.page) ⊎ ((c.page ≡ d.page) × (c.seq ≤ d.seq))))
 
--- each stands before all behind it
+-- each stands before all that follow
 abbrev pub AreAscending : List Change → Type 0
 AreAscending [] = Unit {0}
 AreAscending (c ∷ cs) = All (IsBefore c) cs × AreAscending cs

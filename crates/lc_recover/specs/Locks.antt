@@ -31,7 +31,7 @@ times segment seq numbers = length (filter (is_number segment seq) numbers)
 abbrev pub IsUpTo : LockNumber → LockNumber → Type 0
 IsUpTo a b = (a.segment < b.segment) ⊎ ((a.segment ≡ b.segment) × (a.seq ≤ b.seq))
 
--- each is up to all behind it
+-- each is at most all that follow
 abbrev pub AreInOrder : List LockNumber → Type 0
 AreInOrder [] = Unit {0}
 AreInOrder (n ∷ ns) = All (IsUpTo n) ns × AreInOrder ns

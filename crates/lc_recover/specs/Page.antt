@@ -27,7 +27,7 @@ AreAt logs (c ∷ cs) (r ∷ rs) = Names logs c r × AreAt logs cs rs
 abbrev pub byte_with : ℕ → ℕ → List RangeData → List ℕ → ℕ → Option ℕ
 byte_with segment page ranges bytes offset = option_or (byte_of segment (page * 256 + offset) ranges) (slice_get bytes offset)
 
--- the changes in front are all of the first one's page, and in an ascending list none behind them is
+-- the changes in front are all of the first one's page, and in an ascending list none after them is
 pub record IsFirstPage (changes front : List Change) : Type 0 where
   pub rest : List Change
   pub whole : changes ≡ front ++ rest
@@ -96,12 +96,12 @@ AreDifferent (p ∷ ps) = All (λ q. p ≢ q) ps × AreDifferent ps
 abbrev pub IsPageBefore : ℕ × ℕ → ℕ × ℕ → Type 0
 IsPageBefore p q = (p.0 < q.0) ⊎ ((p.0 ≡ q.0) × (p.1 < q.1))
 
--- each page stands before all behind it
+-- each page stands before all that follow
 abbrev pub ArePagesAscending : List (ℕ × ℕ) → Type 0
 ArePagesAscending [] = Unit {0}
 ArePagesAscending (p ∷ ps) = All (IsPageBefore p) ps × ArePagesAscending ps
 
--- those of an ascending list: the first one's page, and those of what is behind its changes
+-- those of an ascending list: the first one's page, and those of what follows its changes
 abbrev pub BeginWithTheFirst : List Change → Type 0
 BeginWithTheFirst changes = (front : List Change) (first : Change) → IsFirstPage changes front → slice_get changes 0 ≡ Some first → AreAscending changes →
     pages_of changes ≡ page_of first ∷ pages_of (drop (length front) changes)

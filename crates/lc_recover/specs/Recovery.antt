@@ -62,7 +62,7 @@ module _ {D : Type 0} where
   IsMergeNext r = r.steps + 1 ≡ first_steps r.geometry
 
   -- the next step calls this area: each in order while they are synced, and while they are read; one of a segment while
-  -- pages are written; and behind the last of these writes each log in order, twice
+  -- pages are written; and after the last of these writes each log in order, twice
   abbrev pub Calls : Recovering D → ℕ → Type 0
   Calls r at =
       ((r.steps < area_count r.geometry) × (at ≡ r.steps))

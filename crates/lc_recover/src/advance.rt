@@ -165,7 +165,7 @@ pub(crate) fn merge_step<D: Area>(
     }
 }
 
-/// Makes the next call of the page writes. Behind the last one, the first of the resets.
+/// Makes the next call of the page writes. After the last one, the first of the resets.
 pub(crate) fn write_step<D: Area>(
     geometry: &Geometry,
     areas: &mut [D],
@@ -212,7 +212,7 @@ fn resets_of(writes: PageWrites) -> LogResets
     }
 }
 
-/// Makes the next call of the resets. Behind the last one, all is done.
+/// Makes the next call of the resets. After the last one, all is done.
 pub(crate) fn reset_step<D: Area>(
     geometry: &Geometry,
     areas: &mut [D],

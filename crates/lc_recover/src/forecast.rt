@@ -11,7 +11,7 @@ use lc_record::Geometry;
 use std::marker::Model;
 
 /// What a recovery of a store would make of it, from the merge of what was read: the number of each segment, the pages
-/// that it would write, and the bytes of every page behind it. Nothing is written. This project's own.
+/// that it would write, and the bytes of every page after it. Nothing is written. This project's own.
 #[derive(Drop)]
 pub struct Forecast {
     geometry: Geometry,
@@ -47,7 +47,7 @@ impl Forecast {
         self.geometry
     }
 
-    /// The number of a segment, from 1, behind the recovery: at most 2^60.
+    /// The number of a segment, from 1, after the recovery: at most 2^60.
     pub fn sequence(&self, segment: u32) -> u64
         requires first { 1 ≤ segment }
         requires last { segment ≤ self.now.geometry.segments }
@@ -57,7 +57,7 @@ impl Forecast {
         self.writes.merged.numbers[segment as usize - 1]
     }
 
-    /// The 256 bytes of a page of a segment, from 1, behind the recovery.
+    /// The 256 bytes of a page of a segment, from 1, after the recovery.
     pub fn page(&self, segment: u32, page: u32) -> [u8; PAGE_BYTES]
         requires first { 1 ≤ segment }
         requires last { segment ≤ self.now.geometry.segments }

@@ -141,7 +141,7 @@ fn first_page(span: Span) -> u32
     span.offset / PAGE_LEN as u32
 }
 
-// The page behind the last that the range has a byte on.
+// The page after the last that the range has a byte on.
 fn behind_page(span: Span) -> u32
     requires { span.offset + span.len ≤ 262144 }
     ensures { (span.offset + span.len ≤ result * 256) × (result * 256 < span.offset + span.len + 256) }

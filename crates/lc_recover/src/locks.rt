@@ -10,7 +10,7 @@ use lc_record::View;
 /// How many words each number of a record takes at least.
 pub(crate) const LOCK_WORDS: usize = 2;
 
-/// Puts the numbers of a log's records behind others. There is room for them.
+/// Puts the numbers of a log's records after others. There is room for them.
 pub(crate) fn add_log(numbers: &mut Vec<LockNumber>, words: &[u64])
     requires { vec_len numbers.old + length (numbers_in (records_in words.now)) ≤ vec_capacity numbers.old }
     ensures { numbers.new.items ≡ numbers.old.items ++ numbers_in (records_in words.now) }

@@ -25,7 +25,7 @@ use std::alloc::Global;
 /// number above those of the pages that is missing below one that is there (`Gap`).
 ///
 /// It takes the time of three readings of the logs, and of two sorts: of the numbers of all locks, and of the changes.
-/// Memory is asked for the changes alone, behind all refusals, and only where there is one. No record is copied.
+/// Memory is asked for the changes alone, after all refusals, and only where there is one. No record is copied.
 pub(crate) fn merge(alloc: Global, read: &mut ReadAreas) -> Result<Vec<Change>, RecoverFault>
     requires few_logs { length read.old.kept.logs.items ≤ 8 }
     requires few_segments { length read.old.kept.segments.items ≤ 16 }

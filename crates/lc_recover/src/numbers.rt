@@ -41,8 +41,8 @@ pub(crate) fn greatest_sequence(segment: &SegmentPages) -> u64
     greatest
 }
 
-/// The number of each segment, from segment 1 on, and zeros behind them: counted up from those of the pages by the numbers
-/// of the records, which are in order. Refuses the least number that is missing below one that is there.
+/// The number of each segment, from segment 1 on, and zeros after them: counted up from those of the pages by the
+/// numbers of the records, which are in order. Refuses the least number that is missing below one that is there.
 pub(crate) fn counted(kept: &[u64], numbers: &[LockNumber]) -> Result<[u64; SEGMENTS], RecoverFault>
     requires few_segments { length kept.now ≤ 16 }
     requires order { AreInOrder numbers.now }

@@ -71,7 +71,7 @@ fn put_change(logs: &[Items<u64>], change: &Change, bytes: &mut [u8])
     );
 }
 
-// The words behind so many; none where there are not so many.
+// The words after so many; none where there are not so many.
 fn behind(words: &[u64], place: usize) -> &[u64]
     ensures { result.now ≡ drop place words.now }
 {

@@ -17,7 +17,7 @@ pub(crate) fn pages_are_whole()
 {}
 
 /// The pages of a list of changes are those that some change is of, each once; and in an ascending list those of the
-/// changes behind its first page are all others.
+/// changes after its first page are all others.
 pub(crate) fn pages_listed()
     ensures listed { (changes : List Change) → AreListed changes }
     ensures once { (changes : List Change) → AreDifferent (pages_of changes) }

@@ -12,7 +12,7 @@ pub(crate) struct Records<'a> {
     place: usize,
 }
 
-/// The records of a log's words, one behind another, up to the first place where none begins. Each is read once, and
+/// The records of a log's words, one after another, up to the first place where none begins. Each is read once, and
 /// where it stands: it takes no memory.
 pub(crate) fn records_of(words: &[u64]) -> Records<'_>
     ensures { left_of result ≡ placed_in words.now }

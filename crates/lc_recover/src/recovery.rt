@@ -124,7 +124,7 @@ impl<D: Area> Recovery<D> {
             → AllMergeTo D.Area self.old.geometry self.old.areas content numbers
             → AllMergeTo D.Area self.old.geometry self.new.areas content numbers }
 
-        // Behind the last sync no position is dirty, up to the first write.
+        // After the last sync no position is dirty, up to the first write.
         ensures clean { AreHonest D.Area self.new.areas → area_count self.new.geometry ≤ self.new.steps
             → self.new.steps ≤ first_steps self.new.geometry
             → (k : ℕ) (area : D) → slice_get self.new.areas k ≡ Some area → (at : ℕ) → D.dirty area at ≡ false }

@@ -17,7 +17,7 @@ use std::alloc::Global;
 ///
 /// # Errors
 ///
-/// Those of `Survey::read`, and behind them those of `Survey::forecast`.
+/// Those of `Survey::read`, and then those of `Survey::forecast`.
 pub fn survey_areas<D: Area>(
     alloc: Global,
     geometry: &Geometry,

@@ -23,8 +23,9 @@ use Rattle.lc_rest.specs.declared.segment_part.SegmentPart.{SegmentPart}
 
 -- What is tested of the tokens and of the merge
 
--- the token is one of the segment, with an entry for each page, at a node or on its way from one; the records have the segment's
--- numbers behind the first up to the token's, each once; and the token agrees with the records and with its area
+-- the token is one of the segment, with an entry for each page, at a node or on its way from one. The records have the
+-- segment's numbers above the first up to the token's, each once; and the token agrees with the records and with its
+-- area
 pub record KeepsToken (h : Read) (segment : ℕ) : Type 0 where
   pub segment_is : (h.token segment).segment ≡ segment
   pub entries : length (h.token segment).pages ≡ h.geometry.pages

@@ -33,7 +33,7 @@ abbrev pub merged_after : List (List Record) → List ℕ → List ℕ → List 
 merged_after logs before [] = []
 merged_after logs before (n ∷ ns) = record_at logs n (times n before) ∷ merged_after logs (before ++ n ∷ []) ns
 
--- the node has a record behind so many, which has the next numbers
+-- the node has a record after so many, which has the next numbers
 pub record MayTurn (logs : List (List Record)) (done numbers : List ℕ) (node : ℕ) : Type 0 where
   pub known : node < length logs
   pub some : slice_index_or done node 0 < length (slice_index_or logs node [])
@@ -47,18 +47,18 @@ is_next_lock numbers lock = nat_lt 0 lock.seq && (lock.seq - 1 == numbers lock.s
 abbrev pub AreKnown : ℕ → List (List Record) → Type 0
 AreKnown segments logs = (node k : ℕ) → node < length logs → k < length (slice_index_or logs node []) → All (λ (lock : Lock). (1 ≤ lock.segment) × (lock.segment ≤ segments)) (record_at logs node k).locks
 
--- one turn after another: each record has the next numbers behind those before it
+-- one turn after another: each record has the next numbers, those before it counted
 abbrev pub AreTurns : List (List Record) → List ℕ → List ℕ → List ℕ → Type 0
 AreTurns logs numbers before [] = Unit {0}
 AreTurns logs numbers before (n ∷ ns) =
     IsNext (number_at numbers) (record_at logs n (times n before)) × AreTurns logs (counted_by (record_at logs n (times n before)).locks numbers) (before ++ n ∷ []) ns
 
--- the numbers behind these turns
+-- the numbers after these turns
 abbrev pub after_turns : List (List Record) → List ℕ → List ℕ → List ℕ → List ℕ
 after_turns logs numbers before [] = numbers
 after_turns logs numbers before (n ∷ ns) = after_turns logs (counted_by (record_at logs n (times n before)).locks numbers) (before ++ n ∷ []) ns
 
--- behind these turns no node's next record has the next numbers, and this is the least node that has a record left
+-- after these turns no node's next record has the next numbers, and this is the least node that has a record left
 pub record IsStuck (logs : List (List Record)) (numbers turns : List ℕ) (node : ℕ) : Type 0 where
   pub turned : AreTurns logs numbers [] turns
   pub within : (n : ℕ) → times n turns ≤ length (slice_index_or logs n [])

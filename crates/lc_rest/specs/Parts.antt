@@ -24,8 +24,8 @@ abbrev pub IsKnownClean : List ℕ → Record → Type 0
 IsKnownClean known r = All (λ (lock : Lock). lock.seq ≤ known_of known lock.segment) r.locks
 
 module _ {D : Type 0} (a : Ghosts D) where
-  -- the words of a node are those of its records: of the rounds that have ended, known to be clean; of the log, which is at
-  -- rest; and of what is staged, which fits behind those of the log. Its round is one of those that there are
+  -- the words of a node are those of its records: of the rounds that have ended, known to be clean; of the log, which
+  -- is at rest; and of what is staged, which fits after those of the log. Its round is one of those that there are
   pub record KeepsLog (g : Geometry) (part : NodePart D a) : Type 0 where
     pub ended : List Record
     pub stable : List Record

@@ -21,7 +21,7 @@ abbrev pub bytes_after : ℕ → List Record → List ℕ → List ℕ
 bytes_after segment [] bytes = bytes
 bytes_after segment (r ∷ rs) bytes = bytes_after segment rs (laid_on segment r.ranges bytes)
 
--- the number of the segment behind these records
+-- the number of the segment after these records
 abbrev pub number_after : ℕ → List Record → ℕ → ℕ
 number_after segment [] number = number
 number_after segment (r ∷ rs) number = number_after segment rs (if has_lock segment r then number + 1 else number)
@@ -37,7 +37,8 @@ pub record IsPlayed (segment first : ℕ) (rs : List Record) (start : List ℕ) 
   pub fewest : (fewer : ℕ) → fewer < turns → number_after segment (take fewer rs) first < max first text.sequence
   pub bytes : text.content ≡ part_at page (bytes_after segment (take turns rs) start)
 
--- each page of the area is what the records up to its sequence make of the bytes, and the number behind all of them is the last
+-- each page of the area is what the records up to its sequence make of the bytes, and the number after all of them is
+-- the last
 pub record IsReplay (segment first last : ℕ) (rs : List Record) (start area : List ℕ) (pages : ℕ) : Type 0 where
   pub played : (page : ℕ) → page < pages → IsPlayed segment first rs start page (page_in area page)
   pub ends : number_after segment rs first ≡ last

@@ -25,7 +25,7 @@ pub record IsTested (f : Found) : Type 0 where
   pub known_clean : (node segment : ℕ) → 1 ≤ segment → segment ≤ f.geometry.segments → f.known node segment ≤ f.clean segment
   -- all records merge
   pub follow : Follow f.geometry f.numbers f.records
-  -- those that are not stable are at home, and none that is stable is behind them
+  -- those that are not stable are at home, and after them no stable one of their segments stands
   pub home : All (IsAtHome f.place) (turns_of f.stable [] f.records)
   pub behind : AreBehind (turns_of f.stable [] f.records)
   -- of each page: its sequence is at most the last stable number, some page has come to the first number, the records up to

@@ -24,7 +24,7 @@ turns_of stable before (r ∷ rs) = record { whole = r; stable = nat_lt (count_f
 abbrev pub IsAtHome : (ℕ → Place) → Turn → Type 0
 IsAtHome place u = u.stable ≡ false → (segment : ℕ) → has_lock segment u.whole ≡ true → place segment ≡ At u.whole.node
 
--- and behind it none of such a segment is stable
+-- and after it none of such a segment is stable
 abbrev pub Bars : Turn → Turn → Type 0
 Bars u v = u.stable ≡ false → (segment : ℕ) → has_lock segment u.whole ≡ true → has_lock segment v.whole ≡ true → v.stable ≡ false
 

@@ -44,7 +44,7 @@ pub fn no_order()
         AreTurns logs numbers [] others → ((n : ℕ) → times n others ≡ length (slice_index_or logs n [])) → ⊥ }
 {}
 
-/// A page that is played is replayed; the bytes and the number behind a replay are those that all records make.
+/// A page that is played is replayed; the bytes and the number after a replay are those that all records make.
 pub fn played_pages()
     ensures replayed { (g : Geometry) (rs : List Record) (numbers : ℕ → ℕ) (base : Content) (segment page : ℕ) (text : Page) → All (IsTaken g) rs →
         IsPlayed segment (numbers segment) rs (segment_of segment base) page (as_read text) → IsReplayed g rs numbers base segment page text }

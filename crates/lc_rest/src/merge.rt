@@ -29,7 +29,7 @@ fn are_next(numbers: &[u64], locks: &[Lock]) -> bool
     )
 }
 
-// Whether a record of the log is left behind so many, and has the next numbers.
+// Whether the log has a record after so many, and that has the next numbers.
 fn may_turn(log: &[Record], done: usize, numbers: &[u64]) -> bool
     ensures { IsTrue result ↔ ((done < length log.now) × IsNext (number_at numbers.now) (slice_index_or log.now done no_record)) }
 {
@@ -85,11 +85,11 @@ fn count_records(logs: &[Vec<Record>]) -> usize {
     count
 }
 
-/// The order in which the records of all nodes follow one another, each with the next numbers of its segments, from the numbers
-/// that these have before them on: the nodes, each as often as its turn comes. Where at some turn no node's next record has the
-/// next numbers, the least node that has a record left. Segment 1 stands first among the numbers, node 0 among the logs.
-/// The numbers become those behind the last turn. It takes memory for a count of each node and for the order, before the first
-/// turn. This project's own.
+/// The order in which the records of all nodes follow one another, each with the next numbers of its segments, from the
+/// numbers that these have before them on: the nodes, each as often as its turn comes. Where at some turn no node's
+/// next record has the next numbers, the least node that has a record left. Segment 1 stands first among the numbers,
+/// node 0 among the logs. The numbers become those after the last turn. It takes memory for a count of each node and
+/// for the order, before the first turn. This project's own.
 pub fn merge_records(
     alloc: Global,
     numbers: &mut [u64],

@@ -71,8 +71,8 @@ fn marks_all(segment: u32, first: u64, marks: &mut [bool], logs: &[Vec<Record>])
     mark_logs(segment, first, marks, logs) && are_marked(marks)
 }
 
-/// Whether the records of all logs have the segment's numbers behind `first` up to `last`, each once. It takes memory for a mark
-/// of each of these numbers. This project's own.
+/// Whether the records of all logs have the segment's numbers above `first` up to `last`, each once. It takes memory
+/// for a mark of each of these numbers. This project's own.
 pub fn keeps_numbers(
     alloc: Global,
     segment: u32,

@@ -103,10 +103,10 @@ fn are_met(area: &[u8], pages: u32, number: u64, bytes: &[u8]) -> bool
     true
 }
 
-/// Puts all records, in their order, on the bytes that the pages of a segment hold, whose number was `first` before them, and
-/// says whether each page is what the records up to its sequence make of these bytes, and the number behind all of them is
-/// `last`. Each record with a lock on the segment counts one. The area has two slots of 272 bytes a page. It takes no memory. This
-/// project's own.
+/// Puts all records, in their order, on the bytes that the pages of a segment hold, whose number was `first` before
+/// them. It says whether each page is what the records up to its sequence make of these bytes, and whether the number
+/// after all of them is `last`. Each record with a lock on the segment counts one. The area has two slots of 272 bytes
+/// a page. It takes no memory. This project's own.
 pub fn replay_segment(
     segment: u32,
     first: u64,

@@ -7,9 +7,9 @@ ghost use Rattle.lc_trunc.specs.Reset.{AreKnown, AreRecords, IsAbove, IsAboveIn,
 use crate::{KnownClean, Unclean};
 use lc_record::{Lock, View};
 
-/// Whether the pages are known to have all that the records of a log say: of each lock, the number is at most what is known
-/// clean of its segment. The records are those with which the words begin, one after another; what comes behind the last
-/// has no lock. It takes no memory.
+/// Whether the pages are known to have all that the records of a log say: of each lock, the number is at most what is
+/// known clean of its segment. The records are those with which the words begin, one after another; what comes after
+/// the last has no lock. It takes no memory.
 ///
 /// # Errors
 ///
