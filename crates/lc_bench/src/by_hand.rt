@@ -81,7 +81,7 @@ impl<R: Clock> Work<R> for ByHand {
 }
 
 impl Segment {
-    // A transaction, and the flush behind it.
+    // A transaction, and the flush after it.
     fn transact(&mut self, transaction: &Transaction, end: &End) -> Result<(), AllocError> {
         self.write(transaction.offsets.as_slice())?;
         match end {

@@ -6,8 +6,8 @@ use lc_disk::Stoppable;
 use std::alloc::Global;
 use std::io::{self, Error, ErrorKind};
 
-/// Does a transaction, and the flush behind it. Where the log has no room for it, it is dropped, the log is emptied, and it is
-/// done again.
+/// Does a transaction, and the flush after it. Where the log has no room for it, it is dropped, the log is emptied, and
+/// it is done again.
 pub(crate) fn transact<D: Stoppable + Drop>(
     alloc: Global,
     world: &mut World<D>,

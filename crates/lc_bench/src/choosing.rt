@@ -23,8 +23,8 @@ pub(crate) fn explain<R: Print>(rt: &R) -> io::Result<()> {
     Ok(())
 }
 
-/// Makes the measurements that this word names, and prints a table of their medians and ratios behind them. Whether the word
-/// names any.
+/// Makes the measurements that this word names, and prints a table of their medians and ratios after them. Whether the
+/// word names any.
 pub(crate) fn measure<R: AllocGlobal + Clock + Files + Print + Threads + Wait + Sync>(
     rt: &R,
     word: &str,

@@ -42,7 +42,8 @@ pub(crate) fn commit_all<R: AllocGlobal + Wait, D: Area + Drop>(
     count
 }
 
-// Makes the commits before stable, where a flush comes behind this one that waits for none itself; false where it fails.
+// Makes the commits before stable, where a flush comes after this one and it waits for none itself; false where it
+// fails.
 fn is_followed<R: Wait, D: Area + Drop>(
     rt: &R,
     node: &Node<D>,
@@ -55,7 +56,7 @@ fn is_followed<R: Wait, D: Area + Drop>(
     }
 }
 
-// Commits a transaction. Where the log is full and is emptied within the time, it is done again behind that.
+// Commits a transaction. Where the log is full and is emptied within the time, it is then done again.
 fn commit<R: AllocGlobal + Wait, D: Area + Drop>(
     rt: &R,
     measurement: &Measurement,

@@ -9,7 +9,7 @@ use std::rt::Clock;
 use std::time::Instant;
 
 /// What the transactions of a round changed, the bytes of all areas, a copy of them, and the images of all segments one
-/// behind another.
+/// after another.
 #[derive(Drop)]
 pub(crate) struct Copies {
     transactions: Vec<Transaction>,

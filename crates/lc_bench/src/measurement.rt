@@ -29,7 +29,7 @@ pub(crate) enum Subject {
     Node,
     /// A running node in files, where each commit waits until it is stable.
     NodeFiles,
-    /// The memory of running nodes, behind many commits.
+    /// The memory of running nodes, after many commits.
     Resident,
     /// Threads on a log that is full again and again.
     Crowd,
@@ -39,11 +39,11 @@ pub(crate) enum Subject {
 pub(crate) enum Timed {
     /// The transactions, on a log that is emptied before them.
     Transactions,
-    /// How the log is emptied, behind them.
+    /// How the log is emptied, after them.
     Emptying,
     /// Both: the log is emptied where it is full.
     Both,
-    /// How the store comes up, behind them.
+    /// How the store comes up, after them.
     Recovery,
 }
 
@@ -51,7 +51,7 @@ pub(crate) enum Timed {
 pub(crate) enum Places {
     /// Anywhere.
     Random,
-    /// On the page behind the one that the last changed, so that each page has its turn.
+    /// On the page after the one that the last changed, so that each page has its turn.
     InTurn,
 }
 
@@ -61,7 +61,7 @@ pub(crate) enum End {
     Abort,
 }
 
-/// A measurement by its name: so many transactions of so many ranges each on a store of this size, and a flush behind
+/// A measurement by its name: so many transactions of so many ranges each on a store of this size, and a flush after
 /// each group of them. A group of 0 is never flushed.
 pub(crate) struct Measurement {
     pub(crate) name: &'static str,
@@ -78,7 +78,7 @@ pub(crate) struct Measurement {
     pub(crate) end: End,
 }
 
-/// What a transaction of a node changes in a segment: where its ranges begin, and whether a flush comes behind it.
+/// What a transaction of a node changes in a segment: where its ranges begin, and whether a flush comes after it.
 #[derive(Drop)]
 pub(crate) struct Transaction {
     pub(crate) node: u16,
@@ -117,7 +117,7 @@ impl Measurement {
         u16::try_from(segment).unwrap_or(0) % self.nodes.max(1)
     }
 
-    /// What so many transactions change: the one of this number, and each that is `step` behind the last.
+    /// What so many transactions change: the one of this number, and each that comes `step` after the last.
     pub(crate) fn transactions(
         &self,
         alloc: Global,

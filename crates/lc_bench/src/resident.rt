@@ -44,7 +44,7 @@ static TWO: Measurement = Measurement {
 // A round is 500 commits of a node, and a truncation.
 const COMMITS: u32 = 500;
 
-// Behind 10,000 and 1,000,000 commits of all nodes it is printed how much is resident.
+// After 10,000 and 1,000,000 commits of all nodes it is printed how much is resident.
 const FEW: u32 = 20;
 
 const ALL: u32 = 2000;
@@ -57,8 +57,8 @@ const RESIDENT: &str = "VmRSS:";
 // More calls than it takes until all peers have all records of a round.
 const MOST_CALLS: u32 = 1000;
 
-/// Prints how much is resident behind 10,000 and 1,000,000 lazy commits of 5 bytes, of a node alone and of two that keep each other
-/// current, each with a truncation behind 500 of its own; the two trim behind it.
+/// Prints how much is resident after 10,000 and 1,000,000 lazy commits of 5 bytes, of a node alone and of two that keep
+/// each other current, each with a truncation after 500 of its own; the two then trim.
 pub(crate) fn measure<R: AllocGlobal + Files + Print + Wait>(rt: &R) -> io::Result<()> {
     alone(rt)?;
     two_nodes(rt)

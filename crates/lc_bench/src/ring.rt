@@ -5,7 +5,7 @@ use std::sync::atomic::{AtomicBool, Ordering};
 // 1 MiB of words.
 const RING_WORDS: usize = 131_072;
 
-/// Words of records, one behind another. Who appends takes the ring by an exchange, as where others append beside it.
+/// Words of records, one after another. Who appends takes the ring by an exchange, as where others append beside it.
 #[derive(Drop)]
 pub(crate) struct Ring {
     words: Vec<u64>,

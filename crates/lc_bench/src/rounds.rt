@@ -11,7 +11,7 @@ pub(crate) struct Round {
     pub(crate) seen: u64,
 }
 
-/// How many nanoseconds each round of the work took, of the plain work before it, and of the plain work behind it.
+/// How many nanoseconds each round of the work took, of the plain work before it, and of the plain work after it.
 #[derive(Clone, Copy)]
 pub(crate) struct Rounds {
     plain: [u64; MOST_ROUNDS],

@@ -23,7 +23,7 @@ use std::sync::atomic::{AtomicU64, Ordering};
 use std::sync::{Arc, Wait};
 use std::thread::Threads;
 
-// How often a log is synced in a flush: behind its words, and behind the word that lets them count.
+// How often a log is synced in a flush: after its words, and after the word that lets them count.
 const SYNCS_OF_A_FLUSH: u64 = 2;
 
 #[derive(Drop)]

@@ -10,7 +10,7 @@ const MOST_TURNS: u32 = 10_000_000;
 
 /// What a thread does.
 pub(crate) trait Task<R> {
-    /// Makes ready, passes the line, and does it; from behind the line on.
+    /// Makes ready, passes the line, and does it; the span begins when it has passed.
     fn run(self, rt: &R, line: &StartingLine) -> io::Result<Span>;
 }
 

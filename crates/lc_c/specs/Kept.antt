@@ -84,7 +84,7 @@ HoldEach store node thread [] pieces = pieces ≡ []
 HoldEach store node thread (range ∷ ranges) pieces =
     (piece : Piece) × (rest : List Piece) × (pieces ≡ piece ∷ rest) × Holds store node thread range piece × HoldEach store node thread ranges rest
 
--- some were added behind these, and are so
+-- some were added after these, and are so
 abbrev pub AddsTo : {T : Type 0} → (List T → Type 0) → List T → List T → Type 0
 AddsTo {T} Are olds news = (more : List T) × (news ≡ olds ++ more) × Are more
 

@@ -5,7 +5,7 @@ use Rattle.lc_c.specs.contracts.session.Session.{the_row as session_row}
 use Rattle.lc_c.specs.declared.handle.Handle.{Handle}
 use Rattle.lc_c.specs.contracts.handle.Handle.{the_row}
 
--- the handle with the session left behind
+-- the handle with this session in it
 abbrev pub with_session : Handle → Session → Handle
 with_session h s = record h { value = s }
 

@@ -47,7 +47,7 @@ abbrev pub geometry_of : Stage → Option Geometry
 geometry_of (Gathering geometry areas) = Some geometry
 geometry_of stage = None
 
--- one that holds these bytes of a file is behind those that were
+-- one that holds these bytes of a file comes after those that were
 pub record IsAdded (bytes : List ℕ) (olds news : List MirrorArea) : Type 0 where
   pub area : MirrorArea
   pub file : IsOfFile bytes area

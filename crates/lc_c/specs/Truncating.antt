@@ -17,7 +17,7 @@ abbrev pub going_on : Option Truncation → ℕ → Truncation
 going_on None node = whole node
 going_on (Some truncation) node = if truncation.node == node then truncation else whole node
 
--- what is under way behind a step
+-- what is under way after a step
 abbrev pub left_of : TruncationStep → Option Truncation
 left_of (Continues next) = Some next
 left_of (Ends reply) = None
@@ -27,7 +27,7 @@ abbrev pub reply_of : TruncationStep → Reply
 reply_of (Continues next) = Stepped 0
 reply_of (Ends reply) = reply
 
--- what remained of the truncation is this step and what remains behind it; it makes one call of a device at most
+-- what remained of the truncation is this step and what remains then; it makes one call of a device at most
 pub record TakesStep (truncation : Truncation) (old : Store) (step : TruncationStep) (new : Store) : Type 0 where
   pub remains : Leads ghosts (Remains ghosts truncation) old step new
   pub one : MakesOneOf ghosts truncation.node old step new

@@ -24,8 +24,8 @@ pub extern "C" fn lcrvm_session_truncate_step(
     answer.status
 }
 
-/// Aborts each transaction of a node that is open and has set a range, and keeps its locks and what its ranges hold. Behind
-/// any answer but 0 nothing has changed.
+/// Aborts each transaction of a node that is open and has set a range, and keeps its locks and what its ranges hold.
+/// After any answer but 0 nothing has changed.
 #[unsafe(no_mangle)]
 pub extern "C" fn lcrvm_session_set_aside(
     alloc: Global,
@@ -53,8 +53,8 @@ pub extern "C" fn lcrvm_session_bring_back(handle: &mut Handle, answer: &mut Ans
     answer.status
 }
 
-/// Sets each range of a thread's transaction again that is kept, and writes what it held. Behind any answer but 0 the first
-/// that was not given back, and those behind it, are still kept.
+/// Sets each range of a thread's transaction again that is kept, and writes what it held. After any answer but 0 the
+/// first that was not given back, and those after it, are still kept.
 #[unsafe(no_mangle)]
 pub extern "C" fn lcrvm_session_restore(
     alloc: Global,

@@ -46,8 +46,8 @@ pub extern "C" fn lcrvm_session_new(
     }
 }
 
-/// Adds the area of the next file, with what the file holds, in the order of the store: the logs of the nodes, and then the
-/// segments. Behind any answer but 0 nothing has changed.
+/// Adds the area of the next file, with what the file holds, in the order of the store: the logs of the nodes, and then
+/// the segments. After any answer but 0 nothing has changed.
 #[unsafe(no_mangle)]
 pub extern "C" fn lcrvm_session_area(alloc: Global, handle: &mut Handle, bytes: &[u8]) -> u32
     ensures { AddsIf handle.old.held handle.old.value bytes.now result handle.new.value × (handle.new.held ≡ handle.old.held) }

@@ -6,7 +6,7 @@ use std::alloc::{AllocError, Global};
 /// What is kept of transactions that were aborted while the log of their node is emptied. This project's own.
 #[derive(Drop)]
 pub(crate) struct Kept {
-    /// Those that begin again behind the truncation.
+    /// Those that begin again after the truncation.
     pub(crate) asides: Vec<Aside>,
     /// What their ranges held, as far as it is not given back.
     pub(crate) pieces: Vec<Piece>,

@@ -12,9 +12,9 @@ use lc_disk::{Area, Choice, DeviceFault, MemArea, Stoppable};
 use std::alloc::{AllocError, Global};
 use std::snapshot::Snapshot;
 
-/// An area in memory, which never fails, and keeps the last call that changed it or made it stable: who makes each of these on
-/// a file has a file that holds what the area holds. How many calls there were is counted, from 0 again behind 2^64 - 1.
-/// `of_file` alone takes memory. This project's own.
+/// An area in memory, which never fails, and keeps the last call that changed it or made it stable: who makes each of
+/// these on a file has a file that holds what the area holds. How many calls there were is counted, from 0 again after
+/// 2^64 - 1. `of_file` alone takes memory. This project's own.
 #[derive(Drop)]
 pub(crate) struct MirrorArea {
     area: MemArea,

@@ -14,7 +14,7 @@ impl Session {
     ///
     /// # Errors
     ///
-    /// That of a range which is not set, or not written. It is still kept then, and so are those behind it.
+    /// That of a range which is not set, or not written. It is still kept then, and so are those after it.
     pub(crate) fn restore(&mut self, alloc: Global, node: u16, thread: u16) -> Result<(), CallFault>
         ensures { RestoresStage node thread self.old result self.new }
     {

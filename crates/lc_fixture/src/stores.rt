@@ -61,7 +61,7 @@ pub fn bytes_of(alloc: Global, words: &[u64]) -> Result<Vec<u8>, AllocError> {
     Ok(bytes)
 }
 
-/// The area of a log that begins with these words, and has zeros behind them.
+/// The area of a log that begins with these words, and has zeros after them.
 pub fn log_area(alloc: Global, words: &[u64]) -> Result<MemArea, AllocError> {
     let mut bytes = bytes_of(alloc, words)?;
     bytes.resize(LOG_LEN, 0)?;

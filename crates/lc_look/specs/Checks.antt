@@ -32,7 +32,7 @@ logs_text g store = flat_map (λ node. log_text node (slice_index_or store.logs 
 
 -- Pages
 
--- each stands before all behind it
+-- each stands before all that follow
 abbrev pub AreRising : List ℕ → Type 0
 AreRising [] = Unit {0}
 AreRising (n ∷ ns) = All (λ m. n < m) ns × AreRising ns
@@ -62,7 +62,7 @@ BehindTexts g store segment (suc more) text =
 
 -- All lines
 
--- the store merges, and its recovery is printed behind the pages that it would write
+-- the store merges, and its recovery is printed after the pages that it would write
 abbrev pub ShowsRecovery : Geometry → Store → List ℕ → ℕ → Type 0
 ShowsRecovery g store text status =
     (content : Content) × (numbers : ℕ → ℕ) × MergesTo store content numbers
@@ -73,7 +73,7 @@ abbrev pub ShowsStop : Store → List ℕ → ℕ → Type 0
 ShowsStop store text status =
     (fault : RecoverFault) × IsRefusal store fault × (fault ≡ NoMemory → HasPageToWrite store) × (text ≡ stop_text fault) × (status ≡ stop_status fault)
 
--- behind how much is in each log
+-- after how much is in each log
 abbrev pub Shows : Geometry → Store → List ℕ → ℕ → Type 0
 Shows g store text status = (rest : List ℕ) × (text ≡ logs_text g store ++ rest) × (ShowsRecovery g store rest status ⊎ ShowsStop store rest status)
 

@@ -25,7 +25,7 @@ module _ {A : Type 0} (Such : ℕ → A → Type 0) where
     pub all : length items ≡ count
     pub each : (place : ℕ) (item : A) → slice_get items place ≡ Some item → Such place item
 
--- behind so many of these words, the last of which is not zero, all are zero
+-- after so many of these words, the last of which is not zero, all are zero
 pub record AreTrailing (words : List ℕ) (trailing : ℕ) : Type 0 where
   pub zeros : (place : ℕ) → trailing ≤ place → slice_index_or words place 0 ≡ 0
   pub last : (place : ℕ) → trailing ≡ place + 1 → slice_index_or words place 0 ≢ 0
@@ -53,7 +53,7 @@ pub record IsFieldOf (store : Store) (pages segment : ℕ) (area : List ℕ) (nu
 abbrev pub AreBarsOf : ℕ → List (List ℕ) → List LogBar → Type 0
 AreBarsOf nodes areas = AreEach (λ node. IsBarOf node (slice_index_or areas node [])) nodes
 
--- the fields of the segments of the store, whose areas stand behind those of the logs, with these numbers
+-- the fields of the segments of the store, whose areas stand after those of the logs, with these numbers
 abbrev pub AreFieldsOf : Geometry → Store → List (List ℕ) → (ℕ → ℕ) → List SegmentField → Type 0
 AreFieldsOf g store areas numbers =
     AreEach (λ place. IsFieldOf store g.pages (place + 1) (slice_index_or areas (g.nodes + place) []) (numbers (place + 1))) g.segments

@@ -1,4 +1,4 @@
--- What a dump prints: a page as it would be behind a recovery, and its slots as they read.
+-- What a dump prints: a page as it would be after a recovery, and its slots as they read.
 use Rattle.std.specs.Prelude.{◌≡◌, ◌⊎◌, ℕ, ◌+◌, ◌-◌, ◌*◌, ◌<◌, ◌≤◌, nat_lt, ◌&&◌, nat_le, if◌then◌else◌, List, [], ◌∷◌, ◌++◌, map, flat_map, take, drop, codes, decimal, Option, slice_index_or}
 use Rattle.std.specs.Int.{w32, to_be_bytes}
 use Rattle.lc_disk.specs.declared.area.Area.{Ghosts}
@@ -22,7 +22,7 @@ use Rattle.lc_look.specs.declared.dumping.FoundPage.{FoundPage}
 abbrev pub shown : ℕ → ℕ
 shown byte = if nat_le 32 byte && nat_lt byte 127 then byte else 46
 
--- a byte behind a space
+-- a byte after a space
 abbrev pub spaced : ℕ → List ℕ
 spaced byte = 32 ∷ byte_text byte
 
@@ -39,11 +39,11 @@ unfoldable pub slot_text : ℕ → List ℕ → List ℕ
 slot_text slot bytes =
     (codes "slot " ++ (decimal slot ++ codes " gate ")) ++ (hex_text (take 1 bytes) ++ (codes " number " ++ (decimal (sequence_of bytes) ++ codes "\n")))
 
--- both slots of a page of an area, one behind the other
+-- both slots of a page of an area, one after the other
 abbrev pub both_slots : List ℕ → ℕ → List ℕ
 both_slots area page = take 544 (drop (page * 544) area)
 
--- two slots of 272 bytes, one behind the other
+-- two slots of 272 bytes, one after the other
 abbrev pub slots_text : List ℕ → List ℕ
 slots_text slots = slot_text 0 (take 272 slots) ++ slot_text 1 (drop 272 slots)
 

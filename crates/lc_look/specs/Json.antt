@@ -1,4 +1,4 @@
--- What a check prints as JSON behind the size of the store: the logs, the segments, and why it is not recovered.
+-- What a check prints as JSON after the size of the store: the logs, the segments, and why it is not recovered.
 use Rattle.std.specs.Prelude.{◌≡◌, ◌⊎◌, ◌==◌, ℕ, zero, suc, ◌+◌, Bool, true, false, List, [], ◌∷◌, ◌++◌, length, map, flat_map, codes, decimal, Option, slice_index_or}
 use Rattle.lc_disk.specs.declared.area.Area.{Ghosts}
 use Rattle.lc_record.specs.Content.{Content}
@@ -41,7 +41,7 @@ logs_json g store = flat_map (λ node. log_json node (slice_index_or store.logs 
 
 -- Segments
 
--- a page behind the first one
+-- a page after the first one
 abbrev pub later_page : ℕ → List ℕ
 later_page page = codes "," ++ decimal page
 
@@ -88,11 +88,11 @@ fault_json NoMemory = codes "{\"why\":\"NoMemory\"}"
 abbrev pub logs_front : List ℕ
 logs_front = codes "\"logs\":["
 
--- behind the logs: the segments of a store that is recovered
+-- after the logs: the segments of a store that is recovered
 abbrev pub recovered_json : List ℕ → List ℕ
 recovered_json segments = codes "],\"segments\":[" ++ segments ++ codes "],\"refused\":null,\"ok\":true}\n"
 
--- behind the logs: why there is none
+-- after the logs: why there is none
 abbrev pub stop_json : RecoverFault → List ℕ
 stop_json fault = codes "],\"segments\":[],\"refused\":" ++ fault_json fault ++ codes ",\"ok\":false}\n"
 
@@ -111,7 +111,7 @@ abbrev pub StopJson : Store → List ℕ → ℕ → Type 0
 StopJson store text status =
     (fault : RecoverFault) × IsRefusal store fault × (fault ≡ NoMemory → HasPageToWrite store) × (text ≡ stop_json fault) × (status ≡ stop_status fault)
 
--- behind how much is in each log
+-- after how much is in each log
 abbrev pub ShowsJson : Geometry → Store → List ℕ → ℕ → Type 0
 ShowsJson g store text status =
     (rest : List ℕ) × (text ≡ (logs_front ++ logs_json g store) ++ rest) × (RecoveryJson g store rest status ⊎ StopJson store rest status)

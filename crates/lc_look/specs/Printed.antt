@@ -1,4 +1,4 @@
--- What is printed, and the status behind it.
+-- What is printed, and the status after it.
 use Rattle.std.specs.Prelude.{◌≡◌, ◌⊎◌, ℕ, List, Option}
 use Rattle.std.specs.Io.KnownBytes.{Appends}
 use Rattle.lc_model.specs.declared.refusal.Refusal.TheVariants.{DeviceFault}

@@ -21,11 +21,11 @@ use lc_text::WriteFault;
 use std::alloc::{AllocError, Global};
 use std::io::Write;
 
-/// Writes the picture of the store of these areas, as SVG: the records of each log, and behind them the words that were
-/// written and are in no record; of each segment the number that it has behind a recovery, and of each page the slot that
-/// counts, its number, and whether a recovery would write it. Each area is read, none is synced or written to. It answers
-/// the status: 0 where the picture is written, 1 where the recovery would be refused or there was no memory, 3 where a
-/// device failed. An `Err` is a fault of the writer, and says nothing of what was written.
+/// Writes the picture of the store of these areas, as SVG. It shows the records of each log, and after them the words
+/// that were written and are in no record. Of each segment it shows the number that it has after a recovery, and of
+/// each page the slot that counts, its number, and whether a recovery would write it. Each area is read, none is synced
+/// or written to. It answers the status: 0 where the picture is written, 1 where the recovery would be refused or there
+/// was no memory, 3 where a device failed. An `Err` is a fault of the writer, and says nothing of what was written.
 pub fn draw_areas<D: Area, W: Write>(
     alloc: Global,
     geometry: &Geometry,

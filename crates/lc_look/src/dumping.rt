@@ -1,4 +1,4 @@
-//! A page of a store as it would be behind a recovery.
+//! A page of a store as it would be after a recovery.
 ghost use Rattle.std.specs.Prelude.{◌≡◌, ◌↔◌, ◌+◌, ◌-◌, ◌*◌, ◌<◌, ◌≤◌, ◌^◌, ◌++◌, [], IfErr, IfOk, OnOk, IsTrue, is_ok, true, length, take, drop, flat_map, map, slice_get, slice_index_or, Some};
 ghost use Rattle.std.specs.Io.KnownBytes.{Appends};
 ghost use Rattle.lc_recover.specs.Reads.{AreHonest, AreLeftAs};
@@ -22,10 +22,10 @@ const SLOTS: usize = 2;
 // How many bytes stand in a line.
 const LINE: usize = 16;
 
-/// Writes a page of a segment, from 1, as it would be behind a recovery of these areas, and its two slots as they read.
-/// Each area is read, none is synced or written to. It answers the status: 0 where the page is written, 1 where there is
-/// none, the recovery would be refused or there was no memory, 3 where a device failed. An `Err` is a fault of the writer,
-/// and says nothing of what was written.
+/// Writes a page of a segment, from 1, as it would be after a recovery of these areas, and its two slots as they read.
+/// Each area is read, none is synced or written to. It answers the status: 0 where the page is written, 1 where there
+/// is none, the recovery would be refused or there was no memory, 3 where a device failed. An `Err` is a fault of the
+/// writer, and says nothing of what was written.
 pub fn dump_areas<D: Area, W: Write>(
     alloc: Global,
     geometry: &Geometry,
@@ -166,7 +166,7 @@ fn write_line<W: Write>(writer: &mut W, address: usize, bytes: &[u8]) -> io::Res
     writer.write_all(b"|\n")
 }
 
-// Writes bytes, each behind a space.
+// Writes bytes, each after a space.
 fn write_spaced<W: Write>(writer: &mut W, bytes: &[u8]) -> io::Result<()>
     ensures { OnOk result (Appends (W.contents writer.old) (W.contents writer.new) (flat_map spaced bytes.now)) }
 {

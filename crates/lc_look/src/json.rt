@@ -204,7 +204,7 @@ fn write_pages<W: Write>(
     Ok(())
 }
 
-// Writes why the store is not recovered, behind the logs.
+// Writes why the store is not recovered, after the logs.
 fn write_stop<W: Write>(writer: &mut W, fault: RecoverFault) -> io::Result<()>
     ensures { OnOk result (Appends (W.contents writer.old) (W.contents writer.new) (stop_json fault)) }
 {

@@ -1,6 +1,6 @@
 //! Who is told how far a recovery is, and what a run leaves.
 
-/// Is told how far a recovery is, and what a run behind it leaves.
+/// Is told how far a recovery is, and what a run after it leaves.
 pub trait Teller {
     /// So many of its steps are done.
     fn stepped(&self, steps: u64);

@@ -11,7 +11,7 @@ use Rattle.lc_names.specs.declared.ask.Ask.{Ask}
 use Rattle.lc_names.specs.declared.ask.TheConstants.{SEGMENT}
 use Rattle.lc_names.specs.declared.name_fault.NameFault.{NameFault}
 
--- it is answered, and the table is what the answer says; all behind it, and all other segments, are as before
+-- it is answered, and the table is what the answer says; all after it, and all other segments, are as before
 pub record IsAsked (ask : Ask) (locked : List ℕ) (before : Bytes) (answer : Result Answer NameFault) (after : Bytes) : Type 0 where
   pub within : ask.len ≤ length (before SEGMENT)
   pub left : List ℕ

@@ -9,7 +9,7 @@ IsName name = (0 < length name) × (length name ≤ LONGEST)
 abbrev pub AreAttributes : List ℕ → Type 0
 AreAttributes attributes = length attributes ≤ LONGEST
 
--- the text behind its length at a place
+-- the text after its length at a place
 unfoldable pub text_at : ℕ → List ℕ → List ℕ
 text_at place entry = take (slice_index entry place) (drop (place + 1) entry)
 
@@ -43,6 +43,6 @@ filled bytes = bytes ++ replicate (LONGEST - length bytes) 0
 unfoldable pub entry_of : List ℕ → List ℕ → List ℕ
 entry_of name attributes = (length name ∷ filled name) ++ (length attributes ∷ filled attributes)
 
--- it is free and has zeros alone, or it is that of its name and its attributes, with zeros behind each
+-- it is free and has zeros alone, or it is that of its name and its attributes, with zeros after each
 abbrev pub IsClean : List ℕ → Type 0
 IsClean entry = (entry ≡ free_entry) ⊎ (entry ≡ entry_of (name_of entry) (attributes_of entry))

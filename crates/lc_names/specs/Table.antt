@@ -1,4 +1,4 @@
--- A table of names: whole entries, one behind another.
+-- A table of names: whole entries, one after another.
 use Rattle.std.specs.Prelude.{◌≡◌, ◌⊎◌, ℕ, ◌/◌, ◌<◌, false, cond, List, [], ◌∷◌, length, map, filter, slice_index_or, Option, Some, None, IsTrue}
 use Rattle.std.specs.Simd.{first_chunks}
 use Rattle.lc_names.specs.Entry.{Fits, IsClean, IsName, attributes_of, is_named, is_used, name_of}
@@ -35,7 +35,7 @@ attributes_in entries name = attributes_among name entries
 abbrev pub names_in : List (List ℕ) → List (List ℕ)
 names_in entries = map name_of (filter is_used entries)
 
--- each entry is as it was, or is clean: so nothing stands behind what is new, and nothing in place of what is gone
+-- each entry is as it was, or is clean: so nothing stands after what is new, and nothing in place of what is gone
 pub record LeavesClean (entries left : List (List ℕ)) : Type 0 where
   pub len : length left ≡ length entries
   pub each : (place : ℕ) → place < length entries → (entry_at left place ≡ entry_at entries place) ⊎ IsClean (entry_at left place)

@@ -11,8 +11,8 @@ use std::alloc::Global;
 /// The segment that has the table. This project's own.
 pub const SEGMENT: u32 = 1;
 
-/// Asks the table of names in the first `len` bytes of segment 1; the answer stands in `answer` behind a run that was not
-/// refused. This project's own.
+/// Asks the table of names in the first `len` bytes of segment 1; the answer stands in `answer` after a run that was
+/// not refused. This project's own.
 #[derive(Drop)]
 pub struct Ask<'a> {
     pub len: u32,

@@ -8,16 +8,16 @@ pub(crate) const ENTRY: usize = 64;
 /// How many bytes a name has at most, and attributes too.
 pub(crate) const LONGEST: usize = 31;
 
-/// Where the length of the name stands, and behind it the name. It is 0 in an entry that is free.
+/// Where the length of the name stands, and after it the name. It is 0 in an entry that is free.
 pub(crate) const NAME: usize = 0;
 
-/// Where the length of the attributes stands, and behind it these.
+/// Where the length of the attributes stands, and after it these.
 pub(crate) const ATTRIBUTES: usize = 32;
 
 /// The bytes of an entry.
 pub(crate) type Entry = [u8; ENTRY];
 
-/// The text behind its length at a place, as far as there are bytes.
+/// The text after its length at a place, as far as there are bytes.
 #[tactic(auto, using(std::proofs::lemmas::List::take_rest), unfolding(crate::specs::Entry::text_at))]
 pub(crate) fn text_at(entry: &Entry, place: usize) -> &[u8]
     requires { place < ENTRY }

@@ -1,4 +1,4 @@
-//! The table of names: whole entries, one behind another.
+//! The table of names: whole entries, one after another.
 ghost use Rattle.std.specs.Prelude.{◌≡◌, ◌<◌, ◌↔◌, ℕ, length, map, IfOk, IsTrue, MatchOption, MatchResult, OnErr};
 ghost use Rattle.std.specs.Global.{Vec as Items};
 ghost use Rattle.lc_names.specs.Table.{HasNames, IsAbsent, IsNoName, IsPlaceOf, IsSoundAt, IsTable, IsUnplaced, names_in};

@@ -14,7 +14,7 @@ use Rattle.lc_picture.specs.declared.segment_field.SegmentField.{SegmentField}
 use Rattle.lc_picture.specs.declared.store_picture.StorePicture.{StorePicture}
 use Rattle.lc_picture.specs.declared.style.TheConstants.{STYLE}
 
--- some texts, one behind another
+-- some texts, one after another
 abbrev pub pieces : List (List ℕ) → List ℕ
 pieces [] = []
 pieces (p ∷ []) = p
@@ -130,7 +130,7 @@ bar_frame_text words lanes =
     pieces (codes "<svg y='20' width='960' height='32' viewBox='0 1 " ∷ decimal words ∷ codes " " ∷ decimal lanes
     ∷ codes "' preserveAspectRatio='none'>\n<rect class='free' y='1' width='" ∷ decimal words ∷ codes "' height='" ∷ decimal lanes ∷ codes "'/>\n" ∷ [])
 
--- but for those behind the records that were written
+-- but for those after the records that were written
 unfoldable pub bar_trailing_text : ℕ → ℕ → ℕ → List ℕ
 bar_trailing_text end trailing lanes =
     pieces (codes "<rect class='open' x='" ∷ decimal end ∷ codes "' y='1' width='" ∷ decimal trailing ∷ codes "' height='" ∷ decimal lanes ∷ codes "'/>\n" ∷ [])

@@ -17,7 +17,7 @@ pub struct LogBar {
     pub records: Vec<(usize, Record)>,
     /// Where they end, in words.
     pub end: usize,
-    /// How many words behind them were written, up to the last that is not zero: no record reads them.
+    /// How many words after them were written, up to the last that is not zero: no record reads them.
     pub trailing: usize,
 }
 
@@ -35,7 +35,7 @@ pub(crate) fn write_bar<W: io::Write>(
     writer.write_all(b"</svg>\n</g>\n")
 }
 
-// What the log has, and the room behind its records. A lane of the bar is a segment.
+// What the log has, and the room after its records. A lane of the bar is a segment.
 fn write_bar_head<W: io::Write>(writer: &mut W, geometry: &Geometry, bar: &LogBar) -> io::Result<()>
     ensures { OnOk result (Appends (W.contents writer.old) (W.contents writer.new) (bar_head_text geometry.now bar.now)) }
 {

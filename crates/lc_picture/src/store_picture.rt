@@ -21,9 +21,9 @@ pub struct StorePicture {
     pub fields: Vec<SegmentField>,
 }
 
-/// Writes the picture of a store, as SVG: each log as a bar of its records, in which each segment has a lane, and behind them what
-/// was written and what is free; each segment as a field of its pages, 64 in a row, with the slot that counts and whether some
-/// record is newer. This project's own.
+/// Writes the picture of a store, as SVG. Each log is a bar of its records, in which each segment has a lane, and after
+/// them of what was written and of what is free. Each segment is a field of its pages, 64 in a row, with the slot that
+/// counts and whether some record is newer. This project's own.
 pub fn write_picture<W: io::Write>(writer: &mut W, picture: &StorePicture) -> io::Result<()>
     ensures { OnOk result (Appends (W.contents writer.old) (W.contents writer.new) (picture_text picture.now)) }
 {

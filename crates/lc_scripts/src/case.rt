@@ -19,7 +19,8 @@ pub(crate) struct Case<'a> {
 }
 
 impl<'a> Case<'a> {
-    /// The case of a line: name, status, nodes, threads, segments, pages and words; behind them may stand `fails AREA CALL`.
+    /// The case of a line: name, status, nodes, threads, segments, pages and words; after them may stand `fails AREA
+    /// CALL`.
     pub(crate) fn of_line(line: &'a str) -> Option<Case<'a>> {
         let mut words = line.split_ascii_whitespace();
         let name = words.next()?;

@@ -1,4 +1,4 @@
-//! A store in a folder, open: behind one call it is up, and of the size that was asked for.
+//! A store in a folder, open: after one call it is up, and of the size that was asked for.
 #![tactic(auto)]
 
 mod bringing_up;

@@ -272,7 +272,7 @@ lcrvm: store: --as-found takes nodes 2 segments 2 pages 1 words 64\n",
     check(rt, &recovering, alloc, shelf, &Step { ask, ..run })
 }
 
-// Behind a mark, too.
+// After a mark, too.
 #[test]
 fn a_folder_with_more_files_is_refused(rt: HostRuntime) -> Result<(), Fail> {
     let shelf = Shelf::new(rt.alloc());
@@ -324,7 +324,7 @@ fn a_store_in_use_is_not_opened(rt: HostRuntime) -> Result<(), Fail> {
     check_all(&rt, rt.alloc(), &Shelf::new(rt.alloc()), &NOT_SHARED)
 }
 
-// Behind the syncs of the size and of the folder and the two of the recovery: that of the group.
+// After the syncs of the size and of the folder and the two of the recovery: that of the group.
 const SYNC_FAILS: Step = Step {
     ask: Ask::Run(ONE),
     script: COMMIT,
@@ -355,7 +355,7 @@ const WRITE_FAILS: Step = Step {
     ..SYNC_FAILS
 };
 
-// What comes behind.
+// What comes then.
 static COPIED: [Step; 2] = [
     Step {
         ask: Ask::Recover(ONE),

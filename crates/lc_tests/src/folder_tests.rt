@@ -54,7 +54,7 @@ const LONG_LOGS: Size = Size {
     words: 128,
 };
 
-// What is asked of the store in a folder. An inspection is of the file whose path is the folder's with this behind it.
+// What is asked of the store in a folder. An inspection is of the file whose path is the folder's with this at its end.
 #[derive(Clone, Copy)]
 enum Ask {
     Init,
@@ -147,7 +147,7 @@ fn check_all(
     Ok(())
 }
 
-// Whether the file whose path is the folder's with this behind it has so many bytes.
+// Whether the file whose path is the folder's with this at its end has so many bytes.
 fn has_len(rt: &HostRuntime, folder: &str, behind: &str, len: u64) -> Result<bool, Fail> {
     let path = format!(in rt.alloc(); "{folder}{behind}")?;
     Ok(fs::metadata(rt, &path)?.len() == len)

@@ -115,7 +115,7 @@ fn the_first_holder_that_is_there_is_named(rt: HostRuntime) -> Result<(), Fail> 
     Ok(())
 }
 
-// The list is looked for behind a lock that is not to be had, and only then.
+// The list is looked for once a lock is not to be had, and only then.
 static ASKED: [Step; 2] = [
     Step {
         ask: Ask::Check(ONE),

@@ -177,8 +177,8 @@ fn what_is_no_record_is_no_refusal(rt: HostRuntime) -> Result<(), Fail> {
     check(&rt, &"no record", ONE, areas, script, want)
 }
 
-// The record of node 0 under lock 1:1, with so many words of the byte 7 from 0 on in segment 1. It takes 64 words, or the word
-// behind them too.
+// The record of node 0 under lock 1:1, with so many words of the byte 7 from 0 on in segment 1. It takes 64 words, or
+// the word after them too.
 #[test]
 fn a_record_may_fill_its_log(rt: HostRuntime) -> Result<(), Fail> {
     let alloc = rt.alloc();
@@ -208,7 +208,7 @@ fn a_record_may_fill_its_log(rt: HostRuntime) -> Result<(), Fail> {
     Ok(())
 }
 
-// The record of node 0 under lock 1:1, with the bytes "abcdefgh" at 16380 in segment 1, which end behind 16384.
+// The record of node 0 under lock 1:1, with the bytes "abcdefgh" at 16380 in segment 1, which end beyond 16384.
 #[test]
 fn a_record_of_the_second_version_is_recovered(rt: HostRuntime) -> Result<(), Fail> {
     let words = [
@@ -368,7 +368,7 @@ const INTERRUPTED: Option<ErrorKind> = Some(ErrorKind::Interrupted);
 
 const FULL: Option<ErrorKind> = Some(ErrorKind::StorageFull);
 
-// What a write or a flush meets, by turns, and what is noted behind it.
+// What a write or a flush meets, by turns, and what is noted after it.
 const STUMBLES: [(Option<ErrorKind>, Option<ErrorKind>); 8] = [
     (None, None),
     (INTERRUPTED, INTERRUPTED),
@@ -403,7 +403,7 @@ fn an_interrupted_call_is_noted_until_the_next(rt: HostRuntime) -> Result<(), Fa
             noted,
         );
     }
-    // std's loop tries an interrupted write again, and the fault behind it is what is noted.
+    // std's loop tries an interrupted write again, and the fault after it is what is noted.
     let mut writer = Noted::new(Stumbling {
         errors: &[INTERRUPTED, INTERRUPTED, FULL],
     });

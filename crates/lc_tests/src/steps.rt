@@ -46,7 +46,7 @@ pub(crate) struct Step {
     pub(crate) trouble: Trouble,
     pub(crate) printed: &'static str,
     pub(crate) status: u8,
-    // The calls, one piece behind another; without them they are not looked at.
+    // The calls, one piece after another; without them they are not looked at.
     pub(crate) calls: Option<&'static [&'static str]>,
     // What is said on standard error.
     pub(crate) said: &'static str,
@@ -160,7 +160,7 @@ pub(crate) const FLUSHING_FIVE: &str =
 // The inspection of its log.
 pub(crate) const INSPECTING: &str = "open store/log0\nread store/log0\n";
 
-// The copying of its files behind a fault.
+// The copying of its files after a fault.
 pub(crate) const COPYING: &str =
     "look store/log0\nlook store/log0.new\nopen store/log0\nlock store/log0\nlook store/log0\nmake store/log0.new\n\
 mode store/log0.new\nread store/log0\nwrite store/log0.new 0 520\nsync store/log0.new\nlook store/log0\nrename store/log0.new\n\
@@ -252,7 +252,7 @@ pub(crate) fn asked_of(alloc: Global, ask: Ask, folder: String) -> Result<Asked,
     })
 }
 
-// These calls are these pieces, one behind another.
+// These calls are these pieces, one after another.
 pub(crate) fn check_calls(rt: &impl Abort, row: &impl Display, calls: &str, pieces: &[&str]) {
     let mut rest = calls;
     for piece in pieces {

@@ -24,7 +24,7 @@ fn stopped(alloc: Global, choices: &[Choice]) -> Result<MemArea, Fail> {
     Ok(area)
 }
 
-// The choices, and the bytes behind the stop.
+// The choices, and the bytes after the stop.
 static STOPS: [(&[Choice], &[u8]); 2] = [
     (&[], &[1, 11, 12, 4, 14, 6]),
     (&[Choice::Stable, Choice::Byte(7)], &[1, 2, 7, 4, 7, 6]),
@@ -62,7 +62,7 @@ fn failing(alloc: Global, is_from: bool, number: u8) -> Result<[[bool; 3]; 2], A
     Ok([first, three_calls(&mut fuse)])
 }
 
-// Whether all calls behind the first that fails do, its number, and which of the six fail.
+// Whether all calls after the first that fails do, its number, and which of the six fail.
 const CALLS: [(bool, u8, [[bool; 3]; 2]); 5] = [
     (false, 0, [[false; 3], [false; 3]]),
     (false, 1, [[true, false, false], [false, false, false]]),

@@ -60,7 +60,7 @@ fn four_calls<D: Area>(area: &mut D) -> [bool; 4]
     ]
 }
 
-// Behind a write or a sync that failed no call is made, and each is a fault; behind a read that failed they go on.
+// After a write or a sync that failed no call is made, and each is a fault; after a read that failed they go on.
 const OF_FOUR: [(u32, [bool; 4]); 4] = [
     (1, [true, true, true, true]),
     (2, [false, true, true, true]),
@@ -110,7 +110,7 @@ fn failed_syncs(alloc: Global, failing: u32) -> Result<Option<[bool; 7]>, OpenFa
     Ok(Some(seven_calls(&mut area)))
 }
 
-// Of the seven three are calls: the first sync, for what stood in the file, the write, and the sync behind it.
+// Of the seven three are calls: the first sync, for what stood in the file, the write, and the sync after it.
 const OF_SEVEN: [(u32, [bool; 7]); 4] = [
     (1, [true, true, true, true, true, true, true]),
     (2, [false, false, false, false, true, true, true]),
@@ -159,7 +159,7 @@ fn write_three<D: Area>(area: &mut D) -> Result<(), DeviceFault>
     area.sync()
 }
 
-// The 5,000 bytes behind that.
+// The 5,000 bytes after that.
 fn with_three() -> [u8; 5000] {
     let mut bytes = [0; 5000];
     bytes[4990..4993].copy_from_slice(&[1, 2, 3]);

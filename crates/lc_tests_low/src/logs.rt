@@ -40,7 +40,7 @@ const ELEVEN: [u8; 88] = [
 // The bytes of a log of 64 words, which has a word more.
 const LOG_LEN: usize = 520;
 
-// Seven records in 65 words, with no word behind them.
+// Seven records in 65 words, with no word after them.
 fn full(alloc: Global) -> Result<Vec<u8>, AllocError> {
     let mut bytes = Vec::new(alloc);
     for _ in 0..3 {
@@ -52,7 +52,7 @@ fn full(alloc: Global) -> Result<Vec<u8>, AllocError> {
     Ok(bytes)
 }
 
-// How many records a walk over these bytes finds, and the place behind them.
+// How many records a walk over these bytes finds, and the place after them.
 fn found(alloc: Global, bytes: &[u8]) -> Result<(usize, usize), AllocError> {
     let found = walk(alloc, bytes)?;
     Ok((found.records.len(), found.end_place))
@@ -229,7 +229,7 @@ fn a_flush_that_succeeds_is_stable(rt: HostRuntime) -> Result<(), Fail> {
     Ok(())
 }
 
-// The area behind the four calls of a flush and those of a reset, of which this one fails, or none.
+// The area after the four calls of a flush and those of a reset, of which this one fails, or none.
 fn reset(alloc: Global, call: u8) -> Result<Option<Fuse>, AllocError> {
     let Ok(log) = flushed(alloc, call)? else {
         return Ok(None);

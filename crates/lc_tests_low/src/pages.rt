@@ -54,7 +54,7 @@ fn tenth(alloc: Global, bytes: &[u8; AREA_BYTES]) -> Result<PageWrite<Begun>, Fa
     Ok(PageWrite::begin(&pages, 1, &[0xaa; 256], 10)?)
 }
 
-// What a stop leaves behind so many calls of a write of number 10 over these pages.
+// What a stop leaves after so many calls of a write of number 10 over these pages.
 fn left(alloc: Global, bytes: &[u8; AREA_BYTES], calls: u8, choice: Choice) -> Result<MemArea, Fail>
     ensures { IfOk result (λ area. length (memory_now area) ≡ 1088) }
 {
@@ -65,7 +65,8 @@ fn left(alloc: Global, bytes: &[u8; AREA_BYTES], calls: u8, choice: Choice) -> R
     Ok(area)
 }
 
-// The number, the slot and the first byte of the second page after a stop behind so many calls of a write of number 10.
+// The number, the slot and the first byte of the second page after a stop that came after so many calls of a write of
+// number 10.
 fn stopped(alloc: Global, calls: u8, choice: Choice) -> Result<(u64, Option<Slot>, u8), Fail> {
     let area = left(alloc, &two_pages(), calls, choice)?;
     let bytes = area.bytes();
@@ -157,7 +158,7 @@ fn chosen(bytes: &[u8]) -> (Option<usize>, usize) {
     (first, count)
 }
 
-// The first position that is dirty behind so many calls, and how many are, in an area of zeros.
+// The first position that is dirty after so many calls, and how many are, in an area of zeros.
 fn dirty(alloc: Global, calls: u8) -> Result<(Option<usize>, usize), Fail> {
     let area = left(alloc, &NO_PAGES, calls, Choice::Byte(0xee))?;
     Ok(chosen(area.bytes()))

@@ -245,7 +245,7 @@ fn words_of(alloc: Global, said: &Said) -> Result<Vec<u64>, RecordFault> {
     encode(alloc, &record)
 }
 
-// Whether the record that is read from these words, with another word behind them, is written so too.
+// Whether the record that is read from these words, with another word after them, is written so too.
 fn is_read_back(alloc: Global, words: &[u64]) -> Result<bool, RecordFault> {
     let Ok(mut longer) = Vec::from_slice(alloc, words) else {
         return Err(RecordFault::NoMemory);
@@ -322,7 +322,7 @@ fn other_words_are_no_record(rt: HostRuntime) {
     for (place, changed) in &NOT_LETTERS {
         is_none(&rt, &LETTERS, *place, *changed);
     }
-    // A range of the first version that ends behind 16384.
+    // A range of the first version that ends beyond 16384.
     is_none(&rt, &NEAR, 4, 0x3ff9_0000_0001);
     for len in 0..17 {
         equal(
@@ -343,7 +343,7 @@ fn other_words_of_the_second_version_are_no_record(rt: HostRuntime) {
         // No segment, and one of more than 32 bits.
         (4, 0),
         (4, (1 << 32) + 1),
-        // No range that ends behind 16384, one that leaves its segment, and an offset of more than 32 bits.
+        // No range that ends beyond 16384, one that leaves its segment, and an offset of more than 32 bits.
         (5, 16376),
         (5, 262137),
         (5, (1 << 32) + 16380),
@@ -433,7 +433,7 @@ fn a_geometry_has_areas(rt: HostRuntime) -> Result<(), Fail> {
     Ok(())
 }
 
-// The words of two records, one behind another.
+// The words of two records, one after another.
 fn two_records(alloc: Global) -> Result<Vec<u64>, AllocError> {
     let mut words = Vec::from_slice(alloc, &HELLO)?;
     words.extend_from_slice(&LETTERS)?;

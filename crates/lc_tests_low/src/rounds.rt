@@ -176,7 +176,7 @@ fn emptied<D: Area + Drop>(log: NodeLog<D>) -> Option<NodeLog<D>>
     Some(log)
 }
 
-// Opens the next round, and clears the row of the settled one before or behind that.
+// Opens the next round, and clears the row of the settled one before or after that.
 fn next_round(stage: &Stage, flusher: &mut FlushSeat, clears_first: bool) -> Result<(), StageFault>
     requires own { IsFlusherOf stage.now flusher.old }
     requires settled { IsSettled (flush_view flusher.old) × (0 < (flush_view flusher.old).sealed_at) }
@@ -305,7 +305,7 @@ fn commit(stage: &Stage, seat: &mut CommitSeat, number: u64) -> Option<Receipt>
     None
 }
 
-// Commits three records under the numbers behind 3 * id.
+// Commits three records under the three numbers above 3 * id.
 fn commit_three(stage: &Stage, mut seat: CommitSeat, id: u64) -> Option<[Receipt; 3]>
     requires own { IsSeatOf stage.now seat }
     requires idle { IsIdle (commit_view seat) }

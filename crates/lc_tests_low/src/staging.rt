@@ -1,4 +1,4 @@
-//! Two seats, a thread that is held, and the round behind an ended one.
+//! Two seats, a thread that is held, and the round after an ended one.
 ghost use Rattle.std.specs.Prelude.{◌≡◌, ◌≢◌, ℕ, ◌+◌, ◌*◌, ◌%◌, ◌<◌, ◌≤◌, ◌^◌, true, false, [], length, slice_index, IfSome};
 ghost use Rattle.lc_stage.specs.Seats.{commit_view, flush_view, IsSeatOf, IsFlusherOf, IsIdle, IsFresh, IsSettled};
 ghost use Rattle.lc_stage.specs.Publishing.{HoldsTaken, HasPublished};
@@ -102,7 +102,7 @@ pub(crate) fn settle<D: Area + Drop>(
     }
 }
 
-// Reserves 8 words and 11 behind them, as `moved_on` does, and closes both, the 11 first.
+// Reserves 8 words and 11 after them, as `moved_on` does, and closes both, the 11 first.
 fn nineteen(stage: &Stage, first: &mut CommitSeat, second: &mut CommitSeat) -> bool
     requires own { IsSeatOf stage.now first.old × IsSeatOf stage.now second.old }
     requires idle { IsIdle (commit_view first.old) × IsIdle (commit_view second.old) }
@@ -145,7 +145,7 @@ fn is_made(alloc: Global, words: u32) -> Result<bool, Fail>
     Ok(stage.words() == words && stage.tail(&mut seat) == 0)
 }
 
-// Reserves 8 words, and 11 behind them: the second seat has seen the tail before, and is told of the newer one.
+// Reserves 8 words, and 11 after them: the second seat has seen the tail before, and is told of the newer one.
 fn moved_on(stage: &Stage, first: &mut CommitSeat, second: &mut CommitSeat) -> bool
     requires own { IsSeatOf stage.now first.old × IsSeatOf stage.now second.old }
     requires idle { IsIdle (commit_view first.old) × IsIdle (commit_view second.old) }
@@ -192,7 +192,7 @@ fn two_seats(rt: HostRuntime) -> Result<(), Fail> {
     Ok(())
 }
 
-// Whether the group has a record of 8 words under number 1, and behind it one of 11 words under number 2.
+// Whether the group has a record of 8 words under number 1, and after it one of 11 words under number 2.
 fn has_both(group: &Group) -> bool {
     let has_first = low_byte(group, 3) == 1 && low_byte(group, 7) == 8;
     let has_second = low_byte(group, 8) == 0xa5 && low_byte(group, 11) == 2;
@@ -204,7 +204,7 @@ fn is_for(receipt: &Receipt, place: u32) -> bool {
     receipt.round() == 0 && receipt.place() == place && receipt.words() == 8
 }
 
-// Reserves 8 words, and 8 behind them.
+// Reserves 8 words, and 8 after them.
 fn eight_each(stage: &Stage, first: &mut CommitSeat, second: &mut CommitSeat) -> bool
     requires own { IsSeatOf stage.now first.old × IsSeatOf stage.now second.old }
     requires idle { IsIdle (commit_view first.old) × IsIdle (commit_view second.old) }
@@ -229,7 +229,7 @@ fn has_eights(group: &Group) -> bool {
     group.len() == 16 && has_first && has_second
 }
 
-// Whether each seat has the receipt of its 8 words, those of the second behind those of the first.
+// Whether each seat has the receipt of its 8 words, those of the second after those of the first.
 fn are_durable(stage: &Stage, first: &mut CommitSeat, second: &mut CommitSeat) -> bool
     requires { IsSeatOf stage.now first.old × IsSeatOf stage.now second.old }
 {
@@ -360,7 +360,7 @@ fn a_round_is_opened_before_the_ended_one_is_clear(rt: HostRuntime) -> Result<()
 
 pub(crate) const TURNS: u32 = 1_000_000;
 
-// Reserves the first 8 words, and closes them once 8 more are reserved behind them.
+// Reserves the first 8 words, and closes them once 8 more are reserved after them.
 fn close_late(stage: &Stage, mut seat: CommitSeat) -> Option<CommitSeat>
     requires own { IsSeatOf stage.now seat }
     requires idle { IsIdle (commit_view seat) }
@@ -380,7 +380,7 @@ fn close_late(stage: &Stage, mut seat: CommitSeat) -> Option<CommitSeat>
     None
 }
 
-// Reserves 8 words behind the first 8, and closes them.
+// Reserves 8 words after the first 8, and closes them.
 fn close_behind(stage: &Stage, mut seat: CommitSeat) -> Option<CommitSeat>
     requires own { IsSeatOf stage.now seat }
     requires idle { IsIdle (commit_view seat) }

@@ -110,7 +110,7 @@ fn faults_have_texts(rt: HostRuntime) -> Result<(), Fail> {
     Ok(())
 }
 
-// The token of segment 1 behind a record, which changed its one page.
+// The token of segment 1 after a record, which changed its one page.
 fn recorded(rt: &impl Abort, alloc: Global) -> Result<Token, Fail>
     ensures { IfOk result (λ token. token.segment ≡ 1) }
 {
@@ -128,7 +128,7 @@ fn recorded(rt: &impl Abort, alloc: Global) -> Result<Token, Fail>
     Ok(place.leave(false, false, 8, 8)?)
 }
 
-// The token behind a write of its one page under number 5.
+// The token after a write of its one page under number 5.
 fn written(rt: &impl Abort, token: Token) -> Result<Token, TokenFault>
     requires { token.segment ≡ 1 }
     ensures { IfOk result (λ token. token.segment ≡ 1) }

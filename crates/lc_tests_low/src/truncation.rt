@@ -10,7 +10,7 @@ use std::process::Abort;
 use std::test::Fail;
 
 // The record of node 0 under locks 1:5 and 2:7, with the byte 11 at 0 in segment 1 and 22 at 0 in segment 2, in
-// hexadecimal. Behind its 13 words stands the record of node 0 under lock 1:3 with the bytes "hello" at 3 in segment 1,
+// hexadecimal. After its 13 words stands the record of node 0 under lock 1:3 with the bytes "hello" at 3 in segment 1,
 // in 8 words.
 const LOG: [u64; 21] = [
     0xd_0002_01a5,
@@ -99,7 +99,7 @@ fn behind_the_last_record_there_is_no_lock(rt: HostRuntime) {
     assert!(rt; may_reset(&LOG[..20], &known) == Err(Unclean { segment: 1, seq: 5 }));
 }
 
-// The token behind a change of a page under its number.
+// The token after a change of a page under its number.
 fn touched(rt: &impl Abort, token: Token, page: u32) -> Result<Token, TokenFault> {
     let segment = token.segment();
     assert!(rt;
@@ -113,7 +113,7 @@ fn touched(rt: &impl Abort, token: Token, page: u32) -> Result<Token, TokenFault
     place.leave(false, false, 4, 4)
 }
 
-// The token behind one record more.
+// The token after one record more.
 fn counted(rt: &impl Abort, token: Token) -> Result<Token, TokenFault> {
     let segment = token.segment();
     let seq = token.seq();

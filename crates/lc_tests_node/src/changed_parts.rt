@@ -75,7 +75,7 @@ const APPLIED_TWICE: &[(u16, Act)] = &[
     (SECOND, Act::Pump),
 ];
 
-// The first commits in segment 1 behind a record of the second, and then in segment 2, in which there was none.
+// The first commits in segment 1 after a record of the second, and then in segment 2, in which there was none.
 const CROSSED: &[(u16, Act)] = &[
     (SECOND, Act::Commit(BESIDE)),
     (SECOND, Act::Spread),

@@ -95,7 +95,7 @@ fn put_at<D: Area + Drop, R: Wait>(
     put(rt, alloc, cluster.node(node), seat, &[2], work, mode)
 }
 
-// Two nodes over areas of zeros, and a seat of each, behind one stable record of the first.
+// Two nodes over areas of zeros, and a seat of each, after one stable record of the first.
 fn begun<R: Wait>(rt: &R, alloc: Global) -> Result<(Cluster<MemArea>, CommitSeat, CommitSeat), Fail>
     ensures nodes { IfOk result (λ made. length made.0.members.items ≡ 2) }
     ensures first { IfOk result (λ made. IsSeatAt made.0 0 made.1) }

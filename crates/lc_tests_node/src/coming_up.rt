@@ -96,7 +96,7 @@ fn come_up<D: Area + Drop, R: Wait>(
     into_world(cluster, rt, alloc, seats)
 }
 
-/// The node behind this one.
+/// The node after this one.
 pub(crate) fn behind(nodes: u16, node: u16) -> u16
     requires some { 2 ≤ nodes }
     requires within { node < nodes }

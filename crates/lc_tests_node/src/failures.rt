@@ -18,10 +18,10 @@ const NEVER: When = When::At(0);
 // The second call of a flush: a recovery makes four calls of an empty log.
 const IN_A_FLUSH: When = When::At(6);
 
-// The first call of the flush behind.
+// The first call of the flush after that.
 const IN_THE_SECOND_FLUSH: When = When::At(9);
 
-// The first call of a reset behind one flush.
+// The first call of a reset after one flush.
 const IN_A_RESET: When = When::At(9);
 
 // The fourth call of a page's write: a recovery makes two calls of a segment that has nothing to be written.

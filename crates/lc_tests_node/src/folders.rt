@@ -5,7 +5,7 @@ use std::string::String;
 use std::test::Fail;
 use std::{env, fs, process};
 
-/// A folder of this process with this name behind it, with nothing in it.
+/// A folder of this process with this name at its end, and nothing in it.
 pub(crate) fn new_folder(rt: &HostRuntime, name: &str) -> Result<String, Fail> {
     let temporary = env::temp_dir(rt)?;
     let id = process::id(rt.process());

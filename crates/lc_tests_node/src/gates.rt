@@ -88,7 +88,7 @@ fn first<D: Area + Drop, R: Wait>(
     }
 }
 
-// Commits while the first's record is held: then nothing can be flushed. Its receipt comes behind the first's flush.
+// Commits while the first's record is held: then nothing can be flushed. Its receipt comes after the first's flush.
 fn second<D: Area + Drop, R: Wait>(
     rt: &R,
     alloc: Global,

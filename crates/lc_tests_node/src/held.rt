@@ -40,7 +40,8 @@ fn areas(alloc: Global) -> Result<Vec<MemArea>, Fail> {
     Ok(areas)
 }
 
-// The one lock, with its number, of the published record that begins behind so many words; None where it has not just one.
+// The one lock, with its number, of the published record that begins after so many words; None where it has not just
+// one.
 fn only_lock<D: Area + Drop, R: Wait>(rt: &R, node: &Node<D>, place: usize) -> Option<(u32, u64)> {
     let lock = node.log_lock();
     let (log, loan) = lock.lock(rt);

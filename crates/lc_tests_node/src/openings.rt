@@ -23,7 +23,7 @@ const IN_USE: OpenFault = OpenFault::Folder(FolderFault::Failed);
 
 const NO_LOG: OpenFault = OpenFault::NoStore(Misfit::Missing(FileName::Log(0)));
 
-// The segments are behind the one log.
+// The segments are after the one log.
 const SHORT_SEGMENT: OpenFault = OpenFault::BadGeometry { area: 1 };
 
 #[test]

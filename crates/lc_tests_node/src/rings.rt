@@ -75,7 +75,7 @@ struct Worker<'a, D: Area + Drop> {
     ghost idle: { IsIdle (commit_view seat) },
 }
 
-// The node behind this one in the ring.
+// The node after this one in the ring.
 fn behind(node: u16) -> u16
     requires { node < 4 }
     ensures within { result < 4 }

@@ -11,7 +11,7 @@ use std::test::*;
 // More runs than one or two allocations that fail can make of a list.
 const MOST_RUNS: u32 = 8;
 
-// Behind all four commits both segments begin with 4. Their tokens are where they were at first.
+// After all four commits both segments begin with 4. Their tokens are where they were at first.
 static READS_ALL: [(&str, &str); 6] = [
     ("begin 1 0 r1", "ok"),
     ("read 1 0 1 0 2", "bytes 0400"),
@@ -21,8 +21,8 @@ static READS_ALL: [(&str, &str); 6] = [
     ("abort 0 0", "ok"),
 ];
 
-// Node 0 commits 7, 8 and 9 on segment 2, and drops a fourth change. The records come to node 1 out of order, and the
-// token behind them.
+// Node 0 commits 7, 8 and 9 on segment 2, and drops a fourth change. The records come to node 1 out of order, and then
+// the token.
 static TWO_PEERS: [(&str, &str); 41] = [
     ("begin 0 0 2", "ok"),
     ("range 0 0 2 0 1", "ok"),

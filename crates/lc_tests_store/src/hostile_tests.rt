@@ -131,7 +131,7 @@ impl Seen {
     }
 }
 
-// The first byte of a segment, which is the same at both nodes, with zeros behind.
+// The first byte of a segment, which is the same at both nodes, with zeros after it.
 fn first_of<D: Stoppable + Drop>(
     rt: &impl Abort,
     row: &impl Display,
@@ -160,7 +160,7 @@ fn first_bytes<D: Stoppable + Drop>(
     Ok((first_of(rt, row, world, 1)?, first_of(rt, row, world, 2)?))
 }
 
-// Makes so many steps of a recovery, and tells whether the store is up behind them.
+// Makes so many steps of a recovery, and tells whether the store is up then.
 fn recovers<D: Stoppable + Drop>(
     alloc: Global,
     world: &mut World<D>,
@@ -177,7 +177,7 @@ fn recovers<D: Stoppable + Drop>(
 // More steps than any of these recoveries has.
 const MOST_STEPS: u64 = 100;
 
-// The first bytes of a store that stops behind these events, makes so many steps of its recovery, and stops again; and
+// The first bytes of a store that stops after these events, makes so many steps of its recovery, and stops again; and
 // whether those steps were all.
 fn stopped_twice(
     rt: &impl Abort,
@@ -203,7 +203,7 @@ fn stopped_twice(
     Ok((first_bytes(rt, &row, &world)?, is_up))
 }
 
-// A store that stops behind these events comes to the same, behind whichever step of its recovery it is stopped again, the
+// A store that stops after these events comes to the same where it is stopped again after any step of its recovery, the
 // last one too.
 fn comes_to_the_same(
     rt: &impl Abort,
@@ -234,7 +234,7 @@ fn comes_to_the_same(
     Err(Fail::from("a recovery ends"))
 }
 
-// A stop by this line behind each event.
+// A stop by this line after each event.
 fn stops_anywhere(rt: &impl Abort, alloc: Global, stop: &str) -> Result<(), Fail> {
     let stop = event_of(alloc, stop)?;
     let events = events_of(alloc, &EVENTS)?;
@@ -394,7 +394,7 @@ const OF_TWO_PAGES: [u32; 25] = [
     0, 1, 2, 3, 0, 1, 2, 3, 9, 2, 2, 2, 2, 2, 2, 3, 3, 3, 3, 3, 3, 0, 0, 1, 1,
 ];
 
-// What the next step of a recovery is answered behind so many, where the next is the last or its call fails.
+// What the next step of a recovery is answered after so many, where the next is the last or its call fails.
 fn is_right(reply: &Reply, done: usize, is_last: bool, fails: bool) -> bool {
     match reply {
         Reply::Refused(Refusal::DeviceFault) => fails,
@@ -405,7 +405,7 @@ fn is_right(reply: &Reply, done: usize, is_last: bool, fails: bool) -> bool {
 }
 
 // Makes up to 100 steps of a recovery that calls these areas, where so many calls of this one still go well. Tells
-// whether the store is up behind them.
+// whether the store is up then.
 fn recovers_by(
     rt: &impl Abort,
     alloc: Global,
@@ -437,7 +437,7 @@ fn recovers_by(
     Ok(false)
 }
 
-// This area fails behind so many calls, `before` of which are made before the store is stopped with four commits in its
+// This area fails after so many calls, `before` of which are made before the store is stopped with four commits in its
 // logs. Tells whether it comes up again.
 fn fails_from(
     rt: &impl Abort,
@@ -458,7 +458,7 @@ fn fails_from(
     recovers_by(rt, alloc, &mut world, &OF_TWO_PAGES, area, well)
 }
 
-// Of each area: how many calls are made before the stop, and how many there are with those of the recovery behind it.
+// Of each area: how many calls are made before the stop, and how many there are with those of the recovery after it.
 const CALLS: [(u32, u32, u32); 4] = [(0, 12, 16), (1, 12, 16), (2, 2, 10), (3, 2, 10)];
 
 #[test]

@@ -127,7 +127,8 @@ fn a_writer_that_fails(rt: HostRuntime) -> Result<(), Fail> {
     Ok(())
 }
 
-// Notes what it is told: the last number of steps, how often that was not the one behind the last, and how often it was over.
+// Notes what it is told: the last number of steps, how often that was not the one after the last, and how often it was
+// over.
 #[derive(Drop)]
 struct Noted {
     steps: Cell<u64>,

@@ -138,7 +138,7 @@ fn again<D: Area + Drop>(alloc: Global, areas: Vec<D>) -> Result<Recovered<D>, F
     }
 }
 
-// The page has "hello" for its front and zeros behind, under number 1, and the log has no record.
+// The page has "hello" for its front and zeros after it, under number 1, and the log has no record.
 fn comes_to_hello<D: Area + Drop>(
     rt: &impl Abort,
     row: &impl Display,
@@ -284,7 +284,7 @@ fn an_empty_log_is_emptied_by_two_calls(rt: HostRuntime) -> Result<(), Fail> {
     Ok(())
 }
 
-// Each choice at a stop behind so many steps, or behind the call of the log or of the segment that fails.
+// Each choice at a stop after so many steps, or after the call of the log or of the segment that fails.
 fn stops(rt: &impl Abort, alloc: Global, log: u32, segment: u32, steps: u64) -> Result<(), Fail> {
     for (place, choice) in CHOICES.iter().enumerate() {
         let row = format_args!("choice {place}, call {log} {segment}, {steps} steps");
@@ -462,7 +462,7 @@ static REFUSED: [(&[Stands], [SlotText; 2], RecoverFault); 9] = [
         [CLOSED; 2],
         RecoverFault::Twice { segment: 1, seq: 2 },
     ),
-    // A number is missing behind a record, or behind the page.
+    // A number is missing after a record, or after the page.
     (
         &[(0, 1, 1, 0), (0, 1, 3, 9)],
         [CLOSED; 2],
@@ -519,7 +519,7 @@ fn page_of(
 
 const GREATEST: u64 = 1 << 60;
 
-// Slots of a page, its record's number and offset, the first and last byte of the page and its number behind a recovery,
+// Slots of a page, its record's number and offset, the first and last byte of the page and its number after a recovery,
 // and whether it is written.
 const BECOMES: [([SlotText; 2], u64, u32, u8, u8, u64, bool); 5] = [
     // The range ends at 256.

@@ -186,7 +186,7 @@ fn the_last_record_comes_first(rt: HostRuntime) -> Result<(), Fail> {
     let backwards =
         "16 8 node 2 locks 1:3 ranges 1:3+5\n8 8 node 1 locks 1:2 ranges 1:3+5\n0 8 node 0 locks 1:1 ranges 1:3+5\n";
     check_inspection(&rt, &"backwards", &bytes, true, backwards)?;
-    // What stands behind the records is not shown: the third ends otherwise than it says.
+    // What stands after the records is not shown: the third ends otherwise than it says.
     bytes.truncate(184);
     bytes.resize(520, 0x5a)?;
     let backwards = "8 8 node 1 locks 1:2 ranges 1:3+5\n0 8 node 0 locks 1:1 ranges 1:3+5\n";

@@ -78,7 +78,7 @@ fn areas_that_do_not_fit_come_back(rt: HostRuntime) -> Result<(), Fail> {
     Ok(())
 }
 
-// Whether the only page has these bytes for its front, and zeros behind.
+// Whether the only page has these bytes for its front, and zeros after them.
 fn shows<D: Stoppable + Drop>(world: &World<D>, front: &[u8]) -> bool {
     match world.page(0, 1, 0) {
         Ok(page) => {
@@ -225,7 +225,7 @@ fn a_fault_in_mid_page_halts_the_node(rt: HostRuntime) -> Result<(), Fail> {
 // Two syncs, two reads, the merge, six calls of the page, and two of the log.
 const RECOVERY_STEPS: u64 = 13;
 
-// A store whose flushed commit is not on its page, and which is stopped behind so many steps of its recovery.
+// A store whose flushed commit is not on its page, and which is stopped after so many steps of its recovery.
 fn stopped_behind(
     rt: &impl Abort,
     alloc: Global,
@@ -253,7 +253,7 @@ fn stopped_behind(
     Ok(world)
 }
 
-// A recovery is stopped behind each of its steps. The next commit is under number 2, at the front of the log.
+// A recovery is stopped after each of its steps. The next commit is under number 2, at the front of the log.
 #[test]
 fn a_recovery_that_is_stopped_comes_to_the_same(rt: HostRuntime) -> Result<(), Fail> {
     let alloc = rt.alloc();

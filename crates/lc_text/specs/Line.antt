@@ -234,7 +234,7 @@ byte_choice (digit ∷ []) = None
 byte_choice (high ∷ low ∷ []) = option_map Byte (pair_of high low)
 byte_choice (high ∷ low ∷ digit ∷ digits) = None
 
--- what is found at each dirty position behind a stop: what was read, what was stable, or a byte
+-- what is found at each dirty position after a stop: what was read, what was stable, or a byte
 unfoldable pub choice_of : List ℕ → Option Choice
 choice_of word =
     if bytes_eq word (codes "keep") then Some Keep

@@ -12,7 +12,7 @@ use std::alloc::{AllocError, Global};
 use std::io::Write;
 
 /// Writes a line for each record of a log's bytes, with its place and its words, and nothing else: the first record
-/// first, or with `reverse` the last one first. It is safe on any bytes; what stands behind the last record is not
+/// first, or with `reverse` the last one first. It is safe on any bytes; what stands after the last record is not
 /// shown. Without a whole word it asks for no memory.
 pub fn inspect<W: Write>(
     alloc: Global,

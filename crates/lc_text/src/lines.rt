@@ -3,7 +3,7 @@ ghost use Rattle.std.specs.Prelude.{◌≡◌, ◌≢◌, ◌<◌, ◌≤◌, �
 ghost use Rattle.std.specs.Str.Lines.{strip_carriage_return};
 ghost use Rattle.lc_text.specs.Lines.{script_lines};
 
-/// The first line, without what ends it, and what stands behind it.
+/// The first line, without what ends it, and what stands after it.
 pub fn first_line(script: &[u8]) -> (&[u8], &[u8])
     requires { 0 < length script.now }
     ensures lines { script_lines script.now ≡ result.0.now ∷ script_lines result.1.now }

@@ -257,7 +257,7 @@ fn node_command(keyword: &[u8], fields: Fields) -> Option<Command>
     None
 }
 
-/// What is found behind a stop.
+/// What is found after a stop.
 #[tactic(auto, unfolding(crate::specs::Line::choice_of))]
 fn choice(word: &[u8]) -> Option<Choice>
     ensures { result ≡ choice_of word.now }

@@ -26,7 +26,7 @@ fn write_range<W: io::Write>(writer: &mut W, range: &RangeData) -> io::Result<()
     write!(writer, "{segment}:{offset}+{len}")
 }
 
-/// Writes locks behind others.
+/// Writes locks after others.
 fn write_more_locks<W: io::Write>(writer: &mut W, locks: &[Lock]) -> io::Result<()>
     ensures { OnOk result (Appends (W.contents writer.old) (W.contents writer.new) (flat_map (λ lock. codes "," ++ lock_text lock) locks.now)) }
 {
@@ -48,7 +48,7 @@ fn write_locks<W: io::Write>(writer: &mut W, locks: &[Lock]) -> io::Result<()>
     write_more_locks(writer, later)
 }
 
-/// Writes ranges behind others.
+/// Writes ranges after others.
 fn write_more_ranges<W: io::Write>(writer: &mut W, ranges: &[RangeData]) -> io::Result<()>
     ensures { OnOk result (Appends (W.contents writer.old) (W.contents writer.new) (flat_map (λ range. codes "," ++ range_text range) ranges.now)) }
 {

@@ -5,7 +5,7 @@ ghost use Rattle.lc_text.specs.Text.{line, closed_text, truncated_text, line_num
 
 use std::io;
 
-/// Writes words, each number behind a space, and the end of the line.
+/// Writes words, each number after a space, and the end of the line.
 #[tactic(auto, unfolding(crate::specs::Text::line))]
 pub fn write_line<W: io::Write>(writer: &mut W, words: &[u8], numbers: &[u64]) -> io::Result<()>
     ensures { OnOk result (Appends (W.contents writer.old) (W.contents writer.new) (line words.now numbers.now)) }

@@ -10,13 +10,13 @@ use Rattle.lc_core.specs.Numbers.{Numbers}
 use Rattle.lc_core.specs.Settled.{Settled}
 use Rattle.lc_core.specs.Turns.{Turns}
 
--- a step of the machine under this reply, which is settled, and the numbers behind it
+-- a step of the machine under this reply, which is settled, and the numbers after it
 pub record Answers (m : Setting) (s : State) (x : Numbers) (event : Event) (reply : Reply) (after : State) (next : Numbers) : Type 0 where
   pub step : Step m s event reply after
   pub settled : Settled m s x event reply
   pub turns : Turns m s x event reply next
 
--- behind the reply to a reservation: where it was made it is closed
+-- after the reply to a reservation: where it was made it is closed
 abbrev pub Ends : Setting → State → Numbers → ℕ → ℕ → Reply → State → Numbers → Type 0
 Ends m s x node thread (Reserved place words) after next = Answers m s x (Close node thread) Accepted after next
 Ends m s x node thread reply after next = (after ≡ s) × (next ≡ x)

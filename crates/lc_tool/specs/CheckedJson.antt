@@ -1,4 +1,5 @@
--- What a check prints as one JSON object: the size that files tell, what does not fit, and behind it what a recovery would say.
+-- What a check prints as one JSON object: the size that files tell, what does not fit, and then what a recovery would
+-- say.
 use Rattle.std.specs.Prelude.{◌≡◌, ◌⊎◌, ℕ, Bool, true, false, List, [], ◌∷◌, ◌++◌, codes, decimal, Result, Ok, Err}
 use Rattle.lc_record.specs.declared.geometry.Geometry.{Geometry}
 use Rattle.lc_recover.specs.declared.fault.RecoverFault.{RecoverFault}
@@ -14,7 +15,7 @@ use Rattle.lc_look.specs.Json.{EndsJson, TellsUnread}
 use Rattle.lc_tool.specs.Found.{IsAsFound, IsTaken, TellsChecked, unsized_status}
 use Rattle.lc_words.specs.declared.size.Size.{Size}
 
--- some texts, one behind another
+-- some texts, one after another
 abbrev pieces : List (List ℕ) → List ℕ
 pieces [] = []
 pieces (p ∷ []) = p
@@ -59,7 +60,7 @@ opening_fault (OtherSize area) = BadGeometry area
 abbrev pub TellsUnlooked : List ℕ → ℕ → Type 0
 TellsUnlooked text status = (fault : FolderFault) × (rest : List ℕ) × (text ≡ unlooked_json ++ rest) × TellsUnread (folder_fault fault) rest status
 
--- that, or the front, and behind it what is found of a store of the size that is taken, if one is
+-- that, or the front, and then what is found of a store of the size that is taken, if one is
 abbrev pub TellsJson : Size → List ℕ → ℕ → Type 0
 TellsJson size text status =
     TellsUnlooked text status

@@ -3,8 +3,8 @@ use Rattle.std.specs.Prelude.{ℕ, zero, suc, ◌==◌, List, [], ◌∷◌, ◌
 use Rattle.std.specs.Str.Lines.{strip_carriage_return}
 use Rattle.lc_text.specs.Lines.{last_line}
 
--- The lines of these bytes, of which so many may still come, the first of them with so many bytes more; behind the first bytes of that one.
--- Where a line or a byte more comes there is no line, and nothing behind it is read.
+-- The lines of these bytes, of which so many may still come, the first of them with so many bytes more. Its first bytes
+-- came before. Where a line or a byte more comes there is no line, and nothing after it is read.
 abbrev pub lines_from : ℕ → ℕ → List ℕ → List ℕ → List (Option (List ℕ))
 lines_from count room line [] = map Some (last_line line)
 lines_from zero room line (byte ∷ bytes) = None ∷ []

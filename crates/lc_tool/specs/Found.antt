@@ -49,8 +49,8 @@ abbrev pub found_text : Result Geometry Misfit → List ℕ
 found_text (Ok g) = size_text g
 found_text (Err misfit) = misfit_text misfit
 
--- what a check of files prints: their size, or what does not fit, and behind it the lines of a check of a store of the size that
--- is taken, if one is; or that they could not be looked at
+-- what a check of files prints: their size, or what does not fit, and then the lines of a check of a store of the size
+-- that is taken, if one is; or that they could not be looked at
 abbrev pub TellsChecked : Size → List ℕ → ℕ → Type 0
 TellsChecked size text status =
     Stops text status

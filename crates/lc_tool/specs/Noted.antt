@@ -18,6 +18,6 @@ noted_error noted = noted.error
 abbrev pub IsFault : Option Error → Type 0
 IsFault error = IsSomeAnd error (λ met. error_kind met ≢ Interrupted)
 
--- what is remembered behind a call, of what was before and what the call met: a fault stays, and all else gives way
+-- what is remembered after a call, of what was before and what the call met: a fault stays, and all else gives way
 abbrev pub Notes : Option Error → Option Error → Option Error → Type 0
 Notes old met new = (IsFault old → new ≡ old) × ((IsFault old → ⊥) → new ≡ met)

@@ -28,7 +28,7 @@ use Rattle.lc_tool.specs.declared.outcome.Outcome.TheVariants.{Goes, Ends}
 use Rattle.lc_tool.specs.declared.verdict.Verdict.{Verdict}
 use Rattle.lc_tool.specs.declared.verdict.Verdict.TheVariants.{Done, Refused, Faulted}
 
--- the script goes on behind the command, which was refused or not
+-- the script goes on after the command, which was refused or not
 abbrev pub GoesBehind : Verdict → Bool → Type 0
 GoesBehind Done was = was ≡ false
 GoesBehind Refused was = was ≡ true
@@ -46,7 +46,7 @@ Passes m s x line shown was after next =
     ((line_of line ≡ Skipped) × (shown ≡ []) × (was ≡ false) × (after ≡ s) × (next ≡ x))
     ⊎ ((verdict : Verdict) × IsDone m s x line shown verdict after next × GoesBehind verdict was)
 
--- what a line prints behind what stands in front of it; a line that is skipped prints nothing
+-- what a line prints after what stands in front of it; a line that is skipped prints nothing
 abbrev pub fronted : Front → ℕ → List ℕ → List ℕ
 fronted front number line = if is_skipped line then [] else front number
 
@@ -110,7 +110,7 @@ module _ {D : Type 0} (a : Ghosts D) where
       (m : Setting) (s : State) (x : Numbers) → FitsWorld a m old s x →
       Adds (λ text end. NoMemory text end ⊎ RunsRead m s x script text end) held holds status
 
-  -- the recovery that comes first: the store goes on behind it, or this is the status
+  -- the recovery that comes first: the store goes on after it, or this is the status
   abbrev pub OpensStore : World D a → Option (List ℕ) → Option (List ℕ) → Option ℕ → World D a → Type 0
   OpensStore old held holds None new = Leads a (FitsWorld a) IsRecovered old new × Keeps held holds
   OpensStore old held holds (Some status) new =

@@ -19,7 +19,7 @@ use Rattle.lc_text.specs.declared.command.Line.TheVariants.{Skipped, Command as 
 use Rattle.lc_tool.specs.declared.verdict.Verdict.{Verdict}
 use Rattle.lc_tool.specs.declared.verdict.Verdict.TheVariants.{Done, Refused, Faulted}
 
--- what the lines behind print: whether something was refused before, and the text and the status then
+-- what the later lines print: whether something was refused before, and the text and the status then
 abbrev pub Rest : Type 1
 Rest = Bool → List ℕ → ℕ → Type 0
 
@@ -27,7 +27,7 @@ Rest = Bool → List ℕ → ℕ → Type 0
 abbrev pub Going : Type 1
 Going = State → Numbers → Rest
 
--- behind the text of a command: where a device has failed nothing more is done
+-- after the text of a command: where a device has failed nothing more is done
 abbrev pub GoesOn : Rest → Bool → List ℕ → Verdict → List ℕ → ℕ → Type 0
 GoesOn next refused shown Done text status = (rest : List ℕ) × (text ≡ shown ++ rest) × next refused rest status
 GoesOn next refused shown Refused text status = (rest : List ℕ) × (text ≡ shown ++ rest) × next true rest status
@@ -44,7 +44,7 @@ front_of false number = []
 
 module _ (front : Front) where
   -- What the rest of a script prints and which status it ends with, by what a line says: `next` is the same of the
-  -- lines behind it.
+  -- later lines.
   abbrev pub Prints : Going → Setting → State → Numbers → ℕ → Bool → Line → List ℕ → ℕ → Type 0
   Prints next m s x number refused Skipped text status = next s x refused text status
   Prints next m s x number refused NotUnderstood text status = (text ≡ front number ++ not_understood_text number) × (status ≡ 2)
@@ -64,7 +64,7 @@ module _ (front : Front) where
   Runs m s x number refused (line ∷ lines) text status =
       RunsLine (λ after later was rest end. Runs m after later (number + 1) was lines rest end) m s x number refused line text status
 
-  -- by a line that was read, or by one that passes the limit of a script: `next` is the same of the lines behind it
+  -- by a line that was read, or by one that passes the limit of a script: `next` is the same of the later lines
   abbrev pub Comes : Going → Setting → State → Numbers → ℕ → Bool → Option (List ℕ) → List ℕ → ℕ → Type 0
   Comes next m s x number refused None text status = (text ≡ too_long_text) × (status ≡ 2)
   Comes next m s x number refused (Some line) text status = RunsLine next m s x number refused line text status
@@ -96,7 +96,7 @@ RunsRead m s x script text status = MatchBool script.manner.follow
     (Follows (front_of script.manner.number) m s x 1 false (lines_followed script.bytes) text status)
     (RunsWhole (front_of script.manner.number) m s x script.bytes text status)
 
--- behind the recovery that comes first, which says nothing where it is done: where it is refused nothing more is done
+-- after the recovery that comes first, which says nothing where it is done: where it is refused nothing more is done
 abbrev pub Opens : Setting → State → Numbers → Reply → Verdict → Given → List ℕ → ℕ → Type 0
 Opens m s x reply Done script text status = RunsRead m s x script text status
 Opens m s x reply Refused script text status = (text ≡ reply_text reply) × (status ≡ 1)

@@ -31,7 +31,7 @@ truncate_text round Reset = truncated_text round
 truncate_text round Nothing = truncated_text round
 truncate_text round reply = reply_text reply
 
--- what a command prints, what becomes of it, and the state and the numbers behind it
+-- what a command prints, what becomes of it, and the state and the numbers after it
 abbrev pub Does : Setting → State → Numbers → Command → List ℕ → Verdict → State → Numbers → Type 0
 Does m s x (Asks event) text verdict after next = (reply : Reply) × Answers m s x event reply after next × Says reply text verdict
 Does m s x (End node thread) text verdict after next =

@@ -25,9 +25,9 @@ AreEither m s x node records =
     ⊎ ((records ≡ drop (x.disks.dropped node) (take (s.flush node).taken (records_of m s x.disks node)))
     ⊎ ((0 < x.reset node) × (records ≡ [])))
 
--- The records that a node's log has. While the store is up they are those behind the dropped ones that are acknowledged,
--- from the third step of a flush on with its group, and from the second step of a reset on none; while it is down they are
--- what the stop and the recovery have left.
+-- The records that a node's log has. While the store is up they are the acknowledged ones after those that were
+-- dropped, from the third step of a flush on with its group, and from the second step of a reset on none. While it is
+-- down they are what the stop and the recovery have left.
 abbrev pub AreInLog : Phase → Setting → State → Numbers → ℕ → List Record → Type 0
 AreInLog Up m s x node records = MatchBool (s.halted node) (AreEither m s x node records) (records ≡ logged_records m s x node)
 AreInLog (DownAt cut) m s x node records = AllByRecursion IsWhole records

@@ -42,7 +42,7 @@ pub record KeepsTo (g : Geometry) (event : Event) (reply : Reply) : Type 0 where
   pub outside : is_known g event ≡ false → (reply ≡ Refused Unknown) ⊎ (reply ≡ Refused IsDown)
   pub inside : is_known g event ≡ true → is_delivery event ≡ false → reply ≢ Refused Unknown
 
--- an event of a store that stands so: the reply is one that it may give then, and behind it it stands so
+-- an event of a store that stands so: the reply is one that it may give then, and then the store stands so
 pub record TellsEvent (g : Geometry) (at : Option Life) (event : Event) (reply : Reply) (after : Option Life) : Type 0 where
   pub keeps : KeepsTo g event reply
   pub lives : AnswersOne g at event reply after
@@ -85,15 +85,15 @@ abbrev pub TellsAt : Geometry → Option Life → Command → List ℕ → Verdi
 TellsAt g None command text verdict after = TellsDown g command text verdict after
 TellsAt g (Some life) command text verdict after = TellsUp life command text verdict after
 
--- what a command prints over a store of this geometry that stands so, what becomes of it, and how the store stands behind it: the line
--- of a reply, words or records, or what it does while the store is up or down
+-- what a command prints over a store of this geometry that stands so, what becomes of it, and how the store stands
+-- then. It prints the line of a reply, words or records, or does what it does while the store is up or down
 abbrev pub TellsCommand : Geometry → Option Life → Command → List ℕ → Verdict → Option Life → Type 0
 TellsCommand g at (Asks event) text verdict after = (reply : Reply) × TellsEvent g at event reply after × Says reply text verdict
 TellsCommand g at (Log node) text verdict after = TellsLogged g node text verdict × (after ≡ at)
 TellsCommand g at (Inspect node) text verdict after = TellsInspected g node text verdict × (after ≡ at)
 TellsCommand g at command text verdict after = TellsAt g at command text verdict after
 
--- the line of this number: the script goes on behind it, or it ends with a status
+-- the line of this number: the script goes on after it, or it ends with a status
 abbrev pub TellsLine : Geometry → Option Life → List ℕ → ℕ → List ℕ → Outcome → Option Life → Type 0
 TellsLine g at line number shown (Goes was) after =
     ((line_of line ≡ Skipped) × (shown ≡ []) × (was ≡ false) × (after ≡ at))
@@ -103,18 +103,18 @@ TellsLine g at line number shown (Ends status) after =
     ⊎ (((line_of line ≡ NotUnderstood) × (shown ≡ not_understood_text number) × (status ≡ 2) × (after ≡ at))
     ⊎ ((command : Command) × (line_of line ≡ Commanded command) × TellsCommand g at command shown Faulted after × (status ≡ 3)))
 
--- the same behind what stands in front of a line
+-- the same after what stands in front of a line
 abbrev pub TellsFronted : Front → Geometry → Option Life → List ℕ → ℕ → List ℕ → Outcome → Option Life → Type 0
 TellsFronted front g at line number text outcome after =
     ((line_of line ≡ Skipped) × (text ≡ []) × (outcome ≡ Goes false) × (after ≡ at))
     ⊎ ((is_skipped line ≡ false) × ((shown : List ℕ) × (text ≡ front number ++ shown) × TellsLine g at line number shown outcome after))
 
--- what the lines behind print over a store that stands so
+-- what the later lines print over a store that stands so
 abbrev pub Living : Type 1
 Living = Option Life → Rest
 
 module _ (front : Front) where
-  -- by what the line of this number says: `next` is the same of the lines behind it
+  -- by what the line of this number says: `next` is the same of the later lines
   abbrev pub TellsFrom : Geometry → Living → Option Life → ℕ → Bool → Line → List ℕ → ℕ → Type 0
   TellsFrom g next at number refused Skipped text status = next at refused text status
   TellsFrom g next at number refused NotUnderstood text status = (text ≡ front number ++ not_understood_text number) × (status ≡ 2)
@@ -166,7 +166,7 @@ TellsRead g at script text status = MatchBool script.manner.follow
     (TellsFollowed (front_of script.manner.number) g at 1 false (lines_followed script.bytes) text status)
     (TellsWhole (front_of script.manner.number) g at script.bytes text status)
 
--- behind the recovery: there may be no memory for the script
+-- after the recovery: there may be no memory for the script
 abbrev pub TellsRecovered : Geometry → Option Life → Given → List ℕ → ℕ → Type 0
 TellsRecovered g at script text status = NoMemory text status ⊎ TellsRead g at script text status
 

@@ -46,7 +46,7 @@ module _ (m : Setting) where
   abbrev pub Round : ℕ → ℕ → Piece
   Round node segment = EachFrom m.geometry.pages 0 (CallsDue node segment)
 
-  -- thirteen rounds leave no page due: a write has six calls, and one that was under way may have another behind it
+  -- thirteen rounds leave no page due: a write has six calls, and one that was under way may have another after it
   abbrev pub WritesSegment : ℕ → ℕ → Piece
   WritesSegment node segment = EachFrom 13 0 (λ round. Round node segment)
 
@@ -74,7 +74,7 @@ module _ (m : Setting) where
   AsksFirst node s x reply after next =
       (HasBlocked node s x × (reply ≡ Refused Uncommitted) × (after ≡ s) × (next ≡ x)) ⊎ ((HasBlocked node s x → ⊥) × Cleans node s x reply after next)
 
-  -- the log is flushed before: this is the last reply, and these are the state and the numbers behind it
+  -- the log is flushed before: this is the last reply, and these are the state and the numbers after it
   abbrev pub Truncates : ℕ → State → Numbers → Reply → State → Numbers → Type 0
   Truncates node s x reply after next =
       (first : Reply) × (flushed : State) × (between : Numbers) × Repeats 3 (FlushStep node) s x first flushed between

@@ -35,10 +35,10 @@ where
     look_at(alloc, rt, folder, View::Check(*size), writer)
 }
 
-/// Prints a page of the store in a folder as it would be behind a recovery, and its two slots as they are, as `dump_areas`
-/// over the areas of its files, which tell its size. The folder's lock is taken beside others that take it so; no file is made,
-/// written or synced. Where the files do not fit together the status is 1. A store that cannot be looked at gives `device fault`
-/// and the status 3. What failed, and why, is said on standard error.
+/// Prints a page of the store in a folder as it would be after a recovery, and its two slots as they are, as
+/// `dump_areas` over the areas of its files, which tell its size. The folder's lock is taken beside others that take it
+/// so; no file is made, written or synced. Where the files do not fit together the status is 1. A store that cannot be
+/// looked at gives `device fault` and the status 3. What failed, and why, is said on standard error.
 pub fn dump_page<R: Files + Eprint, W: Write>(
     alloc: Global,
     rt: &R,

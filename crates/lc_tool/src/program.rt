@@ -77,7 +77,7 @@ where
     }
 }
 
-// The status to end with: the one that was answered; 1 behind the line that tells of want of memory, where it could be
+// The status to end with: the one that was answered; 1 after the line that tells of want of memory, where it could be
 // written; and else 3.
 fn status_of<W: Write>(answered: Result<u8, ToolFault>, output: &mut W) -> u8
     ensures answered { (status : ℕ) → answered ≡ Ok status → (result ≡ status) × Keeps (W.contents output.old) (W.contents output.new) }

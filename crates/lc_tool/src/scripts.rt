@@ -197,7 +197,7 @@ pub(crate) fn bad_geometry<W: Write>(writer: &mut W, area: u32) -> Result<u8, Wr
     )
 }
 
-// Writes the line of a reply, behind which nothing more is done, and gives the status.
+// Writes the line of a reply, after which nothing more is done, and gives the status.
 fn printed<W: Write>(writer: &mut W, reply: &Reply, status: u8) -> Result<u8, WriteFault>
     ensures shown { IfOk result (λ given. (given ≡ status) × Appends (W.contents writer.old) (W.contents writer.new) (reply_text reply.now)) }
 {

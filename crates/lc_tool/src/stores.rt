@@ -22,11 +22,12 @@ use std::cell::Cell;
 use std::io::{Read, Write};
 use std::rt::Files;
 
-/// Makes the files of a new store in a folder: `lcrvm.store`, which says the size, and then, as zeros, `log0` and so on for the nodes and
-/// `seg1` and so on for the segments. It prints nothing, and the status is 0. Where something stands under a name that some store gives
-/// in its folder (these up to `log7` and `seg16`, with `.new` behind them too, and `fault`), it makes none, prints `refused Exists`, and
-/// the status is 1. A folder that fails, or that another process has open, gives `device fault` and 3, and what was made is taken away
-/// again. It says on standard error why, and which files are left that could not be taken away. An `Err` is a fault of the writer.
+/// Makes the files of a new store in a folder: `lcrvm.store`, which says the size, and then, as zeros, `log0` and so on
+/// for the nodes and `seg1` and so on for the segments. It prints nothing, and the status is 0. Where something stands
+/// under a name that some store gives in its folder (these up to `log7` and `seg16`, with `.new` at their ends too, and
+/// `fault`), it makes none, prints `refused Exists`, and the status is 1. A folder that fails, or that another process
+/// has open, gives `device fault` and 3, and what was made is taken away again. It says on standard error why, and
+/// which files are left that could not be taken away. An `Err` is a fault of the writer.
 pub fn init_store<R: Files + Eprint, W: Write>(
     alloc: Global,
     rt: &R,

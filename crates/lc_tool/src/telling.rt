@@ -9,7 +9,7 @@ use std::alloc::Global;
 // A recovery that writes more pages than this shows how far it is.
 const MANY_PAGES: u64 = 1000;
 
-// The line is renewed behind so many pages.
+// The line is renewed after so many pages.
 const PAGES_BETWEEN: u64 = 64;
 
 // The steps in which a recovery writes a page.

@@ -43,11 +43,11 @@ option_rule name default parser = record (new_rule name) {
 abbrev pub store_rule : Rule
 store_rule = record (new_rule (codes "store")) { long = Some (codes "store"); value_names = 1 }
 
--- a word that has to be there, behind no name
+-- a word that has to be there, with no name before it
 abbrev pub word_rule : Text → Rule
 word_rule name = record (new_rule name) { value_names = 1; required = true }
 
--- a number of 32 bits that has to be there, behind no name
+-- a number of 32 bits that has to be there, with no name before it
 abbrev pub number_rule : Text → Rule
 number_rule name = record (new_rule name) { value_names = 1; required = true; parser = Some (from_to 0 4294967295) }
 

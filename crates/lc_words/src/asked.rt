@@ -17,30 +17,30 @@ pub enum Asked {
     },
     /// A new store of this size in this folder.
     Init {
-        /// The word behind `init`.
+        /// The word after `init`.
         folder: String,
         /// The numbers of the options, each in its range.
         geometry: Geometry,
     },
     /// The recovery of the store in this folder.
     Recover {
-        /// The word behind `recover`.
+        /// The word after `recover`.
         folder: String,
         /// The size that it is to have.
         size: Size,
     },
     /// What a recovery of the store in this folder would say.
     Check {
-        /// The word behind `check`.
+        /// The word after `check`.
         folder: String,
         /// The size that it is to have.
         size: Size,
         /// Whether `--json` is there: it is printed as one JSON object.
         json: bool,
     },
-    /// A page of the store in this folder, as it would be behind a recovery.
+    /// A page of the store in this folder, as it would be after a recovery.
     Dump {
-        /// The word behind `dump`.
+        /// The word after `dump`.
         folder: String,
         /// The segment, from 1.
         segment: u32,
@@ -49,12 +49,12 @@ pub enum Asked {
     },
     /// The picture of the store in this folder.
     Draw {
-        /// The word behind `draw`.
+        /// The word after `draw`.
         folder: String,
     },
     /// A copy of the store in this folder, of the size that is found or of another.
     Copy {
-        /// The word behind `copy`.
+        /// The word after `copy`.
         folder: String,
         /// The folder of the copy.
         to: String,
@@ -63,7 +63,7 @@ pub enum Asked {
     },
     /// The records of this log file, the last one first where `reverse` is set.
     Inspect {
-        /// The word behind `inspect`.
+        /// The word after `inspect`.
         file: String,
         /// Whether `--reverse` is there.
         reverse: bool,

@@ -7,7 +7,7 @@ use clap::builder::ValueParser;
 use clap::{Arg, ArgAction, Command, value_parser};
 use std::alloc::{AllocError, Global};
 
-// What stands behind the options in the help of each subcommand.
+// What stands after the options in the help of each subcommand.
 const RUN_HELP: &str = "Statuses:
   0  all lines were done
   1  a line or the recovery was refused, or there was no memory

@@ -10,7 +10,7 @@ pub enum RunStore {
     New(Geometry),
     /// The one in this folder.
     InFolder {
-        /// The word behind `--store`.
+        /// The word after `--store`.
         folder: String,
         /// The size that it is to have.
         size: Size,

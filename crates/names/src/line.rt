@@ -10,7 +10,7 @@ pub(crate) const LONGEST_LINE: usize = 255;
 pub(crate) struct Line {
     /// Counted from 1.
     pub(crate) number: u64,
-    /// Without the end; cut off behind the byte that is one too many.
+    /// Without the end; cut off after the byte that is one too many.
     pub(crate) bytes: Vec<u8>,
 }
 
@@ -27,7 +27,7 @@ impl<B: BufRead + Drop> Lines<B> {
         Lines { input, count: 0 }
     }
 
-    /// Waits for the next line, which need not end where it is the last; None behind that.
+    /// Waits for the next line, which need not end where it is the last; None after that.
     ///
     /// # Errors
     ///

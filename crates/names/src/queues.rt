@@ -12,7 +12,7 @@ const LONGEST_QUEUE: usize = 64;
 #[derive(Drop)]
 pub(crate) enum Message {
     Line(Line),
-    /// Nothing comes behind this.
+    /// Nothing comes after this.
     End,
 }
 

@@ -9,7 +9,7 @@ use std::sync::Wait;
 // The client that is told of a line that names none.
 const ANY_CLIENT: usize = 0;
 
-/// Puts each line of standard input into the queue of the client that it names, as it comes, and behind the last one
+/// Puts each line of standard input into the queue of the client that it names, as it comes, and after the last one
 /// ends all queues. It stops early where nobody takes from a queue.
 ///
 /// # Errors

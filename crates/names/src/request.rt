@@ -21,7 +21,7 @@ pub(crate) fn client_of(line: &[u8]) -> Option<usize> {
     (client < CLIENTS).then_some(client)
 }
 
-/// The request of a line, behind the number of its client.
+/// The request of a line, after the number of its client.
 pub(crate) fn request_of(line: &[u8]) -> Option<Request<'_>> {
     if client_of(line).is_none() || LONGEST_LINE < line.len() {
         return None;
