@@ -42,7 +42,7 @@ pub record KeepsTo (g : Geometry) (event : Event) (reply : Reply) : Type 0 where
   pub outside : is_known g event ≡ false → (reply ≡ Refused Unknown) ⊎ (reply ≡ Refused IsDown)
   pub inside : is_known g event ≡ true → is_delivery event ≡ false → reply ≢ Refused Unknown
 
--- an event of a store that stands so: the reply is one that it may give then, and then the store stands so
+-- an event of a store that stands so: the reply is one that it may give, and this is how the store stands afterwards
 pub record TellsEvent (g : Geometry) (at : Option Life) (event : Event) (reply : Reply) (after : Option Life) : Type 0 where
   pub keeps : KeepsTo g event reply
   pub lives : AnswersOne g at event reply after
@@ -86,7 +86,8 @@ TellsAt g None command text verdict after = TellsDown g command text verdict aft
 TellsAt g (Some life) command text verdict after = TellsUp life command text verdict after
 
 -- what a command prints over a store of this geometry that stands so, what becomes of it, and how the store stands
--- then. It prints the line of a reply, words or records, or does what it does while the store is up or down
+-- then. An event prints the line of its reply, two commands print words or records, and the others do what they do
+-- while the store is up or down
 abbrev pub TellsCommand : Geometry → Option Life → Command → List ℕ → Verdict → Option Life → Type 0
 TellsCommand g at (Asks event) text verdict after = (reply : Reply) × TellsEvent g at event reply after × Says reply text verdict
 TellsCommand g at (Log node) text verdict after = TellsLogged g node text verdict × (after ≡ at)
