@@ -19,7 +19,7 @@ pub runs_in-push : (entries : List Entry) (entry : Entry) → runs_in (entries +
 runs_in-push [] entry = omega arith
 runs_in-push (first ∷ entries) entry = omega (arith, runs_in-push entries entry)
 
--- the entries behind the first have the runs and bytes behind its own
+-- the entries after the first have the runs and bytes after its own
 pub used-behind : (first : Entry) (entries : List Entry) (runs : List Range) (bytes : List ℕ) → AreUsedUp (first ∷ entries) runs bytes
     → AreUsedUp entries (drop (runs_used first) runs) (drop (total_len (take (runs_used first) runs)) bytes)
 used-behind first entries runs bytes are =
@@ -31,7 +31,7 @@ used-behind first entries runs bytes are =
       bytes_are = omega (arith, whole, both, length-drop (total_len (take (runs_used first) runs)) bytes);
     }
 
--- one entry more, with these runs and bytes behind those of the entries
+-- one entry more, with these runs and bytes after those of the entries
 pub parts-push : (entries : List Entry) (entry : Entry) (runs more : List Range) (bytes own : List ℕ) → AreUsedUp entries runs bytes → runs_used entry ≤ length more
     → parts_of (entries ++ entry ∷ []) (runs ++ more) (bytes ++ own) ≡ parts_of entries runs bytes ++ part_in entry more own ∷ []
 parts-push [] entry [] more [] own are few = refl

@@ -32,7 +32,7 @@ length-bytes_of (run ∷ runs) image within =
 
 -- Ranges of bytes that lie one after another
 
--- more bytes behind them change nothing
+-- more bytes after them change nothing
 pub ranges-front : (runs : List Range) (bytes more : List ℕ) → total_len runs ≤ length bytes → ranges_of runs (bytes ++ more) ≡ ranges_of runs bytes
 ranges-front [] bytes more few = refl
 ranges-front (run ∷ runs) bytes more few =

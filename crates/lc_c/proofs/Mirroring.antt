@@ -10,7 +10,7 @@ use Rattle.lc_c.specs.Mirrors.{called}
 use Rattle.lc_c.specs.declared.area_call.AreaCall.{AreaCall}
 use Rattle.lc_c.specs.declared.area_call.AreaCall.TheVariants.{Sync, Write}
 
--- behind the bytes that there are all is as behind as many as were asked for
+-- after the bytes that there are all is as it is after as many as were asked for
 behind : (at len : ℕ) (before now : List ℕ) → length now ≡ length before → drop (at + length (take len (drop at now))) before ≡ drop (at + len) before
 behind at len before now same = elim (cases_lt (length now) (at + len)) [
   | inl short ↦ let rest = length-drop at now in let all = ap (λ (l : List ℕ). length l) (take_all len (drop at now) (omega (arith, rest, short))) in

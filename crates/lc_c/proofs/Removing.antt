@@ -13,7 +13,7 @@ drop_removed [] k within = absurd (omega (arith, within))
 drop_removed (x ∷ xs) zero within = refl
 drop_removed (x ∷ xs) (suc k) within = let on : suc k + 1 ≡ suc (k + 1) = omega arith in drop_removed xs k (omega (arith, within)) ∙ ap (λ n. drop n (x ∷ xs)) (sym on)
 
--- the item at a place, and what is behind it
+-- the item at a place, and what follows it
 pub next_at : {A : Type 0} (xs : List A) (k : ℕ) (x : A) → k < length xs → x ≡ slice_index_or xs k x → drop k xs ≡ x ∷ drop (k + 1) xs
 next_at xs k x within is = drop_more xs k x within ∙ ap (λ y. y ∷ drop (k + 1) xs) (sym is)
 

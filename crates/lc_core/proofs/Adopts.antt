@@ -1,4 +1,4 @@
--- What is built of a consistent cluster at rest fits the state behind it.
+-- What is built of a consistent cluster at rest fits the state that it stands for.
 use Rattle.std.proofs.Common.{◌≡◌, ℕ, zero, suc, ◌+◌, ◌-◌, ◌<◌, ◌≤◌, true, false, ◌==◌, List, [], ◌∷◌, map, filter, length, take, drop, replicate, All, Option, Some, None, refl, sym, ap, subst, ◌∙◌, inl, inr, arith, true≢false}
 use Rattle.std.specs.Prelude.{slice_get, IsSome, if◌then◌else◌}
 use Rattle.std.specs.List.{AllByRecursion}

@@ -1,4 +1,4 @@
--- Behind the merge of honest areas the store fits the machine's first state, with the content that they read as.
+-- After the merge of honest areas the store fits the machine's first state, with the content that they read as.
 use Rattle.std.proofs.Common.{◌≡◌, ℕ, ◌≤◌, List, map, Some, false, refl, sym, subst}
 use Rattle.std.specs.Prelude.{replicate, slice_get}
 use Rattle.lc_disk.specs.declared.area.Area.{Ghosts}

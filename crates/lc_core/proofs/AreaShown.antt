@@ -1,4 +1,4 @@
--- The area behind those of the logs is that of a segment.
+-- The area after those of the logs is that of a segment.
 use Rattle.std.proofs.Common.{◌≡◌, ℕ, ◌-◌, ◌≤◌, List, drop, slice_get, ap, ◌∙◌, arith}
 use Rattle.lc_record.proofs.ListLemmas.{slice_get-drop as get-drop}
 

@@ -114,7 +114,7 @@ module _ {D : Type 0} (a : Ghosts D) where
   grows w (Stop choices) m s x fits wants = absurd wants
   grows w RecoverStep m s x fits wants = absurd wants
 
-  -- what wants memory, behind the refusals that are common to all
+  -- what wants memory, after the refusals that are common to all
   pub asks_behind : (w : Running D a) (event own : Event) (refusal : Option Refusal) → Refuses a w event refusal → refusal ≡ None → event ≡ own → Wants a w own → AsksMemory a w event
   asks_behind w event own refusal refuses none is wants = (
     subst (λ (r : Option Refusal). Refuses a w event r) none refuses,

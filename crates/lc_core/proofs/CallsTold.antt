@@ -102,7 +102,7 @@ module _ {D : Type 0} (a : Ghosts D) where
   reset_rests (Torn log) sealed closing under full = absurd (true≢false (sym under))
   reset_rests Taken sealed closing under full = absurd (true≢false (sym under))
 
-  -- a reset behind its first step
+  -- a reset after its first step
   pub reset_called : (old new : Log D a) (taken : ℕ) → is_sealed a old ≡ true → is_emptied a old ≡ false → MovesReset a old new → tells_but 1 (reply_of a new taken) ≡ true
   reset_called (Sealed log) (Idle now) taken sealed full moves = absurd moves
   reset_called (Sealed log) (Written now) taken sealed full moves = absurd moves

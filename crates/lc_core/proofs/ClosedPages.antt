@@ -147,7 +147,7 @@ pub found_unclosed : (n i : ℕ) (history : History) → find (is_by n i) (unclo
 found_unclosed n i [] = refl
 found_unclosed n i (e ∷ es) = found_one n i e.transaction e.closed es (found_unclosed n i es)
 
--- The numbers behind a close
+-- The numbers after a close
 
 module _ (m : Setting) (n i : ℕ) (s : State) (x : Numbers) (t : Transaction) (sound : Sound m.geometry s) (found : find (is_by n i) (unclosed s.history) ≡ Some t) where
   abbrev after : State

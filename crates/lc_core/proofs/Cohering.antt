@@ -126,7 +126,7 @@ coherent_texts m s x texts h = record {
       record { begun = its.begun; opened = its.opened; within = its.within };
 }
 
--- Behind a recovery
+-- After a recovery
 
 pub coherent_fresh : (m : Setting) (earlier : List Transaction) (numbers : ℕ → ℕ) (pages : ℕ → ℕ → Page) (texts : ℕ → ℕ → PageText)
     → FitsDisks m (fresh m.geometry earlier Up) (recovered_disks numbers pages)

@@ -160,7 +160,7 @@ module _ (n i segment : ℕ) (t : Transaction) (set : sets segment t ≡ true) w
         | false ↦ λ all. all
       ] whole
 
-  -- none that is closed and stands behind it sets the segment
+  -- none that is closed and stands after it sets the segment
   pub none_behind : (es : History) → IsWellFormed t → All IsWellFormed (transactions es) → All (IsClosedBefore (entry t false)) es → setting segment (closed_of es) ≡ 0
   none_behind es well wells before =
       let Unset : Transaction → Type 0 = λ u. sets segment u ≡ false in
@@ -466,7 +466,7 @@ module _ (m : Setting) (n i : ℕ) (s : State) (x : Numbers) (t : Transaction) (
             slot_kept segment (beside new) unset (subst (λ z. FitsSlot m n segment (beside z) s x) (sym same) h)
       ] refl
 
-      -- the node's own slots behind the close of a record
+      -- the node's own slots after the close of a record
       pub slots_counted : (old new : Here) → ((segment : ℕ) → sets segment t ≡ true → IsHere the_images old segment) → CountsAll ranges old.slots.items new.slots.items
           → FitsSlots m n (besides_of old) s x → FitsSlots m n (besides_of new) after y
       slots_counted old new here each h = record {

@@ -54,7 +54,7 @@ module _ {D : Type 0} (a : Ghosts D) (left : D → List Choice → ℕ → ℕ) 
     | _ ↦ λ does g areas has. does.calls (λ choices is. absurd cc) g areas has
   ]
 
-  -- the areas behind these events, of a store that has some before
+  -- the areas after these events, of a store that has some before
   abbrev pub Chain : List Event → List Reply → Phase D a → Phase D a → Type 0
   Chain events replies old new = (g : Geometry) (olds : List D) → HasAreas a old g olds → (news : List D) × HasAreas a new g news × CallsEach a left g events replies olds news
 

@@ -1,4 +1,4 @@
--- What a step of a recovery, what comes up behind it, and a run count of failures.
+-- What a step of a recovery, what comes up after it, and a run count of failures.
 use Rattle.std.proofs.Common.{◌≡◌, ◌⊎◌, ℕ, zero, suc, ◌+◌, ◌≤◌, true, false, List, [], ◌∷◌, ◌++◌, length, take, drop, Option, Some, slice_get, slice_set, refl, sym, ap, subst, ◌∙◌, inl, inr, arith, true≢false}
 use Rattle.std.specs.Prelude.{Result, Ok, Err, IfOk, IfErr, option_map, is_ok}
 use Rattle.std.proofs.lemmas.Bool.{cases_eq}
@@ -124,7 +124,7 @@ module _ {D : Type 0} (a : Ghosts D) where
       ap (λ (o : Option ℕ). o ∷ log_failures a (logs_of a nodes)) (ap (option_map a.failures) (each zero node refl))
       ∙ ap (λ (os : List (Option ℕ)). failures_at area ∷ os) (fronts nodes areas (λ n other got. each (suc n) other got) (omega (arith, few)))
 
-  -- those of the logs and those of the segments behind them are those of all areas
+  -- those of the logs and those of the segments after them are those of all areas
   pub beside_segments : (nodes : List (Node D a)) (segments : List (Pages D a)) (areas : List D) (n : ℕ)
       → ((k : ℕ) (node : Node D a) → slice_get nodes k ≡ Some node → area_of a node.journal.log ≡ slice_get areas k) → areas_of a segments ≡ drop n areas → length nodes ≡ n → n ≤ length areas
       → log_failures a (logs_of a nodes) ++ area_failures a (areas_of a segments) ≡ area_failures a areas

@@ -12,7 +12,7 @@ use Rattle.lc_core.specs.Here.{the_images}
 use Rattle.lc_core.specs.declared.here.Here.{Here}
 use Rattle.lc_core.proofs.Readied.{known_here}
 
--- what stands behind is greater
+-- what follows is greater
 greater : (x : ℕ) (xs : List ℕ) (n : ℕ) → Chain (λ a b. a < b) (x ∷ xs) → is_member n xs ≡ true → x < n
 greater x [] n chain member = absurd (true≢false (sym member))
 greater x (y ∷ ys) n chain member = elim (cases_eq y n) [

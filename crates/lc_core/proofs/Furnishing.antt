@@ -37,7 +37,7 @@ take_put (suc place) items [] n same within = absurd (omega (arith, same, within
 take_put (suc place) items (o ∷ os) zero same within = absurd (omega (arith, same))
 take_put (suc place) items (o ∷ os) (suc n) same within = ap (λ (l : List ℕ). o ∷ l) (take_put place items os n (omega (arith, same)) (omega (arith, within)))
 
--- one more page is put behind those that are
+-- one more page is put after those that are
 pub page_put : (f : ℕ → List ℕ) (page : ℕ) (items old : List ℕ) → length items ≡ 256 → items ≡ f page → page * 256 + 256 ≤ length old
     → take (page * 256) old ≡ flat_map f (counting 0 page) → take ((page + 1) * 256) (put (page * 256) items old) ≡ flat_map f (counting 0 (page + 1))
 page_put f page items old len is within before =
@@ -82,7 +82,7 @@ module _ {A : Type 0} where
   pub each_same : (P : ℕ → A → Type 0) (xs ys : List A) → ys ≡ xs → ((k : ℕ) (x : A) → slice_get xs k ≡ Some x → P k x) → (k : ℕ) (x : A) → slice_get ys k ≡ Some x → P k x
   each_same P xs ys same h k x got = h k x (ap (λ (l : List A). slice_get l k) (sym same) ∙ got)
 
--- the first of what is left goes behind what is done
+-- the first of what is left goes after what is done
 pub goes_over : {A B : Type 0} (f : A → B) (done later : List A) (left rest all : List B) (item : A) (first : B) → later ≡ done ++ item ∷ [] → rest ≡ drop 1 left → map f done ++ left ≡ all
     → 0 < length left → first ≡ slice_index_or left 0 first → f item ≡ first → map f later ++ rest ≡ all
 goes_over f done later [] rest all item first more less is some value same = absurd (omega (arith, some))

@@ -132,7 +132,7 @@ log_received a m n to s x segment number HeldBack log kept dropped trimmed taken
     log_gained m s x x.applied (held_back x to segment (Some number)).waiting a n log kept dropped trimmed taken acked
 log_received a m n to s x segment number Ignored log kept dropped trimmed taken acked = log_gained m s x x.applied x.waiting a n log kept dropped trimmed taken acked
 
--- They are those behind a delivery
+-- They are those after a delivery
 
 pub deliver_turns : (m : Setting) (s : State) (x : Numbers) (sender number segment to own : ℕ) (answer : Received) → number_of segment (slice_get (records_of m s x.disks sender) (number - 1)) ≡ Some own
     → numbers_after m s x (Deliver sender number segment to) (reply_of answer) ≡ received_numbers x to segment own answer

@@ -1,4 +1,4 @@
--- Lists that are put behind others.
+-- Lists that are put after others.
 use Rattle.std.proofs.Common.{◌≡◌, ℕ, zero, suc, ◌+◌, List, [], ◌∷◌, ◌++◌, length, take, Some, ap, ◌∙◌, arith}
 use Rattle.std.specs.Prelude.{slice_get}
 use Rattle.lc_core.specs.Places.{same_some}

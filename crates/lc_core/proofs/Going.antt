@@ -29,7 +29,7 @@ use Rattle.lc_core.proofs.OtherLogs.{logs_open, logs_logged}
 use Rattle.lc_core.proofs.Others.{beside_open, beside_logged}
 use Rattle.lc_core.proofs.Slotted.{aside_open, aside_logged, slots_same}
 
--- what is open behind the common refusals is settled
+-- what is open after the common refusals is settled
 pub settled_by : (m : Setting) (s : State) (x : Numbers) (event : Event) (reply : Reply) → (event ≡ RecoverStep → ⊥)
     → ForSome (open_answer m s x event) (λ answer. reply ≡ answer) → Settled m s x event reply
 settled_by m s x event reply other settled = (

@@ -1,4 +1,4 @@
--- The headline follows from what a store fits behind a run.
+-- The headline follows from what a store fits after a run.
 use Rattle.std.proofs.Common.{◌≡◌, ℕ, zero, suc, ◌+◌, ◌*◌, ◌<◌, ◌%◌, Bool, true, false, List, [], ◌∷◌, ◌++◌, length, filter, map, sum_by, Option, None, Some, refl, sym, ap, subst, ◌∙◌, inl, inr, arith}
 use Rattle.std.specs.Prelude.{◌-◌, if◌then◌else◌, slice_get, slice_set}
 use Rattle.std.proofs.Math.Seq.{take-nil}

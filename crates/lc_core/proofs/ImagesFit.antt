@@ -1,4 +1,5 @@
--- What a stop may leave of the areas of a store that is up merges to what a cut keeps, and so do the areas behind the stop.
+-- What a stop may leave of the areas of a store that is up merges to what a cut keeps, and so do the areas after the
+-- stop.
 use Rattle.std.proofs.Common.{true, ◌≡◌, ℕ, zero, suc, ◌+◌, ◌<◌, List, [], ◌∷◌, ◌++◌, length, map, take, None, Some, get_or, refl, sym, ap, subst, ◌∙◌, arith}
 use Rattle.std.specs.Prelude.{slice_get, slice_index, slice_index_or}
 use Rattle.std.proofs.lemmas.List.{ext_get_or, length-map, length-take-le}
@@ -129,7 +130,7 @@ module _ {D : Type 0} (a : Ghosts D) where
       image_clean (a.now device.0) (a.dirty device.0) (clean k device.0 device.1) (get_or images k []) (are.each k device.0 device.1)
       ∙ sym (get_or_from_slice_get (map a.now areas) k (a.now device.0) [] (get-map a.now areas k device.0 device.1)))
 
-  -- The areas behind a stop
+  -- The areas after a stop
 
   -- an area, and what a stop has made of it
   record OneStopped (olds : List D) (k : ℕ) (new : D) : Type 0 where

@@ -50,7 +50,7 @@ with_one_more found place r words old now new spelled is next =
     one_behind (map (λ x. x.1) found) r words old now new spelled is next
     ∙ ap (λ (rs : List Record). kept_behind rs old) (sym (map-append (λ (x : ℕ × Record). x.1) found ((place, r) ∷ [])))
 
--- how many were reserved then, behind so many that were dropped
+-- how many were reserved then, after so many that were dropped
 pub count_behind : (dropped : ℕ) (front : List Record) → count_of (kept_behind front (record { before = dropped; records = [] })) ≡ dropped + length front
 count_behind dropped front = ap (λ (n : ℕ). dropped + n) (length-map front closed_record)
 

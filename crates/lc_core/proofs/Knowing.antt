@@ -1,4 +1,4 @@
--- What a node has seen behind a recovery.
+-- What a node has seen after a recovery.
 use Rattle.std.proofs.Common.{◌≡◌, ℕ, ◌+◌, Bool, true, false, List, Option, Some, None, refl, sym, ap, subst, ◌∙◌, arith}
 use Rattle.std.specs.Prelude.{◌%◌, ◌==◌, max, slice_get, MatchOption, option_and_then, if◌then◌else◌}
 use Rattle.lc_token.specs.declared.token.Token.{Token}

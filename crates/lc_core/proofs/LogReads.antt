@@ -86,7 +86,7 @@ pub handed_failed : {A B : Type 0} (result : Result A ShowFault) (inner : Result
     → has_failed inner ≡ has_failed result
 handed_failed {A} {B} result inner one fault is same was = ap has_failed was ∙ fails_alike A B fault ∙ ap has_failed (sym (is ∙ ap (λ (f : ShowFault). Err f) same))
 
--- what is left of the words of an area, cut behind its records
+-- what is left of the words of an area, cut after its records
 pub front_shown : (now bytes words slice shown : List ℕ) (found : List Record) (len : ℕ) → bytes ≡ now → words ≡ words_of bytes → slice ≡ words → IsLogText slice found → len ≡ length (joined found)
     → shown ≡ take len words → (records : List Record) → IsLogText (words_of now) records → shown ≡ joined records
 front_shown now bytes words slice shown found len bytes_are words_are slice_is text len_is shown_is records other =

@@ -83,7 +83,7 @@ span_all : (k : Kept) (from : ℕ) → k.before ≤ from → span_of k from (cou
 span_all k from kept =
     ap all_words (take_all (count_of k - from) (drop (from - k.before) k.records) (omega (arith, kept, length-drop (from - k.before) k.records)))
 
--- a mark that is not set stands behind those that lead
+-- a mark that is not set stands after those that lead
 open_behind : (ms : List Bool) (n : ℕ) → slice_get ms n ≡ Some false → leading ms ≤ n
 open_behind [] n is = omega arith
 open_behind (false ∷ ms) n is = omega arith
@@ -276,7 +276,7 @@ module _ {D : Type 0} (a : Ghosts D) (m : Setting) (node : ℕ) (s : State) (x :
         reset_is = h.reset_is;
       }
 
-  -- what is not closed stands behind all that is dropped
+  -- what is not closed stands after all that is dropped
   pub fits_closed : (thread number : ℕ) (t : Transaction) → Sound m.geometry s → find (is_by node thread) (unclosed s.history) ≡ Some t
       → slice_get (entries_of node s.history) number ≡ Some (entry t false)
       → FitsLog a m node log (closed_at number k) dropped trimmed taken acked (record s { history = closed_by node thread s.history }) x

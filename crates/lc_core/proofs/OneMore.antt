@@ -1,4 +1,4 @@
--- A run of several events: with a step behind it, and as a run of the plain machine.
+-- A run of several events: with a step after it, and as a run of the plain machine.
 use Rattle.std.proofs.Common.{◌≡◌, ℕ, ◌+◌, ◌<◌, true, List, [], ◌∷◌, ◌++◌, length, get_or, take, Some, refl, sym, ◌∙◌, ap, subst, inr}
 use Rattle.std.specs.Prelude.{slice_get}
 use Rattle.std.proofs.lemmas.List.{take_more}
@@ -51,7 +51,7 @@ module _ {D : Type 0} (a : Ghosts D) where
   pub run_start : (w : World D a) → FollowsRun a w [] [] w
   run_start w m s x h = (s, x, (refl, refl), h)
 
-  -- behind the first `count` events, the next one
+  -- after the first `count` events, the next one
   pub run_more : (old mid new : World D a) (events : List Event) (count : ℕ) (event : Event) (replies : List Reply) (reply : Reply) → count < length events → event ≡ get_or events count event → FollowsRun a old (take count events) replies mid → FollowsWorld a mid event reply new → FollowsRun a old (take (count + 1) events) (replies ++ reply ∷ []) new
   run_more old mid new events count event replies reply below is run step =
       subst (λ (es : List Event). FollowsRun a old es (replies ++ reply ∷ []) new)
@@ -82,7 +82,7 @@ module _ {D : Type 0} (a : Ghosts D) where
   ]
   grows Taken event = λ asks. absurd asks
 
-  -- where the next event asks for memory, and what stands behind it still fits
+  -- where the next event asks for memory, and what stands after it still fits
   pub gives_up : (old mid new : World D a) (events : List Event) (replies : List Reply) (event : Event) → length replies < length events → event ≡ get_or events (length replies) event
       → FollowsRun a old (take (length replies) events) replies mid → AsksIn a mid.phase event → AsksWorld a mid event → StillFitsWorld a mid new → GivesUp a old events replies new
   gives_up old mid new events replies event below is run at_all asks still =

@@ -1,4 +1,4 @@
--- The areas of the logs, as the nodes get them one after another, and the nodes behind that.
+-- The areas of the logs, as the nodes get them one after another, and the nodes after that.
 use Rattle.std.proofs.Common.{◌≡◌, ◌≢◌, ℕ, ◌+◌, ◌*◌, ◌%◌, ◌<◌, true, false, List, [], drop, length, Option, Some, None, refl, sym, ap, subst, ◌∙◌, arith}
 use Rattle.std.specs.Prelude.{slice_get, slice_index, slice_index_or, option_map, replicate}
 use Rattle.std.proofs.lemmas.List.{length-drop, length-replicate}
@@ -40,7 +40,7 @@ module _ {D : Type 0} (a : Ghosts D) where
       (ap (option_map (λ (d : D). length (a.now d))) (sym got) ∙ sym (slice_get-map (λ (d : D). length (a.now d)) areas (g.nodes + k)) ∙ lengths (g.nodes + k)
       ∙ len-segment g (g.nodes + k) (omega arith) within)
 
-  -- behind the logs there are as many areas as there are segments
+  -- after the logs there are as many areas as there are segments
   pub segments_left : (g : Geometry) (areas left : List D) → HaveLengths a g areas → left ≡ drop g.nodes areas → length left ≡ g.segments
   segments_left g areas left lengths is =
       let counted : length areas ≡ area_count g = count-areas a g areas lengths in

@@ -66,7 +66,7 @@ module _ (m : Setting) (s : State) (x : Numbers) (n segment page : ℕ) where
       pub first_call : nat_le (token_number s x segment) (stable x segment page) ≡ false → page_call s x n segment page 0 ≡ Stepped 1
       first_call newer = rw (free, flushed, newer) refl
 
-  -- the calls behind it
+  -- the calls after it
   pub later_call : (calls : ℕ) → 1 ≤ calls → calls < 5 → page_call s x n segment page calls ≡ Stepped (calls + 1)
   later_call zero some few = absurd (omega (arith, some))
   later_call (suc k) some few =

@@ -162,7 +162,7 @@ module _ (m : Setting) (s : State) (x : Numbers) (node segment page : ℕ) (firs
     newest : text.sequence ≤ seq
     newest = (h.writes segment page).within text begun
 
-    -- the entries behind it
+    -- the entries after it
     abbrev before : List Entry
     before = entries_of m.geometry x segment
 

@@ -111,7 +111,7 @@ module _ (m : Setting) (s : State) (segment page : ℕ) where
     opened = λ late. absurd (omega (arith, late));
   }
 
-  -- behind the first call the disks are those of the fifth, or as they were
+  -- after the first call the disks are those of the fifth, or as they were
   module _ (x : Numbers) (calls : ℕ) (new : Page) (h : HasBegun segment page calls new x) (some : 1 ≤ calls) where
     disks_later : (called m s x segment page (calls + 1)).disks ≡ (if calls + 1 == 5 then opened_with x.disks segment page (x.disks.begun segment page) else x.disks)
     disks_later =

@@ -54,7 +54,7 @@ laid_segment segment (r ∷ rs) content = elim (cases_eq r.segment segment) [
 
 -- The record in a place
 
--- the transaction that it is of, with those before and those behind
+-- the transaction that it is of, with those before and those after it
 record IsOf (numbers : ℕ → ℕ) (content : Content) (ts : List Transaction) (r : Record) : Type 0 where
   before : List Transaction
   own : Transaction

@@ -441,7 +441,7 @@ module _ {D : Type 0} (a : Ghosts D) where
     abbrev new_numbers : Numbers
     new_numbers = recovered_numbers m.geometry numbers (page_read_of risen.store) (text_read_of risen.store)
 
-    -- the areas of the segments stand behind those of the logs
+    -- the areas of the segments stand after those of the logs
     area_at : (k : ℕ) (area : D) → slice_get (areas_of a up.segments.items) k ≡ Some area → slice_get risen.store.areas (risen.store.geometry.nodes + k) ≡ Some area
     area_at k area got =
         ap (λ (areas : List D). slice_get areas (risen.store.geometry.nodes + k)) risen.areas

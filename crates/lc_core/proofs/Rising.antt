@@ -1,4 +1,4 @@
--- What comes up behind a recovery fits the machine's fresh state.
+-- What comes up after a recovery fits the machine's fresh state.
 use Rattle.std.proofs.Common.{◌≡◌, ℕ, zero, suc, ◌+◌, ◌-◌, ◌*◌, ◌%◌, ◌<◌, ◌≤◌, Bool, true, false, ◌==◌, List, [], ◌++◌, map, length, take, drop, replicate, All, Option, Some, None, refl, sym, ap, subst, ◌∙◌, inl, inr, arith, eqb-true, true≢false}
 use Rattle.std.specs.Prelude.{◌^◌, slice_get, IsSome, if◌then◌else◌}
 use Rattle.std.specs.List.{flat_map}
@@ -69,7 +69,7 @@ get-replicate (suc n) (suc k) x y is = get-replicate n k x y is
 length-times : (content : Content) (pages : List (List Page)) → map length content ≡ map (λ (ps : List Page). length ps * 256) pages → length content ≡ length pages
 length-times content pages same = sym (length-map content length) ∙ ap length same ∙ length-map pages (λ (ps : List Page). length ps * 256)
 
--- the parts of 256, one after another, are what is behind the first of them
+-- the parts of 256, one after another, are what follows the first of them
 parts_are : (xs : List ℕ) (part : ℕ → List ℕ) (from n : ℕ) → length xs ≡ (from + n) * 256 → ((page : ℕ) → page < from + n → part page ≡ take 256 (drop (page * 256) xs))
     → flat_map part (counting from n) ≡ drop (from * 256) xs
 parts_are xs part from zero long each = sym (drop_of_length-le xs {i = from * 256} (omega (arith, long)))

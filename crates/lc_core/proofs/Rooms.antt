@@ -36,7 +36,7 @@ module _ {D : Type 0} (a : Ghosts D) where
   size_kept (Torn log) new h up = absurd (subst (λ (l : Log D a). is_failed a l ≡ false → ⊥) (sym h) (λ e. absurd cc) up)
   size_kept Taken new h up = absurd (subst (λ (l : Log D a). is_failed a l ≡ false → ⊥) (sym h) (λ e. absurd cc) up)
 
-  -- what fits behind the records, fits where the next step takes it
+  -- what fits after the records, fits where the next step takes it
   pub room_for : (log : Log D a) (end words all : ℕ) (waiting : ℕ) → end + words ≤ all
       → (is_failed a log ≡ false → 8 * all + 8 ≤ size a log)
       → (is_failed a log ≡ false → end_of a log ≡ end)

@@ -101,7 +101,7 @@ module _ {D : Type 0} (a : Ghosts D) where
   comes (Torn log) steps h up = absurd cc
   comes Taken steps h up = absurd h
 
-  -- a reset goes on behind a call that has not failed
+  -- a reset goes on after a call that has not failed
   pub reset_still : (old new : Log D a) → is_sealed a old ≡ true → end_of a old ≡ 0 → MovesReset a old new → is_failed a new ≡ false → (is_sealed a new ≡ true) × (end_of a new ≡ 0)
   reset_still (Idle log) new is end h up = absurd cc
   reset_still (Written log) new is end h up = absurd cc

@@ -173,7 +173,7 @@ closing_marks place [] = refl
 closing_marks zero (r ∷ rs) = refl
 closing_marks (suc place) (r ∷ rs) = ap (λ (bs : List Bool). r.closed ∷ bs) (closing_marks place rs)
 
--- behind the last record nothing is closed
+-- after the last record nothing is closed
 closing_beyond : (place : ℕ) (rs : List Spelled) → length rs ≤ place → closing place rs ≡ rs
 closing_beyond place [] past = refl
 closing_beyond zero (r ∷ rs) past = absurd (omega (arith, past))
@@ -273,7 +273,7 @@ drop_closing (suc gone) (suc place) (r ∷ rs) few =
     let same : place - gone ≡ suc place - suc gone = omega arith in
     drop_closing gone place rs (omega (arith, few)) ∙ ap (λ (n : ℕ). closing n (drop gone rs)) same
 
--- the fields, and those behind each change
+-- the fields, and those after each change
 
 module _ (first : ℕ) (words : List ℕ) (places : List Place) (gone front : ℕ) (k : Kept) (h : Holds first words places gone front k) where
   pub few_gone : gone ≤ length h.whole
@@ -292,7 +292,7 @@ module _ (first : ℕ) (words : List ℕ) (places : List Place) (gone front : �
       ap leading (drop_marks gone h.whole) ∙ ap (λ (rs : List Spelled). leading (marks_of rs)) h.rest_is in
       omega (arith, h.front_is, leading_drop gone (marks_of h.whole) less, left)
 
-  -- what stands behind a place of a record that is kept
+  -- what stands after a place of a record that is kept
   pub behind_so : (place kept : ℕ) → place ≡ gone + kept → drop place h.whole ≡ drop kept k.records
   behind_so place kept is =
       ap (λ (n : ℕ). drop n h.whole) is ∙ sym (drop-drop kept gone h.whole) ∙ ap (drop kept) h.rest_is

@@ -67,7 +67,7 @@ stable_within segment (log ∷ logs) counts = (let one = fewer_taken segment (sl
 
 -- In the order of their merge
 
--- how many stable ones of a node are among these, behind so many before
+-- how many stable ones of a node are among these, after so many before
 abbrev of_node : ℕ → (ℕ → ℕ) → List Record → List Record → ℕ → ℕ
 of_node segment stable before rs n = count_log segment (take (stable n - count_from n before) (filter (is_from n) rs))
 

@@ -58,7 +58,7 @@ module _ {D : Type 0} (a : Ghosts D) where
     segments_count : length (areas_of a up.segments.items) ≡ up.running.geometry.segments
     segments_count = length-map up.segments.items (λ (p : Pages D a). p.area) ∙ sym up.segments.ok.0 ∙ up.all_segments
 
-    -- those of the logs, and those of the segments behind them
+    -- those of the logs, and those of the segments after them
     pub are_of : (logs all : List D) → ((n : ℕ) (node : Node D a) → slice_get up.running.nodes.items n ≡ Some node → area_of a node.journal.log ≡ slice_get logs n)
         → length logs ≡ up.running.nodes.len → all ≡ logs ++ areas_of a up.segments.items → AreOf a up all
     are_of logs all each count is =
@@ -71,7 +71,7 @@ module _ {D : Type 0} (a : Ghosts D) where
         }
 
     module _ (areas : List D) (are : AreOf a up areas) where
-      -- the area at a place behind the logs
+      -- the area at a place after the logs
       pub segment_at : (k : ℕ) (pages : Pages D a) → slice_get up.segments.items k ≡ Some pages → slice_get areas (up.running.geometry.nodes + k) ≡ Some pages.area
       segment_at k pages at = sym (get-drop up.running.geometry.nodes k areas) ∙ ap (λ (l : List D). slice_get l k) (sym are.segments) ∙ get-map (λ (p : Pages D a). p.area) up.segments.items k pages at
 
@@ -81,7 +81,7 @@ module _ {D : Type 0} (a : Ghosts D) where
           let node = get-some up.running.nodes.items k (omega (arith, within, nodes_count)) in
           (node.0, node.1, are.logs k node.0 node.1)
 
-      -- the pages at a place behind the logs
+      -- the pages at a place after the logs
       pages_at : (k : ℕ) → up.running.geometry.nodes ≤ k → k < area_count up.running.geometry
           → (place : ℕ) × (pages : Pages D a) × (k ≡ up.running.geometry.nodes + place) × (slice_get up.segments.items place ≡ Some pages)
       pages_at k past within =

@@ -20,7 +20,7 @@ use Rattle.lc_core.specs.declared.world.World.{World}
 all_left : (n : ℕ) → n - 0 ≡ n
 all_left n = omega arith
 
--- What a reply says of what comes behind it
+-- What a reply says of what comes after it
 
 pub not_stepped : (reply : Reply) → ((calls : ℕ) → reply ≡ Stepped calls → ⊥) → ending reply ≡ Some reply
 not_stepped (Stepped calls) not = absurd (not calls refl)
@@ -105,7 +105,7 @@ module _ {D : Type 0} (a : Ghosts D) where
 -- Pieces of work
 
 module _ {D : Type 0} (a : Ghosts D) (Does : ℕ → World D a → Option Refusal → World D a → Type 0) where
-  -- behind all of it
+  -- after all of it
   pub none_left : (n k : ℕ) (w : World D a) → n ≤ k → EachFrom a (n - k) k Does w None w
   none_left n k w past = subst (λ left. EachFrom a left k Does w None w) (none_more n k past) (refl, refl)
 

@@ -51,7 +51,7 @@ unlocked_number r segment free = go (number_in segment r.locks) refl
 locked_number : (numbers : ℕ → ℕ) (r : Record) (segment : ℕ) → IsNext numbers r → has_lock segment r ≡ true → number_or_zero segment r.locks ≡ numbers segment + 1
 locked_number numbers r segment next held = (let its = lock-number segment r.locks held in ap (λ (n : Option ℕ). unwrap_or n 0) its.1 ∙ next-number numbers segment r.locks its.0 next its.1)
 
--- the number of the segment behind it
+-- the number of the segment after it
 number_behind : (g : Geometry) (r : Record) (numbers : ℕ → ℕ) (segment : ℕ) (b : Bool) → IsTaken g r → has_lock segment r ≡ b → counted numbers (transaction_of g r) segment ≡ (if b then numbers segment + 1 else numbers segment)
 number_behind g r numbers segment b taken is = ap (λ (held : Bool). if held then numbers segment + 1 else numbers segment) (sets-lock g r segment taken ∙ is)
 
@@ -62,7 +62,7 @@ module _ (g : Geometry) (segment number : ℕ) (r : Record) (rs : List Record) (
   abbrev others : List Record
   others = filter (has_lock segment) rs
 
-  -- what is said of the others, from the numbers behind it on
+  -- what is said of the others, from the numbers after it on
   abbrev AreUpTo : Type 0
   AreUpTo = (bytes : List ℕ) → bytes_up_to segment number rs bytes ≡ bytes_after segment (take (number - counted numbers (transaction_of g r) segment) others) bytes
 
@@ -97,7 +97,7 @@ module _ (g : Geometry) (segment number : ℕ) (r : Record) (rs : List Record) (
             ∙ ap (λ (k : ℕ). bytes_after segment (take k (r ∷ others)) bytes) one_more
       ]
 
-  -- the number behind the others is not above it
+  -- the number after the others is not above it
   abbrev NoneAbove : Type 0
   NoneAbove = (n : ℕ) → counted numbers (transaction_of g r) segment ≡ n → number_after segment rs n ≤ number → (bytes : List ℕ) → bytes_above segment number rs bytes ≡ bytes
 
@@ -121,7 +121,7 @@ up_to_number g segment number (r ∷ rs) numbers bytes taken follow =
     one_up_to g segment number r rs numbers (All-head (IsTaken g) r rs taken) follow.0 bytes (has_lock segment r) refl
     (λ start. up_to_number g segment number rs (counted numbers (transaction_of g r)) start (All-tail (IsTaken g) r rs taken) follow.1)
 
--- above the number behind all of them there are none
+-- above the number after all of them there are none
 pub none_above : (g : Geometry) (segment number : ℕ) (rs : List Record) (numbers : ℕ → ℕ) (bytes : List ℕ) → All (IsTaken g) rs → Follow g numbers rs → number_after segment rs (numbers segment) ≤ number
     → bytes_above segment number rs bytes ≡ bytes
 none_above g segment number [] numbers bytes taken follow last = refl

@@ -1,4 +1,4 @@
--- Images of an area, also of one whose front is stable, and what a call leaves behind such a front.
+-- Images of an area, also of one whose front is stable, and what a call leaves after such a front.
 use Rattle.std.proofs.Common.{◌≡◌, ℕ, suc, ◌+◌, ◌<◌, Bool, false, List, [], ◌∷◌, ◌++◌, length, get_or, take, drop, refl, sym, ◌∙◌, ap, arith, length-append, length-drop, take-append-drop, get_or-take, get_or-drop}
 use Rattle.std.proofs.lemmas.List.{ext_get_or, get_or_append_left, get_or-append-add, take_at, drop_at, drop-drop, length-take-le, drop_more}
 use Rattle.lc_disk.specs.Area.{IsImage, IsSameOutside, IsClean}
@@ -28,7 +28,7 @@ image_clean now dirty clean image is = ext_get_or 0 image now is.same_length (λ
 pub image_own : (now : List ℕ) (dirty : ℕ → Bool) → ((k : ℕ) → get_or now k 0 < 256) → IsImage now dirty now
 image_own now dirty fits = record { same_length = refl; bytes = fits; stable = λ k clean. refl }
 
--- an image that begins with this front, and goes on with an image of what stands behind it
+-- an image that begins with this front, and goes on with an image of what stands after it
 pub record Behind (front back : List ℕ) (dirty : ℕ → Bool) (image : List ℕ) : Type 0 where
   pub rest : List ℕ
   pub text : image ≡ front ++ rest
@@ -63,7 +63,7 @@ pub record FirstByte (mid back : List ℕ) (dirty : ℕ → Bool) (image : List 
   pub fits : byte < 256
   pub is_image : IsImage back (λ k. dirty (suc (length mid + k))) rest
 
--- of the first bytes only the very first may be dirty, as with a gate and what stands behind it
+-- of the first bytes only the very first may be dirty, as with a gate and what stands after it
 pub only_first : (x : ℕ) (mid back : List ℕ) (dirty : ℕ → Bool) (image : List ℕ) → IsImage (x ∷ (mid ++ back)) dirty image
     → ((k : ℕ) → k < length mid → dirty (suc k) ≡ false) → FirstByte mid back dirty image
 only_first x mid back dirty [] is clean = absurd (omega (arith, is.same_length))
@@ -76,7 +76,7 @@ only_first x mid back dirty (y ∷ ys) is clean =
     let parts : Behind mid back (λ k. dirty (suc k)) ys = behind_clean mid back (λ k. dirty (suc k)) ys later clean in
     record { byte = y; rest = parts.rest; text = ap (λ (l : List ℕ). y ∷ l) parts.text; fits = is.bytes 0; is_image = parts.is_image }
 
--- a torn write behind a front leaves the front
+-- a torn write after a front leaves the front
 pub torn_behind : (front back new : List ℕ) (n k : ℕ) → length front ≡ n → IsSameOutside n k (front ++ back) new → new ≡ front ++ drop n new
 torn_behind front back new n k long same = sym (take-append-drop n new) ∙ ap (λ (l : List ℕ). l ++ drop n new) (same.before ∙ take_at front back n long)
 

@@ -1,4 +1,4 @@
--- Bytes laid over what stands behind a front.
+-- Bytes laid over what stands after a front.
 use Rattle.std.proofs.Common.{◌≡◌, ℕ, ◌+◌, List, ◌++◌, length, drop, sym, ◌∙◌, ap, append_assoc}
 use Rattle.std.proofs.lemmas.List.{take_at, drop_at, drop-drop}
 use Rattle.lc_disk.specs.Area.{overlaid}

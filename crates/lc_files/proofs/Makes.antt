@@ -30,7 +30,7 @@ module _ (g : Geometry) where
     pub not_there_yet : (place : ℕ) (mid : Files) → place < new_count g → MadeFirst g place old mid → mid (new_name_at g place) ≡ None
     not_there_yet place mid below made = made.others (new_name_at g place) (later_is_other place place (omega arith)) ∙ none_there place below
 
-    -- behind a fault, what was made is taken away
+    -- after a fault, what was made is taken away
     pub as_before : (count : ℕ) (new : Files) → count ≤ new_count g
         → ((other : StoreName) → IsOther g count other → new other ≡ old other)
         → ((place : ℕ) → place < count → new (new_name_at g place) ≡ None)

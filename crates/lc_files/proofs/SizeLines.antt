@@ -18,7 +18,7 @@ use Rattle.lc_files.specs.SizeText.{IsSameSize, size_file_text}
 own : IsNumeralModel (AllDigits 10) (digits_value 10)
 own = numerals_by_value (AllDigits 10) tells_digits
 
--- behind the words the line is cut where its number ends
+-- after the words the line is cut where its number ends
 pub cut_line : (n : ℕ) (words text left rest : List ℕ) (r : Option (Bor (List ℕ) × Bor (List ℕ))) → n < 2 ^ 32 → text ≡ words ++ (decimal n ++ (10 ∷ rest)) → text ≡ words ++ left
     → IsSplitOnceResult 10 left r → MatchOption r ⊥ (λ x. (x.0.now ≡ decimal n) × (x.1.now ≡ rest))
 cut_line n words text left rest r small whole stripped cut =
@@ -36,7 +36,7 @@ pub cut_in_two : (n : ℕ) (words text left rest : List ℕ) (r : Option (Bor (L
 cut_in_two n words text left rest r number more small whole stripped cut some =
     subst (λ (o : Option (Bor (List ℕ) × Bor (List ℕ))). MatchOption o ⊥ (λ x. (x.0.now ≡ decimal n) × (x.1.now ≡ rest))) some (cut_line n words text left rest r small whole stripped cut)
 
--- what stands behind the line of the nodes, of the segments, and of the pages
+-- what stands after the line of the nodes, of the segments, and of the pages
 abbrev pub behind_pages : Geometry → List ℕ
 behind_pages g = codes "words " ++ (decimal g.words ++ (10 ∷ []))
 

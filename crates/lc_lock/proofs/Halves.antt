@@ -21,7 +21,7 @@ inside n = omega arith
 pub one_drawn : (d s : ℕ) → (word_of d s + 4294967296) % 18446744073709551616 ≡ word_of (d + 1) s
 one_drawn d s = omega arith
 
--- k is what serves the ticket behind this one, added to the word
+-- k is what serves the ticket after this one, added to the word
 abbrev pub ServesNext : ℕ → ℕ → Type 0
 ServesNext ticket k = (next : ℕ) → next < 4294967296 → (next * 4294967296 + ticket + k) % 18446744073709551616 ≡ next * 4294967296 + (ticket + 1) % 4294967296
 

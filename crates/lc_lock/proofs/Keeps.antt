@@ -44,7 +44,7 @@ module _ {A : Type 0} where
   one_only (x ∷ []) a e = refl
   one_only (x ∷ (y ∷ ys)) a e = absurd (omega arith)
 
-  -- what is written behind the first leaves the first
+  -- what is written after the first leaves the first
   behind_first : (x : A) (l : List A) (i : ℕ) (a : A) → 0 < i → (m : List A) × (set (x ∷ l) i a ≡ x ∷ m)
   behind_first x l zero a h = absurd (omega arith)
   behind_first x l (suc i) a h = (set l i a, refl)

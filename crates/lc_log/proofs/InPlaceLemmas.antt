@@ -128,7 +128,7 @@ records_text ws = read_text (length ws) ws (omega arith)
 pub records_are : (ws : List ℕ) (rs : List Record) → IsLogText ws rs → records_in ws ≡ rs
 records_are ws rs is = one_text-by ws (records_in ws) rs (records_text ws) is
 
--- Behind the records before a place
+-- After the records before a place
 
 pub left_first : (ws : List ℕ) (place : ℕ) (r : Record) → BeginsWith (drop place ws) r (record_len r)
     → spans_from place (records_in (drop place ws)) ≡ (place, record_len r) ∷ spans_from (place + record_len r) (records_in (drop (place + record_len r) ws))

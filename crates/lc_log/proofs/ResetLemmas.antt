@@ -1,4 +1,4 @@
--- How the first gate is closed over whatever stands behind it.
+-- How the first gate is closed over whatever stands after it.
 use Rattle.std.proofs.Common.{◌≡◌, ◌≢◌, ◌↔◌, ℕ, zero, suc, ◌<◌, ◌%◌, Bool, true, false, IsTrue, if◌then◌else◌, List, [], ◌∷◌, ◌++◌, ◌≤◌, length, slice_index, slice_index_or, slice_get, Option, Some, None, drop, refl, sym, ◌∙◌, ap, subst, inl, inr, arith}
 use Rattle.std.specs.Option.{unwrap_or}
 use Rattle.std.proofs.lemmas.Option.{none-some}

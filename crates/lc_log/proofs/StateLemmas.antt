@@ -25,7 +25,7 @@ group_gate (r ∷ rs) some = first_byte _ _ (omega arith)
 pub length-behind_gate : (group : List Record) → 0 < length group → length (behind_gate group) + 1 ≡ 8 * length (joined group)
 length-behind_gate group some = omega (arith, ap (λ (l : List ℕ). length l) (group_gate group some), length-bytes_of (joined group))
 
--- a group and its zero word, behind the first gate
+-- a group and its zero word, after the first gate
 group_tail : (group : List Record) → 0 < length group → drop 1 (bytes_of (joined group ++ 0 ∷ [])) ≡ behind_gate group ++ bytes_of (0 ∷ [])
 group_tail group some =
     ap (λ (l : List ℕ). drop 1 l) (bytes_of-append (joined group) (0 ∷ []) ∙ ap (λ (l : List ℕ). l ++ bytes_of (0 ∷ [])) (group_gate group some))

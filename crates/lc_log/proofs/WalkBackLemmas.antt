@@ -58,7 +58,7 @@ at_seam : (xs : List ℕ) (y : ℕ) (ys : List ℕ) (d : ℕ) → get_or (xs ++ 
 at_seam [] y ys d = refl
 at_seam (x ∷ xs) y ys d = at_seam xs y ys d
 
--- The records behind a place are found, the last first; the text has these before it and these behind it.
+-- The records after a place are found, the last first; the text has these before it and these after it.
 pub record FoundBack (words : List ℕ) (found : List (ℕ × Record)) (end : ℕ) : Type 0 where
   pub front : List Record
   pub behind : List Record

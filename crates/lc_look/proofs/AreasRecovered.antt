@@ -1,4 +1,4 @@
--- A recovery on its own, step by step, and what is printed behind it.
+-- A recovery on its own, step by step, and what is printed after it.
 use Rattle.std.proofs.Common.{◌≡◌, ◌∙◌, ℕ, zero, suc, ◌+◌, ◌-◌, ◌≤◌, ◌<◌, List, [], ◌∷◌, ◌++◌, map, length, drop, Option, Some, refl, sym, ap, ap₂, subst, arith, inl, inr}
 use Rattle.std.specs.Prelude.{Result, Ok, Err, IfOk, IsErr, OnOk, MatchResult, flat_map}
 use Rattle.std.specs.Io.KnownBytes.{Appends}
@@ -108,7 +108,7 @@ module _ {D : Type 0} (a : Ghosts D) (g : Geometry) (areas : List D) where
         before = still_before;
       }
 
-      -- the last step is behind the merge
+      -- the last step is after the merge
       accepted : IsLast old → (fault : MergeFault) → AreRefused a g areas fault → ⊥
       accepted last fault refused =
           let at = goes.before fault refused.honest refused.refused in

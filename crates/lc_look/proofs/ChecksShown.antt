@@ -17,7 +17,7 @@ use Rattle.lc_text.specs.Text.{number_text, recovered_text, reply_text, segment_
 use Rattle.lc_look.specs.Checks.{AreBehindIn, AreRising, BehindTexts, EndsWithRecovery, IsBehindText, Shows, behind_text, logs_text}
 use Rattle.lc_look.proofs.AreasRecovered.{same_numbers}
 
--- a text for each number, one behind the other
+-- a text for each number, one after the other
 pub next_text : (f : ℕ → List ℕ) (from n : ℕ) (o m p : Option (List ℕ)) → Appends o m (flat_map f (counting from n)) → Appends m p (f (from + n)) → Appends o p (flat_map f (counting from (n + 1)))
 next_text f from n o m p front own =
     let next : suc n ≡ n + 1 = omega arith in

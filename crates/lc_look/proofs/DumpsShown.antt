@@ -79,7 +79,7 @@ module _ {D : Type 0} (a : Ghosts D) (olds : List D) where
         ∙ len-segment g (g.nodes + segment - 1) (omega (arith, has.0)) (omega (arith, has.0, has.1))) in
         omega (arith, long, has.2)
 
--- one byte more, behind a space
+-- one byte more, after a space
 pub spaced-more : (front bytes : List ℕ) (i : ℕ) (o m k p : Option (List ℕ)) → i < length bytes → Appends o m (front ++ flat_map spaced (take i bytes)) → Appends m k (codes " ")
     → Appends k p (hex_text (get_or bytes i 0 ∷ [])) → Appends o p (front ++ flat_map spaced (take (i + 1) bytes))
 unfolding hex_text

@@ -27,7 +27,7 @@ use Rattle.lc_look.specs.Refused.{IsFirstWrong}
 -- Lists
 
 module _ {A : Type 0} (Such : ℕ → A → Type 0) where
-  -- one more stands behind them
+  -- one more stands after them
   pub each-more : (n : ℕ) (items : List A) (item : A) → AreEach Such n items → Such n item → AreEach Such (n + 1) (items ++ item ∷ [])
   each-more n items item are such = record {
     all = omega (arith, length-append items (item ∷ []), are.all);
@@ -73,7 +73,7 @@ module _ (g : Geometry) (areas : List (List ℕ)) (bytes : HaveBytes g areas) wh
       ]
 
 module _ {D : Type 0} (a : Ghosts D) where
-  -- behind others one more was read
+  -- after others one more was read
   pub left-more : (olds mids : List D) (k : ℕ) (was is : D) → AreLeftAs a olds mids → slice_get mids k ≡ Some was → IsLeftAs a was is → AreLeftAs a olds (slice_set mids k is)
   left-more olds mids k was is left there own = record {
     count = length-set mids k is ∙ left.count;

@@ -85,7 +85,7 @@ pub beside-refuse_if : (excluded : Reply) (test : Bool) (refusal : Refusal) (oth
 beside-refuse_if excluded true refusal others old May differ one = beside-only excluded (Refused refusal) old differ
 beside-refuse_if excluded false refusal others old May differ one = one
 
--- behind the common refusals
+-- after the common refusals
 beside-step : (excluded : Refusal) (m : Setting) (s : State) (event : Event) → Down ≢ excluded → Unknown ≢ excluded → Halted ≢ excluded → ExactlyOne (Beside (Refused excluded) (Row m s event)) → ExactlyOne (Beside (Refused excluded) (Step m s event))
 beside-step excluded m s event a b c one =
     beside-refuse_if (Refused excluded) (not (is_up s.phase) && not (works_down event)) Down _ s (Row m s event) (λ e. a (cc))
@@ -157,7 +157,7 @@ leave-one m s node segment most =
     (beside-refuse_if (Refused Writing) (is_held segment s) Held None s (LeaveRow s node segment) (λ e. cc)
     (beside-leave s node segment most)))
 
--- behind refusals an answer that is none of them is one of the row
+-- after refusals an answer that is none of them is one of the row
 past-refuse_if : (test : Bool) (refusal : Refusal) (others : Option Refusal) (old : State) (reply : Reply) (new : State) (otherwise : Type 0) → reply ≢ Refused refusal → Unless (refuse_if test refusal others) old reply new otherwise → Unless others old reply new otherwise
 past-refuse_if true refusal others old reply new otherwise differ h = absurd (differ h.0)
 past-refuse_if false refusal others old reply new otherwise differ h = h

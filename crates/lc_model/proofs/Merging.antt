@@ -142,7 +142,7 @@ record-same t numbers others content other well long agree =
     let made : List Lock → List RangeData → Record = λ ls rs. record { node = t.node; locks = ls; ranges = rs } in
     ap (λ ls. made ls (ranges_of 1 t.marks (effect t content))) same_locks ∙ ap (made (locks_of others 1 t.marks)) same_ranges
 
--- behind a transaction both agree where they agreed before
+-- after a transaction both agree where they agreed before
 agree-both : (t u : Transaction) (numbers others : ℕ → ℕ) (content other : Content) → Agree u numbers others content other → Agree u (counted numbers t) (counted others t) (effect t content) (effect t other)
 agree-both t u numbers others content other agree = record {
   same_numbers = λ segment lock. ap (λ n. if is_set (segment_of segment t.marks) then n + 1 else n) (agree.same_numbers segment lock);

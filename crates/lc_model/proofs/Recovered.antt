@@ -117,7 +117,7 @@ renewed-reached store content numbers pages segment count result renewed some la
           )
     ]
 
--- the disks behind a recovery fit
+-- the disks after a recovery fit
 pub renewed-fits : (m : Setting) (earlier : List Transaction) (store : Store) (numbers : ℕ → ℕ) (pages : ℕ → ℕ → Page) → 1 ≤ m.geometry.pages → Sound m.geometry (fresh m.geometry earlier Up) → IsReadable m.geometry store → IsMerged store (effects earlier m.start) numbers → AreRenewed store (effects earlier m.start) numbers pages → Fits m (fresh m.geometry earlier Up) (recovered_disks numbers pages)
 renewed-fits m earlier store numbers pages some_pages sound readable result renewed =
     let segments : length store.pages ≡ m.geometry.segments = length-shape m.geometry.segments m.geometry.pages store.pages readable.shape in
@@ -204,7 +204,7 @@ recovered m s d cut store pages some_pages fits image renewed =
     renewed-fits m (s.earlier ++ kept s.history cut) store (counted_all d.numbers (kept s.history cut)) pages some_pages (sound-recovered m.geometry s cut fits.sound)
     (image-readable m s d cut store fits image) (merged m s d cut store fits image).1 renewed
 
--- and so do those behind the first recovery
+-- and so do those after the first recovery
 pub first-recovered : (m : Setting) (store : Store) (numbers : ℕ → ℕ) (pages : ℕ → ℕ → Page) → 1 ≤ m.geometry.pages → IsReadable m.geometry store → IsMerged store m.start numbers → AreRenewed store m.start numbers pages → Fits m (fresh m.geometry [] Up) (recovered_disks numbers pages)
 first-recovered m store numbers pages some_pages readable result renewed =
     renewed-fits m [] store numbers pages some_pages (sound-phase m.geometry (first_state m.geometry) Up (sound-first m.geometry) (up-cut m.geometry (record (first_state m.geometry) { phase = Up }) refl)) readable result renewed

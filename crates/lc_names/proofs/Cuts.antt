@@ -1,4 +1,4 @@
--- The entries of a table, one behind another.
+-- The entries of a table, one after another.
 use Rattle.std.proofs.Common.{◌≡◌, ℕ, zero, suc, ◌+◌, ◌*◌, ◌/◌, ◌<◌, ◌≤◌, List, [], ◌∷◌, ◌++◌, length, set, take, drop, refl, ap, ◌∙◌, arith}
 use Rattle.std.proofs.lemmas.List.{drop_at, length-drop, length-take-le, take_at}
 use Rattle.lc_record.specs.Content.{put}
@@ -22,7 +22,7 @@ put_behind (suc n) zero place items old e l = absurd (omega arith)
 put_behind (suc n) (suc m) place items [] e l = absurd (omega arith)
 put_behind (suc n) (suc m) place items (o ∷ os) e l = ap (λ (s : List ℕ). o ∷ s) (put_behind n m place items os (omega arith) (omega arith))
 
--- a head of one size, and what is behind it, are what they are
+-- a head of one size, and what is after it, are what they are
 headed : (size n : ℕ) (head rest bytes : List ℕ) → length head ≡ size → bytes ≡ head ++ rest → first_chunks size (suc n) bytes ≡ head ∷ first_chunks size n rest
 headed size n head rest bytes long is =
     ap (λ (s : List ℕ). take size s ∷ first_chunks size n (drop size s)) is

@@ -140,7 +140,7 @@ set_behind [] ys y v (suc n) long = absurd (omega (arith, long))
 set_behind (x ∷ xs) ys y v zero long = absurd (omega (arith, long))
 set_behind (x ∷ xs) ys y v (suc n) long = ap (λ (s : List ℕ). x ∷ s) (set_behind xs ys y v n (omega (arith, long)))
 
--- a name, and zeros behind it
+-- a name, and zeros after it
 front_written : (name : List ℕ) (n : ℕ) → n ≡ length name → IsName name → name ++ drop n (replicate 63 0) ≡ filled name ++ (0 ∷ replicate 31 0)
 unfolding filled
 front_written name n count is =
@@ -149,7 +149,7 @@ front_written name n count is =
     ∙ (ap (λ (s : List ℕ). name ++ s) (drop-replicate (length name) 63 0 ∙ (ap (λ (k : ℕ). replicate k 0) most ∙ sym (replicate-append-replicate (31 - length name) 32 0)))
     ∙ sym (append_assoc name (replicate (31 - length name) 0) (0 ∷ replicate 31 0)))
 
--- attributes, and zeros behind them
+-- attributes, and zeros after them
 back_written : (attributes : List ℕ) (m : ℕ) → m ≡ length attributes → attributes ++ drop m (replicate 31 0) ≡ filled attributes
 unfolding filled
 back_written attributes m count = ap (λ (k : ℕ). attributes ++ drop k (replicate 31 0)) count ∙ ap (λ (s : List ℕ). attributes ++ s) (drop-replicate (length attributes) 31 0)

@@ -23,7 +23,7 @@ itself : (n : ℕ) → is_member n (n ∷ []) ≡ true
 itself n = or_left (eqb n n) false (eq-eqb n n refl)
 
 module _ (n : ℕ) (xs ys : List ℕ) where
-  -- one number more in front, or behind
+  -- one number more in front, or at the end
   pub covers_front : Covers n xs ys → Covers (n + 1) (xs ++ (n + 1) ∷ []) ys
   covers_front covers s low high = let both = member_both s xs ((n + 1) ∷ []) in elim (cases_lt n s) [
     | inl last ↦ (let e : s ≡ n + 1 = omega (arith, last, high) in

@@ -66,7 +66,7 @@ module _ {D : Type 0} where
           let n : length (bytes_of the_images lent s) ≡ length a.2.image.bytes.items = ap (λ (i : Picture). length i.bytes.items) image in omega arith;
     }
 
-    -- what a slot has behind a transaction, beside what it had
+    -- what a slot has after a transaction, beside what it had
     module _ (new : Lent) (same : the_images.IsSameBeside lent new) where
       pub record Was (h : HeldSide D) (b : LentSlot) : Type 0 where
         pub a : LentSlot

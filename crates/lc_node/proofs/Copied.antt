@@ -1,4 +1,4 @@
--- Copies of published records: those behind a place, one more, and what is sent of them.
+-- Copies of published records: those after a place, one more, and what is sent of them.
 use Rattle.std.proofs.Common.{◌≡◌, ℕ, ◌+◌, ◌-◌, ◌^◌, ◌<◌, List, [], ◌∷◌, ◌++◌, Some, None, length, refl, sym, ap, subst, ◌∙◌, suc, inl, arith, length-append, append_assoc}
 use Rattle.std.specs.Prelude.{slice_get}
 use Rattle.std.specs.Global.{Vec, Global}
@@ -17,7 +17,7 @@ use Rattle.lc_node.specs.declared.peer_end.PeerEnd.{PeerEnd}
 use Rattle.lc_node.proofs.Published.{got_behind}
 use Rattle.lc_node.proofs.NextSent.{records_grow, words_grow, length_numbered, words_numbered, numbered_append, one_further}
 
--- One more record of those behind a place
+-- One more record of those after a place
 
 texts_append : (xs ys : List (Vec ℕ)) → texts (xs ++ ys) ≡ texts xs ++ texts ys
 texts_append xs ys = map-append (λ (words : Vec ℕ). words.items) xs ys
@@ -54,7 +54,7 @@ behind_more published place at copies words before here found front behind is st
     let more = one_further behind (texts copies) b.0 words.items b.1 first in
     (more.0, more.1 ∙ ap (λ (l : List (List ℕ)). l ++ more.0) (sym (texts_append copies (words ∷ []))))
 
--- how many records stand behind a place
+-- how many records stand after a place
 pub count_is : (published : List (List ℕ)) (count more at : ℕ) → IsStart published (count + more) at → slice_get published (count + more) ≡ None → more ≡ length published - count
 count_is published count more at start none = all start.0 start.1 start.2 start.3
   where

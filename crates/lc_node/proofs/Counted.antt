@@ -29,7 +29,7 @@ pub token_before : (part : Part) (o : Option Token) → IsNext part o → (t : T
 token_before part None next = absurd next
 token_before part (Some t) next = (t, refl, next.0, next.1)
 
--- behind it the token has the part's
+-- after it the token has the part's
 pub number_counted : (part : Part) (o : Option Token) (t x : Token) → o ≡ Some t → Some x ≡ next_token part o → x.seq ≡ t.seq + 1
 number_counted part o t x is same = ap seq_of (same ∙ ap (next_token part) is)
 

@@ -108,7 +108,7 @@ module _ {D : Type 0} where
   abbrev pub IsFinishedSo : HeldSide D → Reception → HeldSide D → Type 0
   IsFinishedSo h reception g = (answer : Received) × IsFinished h reception answer g
 
-  -- those behind these are finished, the first of them was answered so, and whether a token arrived at one of them
+  -- those after these are finished, the first of them was answered so, and whether a token arrived at one of them
   pub record Finishing (xs now : List (HeldSide D)) (ys left : List Reception) (answer : Received) (came : Bool) : Type 0 where
     pub finished : Backwards IsFinishedSo xs now ys left
     pub first : IsAt (λ h reception g. IsFinished h reception answer g) xs ys now (length left)
@@ -134,7 +134,7 @@ module _ {D : Type 0} where
         here = All-set (λ h. IsSome h.side.image) now n g here f.here;
       }
 
-  -- behind the last one
+  -- after the last one
   pub all_delivered : (r : Record) (before xs now : List (HeldSide D)) (ys left : List Reception) (answer : Received) (came : Bool) → EachThree (IsPrepared r) before ys xs → Finishing xs now ys left answer came → left ≡ [] → Each (IsDelivered r) before now
   all_delivered r before xs now ys left answer came ready f none =
       joined (IsPrepared r) IsFinishedSo (IsDelivered r) (λ x m z y is so. (so.0, finished_side r x m z y so.0 is so.1)) before xs now ys ready (finish IsFinishedSo xs now ys left f.finished none)

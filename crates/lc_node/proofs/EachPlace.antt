@@ -12,7 +12,7 @@ module _ {A : Type 0} where
   pub each_none : (P : ℕ → A → Type 0) (xs : List A) → xs ≡ [] → (k : ℕ) (x : A) → slice_get xs k ≡ Some x → P k x
   each_none P xs none k x got = absurd (none_at k x (ap (λ (l : List A). slice_get l k) (sym none) ∙ got))
 
-  -- one more behind those of a list
+  -- one more after those of a list
   pub each_more : (P : ℕ → A → Type 0) (new xs : List A) (y : A) (place : ℕ) → new ≡ xs ++ y ∷ [] → length xs ≡ place → ((k : ℕ) (x : A) → slice_get xs k ≡ Some x → P k x) → P place y
       → (k : ℕ) (x : A) → slice_get new k ≡ Some x → P k x
   each_more P new xs y place is at h here k x got =
@@ -22,6 +22,6 @@ module _ {A : Type 0} where
   pub first_is : (xs : List A) (x : A) → 0 < length xs → x ≡ slice_index_or xs 0 x → slice_get xs 0 ≡ Some x
   first_is xs x some is = slice_get-get_or xs 0 x some ∙ ap Some (sym is)
 
-  -- what is left behind it
+  -- what is left after it
   pub left_is : (xs left : List A) (k : ℕ) (x : A) → left ≡ drop 1 xs → slice_get left k ≡ Some x → slice_get xs (1 + k) ≡ Some x
   left_is xs left k x is got = sym (get-drop 1 k xs) ∙ ap (λ (l : List A). slice_get l k) (sym is) ∙ got

@@ -5,7 +5,7 @@ use Rattle.std.proofs.lemmas.List.{take_more, map-append}
 use Rattle.std.proofs.lemmas.Option.{get_or_from_slice_get, slice_get_within}
 
 module _ {A : Type 0} where
-  -- one more behind those that were taken
+  -- one more after those that were taken
   pub taken_more : (all : List A) (taken : ℕ) (x : A) → slice_get all taken ≡ Some x → take (taken + 1) all ≡ take taken all ++ x ∷ []
   taken_more all taken x got = take_more all taken x (slice_get_within all taken x got) ∙ ap (λ (y : A). take taken all ++ y ∷ []) (get_or_from_slice_get all taken x x got)
 

@@ -67,7 +67,7 @@ all_passed words place at count fit p end = let long = length-take-le place word
     let none = no_words (concat p.coming) (omega arith) in
     (p.passed, p.passed_whole, p.text ∙ (ap (λ (l : List ℕ). concat p.passed ++ l) none ∙ append-nil (concat p.passed)), p.count_is)
 
--- the words of one record that stand at a place behind records are those of the record with this index
+-- the words of one record that stand at a place after records are those of the record with this index
 pub among : (log : List ℕ) (place count : ℕ) (ws : List ℕ) → AreInFront log place count → IsOneRecord ws → place + length ws ≤ length log → ((i : ℕ) → i < length ws → get_or log (place + i) 0 ≡ get_or ws i 0) → IsAmong log count place ws
 among log place count ws f one fit same = let rest : List ℕ = drop place log in let n : ℕ = length ws in let room : length rest + place ≡ length log = (let d = length-drop place log in omega arith) in
     let long = length-take-le n rest (omega arith) in

@@ -26,7 +26,7 @@ module _ {A : Type 0} where
   all_more P new xs x is all here = subst (All P) (sym is) (All-push P xs x all here)
 
 module _ {A B : Type 0} where
-  -- one more behind those of each list
+  -- one more after those of each list
   pub both_more : (P : ℕ → A → B → Type 0) (new xs : List A) (newer ys : List B) (x : A) (y : B) (place : ℕ)
       → new ≡ xs ++ x ∷ [] → newer ≡ ys ++ y ∷ [] → length xs ≡ place → length ys ≡ place
       → ((k : ℕ) (a : A) (b : B) → slice_get xs k ≡ Some a → slice_get ys k ≡ Some b → P k a b) → P place x y

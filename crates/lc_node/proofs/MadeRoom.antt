@@ -1,4 +1,4 @@
--- A commit on the first of the held segments, and one behind a truncation.
+-- A commit on the first of the held segments, and one after a truncation.
 use Rattle.std.proofs.Common.{◌≡◌, ℕ, zero, suc, ◌+◌, ◌<◌, List, [], ◌∷◌, ◌++◌, length, map, take, drop, refl, sym, ap, subst, ◌∙◌, arith}
 use Rattle.std.specs.Prelude.{Bool, Result}
 use Rattle.std.proofs.lemmas.List.{length-map, take-map}

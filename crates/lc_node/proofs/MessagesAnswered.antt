@@ -62,7 +62,7 @@ module _ {P : Type 0} (old new : List (PeerInbox P)) (peer : ℕ) (result : Opti
       by_kept None none = inr (none, subst (λ r. MatchOption r (taken_at new peer ≡ taken_at old peer) (λ x. taken_at new peer ≡ taken_at old peer ++ x ∷ [])) is (taken none))
       by_kept (Some k) some = let both = again (subst IsSome (sym some) refl) in inl (sym both.0 ∙ is, both.1)
 
--- the message goes nowhere but behind
+-- the message goes nowhere but to the end
 pub next_still : {P : Type 0} (old mid new : List (PeerInbox P)) (peer : ℕ) (m : Message P) → taken_at new peer ≡ taken_at mid peer → IsNextAt old peer m mid → IsNextAt old peer m new
 next_still old mid new peer m same (inl kept) = inl (kept.0, same ∙ kept.1)
 next_still old mid new peer m same (inr next) = inr (next.0, same ∙ next.1)

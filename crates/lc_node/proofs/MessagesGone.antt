@@ -19,7 +19,7 @@ module _ {P : Type 0} (old new : List (PeerInbox P)) (peer : ℕ) (result : Opti
   some_is : (m : Message P) → kept_at old peer ≡ Some m → IsSome (kept_at old peer)
   some_is m is = rw is refl
 
-  -- the next is the one behind those
+  -- the next is the one after those
   pub next_is : (m : Message P) → IsGoneOn old peer gone → result ≡ Some m → taken_at new peer ≡ gone ++ m ∷ []
   next_is m (inl all) is =
       let took : taken_at new peer ≡ taken_at old peer ++ m ∷ [] = subst (λ r. MatchOption r (taken_at new peer ≡ taken_at old peer) (λ x. taken_at new peer ≡ taken_at old peer ++ x ∷ [])) is (taken all.0) in

@@ -46,7 +46,7 @@ module _ {P : Type 0} (old new : List (Message P)) (number : ℕ) (words : Vec �
 abbrev pub HasPrefix : {P : Type 0} → List (List ℕ) → List (Message P) → Type 0
 HasPrefix published sent = (front : List (List ℕ)) × (behind : List (List ℕ)) × (published ≡ front ++ behind) × (records_in sent ≡ numbered 1 front)
 
--- then the next begins behind their words
+-- then the next begins after their words
 pub next_begins : {P : Type 0} (published : List (List ℕ)) (sent : List (Message P)) (count place : ℕ) → count ≡ length (records_in sent) → place ≡ words_of (records_in sent) → HasPrefix published sent → IsStart published count place
 next_begins published sent count place counted placed p = (
   p.0,

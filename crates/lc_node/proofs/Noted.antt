@@ -170,7 +170,7 @@ module _ (old now : Token) (front : ℕ) (h : AreNoted old now front) where
       });
     }
 
--- Behind the last page
+-- After the last page
 
 module _ (old new : Token) (h : AreNoted old new (length old.pages)) (few : length old.pages ≤ 1024) (low : (page : ℕ) → page < length old.pages → (entry_at old.pages page).touched ≤ old.seq) where
   clean_now : IsCleanNow old new.clean

@@ -1,4 +1,4 @@
--- What the pages of held segments are behind their writes.
+-- What the pages of held segments are after their writes.
 use Rattle.std.proofs.Common.{◌≡◌, ℕ, zero, suc, ◌+◌, ◌*◌, ◌<◌, ◌≤◌, List, [], ◌∷◌, All, Some, None, length, take, refl, set, get_or, sym, ap, subst, ◌∙◌, inl, inr, arith}
 use Rattle.std.specs.Prelude.{Option, IsSomeAnd, IsSome, slice_get}
 use Rattle.std.proofs.lemmas.Bool.{cases_lt, cases_eq, eq-eqb, ne_eqb, lt-ltb, le-ltb}
@@ -45,7 +45,7 @@ pub serves : {D : Type 0} (a : Ghosts D) (since : ℕ) (area : D) (token : Optio
 serves a since area None bytes is = absurd is
 serves a since area (Some t) bytes is = is
 
--- the token behind its pages' writes
+-- the token after its pages' writes
 pub written_token : (old new : Option Token) (t : Token) → old ≡ Some t → ForSome old (λ x. IsSomeAnd new (AreWritten x)) → (u : Token) × (new ≡ Some u) × AreWritten t u
 written_token old None t is written = absurd (written t is)
 written_token old (Some u) t is written = (u, refl, written t is)
@@ -120,7 +120,7 @@ module _ {D : Type 0} where
       → Each IsSameHeld xs (set now n g)
   one_more_same a xs now n h g f within at same = all_of IsSameHeld xs (set now n g) (n + 1) (next IsSameHeld xs now n h g (only_same a xs now n f) within at same) (λ x. (refl, refl, refl))
 
-  -- and behind its end all are written
+  -- and after its end all are written
   pub all_written : (a : Ghosts D) (xs now : List (HeldSide D)) (n : ℕ) → Forwards (λ h k. WritesSide a h k × IsSameHeld h k) xs now n → length now ≤ n → Each (WritesSide a) xs now
   all_written a xs now n f whole = record {
     long = f.long;
@@ -153,7 +153,7 @@ module _ {D : Type 0} where
       let held = all_at (IsHeldOf node) olds k h all old.1 in
       (held.0, held.1, held.2, is.1 ∙ held.3, subst (λ (x : HeldSide D). IsLoanOf held.1 x.loan) (sym is.0) held.4, subst (λ o. IsSome o) (sym is.2) held.5)
 
-  -- a side behind the writes of its pages
+  -- a side after the writes of its pages
   pub same_written : (h g : HeldSide D) → g ≡ record h { side = g.side } → IsFolded h.side g.side → IsSameHeld h g
   same_written h g same folded = (same, ap (λ s. s.segment) folded, ap (λ s. s.image) folded)
 

@@ -139,7 +139,7 @@ none_there : (rs : List (List ℕ)) → All IsOneRecord rs → length (concat rs
 none_there [] all none = refl
 none_there (r ∷ rs) all none = absurd (let some = some_record r (All-head IsOneRecord r rs all) in let long = length-append r (concat rs) in omega arith)
 
--- the record of this number is the first behind a place of some words
+-- the record of this number is the first after a place of some words
 pub record IsFirst (words : List ℕ) (place : ℕ) (records : List (List ℕ)) (count : ℕ) : Type 0 where
   pub within : place ≤ length words
   pub are : AreRecords (drop place words)
@@ -204,7 +204,7 @@ module _ (ended stable : List ℕ) (before : AreRecords ended) (now : AreRecords
       let here = at in let all = long in
       first_of stable (place - length ended) count (records_of (ended ++ stable)) start.0 start.1 start.1 (all_behind IsOneRecord w.0 start.1 (subst (All IsOneRecord) w.2 now.1)) (concat w.0) text (omega arith) start.2 start.3 refl
 
--- behind words that are not kept
+-- after words that are not kept
 
 left_start : (front rest : List ℕ) (before : AreRecords front) (now : AreRecords rest) (count place : ℕ) → IsStart (records_of (front ++ rest)) count place → length front ≤ place
     → (n : ℕ) × IsStart (records_of rest) n (place - length front) × (slice_get (records_of rest) n ≡ slice_get (records_of (front ++ rest)) count)
@@ -271,7 +271,7 @@ module _ {D : Type 0} (inside old : LogView D) (is : inside ≡ old) (known : Li
   pub is_whole : IsWhole old
   is_whole = let w = all_whole (concat (flush_view inside.flusher).past ++ inside.stable) (records_append (concat (flush_view inside.flusher).past) inside.stable (all_records (flush_view inside.flusher).past past) now) in subst (λ (x : LogView D). IsWhole x) is (w.0, w.1)
 
--- behind a record the next begins
+-- after a record the next begins
 next_start : (records : List (List ℕ)) (count place : ℕ) (front behind : List (List ℕ)) → records ≡ front ++ behind → length front ≡ count → length (concat front) ≡ place
     → (words : List ℕ) → slice_get records count ≡ Some words → IsStart records (count + 1) (place + length words)
 next_start records count place front [] is count_is at words got = absurd (let none : slice_get records count ≡ None = ap (λ (l : List (List ℕ)). slice_get l count) is ∙ got_behind front [] count (sym count_is) in let no : Some words ≡ None = sym got ∙ none in cc)

@@ -1,4 +1,5 @@
--- A list is changed element by element, from the front, and beside each change an element is put behind another list.
+-- A list is changed element by element, from the front, and beside each change an element is put at the end of another
+-- list.
 use Rattle.std.proofs.Common.{◌≡◌, ℕ, ◌+◌, ◌<◌, ◌≤◌, List, [], ◌∷◌, ◌++◌, All, Some, length, get_or, set, sym, ap, subst, ◌∙◌, arith, length-append}
 use mathlib.Core.Logic.{dite}
 use native.Mathlib.Decide.{dec_le}
@@ -36,6 +37,6 @@ module _ {A B : Type 0} (R : A → B → A → Type 0) where
             (λ less. p.done k a b c a_at (sym (ap (λ (l : List B). slice_get l k) pushed ∙ get_front ys (y ∷ []) k (omega arith)) ∙ b_at) (sym (get_other now n k z (λ e. absurd (omega arith))) ∙ c_at));
       }
 
--- a fact of all, where one more is put behind
+-- a fact of all, where one more is put at the end
 pub all_more : {B : Type 0} (P : B → Type 0) (ys more : List B) (y : B) → more ≡ ys ++ y ∷ [] → All P ys → P y → All P more
 all_more {B = B} P ys more y pushed all one = subst (λ (l : List B). All P l) (sym pushed) (All-append P ys (y ∷ []) all (all_alone P y one))

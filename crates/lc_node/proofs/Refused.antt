@@ -26,7 +26,7 @@ handed_on res fault P is its =
     let p = err_from_is_err_and res is in
     subst (λ (r : Result _ NodeFault). IfErr r P) (sym p.1) (subst P (sym p.2) its)
 
--- the end of what was taken, which is what was stable and the words behind it
+-- the end of what was taken, which is what was stable and the words after it
 pub end_behind : (v w : View) (round : ℕ) (stable words : List ℕ) → w.past ≡ v.past → round ≡ length v.past → stable ≡ v.taken → w.taken ≡ v.taken ++ words → end_of w ≡ round * 65536 + length stable + length words
 end_behind v w round stable words past at same taken =
     let long : length w.taken ≡ length stable + length words = omega (arith, ap (λ (l : List ℕ). length l) taken, length-append v.taken words, ap (λ (l : List ℕ). length l) same) in

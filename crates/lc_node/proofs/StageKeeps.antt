@@ -17,7 +17,7 @@ wins v u w at n sees last is below = let seen : w.seen ≡ u.seen = ap (λ (z : 
   subst (λ (x : ℕ). LieBelow x v.mine) (last ∙ sym seen) (subst (λ (l : List Reservation). LieBelow at l) (ap (λ (z : View). z.mine) sees) below),
 )
 
--- what lies behind all that were closed is the last of them
+-- what lies after all that were closed is the last of them
 last_behind : (r : Reservation) (mine : List Reservation) (at : ℕ) → r.closed ≡ true → 0 < length r.words → r.round ≡ round_of at → r.place ≡ offset_of at → LieBelow at mine → (latest mine).place < 65536 → latest (r ∷ mine) ≡ r
 last_behind r mine at shut some round place below near =
     ap (λ (b : Bool). cond b (later r (latest mine)) (latest mine)) shut ∙ ap (λ (b : Bool). cond b r (latest mine)) lower

@@ -61,7 +61,7 @@ module _ {A : Type 0} where
   front_is (x ∷ xs) (suc i) zero less = refl
   front_is (x ∷ xs) (suc i) (suc k) less = front_is xs i k (omega (arith, less))
 
-  -- and what stands behind it
+  -- and what stands after it
   pub behind_is : (xs : List A) (i k : ℕ) → slice_get (take i xs ++ drop (suc i) xs) (i + k) ≡ slice_get xs (suc i + k)
   behind_is xs zero k = (let same : 0 + k ≡ k = omega arith in ap (slice_get (drop 1 xs)) same ∙ get-drop 1 k xs)
   behind_is [] (suc i) k = refl

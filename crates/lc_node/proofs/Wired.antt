@@ -103,7 +103,7 @@ module _ {P : Type 0} where
   got_inbox : (all : List (Ends P)) (node peer : ℕ) (mine : Ends P) → slice_get all node ≡ Some mine → inbox_from all node peer ≡ slice_get mine.from.ends.items (place_of node peer)
   got_inbox all node peer mine at = ap (λ (o : Option (Ends P)). option_and_then (λ (m : Ends P). slice_get m.from.ends.items (place_of node peer)) o) at
 
-  -- A line from one node to another, whose ends go behind those that they have
+  -- A line from one node to another, whose ends go after those that they have
   module _ (from to : ℕ) (all : List (Ends P)) (peer : PeerEnd P) (inbox : PeerInbox P) (sender receiver sender_new receiver_new : Ends P)
       (differ : from ≢ to)
       (sender_at : slice_get all from ≡ Some sender) (receiver_at : slice_get all to ≡ Some receiver)

@@ -149,11 +149,11 @@ clean_gate now dirty page slot image clean is =
     let here : slot_at page slot + 0 ≡ slot_at page slot = omega arith in
     is.stable 0 (ap dirty here ∙ clean)
 
--- a slot is its gate and what stands behind it
+-- a slot is its gate and what stands after it
 pub gate_and_behind : (slot : List ℕ) → 0 < length slot → slot ≡ get_or slot 0 0 ∷ drop 1 slot
 gate_and_behind slot some = drop_more slot 0 0 some
 
--- with nothing dirty behind its gate, that is the same in each image
+-- with nothing dirty after its gate, that is the same in each image
 pub behind_image : (now : List ℕ) (dirty : ℕ → Bool) (page : ℕ) (slot : Slot) (image : List ℕ) → 0 < length (slot_bytes now page slot)
     → ((k : ℕ) → 0 < k → k < 272 → dirty (slot_at page slot + k) ≡ false) → IsSlotImage now dirty page slot image
     → (byte : ℕ) × (image ≡ byte ∷ drop 1 (slot_bytes now page slot))

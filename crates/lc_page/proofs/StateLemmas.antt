@@ -261,7 +261,7 @@ module _ (now : List ℕ) (dirty : ℕ → Bool) (draft : Draft) (text : PageTex
     closing_beside : IsBeside later soiled draft text (page_in now draft.page)
     closing_beside = kept_beside now later dirty soiled draft text (page_in now draft.page) there_kept settled_beside
 
-    -- behind the gate all reads as before
+    -- after the gate all reads as before
     rest_same : (k : ℕ) → 0 < k → k < 272 → get_or (slot_bytes later draft.page draft.slot) k 0 ≡ get_or (slot_bytes now draft.page draft.slot) k 0
     rest_same k some below =
         slot_get later draft.page draft.slot k below
@@ -322,7 +322,7 @@ gate_laid now later page slot byte room lies =
     let small : number_of slot ≤ 1 = number_small slot in
     slot_get later page slot 0 (omega arith) ∙ ap (λ (l : List ℕ). get_or l (slot_at page slot + 0) 0) lies ∙ overlaid_get now (byte ∷ []) (slot_at page slot) 0 (omega arith) (omega arith)
 
--- the bytes that were laid behind a gate
+-- the bytes that were laid after a gate
 behind_laid : (now later bytes : List ℕ) (page : ℕ) (slot : Slot) → (2 * page + 2) * 272 ≤ length now → length later ≡ length now → length bytes ≡ 271
     → later ≡ overlaid now (slot_at page slot + 1) bytes → drop 1 (slot_bytes later page slot) ≡ bytes
 behind_laid now later bytes page slot room same long lies =

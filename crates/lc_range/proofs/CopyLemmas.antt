@@ -66,7 +66,7 @@ pub put_none : (old image : List ℕ) (copy : OldBytes) (copies : List OldBytes)
 put_none old image copy copies s other was k =
     was k ∙ ap (λ (o : Option ℕ). unwrap_or o (slice_index old k)) (sym (first_of-None (byte_at copy s k) (kept copies s k) (byte_out copy s k (λ e low high. other e))))
 
--- the copy of a range, and those behind it
+-- the copy of a range, and those after it
 pub copies_more : (ranges : List Range) (bytes : List ℕ) (i j start next : ℕ) (d : Range) → i < length ranges → j ≡ i + 1 → next ≡ start + (get_or ranges i d).len
     → copies_of (drop i ranges) (drop start bytes)
     ≡ record { segment = (get_or ranges i d).segment; offset = (get_or ranges i d).offset; bytes = take (get_or ranges i d).len (drop start bytes) } ∷ copies_of (drop j ranges) (drop next bytes)

@@ -13,7 +13,7 @@ use Rattle.lc_range.proofs.OutsideLemmas.{full}
 use Rattle.lc_range.proofs.GrowLemmas.{are_copies_with, copies_with, copy_of, bytes_with_copies, copies_with_all}
 use Rattle.lc_range.proofs.KeepLemmas.{keeps_first, keeps_bytes, keeps_others, keeps_below}
 
--- Ranges and bytes that are no copies yet, and one behind them
+-- Ranges and bytes that are no copies yet, and one after them
 
 pub none_yet : (xs : List Range) (bytes : List ℕ) → copies_of xs bytes ≡ [] → AreCopies xs bytes → (length xs ≡ 0) × (length bytes ≡ 0)
 none_yet [] bytes e are = (refl, are.whole)

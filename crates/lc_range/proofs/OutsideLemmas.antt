@@ -49,7 +49,7 @@ later_beyond run [] s to before le at = tt
 later_beyond run (next ∷ runs) s to before le at =
     (λ same. elim before.0 [ inl less ↦ absurd (omega (arith, less, same, le)) | inr both ↦ omega (arith, both.1, at (both.0 ∙ same)) ], later_beyond run runs s to before.1 le at)
 
--- a run behind these positions, and all later ones
+-- a run after these positions, and all later ones
 pub behind_all : (range run : Range) (runs : List Range) (s from to : ℕ) → range.segment ≡ s → range.offset + range.len ≡ to → is_before range run ≡ true → IsCanonical (run ∷ runs) → parts s from to (run ∷ runs) ≡ piece s from to
 behind_all range run runs s from to same end e c =
     let at : run.segment ≡ s → to ≤ run.offset = λ here. elim (before_is range run e) [ inl less ↦ absurd (omega (arith, less, here, same)) | inr both ↦ omega (arith, both.1, end) ] in
@@ -77,7 +77,7 @@ from_place range [] (suc i) behind = tt
 from_place range (run ∷ runs) zero behind = (behind 0 run (omega arith) (omega arith), from_place range runs zero (λ k d low high. behind (suc k) d (omega arith) (omega (arith, high))))
 from_place range (run ∷ runs) (suc i) behind = from_place range runs i (λ k d low high. behind (suc k) d (omega (arith, low)) (omega (arith, high)))
 
--- each of these runs ends at a position of its segment or behind
+-- each of these runs ends at a position of its segment or after that
 abbrev pub AreNear : ℕ → ℕ → List Range → Type 0
 AreNear s from [] = Unit {0}
 AreNear s from (run ∷ runs) = (run.segment ≡ s → from ≤ run.offset + run.len) × AreNear s from runs

@@ -62,7 +62,7 @@ at_front [] rest k d within = absurd (omega (arith, within))
 at_front (run ∷ front) rest zero d within = refl
 at_front (run ∷ front) rest (suc k) d within = at_front front rest k d (omega (arith, within))
 
--- the place of a range behind the last run
+-- the place of a range after the last run
 pub placed_behind : (runs front : List Range) (last range : Range) → runs ≡ front ++ last ∷ [] → IsCanonical runs → is_before last range ≡ true
     → IsPartitionPoint (λ run. is_before run range ≡ true) (λ run. is_before run range ≡ false) runs (length runs)
 placed_behind runs front last range e c before = (
@@ -72,7 +72,7 @@ placed_behind runs front last range e c before = (
   (λ k d low high. absurd (omega (arith, low, high))),
 )
 
--- and of one behind all but that
+-- and of one after all but that
 pub placed_at_last : (runs front : List Range) (last range : Range) → runs ≡ front ++ last ∷ [] → is_before last range ≡ false
     → AllWithin (λ run. is_before run range ≡ true) front 0 (length front)
     → IsPartitionPoint (λ run. is_before run range ≡ true) (λ run. is_before run range ≡ false) runs (length front)
@@ -83,7 +83,7 @@ placed_at_last runs front last range e not all = (
       ∙ ap (λ (r : Range). is_before r range) (get_or_push front last d k (omega (arith, low, high, ap length e, length-append front (last ∷ [])))) ∙ not),
 )
 
--- where a range comes behind the runs before it
+-- where a range comes after the runs before it
 pub merged_at : (runs : List Range) (range : Range) (i : ℕ) → i ≤ length runs → IsPartitionPoint (λ run. is_before run range ≡ true) (λ run. is_before run range ≡ false) runs i
     → take i runs ++ absorbed range (drop i runs) ≡ merged range runs
 merged_at [] range zero within place = refl
@@ -102,7 +102,7 @@ held_not_before run range before = elim (cases_Bool (is_holding run range)) [
   | inr e ↦ e
 ]
 
--- one behind a run that does not lie before the range neither
+-- one after a run that does not lie before the range does not either
 none_behind : (run range : Range) (runs : List Range) → LiesBefore run runs → is_before run range ≡ false → some_holds runs range ≡ false
 none_behind run range [] lies not = refl
 none_behind run range (next ∷ runs) lies not = elim (cases_Bool (is_holding next range)) [

@@ -25,7 +25,7 @@ not_before a b e before =
       ]
     ]
 
--- a position behind the end of a range, with a gap between
+-- a position after the end of a range, with a gap between
 abbrev pub IsPast : Range → ℕ → ℕ → Type 0
 IsPast a s k = (a.segment < s) ⊎ ((a.segment ≡ s) × (a.offset + a.len < k))
 

@@ -30,7 +30,7 @@ module _ (runs : List Range) (range : Range) (place : Touched) (same : place.ran
       let few : length (merged range runs) ≤ 64 = subst (λ (r : Range). length (merged r runs) ≤ 64) same (room.0 is) in
       absurd (omega (arith, few, above_needs 64 range runs some canonical needs))
 
--- no run has a position at its end or behind
+-- no run has a position at its end or after it
 pub has_below : (runs : List Range) (bound s k : ℕ) → EndWithin runs bound → Has runs s k → k < bound
 has_below [] bound s k ends has = absurd has
 has_below (run ∷ runs) bound s k ends has = elim has [ inl here ↦ below run.offset run.len k bound here.2 ends.0 | inr later ↦ has_below runs bound s k ends.1 later ]

@@ -8,7 +8,7 @@ use Rattle.lc_range.specs.Walk.{is_before, is_holding, joined, absorbed, merged,
 use Rattle.lc_range.specs.declared.range.Range.{Range}
 use Rattle.lc_range.proofs.RangeLemmas.{same_range, before_is, not_before, IsPast, past_before, past_not, past_end, before_before, Touch, touch, in_joined, joined_has, before_joined, joined_before, Holds, holding_is, holding_from}
 
--- each position of later runs is behind this one
+-- each position of later runs is after this one
 pub past : (run : Range) (runs : List Range) (s k : ℕ) → LiesBefore run runs → Has runs s k → IsPast run s k
 past run [] s k before has = absurd has
 past run (next ∷ runs) s k before has = elim has [

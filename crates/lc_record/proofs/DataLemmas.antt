@@ -143,7 +143,7 @@ pushed_all front bytes all start none so_far =
     let empty : bytes ≡ [] = nil_from_length bytes none in
     sym (append-nil front) ∙ ap (λ (l : List ℕ). front ++ l) (sym (ap data_words empty ∙ data_none)) ∙ so_far
 
--- behind all but the last word
+-- after all but the last word
 drop_last : (front : List ℕ) (last used len : ℕ) → len ≡ 8 * length front + used → drop used (to_le_bytes w64 last) ≡ drop len (bytes_of (front ++ last ∷ []))
 drop_last front last used len is =
     let at_last : drop (8 * length front) (bytes_of front ++ to_le_bytes w64 last) ≡ to_le_bytes w64 last = drop_at (bytes_of front) (to_le_bytes w64 last) (8 * length front) (length-bytes_of front) in

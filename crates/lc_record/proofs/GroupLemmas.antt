@@ -66,7 +66,7 @@ extended_bytes bytes ws more end text at =
 
 -- Words by chunks
 
--- the bytes of words, and zeros behind them up to a chunk's
+-- the bytes of words, and zeros after them up to a chunk's
 abbrev pub filled : List ℕ → List ℕ
 filled words = bytes_of words ++ replicate (8 * (8 - length words)) 0
 

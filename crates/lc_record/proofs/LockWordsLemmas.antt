@@ -27,7 +27,7 @@ lock_next (a ∷ b ∷ rest) x e =
     let first : locks_in (a ∷ b ∷ rest) ≡ made.0 ∷ locks_in made.1 = rw taken.0 refl in
     first ∙ ap (λ (y : Lock × List ℕ). y.0 ∷ locks_in y.1) taken.1
 
--- so many locks, and the words behind them
+-- so many locks, and the words after them
 pub record LocksStand (n : ℕ) (words : List ℕ) (locks : List Lock) (rest : List ℕ) : Type 0 where
   pub front : locks_in (take (2 * n) words) ≡ locks
   pub behind : drop (2 * n) words ≡ rest

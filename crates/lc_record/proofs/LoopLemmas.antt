@@ -46,7 +46,7 @@ module _ {A : Type 0} (read : List ℕ → Option (A × List ℕ)) (front : List
       let one : with_front front (many read (n - i) words) ≡ Some (front, words) = rw k (ap (λ (l : List A). Some (l, words)) (append-nil front)) in
       sym so_far ∙ one
 
--- what stands behind ranges that follow, where those before them want a version
+-- what stands after ranges that follow, where those before them want a version
 abbrev pub walked_on : GrammarVersion → GrammarVersion → Place → Option (List RangeData × List ℕ) → Option (List ℕ)
 walked_on needed version before read = read >>= λ ranges. cond (follow before ranges.0 && eqb (number (later needed (version_of ranges.0))) (number version)) (Some ranges.1) None
 

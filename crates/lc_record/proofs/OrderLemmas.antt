@@ -66,7 +66,7 @@ locked_above before (lock ∷ locks) segment up locked = elim locked [
 abbrev range_end : RangeData → ℕ
 range_end range = end_of (span_of range)
 
--- the first range comes behind this place, and each other behind the one before it
+-- the first range comes after this place, and each other after the one before it
 abbrev Ordered : ℕ → ℕ → List RangeData → Type 0
 Ordered segment end [] = Unit {0}
 Ordered segment end (range ∷ ranges) = ((segment < range.segment) ⊎ ((segment ≡ range.segment) × (end < range.offset))) × Chain IsBefore (range ∷ ranges)
@@ -243,7 +243,7 @@ follow_from segment end (lock ∷ locks) (range ∷ ranges) up is =
           rw (step_next segment end lock locks (span_of range) other same) (follow_from range.segment (range_end range) locks ranges still later)
     ]
 
--- from the start: no range is of segment 0, since none begins behind the end of a segment
+-- from the start: no range is of segment 0, since none begins beyond the end of a segment
 
 written_some : (ranges : List RangeData) (s : ℕ) → AllByRecursion IsRange ranges → Ordered 0 262144 ranges → Writes s ranges → 0 < s
 written_some [] s is h written = absurd written

@@ -78,7 +78,7 @@ closed_takes len words (last ∷ behind) e =
 abbrev pub head_from : Record → Head
 head_from r = record { version = version_of r.ranges; node = r.node; locks = length r.locks; ranges = length r.ranges; len = record_len r }
 
--- the words of a record, and what stands behind it
+-- the words of a record, and what stands after it
 abbrev words_behind : Head → List Lock → List RangeData → List ℕ → List ℕ
 words_behind head locks ranges rest = head_first head ∷ head_second head ∷ (flat_map lock_words locks ++ (flat_map (range_words head.version) ranges ++ head.len ∷ rest))
 
@@ -196,7 +196,7 @@ record_read : (words : List ℕ) (f : Front) (ranges : List RangeData) (rest : L
 unfolding record_at
 record_read words f ranges rest has_front has_ranges = rw (has_front, has_ranges) refl
 
--- what stands behind the ranges
+-- what stands after the ranges
 abbrev walked_front : Front → Option (List ℕ)
 walked_front f = walked f.head.version (start f.locks) (ranges_at f.head.version f.head.ranges f.rest)
 

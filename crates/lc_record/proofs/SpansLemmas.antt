@@ -47,7 +47,7 @@ spans_next version words place (suc n) x some e = let same : n ≡ suc n - 1 = o
 
 -- What is read of a range
 
--- behind its header
+-- after its header
 place_behind : (version : GrammarVersion) (words : List ℕ) (x : Span × List ℕ) → place_at version words ≡ Some x → x.1 ≡ drop (place_words version) words
 unfolding packed_at apart_at
 place_behind First [] x e = absurd cc
@@ -164,7 +164,7 @@ span_at version place (range ∷ ranges) (suc i) x left e =
     let next : suc i + 1 ≡ suc (i + 1) = omega arith in
     (its.0, its.1, its.2, ap (λ (n : ℕ). drop n (placed_from version place (range ∷ ranges))) next ∙ its.3)
 
--- behind the last
+-- after the last
 pub no_span : (version : GrammarVersion) (place : ℕ) (ranges : List RangeData) (i : ℕ) → drop i (placed_from version place ranges) ≡ [] → length ranges ≤ i
 no_span version place [] i e = omega arith
 no_span version place (range ∷ ranges) zero e = absurd cc

@@ -74,7 +74,7 @@ range_room version (r ∷ ranges) (suc i) range below is =
       ranges_len-cons version (span_of r) (spans_of ranges),
     )
 
--- the spelling of a record begun: its first two words, and these behind them
+-- the spelling of a record begun: its first two words, and these after them
 abbrev pub begun : Record → List ℕ → SpellingView
 begun r words = record { words = header r ∷ second_word r.node (length r.locks) ∷ words; version = version_of r.ranges; len = record_len r }
 

@@ -124,7 +124,7 @@ read-lengths read bytes len others own j b is =
           ap (λ (l : List ℕ). Some (length l)) same ∙ own ∙ ap len (sym here)
     ]
 
--- what stands in a list behind which one item was put
+-- what stands in a list at whose end one item was put
 pub get-pushed : {A : Type 0} (xs : List A) (y : A) (j : ℕ) (x : A) → slice_get (xs ++ y ∷ []) j ≡ Some x → (slice_get xs j ≡ Some x) ⊎ ((j ≡ length xs) × (x ≡ y))
 get-pushed xs y j x is =
     elim (cases_lt j (length xs)) [

@@ -36,7 +36,7 @@ module _ {D : Type 0} (g : Geometry) (areas : List D) where
       let all : length w.merged.changes.items ≡ length (i.between.front ++ i.between.back) = ap length i.between.all in
       omega (arith, differ, all, i.between.count, length-append i.between.front i.between.back)
 
-  -- behind the last page
+  -- after the last page
   pub begun-calls : (w : PageWrites) (r : LogResets) → r.written ≡ w.written → r.next ≡ 0 → r.is_closing ≡ false → writes_done w ≡ 6 * w.written → all_pages w ≡ w.written →
       (at : ℕ) → Calls (recovering g areas (Resetting r)) at → Calls (recovering g areas (WritingPages w)) at
   begun-calls w r written next rest done pages at =

@@ -21,7 +21,7 @@ abbrev behind_first : {A : Type 0} → List A → List A
 behind_first [] = []
 behind_first (y ∷ ys) = ys
 
--- the place of a record behind others
+-- the place of a record after others
 pub place-behind : (at : ℕ) (records : List Record) (seen behind : List (ℕ × Record)) (x : ℕ × Record) → placed at records ≡ seen ++ x ∷ behind → x.0 ≡ at + length (joined (without_places seen))
 place-behind at [] [] behind x is = absurd (omega (arith, ap (λ (l : List (ℕ × Record)). length l) is))
 place-behind at [] (y ∷ ys) behind x is = absurd (omega (arith, ap (λ (l : List (ℕ × Record)). length l) is))

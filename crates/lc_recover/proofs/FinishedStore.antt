@@ -1,4 +1,4 @@
--- What is kept behind the last step of a recovery is a recovered store.
+-- What is kept after the last step of a recovery is a recovered store.
 use Rattle.std.proofs.Common.{◌≡◌, ℕ, ◌+◌, ◌-◌, ◌^◌, ◌<◌, ◌≤◌, true, Some, List, map, length, get_or, sym, ◌∙◌, ap, subst, arith, inl, inr}
 use Rattle.std.specs.Prelude.{slice_get}
 use Rattle.std.specs.Option.{unwrap_or}
@@ -170,7 +170,7 @@ module _ {D : Type 0} (a : Ghosts D) (g : Geometry) (f : Finished) (areas : List
   pub areas_long : (r : RecoveredStore D) → r ≡ stored → HaveLengths a r.geometry r.areas
   areas_long r is = subst (λ (x : RecoveredStore D). HaveLengths a x.geometry x.areas) (sym is) (have-lengths a g (Done f) areas fits)
 
--- What is kept behind the last page
+-- What is kept after the last page
 
 module _ (g : Geometry) (segments : List SegmentPages) (known : List ℕ) (store : Store) (whole : IsWhole g segments known store) where
   number_is : (s number : ℕ) → slice_get known s ≡ Some number → (s < g.segments) × (number ≡ whole.numbers (s + 1))

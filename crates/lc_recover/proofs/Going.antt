@@ -125,7 +125,7 @@ module _ {D : Type 0} (a : Ghosts D) (g : Geometry) (areas : List D) where
       omega (arith, pages, done.2, few-resets g r going.next)
   not_over-done (Done f) going more done = more tt
 
-  -- a step behind which all is done is the last
+  -- a step after which all is done is the last
   pub done-last : (stage next : Stage) (news : List D) → IsGoing a g stage areas → ((pages : ℕ) → pages_in stage ≡ Some pages → pages_in next ≡ Some pages) → steps_of g next ≡ steps_of g stage + 1
       → IsDone (recovering g news next) → IsLast (recovering g areas stage)
   done-last (Syncing synced) next news going pages step done = absurd (omega (arith, going.fits.1, step, done.2, g.some_nodes))

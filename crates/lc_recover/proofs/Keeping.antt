@@ -48,7 +48,7 @@ module _ {D : Type 0} (a : Ghosts D) (g : Geometry) (olds news : List D) (ok : B
       (writing-merges a g w olds fits was i) merges
       (show_pages-merge a g news w.kept.logs.items i.store w.kept.segments.items (AsFarAs i.between.front i.content i.numbers) i.content i.numbers (have-lengths a g (Syncing 0) news later) honest i.texts i.pages i.result.merges shows)
 
--- behind the last reset all logs are empty
+-- after the last reset all logs are empty
 module _ {D : Type 0} (a : Ghosts D) (g : Geometry) (r : LogResets) (f : Finished) (areas : List D) where
   emptied : (k : ℕ) (area : D) → k < r.next → LogIs a r k area → IsEmptied a area
   emptied k area less known =

@@ -1,4 +1,4 @@
--- Behind the last page that is written.
+-- After the last page that is written.
 use Rattle.std.proofs.Common.{◌≡◌, ◌⊎◌, ℕ, ◌+◌, ◌-◌, ◌*◌, false, Option, Some, None, List, [], ◌++◌, length, drop, Contains, refl, sym, ◌∙◌, ap, subst, arith, inl, inr}
 use Rattle.std.specs.Prelude.{slice_get, slice_index_or, if◌then◌else◌, IfOk, IsTrue, Result}
 use Rattle.std.proofs.lemmas.List.{drop_all, length-append, nil_from_length as empty_list, append-nil as append_nothing}
@@ -52,7 +52,7 @@ module _ (logs : List (List ℕ)) (store : Store) (changes : List Change) (index
       let one = index.whole segment page behind.2 text behind.0 text_is behind.1 behind.3 behind.4 in
       (one.0, one.1, (one.2, one.3))
 
--- Behind the last page
+-- After the last page
 
 module _ (g : Geometry) (w : PageWrites) (i : IsWriting g w) (end : w.next ≡ length w.merged.changes.items) where
   back-empty : i.between.back ≡ []

@@ -112,7 +112,7 @@ one_range_more segment place front r old =
     sym (option_or-assoc (byte_in segment place r) (byte_of segment place front) old)
     ∙ ap (λ (o : Option ℕ). option_or o old) (sym (byte_of-push segment place front r))
 
--- Words behind others
+-- Words after others
 
 none_from : (offset place : ℕ) → byte_from offset [] place ≡ None
 none_from zero place = refl

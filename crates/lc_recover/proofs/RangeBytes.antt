@@ -39,7 +39,7 @@ before_before a b c one other = elim one [
   ])
 ]
 
--- the first stands before all behind it
+-- the first stands before all that follow
 all_before : (a : RangeData) (rs : List RangeData) → Chain IsBefore (a ∷ rs) → All (IsBefore a) rs
 all_before a [] chain = All-nil (IsBefore a)
 all_before a (b ∷ rs) chain = All-cons (IsBefore a) b rs chain.0 (All-weaker (IsBefore b) (IsBefore a) (λ c later. before_before a b c chain.0 later) rs (all_before b rs chain.1))

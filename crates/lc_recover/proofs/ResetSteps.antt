@@ -91,7 +91,7 @@ module _ {D : Type 0} (a : Ghosts D) where
           ];
     }
 
--- what is known of the areas behind a call of the next log's
+-- what is known of the areas after a call of the next log's
 module _ {D : Type 0} (a : Ghosts D) (g : Geometry) (r next : LogResets) (areas : List D) (k : ℕ) (old new : D) (was : slice_get areas k ≡ Some old) (fits : AreasFit a g (Resetting r) areas) (honest : a.honest new ≡ a.honest old) (len : length (a.now new) ≡ length (a.now old)) (bytes : a.honest new ≡ true → (at : ℕ) → slice_index_or (a.now new) at 0 < 256) (here : k < g.nodes) where
   pub reset-begins : AreasFit a g (Syncing 0) (slice_set areas k new)
   reset-begins =
@@ -131,7 +131,7 @@ module _ {D : Type 0} (a : Ghosts D) (r : LogResets) where
             ])
       ]
 
-  -- and behind that
+  -- and after that
   pub is-closing : (area : D) → r.is_closing ≡ true → LogIs a r r.next area → (records : List Record) → IsLogText (slice_index_or r.logs.items r.next []) records → IsShut (a.now area) (a.dirty area) records
   is-closing area closes known records text =
       elim known [

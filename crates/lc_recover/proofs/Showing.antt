@@ -150,7 +150,7 @@ module _ {D : Type 0} (a : Ghosts D) (g : Geometry) where
       pages = one-page;
     }
 
-  -- While logs are emptied, and behind it
+  -- While logs are emptied, and afterwards
 
   emptied-text : (area : D) → 8 ≤ length (a.now area) → IsEmptied a area → (image : List ℕ) → IsImage (a.now area) (a.dirty area) image → IsLogText (words_of image) []
   emptied-text area long emptied image of =

@@ -137,7 +137,7 @@ module _ {D : Type 0} (a : Ghosts D) where
           subst (λ (n : ℕ). (p : SegmentPages) → slice_get w.kept.segments.items n ≡ Some p → RestsOrWrites a g w n p old) s ((fits.each k old was).segment alive (omega (arith, here, next.segment))) pages next.kept in
           rests.writes page write (subst (λ (n : ℕ). IsCurrent w n page write) back is)
 
-      -- the areas behind a call of a page of the segment
+      -- the areas after a call of a page of the segment
       pub write-fits : (later : PageWrites) → later.kept.logs.items ≡ w.kept.logs.items
           → ((s : ℕ) → s + 1 ≢ c.segment → (p : SegmentPages) → slice_get later.kept.segments.items s ≡ Some p → slice_get w.kept.segments.items s ≡ Some p)
           → ((s : ℕ) → s + 1 ≢ c.segment → (page : ℕ) (write : Writing) → IsCurrent later (s + 1) page write → ⊥)
@@ -287,7 +287,7 @@ none-of (Some x) is = absurd (true≢false is)
 pub some-of : (o : Option Writing) → is_some o ≡ true → o ≡ None → ⊥
 some-of o some none = absurd (true≢false (sym some ∙ ap (λ (x : Option Writing). is_some x) none))
 
--- What a stop leaves behind a call of a page
+-- What a stop leaves after a call of a page
 
 module _ {D : Type 0} (a : Ghosts D) (g : Geometry) (w : PageWrites) (areas : List D) (k : ℕ) (old new : D) (was : slice_get areas k ≡ Some old) (fits : AreasFit a g (WritingPages w) areas) (honest : a.honest new ≡ a.honest old) (len : length (a.now new) ≡ length (a.now old)) (bytes : a.honest new ≡ true → (at : ℕ) → slice_index_or (a.now new) at 0 < 256)
     (i : IsWriting g w) (c : Change) (pages : SegmentPages) (next : IsNext w c pages) (here : k + 1 ≡ g.nodes + c.segment) (alive : AreHonest a (slice_set areas k new)) where

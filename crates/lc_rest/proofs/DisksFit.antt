@@ -1,4 +1,4 @@
--- The disks behind a cluster at rest fit the state behind it.
+-- The disks of a cluster at rest fit the state that it stands for.
 use Rattle.std.proofs.Common.{◌≡◌, ℕ, ◌+◌, ◌-◌, ◌*◌, ◌≤◌, List, [], ◌∷◌, ◌++◌, map, filter, length, take, drop, replicate, All, refl, sym, ◌∙◌, ap, subst, arith, inl, inr, true≢false}
 use Rattle.std.specs.Prelude.{max, slice_index_or}
 use Rattle.std.proofs.lemmas.List.{map-append, take_at}

@@ -144,7 +144,7 @@ numbers-rise g numbers (r ∷ rs) segment =
 counted-lock : (g : Geometry) (r : Record) (numbers : ℕ → ℕ) (segment : ℕ) → IsTaken g r → counted numbers (transaction_of g r) segment ≡ (if has_lock segment r then numbers segment + 1 else numbers segment)
 counted-lock g r numbers segment taken = ap (λ (b : Bool). if b then numbers segment + 1 else numbers segment) (sets-lock g r segment taken)
 
--- the last of the records that have a lock on the segment has the number behind all of them
+-- the last of the records that have a lock on the segment has the number after all of them
 last-of : (g : Geometry) (P : Record → Type 0) (numbers : ℕ → ℕ) (segment : ℕ) (rs : List Record) → All (IsTaken g) rs → Follow g numbers rs → All P rs
     → (counted_all numbers (map (transaction_of g) rs) segment ≡ numbers segment) ⊎ ((r : Record) × P r × IsTaken g r × (number_in segment r.locks ≡ Some (counted_all numbers (map (transaction_of g) rs) segment)))
 last-of g P numbers segment [] taken follow all = inl refl
@@ -168,7 +168,7 @@ last-of g P numbers segment (r ∷ rs) taken follow all =
         inr (r, All-head P r rs all, own, its.1 ∙ ap Some (next ∙ sym (same ∙ count)))
     go false e same = inl (same ∙ counted-lock g r numbers segment own ∙ ap (λ (b : Bool). if b then numbers segment + 1 else numbers segment) e)
 
--- the records behind have greater numbers
+-- the later records have greater numbers
 abbrev IsAbove : ℕ → ℕ → Record → Type 0
 IsAbove segment number r = (n : ℕ) → number_in segment r.locks ≡ Some n → number < n
 
@@ -258,7 +258,7 @@ all-nodes Q nodes (r ∷ rs) few each =
     All-cons Q r rs (filter-head Q r rs (each r.node (All-head (λ (q : Record). q.node < nodes) r rs few)))
     (all-nodes Q nodes rs (All-tail (λ (q : Record). q.node < nodes) r rs few) (λ n less. filter-tail Q n r rs (each n less)))
 
--- The numbers behind what is dropped
+-- The numbers after what is dropped
 
 max-same : (a b c q : ℕ) → a ≤ b → b ≤ c → c ≡ max a q → c ≡ max b q
 max-same a b c q one two three = grind (arith, one, two, three)

@@ -57,7 +57,7 @@ counted-at f (lock ∷ locks) numbers segment known next =
     either false true n is = refl
     either false false n is = refl
 
--- so the numbers are those behind its transaction
+-- so the numbers are those after its transaction
 pub counts : (g : Geometry) (r : Record) (numbers : List ℕ) → IsTaken g r → All (Known (length numbers)) r.locks → IsNext (number_at numbers) r → counted (number_at numbers) (transaction_of g r) ≡ number_at (counted_by r.locks numbers)
 counts g r numbers taken known next = λ i segment.
     ((ap (λ (b : Bool). if b then number_at numbers segment + 1 else number_at numbers segment) (sets-lock g r segment taken)

@@ -173,7 +173,7 @@ runs-canonical (a ∷ ranges) all chain = (
 
 -- The bytes
 
--- no run behind a range has its places
+-- no run after a range has its places
 none-behind : (a : RangeData) (ranges : List RangeData) (k : ℕ) → k < length a.bytes → LiesBefore (run_of a) (map run_of ranges) → Has (map run_of ranges) a.segment (a.offset + k) → ⊥
 none-behind a [] k less before has = has
 none-behind a (b ∷ ranges) k less before has = elim has [

@@ -46,7 +46,7 @@ count-more : (logs : List (List Record)) (segment : ℕ) (xs ys : List ℕ) → 
 count-more logs segment xs ys =
     (let parts = ap (count_log segment) (merged-append logs [] xs ys) ∙ count-append segment (merged_after logs [] xs) (merged_after logs xs ys) in omega (arith, parts))
 
--- Numbers behind turns
+-- Numbers after turns
 
 turns-front : (logs : List (List Record)) (numbers before xs ys : List ℕ) → AreTurns logs numbers before (xs ++ ys)
     → AreTurns logs numbers before xs × AreTurns logs (after_turns logs numbers before xs) (before ++ xs) ys
@@ -61,7 +61,7 @@ turns-front logs numbers before (x ∷ xs) ys are =
 abbrev AllKnown : List (List Record) → ℕ → Type 0
 AllKnown logs segments = (node k : ℕ) → All (Known segments) (record_at logs node k).locks
 
--- what is behind the end of a log has no lock
+-- what is beyond the end of a log has no lock
 pub all-known : (logs : List (List Record)) (segments : ℕ) → AreKnown segments logs → AllKnown logs segments
 all-known logs segments known node k = elim (cases_lt node (length logs)) [
   | inl inside ↦ elim (cases_lt k (length (slice_index_or logs node []))) [
@@ -184,7 +184,7 @@ module _ (logs : List (List Record)) (numbers turns others : List ℕ) (node : �
       (subst (λ k. IsNext (λ s. number_at numbers s + count_turns logs s ys) (record_at logs m k)) (sym place) (turn-number logs numbers ys m vs known two)) its.1 in
       omega (arith, first, second)
 
-  -- behind a record of the segment there is one more
+  -- after a record of the segment there is one more
   count-behind : (xs : List ℕ) (m : ℕ) (us : List ℕ) (segment : ℕ) → has_lock segment (record_at logs m (times m xs)) ≡ true → count_turns logs segment xs + 1 ≤ count_turns logs segment ((xs ++ m ∷ []) ++ us)
   count-behind xs m us segment has = (let next = count-next logs segment xs m true has in let more = count-more logs segment (xs ++ m ∷ []) us in omega (arith, next, more))
 

@@ -19,7 +19,8 @@ use Rattle.lc_stage.proofs.Calls.{one_more}
 use Rattle.lc_stage.proofs.Counting.{lies_in, lies_of}
 use Rattle.lc_stage.proofs.Keeps.{St, M, tail, alone, ends_below, covers, SamePlaces, at_here, has_back, honest_back, ended_back, sound_kept, knows_more, rebuilt, quiet, loads}
 
--- a word that is not 0, behind what was taken, is the header of a closed reservation of this round whose words stand there
+-- a word that is not 0, after what was taken, is the header of a closed reservation of this round whose words stand
+-- there
 pub header_at : (room : ℕ) (s : St) → (rule : Staged room s) → (f : View) → get_elem? s.views 0 ≡ some f → length f.taken < room → get_or s.words (word_of room rule.round (length f.taken)) 0 ≢ 0 → f.cleared ≡ 0
     → (r : Reservation) × Has s.views r × (r.place ≡ length f.taken) × (r.closed ≡ true) × (r.round ≡ rule.round)
 header_at room s rule f at fit full uncleared = let k : ℕ = length f.taken in let n : ℕ = rule.round in let t = rule.took f at in let none = t.knows_cleared in
@@ -32,7 +33,7 @@ header_at room s rule f at fit full uncleared = let k : ℕ = length f.taken in 
 flusher_is : (vs : List View) (id : ℕ) (w g : View) → id ≡ 0 → get_elem? (set vs id w) 0 ≡ some g → w ≡ g
 flusher_is vs id w g first e = ⊎_elim (λ (z : (0 ≡ id) × (w ≡ g)). z.1) (λ (z : (0 ≢ id) × (get_elem? vs 0 ≡ some g)). absurd (z.0 (sym first))) (at_set vs id 0 w g e)
 
--- the rule once a closed reservation behind what was taken is taken
+-- the rule once a closed reservation after what was taken is taken
 grown : (room : ℕ) (s : St) → (rule : Staged room s) → (f w : View) (r : Reservation) → get_elem? s.views 0 ≡ some f → Has s.views r → r.place ≡ length f.taken → r.closed ≡ true → r.round ≡ rule.round → f.cleared ≡ 0 → w.mine ≡ f.mine
     → w.past ≡ f.past → w.taken ≡ f.taken ++ r.words → w.sealed ≡ f.sealed → w.cleared ≡ f.cleared → w.sealed_at ≡ f.sealed_at → w.ended ≡ f.ended → w.ended_cleared ≡ f.ended_cleared → Known s.words 0 w → Honest s.views rule.round w → Staged room record { words = s.words; homes = s.homes; views = set s.views 0 w }
 grown room s rule f w r at has there shut here uncleared mine past taken sealed cleared sealed_at same_end same_cleared known honest = let k : ℕ = length f.taken in let n : ℕ = length r.words in let m : ℕ = rule.round in let t = rule.took f at in let sound = rule.sound r has in let some_words = sound.filled in
@@ -76,7 +77,7 @@ loads_known ws id v p x k = knows_more ws ws id v (loaded p x v) (le_refl (get_o
 takes_known : (ws : List ℕ) (id : ℕ) (v : View) (p x : ℕ) (xs : List ℕ) → Known ws id v → Known ws id (taking xs (loaded p x v))
 takes_known ws id v p x xs k = knows_more ws ws id v (taking xs (loaded p x v)) (le_refl (get_or ws 0 0)) (le_refl (get_or ws 1 0)) (λ _. refl) refl refl refl refl refl refl (λ _ o _. o) k
 
--- nothing is cleared where a word stands behind what was taken
+-- nothing is cleared where a word stands after what was taken
 uncleared : (room : ℕ) (s : St) → (rule : Staged room s) → (f : View) → get_elem? s.views 0 ≡ some f → length f.taken < room → get_or s.words (word_of room rule.round (length f.taken)) 0 ≢ 0 → f.cleared ≡ 0
 uncleared room s rule f at fit full = let t = rule.took f at in let c = t.knows_cleared in dite (dec_le 1 rule.cleared) (λ l. absurd (full (let a = (t.clears l).1 in rule.empty (length f.taken) (omega arith) fit))) (λ n. omega arith)
 
@@ -85,7 +86,7 @@ closed_shows : (room : ℕ) (s : St) → (rule : Staged room s) → (r : Reserva
 closed_shows room s rule r h here shut low zero_there = let sound = rule.sound r h in let to : word_of room rule.round (r.place + 0) ≡ word_of room rule.round r.place = omega arith in
     header_not_zero r.words (sound.shut shut) (sym (sound.stands here 0 sound.filled (omega arith)) ∙ (ap (λ (z : ℕ). get_or s.words z 0) to ∙ zero_there))
 
--- none that is closed begins behind what was taken where a 0 stands
+-- none that is closed begins after what was taken where a 0 stands
 none_closed : (room : ℕ) (s : St) → (rule : Staged room s) → (f : View) → get_elem? s.views 0 ≡ some f → get_or s.words (word_of room rule.round (length f.taken)) 0 ≡ 0 → (r : Reservation) → Has s.views r → r.round ≡ rule.round → r.place ≡ length f.taken → r.closed ≡ true → ⊥
 none_closed room s rule f at zero_there r h here there shut = let t = rule.took f at in dite (dec_le 1 rule.cleared)
     (λ l. let a = (t.clears l).1 in let b = ends_below room s rule r h here in let g = (rule.sound r h).filled in absurd (omega arith))

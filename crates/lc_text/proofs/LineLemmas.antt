@@ -1,4 +1,4 @@
--- A script's first line, and the lines behind it.
+-- A script's first line, and the lines after it.
 use Rattle.std.proofs.Common.{◌≡◌, ℕ, suc, ◌+◌, ◌<◌, List, [], ◌∷◌, ◌++◌, length, get_or, take, drop, refl, sym, ◌∙◌, ap, arith, append_assoc, append-nil, take-append-drop, ne_eqb}
 use Rattle.std.proofs.lemmas.List.{drop_more, get_or-take, length-take-le}
 use Rattle.std.specs.Str.Lines.{strip_carriage_return}

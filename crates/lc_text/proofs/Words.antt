@@ -1,4 +1,4 @@
--- The first word of a line, and those behind it.
+-- The first word of a line, and those after it.
 use Rattle.std.proofs.Common.{◌≡◌, ℕ, ◌+◌, ◌<◌, suc, Bool, true, false, List, [], ◌∷◌, take, drop, length, filter, refl, sym, ap, ◌∙◌, arith}
 use Rattle.std.proofs.lemmas.List.{nil_from_length}
 use Rattle.std.specs.List.{slice_split, prefix_len, position_or_len}
@@ -35,7 +35,7 @@ unfolding texts
 skip p [] = refl
 skip p (x ∷ xs) = skip_more p x xs (p x) refl (skip p xs)
 
--- behind the spaces there is nothing, or a byte that is none
+-- after the spaces there is nothing, or a byte that is none
 stops_more : (p : ℕ → Bool) (x : ℕ) (xs : List ℕ) (b : Bool) → p x ≡ b
     → ((y : ℕ) (ys : List ℕ) → drop (prefix_len p xs) xs ≡ y ∷ ys → p y ≡ false)
     → (y : ℕ) (ys : List ℕ) → drop (prefix_len p (x ∷ xs)) (x ∷ xs) ≡ y ∷ ys → p y ≡ false

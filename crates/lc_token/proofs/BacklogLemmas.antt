@@ -23,7 +23,7 @@ numbered_seq n (q ∷ qs) p e = elim (cases_eq q.seq n) [
   | inr other ↦ numbered_seq n qs p (sym (numbered_later n q qs other) ∙ e)
 ]
 
--- the first with a number is found with more behind it
+-- the first with a number is found with more after it
 pub numbered_before : (n : ℕ) (ps qs : List Part) (p : Part) → numbered n ps ≡ Some p → numbered n (ps ++ qs) ≡ Some p
 numbered_before n [] qs p e = absurd (cc)
 numbered_before n (q ∷ ps) qs p e = elim (cases_eq q.seq n) [
@@ -31,7 +31,7 @@ numbered_before n (q ∷ ps) qs p e = elim (cases_eq q.seq n) [
   | inr other ↦ numbered_later n q (ps ++ qs) other ∙ numbered_before n ps qs p (sym (numbered_later n q ps other) ∙ e)
 ]
 
--- and where there is none, the first of what stands behind
+-- and where there is none, the first of what follows
 pub numbered_behind : (n : ℕ) (ps qs : List Part) → numbered n ps ≡ None → numbered n (ps ++ qs) ≡ numbered n qs
 numbered_behind n [] qs e = refl
 numbered_behind n (q ∷ ps) qs e = elim (cases_eq q.seq n) [
@@ -175,7 +175,7 @@ rest_all a (p ∷ ps) none = elim (cases_eq p.seq (a + 1)) [
   | inr other ↦ rest_ends a p ps other
 ]
 
--- a part with the next number, in front of what is due behind it
+-- a part with the next number, in front of what is due after it
 due_with : (a : ℕ) (p : Part) (ps xs : List Part) → p.seq ≡ a + 1 → AreDue (a + 1) ps xs → AreDue a (p ∷ ps) (p ∷ xs)
 due_with a p ps xs e h = (numbered_here (a + 1) p ps e, due_same (a + 1) ps (p ∷ ps) xs (λ n lt. numbered_later n p ps (λ s. omega (arith, s, e, lt))) h)
 
@@ -338,7 +338,7 @@ pub applied_is : (b : Backlog) (p : Part) → Ascends b.applied b.kept → p.seq
     ≡ advanced b (due_behind b.applied (p ∷ b.kept))
 applied_is b p up e not = advanced_is b p up e (ap (λ (n : ℕ). numbered n b.kept) (sym e) ∙ (unknown b p.seq not).1)
 
--- a part with the next number, where none is due or kept, is all that is due behind it
+-- a part with the next number, where none is due or kept, is all that is due after it
 pub passes_on : (old : Backlog) (number : ℕ) → IsNext old number → PassesOn number old (Applied number) (counted old number)
 passes_on old number h part same =
     let next : part.seq ≡ old.applied + 1 = same ∙ h.next in

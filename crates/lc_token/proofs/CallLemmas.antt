@@ -28,7 +28,7 @@ due_some : (a : ℕ) (p : Part) (ps xs : List Part) → p.seq ≡ a + 1 → AreD
 due_some a p ps [] e h = absurd (let k : Some p ≡ None = sym (numbered_here (a + 1) p ps e) ∙ h in cc)
 due_some a p ps (x ∷ xs) e h = omega arith
 
--- one more part behind the others
+-- one more part after the others
 
 -- it changes nothing at another number
 at_other : (n : ℕ) (ps : List Part) (p : Part) → p.seq ≢ n → numbered n (ps ++ p ∷ []) ≡ numbered n ps
@@ -46,7 +46,7 @@ module _ (a : ℕ) (got given : List Part) (b : Backlog) (agrees : Agrees a got 
   none_next : numbered (b.applied + 1) got ≡ None
   none_next = ap (λ (n : ℕ). numbered (n + 1) got) agrees.reached ∙ due_ends a got (given ++ b.due) agrees.due
 
-  -- what is due stays so, with more behind it
+  -- what is due stays so, with more after it
   still_due : (p : Part) (xs : List Part) → AreDue b.applied (got ++ p ∷ []) xs → AreDue a (got ++ p ∷ []) ((given ++ b.due) ++ xs)
   still_due p xs h = due_joined a got (got ++ p ∷ []) (given ++ b.due) xs (λ n q e. numbered_before n got (p ∷ []) q e) agrees.due (subst (λ (n : ℕ). AreDue n (got ++ p ∷ []) xs) agrees.reached h)
 

@@ -83,7 +83,7 @@ few_remove n (e ∷ es) = elim (cases_eq n e.0) [
   ]
 ]
 
--- The first part, and those behind it in the map
+-- The first part, and those after it in the map
 
 pub led_first : (o : Option Part) (p : Part) (ps now : List Part) → o ≡ Some p → led_by o ps ≡ now → now ≡ p ∷ ps
 led_first o p ps now is view = sym view ∙ ap (λ (q : Option Part). led_by q ps) is
@@ -114,7 +114,7 @@ front_view p first o new es later now is new_is view led later_is =
     ap (λ (q : Option Part). led_by q (values_of later)) new_is
     ∙ ap (λ (ps : List Part). p ∷ ps) (ap values_of later_is ∙ (values_front first es led.numbers up ∙ sym (led_first o first (values_of es) now is view)))
 
--- a part is put behind the first
+-- a part is put after the first
 pub behind_led : (p : Part) (o : Option Part) (es later : List (ℕ × Part)) (now : List Part) → led_by o (values_of es) ≡ now → IsBehindFirst p.seq now → numbered p.seq now ≡ None → AreLed o es
     → later ≡ insert_entry nat_cmp es p.seq p → length es < 9223372036854775806 → AreLed o later
 behind_led p None es later now view behind none led later_is few = absurd (subst (IsBehindFirst p.seq) (sym view) behind)
@@ -134,7 +134,7 @@ behind_view p (Some q) es later now view behind none led later_is =
     ap (λ (ps : List Part). q ∷ ps) (ap values_of later_is ∙ values_insert p es led.numbers unknown)
     ∙ (sym (put_later p q (values_of es) (omega (arith, over))) ∙ ap (put p) view)
 
--- a part is taken out behind the first
+-- a part is taken out after the first
 pub without_led : (n : ℕ) (o : Option Part) (es fewer : List (ℕ × Part)) → AreLed o es → fewer ≡ remove_entry (is_at (nat_cmp n)) es → AreLed o fewer
 without_led n None es fewer led is = let none : fewer ≡ [] = is ∙ ap (remove_entry (is_at (nat_cmp n))) led.leads in
     let G : List (ℕ × Part) → Type 0 = λ xs. AreLed None xs in subst G (led.leads ∙ sym none) led

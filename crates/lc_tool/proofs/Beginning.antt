@@ -1,4 +1,4 @@
--- What a script prints behind the recovery that comes first, and where that does not come to its end.
+-- What a script prints after the recovery that comes first, and where that does not come to its end.
 use Rattle.std.proofs.Common.{◌≡◌, ◌∙◌, ◌⊎◌, ℕ, List, Option, Some, None, IfSome, refl, sym, ap, subst, inl, inr}
 use Rattle.std.specs.Io.KnownBytes.{Appends, Keeps}
 use Rattle.lc_disk.specs.declared.area.Area.{Ghosts}

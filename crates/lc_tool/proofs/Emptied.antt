@@ -1,4 +1,4 @@
--- Behind a flush or a reset that is not refused the store is up, and has the node, which is not halted.
+-- After a flush or a reset that is not refused the store is up, and has the node, which is not halted.
 use Rattle.std.proofs.Common.{◌≡◌, ℕ, zero, suc, ◌+◌, ◌==◌, ◌&&◌, Bool, true, false, not, nat_lt, Option, Some, None, refl, sym, ap, subst, ◌∙◌, inl, inr, true≢false}
 use Rattle.std.specs.Prelude.{MatchBool, MatchOption}
 use Rattle.std.proofs.lemmas.Bool.{and_parts as and-both}
@@ -132,7 +132,7 @@ module _ (m : Setting) (node : ℕ) where
       let last = last_of m (FlushStep node) 3 s x reply after next to in
       flush_keeps m last.mid node reply after plain last.last.step
 
-  -- behind a flush that leaves more to do
+  -- after a flush that leaves more to do
   pub flushed_there : (s : State) (x : Numbers) (reply : Reply) (after : State) (next : Numbers) → Repeats m 3 (FlushStep node) s x reply after next → stopping reply ≡ None → HasNode m node after
   flushed_there s x reply after next to goes = flushed_node s x reply after next to (goes_plain reply goes)
 
@@ -151,7 +151,7 @@ module _ (m : Setting) (node : ℕ) where
   asked_node s x reply after next (inl refuses) plain = absurd (plain Uncommitted refuses.1)
   asked_node s x reply after next (inr goes) plain = cleaned_node s x reply after next goes.1 plain
 
-  -- behind a truncation that is not refused
+  -- after a truncation that is not refused
   pub truncated_node : (s : State) (x : Numbers) (reply : Reply) (after : State) (next : Numbers) → Truncates m node s x reply after next → IsPlain reply → HasNode m node after
   truncated_node s x reply after next to plain = elim (stopping to.0) as (λ (o : Option Reply). stopping to.0 ≡ o → MatchOption o (AsksFirst m node to.1 to.2 reply after next) (λ last. (reply ≡ last) × (after ≡ to.1) × (next ≡ to.2)) → HasNode m node after) [
     | None ↦ λ goes asks. asked_node to.1 to.2 reply after next asks plain

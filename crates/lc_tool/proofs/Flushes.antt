@@ -18,7 +18,7 @@ use Rattle.lc_tool.proofs.Again.{flush_ends, flush_moves}
 use Rattle.lc_tool.proofs.Truncations.{IsFollowed, flush_refused, repeats_led, up_followed, world_followed}
 
 module _ (m : Setting) (node : ℕ) where
-  -- behind a first call: more of them, or it was the last
+  -- after a first call: more of them, or it was the last
   finishes_behind : (left : ℕ) (s : State) (x : Numbers) (reply : Reply) (after : State) (next : Numbers) (first : Reply) (mid : State) (between : Numbers)
       → Answers m s x (FlushStep node) first mid between
       → ((mid.flush node).steps ≡ (s.flush node).steps + 1 → Repeats m left (FlushStep node) mid between reply after next → Finishes m mid between (FlushStep node) reply after next)

@@ -242,7 +242,7 @@ module _ (m : Setting) where
     asks_keep s x reply after next (inl refuses) = other_reply reply (Refused Uncommitted) refuses.1 (λ is. absurd cc)
     asks_keep s x reply after next (inr goes) = cleans_keep s x reply after next goes.1
 
-  -- behind a flush that leaves more to do the node is known
+  -- after a flush that leaves more to do the node is known
   flushed_known : (node : ℕ) (first : Reply) → KeepsTo m.geometry (FlushStep node) first → stopping first ≡ None → is_known m.geometry (FlushStep node) ≡ true
   flushed_known node first keeps goes = elim (is_known m.geometry (FlushStep node)) as (λ (b : Bool). is_known m.geometry (FlushStep node) ≡ b → b ≡ true) [
     | true ↦ λ is. refl

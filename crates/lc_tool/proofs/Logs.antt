@@ -29,7 +29,7 @@ take_whole zero records all = tt
 take_whole (suc n) [] all = tt
 take_whole (suc n) (r ∷ rs) all = (all.0, take_whole n rs all.1)
 
--- so many of them, behind others
+-- so many of them, after others
 part_whole : (m n : ℕ) (records : List Record) → AllByRecursion IsWhole records → AllByRecursion IsWhole (drop m (take n records))
 part_whole m n records all = drop_whole m (take n records) (take_whole n records all)
 

@@ -81,7 +81,7 @@ module _ {D : Type 0} (a : Ghosts D) where
         still = λ g at fits. stays_down mid.phase new.phase steps down.0 down.1 stepped.1 g at (gone.still g at fits);
       }
 
-  -- behind so many steps none says that more are to come
+  -- after so many steps none says that more are to come
   never_stepped : (old mid new : World D a) (done : ℕ) (reply : Reply) → HasGone old mid done → 1048576 ≤ done → RecoversDown a mid.phase reply new.phase → RefusesAtOnce a mid.phase RecoverStep reply new.phase
       → IsStepped reply → ⊥
   never_stepped old mid new done reply gone all recovers at_once is =
@@ -120,7 +120,7 @@ module _ {D : Type 0} (a : Ghosts D) where
       let come = gone.comes m s x fits in
       sym (ap (λ (z : State). is_up z.phase) (all_still m s x come.steps come.after come.next come.goes)) ∙ (asks_world a mid RecoverStep wants m come.after come.next come.fits).1.0
 
-  -- the last step, behind all of them
+  -- the last step, after all of them
   pub all_gone : {E : Type 0} (old mid new : World D a) (done : ℕ) (result : Result Reply E) → HasGone old mid done → 1048576 ≤ done → IfOk result (λ reply. FollowsWorld a mid RecoverStep reply new)
       → IfOk result (λ reply. RecoversDown a mid.phase reply new.phase) → IfOk result (λ reply. RefusesAtOnce a mid.phase RecoverStep reply new.phase) → IfOk result (λ reply. FollowsAll a (FitsWorld a) old RecoverStep reply new)
   all_gone old mid new done (Err e) gone all follows recovers at_once = tt

@@ -51,7 +51,7 @@ fronted_kept a front old new line number held mid holds (Ends status) keeps leav
   λ m s x fits. let led = leaves.1 m s x fits in (led.0, led.1, then_keeps held mid holds (front number ++ led.0) led.2 keeps),
 )
 
--- behind the text of a command that lets the script go on
+-- after the text of a command that lets the script go on
 pub goes_on : (next : Rest) (refused : Bool) (verdict : Verdict) (was : Bool) (shown rest : List ℕ) (status : ℕ) → GoesBehind verdict was
     → next (refused || was) rest status → GoesOn next refused shown verdict (shown ++ rest) status
 goes_on next refused Done was shown rest status goes run = (rest, refl, subst (λ (b : Bool). next b rest status) (ap (λ (b : Bool). refused || b) goes ∙ or-false refused) run)
@@ -165,7 +165,7 @@ pub adds_nothing : (held : Option (List ℕ)) → Appends held held []
 adds_nothing None = tt
 adds_nothing (Some xs) = sym (append-nil xs)
 
--- what a line has left, behind what stands in front of it
+-- what a line has left, after what stands in front of it
 module _ {D : Type 0} (a : Ghosts D) (front : Front) (old new : World D a) (line : List ℕ) (number : ℕ) (held mid holds : Option (List ℕ)) where
   pub fronts : (outcome : Outcome) → is_skipped line ≡ false → Appends held mid (front number) → LeavesLine a old line number mid holds outcome new → LeavesFronted a front old line number held holds outcome new
   fronts (Goes was) stands shown leaves = λ m s x fits.
@@ -182,7 +182,7 @@ module _ {D : Type 0} (a : Ghosts D) (front : Front) (old new : World D a) (line
   pub skips_line : is_skipped line ≡ true → LeavesFronted a front old line number held held (Goes false) old
   skips_line is = λ m s x fits. (s, x, ([], inl (skips_so line is, refl, refl, refl, refl), subst (λ (f : List ℕ). Appends held held (f ++ [])) (sym (front_skipped front number line is)) (adds_nothing held)), fits)
 
--- The lines so far: whatever the others print from here on, all of them print behind what was printed.
+-- The lines so far: whatever the others print from here on, all of them print after what was printed.
 pub record SoFar (Whole Behind : List ℕ → ℕ → Type 0) (held holds : Option (List ℕ)) : Type 0 where
   pub text : List ℕ
   pub printed : Appends held holds text
@@ -205,7 +205,7 @@ module _ (Whole : List ℕ → ℕ → Type 0) (held : Option (List ℕ)) where
     pub to_end : (status : ℕ) → Behind shown status → Adds Whole held holds status
     to_end status ends = (so_far.text ++ shown, so_far.others shown status ends, Appends-trans held mid holds so_far.text shown so_far.printed printed)
 
-  -- behind the last one
+  -- after the last one
   pub over : (Behind : List ℕ → ℕ → Type 0) (holds : Option (List ℕ)) (status : ℕ) → SoFar Whole Behind held holds → Behind [] status → Adds Whole held holds status
   over Behind holds status so_far ends = (so_far.text, subst (λ (t : List ℕ). Whole t status) (append-nil so_far.text) (so_far.others [] status ends), so_far.printed)
 

@@ -80,7 +80,7 @@ module _ {D : Type 0} (a : Ghosts D) (Fits : Setting → World D a → State →
       let led = followed.goes old new event reply to m s x fits in
       (led.after, led.next, record { step = led.step; settled = led.settled; turns = led.turns }, led.fits)
 
-  -- behind the first part: the rest of it, or that was all
+  -- after the first part: the rest of it, or that was all
   rest_led : {X : Type 0} (o : Option X) (Rest : World D a → Type 0) (To : State → Numbers → Type 0) (IsAll : X → Type 0) (mid new : World D a) (s : State) (x : Numbers) → Fits m mid s x
       → (Rest new → Led To new) → MatchOption o (Rest new) (λ all. IsAll all × (new ≡ mid))
       → Led (λ after next. MatchOption o (To after next) (λ all. IsAll all × (after ≡ s) × (next ≡ x))) new

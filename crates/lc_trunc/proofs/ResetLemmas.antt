@@ -32,7 +32,7 @@ number_lock segment (lock ∷ locks) = elim (cases_Bool (eqb lock.segment segmen
 
 -- The locks of a record
 
--- behind the last lock there is none
+-- after the last lock there is none
 pub all_locks : (locks : List Lock) (index : ℕ) → slice_get locks index ≡ None → length locks ≤ index
 all_locks locks index none = elim (slice_get_cases locks index).1 [
   | inl lock ↦ absurd (none-some lock.0 (sym none ∙ lock.2))
@@ -154,7 +154,7 @@ module _ (known : ℕ → ℕ) where
 no_record_of_none : BeginsNoRecord []
 no_record_of_none r front rest is e = absurd (omega (arith, record_some r front is, ap (λ (l : List ℕ). length l) e, length-append front rest))
 
--- the first of them, and those behind it
+-- the first of them, and those after it
 pub record Led (words : List ℕ) : Type 0 where
   pub its : Record
   pub begins : BeginsWith words its (record_len its)
@@ -174,7 +174,7 @@ first_record words (front ∷ records, each, is) some =
       behind = (records, (λ k d lt. each (suc k) d (omega (arith, lt))), rest);
     }
 
--- behind a record that they begin with are records
+-- after a record that they begin with are records
 pub records_behind : (words : List ℕ) (r : Record) → AreRecords words → 0 < length words → BeginsWith words r (record_len r) → AreRecords (drop (record_len r) words)
 records_behind words r are some begins =
     let led = first_record words are some in

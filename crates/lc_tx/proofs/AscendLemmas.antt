@@ -15,7 +15,7 @@ behind : (x : ℕ) (xs : List ℕ) → Ascends (x ∷ xs) → Ascends xs
 behind x [] chain = chain
 behind x (y ∷ ys) chain = chain.1
 
--- what stands behind is greater
+-- what follows is greater
 greater : (x : ℕ) (xs : List ℕ) (n : ℕ) → Ascends (x ∷ xs) → is_member n xs ≡ true → x < n
 greater x [] n chain member = absurd (true≢false (sym member))
 greater x (y ∷ ys) n chain member =

@@ -10,7 +10,7 @@ use Rattle.lc_range.specs.declared.range.Range.{Range}
 use Rattle.lc_range.proofs.SetLemmas.{one_canonical}
 use Rattle.lc_range.proofs.PartsLemmas.{has_left, has_right, has_either}
 
--- a position in front of runs behind it: it joins the first where it touches it
+-- a position in front of runs that follow it: it joins the first where it touches it
 abbrev pub with_position : ℕ → ℕ → List Range → List Range
 with_position segment offset [] = record { segment = segment; offset = offset; len = 1 } ∷ []
 with_position segment offset (run ∷ runs) =
@@ -53,7 +53,7 @@ from_runs segment offset [] = tt
 from_runs segment offset (true ∷ marks) = from_position segment offset (runs_from segment (offset + 1) marks) (from_runs segment (offset + 1) marks)
 from_runs segment offset (false ∷ marks) = from_weaker segment (offset + 1) offset (runs_from segment (offset + 1) marks) (omega arith) (from_runs segment (offset + 1) marks)
 
--- what lies behind a run lies behind a longer one with the same end
+-- what lies after a run lies after a longer one with the same end
 before_longer : (run longer : Range) (runs : List Range) → longer.segment ≡ run.segment → longer.offset + longer.len ≡ run.offset + run.len → LiesBefore run runs → LiesBefore longer runs
 before_longer run longer [] same end before = tt
 before_longer run longer (next ∷ runs) same end before = (
@@ -233,7 +233,7 @@ count_position segment offset (run ∷ runs) =
       | false ↦ omega arith
     ]
 
--- runs from behind an offset do not begin there
+-- runs from the place after an offset on do not begin there
 begun_behind : (segment offset : ℕ) (runs : List Range) → AreFrom segment (offset + 1) runs → begun_at offset runs ≡ 0
 begun_behind segment offset [] are = refl
 begun_behind segment offset (run ∷ runs) are =
@@ -248,7 +248,7 @@ begun_position segment offset (run ∷ runs) =
       | false ↦ rw (eq-eqb offset offset refl) refl
     ]
 
--- behind a set position the first stretch goes on
+-- after a set position the first stretch goes on
 count_both : (segment offset : ℕ) (marks : List Bool) → (length (runs_from segment offset marks) ≡ stretches false marks)
     × (stretches true marks + begun_at offset (runs_from segment offset marks) ≡ stretches false marks)
 count_both segment offset [] = (refl, refl)

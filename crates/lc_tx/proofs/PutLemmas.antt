@@ -20,7 +20,7 @@ put_first (i ∷ is) [] (suc n) e = absurd (omega arith)
 put_first (i ∷ is) (o ∷ os) zero e = absurd (omega arith)
 put_first (i ∷ is) (o ∷ os) (suc n) e = ap (λ (l : List ℕ). i ∷ l) (put_first is os n (omega arith))
 
--- the bytes before, those laid over, and the bytes behind
+-- the bytes before, those laid over, and the bytes after
 pub put_parts : (place : ℕ) (items old : List ℕ) (start n : ℕ) → start ≡ min (length old) place → n ≡ min (length items) (length old - start)
     → put place items old ≡ take start old ++ (take n items ++ drop (start + n) old)
 put_parts place items [] zero zero s e = refl

@@ -55,7 +55,7 @@ set_false (x ∷ xs) zero (suc j) = sym (ap (λ (b : Bool). not b && get_or xs j
 set_false (x ∷ xs) (suc i) zero = sym (ap (λ (b : Bool). not b && x) (ne_eqb (suc i) 0 (omega arith)))
 set_false (x ∷ xs) (suc i) (suc j) = set_false xs i j ∙ ap (λ (b : Bool). not b && get_or xs j false) (sym (eqb_suc i j))
 
--- one that is behind them all
+-- one that is after them all
 pub past : (xs : List Bool) (i j : ℕ) → length xs ≤ i → get_or xs j false ≡ (not (eqb i j) && get_or xs j false)
 past [] i j behind = same (not (eqb i j))
   where

@@ -17,7 +17,7 @@ first_of layout node = record {
   len = layout_len layout;
 }
 
--- with these words behind
+-- with these words after it
 abbrev pub and_words : SpellingView → List ℕ → SpellingView
 and_words s words = record s { words = s.words ++ words }
 

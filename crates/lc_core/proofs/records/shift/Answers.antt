@@ -5,7 +5,7 @@ use Rattle.lc_core.specs.declared.place.Place.{Place}
 use Rattle.lc_core.specs.Records.{shifted}
 use Rattle.lc_core.proofs.records.shift.Goals as goal
 
--- behind those that are done stand those of before
+-- after those that are done stand those of before
 behind : (f : Place → Place) (xs ys : List Place) (i : ℕ) (d : Place) → i < length xs → ys ≡ map f (take i xs) ++ drop i xs → slice_index_or ys i d ≡ slice_index_or xs i d
 behind f xs ys i d within is =
     let count : length (map f (take i xs)) ≡ i = length-map (take i xs) f ∙ length-take-le i xs (omega (arith, within)) in

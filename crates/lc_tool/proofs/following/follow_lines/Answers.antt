@@ -110,7 +110,7 @@ returns-then-len-gt-LONGEST-clause-tells g c =
     (subst (λ (lines : List (Option (List ℕ))). TellsFollowed (front_of c.args.numbered) h before.0 c.loop-raw.number c.loop-raw.refused lines too_long_text status) (sym cut)
     (tells_limit (front_of c.args.numbered) c.loop-raw.number c.loop-raw.refused h before.0 status shown.0)))
 
--- behind the last number no line comes
+-- after the last number no line comes
 none_numbered : (bytes rest : List ℕ) (number count : ℕ) → number ≡ 18446744073709551615 → bytes ≡ take_through 10 rest → count ≡ length bytes → 1 ≤ count → lines_within (18446744073709551615 - number) rest ≡ None ∷ []
 none_numbered bytes rest number count last through long some =
     let none : 18446744073709551615 - number ≡ 0 = omega (arith, last) in

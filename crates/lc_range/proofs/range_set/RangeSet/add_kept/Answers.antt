@@ -80,7 +80,7 @@ returns-then-copies-eq0-clause-needs c = λ e.
     inr (inr (first_needs c.args.self.now c.args.undo.now c.args.image.now c.args.segment c.args.offset c.args.len (none_set c) (none_kept c) c.requires.some (omega (arith, c.requires.within))
     (err_gives c.add_first.result (ap is_err e) c.add_first.ensures.needs)))
 
--- one behind others
+-- one after others
 
 pub keep_at-requires-clause-within : goal.keep_at-requires-clause-within
 keep_at-requires-clause-within c =

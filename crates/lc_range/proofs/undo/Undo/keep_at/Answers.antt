@@ -17,7 +17,7 @@ are c =
     parts_are c.args.set.now c.ranges-2.result.now c.args.place.now.range.segment c.args.place.now.range.offset c.args.place.now.range.len (length c.args.image.now) (parts_of c.args.place.now.range c.ranges-2.result.now) _
     c.ranges-2.ensures.runs c.ranges-2.ensures.canonical (omega (arith, c.requires.within)) refl refl
 
--- what holds of the old copies with the new ones behind them
+-- what holds of the old copies with the new ones after them
 shown : (c : Else-is_err) (P : List OldBytes → Type 0) → P (with_copies c.args.self.now c.args.image.now (parts_of c.args.place.now.range c.ranges-2.result.now))
     → OnOk c.keep_outside-done.result (P c.keep_outside-done.new.self)
 shown c P p = on_ok_weaker c.keep_outside-done.result (λ grows. subst P (sym grows) p) c.keep_outside-done.ensures.ok
