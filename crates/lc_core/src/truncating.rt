@@ -19,9 +19,9 @@ use std::alloc::Global;
 const MORE_CALLS: u32 = 3;
 
 impl<D: Stoppable + Drop> World<D> {
-    /// Empties the log of a node, each event by `step`, up to the first refusal. It flushes until all or nothing is
-    /// acknowledged, writes each page that is dirty and whose token stands at the node, or whose write has begun there,
-    /// and resets the log. After the flush the pages are asked: where a write would be refused `Uncommitted`, that is
+    /// Empties the log of a node, each event by `step`, up to the first refusal. It makes a flush, up to `Acked` or
+    /// `Nothing`, writes each page that is dirty or whose write has begun, where the token stands at the node, and
+    /// resets the log. After the flush the pages are asked: where a write would be refused `Uncommitted`, that is
     /// answered and no page is written. The last reply is answered: `Reset`, `Nothing` where the log was empty, or what
     /// was refused. The pages of a segment are written side by side, each call of all of them before the next, so that
     /// the syncs of a file that has nothing to sync are free. A segment takes three syncs, and flush and reset three.

@@ -98,9 +98,9 @@ impl<D: Area + Drop> Node<D> {
         flushed
     }
 
-    /// Empties a log whose lock the caller has, and begins its next round, where its records are known to be on their segments'
-    /// pages; answers the round that it is in then: where it has no stable record, the present one. Nothing is flushed, and no
-    /// page is written: `truncate` does all three.
+    /// Empties a log whose lock the caller has, and begins its next round, where its records are known to be on their
+    /// segments' pages. Answers the round that it is in then: where it has no stable record, the present one. Nothing
+    /// is flushed, and no page is written: `truncate` does all three.
     ///
     /// # Errors
     ///

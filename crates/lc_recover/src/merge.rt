@@ -19,10 +19,10 @@ use std::alloc::Global;
 /// What the logs and the pages of a store make together: the changes of its pages, and in place of the sequences of the
 /// pages the number of each segment.
 ///
-/// It is refused, at the first of these that is found in the whole store, by the first log with a record of another
-/// node than the log's (`BadGeometry`), by the first with a record that lies outside of the segments (`OutOfSegment`),
-/// by the least number that stands twice (`Twice`; all numbers count, be they on the pages or not), and by the least
-/// number above those of the pages that is missing below one that is there (`Gap`).
+/// It is refused for the first of these that is found in the whole store. These are the first log with a record of
+/// another node than the log's (`BadGeometry`), and the first with a record that lies outside of the segments
+/// (`OutOfSegment`). Then comes the least number that stands twice (`Twice`; all numbers count, be they on the pages or
+/// not), and then the least number above those of the pages that is missing below one that is there (`Gap`).
 ///
 /// It takes the time of three readings of the logs, and of two sorts: of the numbers of all locks, and of the changes.
 /// Memory is asked for the changes alone, after all refusals, and only where there is one. No record is copied.
