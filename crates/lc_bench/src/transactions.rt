@@ -1,11 +1,11 @@
-//! Transactions on the image of one segment, in one `Tx` that is kept.
+//! Transactions on the image of one segment, in one `Tx` and one record that are kept.
 ghost use Rattle.std.specs.Prelude.{◌≤◌, OnOk};
 ghost use Rattle.lc_tx.specs.Tx.{IsIdle};
 
 use crate::harness::{Work, ended};
 use crate::measurement::{DATA, End, Measurement, Transaction};
 use crate::rounds::Round;
-use lc_tx::{Image, OneSegment, Prepared, Tx, TxFault};
+use lc_tx::{Image, OneSegment, Tx, TxFault};
 use std::alloc::{AllocError, Global};
 use std::io::{self, Error, ErrorKind};
 use std::rt::Clock;
@@ -63,20 +63,22 @@ fn transact_all(
     end: &End,
 ) -> Result<u64, TxFault> {
     let mut tx = Tx::idle(alloc);
+    let mut record = Vec::new(alloc);
     let mut words = 0u64;
     for transaction in transactions {
         let offsets = transaction.offsets.as_slice();
-        let more = transact(alloc, segment, &mut tx, offsets, end)?;
+        let more = transact(alloc, segment, &mut tx, &mut record, offsets, end)?;
         words = words.wrapping_add(more);
     }
     Ok(words)
 }
 
-// How many words the record of a transaction has.
+// How many words the record of a transaction has, which is made in the memory of this list.
 fn transact(
     alloc: Global,
     segment: &mut OneSegment,
     tx: &mut Tx,
+    record: &mut Vec<u64>,
     offsets: &[u32],
     end: &End,
 ) -> Result<u64, TxFault>
@@ -95,10 +97,7 @@ fn transact(
     if segment.image.bytes().len() > SEGMENT_BYTES {
         return Err(TxFault::OutOfSegment);
     }
-    let prepared = tx.prepare_end(alloc, segment, 0)?;
+    let is_made = tx.prepare_end_in(alloc, record, segment, 0)?;
     tx.release_in_place(segment);
-    match prepared {
-        Prepared::Empty => Ok(0),
-        Prepared::Record(words) => Ok(words.as_slice().len() as u64),
-    }
+    Ok(if is_made { record.len() as u64 } else { 0 })
 }

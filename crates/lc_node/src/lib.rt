@@ -70,6 +70,7 @@ mod recv_ends;
 mod reserved;
 mod resetting;
 mod room;
+mod room_turn;
 mod running;
 mod scratch;
 mod seeing;

@@ -8,6 +8,7 @@ ghost use Rattle.lc_node.specs.SegView.{SegView};
 
 use crate::boxed_side::BoxedSide;
 use crate::log_state::LogState;
+use crate::room_turn::RoomTurn;
 use crate::vacant::Vacant;
 use crate::{LogSide, Node};
 use lc_disk::Area;
@@ -30,6 +31,7 @@ pub(crate) struct LogRoom<D: Area + Drop> {
     group: Group,
     stable: Vec<u64>,
     ended: Ended,
+    room_turns: Lock<RoomTurn, ()>,
     lock: Vacant<LogSide<D>, Stage>,
     ghost own_seat: { IsSeatOf stage seat },
     ghost own_probe: { IsSeatOf stage probe },
@@ -55,6 +57,9 @@ impl<D: Area + Drop> LogRoom<D> {
         let group = Group::new(alloc, words)?;
         let stable = Vec::with_capacity(alloc, words as usize)?;
         let ended = Ended::new(alloc);
+        let Ok(room_turns) = Lock::new(alloc, RoomTurn, &()) else {
+            return Err(AllocError);
+        };
         let lock = Vacant::new(alloc, &stage)?;
         Ok(LogRoom {
             stage,
@@ -64,6 +69,7 @@ impl<D: Area + Drop> LogRoom<D> {
             group,
             stable,
             ended,
+            room_turns,
             lock,
         })
     }
@@ -100,6 +106,7 @@ impl<D: Area + Drop> LogRoom<D> {
             group,
             stable,
             ended,
+            room_turns,
             lock,
         } = self;
         let log = lock.fill(LogSide {
@@ -119,6 +126,7 @@ impl<D: Area + Drop> LogRoom<D> {
             stage,
             log,
             segments,
+            room_turns,
             halted: AtomicIn::new(0),
             is_alone: false,
         };
@@ -135,6 +143,7 @@ impl<D: Area + Drop> LogRoom<D> {
             group: _group,
             stable: _stable,
             ended: _ended,
+            room_turns: _room_turns,
             lock,
         } = self;
         lock.end();

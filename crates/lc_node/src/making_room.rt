@@ -27,9 +27,10 @@ struct HeldAll<D: Area + Drop> {
 
 impl<D: Area + Drop> Node<D> {
     /// A whole transaction on these segments, as `transact` makes it, for which room is made in the log. Where the log has no
-    /// room for the record, it gets the locks of all segments, so that nobody else commits, and tries again. Where the log has no
-    /// room still, it is truncated, and the work is tried once more before a lock is given back. So of all who meet a full log
-    /// one truncates, and no other commit comes between. A work that is tried again runs on what its last run made of itself.
+    /// room for the record, it waits for its turn, gets the locks of all segments, so that nobody else commits, and tries again.
+    /// Where the log has no room still, it is truncated, and the work is tried once more before a lock is given back. So of all who
+    /// meet a full log one truncates, and no other commit comes between. Turns come in the order of asking, and who waits for one
+    /// holds no segment. A work that is tried again runs on what its last run made of itself.
     ///
     /// # Errors
     ///
@@ -87,7 +88,8 @@ impl<D: Area + Drop> Node<D> {
         }
     }
 
-    // Closes the record of a work on these segments; false where nothing was set.
+    // Closes the record of a work on these segments; false where nothing was set. Those who meet a full log take turns. Without
+    // turns they would wait at the first segment, before whom each commit on that segment would wait as well.
     fn commit_in_room<R: Wait, W: Work, G: Gate>(
         &self,
         rt: &R,
@@ -107,7 +109,10 @@ impl<D: Area + Drop> Node<D> {
     {
         match self.commit(rt, alloc, seat, segments, work, tries, gate) {
             Err(NodeFault::Full { .. }) => {
-                self.commit_alone(rt, alloc, seat, segments, work, tries, gate)
+                let (turn, loan) = self.room_turns.lock(rt);
+                let done = self.commit_alone(rt, alloc, seat, segments, work, tries, gate);
+                self.room_turns.unlock(turn, loan);
+                done
             }
             done => done,
         }

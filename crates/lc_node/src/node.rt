@@ -7,6 +7,7 @@ ghost use Rattle.lc_node.specs.SegView.{SegView};
 use crate::LogSide;
 use crate::boxed_side::BoxedSide;
 use crate::halting::Halting;
+use crate::room_turn::RoomTurn;
 use lc_disk::Area;
 use lc_lock::Lock;
 use lc_record::Geometry;
@@ -14,8 +15,8 @@ use lc_stage::Stage;
 use std::sync::atomic::AtomicIn;
 
 /// A running node: the geometry of its store, its number, from 0, which its records name, its stage, a lock round its log, one
-/// round each of its segments, at most 16, from segment 1 on, whether it is halted, and whether it is the only one, so that no
-/// peer wants its records. The store of a node that is the only one has one node, whatever it was opened from. This project's own.
+/// round each of its segments, at most 16, from segment 1 on, one by which threads make room in a full log one after another,
+/// whether it is halted, and whether it is the only one, so that no peer wants its records. The store of a node that is the only one has one node, whatever it was opened from. This project's own.
 #[derive(Drop)]
 pub struct Node<D: Area + Drop> {
     pub(crate) geometry: Geometry,
@@ -23,6 +24,7 @@ pub struct Node<D: Area + Drop> {
     pub(crate) stage: Stage,
     pub(crate) log: Lock<LogSide<D>, Stage>,
     pub(crate) segments: Vec<Lock<BoxedSide<D>, u32>>,
+    pub(crate) room_turns: Lock<RoomTurn, ()>,
     /// Not 0 once a call of a device has failed.
     pub(crate) halted: AtomicIn<Halting<D>>,
     pub(crate) is_alone: bool,

@@ -1,10 +1,10 @@
 //! A node gets the token of a segment.
-ghost use Rattle.std.specs.Prelude.{◌≡◌, ◌≢◌, ◌⊎◌, IfErr, OnErr, OnOk, true};
+ghost use Rattle.std.specs.Prelude.{◌≡◌, ◌≢◌, ◌⊎◌, ◌<◌, ℕ, Err, IfErr, IfOk, OnOk};
 ghost use Rattle.lc_node.specs.Calls.{HasSegmentAt};
 ghost use Rattle.lc_node.specs.Cluster.{HasNode};
 ghost use Rattle.lc_node.specs.Receipts.{IsOfDevice};
 ghost use Rattle.lc_node.specs.declared.node_fault.NodeFault.TheVariants.{NotHere};
-ghost use Rattle.lc_service.specs.Acquiring.{HadToken};
+ghost use Rattle.lc_service.specs.Acquiring.{FailsAtPeer, HadToken, LackedToken, WasAsked, WasLookedFor, WereAsked};
 
 use crate::member_round::pump_all;
 use lc_disk::Area;
@@ -19,8 +19,8 @@ use std::thread;
 ///
 /// # Errors
 ///
-/// `NotHere` where the node has no such segment, and where the token is not here after the last turn. `Halted` and `DeviceFault` of a
-/// peer that has the token.
+/// `NotHere` where the node has no such segment, and where the token is not here after the last turn: in that turn each peer either
+/// had no token or was to give it. `Halted` and `DeviceFault` of a peer that has the token.
 pub fn acquire<D: Area + Drop, R: AllocGlobal + Wait>(
     rt: &R,
     cluster: &Cluster<D>,
@@ -30,7 +30,11 @@ pub fn acquire<D: Area + Drop, R: AllocGlobal + Wait>(
 ) -> Result<(), NodeFault>
     requires { HasNode cluster.now number }
     ensures here { OnOk result (HadToken cluster.now number segment) }
-    ensures refused { IfErr result (λ fault. (fault ≡ NotHere segment) ⊎ IsOfDevice fault) }
+    ensures not_here { (s : ℕ) → result ≡ Err (NotHere s) → (s ≡ segment) × LackedToken cluster.now number segment }
+    ensures asked { (s : ℕ) → result ≡ Err (NotHere s) → 0 < turns → HasSegmentAt cluster.now number segment
+        → WereAsked D.Area cluster.now number segment }
+    ensures refused { IfErr result (λ fault. (fault ≡ NotHere segment)
+        ⊎ (IsOfDevice fault × FailsAtPeer D.Area cluster.now number segment fault)) }
 {
     let node = cluster.node(number);
     if !node.has(segment) {
@@ -40,18 +44,34 @@ pub fn acquire<D: Area + Drop, R: AllocGlobal + Wait>(
         return Ok(());
     }
     for _ in 0..turns {
-        for peer in 0..cluster.nodes() {
-            if peer != number {
-                ask(rt, cluster, peer, number, segment)?;
-                pump_all(rt, cluster, number, peer);
-            }
-        }
-        if node.has_token(rt, segment) {
+        if take_turn(rt, cluster, number, segment)? {
             return Ok(());
         }
         thread::yield_now();
     }
     Err(NodeFault::NotHere { segment })
+}
+
+// A turn; whether the token is at the node after it.
+fn take_turn<D: Area + Drop, R: AllocGlobal + Wait>(
+    rt: &R,
+    cluster: &Cluster<D>,
+    number: u16,
+    segment: u32,
+) -> Result<bool, NodeFault>
+    requires within { HasNode cluster.now number }
+    requires segment { HasSegmentAt cluster.now number segment }
+    ensures looked { IfOk result (WasLookedFor cluster.now number segment) }
+    ensures asked { OnOk result (WereAsked D.Area cluster.now number segment) }
+    ensures refused { IfErr result (λ fault. IsOfDevice fault × FailsAtPeer D.Area cluster.now number segment fault) }
+{
+    for peer in 0..cluster.nodes() {
+        if peer != number {
+            ask(rt, cluster, peer, number, segment)?;
+            pump_all(rt, cluster, number, peer);
+        }
+    }
+    Ok(cluster.node(number).has_token(rt, segment))
 }
 
 // Lets a node give the token of a segment to another, where it has it.
@@ -64,7 +84,8 @@ fn ask<D: Area + Drop, R: AllocGlobal + Wait>(
 ) -> Result<(), NodeFault>
     requires apart { from ≢ to }
     requires within { HasNode cluster.now from × HasNode cluster.now to }
-    ensures refused { IfErr result IsOfDevice }
+    ensures asked { OnOk result (WasAsked D.Area cluster.now to segment from) }
+    ensures refused { IfErr result (λ fault. IsOfDevice fault × FailsAtPeer D.Area cluster.now to segment fault) }
 {
     let node = cluster.node(from);
     if !node.has_token(rt, segment) {

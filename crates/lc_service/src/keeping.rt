@@ -1,8 +1,7 @@
 //! A thread keeps a running node in order.
 ghost use Rattle.std.specs.Prelude.{IfErr, OnOk};
 ghost use Rattle.lc_node.specs.Cluster.{HasNode};
-ghost use Rattle.lc_node.specs.Receipts.{IsOfDevice};
-ghost use Rattle.lc_service.specs.Round.{WasKept, WasKeptAt};
+ghost use Rattle.lc_service.specs.Round.{IsUnkept, IsUnkeptAt, WasKept, WasKeptAt};
 
 use crate::member_round::At;
 use crate::round::Round;
@@ -27,7 +26,7 @@ pub fn keep_node<D: Area + Drop, R: AllocGlobal + Clock + Wait>(
     ending: &Ending,
 ) -> Result<(), NodeFault>
     ensures kept { OnOk result (WasKept D.Area upkeep.now node.now) }
-    ensures refused { IfErr result IsOfDevice }
+    ensures refused { IfErr result (IsUnkept D.Area node.now) }
 {
     keep(rt, node, upkeep, ending)
 }
@@ -47,7 +46,7 @@ pub fn keep_member<D: Area + Drop, R: AllocGlobal + Clock + Wait>(
 ) -> Result<(), NodeFault>
     requires { HasNode cluster.now number }
     ensures kept { OnOk result (WasKeptAt D.Area upkeep.now cluster.now number) }
-    ensures refused { IfErr result IsOfDevice }
+    ensures refused { IfErr result (IsUnkeptAt D.Area cluster.now number) }
 {
     keep(rt, &At { cluster, number }, upkeep, ending)
 }
@@ -60,7 +59,7 @@ fn keep<K: Round, R: AllocGlobal + Clock + Wait>(
     ending: &Ending,
 ) -> Result<(), NodeFault>
     ensures kept { OnOk result (K.kept upkeep.now kept.now) }
-    ensures refused { IfErr result IsOfDevice }
+    ensures refused { IfErr result (K.unkept kept.now) }
 {
     for _ in rt.forever() {
         let is_told = ending.wait(rt, upkeep.flush_every);

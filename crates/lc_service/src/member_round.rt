@@ -1,7 +1,10 @@
 //! What a service does at a node of a cluster.
-ghost use Rattle.std.specs.Prelude.{◌≢◌};
+ghost use Rattle.std.specs.Prelude.{◌≢◌, Result};
+ghost use Rattle.lc_node.specs.Calls.{PumpsAt};
 ghost use Rattle.lc_node.specs.Cluster.{HasNode};
-ghost use Rattle.lc_service.specs.Round.{WasKeptAt};
+ghost use Rattle.lc_node.specs.declared.node_fault.NodeFault.{NodeFault as Fault};
+ghost use Rattle.lc_node.specs.declared.pumped.Pumped.{Pumped as Answer};
+ghost use Rattle.lc_service.specs.Round.{IsUnkeptAt, WasKeptAt};
 
 use crate::Upkeep;
 use crate::round::Round;
@@ -22,6 +25,7 @@ pub(crate) struct At<'a, D: Area + Drop> {
 
 impl<D: Area + Drop> Round for At<'_, D> {
     ghost kept = { λ upkeep at. WasKeptAt D.Area upkeep at.cluster.now at.number };
+    ghost unkept = { λ at. IsUnkeptAt D.Area at.cluster.now at.number };
 
     /// It sends what is published, goes on with what came, and trims, too.
     fn round<R: AllocGlobal + Wait>(&self, rt: &R, upkeep: &Upkeep) -> Result<(), NodeFault> {
@@ -46,6 +50,7 @@ pub(crate) fn pump_all<D: Area + Drop, R: AllocGlobal + Wait>(
 )
     requires apart { to ≢ from }
     requires within { HasNode cluster.now to × HasNode cluster.now from }
+    ensures pumped { (answer : Result Answer Fault) × PumpsAt cluster.now to from answer }
 {
     for _ in 0..MOST_MESSAGES {
         match cluster.pump(rt, rt.alloc(), to, from) {

@@ -1,5 +1,5 @@
 //! What a service does at a node.
-ghost use Rattle.lc_service.specs.Round.{WasKept};
+ghost use Rattle.lc_service.specs.Round.{IsUnkept, WasKept};
 
 use crate::Upkeep;
 use crate::round::Round;
@@ -9,6 +9,7 @@ use std::sync::Wait;
 
 impl<D: Area + Drop> Round for Node<D> {
     ghost kept = { WasKept D.Area };
+    ghost unkept = { IsUnkept D.Area };
 
     fn round<R: AllocGlobal + Wait>(&self, rt: &R, upkeep: &Upkeep) -> Result<(), NodeFault> {
         self.flush(rt)?;
